@@ -78,7 +78,7 @@ def _part_size(size: Optional[int]) -> Optional[int]:
 
 
 def _only(stream: Stream, jobs: Optional[int]) -> Result:
-    """Returns the result of one stream. No thread is left of those that judged it."""
+    """Returns the result of one stream. All threads that judged it have ended then."""
     (result,) = threaded([stream], jobs)
     return result
 
@@ -175,8 +175,8 @@ def filter(
 ) -> Result:
     """Copies the header and the features that a query selects, byte for byte and in order.
 
-    The query selects a feature that meets each of `ids`, `types`, `lods` and `box`. None asks
-    nothing. The options that are not listed here are those of `check`.
+    The query selects a feature that meets each of `ids`, `types`, `lods` and `box`. None sets no
+    condition. The options that are not listed here are those of `check`.
 
     Args:
         source: The stream, as `check` takes it.
@@ -240,8 +240,8 @@ def info(
 
     Args:
         source: The stream, as `check` takes it.
-        exact_lods: Whether to count the features with each text of an LoD, as 2.2. Python looks for
-            these texts, and one thread does so at a time.
+        exact_lods: Whether to count the features with each text of an LoD, such as 2.2. Python
+            looks for these texts, and one thread does so at a time.
 
     Returns:
         The verdict, the counts and the summary. The summary is empty if the stream is invalid.
@@ -312,7 +312,7 @@ def table(source: Source, **query: Any) -> Dict[str, Any]:
     Returns:
         A column for each of `id`, `line`, `length` in bytes, `objects`, `geometries`, `types`,
         `lods`, and `xmin`, `xmax`, `ymin`, `ymax`, `zmin`, `zmax`. The last six are world
-        coordinates as the nearest floats, and not a number where a feature has no vertex.
+            coordinates as the nearest floats, and NaN if a feature has no vertex.
 
     Raises:
         CityseqError: As `features` does.
@@ -335,7 +335,7 @@ def index(
     progress: Progress = None,
     part_size: Optional[int] = None,
 ) -> List[Result]:
-    """Writes an index of streams, with which `Index` cuts them without reading them whole.
+    """Writes an index of streams. `Index` uses it to cut the streams without reading them whole.
 
     The index is a GeoPackage, which docs/geopackage.md describes. It is written as `NAME.part`, and
     renamed when it is whole. The options that are not listed here are those of `check`.
@@ -344,10 +344,10 @@ def index(
         paths: The paths of the streams, or the only one. They are regular files, which may be
             packed.
         output: The path of the index.
-        keep_going: Whether to leave invalid lines out, which the table `reports` lists then.
+        keep_going: Whether to leave out invalid lines. The table `reports` then lists them.
 
     Returns:
-        What came of each stream, in order.
+        The result of each stream, in order.
 
     Raises:
         InvalidStream: A stream is invalid. With `keep_going` only an invalid header is.
@@ -407,7 +407,7 @@ def report(
 
 
 def __getattr__(name: str) -> Any:
-    """Loads `Index` when it is first used: few programs need it, and it takes long to load."""
+    """Loads `Index` when it is first used. Few programs need it, and it takes long to load."""
     if name == "Index":
         from .lookup import Index
 

@@ -10,15 +10,15 @@ from .console import escape_what_lacks, hold_descriptors
 def run() -> None:
     """Runs the command by the words of the command line, and ends the process with its status.
 
-    Nothing is open any more then, so it ends at once: Python would take itself down piece by piece,
-    in a sixth of a short run's time."""
+    Nothing is open then, so the process ends at once. Python's own end would take a sixth of the
+    time of a short run."""
     hold_descriptors()
     escape_what_lacks()
     end_by_signals()
     status = main()
     with suppress(
         OSError, ValueError
-    ):  # the status tells of a fault, and where there was none all has been flushed
+    ):  # the status reports a fault; without one, all has been flushed
         for output in (sys.stdout, sys.stderr):
             if output is not None:
                 output.flush()

@@ -1,5 +1,5 @@
-"""The library `libcityseq.so`, by `ctypes`: the structs of `c/cityseq.h` and its calls. A call runs
-without the interpreter's lock."""
+"""The library `libcityseq.so`, called by `ctypes`: the structs and functions of `c/cityseq.h`. A
+call runs without the interpreter's lock."""
 from __future__ import annotations
 
 import ctypes
@@ -17,7 +17,7 @@ LINE_LIMITS, DEPTH_LIMITS = (1, 1_073_741_824), (1, 1_024)
 USUAL_LINE, USUAL_DEPTH = 8_388_608, 64
 TYPES, LOD_CLASSES = 33, ("0", "1", "2", "3", "4", "other")
 
-# What is wrong with a request, by its code: the program's own words where it has them.
+# What is wrong with a request, by its code. The words are the program's own if it has some.
 FAULTS = {
     1: "the line limit is not from 1 to 1,073,741,824",
     2: "the depth is not from 1 to 1,024",
@@ -144,7 +144,7 @@ _CALLS = {
 
 
 def _pointed(text: Text, begin: int = 0) -> Any:
-    """What a call takes as the pointer to these bytes, from one of them on. Nothing is copied,
+    """Returns what a call takes as the pointer to these bytes, from `begin` on. Nothing is copied,
     except from the middle of bytes that cannot change."""
     if isinstance(text, (bytearray, memoryview)) and begin < len(text):
         return ctypes.byref(ctypes.c_char.from_buffer(text, begin))
@@ -152,8 +152,8 @@ def _pointed(text: Text, begin: int = 0) -> Any:
 
 
 def _unset(size: int) -> bytearray:
-    """Returns a bytearray of a size without setting its bytes, which takes long for many. What is
-    not written by a call is cut off before anybody reads it."""
+    """Returns a bytearray of a size without setting its bytes, which would take long. The caller
+    cuts off the bytes that no call wrote, before anybody reads them."""
     try:
         make = ctypes.pythonapi.PyByteArray_FromStringAndSize
     except AttributeError:  # another Python than CPython
@@ -168,8 +168,8 @@ def _address(text: Union[bytearray, memoryview]) -> int:
 
 
 def searchable(text: Text) -> Tuple[Union[bytes, bytearray], int, int]:
-    """Returns an object with methods like `find` that has the bytes of a text, and from where to
-    where it has them. A memoryview of a bytearray is not copied."""
+    """Returns an object with methods such as `find` that has the bytes of a text, and where they
+    begin and end in it. A memoryview of a bytearray is not copied."""
     if not isinstance(text, memoryview):
         return text, 0, len(text)
     whole: Any = text.obj
@@ -189,8 +189,8 @@ class Library:
     def check(
         self, header: bytes, part: Text, request: RawRequest, room: int
     ) -> Tuple[RawAnswer, RawReports]:
-        """Judges a header and a part. Returns the answer, and the room for reports, of which the
-        first ones are written."""
+        """Judges a header and a part. Returns the answer, and an array for `room` reports. The
+        library has written the first ones."""
         reports = (RawReport * max(room, 1))()
         answer = self._calls.cityseq_check(*self._given(header, part, request), reports, room)
         return answer, reports
@@ -198,7 +198,7 @@ class Library:
     def filter(
         self, header: bytes, part: Text, request: RawRequest, room: int
     ) -> Tuple[RawAnswer, RawReports, bytearray]:
-        """The same, and what is kept is the third."""
+        """Does the same as `check`, and also returns the output."""
         reports = (RawReport * max(room, 1))()
         output = _unset(len(header) + len(part) + 1)
         given = self._given(header, part, request)
@@ -209,7 +209,7 @@ class Library:
     def tally(
         self, header: bytes, part: Text, request: RawRequest, room: int
     ) -> Tuple[RawAnswer, RawReports, RawTally]:
-        """The same as `check`, and what is in the features that are wanted is the third."""
+        """Does the same as `check`, and also returns the tally of the selected features."""
         reports, tally = (RawReport * max(room, 1))(), RawTally()
         given = self._given(header, part, request)
         answer = self._calls.cityseq_info(*given, ctypes.byref(tally), reports, room)
@@ -218,8 +218,8 @@ class Library:
     def features(
         self, header: bytes, part: Text, request: RawRequest, room: int
     ) -> Tuple[RawAnswer, RawReports, RawFeatures]:
-        """Does the same as `check`, and also returns the records of the kept features, as many as
-        there is room for."""
+        """Does the same as `check`, and also returns the records of the kept features, at most
+        `room` of them. It returns no reports."""
         report, records = (RawReport * 1)(), (RawFeature * max(room, 1))()
         answer = self._calls.cityseq_features(
             *self._given(header, part, request), records, room, report, 0
@@ -237,16 +237,17 @@ class Library:
         return joined
 
     def part_end(self, text: Text, wanted: int, begin: int = 0) -> int:
-        """Returns where a part ends that begins at a byte of a text and has about so many bytes:
-        after the last LF among these, else after the first LF, else 0."""
+        """Returns where a part ends that begins at a byte of a text and has about `wanted` bytes.
+        It ends after the last LF among these, or else after the first LF. Returns 0 if there is no
+        LF."""
         end: int = self._calls.cityseq_part_end(_pointed(text, begin), len(text) - begin, wanted)
         return begin + end if end else 0
 
     def records(
         self, header: bytes, part: Text, request: RawRequest, room: memoryview, reports_room: int
     ) -> Tuple[RawAnswer, RawReports, bytes]:
-        """The same, where the records are written to this room. The third are the bytes of those
-        that there was room for."""
+        """Does the same as `features`, but writes the records to this memory, and returns reports.
+        The last value has the bytes of the records that fit."""
         reports, size = (RawReport * max(reports_room, 1))(), ctypes.sizeof(RawFeature)
         given, most = self._given(header, part, request), len(room) // size
         first = ctypes.byref(RawFeature.from_buffer(room))
@@ -254,11 +255,11 @@ class Library:
         return answer, reports, bytes(room[:min(answer.kept, most) * size])
 
     def reason_text(self, code: int) -> str:
-        """The words of a reason; none where no reason has this code."""
+        """Returns the words of a reason. They are empty if no reason has this code."""
         return self._text(self._calls.cityseq_reason_text, code)
 
     def type_names(self) -> Tuple[str, ...]:
-        """The names of the types of city objects, in their order. They are asked for once."""
+        """Returns the names of the types of city objects, in their order. Asks for them once."""
         if not self._type_names:
             self._type_names = tuple(
                 self._text(self._calls.cityseq_type_name, number) for number in range(TYPES)
@@ -300,16 +301,16 @@ def _load() -> Library:
     return Library(calls)
 
 
-# What `mallopt` sets in glibc (malloc.h): how many free bytes make it return some to the system,
-# how many bytes make it ask the system for a block, and how many arenas there are. Each arena after
-# the first reserves 64 MB of addresses.
+# Settings of `mallopt` in glibc (malloc.h). The first is how many free bytes make it return some
+# to the system. The second is how many bytes make it ask the system for a block. The third is how
+# many arenas there are. Each arena after the first reserves 64 MB of addresses.
 _TRIM_THRESHOLD, _MMAP_THRESHOLD, _ARENA_MAX = -1, -3, -8
 
 
 def keep_room() -> None:
-    """Makes glibc keep the memory of a call for the next one. Else each call asks the system for
-    memory, which the system clears first. The setting is of the whole process, so it suits only
-    a process that does nothing else."""
+    """Makes glibc keep the memory of a call for the next one. Otherwise each call asks the system
+    for memory, which the system clears first. The setting is for the whole process, so it suits
+    only a process that does nothing else."""
     try:
         setting = ctypes.CDLL(None).mallopt
     except (OSError, AttributeError, TypeError):
@@ -321,7 +322,7 @@ def keep_room() -> None:
 
 
 def library() -> Library:
-    """The library, loaded at the first call."""
+    """Returns the library. It is loaded at the first call."""
     return _loaded or _load_once()
 
 

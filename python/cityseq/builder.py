@@ -25,7 +25,7 @@ from .sources import State
 from .tally import Range
 from .world import read_json
 
-CACHE = 8 << 20  # bytes of the database that are held, and that a sort holds
+CACHE = 8 << 20  # bytes of the database that are in memory, and bytes for a sort
 COLUMNS = 14  # of a feature
 Ranges = Tuple[Range, Range, Range]
 Row = Tuple[Any, ...]
@@ -93,7 +93,7 @@ class Entry:
         return (*world.x.interval(x_least, x_most), *world.y.interval(y_least, y_most)), heights
 
     def extent(self) -> Tuple[Optional[float], ...]:
-        """Returns the least and greatest x, y and z of the stream; None where there is none."""
+        """Returns the least and greatest x, y and z of the stream, or None for each."""
         axes = (self.world.x, self.world.y, self.world.z)
         return tuple(
             edge
@@ -106,7 +106,7 @@ class Entry:
 
 @contextmanager
 def telling_of(name: str) -> Iterator[None]:
-    """Makes a write fault of what SQLite says."""
+    """Turns an error of SQLite into a write fault."""
     try:
         yield
     except sqlite3.Error as fault:
@@ -114,7 +114,7 @@ def telling_of(name: str) -> Iterator[None]:
 
 
 class Builder:
-    """Writes an index to `NAME.part`, which gets its name when it is whole."""
+    """Writes an index to `NAME.part`, and renames it when it is whole."""
 
     def __init__(self, path: str) -> None:
         """Begins the file.
@@ -152,7 +152,7 @@ class Builder:
         return Entry(number, header, self._fid + 1)
 
     def add(self, entry: Entry, records: Records, lines: int) -> None:
-        """Writes the records of the next part of a stream, before which so many lines came.
+        """Writes the records of the next part of a stream. `lines` lines came before the part.
 
         Raises:
             WriteFault: They cannot be written.
@@ -186,7 +186,7 @@ class Builder:
             yield (self._fid, geometry, entry.number, *place, *name, *counts, *names, *heights)
 
     def report(self, number: int, report: Report) -> None:
-        """Writes that a line of a stream is invalid, and left out.
+        """Writes that a line of a stream is invalid and left out.
 
         Raises:
             WriteFault: It cannot be written.
@@ -199,7 +199,7 @@ class Builder:
     def end(
         self, entry: Entry, path: str, state: State, packing: Optional[str], result: Result
     ) -> None:
-        """Writes what a stream is, when all of it was read.
+        """Writes the row of a stream, after all of it was read.
 
         Raises:
             WriteFault: It cannot be written.
@@ -274,8 +274,8 @@ class Builder:
 
 
 def _path_columns(path: str, index: str) -> Tuple[str, Optional[bytes]]:
-    """Returns the path of a stream for an index: from the folder of the index on, if it is below
-    it, so that both can be moved together."""
+    """Returns the path of a stream for an index. A path below the folder of the index is relative
+    to it, so that both can be moved together."""
     folder, whole = os.path.dirname(os.path.realpath(index)), os.path.abspath(path)
     inside = os.path.relpath(whole, folder)
     told = whole if inside.split(os.sep)[0] == os.pardir else inside

@@ -1,5 +1,5 @@
-"""The command `cityseq`, also `cityseq-run` and `python3 -m cityseq`: the program's words, lines
-and statuses, over files on many cores."""
+"""The command `cityseq`, also `cityseq-run` and `python3 -m cityseq`. It has the words, lines and
+statuses of the program, and judges files on many cores."""
 from __future__ import annotations
 
 import os
@@ -25,9 +25,9 @@ from .telling import brief, is_terminal, teller_of
 from .words import Asked, Mistake, Told, read_words
 
 UNEXPECTED = 70
-STOPPED = 128  # and the number of the signal
-WHERE = "to those who gave you cityseq"  # where a failure is reported that nobody expected
-HASHES = 2  # so many files are hashed at once
+STOPPED = 128  # plus the number of the signal
+WHERE = "to those who gave you cityseq"  # where to report an unexpected failure
+HASHES = 2  # files that are hashed at once
 
 
 class Stopped(BaseException):
@@ -43,19 +43,19 @@ def _stop(number: int, _frame: Any) -> NoReturn:
 
 
 def end_by_signals() -> None:
-    """Has the signals that ask a process to end do so by an exception, so that nothing is left that
-    is not whole."""
+    """Makes the signals that ask a process to end raise an exception, so that no incomplete file
+    stays."""
     for number in (signal.SIGTERM, signal.SIGHUP):
         if signal.getsignal(number) == signal.SIG_DFL:
             signal.signal(number, _stop)
 
 
-# ---- what is asked for
+# ---- the request
 
 
 def _listed(path: str, what: str) -> bytes:
-    """The texts of a list, one a line. In the list they may have a NUL behind each; empty ones are
-    passed over."""
+    """Returns the texts of a list, one a line. In the list a NUL may follow each text. Empty texts
+    are left out."""
     try:
         if path == "-":
             if sys.stdin is None:
@@ -72,7 +72,7 @@ def _listed(path: str, what: str) -> bytes:
 
 
 def files_of(wanted: Asked) -> Tuple[str, ...]:
-    """The files that are read."""
+    """Returns the files to read. Without any FILE and without a list it is standard input."""
     listed = b"" if wanted.files_from is None else _listed(wanted.files_from, "a list of files")
     named = (*wanted.files, *(map(os.fsdecode, listed.split(b"\n")) if listed else ()))
     files = named or (() if wanted.files_from is not None else ("-",))
@@ -86,8 +86,7 @@ def texts_of(text: Optional[str]) -> Optional[List[str]]:
 
 
 def ids_of(wanted: Asked) -> Union[List[str], bytes, None]:
-    """The ids that are asked for, by the option and by the list, of which there may be very
-    many."""
+    """Returns the ids of the option and of the list. There may be very many."""
     if wanted.ids_from is None:
         return texts_of(wanted.id)
     listed = _listed(wanted.ids_from, "a list of ids")
@@ -101,7 +100,7 @@ def ids_of(wanted: Asked) -> Union[List[str], bytes, None]:
 
 
 def _work(wanted: Asked) -> Work:
-    """What is asked, checked."""
+    """Returns the work that the options ask for, checked."""
     common: Dict[str, Any] = dict(
         line_limit=wanted.line_limit,
         depth=wanted.depth,
@@ -126,7 +125,7 @@ def _work(wanted: Asked) -> Work:
 
 
 def _outputs(wanted: Asked, files: Sequence[str]) -> List[Optional[str]]:
-    """Where each file's output goes."""
+    """Returns where the output of each file goes."""
     if wanted.command != "filter":
         return [None] * len(files)
     if wanted.output_dir is None:
@@ -148,7 +147,7 @@ def _outputs(wanted: Asked, files: Sequence[str]) -> List[Optional[str]]:
 
 
 def _refuse_same(wanted: Asked, files: Iterable[str], outputs: Iterable[Optional[str]]) -> None:
-    """Refuses to write to what is read, be it by standard output or standard error."""
+    """Refuses to write to a file that is read, also by standard output or standard error."""
     read = [*files, *filter(None, (wanted.ids_from, wanted.files_from))]
     refuse_same(
         read,
@@ -163,21 +162,21 @@ def make_folder(path: str) -> None:
         raise write_fault(fault, path) from fault
 
 
-# ---- what is done
+# ---- the run
 
 
 class Run:
-    """A run over files: what is known of each beside what comes of it."""
+    """A run over files, with its teller, its record and the digests of the files."""
 
     def __init__(self, wanted: Asked, files: Sequence[str], bar: Bar) -> None:
         self._wanted, self._bar = wanted, bar
         self._teller = teller_of(wanted, bar, len(files) > 1)
-        # of the files that are read, in order: what each is now, and its digest
+        # of each file in order: its state when it was opened, and its digest
         self._states: Deque[Tuple[Any, Any]] = deque()
         self._hashes: Any = None
         self._record: Any = None
         if wanted.sha256 or wanted.record is not None:
-            from .threads import Crew  # of runs without, few need more than the threads that judge
+            from .threads import Crew  # few runs need threads that hash
 
             self._hashes = Crew(HASHES)
         if wanted.record is not None:
@@ -191,14 +190,14 @@ class Run:
     def __exit__(self, kind: Any, *_: Any) -> None:
         if (
             self._hashes is not None and kind is None
-        ):  # else the process ends, and nobody waits for a long file
+        ):  # else the process ends without the digest of a long file
             self._hashes.__exit__()
         if self._record is not None:
             self._record.close()
 
     def skip(self, files: Sequence[str]) -> Tuple[List[str], int]:
-        """The files that are to be read, and the greatest status of those that the record has as
-        they are now."""
+        """Returns the files to read, and the greatest status of the others. The record has the
+        others, and they are unchanged."""
         if not self._wanted.resume:
             return list(files), 0
         left, worst = [], 0
@@ -212,7 +211,7 @@ class Run:
         return left, worst
 
     def stream(self, file: str, work: Work, output: Optional[str]) -> Stream:
-        """A file as a stream, of which it is noted what it is now."""
+        """Returns a file as a stream, and notes the state of the file."""
         if self._hashes is not None:
             from .record import sha256_of, state_now
 
@@ -229,7 +228,7 @@ class Run:
         )
 
     def take(self, result: Result) -> int:
-        """Says what came of a file, and records it. It answers its status."""
+        """Writes the result of a file, records it, and returns its status."""
         state, digest = self._states.popleft() if self._states else ({}, None)
         sha256 = None if digest is None else digest.result()
         self._teller.result(result, lambda: self._object(result, sha256))
@@ -255,12 +254,12 @@ class Run:
         )
 
     def close(self) -> None:
-        """Says what is said of all files together."""
+        """Writes what is about all files together."""
         self._teller.close()
 
 
 def _run(wanted: Asked) -> int:
-    """Does what is asked with each file, in order, and answers the greatest status."""
+    """Does the work on each file, in order, and returns the greatest status."""
     files, work = files_of(wanted), _work(wanted)
     outputs = _outputs(wanted, files)
     if wanted.output_dir is not None:
@@ -301,7 +300,7 @@ def _explain(words: Sequence[str]) -> int:
 
 
 def _by_command(wanted: Asked) -> int:
-    """Does what is asked. Few runs need an index, what cuts by one, a page or a server."""
+    """Runs the command. Few runs need an index, a cut, a page or a server: it loads them here."""
     if wanted.command == "explain":
         return _explain(wanted.files)
     if wanted.command == "index":
@@ -323,18 +322,18 @@ def _by_command(wanted: Asked) -> int:
     return _run(wanted)
 
 
-# ---- how it ends
+# ---- the end
 
 
 def _program() -> str:
-    """The name that the command is called by."""
+    """Returns the name that the command was called with, or `cityseq`."""
     name = os.path.basename(sys.argv[0])
     return name if name.startswith("cityseq") else "cityseq"
 
 
 def _refused(fault: CityseqError, wanted: Optional[Asked]) -> None:
-    """Says what ended the run: of standard input alone, and where nothing was asked yet, in the
-    program's words."""
+    """Writes the fault that ended the run. It has the program's words if only standard input is
+    read, or if the command line has a mistake."""
     is_plain = wanted is None or wanted.is_plain
     if isinstance(fault, Mistake):
         if fault.words:
@@ -353,8 +352,8 @@ def _refused(fault: CityseqError, wanted: Optional[Asked]) -> None:
 
 
 def _traced(fault: Exception) -> str:
-    """What a fault that nobody expected is, and where it came up, in one line."""
-    import traceback  # which is wanted least often of all
+    """Returns an unexpected fault and its place in the code, in one line."""
+    import traceback  # rarely needed
 
     calls = traceback.extract_tb(fault.__traceback__)
     place = f" in {os.path.basename(calls[-1].filename)}, line {calls[-1].lineno}" if calls else ""
@@ -362,13 +361,13 @@ def _traced(fault: Exception) -> str:
 
 
 def _drop_output() -> None:
-    """Gives what is still in the buffer of standard output nowhere to go."""
+    """Discards what is still in the buffer of standard output."""
     if sys.stdout is not None:
         os.dup2(os.open(os.devnull, os.O_WRONLY), 1)
 
 
 def main(words: Optional[Sequence[str]] = None) -> int:
-    """Runs the command with these words, or those of the command line, and answers the status."""
+    """Runs the command with these words, or those of the command line, and returns the status."""
     wanted: Optional[Asked] = None
     try:
         try:

@@ -1,5 +1,4 @@
-"""Standard output and standard error of the command, of which each may be closed, full, or a
-terminal."""
+"""Standard output and standard error of the command. Each may be closed, full, or a terminal."""
 from __future__ import annotations
 
 import io
@@ -11,10 +10,10 @@ from .faults import write_fault
 
 
 def hold_descriptors() -> None:
-    """Opens what is closed of the first three descriptors, so that no file that is opened later
-    gets the number of standard error.
+    """Opens those of the first three descriptors that are closed. Otherwise a file that is opened
+    later could get the number of standard error.
 
-    What Python has found closed at its start stays closed: `sys.stdout` is None, and a write to it
+    What Python found closed at its start stays closed: `sys.stdout` is None, and a write to it
     is a fault."""
     opened = os.open(os.devnull, os.O_RDWR)
     while opened <= 2:
@@ -23,20 +22,19 @@ def hold_descriptors() -> None:
 
 
 def escape_what_lacks() -> None:
-    """Has both outputs escape the letters that their encoding lacks."""
+    """Makes both outputs escape the characters that their encoding lacks."""
     for output in (sys.stdout, sys.stderr):
         if isinstance(output, io.TextIOWrapper):
             output.reconfigure(errors="backslashreplace")
 
 
 def encoding() -> str:
-    """The encoding of standard error."""
+    """Returns the encoding of standard error."""
     return getattr(sys.stderr, "encoding", None) or "utf-8"
 
 
 def say(words: str, end: str = "\n") -> None:
-    """Says something on standard error. Where it is closed or takes nothing, the status alone tells
-    of it."""
+    """Writes words to standard error. If it is closed or full, only the status shows a fault."""
     if sys.stderr is None:  # `print` takes None for standard output
         return
     with suppress(OSError, ValueError):
@@ -44,7 +42,7 @@ def say(words: str, end: str = "\n") -> None:
 
 
 def put(text: str) -> None:
-    """Writes a line to standard output, all at once: a reader may go away behind its end."""
+    """Writes a line to standard output in one call. A reader may close it after any line."""
     try:
         if sys.stdout is None:
             raise OSError("standard output is closed")
@@ -54,7 +52,7 @@ def put(text: str) -> None:
 
 
 def flush() -> None:
-    """Flushes what was written to standard output."""
+    """Flushes standard output."""
     try:
         if sys.stdout is not None:
             sys.stdout.flush()

@@ -1,4 +1,4 @@
-"""Cuts by an index: the selected lines are read, judged again and written."""
+"""Cuts by an index: reads the selected lines, judges them again, and writes the kept ones."""
 from __future__ import annotations
 
 import io
@@ -16,13 +16,13 @@ from .sources import is_path
 if TYPE_CHECKING:
     from .lookup import Index
 
-HELD = 16 << 20  # bytes of an output that wait in memory until it is whole; others wait on a disk
+HELD = 16 << 20  # bytes of an output that wait in memory until it is whole; more wait on a disk
 PIECE = 1 << 20
 Selections = Iterable[Tuple[IndexedStream, Iterator[Row]]]
 
 
 class _Lines(io.RawIOBase):
-    """A file of the header and the selected lines of streams that have the same header."""
+    """A file object with the header and the selected lines of streams with the same header."""
 
     def __init__(self, name: str, texts: Iterator[bytes]) -> None:
         super().__init__()
@@ -32,7 +32,7 @@ class _Lines(io.RawIOBase):
         return True
 
     def read(self, most: int = -1) -> bytes:
-        """Some bytes, at most so many, and none at the end."""
+        """Returns at most `most` bytes, and none at the end."""
         if not self._rest:
             self._rest = next(self._texts, b"")
         piece = self._rest if most < 0 else self._rest[:most]
@@ -68,7 +68,7 @@ def _judged(
 
 
 def _counted(result: Result, streams: Iterable[IndexedStream]) -> Result:
-    """Returns the same with the counts that a run over the whole streams has."""
+    """Returns the same result with the counts of a run over the whole streams."""
     listed = list(streams)
     refused = sum(stream.refused for stream in listed)
     return replace(
@@ -87,11 +87,11 @@ def _written(
     output: Target,
     jobs: Optional[int],
 ) -> Result:
-    """Writes one output. What is no file of its own gets it at once, when it is whole."""
+    """Writes one output. A target that is not a path gets the output only when it is whole."""
     texts = _texts(selections, index.base)
     if is_path(output):
         return _judged(name, texts, work, Writer(output), jobs)
-    import tempfile  # which a cut to a path does not need
+    import tempfile  # a cut to a path does not need it
 
     target = Writer(output)
     try:
@@ -109,7 +109,7 @@ def _written(
 
 
 def cut(index: "Index", work: Work, output: Target, jobs: Optional[int]) -> Result:
-    """Writes what a query keeps of all streams of an index, which have one header, to one output.
+    """Writes what a query keeps of all streams of an index. They have one header and one output.
 
     Raises:
         CityseqError: As `Index.filter` does.

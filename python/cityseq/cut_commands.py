@@ -33,7 +33,7 @@ UNFIT = {
 
 
 def run(wanted: Asked) -> int:
-    """Cuts streams by an index, and answers the status."""
+    """Cuts streams by an index, and returns the status."""
     if wanted.index is None:
         raise RequestError("--base is for --index")
     with Index(wanted.index, base=wanted.base) as index:
@@ -59,7 +59,7 @@ def _refuse(wanted: Asked, index: Index) -> None:
 
 
 def _outputs(wanted: Asked, index: Index) -> List[str]:
-    """Where the cut of each stream goes, or that of all."""
+    """Returns where the cut of each stream goes, or the only output."""
     if wanted.output_dir is None:
         return [wanted.output]
     names = [os.path.basename(stream.path) for stream in index.streams]

@@ -1,5 +1,4 @@
-"""The same over a cluster of `distributed`: parts of files are tasks, each of which opens its file
-by its path, so the workers need this package and the files.
+"""Checks, filters, summarises and indexes files on a cluster of `distributed`.
 
     from distributed import Client
     import cityseq.dask
@@ -7,8 +6,9 @@ by its path, so the workers need this package and the files.
         for result in cityseq.dask.check(client, ["north.city.jsonl", "south.city.jsonl"]):
             print(result.file, result.status, result.features)
 
-A worker that dies has its tasks done by others. Answers are joined in order, as those of threads
-are."""
+Each part of a file is a task, which opens the file by its path. So each worker needs this package
+and the files. If a worker dies, other workers do its tasks. Answers are joined in order, as with
+threads."""
 from __future__ import annotations
 
 import os
@@ -31,10 +31,10 @@ from .same import refuse_same
 from .sources import State, is_packed, is_path
 from .threads import in_thread
 
-PART = 32 << 20  # how long the parts of tasks are
-LOOKED_AT = 64  # of so many files the beginnings are looked at together
-AHEAD = 2  # how many tasks there are at once for each thread of a worker
-RETRIES = 3  # how often a task that fails is tried again
+PART = 32 << 20  # bytes of a part
+LOOKED_AT = 64  # files whose beginnings are read together
+AHEAD = 2  # waiting or running tasks for each thread of a worker
+RETRIES = 3  # of a task that fails
 
 OnReport = Optional[Callable[[Report], None]]
 
@@ -42,7 +42,7 @@ OnReport = Optional[Callable[[Report], None]]
 def _ranges_of(
     stream: Stream, path: str, size: int, seen: Seen, judged: Callable[..., Answer]
 ) -> Tasks:
-    """What is to be called for each part of a file, of a size where its bytes can be gone to."""
+    """Yields a call for each part of a file. A file without a known size is judged whole."""
     stream.heads(seen.header, seen.behind)
     if seen.fault is not None and not seen.header.endswith(b"\n"):
         stream.fail(seen.fault)
@@ -71,29 +71,29 @@ class _Ranged(Stream):
         self._seen, self._path, self._each = seen, path, size
 
     def tasks(self) -> Tasks:
-        """What is to be called for each part."""
+        """Yields a call for each part."""
         return _ranges_of(self, self._path, self._each, self._seen, judge_range)
 
 
 class _IndexedRanges(Indexed):
-    """The same, whose records go to an index."""
+    """A file whose parts are read where they are judged, and whose records go to an index."""
 
     def __init__(self, number: int, seen: Seen, size: int, *given: Any) -> None:
         super().__init__(number, *given)
         self._seen, self._each = seen, size
 
     def tasks(self) -> Tasks:
-        """What is to be called for each part."""
+        """Yields a call for each part."""
         return _ranges_of(self, self.file, self._each, self._seen, find_range)
 
     def state(self) -> State:
-        """The size and the time that the file had at the beginning."""
+        """Returns the size and the time of change that the file had at the beginning."""
         assert self._seen.state is not None
         return self._seen.state
 
 
 def _seen(client: Any, paths: Iterable[str], work: Work) -> Iterator[Tuple[str, Seen]]:
-    """The files and their beginnings, which are looked at by the workers, many at once."""
+    """Yields each file with its beginning. The workers read the beginnings, many at once."""
     left = iter(paths)
     while True:
         group = list(islice(left, LOOKED_AT))
@@ -106,7 +106,7 @@ def _seen(client: Any, paths: Iterable[str], work: Work) -> Iterator[Tuple[str, 
 def _run(
     client: Any, paths: Any, work: Work, size: int, output: Optional[Writer], tell: OnReport
 ) -> Results:
-    """What comes of each file, in order."""
+    """Yields the result of each file, in order."""
 
     def made(path: str, seen: Seen) -> Stream:
         return _Ranged(path, work, size, seen, output, tell)
@@ -117,7 +117,7 @@ def _run(
 def _run_each(
     client: Any, paths: Any, work: Work, made: Callable[[str, Seen], Stream]
 ) -> Results:
-    """What comes of each file, in order, by the stream that is made of it."""
+    """Yields the result of each file, in order. `made` makes the stream of a file."""
     try:
         import distributed
     except ImportError as fault:
@@ -151,8 +151,8 @@ def check(
     on_report: OnReport = None,
     part_size: int = PART,
 ) -> Iterator[Result]:
-    """Checks files, of which there may be one, and gives the result of each, in order. A fault is
-    told by the result."""
+    """Checks one file or several, and yields the result of each, in order. A fault of a file is in
+    its result."""
     work = asked("check", line_limit=line_limit, depth=depth, keep_going=keep_going, tree=tree)
     return _run(client, paths, work, part_size, None, on_report)
 
@@ -168,8 +168,8 @@ def info(
     on_report: OnReport = None,
     part_size: int = PART,
 ) -> Iterator[Info]:
-    """Reports what is in files, of which there may be one, in order. A fault is told by the
-    result."""
+    """Summarises one file or several, and yields the result of each, in order. A fault of a file
+    is in its result."""
     work = asked("info", exact_lods=exact_lods, line_limit=line_limit, depth=depth, tree=tree)
     return _run(client, paths, work, part_size, None, on_report)  # type: ignore[return-value]
 
@@ -192,8 +192,8 @@ def filter(
     on_report: OnReport = None,
     part_size: int = PART,
 ) -> Result:
-    """Copies the header and the features of a file that are wanted to an output, which is written
-    where this is called, as `cityseq.filter` does."""
+    """Copies the header and the kept features of a file to an output, as `cityseq.filter` does.
+    The output is written where this function is called."""
     work = asked(
         "filter",
         ids=ids,
@@ -228,7 +228,7 @@ def index(
     part_size: int = PART,
 ) -> List[Result]:
     """Writes an index of files where this is called, as `cityseq.index` does. The workers judge
-    the files, and hand on where each feature is. Packed files have no parts, and are refused."""
+    the files, and return where each feature is. Packed files are refused: they have no parts."""
     work = asked("check", line_limit=line_limit, depth=depth, keep_going=keep_going, tree=tree)
     named = checked(paths, output)
     for path in named:

@@ -37,7 +37,7 @@ def ceiling_of(count: int, unit: int) -> float:
 
 
 def units_of(number: "Decimal") -> Optional[int]:
-    """Returns how many times 10^-18 a fixed number is; None of any other number."""
+    """Returns how many times 10^-18 a fixed number is. None for any other number."""
     sign, digits, exponent = number.as_tuple()
     text = "".join(map(str, digits))
     stripped = text.rstrip("0") or "0"
@@ -79,7 +79,7 @@ class Axis:
 class World:
     """The map from vertices to world coordinates that a transform makes.
 
-    An axis is None if its scale or translation is not a fixed number. No box can be asked for then.
+    An axis is None if its scale or translation is not a fixed number. No query can have a box then.
     """
 
     def __init__(self, scale: List["Decimal"], translate: List["Decimal"]) -> None:
@@ -95,7 +95,7 @@ class World:
 
 
 def box_of(text: str) -> Optional[Tuple[Interval, Interval]]:
-    """Returns a box `minx,miny,maxx,maxy` as two intervals, rounded outward; None if it is none."""
+    """Returns a box `minx,miny,maxx,maxy` as two intervals, rounded outward, or None."""
     from decimal import Decimal, InvalidOperation
 
     try:
@@ -111,7 +111,7 @@ def box_of(text: str) -> Optional[Tuple[Interval, Interval]]:
 
 
 def wider(one: Range, other: Range) -> Range:
-    """Returns the range of two ranges together."""
+    """Returns the least range that has both ranges in it."""
     if one is None or other is None:
         return one or other
     return min(one[0], other[0]), max(one[1], other[1])

@@ -1,5 +1,5 @@
-"""What ends a run without a verdict, or without a valid stream. Each fault has the status that the
-program `cityseq` ends with."""
+"""Faults: what ends a run without a verdict, or without a valid stream. Each fault has the status
+that the program `cityseq` ends with."""
 from __future__ import annotations
 
 from typing import Any, Optional, Type, TypeVar
@@ -8,9 +8,9 @@ Fault = TypeVar("Fault", bound="CityseqError")
 
 
 class CityseqError(Exception):
-    """Any fault of this package. `words` say what it is, `file` names the file that it is of, where
-    there is one, and `result` is what came of the stream before it. `__cause__` is the error of the
-    system that it came from, where it came from one."""
+    """Any fault of this package. `words` say what it is, and `file` names its file, if there is
+    one. `result` is the result for the stream up to the fault. `__cause__` is the system's error,
+    if there is one."""
 
     status = 2
 
@@ -28,7 +28,7 @@ class CityseqError(Exception):
 
     @classmethod
     def of(cls: Type[Fault], what: str, cause: BaseException, file: Optional[str]) -> Fault:
-        """The fault that comes from an error of the system: what failed, and why."""
+        """Returns the fault for an error of the system: what failed, and why."""
         fault = cls(f"{what}: {why(cause)}", None, file)
         fault.__cause__ = cause
         if isinstance(fault, OSError) and isinstance(cause, OSError):
@@ -37,16 +37,16 @@ class CityseqError(Exception):
 
 
 class RequestError(CityseqError, ValueError):
-    """What is asked for cannot be asked: nothing was read."""
+    """A request that is not possible. Nothing was read."""
 
 
 class LibraryMissing(CityseqError, ImportError):
-    """`libcityseq.so` is not there, or is none."""
+    """`libcityseq.so` is missing, or is another library or version."""
 
 
 class InvalidStream(CityseqError, ValueError):
-    """A stream that was to be filtered is not valid, so that no output was made of it. `result.end`
-    says where and why."""
+    """A stream is invalid, so there is no whole output. If there is a `result`, its `end` is the
+    report."""
 
     status = 1
 
@@ -58,11 +58,11 @@ class ReadFault(CityseqError, OSError):
 
 
 class OutOfDate(ReadFault):
-    """An index is of another state of a stream than the one that is there now: build it again."""
+    """An index does not match the current state of a stream. It must be built again."""
 
     @classmethod
     def because(cls, why: str, file: str) -> "OutOfDate":
-        """The fault that has this reason, which is told of the stream."""
+        """Returns the fault with this reason, for this stream."""
         return cls(f"index is out of date: {why}, build it again", None, file)
 
 
@@ -73,22 +73,22 @@ class WriteFault(CityseqError, OSError):
 
 
 class MemoryFault(CityseqError, MemoryError):
-    """No memory was granted."""
+    """Memory was refused."""
 
     status = 5
 
 
 def why(fault: BaseException) -> str:
-    """What an error says, in one line."""
+    """Returns the text of an error, in one line."""
     told = getattr(fault, "strerror", None) or str(fault) or type(fault).__name__
     return " ".join(str(told).split())
 
 
 def read_fault(cause: BaseException, file: Optional[str]) -> ReadFault:
-    """The fault of a read that failed so."""
+    """Returns the fault of a read with this cause."""
     return cause if isinstance(cause, ReadFault) else ReadFault.of("read fault", cause, file)
 
 
 def write_fault(cause: BaseException, file: Optional[str]) -> WriteFault:
-    """The fault of a write that failed so."""
+    """Returns the fault of a write with this cause."""
     return cause if isinstance(cause, WriteFault) else WriteFault.of("write fault", cause, file)

@@ -1,4 +1,4 @@
-"""Lines of a stream by their places in it: of a file, of a packed file, or from a web server."""
+"""Reads lines of a stream by their places: from a file, a packed file, or a web server."""
 from __future__ import annotations
 
 import hashlib
@@ -32,7 +32,7 @@ class IndexedStream:
 
     Attributes:
         number: The `fid` of its row.
-        path: Where the stream is, from the folder of the index on if that is how it was stored.
+        path: Where the stream is. A stored path may be relative to the folder of the index.
         told_path: The path as it was stored.
     """
 
@@ -87,14 +87,14 @@ class FilePlace:
 
 
 class PackedPlace:
-    """A packed file, which is read from its beginning. Places may only rise, or fall by one."""
+    """A packed file. It is read from its beginning, so places may only rise, or fall by one."""
 
     def __init__(self, stream: IndexedStream, reader: Reader) -> None:
         self._reader, self._held, self._begin = reader, bytearray(), 0
         stream.compare(*state_of(reader.file.fileno()))
 
     def read(self, begin: int, end: int) -> bytes:
-        """Returns the bytes from one place to another of what is packed, or as many as there
+        """Returns the bytes from one place of the unpacked text to another, or as many as there
         are."""
         while self._begin + len(self._held) < end:
             if self._begin + len(self._held) <= begin:
@@ -114,7 +114,7 @@ class PackedPlace:
 
 @contextmanager
 def placed(stream: IndexedStream, base: Optional[str]) -> Iterator[Any]:
-    """Gives what reads a stream by places: from a file, or from a web server below a URL.
+    """Gives an object that reads a stream by places: from a file, or a web server below a URL.
 
     Raises:
         OutOfDate: The stream is not as the index has it.
@@ -170,7 +170,7 @@ def _groups(stream: IndexedStream, rows: Iterable[Row]) -> Iterator[List[Row]]:
 
 
 def _line(stream: IndexedStream, text: bytes, begin: int, length: int) -> bytes:
-    """Returns a line with its LF, if it has one. It begins behind an LF of the text."""
+    """Returns a line with its LF, if it has one. It must begin after an LF of the text."""
     end = begin + length
     if len(text) < end:
         raise OutOfDate.because(SHORTER, stream.path)
@@ -187,7 +187,7 @@ def lines_of(
     are read together with what is between them.
 
     Raises:
-        OutOfDate: They are not there as the index has them.
+        OutOfDate: The stream does not have the lines of the index.
         ReadFault: A read failed.
     """
     for group in _groups(stream, rows):

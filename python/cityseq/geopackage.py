@@ -1,8 +1,8 @@
-"""The tables of an index: a GeoPackage 1.3 (OGC 12-128r17), which is a database of SQLite.
+"""The tables of an index: a GeoPackage 1.3 (OGC 12-128r17), which is an SQLite database.
 
 `features` is the layer: the extent of each feature as a polygon. `streams` and `reports` are
 tables of attributes. `cityseq_index` has one row: the version of these tables, and how the streams
-were judged. docs/index.md describes every column.
+were judged. docs/geopackage.md describes every column.
 """
 from __future__ import annotations
 
@@ -11,10 +11,10 @@ import sqlite3
 import struct
 from typing import Any, Optional, Tuple
 
-VERSION = 1  # of the tables: it changes if a column goes, or gets another name or meaning
+VERSION = 1  # of the tables: it changes if a column is removed, renamed or changes its meaning
 APPLICATION = 0x47504B47  # "GPKG"
 GEOPACKAGE = 10_300  # GeoPackage 1.3
-UNDEFINED = -1  # the system of coordinates that is not known
+UNDEFINED = -1  # the coordinate system is not known
 TABLE, COLUMN = "features", "geom"
 TREE = f"rtree_{TABLE}_{COLUMN}"
 SYSTEM = re.compile(
@@ -121,7 +121,7 @@ def system_of(metadata: Any) -> Tuple[Optional[str], int]:
 
 
 def geometry_start(system: int) -> bytes:
-    """Returns what each polygon begins with: a GeoPackage header without envelope, then WKB."""
+    """Returns the beginning of each polygon: a GeoPackage header without envelope, then WKB."""
     return struct.pack("<2sBBiBIII", b"GP", 0, 1, system, 1, 3, 1, 5)
 
 
@@ -131,7 +131,7 @@ def polygon(start: bytes, xmin: float, xmax: float, ymin: float, ymax: float) ->
 
 
 def create(base: sqlite3.Connection) -> None:
-    """Makes all tables in an empty database, but for the triggers."""
+    """Makes all tables in an empty database, without the triggers."""
     base.execute(f"PRAGMA application_id = {APPLICATION}")
     base.execute(f"PRAGMA user_version = {GEOPACKAGE}")
     for each in (STANDARD + OURS).split(";\n"):
@@ -140,7 +140,7 @@ def create(base: sqlite3.Connection) -> None:
 
 
 def describe(base: sqlite3.Connection, system: int) -> None:
-    """Fills the tables that say what the others are, and adds the triggers."""
+    """Fills the tables that describe the others, and adds the triggers."""
     systems = [
         ("Undefined cartesian SRS", -1, "NONE", -1, "undefined", "Undefined cartesian system"),
         ("Undefined geographic SRS", 0, "NONE", 0, "undefined", "Undefined geographic system"),

@@ -1,4 +1,4 @@
-"""What a file may be that is no stream, told by how it begins, and what to do with it."""
+"""Hints for a file that is not a stream: what it may be by its beginning, and what to do."""
 from __future__ import annotations
 
 import re
@@ -6,11 +6,11 @@ from typing import List
 
 from .reports import Report
 
-HEAD = 65_536  # how many bytes are looked at
+HEAD = 65_536  # bytes that are read for a hint
 NO_HEADER, NOT_EMPTY, SYNTAX = 1, 16, 4
 CITYJSON = rb'"type"\s*:\s*"CityJSON"'
 FEATURE = rb'"type"\s*:\s*"CityJSONFeature"'
-# What no stream begins with: the bytes, what they are the mark of, and what to do.
+# No stream begins like this: the bytes, the format that they mark, and what to do.
 MARKS = (
     (
         b"\x1f\x8b",
@@ -39,8 +39,8 @@ FEATURE_FIRST = (
 
 
 def hints_for(end: Report, head: bytes) -> List[str]:
-    """Returns what a stream may be that ended with this report and begins with these bytes. There
-    are hints only if the first line ended it."""
+    """Returns what the file may be, by the report that ended it and by its first bytes. There are
+    hints only if the first line ended it."""
     if end.line != 1:
         return []
     if end.code == NO_HEADER:

@@ -24,7 +24,7 @@ from .words import Asked
 
 
 def run(wanted: Asked) -> int:
-    """Writes an index or shows one, and answers the status."""
+    """Writes or shows an index, and returns the status."""
     return _show(wanted) if wanted.show is not None else _build(wanted)
 
 
@@ -37,7 +37,7 @@ def _show(wanted: Asked) -> int:
 
 
 def _build(wanted: Asked) -> int:
-    """Writes an index, and says what came of each file."""
+    """Writes an index and the result of each file."""
     if wanted.output == "-":
         raise RequestError("an index is written to a file: name it by --output")
     files = checked(files_of(wanted), wanted.output)

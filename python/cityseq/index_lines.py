@@ -1,4 +1,4 @@
-"""What is said of an index, as lines of text and as JSON."""
+"""The description of an index, as lines of text and as JSON."""
 from __future__ import annotations
 
 from typing import TYPE_CHECKING, Any, Dict, Iterator, List, Optional, Sequence
@@ -27,7 +27,7 @@ def _extent(streams: Sequence[IndexedStream]) -> Extent:
 
 
 def _state(index: "Index", stream: IndexedStream) -> Optional[str]:
-    """Returns why the index cannot be used for a stream, if that is so."""
+    """Returns why the index cannot be used for a stream, or None."""
     if index.base is not None:
         return None
     try:
@@ -64,7 +64,7 @@ def lines(index: "Index") -> Iterator[str]:
 
 
 def shown_object(index: "Index", program: str) -> Dict[str, Any]:
-    """Returns the same as an object of JSON."""
+    """Returns the same as a JSON object."""
     from .objects import object_of
 
     return object_of(

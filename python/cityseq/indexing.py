@@ -1,4 +1,4 @@
-"""Builds an index of streams: threads judge parts and read their records, and one writes them."""
+"""Builds an index of streams: threads judge parts and read records, and one thread writes."""
 from __future__ import annotations
 
 import os
@@ -24,7 +24,7 @@ Progress = Optional[Callable[[int], None]]
 
 
 class _Counting(Reader):
-    """Reads what another reader would, and counts it."""
+    """Reads as another reader does, and counts the bytes."""
 
     def __init__(self, reader: Reader, taken: int) -> None:
         super().__init__(reader.file, reader.name)
@@ -40,7 +40,7 @@ class Recorded(Stream):
     """A stream whose parts answer with the records of their features."""
 
     def take(self, found: Found, lines: int) -> None:
-        """Takes what came of the next part, before which so many lines came.
+        """Takes the answer for the next part. `lines` lines of the stream came before it.
 
         Raises:
             WriteFault: It cannot be written.
@@ -48,8 +48,8 @@ class Recorded(Stream):
         raise NotImplementedError
 
     def _parts(self, reader: Reader, header: bytes, rest: bytearray) -> Iterator[Optional[Judged]]:
-        """What judges each part behind the header: those of a file are read where they are judged,
-        but for its end."""
+        """Yields a call that judges each part after the header. The thread that judges a part of a
+        file also reads it, except at the end of the file."""
         begin = len(header)
         file = placed(reader.file)
         if file is not None:
@@ -68,7 +68,7 @@ class Recorded(Stream):
             self.work.keep_going,
         )
         for part in cutter.parts():
-            # of a line that is too long the part has only the beginning, and no record
+            # the part of a line that is too long has only its beginning, and no record
             left = counting.taken - cutter.left - len(part)
             yield self._judged(header, partial(given, part), left) if part else None
         reader.fault = counting.fault
@@ -77,7 +77,7 @@ class Recorded(Stream):
         return partial(find_read, self.work, self.file, header, read, begin)
 
     def add(self, answer: Answer) -> None:
-        """Joins the answer of the next part, and has its records taken."""
+        """Joins the answer of the next part, and passes its records to `take`."""
         lines = self._joined.lines - min(self._joined.parts, 1)
         try:
             super().add(answer)
@@ -112,7 +112,7 @@ class Indexed(Recorded):
             self._builder.report(self._number, report)
 
     def take(self, found: Found, lines: int) -> None:
-        """Writes the records of the next part, before which so many lines came.
+        """Writes the records of the next part. `lines` lines of the stream came before it.
 
         Raises:
             WriteFault: They cannot be written.
@@ -121,13 +121,13 @@ class Indexed(Recorded):
             self._builder.add(self.entry(), found.records, lines)
 
     def entry(self) -> Entry:
-        """What the index has of the stream. Its header is valid."""
+        """Returns the entry of the stream in the index. The header is valid."""
         if self._entry is None:
             self._entry = self._builder.begin(self._number, self._header)
         return self._entry
 
     def finish(self) -> Result:
-        """What came of the stream. The index has it then, unless the run ended before."""
+        """Returns the result of the stream. If the run reached its end, the index has it then."""
         result = super().finish()
         if result.fault is None and result.end is None:
             try:
@@ -146,25 +146,25 @@ class Indexed(Recorded):
         self._builder.end(self.entry(), self._path, self.state(), packing, result)
 
     def state(self) -> State:
-        """The size and the time that the file had at the beginning."""
+        """Returns the size and the time of change that the file had at the beginning."""
         assert self._watch is not None
         return self._watch.state
 
 
 def _packing_of(path: str) -> Optional[str]:
-    """Returns how a file is packed, by the word that the index has for it."""
+    """Returns how a file is packed, by the word that the index uses."""
     with open(path, "rb") as file:
         packing = packing_of(file.read(len(Packing.ZSTD.mark)), path)
     return None if packing is None else packing.name.lower()
 
 
 def _of_thread(file: Placed, begin: int, end: int) -> Any:
-    """Reads a part of a file to the memory that the thread has for that."""
+    """Reads a part of a file into the memory that the thread keeps for this."""
     return file.read(begin, end)
 
 
 def is_special(path: Any) -> bool:
-    """Whether a path is there, and is a device, a pipe or the like."""
+    """Whether a path exists, and is neither a regular file nor a folder."""
     return os.path.exists(path) and not (os.path.isfile(path) or os.path.isdir(path))
 
 
@@ -172,7 +172,8 @@ def checked(paths: Any, output: Any) -> List[str]:
     """Returns the paths of the streams.
 
     Raises:
-        RequestError: None is given, one is no path, two are one file, or the output is one of them.
+        RequestError: No path is given. One is not a path, or is that of a device or a pipe. Two
+            are one file, or the output is one of them.
     """
     listed = [paths] if isinstance(paths, (str, bytes, os.PathLike)) else list(paths)
     for path in listed:
@@ -190,8 +191,8 @@ def checked(paths: Any, output: Any) -> List[str]:
 
 
 def by_threads(streams: Iterable[Stream], jobs: Optional[int]) -> Results:
-    """Yields what came of each stream, in order. Parts are judged by so many threads, and joined
-    by the one that asks."""
+    """Yields the result of each stream, in order. `jobs` threads judge parts. The calling thread
+    joins the answers."""
     jobs = usual_jobs() if jobs is None else jobs
     if isinstance(jobs, bool) or not isinstance(jobs, int) or jobs < 1:
         raise RequestError(f"jobs are a whole number from 1: {jobs!r}")
@@ -208,8 +209,8 @@ def written(
     work: Work,
     take: Callable[[Result], None] = lambda result: None,
 ) -> bool:
-    """Writes an index of streams to its end, and tells what came of each. Returns whether the
-    index is whole. It is removed if it is not, and nothing is read behind a stream that ends so."""
+    """Writes an index of streams, and passes the result of each to `take`. Returns whether the
+    index is whole, and removes it if it is not. Stops after the first stream that ended early."""
     from . import __version__
 
     try:

@@ -40,13 +40,13 @@ class Feature:
     Attributes:
         line: The number of its line in the stream, from 1.
         bytes: Its line, byte for byte, without the LF.
-        id: Its id, with escapes undone. It may have half a character in it.
+        id: Its id, with escapes undone. It may have a lone surrogate.
         objects: How many city objects it has.
         geometries: How many geometries these have.
         types: The names of the types of its city objects, each once, in the order of the table.
         lods: The classes of its LoDs, each once: "0" to "4", and "other".
-        ranges: The least and greatest vertex on x, y and z, as they stand in the line. Each is
-            None where the feature has no vertex.
+        ranges: The least and greatest vertex on x, y and z, as the numbers in the line. Each is
+            None if the feature has no vertex.
         header: The first line of the stream.
     """
 
@@ -61,7 +61,7 @@ class Feature:
     header: builtins.bytes
 
     def json(self) -> Any:
-        """Returns the feature as Python's own JSON reader has it."""
+        """Returns the feature as Python's JSON reader gives it."""
         return json.loads(self.bytes)
 
     @property
@@ -74,12 +74,12 @@ class Feature:
 
 
 def _set_bits(bits: int, names: Tuple[str, ...]) -> Tuple[str, ...]:
-    """The names whose bits are set."""
+    """Returns the names whose bits are set."""
     return tuple(name for number, name in enumerate(names) if bits >> number & 1)
 
 
 def feature_of(raw: RawFeature, header: bytes, part: Text, lines: int) -> Feature:
-    """The feature of a record, where so many lines came before the part's own."""
+    """Returns the feature of a record. `lines` lines came before the lines of the part."""
     line = bytes(part[raw.begin : raw.begin + raw.length])
     ranges = tuple((axis.least, axis.greatest) if axis.some else None for axis in raw.ranges)
     return Feature(
@@ -96,7 +96,7 @@ def feature_of(raw: RawFeature, header: bytes, part: Text, lines: int) -> Featur
 
 
 def fault_of(answer: RawAnswer, header: bytes, part: Text, lines: int, file: str) -> CityseqError:
-    """The fault that an answer tells."""
+    """Returns the fault for an answer that is not complete."""
     if answer.status == NO_MEMORY:
         return MemoryFault("out of memory", None, file)
     if answer.status == REFUSED:
@@ -106,7 +106,7 @@ def fault_of(answer: RawAnswer, header: bytes, part: Text, lines: int, file: str
 
 
 def _parts(reader: Reader, work: Work) -> Iterator[Tuple[bytes, Text]]:
-    """The header with each part, or with nothing where no line follows it."""
+    """Yields the header with each part. If no line follows it, yields it with an empty part."""
     header, rest = read_header(reader, work.line_limit)
     cutter = Cutter(reader, rest, PART, work.line_limit, work.keep_going)
     any_part = False
@@ -137,12 +137,12 @@ def features(source: Source, work: Work) -> Iterator[Feature]:
 
 
 def _rounded(extent: Extent) -> Tuple[float, float]:
-    """An extent as the nearest floats; not a number where there is none."""
+    """Returns an extent as the nearest floats, or NaN twice if there is none."""
     return (nan, nan) if extent is None else (float(extent[0]), float(extent[1]))
 
 
 def table(source: Source, work: Work) -> Dict[str, Any]:
-    """The columns of a table with a row for each kept feature."""
+    """Returns the columns of a table with a row for each kept feature."""
     from .world import extent_of, transform_of  # few runs need it
 
     ids: List[str] = []

@@ -1,13 +1,13 @@
 """The exact texts of the LoDs in a stream, and how many features have each.
 
-A member that may be an LoD is found by its name, wherever it stands. The library tells how many
-geometries have an LoD. Where a part has as many such members, each of them is one of these LoDs, so
-one pass over the text counts them.
+A member that may be an LoD is found by its name, anywhere in the text. The library counts how many
+geometries have an LoD. If a part has exactly that number of such members, each of them is an LoD.
+Then one pass over the text counts them.
 
-Where it has more, some are no LoDs: an attribute may have that name. Then the library counts the
-features with each text, by a query for each. Most often there are few texts, and each is asked for
-alone. Where there are many, groups are asked for and halved. An instance has the LoD of its
-template, which stands in the header, so a part with instances is counted by queries too."""
+If it has more, some are not LoDs: an attribute may have that name. Then the library counts the
+features with each text, by a query for each. If there are few texts, there is one query for each.
+If there are many, a query is for a group, and the groups are halved. An instance has the LoD of its
+template, which is in the header. So a part with instances is counted by queries too."""
 from __future__ import annotations
 
 import json
@@ -21,26 +21,26 @@ from ._library import Text, library, searchable
 from .query import Work, lines_of
 from .tally import MOST_TEXTS, Tally
 
-ALONE = 8  # so many texts, those that come most often, are asked for alone
+ALONE = 8  # texts that have a query of their own, the most frequent ones
 MOST_CALLS = 64  # for one part
 NAME = b'"lod"'
-WINDOWS = 512, 16_384  # bytes that are searched for the name behind a quote, least and most
+WINDOWS = 512, 16_384  # bytes that are searched for the name after a quote, least and most
 VALUE = rb'[ \t\r]*:[ \t\r]*"((?:[^"\\\x00-\x1f]|\\.)*)"'
 AFTER_NAME = re.compile(VALUE)
-ESCAPED_LETTER = re.compile(rb"\\u00[4-7]")  # in ASCII, so that a name may be written otherwise
+ESCAPED_LETTER = re.compile(rb"\\u00[4-7]")  # of ASCII: a name can be written with it
 USUAL = re.compile(NAME + VALUE)
 ESCAPED = re.compile(rb'"(?:l|\\u006[cC])(?:o|\\u006[fF])(?:d|\\u0064)"' + VALUE)
 
 
 def _decoded(spelling: bytes) -> str:
-    """Returns the text of a string of JSON without its quotes. Raises `ValueError` if it is no
-    JSON."""
+    """Returns the text of a JSON string, from its spelling without quotes. Raises `ValueError` if
+    it is not JSON."""
     text: str = json.loads(b'"' + spelling + b'"')
     return text
 
 
 def _can_be_asked(text: str) -> bool:
-    """Whether a query can ask for a text: it has no LF and no half character."""
+    """Whether a query can ask for a text: it has no LF and no lone surrogate."""
     try:
         text.encode("utf-8")
     except UnicodeEncodeError:
@@ -60,14 +60,14 @@ class Found:
 
 
 def _members(text: Any, begin: int, end: int) -> Iterator[Tuple[int, bytes]]:
-    """Yields where each member that may be an LoD stands, and what follows its name."""
+    """Yields the place of each member that may be an LoD, and what follows its name."""
     find, starts, value = text.find, text.startswith, b"\n"
     place, window = begin, WINDOWS[0]
     while True:
         stop = place + window
         name = find(NAME, place, stop if stop < end else end)
         if name < 0:
-            # an array of numbers has no quote, and one byte is found much faster than a name
+            # an array of numbers has no quote, and a search for one byte is much faster
             place = find(b'"', stop - len(NAME) + 1, end)
             if place < 0:
                 return
@@ -84,7 +84,7 @@ def _members(text: Any, begin: int, end: int) -> Iterator[Tuple[int, bytes]]:
 
 
 def _in_one_pass(text: Any, begin: int, end: int) -> Optional[Found]:
-    """Finds all members that may be an LoD. None where they have too many texts."""
+    """Finds all members that may be an LoD. Returns None if they have too many texts."""
     found, line_end = Found(), begin - 1
     texts: Dict[bytes, str] = {}
     counted_at: Dict[str, int] = {}  # the end of the line where a text was counted last
@@ -106,18 +106,18 @@ def _in_one_pass(text: Any, begin: int, end: int) -> Optional[Found]:
 
 @lru_cache(maxsize=2)
 def _has_templates(header: bytes) -> bool:
-    """Whether a valid header has templates of geometries."""
+    """Whether a valid header has geometry templates."""
     if b"geometry-templates" in header:
         return True
     if b"\\u00" not in header:
-        return False  # the name is not written by escapes
+        return False  # the name has no escapes
     from .world import read_json
 
     return "geometry-templates" in read_json(header.decode("utf-8"))
 
 
 def _passed(header: bytes, part: Text) -> Optional[Found]:
-    """The members of a part, if one pass can tell which of them are LoDs by their number."""
+    """Returns the members of a part. None if one pass cannot find them, or not count them."""
     text, begin, end = searchable(part)
     if text.find(b"\\", begin, end) >= 0 and ESCAPED_LETTER.search(text, begin, end):
         return None
@@ -130,20 +130,20 @@ def _passed(header: bytes, part: Text) -> Optional[Found]:
 
 
 def spelled(text: Text) -> "Counter[bytes]":
-    """Returns how often each spelling comes that may be that of an LoD."""
+    """Returns how often each spelling occurs that may be one of an LoD."""
     pattern = ESCAPED if ESCAPED_LETTER.search(text) else USUAL
     return Counter(found.group(1) for found in pattern.finditer(text))
 
 
 def texts_of(spellings: Dict[bytes, int]) -> Tuple[List[str], FrozenSet[str]]:
-    """Returns the texts of spellings, those first that come most often, and apart from them the
-    texts that no query can ask for."""
+    """Returns the texts of spellings, the most frequent first. The second set has the texts that
+    no query can ask for."""
     counts: "Counter[str]" = Counter()
     for spelling, count in spellings.items():
         try:
             counts[_decoded(spelling)] += count
         except ValueError:
-            continue  # no text of JSON, so in no valid line
+            continue  # not JSON, so in no valid line
     texts = [text for text, _ in counts.most_common()]
     return list(filter(_can_be_asked, texts)), _unasked(texts)
 
@@ -153,7 +153,7 @@ def _unasked(texts: Iterable[str]) -> FrozenSet[str]:
 
 
 def _features_with(texts: List[str], work: Work, header: bytes, part: Text) -> int:
-    """How many features have one of these LoDs."""
+    """Returns how many features have one of these LoDs."""
     request = replace(work, lods=lines_of(texts)).request(header, part)
     return int(library().tally(header, part, request, 0)[2].features)
 
@@ -165,7 +165,7 @@ def _groups(texts: List[str]) -> List[List[str]]:
 def _counted(
     texts: List[str], work: Work, header: bytes, part: Text
 ) -> Iterator[Optional[Tuple[str, int]]]:
-    """Yields each text that is an LoD, with its features. None where it takes too many calls."""
+    """Yields each text that is an LoD, with its features. Yields None after too many calls."""
     groups, calls = _groups(texts), 0
     while groups:
         group, calls = groups.pop(0), calls + 1
@@ -190,7 +190,7 @@ def _ask(tally: Tally, work: Work, header: bytes, part: Text) -> None:
 
 
 def count(tally: Tally, work: Work, header: bytes, part: Text) -> None:
-    """Adds to the tally of a header and a valid part the texts of its LoDs."""
+    """Adds the texts of LoDs to the tally of a header and a valid part."""
     geometries = sum(tally.told.lods)
     found = _passed(header, part) if geometries else Found()
     if found is None or found.members != geometries:

@@ -1,4 +1,4 @@
-"""An index that is opened: what is in it, which lines a query may keep, and the features there."""
+"""An open index: what is in it, which lines a query may keep, and the features there."""
 from __future__ import annotations
 
 import os
@@ -51,7 +51,7 @@ class RepeatedId:
 
 
 def _opened(path: str) -> sqlite3.Connection:
-    """Opens a database to be read. Raises `ReadFault` if there is none."""
+    """Opens a database for reading. Raises `ReadFault` if there is none."""
     try:
         with open(path, "rb") as file:
             is_database = file.read(len(MAGIC)) == MAGIC
@@ -68,7 +68,7 @@ def _opened(path: str) -> sqlite3.Connection:
 
 @contextmanager
 def _reading(path: str) -> Iterator[None]:
-    """Makes a read fault of what SQLite says."""
+    """Turns an error of SQLite into a read fault."""
     try:
         yield
     except sqlite3.Error as fault:
@@ -76,12 +76,12 @@ def _reading(path: str) -> Iterator[None]:
 
 
 class Index:
-    """An index that `cityseq.index` has written. One thread at a time may use it.
+    """An index that `cityseq.index` has written. Only one thread at a time may use it.
 
     Attributes:
         path: Its path.
-        streams: The streams that it is of, in order.
-        tree, keep_going, line_limit, depth: How the streams were judged, and cuts are.
+        streams: The streams of the index, in order.
+        tree, keep_going, line_limit, depth: How the streams were judged. Cuts are judged so too.
     """
 
     def __init__(self, path: Any, *, base: Optional[str] = None) -> None:
@@ -92,7 +92,7 @@ class Index:
             base: The URL that the streams are below. None if they are files.
 
         Raises:
-            ReadFault: It cannot be read, it is no index, or it is one of another version.
+            ReadFault: It cannot be read, it is not an index, or it has another version.
             RequestError: The base is no URL.
         """
         if base is not None:
@@ -152,7 +152,7 @@ class Index:
         lods: Optional[Texts] = None,
         box: Optional[Box] = None,
     ) -> Work:
-        """Returns what is asked for by these, judged as the streams of the index were.
+        """Returns the work for a query. It is judged as the streams of the index were.
 
         Raises:
             RequestError: An argument has a value that it may not have.
@@ -169,21 +169,21 @@ class Index:
         )
 
     def rows(self, work: Work) -> Iterator[Row]:
-        """Yields where the lines are that a query may keep, in order. It never leaves one out."""
+        """Yields where the lines are that a query may keep, in order. It misses none."""
         for _, *row in self._found(work, [], []):
             yield Row(*row)
 
     def candidates(
         self, work: Work, stream: IndexedStream, after: int, most: int
     ) -> List[Tuple[int, Row]]:
-        """Returns the next features of a stream that a query may keep, at most so many: the number
-        of each in the stream, from 1, and where its line is.
+        """Returns the next features of a stream that a query may keep: the number of each in the
+        stream, from 1, and where its line is.
 
         Args:
             work: The query.
             stream: One of the streams of the index.
-            after: The number of the feature behind which it begins.
-            most: How many.
+            after: The number of the feature after which it begins.
+            most: The most features to return.
         """
         first = stream.first_fid - 1
         within = [first + min(after, stream.features), first + stream.features]
@@ -193,7 +193,7 @@ class Index:
     def _found(
         self, work: Work, conditions: List[str], given: List[Any], end: str = ""
     ) -> Iterator[Any]:
-        """Yields the rows of the features that a query may keep, which meet the conditions too."""
+        """Yields the rows of the features that meet the conditions and that a query may keep."""
         if work.box is not None:
             box = box_of(work.box.decode("utf-8"))
             if box is not None:
@@ -211,20 +211,20 @@ class Index:
                 conditions.append(WITH_ID)
             which = f" WHERE {' AND '.join(conditions)}" if conditions else ""
             select = "SELECT fid, stream, line, begin, length FROM features"
-            # `yield from` would close the cursor with the generator, which may be after the database
+            # `yield from` would close the cursor with the generator, perhaps after the database
             for row in self._base.execute(f"{select}{which} ORDER BY fid{end}", given):
                 yield row
 
     def _want(self, ids: bytes) -> None:
-        """Notes the ids that are asked for."""
+        """Writes the ids of a query to a temporary table."""
         self._base.execute("DROP TABLE IF EXISTS temp.wanted")
         self._base.execute("CREATE TEMP TABLE wanted (id TEXT, exact BLOB)")
         texts = (stored(text.decode("utf-8")) for text in ids.split(b"\n"))
         self._base.executemany("INSERT INTO temp.wanted VALUES (?,?)", texts)
 
     def selections(self, work: Work) -> Iterator[Tuple[IndexedStream, Iterator[Row]]]:
-        """Yields each stream with the rows that a query may keep of it. The rows are read before
-        the next stream is asked for."""
+        """Yields each stream with the rows that a query may keep of it. The caller reads the rows
+        before it asks for the next stream."""
         grouped = groupby(self.rows(work), lambda row: row.stream)
         ahead = next(grouped, None)
         for stream in self.streams:
@@ -235,12 +235,12 @@ class Index:
                 yield stream, iter(())
 
     def check(self) -> None:
-        """Looks whether the files of all streams have the size and the time that they had.
+        """Checks that the files of all streams have the size and the time that the index has.
 
         Raises:
             OutOfDate: One has not.
-            ReadFault: One is not there.
-            RequestError: One is packed, so that a web server has no ranges of it.
+            ReadFault: One is missing.
+            RequestError: One is packed, so a web server has no ranges of it.
         """
         for stream in self.streams:
             if self.base is None:
@@ -267,7 +267,7 @@ class Index:
         Raises:
             OutOfDate: A stream is not the one that was indexed.
             ReadFault: A stream or the index cannot be read.
-            InvalidStream: A box is asked for, and the transform of a stream has no place in it.
+            InvalidStream: A stream's transform cannot be compared with the box exactly.
             RequestError: An argument has a value that it may not have.
         """
         self.check()
@@ -297,9 +297,9 @@ class Index:
         box: Optional[Box] = None,
         jobs: Optional[int] = None,
     ) -> Result:
-        """Writes what `cityseq.filter` writes of the streams, and reads the selected lines alone.
+        """Writes what `cityseq.filter` writes of the streams, but reads only the selected lines.
 
-        Of many streams one output is made, which all must have the same header for.
+        All streams have one output, so they must have the same header.
 
         Args:
             output: A path, `-` for standard output, or a binary file. Nothing is written unless
@@ -307,13 +307,13 @@ class Index:
             ids, types, lods, box, jobs: As for `cityseq.filter`.
 
         Returns:
-            The counts that `cityseq.filter` returns: lines and rejected lines are those of the
-            streams, as the index has them.
+            The counts that `cityseq.filter` returns. Lines and rejected lines are those of the
+            whole streams, from the index.
 
         Raises:
             CityseqError: As `select`, or a `WriteFault`.
         """
-        from .cut import cut  # which `select` does not need
+        from .cut import cut  # `select` does not need it
 
         return cut(self, self.work(ids, types, lods, box), output, jobs)
 
@@ -337,14 +337,14 @@ class Index:
                 )
 
     def show(self) -> str:
-        """Returns what the index covers, and the ids that appear more than once, as lines."""
+        """Returns lines of text: what the index covers, and the ids that appear more than once."""
         from .index_lines import lines  # few runs need it
 
         return "\n".join(lines(self))
 
 
 def _classes(lods: Optional[bytes]) -> Optional[bytes]:
-    """Returns the classes of the LoDs that are asked for, one a line."""
+    """Returns the classes of the LoDs of a query, one a line."""
     if lods is None:
         return None
     names = {

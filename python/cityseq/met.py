@@ -1,5 +1,5 @@
-"""What stands at the place of a fault, read by Python and not by the proved engine: a hint at which
-member, id or type is meant."""
+"""Describes what is at the place of a broken rule: a hint at the member, id or type. Python reads
+it, and not the proved engine."""
 from __future__ import annotations
 
 import json
@@ -8,8 +8,8 @@ from typing import Any, Callable, Dict, Iterator, List, Optional, Tuple
 
 from .shown import quoted
 
-LONGEST = 1 << 20  # lines that are longer are not read
-VALUE = 256  # of a value so many bytes are looked at
+LONGEST = 1 << 20  # longer lines are not read
+VALUE = 256  # bytes of a value that are read
 NAME_BEFORE = re.compile(rb'("(?:[^"\\\x00-\x1f]|\\.)*")[ \t\r]*:[ \t\r]*\Z')
 STRING = re.compile(rb'"(?:[^"\\\x00-\x1f]|\\.)*"')
 WORD = re.compile(rb"[-+.0-9A-Za-z]+")
@@ -28,13 +28,13 @@ def _decoded(text: bytes) -> Any:
 
 
 def _string_at(line: bytes, place: int) -> Optional[str]:
-    """The string that stands at a place, as it is meant."""
+    """Returns the string at a place, with its escapes undone."""
     found = STRING.match(line, place)
     return _decoded(found.group()) if found else None
 
 
 def _name_before(line: bytes, place: int) -> Optional[str]:
-    """The name of the member whose value stands at a place."""
+    """Returns the name of the member whose value is at a place."""
     found = NAME_BEFORE.search(line[max(0, place - VALUE) : place])
     return _decoded(found.group(1)) if found else None
 
@@ -87,8 +87,8 @@ def _of_feature(root: Dict[str, Any]) -> Iterator[Needs]:
 
 
 def _missing(line: bytes, place: int, is_header: bool) -> Optional[str]:
-    """Which member the object at a place lacks: it is found in the whole line, since the place does
-    not say what it is."""
+    """Describes which member the object at a place lacks. It reads the whole line, because the
+    place alone does not show what the object is."""
     root = _decoded(line)
     told, _ = json.JSONDecoder().raw_decode(line[place:].decode("utf-8"))
     for what, found, needed in _of_header(root) if is_header else _of_feature(root):
@@ -105,7 +105,7 @@ def _kind(line: bytes, place: int, _: bool) -> Optional[str]:
 
 
 def _string(words: str) -> Callable[[bytes, int, bool], Optional[str]]:
-    """What says with these words which string stands there."""
+    """Returns a function that describes the string at a place with these words."""
 
     def told(line: bytes, place: int, _: bool) -> Optional[str]:
         text = _string_at(line, place)
@@ -115,7 +115,7 @@ def _string(words: str) -> Callable[[bytes, int, bool], Optional[str]]:
 
 
 def _value(words: str) -> Callable[[bytes, int, bool], Optional[str]]:
-    """What says with these words which number stands there."""
+    """Returns a function that describes the number at a place with these words."""
 
     def told(line: bytes, place: int, _: bool) -> Optional[str]:
         word = _word_at(line, place)
@@ -125,7 +125,7 @@ def _value(words: str) -> Callable[[bytes, int, bool], Optional[str]]:
 
 
 def _owner(words: str) -> Callable[[bytes, int, bool], Optional[str]]:
-    """What says with these words which city object stands there."""
+    """Returns a function that describes the city object at a place with these words."""
 
     def told(line: bytes, place: int, _: bool) -> Optional[str]:
         name = _name_before(line, place)
@@ -138,7 +138,7 @@ def _object_type(line: bytes, place: int, _: bool) -> Optional[str]:
     text = _string_at(line, place)
     if text is None:
         return None
-    from difflib import get_close_matches  # which is wanted here alone
+    from difflib import get_close_matches  # only this function needs it
 
     from ._library import library
 
@@ -168,7 +168,7 @@ READERS: Dict[int, Callable[[bytes, int, bool], Optional[str]]] = {
 
 
 def met(line: bytes, place: int, code: int, is_header: bool) -> Optional[str]:
-    """What stands at the place of a fault, in words; nothing where that cannot be read."""
+    """Describes what is at the place of a broken rule. Returns None if it cannot be read."""
     read = READERS.get(code)
     if read is None or not place < len(line) <= LONGEST:
         return None

@@ -1,4 +1,4 @@
-"""What is told as JSON: objects of a kind and a version, whose members docs/json.md describes."""
+"""The JSON of the command: objects with a kind and a version. docs/json.md describes them."""
 from __future__ import annotations
 
 from typing import TYPE_CHECKING, Any, Counter, Dict, List, Optional, Union
@@ -10,10 +10,10 @@ from .words import Asked
 if TYPE_CHECKING:
     from decimal import Decimal
 
-VERSION = 1  # of the objects: it changes where a member is renamed, goes or means something else
+VERSION = 1  # of the objects: it changes if a member is renamed, removed or changes its meaning
 VERDICTS = {0: "valid", 1: "invalid"}
-LONGEST = 40  # digits before or behind the point of a number that is written out
-MOST = 1 << 53  # up to which a double holds every whole number
+LONGEST = 40  # digits before or after the point of a number that is written out
+MOST = 1 << 53  # a double has every whole number up to this
 Object = Dict[str, Any]
 
 
@@ -22,8 +22,8 @@ def object_of(kind: str, members: Object) -> Object:
 
 
 def exact(number: "Decimal") -> Union[int, float, str]:
-    """A number as a number of JSON, where each reader gets the same by it; else its text."""
-    from decimal import Decimal  # `info` alone needs it, and it takes long to load
+    """Returns a JSON number if each reader gets the exact value from it. Else returns its text."""
+    from decimal import Decimal  # only `info` needs it, and it takes long to load
 
     from .world import plain
 
@@ -37,7 +37,7 @@ def exact(number: "Decimal") -> Union[int, float, str]:
 
 
 def report_object(report: Report) -> Object:
-    """An invalid line."""
+    """Returns the object of an invalid line."""
     return object_of(
         "report",
         {
@@ -56,7 +56,7 @@ def report_object(report: Report) -> Object:
 
 
 def options_object(asked: Asked) -> Object:
-    """What was asked for, as far as it has to do with what comes of a file."""
+    """Returns the options that affect the result of a file."""
     options: Object = {
         "line_limit": asked.line_limit,
         "depth": asked.depth,
@@ -109,7 +109,7 @@ def _of_info(info: Info) -> Object:
 def result_object(
     result: Result, asked: Asked, program: str, size: Optional[int], sha256: Optional[str]
 ) -> Object:
-    """What came of a file, but for the lines that were reported."""
+    """Returns the object of a file's result, without the reports."""
     members = {
         "file": result.file,
         "command": asked.command,
@@ -129,7 +129,7 @@ def result_object(
 
 
 def reasons_object(codes: "Counter[int]") -> Object:
-    """How often each reason came."""
+    """Returns the object that counts how often each reason occurred."""
     return object_of(
         "reasons",
         {
@@ -142,7 +142,7 @@ def reasons_object(codes: "Counter[int]") -> Object:
 
 
 def record_object(result: Result, asked: Asked, program: str, state: Object) -> Object:
-    """What a file is, and what came of it: a line of a record."""
+    """Returns a line of a record: the state of a file, and its result."""
     return object_of(
         "record",
         {

@@ -1,5 +1,5 @@
-"""Where kept lines go to. A file is written as `NAME.part`, and gets its name when it is whole, so
-that no part looks like the whole."""
+"""Outputs of kept lines. A file is written as `NAME.part`, and renamed when it is whole. So no
+incomplete file looks like a whole one."""
 from __future__ import annotations
 
 import io
@@ -15,12 +15,12 @@ from .sources import is_path, name_of
 
 Target = Union[str, bytes, "os.PathLike[Any]", IO[bytes]]
 
-PART = ".part"  # what the name of a file ends in as long as it is not whole
+PART = ".part"  # the end of a file's name until it is whole
 
 
 def part_of(path: str) -> Optional[str]:
-    """Where what goes to a path is written first, beside the file that a link leads to; None of a
-    device or a pipe, which is written as it is."""
+    """Returns where the output for a path is written first: next to the file that a link leads to.
+    Returns None for a device or a pipe, which is written directly."""
     try:
         if not stat.S_ISREG(os.stat(path).st_mode):
             return None
@@ -31,7 +31,7 @@ def part_of(path: str) -> Optional[str]:
 
 class Writer:
     """Writes to a target: a path, `-` for standard output, or a binary file. A path is opened at
-    the first call of `write` or `close`, so that it is there where nothing is kept."""
+    the first call of `write` or `close`. So the file exists even if nothing is kept."""
 
     def __init__(self, target: Target, keep_partial: bool = False) -> None:
         if isinstance(target, io.TextIOBase) or not (
@@ -42,7 +42,7 @@ class Writer:
             target = os.fsdecode(target)
         self.name = name_of(target)
         self._path = os.fsdecode(target) if is_path(target) else None  # type: ignore[arg-type]
-        self._part: Optional[str] = None  # where the path is written, as long as it is not whole
+        self._part: Optional[str] = None  # where the path is written until it is whole
         self._file: Any = target if hasattr(target, "write") else None
         self._keep_partial = keep_partial
         if self.packing is not None:
@@ -53,18 +53,18 @@ class Writer:
 
     @property
     def packing(self) -> Optional[Packing]:
-        """How what is written is packed, if it is."""
+        """How the output is packed, or None."""
         return None if self._path is None else packing_by_name(self._path)
 
     def write_packed(self, text: bytes) -> None:
-        """Writes what has been packed."""
+        """Writes packed bytes."""
         try:
             self._opened().write_packed(text)
         except (OSError, ValueError) as fault:
             raise write_fault(fault, self.name) from fault
 
     def write(self, text: Union[bytes, bytearray, memoryview]) -> None:
-        """Writes all of these bytes, or packs them where the output is packed."""
+        """Writes all of these bytes. Packs them if the output is packed."""
         rest = memoryview(text)
         try:
             file = self._opened()
@@ -77,8 +77,8 @@ class Writer:
             rest.release()
 
     def close(self, whole: bool) -> None:
-        """Flushes what was written, and closes a file that was opened here. It gets its name if it
-        is whole, and is discarded if not."""
+        """Flushes the output, and closes a file that was opened here. Renames the file if it is
+        whole, and discards it if not."""
         try:
             if whole or self._file is not None:
                 file = self._opened()
@@ -97,8 +97,8 @@ class Writer:
             self.discard()
 
     def discard(self) -> None:
-        """Closes a file that was opened here and is not whole, and removes it unless it is to be
-        kept as it is."""
+        """Closes a file that was opened here and is not whole. Removes it, unless it must be
+        kept."""
         with suppress(OSError, ValueError):
             if self._path is not None and self._file is not None:
                 self._file.close()
@@ -114,7 +114,7 @@ class Writer:
         elif self._file is None:
             assert self._path is not None
             part = part_of(self._path)
-            self._part = part  # before the file is there, since an interrupt may come at once
+            self._part = part  # before the file exists, since an interrupt may come at once
             try:
                 file = open(part or self._path, "wb")
             except OSError:
@@ -127,6 +127,6 @@ class Writer:
 
 
 def hand_mode_on(before: str, behind: str) -> None:
-    """Gives a file the mode of the one that it will take the place of, where there is one."""
+    """Gives a file the mode of the file that it will replace, if there is one."""
     with suppress(OSError):
         os.chmod(behind, stat.S_IMODE(os.stat(before).st_mode))

@@ -1,9 +1,9 @@
-"""Packed files: gzip, told by its first bytes or by the name, and Zstandard where python3-zstandard
-is there.
+"""Packed files: gzip and Zstandard, recognised by the first bytes or by the name. Zstandard needs
+python3-zstandard.
 
-What is packed by gzip here are blocks of up to 64 KB, each a member that says how long it is (BGZF,
-of the SAM specification): so many threads pack at once, gzip unpacks them as any archive, and bgzip
-and tabix can begin in the middle."""
+This module writes gzip as blocks of up to 64 KB. Each block is a member that gives its own length
+(BGZF, in the SAM specification). So several threads can pack at once, and gzip unpacks the file as
+any other. bgzip and tabix can begin in the middle."""
 from __future__ import annotations
 
 import enum
@@ -16,39 +16,39 @@ from typing import IO, Any, List, Optional, Tuple, Type, Union
 Text = Union[bytes, bytearray, memoryview]
 
 READ = 1 << 17  # bytes of an archive that are read at once
-READ_ZSTD = 1 << 11  # fewer, since all that comes of them is held
+READ_ZSTD = 1 << 11  # fewer, since all that they unpack to is in memory
 BLOCK = 65_280  # bytes of a text in a block of BGZF
 LEVEL = 6  # of gzip
-# The last block of an archive, which is empty, and tells that nothing was cut off.
+# The last block of an archive. It is empty, and shows that nothing was cut off.
 LAST = bytes.fromhex("1f8b08040000000000ff0600424302001b0003000000000000000000")
 
 
 class Packing(enum.Enum):
-    """How a file is packed: the first bytes, and how names end."""
+    """How a file is packed: its first bytes, and the end of its name."""
 
     GZIP = b"\x1f\x8b", ".gz"
     ZSTD = b"\x28\xb5\x2f\xfd", ".zst"
 
     @property
     def mark(self) -> bytes:
-        """The bytes that each archive begins with."""
+        """The bytes at the beginning of each archive."""
         return self.value[0]
 
 
 def packing_by_name(name: str) -> Optional[Packing]:
-    """How a file of this name is packed, if it is."""
+    """Returns how a file of this name is packed, or None."""
     return next((packing for packing in Packing if name.endswith(packing.value[1])), None)
 
 
 def packing_of(head: bytes, name: str) -> Optional[Packing]:
-    """How a file is packed that begins so and has this name, if it is."""
+    """Returns how a file with these first bytes and this name is packed, or None."""
     return next(
         (packing for packing in Packing if head.startswith(packing.mark)), None
     ) or packing_by_name(name)
 
 
 def _inflating() -> Any:
-    """What has `decompressobj`: isal, which is faster, where it is there."""
+    """Returns a module with `decompressobj`: isal if it is there, because it is faster."""
     try:
         return import_module("isal.isal_zlib")
     except ImportError:
@@ -74,12 +74,12 @@ class Gzip:
         self.read = READ
 
     def member(self) -> Any:
-        """What unpacks one more member."""
+        """Returns an object that unpacks one more member."""
         return self._inflate.decompressobj(wbits=31)
 
     @staticmethod
     def more(member: Any, packed: bytes, most: int) -> bytes:
-        """What comes of some more bytes, at most so many."""
+        """Returns at most `most` bytes of text from some more packed bytes."""
         text: bytes = member.decompress(packed, most)
         return text
 
@@ -94,19 +94,19 @@ class _Zstd:
         self.read = READ_ZSTD
 
     def member(self) -> Any:
-        """What unpacks one more frame."""
+        """Returns an object that unpacks one more frame."""
         return self._context.decompressobj()
 
     @staticmethod
     def more(member: Any, packed: bytes, _: int) -> bytes:
-        """What comes of some more bytes."""
+        """Returns the text of some more packed bytes."""
         text: bytes = member.decompress(packed) if packed else b""
         return text
 
 
 class Unpacker(io.RawIOBase):
-    """The text that is packed in a file, of which one member follows another. `taken` is how many
-    bytes of the file were read."""
+    """The text of a packed file. One member of the file follows another. `taken` is the number of
+    bytes of the file that were read."""
 
     def __init__(self, file: IO[bytes], packing: Packing) -> None:
         super().__init__()
@@ -131,8 +131,8 @@ class Unpacker(io.RawIOBase):
         super().close()
 
     def read(self, most: int = -1) -> bytes:
-        """Some bytes of the text, at most so many, and none at its end. Raises `OSError` or
-        `EOFError` where the archive is broken."""
+        """Returns at most `most` bytes of the text, and none at its end. Raises `OSError` or
+        `EOFError` if the archive is broken."""
         most = most if most >= 0 else 1 << 20
         if not self._text:
             try:
@@ -160,15 +160,15 @@ class Unpacker(io.RawIOBase):
         return b""
 
     def _fill(self) -> bool:
-        """Reads some more. False at the end of the file."""
+        """Reads some more. Returns False at the end of the file."""
         piece = self._file.read(self._kind.read)
         self._packed += piece
         self.taken += len(piece)
         return bool(piece)
 
     def _begin(self) -> bool:
-        """Begins the next member. False where there is none: at the end, or where nothing but zeros
-        follows a member."""
+        """Begins the next member. Returns False if there is none: at the end, or if only zeros
+        follow a member."""
         while True:
             if self._has_begun:
                 self._packed = self._packed.lstrip(b"\0")
@@ -183,7 +183,7 @@ class Unpacker(io.RawIOBase):
 
 
 def _block(text: Text) -> bytes:
-    """A block of BGZF: a member of gzip that has its own length in an extra field."""
+    """Returns a block of BGZF: a member of gzip with its own length in an extra field."""
     for level in (LEVEL, 0):
         deflate = zlib.compressobj(level, zlib.DEFLATED, -15)
         packed = deflate.compress(text) + deflate.flush()
@@ -196,13 +196,13 @@ def _block(text: Text) -> bytes:
 
 
 def require(packing: Packing) -> None:
-    """Raises `OSError` where what packs so is not there."""
+    """Raises `OSError` if the package for this packing is missing."""
     if packing is Packing.ZSTD:
         _zstandard()
 
 
 def pack(text: Text, packing: Packing) -> bytes:
-    """A text, packed by itself: what is packed one behind another is unpacked together."""
+    """Packs a text by itself. Packed texts that follow one another are unpacked together."""
     if packing is Packing.ZSTD:
         packed: bytes = _zstandard().ZstdCompressor(write_checksum=True).compress(text)
         return packed
@@ -211,8 +211,8 @@ def pack(text: Text, packing: Packing) -> bytes:
 
 
 class Packer(io.RawIOBase):
-    """Packs what is written to it into a file. Short texts are gathered, and what is packed already
-    is taken as it is."""
+    """Packs what is written to it into a file. Short texts are gathered first. Packed bytes are
+    written unchanged."""
 
     def __init__(self, file: IO[bytes], packing: Packing) -> None:
         super().__init__()
@@ -232,7 +232,7 @@ class Packer(io.RawIOBase):
         return len(text)
 
     def write_packed(self, packed: Text) -> None:
-        """Writes what was packed by `pack`."""
+        """Writes bytes that `pack` returned."""
         self._write_gathered()
         self._file.write(packed)
 
@@ -242,10 +242,10 @@ class Packer(io.RawIOBase):
             self._file.write(pack(text, self._packing))
 
     def flush(self) -> None:
-        """Writes nothing: what is gathered is written when it is enough, or at the end."""
+        """Writes nothing. Gathered texts are written when they fill a block, or at the end."""
 
     def finish(self) -> None:
-        """Writes what is left, and the mark of the end."""
+        """Writes the rest, and the mark of the end."""
         self._write_gathered()
         if self._packing is Packing.GZIP:
             self._file.write(LAST)

@@ -1,9 +1,10 @@
-"""Streams in parts: how one is cut at LF in bounded memory, how a part is judged, and how the
-answers are joined.
+"""Streams in parts: cuts a stream after LFs in bounded memory, judges its parts, and joins the
+answers.
 
-The law of parts: what comes of a stream is what comes of its header with the first of its later
-lines, joined with what comes of the same header with the rest. Each part is judged behind the
-header, so the header's line counts once."""
+The law of parts: a stream can be split between two lines after its header. The header with the
+lines before the split gives one answer, and the header with the lines after it gives another. Both
+joined are the answer for the stream. Each part is judged after the header, so the header's line
+counts once."""
 from __future__ import annotations
 
 from dataclasses import dataclass, field
@@ -17,13 +18,13 @@ from .reports import Report, describe
 from .sources import PIECE, Reader
 from .tally import Tally
 
-PART = 4 << 20  # how long parts are, where their lines allow it
-ROOM = 1_024  # the room for reports at first
+PART = 4 << 20  # bytes of a part, unless one line is longer
+ROOM = 1_024  # reports of a part that there is memory for at first
 
 
 def read_header(reader: Reader, line_limit: int) -> Tuple[bytes, bytearray]:
-    """The first line with its LF, and what was read behind it. A line past the limit has one byte
-    more than that, and no LF."""
+    """Returns the first line with its LF, and the bytes that were read after it. If the line is too
+    long, returns one byte more than the limit, and no LF."""
     buffer, end = bytearray(), -1
     while end < 0 and len(buffer) <= line_limit:
         begin = len(buffer)
@@ -38,13 +39,13 @@ def read_header(reader: Reader, line_limit: int) -> Tuple[bytes, bytearray]:
 
 
 def whole_lines(text: Text) -> int:
-    """Returns how many bytes the whole lines have that a text begins with."""
+    """Returns how many bytes the whole lines at the beginning of a text have."""
     return library().part_end(text, len(text))
 
 
 class Cutter:
-    """Cuts what comes behind the header into parts of whole lines, which are as long as asked, or
-    as one line that is longer."""
+    """Cuts the lines after the header into parts of whole lines. A part has at most the given size,
+    or it is one longer line."""
 
     def __init__(
         self, reader: Reader, rest: bytearray, size: int, line_limit: int, keep_going: bool
@@ -55,20 +56,20 @@ class Cutter:
 
     @property
     def left(self) -> int:
-        """How many bytes have been read behind the part that was given last."""
+        """How many bytes have been read after the last part."""
         return len(self._rest)
 
     def _is_idle(self, size: int) -> bool:
-        """Whether fewer bytes are there, and nothing has come for some time. It is said once before
-        each read."""
+        """Whether fewer bytes than `size` are there, and no more have come for some time. It is
+        true once before each read."""
         self._is_waiting = (
             len(self._rest) < size and not self._is_waiting and self._reader.is_idle()
         )
         return self._is_waiting
 
     def _fill(self, size: int, stops: bool = False) -> bool:
-        """Reads until so many bytes are there, or, if it stops, until nothing comes for some time.
-        False where the input ends before."""
+        """Reads until `size` bytes are there. With `stops` it also returns when no bytes come for
+        some time. Returns False if the input ends first."""
         while len(self._rest) < size:
             if stops and self._is_idle(size):
                 return True
@@ -79,20 +80,19 @@ class Cutter:
         return True
 
     def _take(self, end: int) -> bytearray:
-        """The bytes up to this one, which are a part; the others are kept."""
+        """Returns the bytes before `end` as a part, and keeps the others."""
         part, self._rest = self._rest, self._rest[end:]
         del part[end:]
         return part
 
     def _take_last(self) -> bytearray:
-        """All that is left; where a read failed, the whole lines of it alone."""
+        """Returns all the rest. If a read failed, returns only its whole lines."""
         return self._take(
             len(self._rest) if self._reader.fault is None else whole_lines(self._rest)
         )
 
     def _take_long_line(self) -> Tuple[bytearray, bool]:
-        """A part of one line that is longer than the size, and whether there may be more behind
-        it."""
+        """Returns a part of one line that is longer than the size, and whether more may follow."""
         end = seen = 0
         while len(self._rest) <= self._line_limit and not end:
             seen = len(self._rest)
@@ -102,8 +102,8 @@ class Cutter:
         return (self._take(end), True) if end else self._take_too_long()
 
     def _take_too_long(self) -> Tuple[bytearray, bool]:
-        """A part of a line that is too long, of which so much is enough, and whether there may be
-        more behind it."""
+        """Returns a part of a line that is too long, and whether more may follow. The part has one
+        byte more than the limit, which is enough to reject it."""
         part = self._rest[: self._line_limit + 1]
         if not self._keep_going:
             return part, False
@@ -117,8 +117,8 @@ class Cutter:
                 return (part if self._reader.fault is None else bytearray()), False
 
     def parts(self) -> Iterator[bytearray]:
-        """The parts, in order. An empty one says that nothing more has come for some time; the
-        whole lines that are there came before."""
+        """Yields the parts, in order. An empty part means that no bytes have come for some time.
+        All whole lines that are there have been yielded before it."""
         more = True
         while more:
             if not self._fill(self._size, True):
@@ -141,8 +141,8 @@ class Cutter:
 
 @dataclass
 class Answer:
-    """What came of a header and a part, or of the parts so far: lines and reports are counted in
-    these. Nothing is joined yet where `parts` is 0."""
+    """The answer for a header and a part, or for the parts that are joined so far. Lines and
+    reports are counted in these. If `parts` is 0, nothing has been joined."""
 
     told: RawAnswer = field(default_factory=RawAnswer)  # by the library
     end: Optional[Report] = None
@@ -151,36 +151,36 @@ class Answer:
     is_packed: bool = False  # the output
     tally: Optional[Tally] = None
     size: int = 0
-    fault: Optional[ReadFault] = None  # of a read behind the part
+    fault: Optional[ReadFault] = None  # of a read after the part
     parts: int = 1
 
     @property
     def status(self) -> int:
-        """How it ended."""
+        """The status that the library returned."""
         return int(self.told.status)
 
     @property
     def lines(self) -> int:
-        """The lines that were dealt with, and the header among them."""
+        """How many lines were judged, with the header."""
         return int(self.told.lines)
 
     @property
     def kept(self) -> int:
-        """The features that are kept."""
+        """How many features are kept."""
         return int(self.told.kept)
 
     @property
     def refused(self) -> int:
-        """The lines that were reported."""
+        """How many lines were reported."""
         return int(self.told.refused)
 
     @property
     def peaks(self) -> Tuple[int, int, int]:
-        """The most bytes, tokens, and open arrays and objects that were held."""
+        """The most bytes, tokens, and open arrays and objects that were in memory."""
         return self.told.peak_bytes, self.told.peak_tokens, self.told.peak_depth
 
     def add(self, answer: "Answer", header_length: int, tell: Callable[[Report], None]) -> None:
-        """Joins the answer of the next part, and tells its reports as those of the stream."""
+        """Joins the answer of the next part, and passes its reports on with the stream's lines."""
         before = self.lines - 1 if self.parts else 0  # the header's line counts once
         for report in answer.reports:
             tell(report.moved(before))
@@ -201,7 +201,7 @@ class Answer:
 def _call(
     work: Work, header: bytes, part: Text, room: int
 ) -> Tuple[RawAnswer, RawReports, Text, Optional[Tally]]:
-    """The call of the library that the work asks for."""
+    """Calls the function of the library that the work needs, and returns its results."""
     request = work.request(header, part)
     if work.kind == "filter":
         answer, reports, output = library().filter(header, part, request, room)
@@ -214,7 +214,7 @@ def _call(
 
 
 def judge(work: Work, file: str, header: bytes, part: Text, first: bool) -> Answer:
-    """Judges a header and a part, of which only the first has the header's line in its output."""
+    """Judges a header and a part. Only the first part has the header's line in its output."""
     try:
         return _judge(work, file, header, part, first)
     except MemoryError:
@@ -222,13 +222,13 @@ def judge(work: Work, file: str, header: bytes, part: Text, first: bool) -> Answ
 
 
 def held(part: Text) -> Union[bytes, bytearray]:
-    """The bytes of a part, which may be lent for as long as it is judged, to be kept."""
+    """Returns the bytes of a part to keep. A view is copied: its memory is used again later."""
     return bytes(part) if isinstance(part, memoryview) else part
 
 
 def _judge(work: Work, file: str, header: bytes, part: Text, first: bool) -> Answer:
-    """The same. Where reports have no room it is judged again, with as much as they need. They are
-    read when they are joined, as there may be very many."""
+    """Judges a part. If the reports do not fit, judges it again with enough memory for them. They
+    are read only when they are joined, because there may be very many."""
     room = ROOM if work.keep_going else 0
     answer, raws, output, tally = _call(work, header, part, room)
     if answer.refused > room and work.keep_going:

@@ -21,19 +21,20 @@ from .query import Work
 from .sources import PIECE
 
 LOOK = 1 << 16  # bytes before a part's end that are searched first
-SMALL = 1 << 19  # bytes of a part for one thread: it is still in the processor's cache when judged
+SMALL = 1 << 19  # bytes of a part for one thread: it stays in the processor's cache
+
 # Returns the bytes of a part, and why a read after them failed, if one did.
 Read = Callable[[], Tuple[Text, Optional[OSError]]]
 
 
 class Room(threading.local):
-    """The room into which a thread reads its parts, one after another. So the system finds memory
+    """The memory into which a thread reads its parts, one after another. So the system finds memory
     for them only once."""
 
     held = bytearray()
 
     def of(self, size: int) -> memoryview:
-        """Returns room for that number of bytes."""
+        """Returns memory of this number of bytes."""
         if len(self.held) < size:
             self.held = bytearray(size)
         return memoryview(self.held)[:size]
@@ -43,7 +44,7 @@ _room = Room()
 
 
 class Placed:
-    """A regular file that is read at any place. It stays open while something holds it."""
+    """A regular file that is read at any place. It stays open as long as this object exists."""
 
     def __init__(self, descriptor: int) -> None:
         self._descriptor = -1
@@ -192,7 +193,7 @@ class Turns:
         answer for them. None if the next part is not valid, or not read, or the rest."""
         joined: Optional[RawAnswer] = None
         begin = self.begin
-        with suppress(MemoryError):  # which the next part meets again
+        with suppress(MemoryError):  # the next part raises it again
             while self.begin < begin + most:
                 part, fault = self._next()
                 if not part or fault is not None:

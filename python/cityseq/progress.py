@@ -1,4 +1,4 @@
-"""How far a run is, on standard error."""
+"""Shows on standard error how far a run is."""
 from __future__ import annotations
 
 import sys
@@ -13,8 +13,8 @@ WIDTH = 79
 
 
 class Bar:
-    """Shows how many bytes are done, packed where they are packed, of so many if that is known, and
-    of which file; or nothing where it is not wanted."""
+    """Shows how many bytes are done, the total if it is known, and the current file. In a packed
+    file these are packed bytes. Shows nothing if it is not wanted."""
 
     def __init__(self, total: Optional[int], is_wanted: bool) -> None:
         self._total = total
@@ -34,7 +34,7 @@ class Bar:
                 say("")
 
     def add(self, file: str, size: int) -> None:
-        """Counts so many bytes more of a file."""
+        """Counts `size` more bytes of a file."""
         self._done += size
         self._file = file
         if self._is_shown and time.monotonic() - self._last > (
@@ -44,7 +44,7 @@ class Bar:
             self._show()
 
     def clear(self) -> None:
-        """Makes room for a line on standard error."""
+        """Clears the bar, so that a line can be written to standard error."""
         if self._is_there:
             say("\r\x1b[K", end="")
             self._is_there = False

@@ -1,5 +1,5 @@
-"""What is asked: how lines are judged, and which features are wanted, checked before anything is
-read."""
+"""Requests: how lines are judged, and which features are selected. A request is checked before
+anything is read."""
 from __future__ import annotations
 
 from dataclasses import dataclass
@@ -23,22 +23,22 @@ from .ids import ids_for, in_order
 if TYPE_CHECKING:
     from decimal import Decimal
 
-UNKNOWN_TYPE = 5  # the fault of a request for a type that there is not
+UNKNOWN_TYPE = 5  # the fault of a request for a type that does not exist
 Texts = Union[str, Iterable[str]]
 Box = Union[str, Iterable[Union[int, float, str, "Decimal"]]]
 
 
 def lines_of(texts: Iterable[str]) -> bytes:
-    """Texts as the library takes them, one a line. The empty one comes first, so that the last line
-    is not empty and needs no LF."""
+    """Returns texts as the library takes them, one a line. The empty one comes first, so that the
+    last line is not empty and needs no LF."""
     listed = list(texts)
     empty = listed.count("")
     return ("\n" * empty + "\n".join(filter(None, listed))).encode("utf-8")
 
 
 def _asked_lines(texts: Union[Texts, bytes, None], what: str) -> Optional[bytes]:
-    """The texts that are asked for, of which one may come alone; or all in UTF-8, one a line, where
-    that is what is at hand."""
+    """Returns the texts of a query in UTF-8, one a line. Takes one text, several texts, or bytes
+    that have this form already."""
     if texts is None or isinstance(texts, bytes):
         return texts
     listed = [texts] if isinstance(texts, str) else list(texts)
@@ -56,7 +56,7 @@ def _asked_lines(texts: Union[Texts, bytes, None], what: str) -> Optional[bytes]
 
 
 def _box_of(box: Optional[Box]) -> Optional[bytes]:
-    """A box as the library takes it: minx,miny,maxx,maxy."""
+    """Returns a box as the library takes it: minx,miny,maxx,maxy."""
     if box is None:
         return None
     text = box if isinstance(box, str) else ",".join(map(str, box))
@@ -71,7 +71,7 @@ def _limit(value: int, least: int, greatest: int, what: str) -> int:
 
 @dataclass(frozen=True)
 class Work:
-    """What is done with a stream: `check`, `filter` or `info`, with these options."""
+    """What to do with a stream: `check`, `filter` or `info`, with these options."""
 
     kind: str
     line_limit: int = USUAL_LINE
@@ -87,12 +87,12 @@ class Work:
 
     @property
     def counts_alone(self) -> bool:
-        """Whether all that is told of a valid part are counts."""
+        """Whether the answer for a valid part has only counts."""
         return self.kind == "check" and not self.keep_going
 
     def request(self, header: bytes, part: Text) -> RawRequest:
-        """The same, as the library takes it with a header and a part: room is asked for lines of
-        less than twice as much as these have."""
+        """Returns the request for a header and a part. The line limit is lowered to less than twice
+        the length of the longer one, so that the library reserves less memory."""
         longest = max(len(header), len(part), LINE_LIMITS[0])
         ids = None if self.ids is None else ids_for(self.ids, part)
         return _request(self, ids, min(self.line_limit, 1 << (longest - 1).bit_length()))
@@ -100,7 +100,7 @@ class Work:
 
 @lru_cache(maxsize=8)
 def _request(work: Work, ids: Optional[bytes], line_limit: int) -> RawRequest:
-    """A request, which is made once for many parts."""
+    """Returns a request. It is made once for many parts."""
     texts = (ids, work.types, work.lods, work.box)
     return RawRequest(
         line_limit,
@@ -127,7 +127,7 @@ def asked(
     box: Optional[Box] = None,
     exact_lods: bool = False,
 ) -> Work:
-    """The work of these options. Raises `RequestError` where it cannot be asked."""
+    """Returns the work for these options. Raises `RequestError` if they are not allowed."""
     if kind == "info" and keep_going:
         raise RequestError(
             "what is in a stream is told of a valid one: filter it first, with keep_going"
@@ -153,8 +153,7 @@ def asked(
 
 
 class UnknownType(RequestError):
-    """A type of city objects that is asked for, and that there is not. `brief` are the program's
-    words for it."""
+    """A query for a type of city objects that does not exist. `brief` has the program's words."""
 
     def __init__(self, brief: str, work: Work) -> None:
         names = (work.types or b"").decode().split("\n")
@@ -167,8 +166,8 @@ class UnknownType(RequestError):
         return RequestError, (self.words,)
 
     def alike(self) -> Optional[str]:
-        """The type that may be meant."""
-        from difflib import get_close_matches  # which mistakes alone need
+        """Returns the type that the user may mean."""
+        from difflib import get_close_matches  # only mistakes need it
 
         names = {name.lower(): name for name in library().type_names()}
         near = get_close_matches(self.name.lower(), names, 1)

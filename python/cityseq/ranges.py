@@ -1,5 +1,5 @@
-"""Parts of a file that are read where they are judged: the lines that begin in a range of its
-bytes."""
+"""Parts of a file that are read where they are judged. A part has the lines that begin in a range
+of bytes."""
 from __future__ import annotations
 
 from dataclasses import dataclass, replace
@@ -22,8 +22,8 @@ Range = Tuple[int, int]
 
 @dataclass(frozen=True)
 class Seen:
-    """How a file begins: its first line and some bytes behind it; and its size, where its bytes can
-    be gone to, and its state."""
+    """The beginning of a file: its first line and some bytes after it, its size and its state. The
+    size and the state are None if the file is packed or not regular."""
 
     header: bytes = b""
     behind: bytes = b""
@@ -33,7 +33,7 @@ class Seen:
 
 
 def look(path: str, line_limit: int) -> Seen:
-    """Looks how a file begins."""
+    """Reads the beginning of a file."""
     try:
         with opened(path) as reader:
             size = None if isinstance(reader.file, Unpacker) else size_of(path)
@@ -45,13 +45,13 @@ def look(path: str, line_limit: int) -> Seen:
 
 
 def cut(begin: int, size: int, each: int) -> Iterator[Range]:
-    """The ranges of so many bytes from one byte of a file to its end."""
+    """Returns ranges of `each` bytes, from one byte of a file to its end."""
     return ((left, min(left + each, size)) for left in range(begin, size, each))
 
 
 def _first_line(file: IO[bytes], begin: int, end: int) -> int:
-    """Where the first line begins at this byte or after it; some place from the end on where none
-    begins before that."""
+    """Returns where the first line begins at or after a byte. If none begins before `end`, returns
+    `end` or a later byte."""
     file.seek(begin - 1)
     place = begin - 1
     while place < end:
@@ -66,8 +66,8 @@ def _first_line(file: IO[bytes], begin: int, end: int) -> int:
 
 
 def _lines_from(file: IO[bytes], begin: int, end: int, work: Work) -> bytearray:
-    """The lines that begin from one byte on and before another. Of a last one that is too long, as
-    much as tells that."""
+    """Returns the lines that begin from one byte on and before another. If the last line is too
+    long, returns one byte more than the limit of it."""
     file.seek(begin)
     reader, lines = Reader(file, file.name), bytearray()
     while len(lines) < end - begin:
@@ -96,8 +96,8 @@ def _lines_from(file: IO[bytes], begin: int, end: int, work: Work) -> bytearray:
 def _read_range(
     work: Work, path: str, begin: int, end: int, state: Optional[State]
 ) -> Tuple[bytes, int, bytearray]:
-    """The header of a file, and the lines that begin in a range of it, behind where they begin. It
-    has to be in this state, if one is given."""
+    """Returns the header of a file, where the first line of a range begins, and the lines that
+    begin in the range. Raises `OSError` if the file is in another state than the given one."""
     with open(path, "rb") as file:
         header = file.readline(work.line_limit + 1)
         left = max(_first_line(file, begin, end), begin) if begin < end else end
@@ -124,8 +124,8 @@ def find_range(
 def judge_range(
     work: Work, path: str, begin: int, end: int, first: bool, state: Optional[State] = None
 ) -> Answer:
-    """Judges the header of a file and the lines that begin in a range of it. It has to be in this
-    state, if one is given."""
+    """Judges the header of a file and the lines that begin in a range of it. The file must be in
+    the given state, if there is one."""
     try:
         header, _, part = _read_range(work, path, begin, end, state)
     except READ_FAULTS as fault:
@@ -137,7 +137,7 @@ def judge_range(
 
 
 def judge_whole(work: Work, path: str) -> Answer:
-    """Judges a file whose bytes cannot be gone to, as one that is packed."""
+    """Judges a whole file that cannot be read at any byte, such as a packed file."""
     stream = Stream(path, work)
     for _ in in_turn([stream]):
         pass

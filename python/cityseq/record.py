@@ -1,5 +1,5 @@
-"""The record of an archive: a line of JSON for each file, with what it is and what came of it, so
-that a later run may skip it."""
+"""The record of an archive: a line of JSON with the state and the result of each file. A later run
+can skip these files."""
 from __future__ import annotations
 
 import hashlib
@@ -17,8 +17,8 @@ PIECE = 1 << 20
 
 
 def sha256_of(path: str, is_stopped: Callable[[], bool] = lambda: False) -> Optional[str]:
-    """The SHA-256 of a file, as sha256sum tells it; nothing where it cannot be read, or where the
-    second says in the middle that it is wanted no more."""
+    """Returns the SHA-256 of a file, as sha256sum prints it. Returns None if the file cannot be
+    read, or as soon as `is_stopped` returns true."""
     digest = hashlib.sha256()
     try:
         with open(path, "rb", buffering=0) as file:
@@ -32,7 +32,7 @@ def sha256_of(path: str, is_stopped: Callable[[], bool] = lambda: False) -> Opti
 
 
 def state_now(path: str) -> Object:
-    """The size of a file and its time, in nanoseconds from 1970 on."""
+    """Returns the size of a file, and its time of change in nanoseconds since 1970."""
     try:
         told = os.stat(path)
     except OSError:
@@ -41,13 +41,12 @@ def state_now(path: str) -> Object:
 
 
 def time_now() -> str:
-    """The time, in UTC."""
+    """Returns the time, in UTC."""
     return time.strftime("%Y-%m-%dT%H:%M:%SZ", time.gmtime())
 
 
 class Record:
-    """The lines of a record: those that were there, and those that are appended, each written at
-    once."""
+    """The lines of a record. It reads the existing lines and appends others, each by one write."""
 
     def __init__(self, path: str) -> None:
         self.path = path
@@ -60,7 +59,7 @@ class Record:
                 self._take(line)
             if text and not text.endswith(
                 b"\n"
-            ):  # a run that was killed may have left a part of a line
+            ):  # a run that was killed may have left an incomplete line
                 self._file.write(b"\n")
         except OSError as fault:
             raise write_fault(fault, path) from fault
@@ -78,8 +77,8 @@ class Record:
             self._told[told["file"]] = told
 
     def find(self, path: str, asked: Asked, program: str) -> Optional[Object]:
-        """What came of a file as it is now, by the same program and the same options, if that is
-        told and was no fault."""
+        """Returns the result that the record has for a file, or None. The file must be unchanged,
+        and the program and the options the same. A fault does not count."""
         told = self._told.get(os.path.abspath(path))
         if told is None or told.get("verdict") not in ("valid", "invalid"):
             return None
@@ -111,7 +110,7 @@ class Record:
 
 
 def refuse_unrecorded(asked: Asked, files: Tuple[str, ...]) -> None:
-    """Refuses to record what has no name, and to resume without a record."""
+    """Refuses to record standard input, and to resume without a record."""
     if asked.resume and asked.record is None:
         raise RequestError("--resume is for a --record")
     if asked.record is not None and not all(map(is_path, files)):

@@ -1,4 +1,4 @@
-"""The records of a part's features, as the threads that judge the part hand them on."""
+"""The records of a part's features, as the threads that judge the part return them."""
 from __future__ import annotations
 
 import json
@@ -16,8 +16,8 @@ from .reports import describe
 
 RECORD = struct.Struct("=9Q" + "Qqq" * 3)  # `struct cityseq_feature`
 SHORTEST = 64  # bytes: every feature is longer
-USUAL = 8_192  # features of a part that there is room for at first
-LONGEST = 1_024  # bytes of an id that is stored as it is
+USUAL = 8_192  # features of a part that fit at first
+LONGEST = 1_024  # bytes of an id that is stored unchanged
 Id = Tuple[str, Optional[bytes]]
 _room = Room()  # for the records of a thread's parts, one after another
 
@@ -28,7 +28,7 @@ class Records:
 
     Attributes:
         begin: Where the part begins in the stream, in bytes.
-        raw: The records, one behind another, as the library writes them.
+        raw: The records, one after another, as the library writes them.
         ids: The id of each feature as its line spells it, without quotes.
     """
 
@@ -42,17 +42,17 @@ class Records:
 
 @dataclass
 class Found(Answer):
-    """What came of a part, with its records."""
+    """The answer for a part, with its records."""
 
     records: Records = field(default_factory=lambda: Records(0, b"", []))
 
 
 def stored(text: str) -> Id:
-    """Returns an id as two columns have it: as text, and exactly where the text is not the id.
+    """Returns an id for two columns: a text, and the exact bytes if the text is not the id.
 
-    An id with NUL or half a character, or one of more than 1,024 bytes, is no text that every
-    program can read. Its text is then the beginning, escaped as in JSON, and the second is the
-    whole id in UTF-8, with half a character as three bytes.
+    Some programs cannot read an id with NUL or a lone surrogate, or one of more than 1,024 bytes.
+    The text of such an id is its beginning, escaped as in JSON. The second column then has the
+    whole id in UTF-8, with a lone surrogate as three bytes.
     """
     exact = text.encode("utf-8", "surrogatepass")
     if len(exact) <= LONGEST and "\0" not in text:
@@ -65,12 +65,12 @@ def stored(text: str) -> Id:
 
 
 def id_of(text: str, exact: Optional[bytes]) -> str:
-    """Returns the id that is stored so."""
+    """Returns the id that is stored in these two columns."""
     return text if exact is None else exact.decode("utf-8", "surrogatepass")
 
 
 def unescaped(spelling: bytes) -> str:
-    """Returns the text of a string of JSON, from its spelling without quotes."""
+    """Returns the text of a JSON string, from its spelling without quotes."""
     if b"\\" not in spelling:
         return spelling.decode("utf-8")
     text: str = json.loads(b'"' + spelling + b'"')
@@ -78,8 +78,8 @@ def unescaped(spelling: bytes) -> str:
 
 
 def stored_as_spelled(spelling: bytes) -> Id:
-    """Returns an id as two columns have it, by the string of JSON that spells it, without quotes.
-    A valid string without escapes has no NUL, and no half of a character."""
+    """Returns an id for two columns, from the JSON string that spells it, without quotes. A valid
+    string without escapes has no NUL and no lone surrogate."""
     if b"\\" not in spelling and len(spelling) <= LONGEST:
         return spelling.decode("utf-8"), None
     return stored(unescaped(spelling))
@@ -88,7 +88,7 @@ def stored_as_spelled(spelling: bytes) -> Id:
 def _called(
     work: Work, header: bytes, part: Text, reports_room: int
 ) -> Tuple[RawAnswer, RawReports, bytes]:
-    """Returns what the library answers. It is asked again where records or reports do not fit."""
+    """Returns the library's answer. It calls again if records or reports do not fit."""
     room = min(len(part) // SHORTEST, USUAL) + 1
     while True:
         answer, reports, raw = library().records(
@@ -115,7 +115,7 @@ def find(work: Work, file: str, header: bytes, part: Text, begin: int) -> Found:
     return Found(
         told=answer,
         end=next(describe([answer], header, text, file)) if answer.status == REFUSED else None,
-        # they are read when they are joined, as there may be very many
+        # they are read only when they are joined, because there may be very many
         reports=describe(islice(reports, answer.refused), header, text, file)
         if answer.refused
         else (),

@@ -1,4 +1,4 @@
-"""What is told of an invalid line: where it is, why, of which feature, and how to mend it."""
+"""Reports of invalid lines: where each line is, why it is invalid, and how to fix it."""
 from __future__ import annotations
 
 import functools
@@ -15,8 +15,8 @@ Text = Union[bytes, bytearray]
 
 TOO_LONG = 2
 BESIDE = 40  # how many bytes an excerpt shows on each side of the place
-LONGEST_READ = 1 << 20  # lines that are longer are not read as JSON to find an id
-# A feature that begins as usual: with its id, or with its type and then its id.
+LONGEST_READ = 1 << 20  # longer lines are not read as JSON to find an id
+# The usual beginning of a feature: its id, or its type and then its id.
 USUAL_BEGIN = (
     rb'[ \t\r]*\{[ \t\r]*(?:"type"[ \t\r]*:[ \t\r]*"CityJSONFeature"[ \t\r]*,[ \t\r]*)?'
     rb'"id"[ \t\r]*:[ \t\r]*("(?:[^"\\\x00-\x1f]|\\.)*")'
@@ -25,7 +25,7 @@ USUAL_BEGIN = (
 
 @dataclass(frozen=True)
 class Explanation:
-    """What a reason means, and how whoever makes the data fixes it, as docs/REASONS.md has it."""
+    """What a reason means, and how a producer of data fixes it, as in docs/REASONS.md."""
 
     code: int
     text: str
@@ -43,18 +43,17 @@ def _explanations() -> Dict[int, Explanation]:
 
 
 def explain(code: int) -> Explanation:
-    """What a code means. Raises `KeyError` where no reason has it."""
+    """Returns what a code means. Raises `KeyError` if no reason has it."""
     return _explanations()[code]
 
 
 @dataclass(frozen=True)
 class Report:
-    """An invalid line: its number from 1, the byte in it from 0, and why. `id` is that of the
-    feature where it can be read, and `met` says what stands at the place, as far as Python can read
-    it: both are hints.
+    """An invalid line: its number from 1, the byte in it from 0, and the reason.
 
-    The excerpt is what stands round the place, and `column` is where it stands in the excerpt, in
-    columns of a terminal."""
+    `id` and `met` are hints that Python reads, and None if it cannot. `id` is the id of the
+    feature. `met` describes what is at the place. The excerpt is the text around the place.
+    `column` is the column of the place in the excerpt, as a terminal shows it."""
 
     file: str
     line: int
@@ -67,25 +66,25 @@ class Report:
     met: Optional[str] = None
 
     def __str__(self) -> str:
-        """The program's own words."""
+        """Returns the program's own words."""
         return f"line {self.line}, byte {self.byte}: {self.code} {self.text}"
 
     @property
     def explanation(self) -> Explanation:
-        """What the code means, and how to fix it."""
+        """What the code means, and how to fix the line."""
         return explain(self.code)
 
     def caret(self) -> str:
-        """The excerpt, and a line with a caret under the place."""
+        """Returns the excerpt, and below it a line with a caret under the place."""
         return f"{self.excerpt}\n{' ' * self.column}^"
 
     def moved(self, lines: int) -> "Report":
-        """The same, so many lines later."""
+        """Returns the same report with `lines` added to its line number."""
         return replace(self, line=self.line + lines)
 
 
 def find_id(line: Text) -> Optional[str]:
-    """The id of a feature, where the line can be read so far."""
+    """Returns the id of a feature, or None if the line cannot be read that far."""
     usual = re.match(USUAL_BEGIN, line)
     if usual is None and len(line) > LONGEST_READ:
         return None
@@ -99,15 +98,15 @@ def find_id(line: Text) -> Optional[str]:
 
 
 def _shown(text: bytes) -> str:
-    """Bytes as a terminal may have them: one sign for each that is no character, or none that is
-    printed."""
+    """Returns bytes as text that a terminal can show. A replacement character takes the place of
+    each byte or character that cannot be printed."""
     return "".join(
         sign if sign.isprintable() else "\ufffd" for sign in text.decode("utf-8", "replace")
     )
 
 
 def excerpt_of(line: Text, place: int) -> Tuple[str, int]:
-    """What stands round a place of a line, and in which column the place is."""
+    """Returns the text around a place of a line, and the column of the place in it."""
     begin = max(0, place - BESIDE)
     while begin < place and line[begin] & 0xC0 == 0x80:
         begin += 1
@@ -121,15 +120,15 @@ def excerpt_of(line: Text, place: int) -> Tuple[str, int]:
 
 
 def describe(raws: Iterable[Any], header: Text, part: Text, file: str) -> Iterator[Report]:
-    """The reports of lines of a header and a part, each given as its `line`, `place` and `code`;
-    the lines rise."""
+    """Yields the reports of lines of a header and a part. Each is given as its `line`, `place` and
+    `code`, in ascending order of lines."""
     begin, number = 0, 2
     for raw in raws:
         while number < raw.line:
             begin, number = part.find(b"\n", begin) + 1, number + 1
         text, left = (header, 0) if raw.line == 1 else (part, begin)
         right = text.find(b"\n", left)
-        # of a line that is too long the rest may not have been read
+        # the rest of a line that is too long may not have been read
         stop = left + raw.place + 1 if raw.code == TOO_LONG else right if right >= 0 else len(text)
         line = bytes(text[left:stop])
         excerpt, column = excerpt_of(line, raw.place)

@@ -1,10 +1,10 @@
 """The spatial index of a layer, written at once: a table `rtree` of SQLite.
 
-One insert after another takes several times as long, and leaves nodes that are half full. So this
-writes the three tables behind the index itself. SQLite documents them ("The SQLite R*Tree Module",
-section "Shadow Tables"), and `rtreecheck` of SQLite finds every mistake in them. A node is its
-depth if it is the root, the number of its cells, and the cells. A cell is a 64-bit number, then the
-least and the greatest x and y as 32-bit floats, all big-endian.
+One insert after another takes several times as long, and leaves nodes half full. So this module
+writes the three tables of the index itself. SQLite documents them ("The SQLite R*Tree Module",
+section "Shadow Tables"), and `rtreecheck` of SQLite finds every mistake in them. A node has its
+depth if it is the root, the number of its cells, and the cells. A cell has a 64-bit number, then
+the least and the greatest x and y as 32-bit floats, all big-endian.
 """
 from __future__ import annotations
 
@@ -36,10 +36,10 @@ def cell_of(number: int, xmin: float, xmax: float, ymin: float, ymax: float) -> 
 
 
 def key_of(x: float, y: float) -> int:
-    """Returns where a point is on a curve of Morton: near points are mostly near on it.
+    """Returns where a point is on a Morton curve. Near points are mostly near on it.
 
-    The order of 32-bit floats is that of their bits, once the sign is turned. The first 24 bits
-    of both are mixed.
+    First all bits of negative numbers are inverted, and the sign bit of others. Then 32-bit floats
+    have the order of their bits. The upper 24 bits of both are interleaved.
     """
     a, b = _WORDS.unpack(_FLOATS.pack(x, y))
     a ^= 0xFFFFFFFF if a >> 31 else 0x80000000
@@ -70,7 +70,7 @@ class Tree:
         return data + bytes(self._size - len(data))
 
     def _groups(self, cells: Iterator[bytes], count: int) -> Iterator[bytes]:
-        """Yields the cells of each node: as many in one as in another, or one more."""
+        """Yields the cells of each node. All nodes have the same number of them, or one more."""
         nodes = -(-count // self._most)
         for node in range(nodes):
             size = (node + 1) * count // nodes - node * count // nodes
@@ -86,7 +86,7 @@ class Tree:
             yield self._last, group
 
     def _write(self, level: Iterable[Tuple[int, bytes]], children: str) -> None:
-        """Writes the nodes of a level, and in which of them each of their children is."""
+        """Writes the nodes of a level, and the node of each of their children."""
         for number, group in level:
             self._base.execute(
                 f"INSERT INTO {self._name}_node VALUES (?,?)", (number, self._node(0, group))
@@ -97,7 +97,7 @@ class Tree:
             )
 
     def write(self, cells: Iterator[bytes], count: int) -> None:
-        """Writes the index of so many cells, which come in the order of the curve."""
+        """Writes the index of `count` cells, which come in the order of the curve."""
         base, name = self._base, self._name
         base.execute("CREATE TEMP TABLE leaves (feature INTEGER, node INTEGER)")
         depth, children = 0, "temp.leaves"

@@ -44,7 +44,7 @@ if TYPE_CHECKING:
 
 HEADERS = 4  # a part is at least this many times as long as the header
 AHEAD = 2  # parts that wait, in addition to those that are judged
-AT_ONCE = 64 << 20  # one thread joins the answers for about this many bytes before it hands them on
+AT_ONCE = 64 << 20  # bytes that one thread judges for one joined answer
 Tell = Callable[[Report], None]
 Progress = Callable[[int], None]
 Task = Callable[[], Answer]
@@ -57,19 +57,19 @@ Results = Generator["Result", None, None]
 class Result:
     """The result for a stream.
 
-    Attributes:
-        file: What the source is called.
-        status: As the program's: 0 valid, 1 some line is invalid, 3 to 5 a fault.
-        lines: The lines up to the end, blank ones and the header too.
+        file: The name of the source.
+        status: As the program's: 0 valid, 1 a line is invalid, 3 to 5 a fault.
+        lines: The lines up to the end, with blank ones and the header.
+        features: The features that are kept.
         features: The features that are kept.
         refused: The invalid lines that the run went on after.
-        peak_bytes: The most bytes of lines that were held.
-        peak_tokens: The most tokens that were held.
+        peak_bytes: The most bytes of lines that were in memory.
+        peak_tokens: The most tokens that were in memory.
         peak_depth: The most arrays and objects that were open at once.
         end: The report that ended the run, if one did.
         reports: The reports in order: the first, or with `keep_going` all.
         fault: The fault that ended the run, in words, if one did.
-        hints: What the file may be, if it is no stream.
+        hints: What the file may be, if it is not a stream.
         fault_file: The file of the fault, if it is not the stream's.
         raises: The fault as an exception.
     """
@@ -123,7 +123,7 @@ class Info(Result):
         y: The same for y.
         z: The same for z.
         box: The box around all vertices in world coordinates, as `filter` takes it.
-        lods: Features by the text of an LoD. None if they were not counted, or too many.
+        lods: Features by the text of an LoD. None if they were not counted, or were too many.
         unasked: Texts that may be LoDs, and that no query can ask for.
     """
 
@@ -177,7 +177,7 @@ class Stream:
         return self
 
     def relayed(self, tell: Tell, progress: Progress) -> Tuple[Optional[Tell], Optional[Progress]]:
-        """Sends reports and progress to others, and returns who got them before."""
+        """Sends reports and progress to these functions, and returns those that got them before."""
         before = self._told_to, self._progress
         if self._told_to is not None:
             self._tell = tell
@@ -185,8 +185,8 @@ class Stream:
         return before
 
     def tasks(self) -> Tasks:
-        """Yields a call for each part, in order, that judges it. A failed read and refused memory
-        are noted after these."""
+        """Yields a call for each part, in order, that judges it. Notes a failed read, or refused
+        memory, after these."""
         try:
             with opened(self.source) as reader:
                 yield from self._tasks(reader)
@@ -225,8 +225,8 @@ class Stream:
         return partial(_packed, task, how)
 
     def _parts(self, reader: Reader, header: bytes, rest: bytearray) -> Iterator[Optional[Judged]]:
-        """Yields what judges each part after the header. The thread that judges a part of a file
-        also reads it, except near the end."""
+        """Yields a call that judges each part after the header. The thread that judges a part of a
+        file also reads it, except near the end."""
         file = placed(reader.file) if is_path(self.source) else None
         if file is not None:
             begin = yield from (self._parts_in_turn if self._in_turn else self._parts_at_once)(
@@ -243,7 +243,7 @@ class Stream:
             ) if part else None
 
     def _parts_at_once(self, file: Placed, header: bytes) -> Generator[Judged, None, int]:
-        """Yields what judges parts of a file, for any thread. Returns where the rest begins."""
+        """Yields calls that judge parts of a file in any thread. Returns where the rest begins."""
         places = Places(file, len(header), self._part_size(PART, header), self.work.line_limit)
         for ends in places.parts():
             yield partial(
@@ -258,8 +258,8 @@ class Stream:
         return places.begin
 
     def _parts_in_turn(self, file: Placed, header: bytes) -> Generator[Judged, None, int]:
-        """Yields what judges a part of a file that one thread reads, or what has the joined answer
-        for several. Returns where the rest begins."""
+        """Yields calls that judge parts of a file that one thread reads. A call may have the joined
+        answer for several parts. Returns where the rest begins."""
         # Whether there are too many texts of LoDs can depend on the size of parts. The answer must
         # be the same for any number of threads.
         usual = PART if self.work.exact_lods else SMALL
@@ -365,7 +365,7 @@ class Stream:
             self._output.discard()
 
     def _inform(self, info: Info, tally: Tally) -> None:
-        from .world import box_of, transform_of  # `info` alone needs it
+        from .world import box_of, transform_of  # only `info` needs it
 
         info.scale, info.translate = transform_of(self._header)
         info.types = {name: count for name, count in tally.types.items() if count}

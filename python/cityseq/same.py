@@ -1,5 +1,4 @@
-"""Whether an output would destroy what is read: files are compared by device and inode, and not by
-name."""
+"""Whether an output would destroy a source. Files are compared by device and inode, not by name."""
 from __future__ import annotations
 
 import os
@@ -14,16 +13,15 @@ Identity = Tuple[int, int]
 
 
 def _state(thing: Any, standard: int) -> os.stat_result:
-    """What the system tells of a source or an output. That which is `-` is this standard
-    descriptor."""
+    """Returns the system's state of a source or an output. `-` is the given standard descriptor."""
     if is_path(thing):
         return os.stat(thing)
     return os.fstat(standard if isinstance(thing, str) else thing.fileno())
 
 
 def identity(thing: Any, standard: int) -> Optional[Identity]:
-    """The device and the inode of what a source or an output stores its bytes in; None where it is
-    not there, or is no regular file."""
+    """Returns the device and the inode of the file of a source or an output. None if it does not
+    exist, or is neither a regular file nor a block device."""
     try:
         state = _state(thing, standard)
     except (AttributeError, OSError, ValueError):
@@ -36,7 +34,7 @@ def identity(thing: Any, standard: int) -> Optional[Identity]:
 
 
 def _written(outputs: Iterable[Any]) -> Iterator[Tuple[str, Any]]:
-    """The name of each output, and each file that is written for it."""
+    """Yields the name of each output, and each file that is written for it."""
     for output in (
         os.fsdecode(output) if isinstance(output, bytes) else output for output in outputs
     ):
@@ -48,8 +46,8 @@ def _written(outputs: Iterable[Any]) -> Iterator[Tuple[str, Any]]:
 
 
 def refuse_same(sources: Iterable[Any], outputs: Iterable[Any]) -> None:
-    """Raises `RequestError` where something that is written, standard output too if it is `-`, is
-    something that is read."""
+    """Raises `RequestError` if an output is a file that is read. The output `-` is standard
+    output."""
     read: Set[Identity] = {
         found
         for found in (identity(source, 0) for source in sources if not isinstance(source, bytes))

@@ -1,4 +1,4 @@
-"""Says reports as SARIF 2.1.0 (OASIS), by which a pull request shows them next to their lines."""
+"""Writes reports as SARIF 2.1.0 (OASIS). A pull request can show them next to their lines."""
 from __future__ import annotations
 
 import json
@@ -22,7 +22,7 @@ SCHEMA = f"{STANDARD}/schemas/sarif-schema-2.1.0.json"
 
 
 def _message(report: Report) -> str:
-    """What is said of an invalid line: the reason, the feature, and how to fix it."""
+    """Returns the message for an invalid line: the reason, the feature, and how to fix it."""
     feature = "" if report.id is None else f", in feature {quoted(report.id)}"
     met = "" if report.met is None else f" ({shown(report.met)})"
     return f"{report.text}{met} at byte {report.byte}{feature}. {explain(report.code).fix}"
@@ -53,7 +53,7 @@ def _result(report: Report) -> Object:
 
 
 class SarifTeller(Teller):
-    """Writes one SARIF log to standard output, bit by bit: nothing of it is held."""
+    """Writes one SARIF log to standard output, piece by piece. It keeps no report in memory."""
 
     def __init__(self, asked: Asked, bar: Bar) -> None:
         super().__init__(asked, bar)
@@ -74,7 +74,7 @@ class SarifTeller(Teller):
         self._comma = ","
 
     def say_more(self, file: str, count: int) -> None:
-        """The log has as many reports as were asked for."""
+        """Writes nothing: the log has as many reports as were asked for."""
 
     def say_result(self, result: Result, extra: Callable[[], Object]) -> None:
         if result.fault is not None:

@@ -1,4 +1,4 @@
-"""Where streams come from: paths, of files that may be packed, `-`, bytes and file objects."""
+"""Sources of streams: paths of files that may be packed, `-`, bytes and file objects."""
 from __future__ import annotations
 
 import contextlib
@@ -17,18 +17,18 @@ Source = Union[str, "os.PathLike[Any]", bytes, bytearray, memoryview, IO[bytes]]
 State = Tuple[int, int]  # of a file
 CHANGED = "changed while it was read"
 PIECE = 1 << 20  # the most bytes of one read
-IDLE = 50  # milliseconds after which what is there is not waited with
-READ_FAULTS = (OSError, EOFError, ValueError)  # what a read may fail by
+IDLE = 50  # milliseconds to wait for more bytes before those that are there are judged
+READ_FAULTS = (OSError, EOFError, ValueError)  # what a read may raise
 
 
 def is_path(source: Any) -> bool:
-    """Whether a source or a target is a path, `-` aside. Bytes are none: they are a stream
-    themselves."""
+    """Whether a source or a target is a path, except `-`. Bytes are not a path: they are the
+    stream itself."""
     return isinstance(source, (str, os.PathLike)) and os.fsdecode(source) != "-"
 
 
 def name_of(source: Any) -> str:
-    """What a source is called in reports."""
+    """Returns the name of a source in reports."""
     if isinstance(source, (str, os.PathLike)):
         return os.fsdecode(source)
     if isinstance(source, (bytes, bytearray, memoryview)):
@@ -38,15 +38,15 @@ def name_of(source: Any) -> str:
 
 
 def size_of(source: Any) -> Optional[int]:
-    """How many bytes a source has, packed where it is packed, if that can be known before it is
-    read."""
+    """Returns how many bytes a source has, or None if this is known only after reading. For a
+    packed file these are packed bytes."""
     if isinstance(source, (bytes, bytearray, memoryview)):
         return memoryview(source).nbytes
     return os.path.getsize(source) if is_path(source) and os.path.isfile(source) else None
 
 
 def _poll_of(file: Any) -> Any:
-    """What tells whether something has come by a pipe or the like; nothing of other files."""
+    """Returns an object that shows whether a pipe or a terminal has bytes. None for other files."""
     try:
         descriptor = file.fileno()
         mode = os.fstat(descriptor).st_mode
@@ -62,7 +62,7 @@ def _poll_of(file: Any) -> Any:
 
 
 class Reader:
-    """Reads a file object. A read that fails is kept as `fault`, and is the end of the input."""
+    """Reads a file object. If a read fails, keeps the fault as `fault`, and the input ends."""
 
     def __init__(self, file: IO[bytes], name: str = "<stream>") -> None:
         self.file, self.name = file, name
@@ -71,7 +71,8 @@ class Reader:
         self._poll = _poll_of(file)
 
     def is_idle(self) -> bool:
-        """Whether nothing has come for some time where it comes bit by bit, as by a pipe."""
+        """Whether no bytes have come for some time. False for a source that is not a pipe, a
+        socket or a terminal."""
         if self._poll is None:
             return False
         try:
@@ -80,14 +81,14 @@ class Reader:
             return False
 
     def go_to(self, place: int) -> None:
-        """Goes on from this byte of the file."""
+        """Continues at this byte of the file."""
         try:
             self.file.seek(place)
         except READ_FAULTS as fault:
             self._fail(fault)
 
     def read(self, most: int) -> bytes:
-        """Some bytes, at most so many, and none at the end."""
+        """Returns at most `most` bytes, and none at the end."""
         try:
             piece = self._read(min(most, PIECE))
             if isinstance(piece, (bytes, bytearray)):
@@ -108,7 +109,7 @@ class Reader:
 
 
 def _open_path(path: str) -> Any:
-    """The file object of a path, which unpacks what is packed."""
+    """Returns the file object of a path. It unpacks a packed file."""
     file = open(path, "rb")
     try:
         packing = packing_of(file.peek(len(Packing.ZSTD.mark)), path)
@@ -119,7 +120,7 @@ def _open_path(path: str) -> Any:
 
 
 def _open(source: Source) -> Any:
-    """The file object of a source, which is to be closed if the source is a path or bytes."""
+    """Opens a source that is a path or bytes. The caller must close the file object."""
     if isinstance(source, (bytes, bytearray, memoryview)):
         return io.BytesIO(source)
     if isinstance(source, (str, os.PathLike)):
@@ -130,7 +131,7 @@ def _open(source: Source) -> Any:
 
 
 def is_packed(source: Any) -> bool:
-    """Whether a source is a path of a file that is packed."""
+    """Whether a source is the path of a packed file."""
     try:
         if not is_path(source) or not os.path.isfile(source):
             return False
@@ -141,14 +142,14 @@ def is_packed(source: Any) -> bool:
 
 
 def state_of(descriptor: int) -> State:
-    """The size of an open file and its time, one of which is another one where the file is
-    changed."""
+    """Returns the size of an open file, and its time of change in nanoseconds. If one of them
+    differs later, the file has changed."""
     told = os.fstat(descriptor)
     return told.st_size, told.st_mtime_ns
 
 
 class Watch:
-    """Looks whether a regular file is changed, from when it is made on."""
+    """Shows whether a regular file has changed since the watch was made."""
 
     def __init__(self, descriptor: int) -> None:
         self._descriptor = -1
@@ -161,7 +162,7 @@ class Watch:
 
     @classmethod
     def of(cls, file: Any) -> Optional["Watch"]:
-        """A watch of the file behind a file object, where there is one that is regular."""
+        """Returns a watch of the file of a file object. None if there is no regular file."""
         try:
             descriptor = file.fileno()
             return cls(descriptor) if stat.S_ISREG(os.fstat(descriptor).st_mode) else None
@@ -169,13 +170,13 @@ class Watch:
             return None
 
     def is_changed(self) -> bool:
-        """Whether the file is in another state than at first."""
+        """Whether the file is in another state than at the beginning."""
         return state_of(self._descriptor) != self.state
 
 
 @contextlib.contextmanager
 def opened(source: Source) -> Iterator[Reader]:
-    """A reader of a source. What was opened for it is closed again."""
+    """Yields a reader of a source, and closes what was opened for it."""
     name = name_of(source)
     if hasattr(source, "read"):
         yield Reader(source, name)  # type: ignore[arg-type]

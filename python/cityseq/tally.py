@@ -1,4 +1,4 @@
-"""What is in a stream: counts, the ranges of its vertices, and the texts of its LoDs."""
+"""The contents of a stream: counts, the ranges of its vertices, and the texts of its LoDs."""
 from __future__ import annotations
 
 from dataclasses import dataclass
@@ -8,18 +8,18 @@ from ._library import LOD_CLASSES, RawTally, library
 
 Range = Optional[Tuple[int, int]]
 MOST_TEXTS = 4_096  # of LoDs
-MOST_UNASKED = 1_000  # so many are kept, and those of one part more
+MOST_UNASKED = 1_000  # after more than this many texts, none are added
 
 
 @dataclass
 class Tally:
-    """What is in the features of a stream, or of a header and a part.
+    """The contents of the features of a stream, or of a header and a part.
 
     Attributes:
-        told: What the library told, or joined.
+        told: What the library returned, or joined.
         lods: How many features have each exact text of an LoD. None if that was not counted.
-        unasked: Texts that may be LoDs, and that no query can ask for: they have an LF or half a
-            character in them.
+        unasked: Texts that may be LoDs, and that no query can ask for. They have an LF or a lone
+            surrogate.
     """
 
     told: RawTally
@@ -28,22 +28,22 @@ class Tally:
 
     @property
     def types(self) -> Dict[str, int]:
-        """City objects by type, also the types that have none, in the order of the table."""
+        """City objects by type, in the order of the table. Types without any are there too."""
         return dict(zip(library().type_names(), self.told.types))
 
     @property
     def classes(self) -> Dict[str, int]:
-        """Geometries by the class of their LoD, also the classes that have none."""
+        """Geometries by the class of their LoD. Classes without any are there too."""
         return dict(zip(LOD_CLASSES, self.told.lods))
 
     @property
     def ranges(self) -> Tuple[Range, Range, Range]:
-        """The least and the greatest vertex on x, y and z. None where there is no vertex."""
+        """The least and the greatest vertex on x, y and z. None if there is no vertex."""
         x, y, z = ((each.least, each.greatest) if each.some else None for each in self.told.ranges)
         return x, y, z
 
     def joined(self, after: "Tally") -> "Tally":
-        """Returns the tally of both. The library has no texts of LoDs, so Python joins these."""
+        """Returns the tally of both. Python joins the texts of LoDs: the library has none."""
         lods = None if self.lods is None or after.lods is None else _added(self.lods, after.lods)
         lods = None if lods is not None and len(lods) > MOST_TEXTS else lods
         is_full = len(self.unasked) > MOST_UNASKED

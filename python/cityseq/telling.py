@@ -1,4 +1,4 @@
-"""What the command says of files: of each invalid line, and of what came of each file, as text or
+"""Output of the command about files: each invalid line, and the result of each file, as text or
 as JSON."""
 from __future__ import annotations
 
@@ -16,7 +16,7 @@ from .shown import fitting, quoted, shown
 from .words import Asked
 
 Object = Dict[str, Any]
-ON_A_TERMINAL = 1_000  # so many reports of a file are said there
+ON_A_TERMINAL = 1_000  # reports of one file that are written there
 BOLD, RED, GREEN, PLAIN = "\x1b[1m", "\x1b[31m", "\x1b[32m", "\x1b[0m"
 
 
@@ -29,8 +29,8 @@ def is_terminal(output: Any) -> bool:
 
 
 def info_lines(info: Info, is_plain: bool) -> Iterator[str]:
-    """The report of a stream: the program's lines, and, of a file, the box in world coordinates;
-    and the texts of LoDs where they were counted."""
+    """Yields the summary of a stream: the lines that the program writes. A file also has the box
+    in world coordinates. The texts of LoDs follow if they were counted."""
     from .world import normal
 
     yield f"lines {info.lines}"
@@ -56,13 +56,13 @@ def info_lines(info: Info, is_plain: bool) -> Iterator[str]:
 
 
 def _counts(lines: int, features: int, refused: int) -> str:
-    """The counts of a stream, as the program writes them."""
+    """Returns the counts of a stream, as the program writes them."""
     return f"lines={lines} features={features}" + (f" refused={refused}" if refused else "")
 
 
 class Teller:
-    """Says reports as they come, as many as are wanted, and what came of each file. A report that
-    ends a run is said with its result, so behind what was written before it."""
+    """Writes each report as it comes, up to the wanted number, and the result of each file. A
+    report that ends a run is written with the result, so after all output before it."""
 
     def __init__(self, asked: Asked, bar: Bar) -> None:
         self._asked, self._bar = asked, bar
@@ -74,7 +74,7 @@ class Teller:
         )
 
     def report(self, report: Report) -> None:
-        """Says that a line is invalid."""
+        """Takes an invalid line. With `keep_going` it is written at once."""
         if self._asked.keep_going and report.line > 1:
             self._tell(report)
 
@@ -88,7 +88,7 @@ class Teller:
         return not self._asked.quiet and not self._asked.summary
 
     def result(self, result: Result, extra: Callable[[], Object]) -> None:
-        """Says what came of a file."""
+        """Writes the result of a file."""
         if result.end is not None and result.fault is None:
             self._tell(result.end)
         if self._most is not None and self._count > self._most and self._are_said():
@@ -97,33 +97,33 @@ class Teller:
         self.say_result(result, extra)
 
     def skipped(self, file: str, told: Object) -> None:
-        """Says what a record has of a file that is skipped."""
+        """Writes what a record has about a file that is skipped."""
         raise NotImplementedError
 
     def close(self) -> None:
-        """Says how often each reason came, if that is wanted."""
+        """Writes how often each reason occurred, if `--summary` asks for it."""
         if self._asked.summary and not self._asked.quiet:
             self.say_summary(self._codes)
 
     def say_report(self, report: Report) -> None:
-        """Says a report."""
+        """Writes a report."""
         raise NotImplementedError
 
     def say_more(self, file: str, count: int) -> None:
-        """Says that there are so many more reports."""
+        """Writes how many more reports there are."""
         raise NotImplementedError
 
     def say_result(self, result: Result, extra: Callable[[], Object]) -> None:
-        """Says what came of a file."""
+        """Writes the result of a file."""
         raise NotImplementedError
 
     def say_summary(self, codes: "Counter[int]") -> None:
-        """Says how often each reason came."""
+        """Writes how often each reason occurred."""
         raise NotImplementedError
 
 
 class TextTeller(Teller):
-    """Says all as text: of standard input alone as the program does, of files with more to help."""
+    """Writes text: for standard input only what the program writes, for files also some help."""
 
     def __init__(self, asked: Asked, bar: Bar, has_many: bool) -> None:
         super().__init__(asked, bar)
@@ -144,7 +144,7 @@ class TextTeller(Teller):
             put("\n".join(lines))
 
     def _of(self, file: str) -> str:
-        """What a line begins with that is about a file."""
+        """Returns the beginning of each line about a file."""
         return f"{shown(file)}: " if self._has_many else ""
 
     def _painted(self, colour: str, text: str) -> str:
@@ -157,8 +157,7 @@ class TextTeller(Teller):
         self._say(*self._lines(report))
 
     def _lines(self, report: Report) -> Iterator[str]:
-        """The program's words, and below them of which feature, where in it, what stands there, and
-        how to fix it."""
+        """Yields the program's words, then the feature, the excerpt, a hint and a fix."""
         place = f"{self._of(report.file)}line {report.line}, byte {report.byte}"
         yield f"{self._painted(BOLD, place)}: {self._painted(RED, f'{report.code} {report.text}')}"
         if report.id is not None:
@@ -193,7 +192,7 @@ class TextTeller(Teller):
             self._put([f"{self._of(result.file)}{verdict} {counts}"])
 
     def _fault(self, result: Result, words: str) -> str:
-        """A fault: of standard input alone in the program's words."""
+        """Returns the text of a fault. Standard input alone has the program's words."""
         if self._asked.is_plain and result.fault_file in (None, "-"):
             return brief(words)
         return f"{shown(result.fault_file or result.file)}: {shown(words)}"
@@ -208,7 +207,8 @@ class TextTeller(Teller):
 
 
 class JsonTeller(Teller):
-    """Says all as objects, one a line: on standard output, unless that has what is kept."""
+    """Writes JSON objects, one a line, to standard output. If the kept lines are there, the objects
+    go to standard error."""
 
     def __init__(self, asked: Asked, bar: Bar, to_output: bool) -> None:
         super().__init__(asked, bar)
@@ -223,12 +223,12 @@ class JsonTeller(Teller):
             put(text)
 
     def say_report(self, report: Report) -> None:
-        from .objects import report_object  # which text does not need
+        from .objects import report_object  # text does not need it
 
         self._write(report_object(report))
 
     def say_more(self, file: str, count: int) -> None:
-        """The counts in the result say so."""
+        """Writes nothing: the result has the counts."""
 
     def say_result(self, result: Result, extra: Callable[[], Object]) -> None:
         self._write(extra())
@@ -243,12 +243,12 @@ class JsonTeller(Teller):
 
 
 def brief(words: str) -> str:
-    """The words that the program has for a fault, of which it does not say why."""
+    """Returns the program's words for a fault, without the cause."""
     return words.split(":")[0]
 
 
 def teller_of(asked: Asked, bar: Bar, has_many: bool) -> Teller:
-    """What says all as it is asked for."""
+    """Returns the teller for the options."""
     if asked.format is not None:
         from .sarif import SarifTeller  # few runs need it
 

@@ -1,9 +1,9 @@
-"""Threads that judge parts: each has a stack of its own size, and they are started one by one, as
+"""Threads that judge parts. Each thread has a stack of a fixed size. Threads start one by one, when
 there is work for them.
 
-A pool of Python's own gives a thread the stack that `ulimit -s` says, which may be too small, and
-waits for ever where the memory for the first steps of a thread is refused. Here a thread that does
-not begin means fewer threads. Where none begins, whoever asks for an answer does the work."""
+Python's own pool gives a thread the stack that `ulimit -s` sets, which may be too small. It also
+waits for ever if memory is refused before a thread has begun. Here a thread that does not begin
+means fewer threads. If none begins, the thread that asks for an answer does the work."""
 from __future__ import annotations
 
 import _thread
@@ -12,15 +12,15 @@ import threading
 from queue import SimpleQueue
 from typing import Any, Callable, Generic, List, Optional, TypeVar
 
-STACK = 4 << 20  # bytes: a call of the library takes up to 2 MB, and Python what calls it
-PATIENCE = 2.0  # seconds that a thread has to begin, and between two looks whether any is left
+STACK = 4 << 20  # bytes: a call of the library takes up to 2 MB, and its callers in Python the rest
+PATIENCE = 2.0  # seconds that a thread has to begin, and between two looks whether one is alive
 
 T = TypeVar("T")
-_starting = threading.Lock()  # since how long a stack is is set for the whole process
+_starting = threading.Lock()  # because the size of stacks is set for the whole process
 
 
 def _start(call: Callable[..., None], *given: Any) -> None:
-    """Starts a thread with a stack of its own. Raises `RuntimeError` or `MemoryError` where the
+    """Starts a thread with a stack of `STACK` bytes. Raises `RuntimeError` or `MemoryError` if the
     system refuses that."""
     with _starting:
         before = threading.stack_size(STACK)
@@ -31,8 +31,8 @@ def _start(call: Callable[..., None], *given: Any) -> None:
 
 
 def _has_stack() -> bool:
-    """Whether the thread that asks surely has as long a stack: it is the first one of the process,
-    and the system allows that."""
+    """Whether the calling thread surely has a stack of that size. It must be the first thread of
+    the process, and the system must allow the size."""
     limit = resource.getrlimit(resource.RLIMIT_STACK)[0]
     return threading.current_thread() is threading.main_thread() and (
         limit == resource.RLIM_INFINITY or limit >= STACK
@@ -40,7 +40,7 @@ def _has_stack() -> bool:
 
 
 class Job(Generic[T]):
-    """A call that some thread of a crew makes once, and what came of it."""
+    """A call that a thread of a crew makes once, and its result."""
 
     __slots__ = ("_call", "_crew", "_value", "_fault", "_taken", "_open")
 
@@ -53,13 +53,13 @@ class Job(Generic[T]):
         self._open.acquire()
 
     def run(self) -> bool:
-        """Makes the call. False where some thread has begun it."""
+        """Makes the call. Returns False if a thread has begun it before."""
         if not self._taken.acquire(False):
             return False
         try:
             if self._call is not None:
                 self._value = self._call()
-        except BaseException as fault:  # which whoever asks for the answer gets
+        except BaseException as fault:  # `result` raises it
             self._fault = fault
         finally:
             self._call = None
@@ -67,7 +67,7 @@ class Job(Generic[T]):
         return True
 
     def cancel(self) -> None:
-        """Has no thread begin the call any more."""
+        """Keeps all threads from beginning the call."""
         self._taken.acquire(False)
 
     def done(self) -> bool:
@@ -75,7 +75,8 @@ class Job(Generic[T]):
         return not self._open.locked()
 
     def result(self) -> T:
-        """What the call answers, or raises. Where no thread is there to make it, this one does."""
+        """Returns what the call returns, or raises what it raises. If no thread is alive to make
+        the call, this thread makes it."""
         while not self._open.acquire(timeout=PATIENCE if self._crew.has_threads() else 0):
             if not self._crew.has_threads():
                 self._run_here()
@@ -91,43 +92,43 @@ class Job(Generic[T]):
 
 
 class Crew:
-    """Threads that make calls, at most so many, and never more than there are calls. It is closed
-    by leaving a `with` block, and then none of them is left."""
+    """Threads that make calls: at most `most` of them, and never more than there are calls. Leaving
+    a `with` block ends them all."""
 
     def __init__(self, most: int) -> None:
         self._most = most
         self._jobs: "SimpleQueue[Optional[Job[Any]]]" = SimpleQueue()
         self._submitted = 0
-        # a lock for each thread that has begun, which it holds as long as it is there
+        # a lock for each thread that has begun; the thread holds it until it ends
         self._ends: List[Any] = []
 
     def __enter__(self) -> "Crew":
         return self
 
     def __exit__(self, *_: Any) -> None:
-        # one more than there are threads: an interrupt may have come when one had just been started,
-        # which is not in the list then
+        # one more than there are threads: an interrupt may have come just after one was started,
+        # before it was in the list
         for _sign in range(len(self._ends) + 1):
             self._jobs.put(None)
         while self._ends:
             self._ends.pop().acquire()
 
     def has_threads(self) -> bool:
-        """Whether some thread is there."""
+        """Whether a thread is alive."""
         return any(end.locked() for end in self._ends)
 
     def start(self) -> bool:
-        """Starts the first thread, if there is none yet. Whether some thread is there then."""
+        """Starts the first thread, if there is none yet. Returns whether a thread is alive then."""
         self._have(1)
         return self.has_threads()
 
     def _have(self, wanted: int) -> None:
-        """Starts one more thread, if so many are wanted and may be there."""
+        """Starts one more thread if there are fewer than `wanted` and than allowed."""
         if len(self._ends) < min(self._most, wanted) and not self._add():
             self._most = len(self._ends)
 
     def submit(self, call: Callable[[], T]) -> "Job[T]":
-        """Has some thread make the call."""
+        """Passes the call to the threads, and returns its job."""
         job = Job(call, self)
         self._jobs.put(job)
         self._submitted += 1
@@ -135,8 +136,8 @@ class Crew:
         return job
 
     def _add(self) -> bool:
-        """Starts one more thread, and waits until it has begun: with little memory it may end
-        before that, in silence."""
+        """Starts one more thread, and waits until it has begun. If memory is short, a thread may
+        end before that, without an error."""
         begun, end = _thread.allocate_lock(), _thread.allocate_lock()
         begun.acquire()
         end.acquire()
@@ -145,7 +146,7 @@ class Crew:
         except (RuntimeError, MemoryError):
             return False
         if not begun.acquire(timeout=PATIENCE):
-            self._jobs.put(None)  # for the case that it begins yet
+            self._jobs.put(None)  # it ends if it begins later
             return False
         self._ends.append(end)
         return True
@@ -163,6 +164,6 @@ class Crew:
 
 
 def in_thread(call: Callable[[], T]) -> T:
-    """What a call answers, or raises, that is made in a thread with a stack of its own."""
+    """Makes a call in a thread with a stack of `STACK` bytes. Returns or raises what it does."""
     with Crew(1) as crew:
         return crew.submit(call).result()

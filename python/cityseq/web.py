@@ -1,4 +1,4 @@
-"""Streams on a web server, of which ranges of bytes are read (RFC 9110, section 14)."""
+"""Streams on a web server. Ranges of their bytes are read (RFC 9110, section 14)."""
 from __future__ import annotations
 
 import http.client
@@ -18,7 +18,7 @@ FAULTS = (OSError, http.client.HTTPException, ValueError)
 
 
 def checked_base(base: str) -> str:
-    """Returns a base URL. Raises `RequestError` if it is none of http or https."""
+    """Returns a base URL. Raises `RequestError` if it is not an http or https URL."""
     try:
         parts = urlsplit(base)
         is_url = parts.scheme in ("http", "https") and bool(parts.hostname) and parts.port != 0
@@ -30,7 +30,7 @@ def checked_base(base: str) -> str:
 
 
 def url_of(base: str, path: str) -> str:
-    """Returns the URL of a stream: its path behind the base. Of an absolute path that is its
+    """Returns the URL of a stream: its path after the base. An absolute path is reduced to its
     name."""
     name = os.path.basename(path) if os.path.isabs(path) else path
     parts = urlsplit(base)
@@ -39,12 +39,12 @@ def url_of(base: str, path: str) -> str:
 
 
 class WebPlace:
-    """A stream on a web server. It is closed by leaving a `with` block."""
+    """A stream on a web server. Leaving a `with` block closes it."""
 
     def __init__(self, stream: IndexedStream, base: str) -> None:
         self._stream, self._url = stream, url_of(base, stream.told_path)
         self._connection: Any = None
-        self._state: Optional[str] = None  # which the server told with the first range
+        self._state: Optional[str] = None  # from the answer with the first range
 
     def __enter__(self) -> "WebPlace":
         return self
@@ -57,7 +57,7 @@ class WebPlace:
 
         Raises:
             OutOfDate: The stream on the server is not the one of the index.
-            ReadFault: The server does not answer, or not so.
+            ReadFault: The server does not answer, or answers with something else.
         """
         end = min(end, self._stream.size)
         if begin >= end:
@@ -80,7 +80,7 @@ class WebPlace:
         return ReadFault(f"read fault: {words}", None, self._url)
 
     def _get(self, begin: int, end: int) -> http.client.HTTPResponse:
-        """Returns the answer of the server, which may lead elsewhere first."""
+        """Returns the answer of the server, after its redirections."""
         for _ in range(REDIRECTIONS + 1):
             answer = self._ask({"Range": f"bytes={begin}-{end - 1}", "Accept-Encoding": "identity"})
             target = answer.getheader("Location")
@@ -94,8 +94,8 @@ class WebPlace:
         raise self._fault(f"the server leads elsewhere more than {REDIRECTIONS} times")
 
     def _ask(self, headers: Dict[str, str]) -> http.client.HTTPResponse:
-        """Returns the answer to one request. A connection that was open may have been closed by
-        the server meanwhile, so that the request is made again."""
+        """Returns the answer to one request. The server may have closed an open connection in the
+        meantime. Then the request is made again."""
         parts = urlsplit(self._url)
         target = urlunsplit(("", "", parts.path or "/", parts.query, ""))
         was_open = self._connection is not None
@@ -113,7 +113,7 @@ class WebPlace:
                 was_open = False
 
     def _checked(self, answer: http.client.HTTPResponse, begin: int, end: int) -> bytes:
-        """Returns what an answer has, if it is the range that was asked for."""
+        """Returns the body of an answer, if it is the range that was asked for."""
         stream = self._stream
         if answer.status == 200:
             raise self._fault("the server has no ranges: name one that has, or cut from a file")
@@ -137,7 +137,7 @@ class WebPlace:
         body = answer.read(end - begin)
         if len(body) < end - begin:
             raise self._fault("the connection broke")
-        if not answer.isclosed():  # the server sends more than it said
+        if not answer.isclosed():  # the server sends more than it announced
             self._close()
         return body
 

@@ -1,8 +1,8 @@
-"""Streams that one thread reads and judges whole, as those of many packed files: so as many are
-unpacked at once as there are threads.
+"""Streams that one thread reads and judges whole, such as many packed files. Each thread then
+unpacks a file of its own.
 
-Reports and progress are handed to the thread that asks for the result, in order, and so few wait
-that memory is bounded: a thread that is ahead waits until its file's turn comes."""
+The thread passes reports and progress to the thread that asks for the result, in order. Few of them
+wait, so memory is bounded. A thread that is ahead waits until its file is next."""
 from __future__ import annotations
 
 import queue
@@ -11,8 +11,8 @@ from typing import Any, Callable, List, Optional, Union
 from .reports import Report
 from .threads import PATIENCE, Crew, Job
 
-TOGETHER = 1_000  # so many reports are handed on at once,
-WAITING = 8  # and so many times as many wait
+TOGETHER = 1_000  # reports that are passed on at once
+WAITING = 8  # lists of reports and counts that wait
 LOOK = 0.1  # seconds between two looks whether a run has been given up
 
 Tell = Callable[[Report], None]
@@ -20,12 +20,11 @@ Progress = Callable[[int], None]
 
 
 class GivenUp(Exception):
-    """Nobody asks for what comes of the stream any more."""
+    """The run has been given up: no thread asks for its result any more."""
 
 
 class Relay:
-    """Hands reports and counts of bytes from the thread that has them to the one that tells
-    them."""
+    """Passes reports and counts of bytes from the thread that judges to the thread that asks."""
 
     def __init__(self) -> None:
         self._queue: "queue.Queue[Union[int, List[Report], None]]" = queue.Queue(WAITING)
@@ -40,8 +39,8 @@ class Relay:
             self._hand_on()
 
     def progress(self, size: int) -> None:
-        """Takes how many bytes more are done; all reports of these were taken before. It never
-        waits for its turn."""
+        """Takes how many more bytes are done. All reports of these bytes were taken before. It
+        never waits: it passes them on only if the queue is empty."""
         self._size += size
         if self.is_given_up:
             raise GivenUp
@@ -50,7 +49,7 @@ class Relay:
             self._hand_on_size()
 
     def end(self) -> None:
-        """Says that nothing more comes."""
+        """Marks the end: nothing follows."""
         self._hand_on()
         self._hand_on_size()
         self._put(None)
@@ -77,8 +76,8 @@ class Relay:
     def drain(
         self, tell: Optional[Tell], progress: Optional[Progress], is_alive: Callable[[], bool]
     ) -> None:
-        """Tells all that is handed over, until nothing more comes, or no thread is there any more
-        that may hand something over."""
+        """Passes on all that was taken, until the end. It also stops if no thread is alive that
+        could add more."""
         while True:
             try:
                 what = self._queue.get(timeout=PATIENCE)
@@ -117,16 +116,16 @@ class Whole:
         return self._job.done()
 
     def result(self) -> Any:
-        """What comes of the stream, once all of it has been told."""
+        """Returns the result of the stream, after all its reports have been passed on."""
         self._relay.drain(self._tell, self._progress, self._crew.has_threads)
         if not self._job.done():  # no thread is left: this one does it
             self._stream.relayed(self._tell, self._progress)
         return self._job.result()
 
     def cancel(self) -> None:
-        """Has the thread stop as soon as it would tell something."""
+        """Makes the thread stop at its next report or count."""
         self._relay.is_given_up = True
         self._job.cancel()
 
     def abandon(self) -> None:
-        """Leaves nothing half done: the thread that judges the stream sees to that."""
+        """Does nothing: the thread that judges the stream leaves nothing half done."""

@@ -79,7 +79,7 @@ class Mistake(RequestError):
 
 
 class Told(Exception):
-    """The command line asks only for a text, as help or the version."""
+    """The command line asks only for a text, such as the help or the version."""
 
 
 @dataclass(frozen=True)
@@ -159,7 +159,7 @@ def whole_number(least: int, greatest: int) -> Callable[[str], int]:
 
 
 def one_of(*words: str) -> Callable[[str], str]:
-    """What reads one of these words."""
+    """Returns a function that reads one of these words."""
 
     def read(text: str) -> str:
         if text not in words:
@@ -503,7 +503,7 @@ def _usage(program: str, command: Optional[Command]) -> str:
 
 def _alike(word: str, others: Sequence[str]) -> Optional[str]:
     """Returns the word that the user may mean, if one is similar."""
-    from difflib import get_close_matches  # which mistakes alone need
+    from difflib import get_close_matches  # only mistakes need it
 
     return next(iter(get_close_matches(word, others, 1, ALIKE)), None)
 

@@ -1,5 +1,5 @@
-"""The transform of a stream, and the box in world coordinates that it makes of ranges of vertices.
-All numbers are exact decimals."""
+"""The transform of a stream, and the box of vertices in world coordinates. All numbers are exact
+decimals."""
 from __future__ import annotations
 
 import decimal
@@ -14,8 +14,8 @@ Extent = Optional[Tuple[Decimal, Decimal]]
 UNITS, GREATEST = (
     -18,
     Decimal(10) ** 18,
-)  # a box takes multiples of 10^-18 that are below 10^18 in size
-NESTED = 1_100  # arrays and objects that a header may have open at once, and some more
+)  # a box takes multiples of 10^-18, below 10^18 in size
+NESTED = 1_100  # more arrays and objects than a header may have open at once
 
 
 def read_json(text: str) -> Any:
@@ -32,14 +32,14 @@ def read_json(text: str) -> Any:
 
 
 def transform_of(header: bytes) -> Tuple[List[Decimal], List[Decimal]]:
-    """The scale and the translation of a valid header."""
+    """Returns the scale and the translation of a valid header."""
     transform = read_json(header.decode("utf-8"))["transform"]
     return transform["scale"], transform["translate"]
 
 
 def normal(number: Decimal) -> str:
-    """Returns a number as the program writes it: a whole number that does not end in 0, `e` and a
-    power of ten."""
+    """Returns a number as the program writes it: a whole number that does not end in 0, then `e`
+    and a power of ten."""
     sign, digits, power = number.as_tuple()
     text = "".join(map(str, digits)).lstrip("0")
     short = text.rstrip("0")
@@ -72,7 +72,7 @@ def extent_of(
 
 
 def plain(number: Decimal) -> str:
-    """A number without an exponent, as a box takes it."""
+    """Returns a number without an exponent, as a box takes it."""
     if number == 0:
         return "0"
     text = format(number, "f")
@@ -91,8 +91,8 @@ def _fits(number: Decimal) -> bool:
 def box_of(
     ranges: Tuple[Range, Range, Range], scale: List[Decimal], translate: List[Decimal]
 ) -> Optional[str]:
-    """Returns the box around all vertices, as `--bbox` takes it. None if there is no vertex, or no
-    box can be asked for."""
+    """Returns the box around all vertices, as `--bbox` takes it. None if there is no vertex, or if
+    a query cannot have the box."""
     if ranges[0] is None or ranges[1] is None:
         return None
     try:

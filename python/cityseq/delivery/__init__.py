@@ -1,5 +1,6 @@
-"""The page about a delivery: what is gathered of its streams, and how it is written.
+"""The page about a delivery: how facts about streams are gathered and written.
 
-`survey` judges the streams and gathers facts, `facts` holds them, `charts` draws, `page` writes the
-page, and `lists` writes all reports next to it. `extras` loads the packages that only a page needs.
+`survey` judges the streams and gathers facts. `facts` has their types, and `charts` draws them.
+`page` writes the page, and `lists` writes all reports next to it. `extras` loads the packages that
+only a page needs.
 """

@@ -1,5 +1,5 @@
-"""Where features lie on a map, in bounded memory: each extent while they are few, and counts by the
-cells of a grid, which is made coarser as it grows."""
+"""The places of features on a map, in bounded memory. Few features are kept by their extents. Many
+are counted by the cells of a grid, whose cells grow with it."""
 from __future__ import annotations
 
 import math
@@ -10,23 +10,23 @@ from .facts import Area, Point, Rectangle
 
 np: Any = needed("numpy")
 
-FEW = 1_500  # so many features are drawn each with its extent
-MOST_CELLS = 16_384  # so many cells are held
-GRID = 72  # so many columns and rows a map has at most
-TOGETHER = 65_536  # so many centres are sorted into cells at once
-MOST_SPOTS = 2_000  # so many invalid features are marked
-FINE = 40  # cells are no finer than the 2^-40th part of the greatest coordinate
-LEAST = -1_000  # and no finer than 2 to this
-FARTHEST = 1e150  # what lies farther from the origin has no place on a map
+FEW = 1_500  # the most features that are drawn by their extents
+MOST_CELLS = 16_384  # in memory
+GRID = 72  # the most columns and rows of a map
+TOGETHER = 65_536  # centres that are sorted into cells at once
+MOST_SPOTS = 2_000  # the most invalid features that are marked
+FINE = 40  # a cell is at least 2^-40 of the greatest coordinate
+LEAST = -1_000  # and at least 2 to this
+FARTHEST = 1e150  # a feature farther from the origin is on no map
 
 
 def _level(least: float) -> int:
-    """Returns the least power of two that is no less."""
+    """Returns the exponent of a power of two that is at least this number."""
     return max(LEAST, math.frexp(least)[1]) if least > 0 else LEAST
 
 
 class Grid:
-    """Counts of centres by cells whose size is a power of two."""
+    """Counts of centres by cells. The size of a cell is a power of two."""
 
     def __init__(self) -> None:
         self._level = LEAST
@@ -43,7 +43,7 @@ class Grid:
             self._sort()
 
     def _sort(self) -> None:
-        """Sorts into cells what has been waiting."""
+        """Sorts the waiting centres into cells."""
         if not self._waiting:
             return
         x, y = (np.concatenate(axis) for axis in zip(*self._waiting))
@@ -58,7 +58,7 @@ class Grid:
             self._coarsen(self._level + 1)
 
     def _merge(self, columns: Any, rows: Any, counts: Any) -> None:
-        """Adds counts of cells to those that are there."""
+        """Adds counts of cells to the existing ones."""
         columns = np.concatenate((self._columns, columns))
         rows = np.concatenate((self._rows, rows))
         counts = np.concatenate((self._counts, counts))
@@ -104,7 +104,7 @@ class Place:
         """Takes the extents of features, in world coordinates, as arrays."""
         with np.errstate(all="ignore"):
             x, y = xmin / 2 + xmax / 2, ymin / 2 + ymax / 2
-            near = (np.abs(x) < FARTHEST) & (np.abs(y) < FARTHEST)  # which no infinite number is
+            near = (np.abs(x) < FARTHEST) & (np.abs(y) < FARTHEST)  # no infinite number is
         if not near.all():
             xmin, xmax, ymin, ymax, x, y = (each[near] for each in (xmin, xmax, ymin, ymax, x, y))
         if not len(x):
@@ -136,8 +136,8 @@ class Place:
 
 
 def joined(boxes: List[Optional[str]]) -> Optional[str]:
-    """Returns the box round boxes, each as `--bbox` takes it; None if one of them cannot be asked
-    for, or there is none."""
+    """Returns the box around boxes, each as `--bbox` takes it. None if there is no box, or if a
+    query cannot have one of them."""
     from decimal import Decimal
 
     from ..world import plain

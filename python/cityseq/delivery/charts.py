@@ -17,13 +17,13 @@ MARGIN = 0.04  # of a map, around what lies in it
 LEAST = 1.6  # pixels of the smallest extent that is drawn
 ARM = 3.5  # pixels of each arm of a cross
 SHADES = 7
-MOST_BARS = 9  # so many have their numbers above them
+MOST_BARS = 9  # the most bars with numbers above them
 
 
 @dataclass(frozen=True)
 class View:
-    """The part of the world that a map shows: from this corner on, so wide, and so high as a share
-    of its width."""
+    """The part of the world that a map shows. It has the lower left corner, a width, and a height
+    as a share of the width."""
 
     x: float
     y: float
@@ -47,13 +47,13 @@ class View:
 
 @dataclass(frozen=True)
 class Map:
-    """A map of an area, and what is said of it.
+    """A map of an area, and what is said about it.
 
     Attributes:
         svg: The drawing.
         told: What it shows, in words.
-        shades: For each shade of a cell, the least and greatest number of features.
-        hidden: How many invalid features lie outside of it.
+        shades: The number of each shade of a cell, with its least and greatest number of features.
+        hidden: How many invalid features lie outside of the map.
     """
 
     svg: str
@@ -63,7 +63,7 @@ class Map:
 
 
 def rectangles_of(area: Area) -> List[Rectangle]:
-    """Returns the extents of an area, or its cells where features are too many."""
+    """Returns the extents of an area, or its cells if there are too many features."""
     if area.extents:
         return area.extents
     size = area.size
@@ -74,7 +74,7 @@ def rectangles_of(area: Area) -> List[Rectangle]:
 
 
 def view_of(area: Area) -> View:
-    """Returns the part of the world that shows all features of an area, and invalid ones around."""
+    """Returns the part of the world with all features of an area, and invalid ones near them."""
     found = rectangles_of(area) or [(x, y, x, y) for x, y in area.spots]
     xmin, ymin = min(each[0] for each in found), min(each[1] for each in found)
     xmax, ymax = max(each[2] for each in found), max(each[3] for each in found)
@@ -91,7 +91,7 @@ def view_of(area: Area) -> View:
 
 
 def map_of(area: Area, name: str) -> Map:
-    """Draws the features of an area: each extent, or their number by cells."""
+    """Draws the features of an area: the extent of each, or their number by cells."""
     view = view_of(area)
     made, axes = figure(view.ratio / view.pixel, LEFT, BOTTOM)
     axes.set_xlim(0, 1)
@@ -120,7 +120,7 @@ def _told(area: Area, view: View, marked: int) -> str:
 
 
 def _number(axis: Any, begin: float, width: float, share: float, count: int) -> None:
-    """Numbers an axis in world coordinates, at about so many places."""
+    """Numbers an axis in world coordinates, at about `count` places."""
     ticker = needed("matplotlib.ticker")
     found = ticker.MaxNLocator(count).tick_values(begin, begin + width * share)
     places = [(value, (value - begin) / width) for value in found]
@@ -129,7 +129,7 @@ def _number(axis: Any, begin: float, width: float, share: float, count: int) -> 
 
 
 def _box_of(extent: Rectangle, view: View, least: float) -> Rectangle:
-    """Returns an extent as shares of the width, at least so large on each side of its middle."""
+    """Returns an extent as shares of the width. Each half of a side has at least `least`."""
     (left, low), (right, high) = view.of(extent[:2]), view.of(extent[2:])
     x, y = (left + right) / 2, (low + high) / 2
     wide, tall = max((right - left) / 2, least), max((high - low) / 2, least)

@@ -20,7 +20,7 @@ from .making import How, checked, report
 
 
 def run(wanted: Asked, program: str) -> int:
-    """Does what is asked, and answers the status. The program is named as it was called."""
+    """Runs the command, and returns the status. `program` is the name that it was called with."""
     output = None if wanted.output == "-" else wanted.output
     if output is None and not wanted.json:
         raise RequestError("a report is written to a file: name it by --output")
@@ -49,7 +49,7 @@ def run(wanted: Asked, program: str) -> int:
 
 
 def _words(wanted: Asked, program: str) -> str:
-    """Returns the command line as it can be typed again."""
+    """Returns a command line that has the same effect."""
     words = [program, "report"]
     for option in COMMANDS["report"].options:
         value = getattr(wanted, option.field)
@@ -59,7 +59,7 @@ def _words(wanted: Asked, program: str) -> str:
 
 
 def _say(result: Result, wanted: Asked) -> None:
-    """Says what came of a file."""
+    """Writes the result of a file."""
     name = shown(result.file)
     if result.fault is not None:
         say(f"{shown(result.fault_file or result.file)}: {shown(result.fault)}")

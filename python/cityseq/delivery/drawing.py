@@ -1,5 +1,5 @@
-"""Makes a drawing of matplotlib part of a page: without styles, so that the page's own rules colour
-it, by light and by dark."""
+"""Makes a drawing of matplotlib part of a page. It has no styles of its own, so the page's rules
+colour it, in light and in dark."""
 from __future__ import annotations
 
 import io
@@ -11,13 +11,13 @@ from xml.sax.saxutils import escape
 from .extras import needed
 
 SVG = "{http://www.w3.org/2000/svg}"
-KEPT = ("g", "path", "text")  # the elements that a drawing has
+KEPT = ("g", "path", "text")  # the elements of a drawing
 PLAIN = ("d", "x", "y", "transform")  # attributes that are kept
 STYLES = ("stroke-width", "stroke-linecap", "stroke-linejoin", "text-anchor", "stroke-dasharray")
-WIDTH, RIGHT = 460, 22  # pixels of a drawing, and of the room at its right
+WIDTH, RIGHT = 460, 22  # pixels of a drawing, and of the space at its right
 SMALL = 12  # pixels of letters
 SETTINGS = {"svg.fonttype": "none", "axes.unicode_minus": False, "path.simplify": False}
-# Colours that stand for what they colour: the rules of the page know the name as a class.
+# Colours that name what they colour: the rules of the page have each name as a class.
 ROLES = {
     "ground": "#000101", "ink": "#010101", "rule": "#020202", "extent": "#030303",
     "spot": "#040404", "bar": "#050505",
@@ -27,7 +27,8 @@ _NAMES = {colour: name for name, colour in ROLES.items()}
 
 
 def figure(height: float, left: float, bottom: float, top: float = 8) -> Any:
-    """Returns a figure, whose axes have this height, and so much room around them, in pixels."""
+    """Returns a figure and its axes, which have this height and this space around them, in
+    pixels."""
     whole = height + bottom + top
     made = needed("matplotlib.figure").Figure(figsize=(WIDTH / 72, whole / 72), dpi=72)
     box = left / WIDTH, bottom / whole, (WIDTH - left - RIGHT) / WIDTH, height / whole
@@ -39,8 +40,8 @@ def figure(height: float, left: float, bottom: float, top: float = 8) -> Any:
 
 
 def drawn(made: Any, name: str, title: str, told: str) -> str:
-    """Returns a figure as an element of a page, with its title and what it shows in words. The name
-    is that of no other drawing of the page."""
+    """Returns a figure as an element of a page, with its title and what it shows in words. No other
+    drawing of the page has the same name."""
     canvas = needed("matplotlib.backends.backend_svg").FigureCanvasSVG(made)
     text = io.StringIO()
     with needed("matplotlib").rc_context(SETTINGS):
@@ -56,7 +57,7 @@ def drawn(made: Any, name: str, title: str, told: str) -> str:
 
 
 def _parts(element: Any) -> Iterator[str]:
-    """Yields an element and all in it as text."""
+    """Yields an element and its children as text."""
     name = element.tag.replace(SVG, "")
     if name not in KEPT:
         return
@@ -65,13 +66,13 @@ def _parts(element: Any) -> Iterator[str]:
             yield from _parts(child)
         return
     attributes = dict(_attributes(element))
-    if "class" in attributes:  # else it is ground that has no colour here
+    if "class" in attributes:  # else it is background, which has no colour here
         told = "".join(f' {key}="{value}"' for key, value in attributes.items())
         yield f"<{name}{told}>{escape(element.text or '')}</{name}>"
 
 
 def _attributes(element: Any) -> Iterator[Tuple[str, str]]:
-    """Yields the attributes that an element keeps; what it is styled by becomes a class."""
+    """Yields the attributes that an element keeps. Its colours become a class."""
     style = _style_of(element.get("style", ""))
     classes: List[str] = [
         f"{way}-{_NAMES[style[way]]}" for way in ("fill", "stroke") if style.get(way) in _NAMES
@@ -97,6 +98,6 @@ def _style_of(text: str) -> Dict[str, str]:
 
 
 def _short(text: str) -> str:
-    """Returns a text whose numbers have one digit behind the point."""
+    """Returns a text whose numbers have at most one digit after the point."""
     whole = re.sub(r"-?\d+\.\d+", lambda found: f"{round(float(found.group()), 1):g}", text)
     return re.sub(r" ?([MLz]) ?", r"\1", " ".join(whole.split()))

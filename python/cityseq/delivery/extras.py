@@ -1,4 +1,4 @@
-"""Packages that only the page needs. A run without a page does without them."""
+"""Packages that only the page needs. A run without a page does not load them."""
 from __future__ import annotations
 
 import importlib
@@ -13,14 +13,14 @@ PACKAGES = {
 
 
 class PackageMissing(CityseqError, ImportError):
-    """A package is not there that a page needs."""
+    """A package that a page needs is missing."""
 
 
 def needed(name: str) -> Any:
     """Returns a module of a package that a page needs.
 
     Raises:
-        PackageMissing: The package is not there, or cannot be loaded.
+        PackageMissing: The package is missing, or cannot be loaded.
     """
     package = name.partition(".")[0]
     if package == "matplotlib":
@@ -41,7 +41,7 @@ def need_all() -> None:
     """Loads all of them, before anything is read.
 
     Raises:
-        PackageMissing: One of them is not there.
+        PackageMissing: One of them is missing.
     """
     for name in PACKAGES:
         needed(name)

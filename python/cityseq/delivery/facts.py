@@ -1,4 +1,4 @@
-"""What a page says of a delivery: facts alone, of which nothing is laid out yet."""
+"""The facts about a delivery, without any layout."""
 from __future__ import annotations
 
 from collections import Counter
@@ -23,13 +23,14 @@ Point = Tuple[float, float]
 
 @dataclass
 class Contents:
-    """What is in valid features.
+    """The contents of valid features.
 
     Attributes:
         features: How many there are.
-        types: By each type, in the order of the table, how many features have a city object of it.
-        lods: By each class of LoD, how many features have a geometry of it.
-        lengths: By a power of two, how many lines have so many bytes, and less than twice as many.
+        types: How many features have a city object of each type.
+        lods: How many features have a geometry of each class of LoD.
+        lengths: How many lines have each length. The key n is for lengths from 2^n to less than
+            2^(n+1) bytes.
     """
 
     features: int = 0
@@ -38,7 +39,7 @@ class Contents:
     lengths: Dict[int, int] = field(default_factory=dict)
 
     def add(self, other: "Contents") -> None:
-        """Adds what is in other features."""
+        """Adds the contents of other features."""
         self.features += other.features
         _add(self.types, other.types)
         _add(self.lods, other.lods)
@@ -46,7 +47,7 @@ class Contents:
 
 
 def _add(counts: Dict[Key, int], others: Dict[Key, int]) -> None:
-    """Adds counts to others, and keeps all in the order of their names."""
+    """Adds counts to others, and sorts all by their names."""
     both = {name: counts.get(name, 0) + count for name, count in others.items()}
     ordered = sorted({**counts, **both}.items())
     counts.clear()
@@ -55,18 +56,18 @@ def _add(counts: Dict[Key, int], others: Dict[Key, int]) -> None:
 
 @dataclass
 class File:
-    """A file of a delivery, and what came of it.
+    """A file of a delivery, and its result.
 
     Attributes:
         invalid: How many lines are invalid.
-        end: The report that ended the run, if one did: that of an invalid header.
-        scale: The header's scale, and so `translate`. Both are empty if the header is invalid.
-        reference_system: What the header's metadata names as such.
+        end: The report that ended the run, if one did. It is that of an invalid header.
+        scale: The scale of the header. Like `translate`, it is empty if the header is invalid.
+        reference_system: The reference system that the header's metadata name.
         ranges: The least and greatest vertex on each axis.
-        box: The box round all vertices, as `--bbox` takes it. None if none can be asked for.
+        box: The box around all vertices, as `--bbox` takes it. None if a query cannot have it.
         extent: The least and greatest world coordinate on each axis, exactly.
         longest: The bytes of the longest of its header and valid features.
-        peaks: The most bytes, tokens, and open arrays and objects that were held.
+        peaks: The most bytes, tokens, and open arrays and objects that were in memory.
     """
 
     name: str
@@ -110,14 +111,14 @@ class Reason:
 
 
 class Reasons:
-    """Counts reports by their reasons, and keeps the first ones of each."""
+    """Counts reports by their reasons, and keeps the first ones for each."""
 
     def __init__(self) -> None:
         self._found: Dict[int, Reason] = {}
         self._last: Dict[int, str] = {}
 
     def add(self, report: Report) -> None:
-        """Counts a report. Those of a file come together."""
+        """Counts a report. All reports of one file come together."""
         reason = self._found.setdefault(report.code, Reason(report.code))
         reason.lines += 1
         if self._last.get(report.code) != report.file:
@@ -127,13 +128,13 @@ class Reasons:
             reason.examples.append(report)
 
     def listed(self) -> List[Reason]:
-        """The reasons, that of the most lines first."""
+        """Returns the reasons, the most frequent first."""
         return sorted(self._found.values(), key=lambda reason: (-reason.lines, reason.code))
 
 
 @dataclass(frozen=True)
 class RepeatedId:
-    """An id that several features have. `places` are file and line of the first ones, and `count`
+    """An id that several features have. `places` has the file and line of the first ones. `count`
     is how many features have it."""
 
     id: str
@@ -158,17 +159,18 @@ class Repeated:
 
 @dataclass
 class Area:
-    """What lies in one coordinate system.
+    """The features in one coordinate system.
 
     Attributes:
         reference_system: Its name, as headers have it.
         files: How many files name it.
         features: How many features have a place in it.
-        box: The box round all their vertices, as `--bbox` takes it, if one can be asked for.
-        size: How wide and high a cell is, in world coordinates.
-        cells: By column and row of a cell, how many features have their centre in it.
-        extents: The extent of each feature, where they are few.
-        spots: Where invalid features are, as far as their vertices can be read.
+        box: The box around all their vertices, as `--bbox` takes it. None if a query cannot have
+            it.
+        size: The width and height of a cell, in world coordinates.
+        cells: How many features have their centre in each cell, by column and row.
+        extents: The extent of each feature, if they are few.
+        spots: The places of invalid features, if their vertices can be read.
     """
 
     reference_system: Optional[str]
@@ -183,7 +185,7 @@ class Area:
 
 @dataclass
 class Run:
-    """How facts were made.
+    """How the facts were gathered.
 
     Attributes:
         program: The version of cityseq.
@@ -224,7 +226,7 @@ class Delivery:
 
     @property
     def status(self) -> int:
-        """The greatest status of all files, as `check` has it."""
+        """The greatest status of all files, as the status of `check`."""
         return max((file.status for file in self.files), default=0)
 
     @property
@@ -244,7 +246,7 @@ class Delivery:
 
     @property
     def contents(self) -> Contents:
-        """What is in the features of all files."""
+        """The contents of the features of all files."""
         whole = Contents()
         for file in self.files:
             whole.add(file.contents)

@@ -13,10 +13,10 @@ from ..reports import Report
 from ..shown import shown
 
 COLUMNS = ("file", "line", "byte", "code", "reason", "feature", "hint", "excerpt", "fix")
-FORMULAS = ("=", "+", "-", "@", "\t", "\r")  # what a cell begins with that a spreadsheet computes
-LONGEST = 1_000  # signs of an id in a cell; the JSON lines have all of it
-TOGETHER = 1 << 16  # so many signs are written at once
-MARK = "\ufeff"  # by which spreadsheets know UTF-8
+FORMULAS = ("=", "+", "-", "@", "\t", "\r")  # a spreadsheet may compute such a cell
+LONGEST = 1_000  # characters of an id in a cell; JSON has all
+TOGETHER = 1 << 16  # characters of one write
+MARK = "\ufeff"  # marks UTF-8 for spreadsheets
 
 
 def names_of_lists(page: str) -> Tuple[str, str]:
@@ -27,7 +27,7 @@ def names_of_lists(page: str) -> Tuple[str, str]:
 
 
 def cell(text: str) -> str:
-    """Returns a text as a cell that no spreadsheet takes for a formula, on one line."""
+    """Returns a text as a cell, on one line. No spreadsheet takes it for a formula."""
     told = shown(text if len(text) <= LONGEST else f"{text[:LONGEST]}\u2026")
     return f"'{told}" if text.startswith(FORMULAS) or told.startswith(FORMULAS) else told
 
@@ -42,7 +42,7 @@ def row_of(report: Report) -> List[Any]:
 
 
 class Lists:
-    """Writes both files. Each gets its name when it is whole."""
+    """Writes both files. Each is renamed when it is whole."""
 
     def __init__(self, page: str) -> None:
         """Opens both.
@@ -53,7 +53,7 @@ class Lists:
         self.names = names_of_lists(page)
         self._csv, self._json = (Writer(name) for name in self.names)
         try:
-            self._csv.write(b"")  # so that a folder that takes nothing is told at once
+            self._csv.write(b"")  # so that a folder that cannot be written to is reported at once
             self._json.write(b"")
         except BaseException:
             self.discard()
@@ -91,6 +91,6 @@ class Lists:
         self._json.close(True)
 
     def discard(self) -> None:
-        """Removes what is not whole."""
+        """Removes files that are not whole."""
         self._csv.discard()
         self._json.discard()

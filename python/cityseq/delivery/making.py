@@ -24,11 +24,11 @@ from .facts import Delivery, Run
 if TYPE_CHECKING:
     from .lists import Lists
 
-HASHES = 2  # so many files are hashed at once
+HASHES = 2  # files that are hashed at once
 
 
 def _nothing(result: Result) -> None:
-    """Takes what came of a file, and does nothing."""
+    """Takes the result of a file, and does nothing."""
 
 
 @dataclass
@@ -39,9 +39,9 @@ class How:
         jobs: How many threads judge. None is one for each processor.
         size: How many bytes a part has. None is 512 KiB.
         title: The heading of the page.
-        words: What the page says of how it was made.
+        words: What the page says about how it was made.
         progress: Is called with a file, and how many bytes of it were done since the call before.
-        take: Is called with what came of each file.
+        take: Is called with the result of each file.
     """
 
     jobs: Optional[int] = None
@@ -53,8 +53,7 @@ class How:
 
 
 def of_bytes(progress: Callable[[int], None]) -> Callable[[str, int], None]:
-    """Returns what is called with a file and how many bytes of it were done, and tells the bytes
-    alone."""
+    """Returns a function of a file and a number of bytes, which passes on only the bytes."""
     return lambda _, size: progress(size)
 
 
@@ -62,7 +61,7 @@ def checked(paths: Any, output: Any) -> Tuple[List[str], Optional[str]]:
     """Returns the paths of the files and of the page.
 
     Raises:
-        RequestError: None is given, one is no path, or the page is one of them.
+        RequestError: No path is given. One is not a path, or is that of a device or a pipe.
     """
     listed = [paths] if isinstance(paths, (str, bytes, os.PathLike)) else list(paths)
     for path in listed:
@@ -79,7 +78,7 @@ def checked(paths: Any, output: Any) -> Tuple[List[str], Optional[str]]:
 
 
 class Hashes:
-    """Hashes files while others are judged. It is closed by leaving a `with` block."""
+    """Hashes files while others are judged. Leaving a `with` block stops it."""
 
     def __init__(self, names: Sequence[str]) -> None:
         self._crew, self._is_stopped = Crew(HASHES), False
@@ -95,7 +94,7 @@ class Hashes:
         self._crew.__exit__()
 
     def of(self, number: int) -> Optional[str]:
-        """Returns the SHA-256 of a file; None if it cannot be read."""
+        """Returns the SHA-256 of a file. None if it cannot be read."""
         return self._jobs[number].result()
 
 
@@ -109,7 +108,7 @@ class _Output:
         self.page = Writer(output)
         self.lists = Lists(output)
         try:
-            self.page.write(b"")  # so that a folder that takes nothing is told at once
+            self.page.write(b"")  # so that a folder that cannot be written to is reported at once
         except BaseException:
             self.discard()
             raise
@@ -127,7 +126,7 @@ class _Output:
         self.page.close(True)
 
     def discard(self) -> None:
-        """Removes what is not whole."""
+        """Removes files that are not whole."""
         self.lists.discard()
         self.page.discard()
 
@@ -154,7 +153,7 @@ def report(paths: Any, output: Any, work: Work, how: How) -> Delivery:
 def _survey(
     delivery: Delivery, names: Sequence[str], work: Work, how: How, lists: "Optional[Lists]"
 ) -> None:
-    """Judges the files, and fills in the facts of a delivery."""
+    """Judges the files, and fills the facts of a delivery."""
     from .survey import Survey, Surveyed
 
     clock = time.monotonic()

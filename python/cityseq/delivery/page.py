@@ -15,18 +15,18 @@ from .extras import needed
 from .facts import Delivery, File
 
 MOST_BYTES = 1_900_000  # of the page, with as many rows of reports as fit
-MOST_SIGNS = 200  # of a text of a stream
-STATIC_ROWS = 25  # rows of reports that are there without the script
+MOST_SIGNS = 200  # characters of a text of a stream
+STATIC_ROWS = 25  # rows of reports without the script
 MOST_MAPS = 3
-MOST_DETAILED = 300  # files with details; all others have their row
+MOST_DETAILED = 300  # files with details. All others have only a row
 MOST_FILES = 2_000  # rows of files
-NEAR = 24  # signs of an excerpt on each side of the place, in the table
-END = "\u00b6"  # stands for the end of a line where the place is there
+NEAR = 24  # characters of an excerpt on each side, in the table
+END = "\u00b6"  # represents the end of a line
 WORDS = {"valid": "valid", "invalid": "invalid", "fault": "not judged"}
 
 
 def cut(text: Optional[str]) -> str:
-    """Returns a text of a stream with its controls escaped, and without the rest if it is long."""
+    """Returns a text of a stream with its controls escaped, cut if it is long."""
     told = text or ""
     if len(told) <= MOST_SIGNS:
         return shown(told)
@@ -46,7 +46,7 @@ def size(count: Optional[int]) -> str:
 
 
 def share(part: int, whole: int) -> str:
-    """Returns a part of a whole in percent."""
+    """Returns a part of a whole as a percentage."""
     percent = 100 * part / whole if whole else 0.0
     return f"{percent:.2g} %" if 0 < percent < 10 else f"{percent:.0f} %"
 
@@ -57,8 +57,8 @@ def counted(count: int, one: str, many: str = "") -> str:
 
 
 def split_at(excerpt: str, column: int) -> Tuple[str, str, str]:
-    """Returns an excerpt before the place, the sign at it, and the rest. The column is that of a
-    terminal, where some signs are two columns wide."""
+    """Returns an excerpt before the place, the character at it, and the rest. The column counts the
+    columns of a terminal, where some characters are two columns wide."""
     from unicodedata import east_asian_width
 
     for number, sign in enumerate(excerpt):
@@ -69,7 +69,7 @@ def split_at(excerpt: str, column: int) -> Tuple[str, str, str]:
 
 
 def near(report: Report) -> Tuple[str, str, str]:
-    """Returns what stands near the place of a report, as a row of the table has it."""
+    """Returns the text near the place of a report, for a row of the table."""
     before, sign, after = split_at(shown(report.excerpt), report.column)
     return before[-NEAR:], sign, after[:NEAR]
 
@@ -96,15 +96,15 @@ def verdict_of(delivery: Delivery) -> str:
 
 
 def row_of(report: Report, numbers: Dict[str, int]) -> List[Any]:
-    """Returns a report as the page's script takes it."""
+    """Returns a report as a row for the page's script."""
     name = "" if report.id is None else cut(report.id)
     return [numbers[report.file], report.line, report.byte, report.code, name,
             *near(report)]
 
 
 def data_of(reports: Sequence[Report], files: Sequence[File], room: int) -> Tuple[str, int]:
-    """Returns the table of reports as JSON that stands in a page, and how many are in it: as many
-    as so many bytes have room for."""
+    """Returns the table of reports as JSON for a page, and how many reports are in it. They are as
+    many as fit into `room` bytes."""
     numbers, names, rows = {}, [], []  # type: Tuple[Dict[str, int], List[str], List[str]]
     for report in reports:
         if report.file not in numbers:
@@ -136,7 +136,7 @@ def _read(name: str) -> str:
 
 
 def _sum(text: str) -> str:
-    """Returns the sum by which the page allows its own script, or its own style."""
+    """Returns the digest that allows the page's own script or style to be used."""
     digest = hashlib.sha256(text.encode("utf-8")).digest()
     return f"'sha256-{base64.b64encode(digest).decode()}'"
 
@@ -147,7 +147,7 @@ def _bars(counts: Dict[Any, int], whole: int) -> List[Tuple[Any, int, float]]:
 
 
 def _code(text: str) -> Any:
-    """Returns a text of ours, in which what stands between backticks is code."""
+    """Returns a text of this package with code between backticks marked as code."""
     markup = needed("markupsafe")
     parts = map(markup.escape, text.split("`"))
     code = markup.Markup("<code>{}</code>").format

@@ -1,8 +1,8 @@
 """Finds the ids that several features of a delivery have, in bounded memory.
 
 Each id goes to a temporary file, and a record with its digest to another one. At the end the
-records are sorted by their digests, as many at once as memory allows. Digests have 128 bits: no two
-ids are known that have the same."""
+records are sorted by their digests, as many at once as memory allows. Digests have 128 bits. No two
+ids with the same digest are known."""
 from __future__ import annotations
 
 import tempfile
@@ -18,10 +18,11 @@ np: Any = needed("numpy")
 RECORD = np.dtype([("high", "u8"), ("low", "u8"), ("line", "u8"), ("at", "u8"), ("file", "u4"),
                    ("length", "u4")])
 DIGEST = 16  # bytes
-AT_ONCE = 1 << 19  # records that are sorted or read at once
+AT_ONCE = 1 << 19  # records of one sort or read
 LONGEST = 256  # bytes of an id that are kept
-MOST_IDS = 100  # so many ids are listed,
-MOST_PLACES = 10  # and so many places of each
+MOST_IDS = 100  # ids that are listed
+MOST_PLACES = 10  # places of each id
+
 Places = List[Tuple[int, int]]  # number of the file, and line
 Group = Tuple[int, Any]  # how many features have the id, and the records of the first ones
 
@@ -31,7 +32,7 @@ def _digest(id: bytes) -> bytes:
 
 
 class Ids:
-    """The ids of a delivery. It is closed by leaving a `with` block."""
+    """The ids of a delivery. Leaving a `with` block closes it."""
 
     def __init__(self) -> None:
         try:
@@ -52,7 +53,7 @@ class Ids:
         """Takes the ids of features of a file, and an array of their lines.
 
         Raises:
-            WriteFault: The temporary folder takes no more.
+            WriteFault: The temporary folder is full.
         """
         digests = np.frombuffer(b"".join(map(_digest, ids)), "u8").reshape(-1, 2)
         texts = [id[:LONGEST] for id in ids]
@@ -71,10 +72,10 @@ class Ids:
         self._at = int(ends[-1]) if len(ids) else self._at
 
     def repeated(self, names: List[str]) -> Repeated:
-        """Returns the ids that appear twice or more. The names are those of the files, by number.
+        """Returns the ids that appear twice or more. `names` has the names of the files by number.
 
         Raises:
-            WriteFault: The temporary folder takes no more.
+            WriteFault: The temporary folder is full.
         """
         try:
             self._records.flush()
@@ -88,8 +89,8 @@ class Ids:
         return Repeated(ids, features, told)
 
     def _groups(self) -> Iterator[Tuple[int, int, List[Group]]]:
-        """Yields for each share of the digests how many appear twice, in how many features, and
-        the first ones."""
+        """Yields for each share of the digests: how many ids appear twice or more, how many
+        features have them, and the first ones."""
         shares = 1 + self._count // AT_ONCE
         for share in range(shares):
             records = np.concatenate(list(self._share(share, shares)) or [np.empty(0, RECORD)])
@@ -108,7 +109,7 @@ class Ids:
             yield len(twice), int(counts[twice].sum()), first
 
     def _share(self, share: int, shares: int) -> Iterator[Any]:
-        """Yields the records whose digest is in a share of all, in the order of files and lines."""
+        """Yields the records of one share of the digests, in the order of files and lines."""
         self._records.seek(0)
         while True:
             piece = self._records.read(AT_ONCE * RECORD.itemsize)

@@ -1,4 +1,4 @@
-"""Gathers the facts of a delivery: threads judge parts and read their records, and one adds them
+"""Gathers the facts of a delivery: threads judge parts and read records, and one thread adds them
 up."""
 from __future__ import annotations
 
@@ -38,9 +38,9 @@ RECORD = np.dtype(
     + [pair for axis in AXES
        for pair in ((axis, "u8"), (f"{axis}min", "i8"), (f"{axis}max", "i8"))]
 )
-TOGETHER = 8_192  # so many records are taken at once: a part may have but a few
-MOST_REPORTS = 10_000  # so many are kept for the table in the page
-NEAR_THE_END = 16 << 20  # bytes of an invalid line that are looked through for vertices
+TOGETHER = 8_192  # records that are taken at once: a part may have only a few
+MOST_REPORTS = 10_000  # reports that are kept for the table in the page
+NEAR_THE_END = 16 << 20  # bytes at the end of an invalid line that are searched for vertices
 Ranges = Tuple[Range, Range, Range]
 
 
@@ -49,15 +49,15 @@ Ranges = Tuple[Range, Range, Range]
 
 @dataclass
 class Marked(Found):
-    """What came of a part, with the middle of the vertices of each invalid feature, as far as it
-    can be read."""
+    """The answer for a part, with the middle of the vertices of each invalid feature. A feature
+    that cannot be read has none."""
 
     middles: List[Point] = field(default_factory=list)
 
 
 def middle_of(line: bytes) -> Optional[Point]:
-    """Returns the middle of the vertices of a feature, as they stand in its line: the median of x
-    and of y, which no single wrong vertex moves far. None if they cannot be read."""
+    """Returns the middle of the vertices of a feature, as the numbers in its line. It is the median
+    of x and of y, because one wrong vertex hardly moves these. None if they cannot be read."""
     begin = line.rfind(b'"vertices"', -NEAR_THE_END)
     begin = line.find(b"[", begin) if begin >= 0 else -1
     if begin < 0:
@@ -72,7 +72,7 @@ def middle_of(line: bytes) -> Optional[Point]:
 
 def middles_of(reports: Sequence[Report], part: Any) -> Iterator[Point]:
     """Yields the middle of each invalid feature of a part that has one. The lines of reports count
-    from 2, and rise."""
+    from 2, in ascending order."""
     text, begin, number = bytes(part), 0, 2
     for report in reports:
         if report.line < 2:
@@ -86,8 +86,8 @@ def middles_of(reports: Sequence[Report], part: Any) -> Iterator[Point]:
 
 
 def marked(find: Callable[[Read], Answer], is_marked: Callable[[], bool], read: Read) -> Answer:
-    """Returns what came of a part, with the middles of its invalid features, unless the map has
-    enough of them by now."""
+    """Returns the answer for a part, with the middles of its invalid features. The middles are left
+    out if the map has enough of them."""
     parts: List[Text] = []
 
     def kept() -> Any:
@@ -99,7 +99,7 @@ def marked(find: Callable[[Read], Answer], is_marked: Callable[[], bool], read: 
     if not isinstance(answer, Found) or answer.refused == 0 or is_marked():
         return answer
     try:
-        answer.reports = list(answer.reports)  # which may be made as they are asked for
+        answer.reports = list(answer.reports)  # they may be made only when they are read
         middles = list(middles_of(answer.reports, parts[0]))
     except MemoryError:
         return Answer(RawAnswer(status=NO_MEMORY))
@@ -115,7 +115,7 @@ def _zeros() -> Any:
 
 @dataclass
 class Entry:
-    """A file as far as it has been read, whose header is valid."""
+    """A file as far as it has been read. Its header is valid."""
 
     number: int
     place: Place
@@ -132,7 +132,7 @@ class Entry:
     waits: int = 0
 
     def world(self, axis: int, vertices: Any) -> Any:
-        """Returns the world coordinates of vertices on an axis, nearly."""
+        """Returns the world coordinates of vertices on an axis, as floats."""
         with np.errstate(all="ignore"):
             return vertices * float(self.scale[axis]) + float(self.translate[axis])
 
@@ -155,7 +155,7 @@ class Entry:
         self.place.add(*across, *along)
 
     def contents(self) -> Contents:
-        """Returns what is in the features."""
+        """Returns the contents of the features."""
         types, lods = library().type_names(), LOD_CLASSES
         return Contents(
             self.features,
@@ -172,7 +172,7 @@ def _bits(sets: Any) -> Any:
 
 
 def _wider(before: Range, records: Any, axis: str) -> Range:
-    """Returns a range and those of records together."""
+    """Returns the least range that has a range and those of records in it."""
     least, greatest = int(records[f"{axis}min"].min()), int(records[f"{axis}max"].max())
     return (least, greatest) if before is None else (
         min(least, before[0]), max(greatest, before[1]))
@@ -182,7 +182,7 @@ def _wider(before: Range, records: Any, axis: str) -> Range:
 
 
 class Survey:
-    """Takes what comes of all files, in order. It is closed by leaving a `with` block."""
+    """Takes the results of all files, in order. Leaving a `with` block closes it."""
 
     def __init__(self, names: Sequence[str], lists: Optional[Lists]) -> None:
         self.files = [File(name) for name in names]
@@ -200,7 +200,7 @@ class Survey:
         self._stack.close()
 
     def begin(self, number: int, header: bytes) -> Entry:
-        """Begins a file, by its number from 0. Its header is valid."""
+        """Begins a file, by its number from 0. The header is valid."""
         told = read_json(header.decode("utf-8"))
         system, _ = system_of(told.get("metadata"))
         place = self._places.setdefault(system, Place(system))
@@ -211,10 +211,10 @@ class Survey:
         return entry
 
     def add(self, entry: Entry, records: Records, lines: int) -> None:
-        """Takes the records of the next part of a file, before which so many lines came.
+        """Takes the records of the next part of a file. `lines` lines came before the part.
 
         Raises:
-            WriteFault: The temporary folder takes no more.
+            WriteFault: The temporary folder is full.
         """
         if records.ids:
             entry.waiting.append((records, lines))
@@ -223,7 +223,7 @@ class Survey:
             self._take(entry)
 
     def _take(self, entry: Entry) -> None:
-        """Takes the records of a file that have been waiting."""
+        """Takes the waiting records of a file."""
         waiting, entry.waiting, entry.waits = entry.waiting, [], 0
         if not waiting:
             return
@@ -248,7 +248,7 @@ class Survey:
         """Takes a report.
 
         Raises:
-            WriteFault: The lists next to the page take no more.
+            WriteFault: The lists next to the page cannot be written.
         """
         self.reasons.add(report)
         if len(self.reports) < MOST_REPORTS:
@@ -257,7 +257,7 @@ class Survey:
             self._lists.add(report)
 
     def end(self, number: int, result: Result, entry: Optional[Entry]) -> None:
-        """Takes what came of a file."""
+        """Takes the result of a file."""
         file = self.files[number]
         file.status, file.fault = result.status, result.fault
         file.lines, file.hints, file.end = result.lines, result.hints, result.end
@@ -270,7 +270,7 @@ class Survey:
         file.reference_system, file.ranges = entry.reference_system, entry.ranges
         file.contents, file.longest = entry.contents(), entry.longest
         file.box = box_of(entry.ranges, entry.scale, entry.translate)
-        with suppress(DecimalException):  # of more digits than anyone writes
+        with suppress(DecimalException):  # it may have more than 200 digits
             file.extent = extent_of(entry.ranges, entry.scale, entry.translate)
         if entry.ranges[0] is not None:
             entry.place.boxes.append(file.box)
@@ -280,7 +280,7 @@ class Survey:
         return self._ids.repeated([file.name for file in self.files])
 
     def areas(self) -> List[Area]:
-        """Returns what lies in each coordinate system, that of the most features first."""
+        """Returns the area of each coordinate system, that with the most features first."""
         found = [place.area() for place in self._places.values()]
         return sorted(found, key=lambda area: -area.features)
 
@@ -289,7 +289,7 @@ class Surveyed(Recorded):
     """A file whose records go to a survey."""
 
     def __init__(self, number: int, path: str, work: Work, survey: Survey, how: "How") -> None:
-        """Takes the number of the file, from 0, and what the parts' size and progress are."""
+        """Takes the number of the file, from 0, and the options of the run."""
         progress = None if how.progress is None else partial(how.progress, path)
         super().__init__(path, work, how.size, None, survey.report, progress)
         self._number, self._survey = number, survey
@@ -305,7 +305,7 @@ class Surveyed(Recorded):
         return judged
 
     def take(self, found: Found, lines: int) -> None:
-        """Hands on what was found in the next part, before which so many lines came.
+        """Passes on the records of the next part. `lines` lines came before the part.
 
         Raises:
             WriteFault: It cannot be written.
@@ -316,13 +316,13 @@ class Surveyed(Recorded):
                 self._survey.mark(self.entry(), found.middles)
 
     def entry(self) -> Entry:
-        """What the survey has of the file. Its header is valid."""
+        """Returns the entry of the file in the survey. The header is valid."""
         if self._entry is None:
             self._entry = self._survey.begin(self._number, self._header)
         return self._entry
 
     def finish(self) -> Result:
-        """What came of the file."""
+        """Returns the result of the file."""
         result = super().finish()
         whole = result.fault is None and result.end is None
         self._survey.end(self._number, result, self.entry() if whole else self._entry)

@@ -1,4 +1,4 @@
-"""A delivery as one object of JSON, which docs/report.schema.json describes."""
+"""A delivery as one JSON object, which docs/report.schema.json describes."""
 from __future__ import annotations
 
 from decimal import Decimal
@@ -7,12 +7,12 @@ from typing import Any, Dict, List, Optional
 from ..objects import exact, report_object
 from .facts import Area, Contents, Delivery, File, Reason, Repeated
 
-VERSION = 1  # it changes if a member goes, or gets another name or meaning
+VERSION = 1  # it changes if a member is removed, renamed or changes its meaning
 Object = Dict[str, Any]
 
 
 def delivery_object(delivery: Delivery) -> Object:
-    """Returns all facts of a delivery, but for the reports beyond the examples."""
+    """Returns all facts of a delivery, with only the examples of its reports."""
     run = delivery.run
     return {
         "kind": "delivery",

@@ -1,8 +1,8 @@
-"""A server of streams: OGC API - Features over indexes, and the check of streams that are sent.
+"""A server of streams: OGC API - Features over indexes, and the check of streams in requests.
 
     cityseq-run serve region.gpkg
 
-`app` makes the same as an application of aiohttp, for a server that is there already:
+`app` makes the same as an application of aiohttp, for an existing server:
 
     from aiohttp import web
     import cityseq.serve
@@ -24,7 +24,7 @@ NEEDS = (("aiohttp", "aiohttp"), ("jinja2", "Jinja2"))
 
 
 def _require() -> None:
-    """Raises `RequestError` if what the server stands on is not there."""
+    """Raises `RequestError` if a package that the server needs is missing."""
     for module, name in NEEDS:
         try:
             __import__(module)
@@ -48,16 +48,16 @@ def app(
     Args:
         *indexes: The paths of the indexes. Without any, the application checks and filters bodies.
         base: The URL that the streams are below. None if they are files.
-        url: The URL that clients know the application by. Links begin with it. None if that is the
-            host that they ask for, which then has to be an address or `localhost`.
+        url: The URL that clients know the application by. Links begin with it. None if it is the
+            host that they ask for. That host must then be an address or `localhost`.
         cors: The origin whose pages may read the answers, or `*`. None for none.
         jobs: How many threads judge and cut. None is one for each processor.
         limits: What it does at most, as `cityseq.serve.settings.Limits`. The server around it
-            bounds connections, and the time for the head of a request.
+            limits connections, and the time for the head of a request.
 
     Raises:
         ReadFault: An index cannot be read.
-        RequestError: An argument has a value that it may not have, or aiohttp is not there.
+        RequestError: An argument has a value that it may not have, or aiohttp is missing.
     """
     import os
 

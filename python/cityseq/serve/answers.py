@@ -1,4 +1,4 @@
-"""Answers with features: whole where they are short, else streamed as the client reads."""
+"""Answers with features. A short one is sent whole, others are streamed as the client reads."""
 from __future__ import annotations
 
 import json
@@ -14,22 +14,22 @@ from .patience import Patience
 from .resources import path_of
 from .systems import Extent, System
 
-WHOLE = 1 << 20  # bytes: an answer that is shorter has its length in its head
+WHOLE = 1 << 20  # bytes: a shorter answer has its length in its head
 PIECE = 1 << 16  # bytes that are written at once
-LONGEST = 4_000  # signs of an id in a URL
+LONGEST = 4_000  # characters of an id in a URL
 Encoded = Callable[[Block], bytes]
 
 
 def dumped(told: Any) -> bytes:
-    """Returns JSON in ASCII, so that half a character in an id is an escape."""
+    """Returns JSON in ASCII, so that a lone surrogate in an id is an escape."""
     return json.dumps(told, separators=(",", ":")).encode("ascii")
 
 
 class Sequence:
-    """A page as CityJSONSeq: the header, and lines as they are."""
+    """A page as CityJSONSeq: the header, and the lines unchanged."""
 
     def begin(self, page: Page) -> bytes:
-        """Returns what comes before the features."""
+        """Returns the text before the features."""
         return page.header
 
     def block(self, block: Block) -> bytes:
@@ -37,7 +37,7 @@ class Sequence:
         return block.lines()
 
     def end(self, page: Page) -> bytes:
-        """Returns what comes behind the features."""
+        """Returns the text after the features."""
         return b""
 
 
@@ -47,7 +47,7 @@ def _ring(extent: Extent) -> List[List[List[float]]]:
 
 
 def geojson_feature(found: Found, system: System, asked: Optional[str]) -> Dict[str, Any]:
-    """Returns a feature as GeoJSON: its extent, and what the index knows of it."""
+    """Returns a feature as GeoJSON: its extent, and the counts and names of its contents."""
     extent = None if found.extent is None else system.told(found.extent, asked)
     low, high = found.heights or (None, None)
     return {
@@ -72,14 +72,14 @@ class FeatureCollection:
 
     def __init__(self, system: System, asked: Optional[str], links: List[Link],
                  following: Callable[[int], Link], matched: Optional[int]) -> None:
-        """Takes the systems, the one that is asked for, the links, what makes the link to the
-        next page, and how many features match, if that is known."""
+        """Takes the systems of the collection, and that of the answer. `following` makes the link
+        to the next page. `matched` is how many features match, if that is known."""
         self._system, self._asked, self._links = system, asked, links
         self._following, self._matched = following, matched
         self._count = 0
 
     def begin(self, page: Page) -> bytes:
-        """Returns what comes before the features."""
+        """Returns the text before the features."""
         return b'{"type":"FeatureCollection","features":['
 
     def block(self, block: Block) -> bytes:
@@ -91,7 +91,7 @@ class FeatureCollection:
         return comma + b",\n".join(texts)
 
     def end(self, page: Page) -> bytes:
-        """Returns what comes behind the features."""
+        """Returns the text after the features."""
         links = self._links + ([] if page.next is None else [self._following(page.next)])
         now = datetime.now(timezone.utc).strftime("%Y-%m-%dT%H:%M:%SZ")
         told: Dict[str, Any] = {"timeStamp": now, "numberReturned": self._count, "links": links}
@@ -128,7 +128,7 @@ def begun(make: Callable[[], Page], form: Any) -> Tuple[Page, List[bytes], bool]
 
 
 async def write(response: web.StreamResponse, text: bytes, patience: Patience) -> None:
-    """Writes all of a text, as far as the client reads."""
+    """Writes a whole text, as fast as the client reads."""
     view = memoryview(text)
     for begin in range(0, len(view), PIECE):
         with patience.waiting():
@@ -137,7 +137,7 @@ async def write(response: web.StreamResponse, text: bytes, patience: Patience) -
 
 async def send_page(request: web.Request, calls: Calls, make: Callable[[], Page], form: Any,
                     head: Callable[[Page], Dict[str, str]]) -> web.StreamResponse:
-    """Sends the page of features that a thread makes. `head` makes the headers of the answer when
+    """Sends a page of features. A thread makes it, and `head` makes the headers of the answer when
     the page has begun."""
     patience: Patience = request["patience"]
     page, pieces, is_last = await calls.call(begun, make, form)
@@ -162,7 +162,7 @@ async def send_page(request: web.Request, calls: Calls, make: Callable[[], Page]
 
 
 def item_path(collection: Any, name: str) -> Optional[str]:
-    """Returns the path of a feature; None if no URL can have its id, or if that is too long."""
+    """Returns the path of a feature. None if no URL can have its id, or if that is too long."""
     text = segment(name)
     is_short = text is not None and len(text) <= LONGEST
     return f"{path_of(collection)}/items/{text}" if is_short else None

@@ -35,7 +35,7 @@ HEADERS = {
     "Server": "cityseq",
 }
 LOOK = 1.0  # seconds between two looks whether an index was built again
-MOST_HOSTS = 100  # that are remembered
+MOST_HOSTS = 100  # host names that are remembered
 VERSIONS = ((1, 0), (1, 1))
 TOKEN = re.compile(r"[!#$%&'*+.^_`|~0-9A-Za-z-]+\Z")
 ALLOWED = {
@@ -57,9 +57,9 @@ class Server:
         self.settings, self.limits = settings, settings.limits
         self.catalogue = Catalogue(settings)
         self.calls, self.pages = Calls(settings.jobs), Pages()
-        self._open = 0  # requests that are answered
-        self._looked = 0.0  # when it looked last whether an index is another one
-        self._hosts: Set[str] = set()  # which were found to be this server
+        self._open = 0  # requests without an answer
+        self._looked = 0.0  # when it last looked for changed indexes
+        self._hosts: Set[str] = set()  # those that were found to be this server
 
     async def close(self, _: web.Application) -> None:
         """Ends the threads, and closes the indexes."""
@@ -70,8 +70,8 @@ class Server:
 
     @web.middleware
     async def guard(self, request: web.Request, handler: Handler) -> web.StreamResponse:
-        """Answers a request within the limits. What goes wrong is a problem, or, once the answer
-        has begun, the end of the connection."""
+        """Answers a request within the limits. A fault becomes a problem. Once the answer has
+        begun, a fault ends the connection."""
         patience = request["patience"] = Patience(self.limits)
         self._open += 1
         try:
@@ -85,7 +85,7 @@ class Server:
             patience.close()
 
     def _check(self, request: web.Request) -> None:
-        """Refuses what no resource answers.
+        """Refuses requests that no resource answers.
 
         Raises:
             Problem: It is refused.
@@ -119,7 +119,7 @@ class Server:
 
     def _failed(self, request: web.Request, fault: BaseException, patience: Patience
                 ) -> web.StreamResponse:
-        """Returns the answer to a request that failed. What has begun is broken off."""
+        """Returns the answer to a request that failed. Breaks off an answer that has begun."""
         if isinstance(fault, web.HTTPException):
             fault = _problem_of_route(fault)
         elif isinstance(fault, web.RequestPayloadError):
@@ -156,7 +156,7 @@ class Server:
         response.headers.add("Vary", "Accept")
 
     async def _look(self) -> None:
-        """Takes an index that was built again. One that cannot be read leaves the one before."""
+        """Opens an index that was built again. If it cannot be read, keeps the one before."""
         now = asyncio.get_running_loop().time()
         if now - self._looked < LOOK:
             return
@@ -262,20 +262,20 @@ class Server:
         return await bodies.filter(request, self.calls, self.limits)
 
     async def static(self, request: web.Request) -> web.StreamResponse:
-        """Answers the files that pages need. They are held in memory."""
+        """Answers with a file that pages need. The files are kept in memory."""
         content_type, body = self.pages.static(request.match_info["name"])
         return web.Response(body=body, content_type=content_type, charset="utf-8",
                             headers={"Cache-Control": "max-age=3600"})
 
     async def preflight(self, request: web.Request) -> web.StreamResponse:
-        """Answers what a browser asks before a page elsewhere may send a request."""
+        """Answers a browser that asks whether a page of another origin may send a request."""
         if self.settings.cors is None:
             raise Problem(405, "there is nothing to ask", {"Allow": "GET, HEAD, POST"})
         return web.Response(status=204, headers=ALLOWED)
 
 
 def _problem_of_route(fault: web.HTTPException) -> Problem:
-    """Returns the problem of a path that is not there, or of a method that it does not have."""
+    """Returns the problem of a path that does not exist, or of a method that it does not have."""
     headers: Dict[str, str] = {}
     if isinstance(fault, web.HTTPMethodNotAllowed):
         headers["Allow"] = ", ".join(sorted(fault.allowed_methods))

@@ -1,7 +1,7 @@
-"""Bodies that are judged as they come: `POST /check` and `POST /filter`.
+"""Bodies that are judged while they arrive: `POST /check` and `POST /filter`.
 
-While a thread judges some pieces, the next are read. What is kept of a stream is written as the
-client reads it, so that no more is held than a part and its output."""
+While a thread judges some pieces, the next are read. The kept lines are written as fast as the
+client reads them. So only a part and its output are in memory."""
 from __future__ import annotations
 
 import asyncio
@@ -37,7 +37,7 @@ FILTER = (*JUDGED_BY, "exclude", "id", "type", "lod", "bbox", "verdict")
 
 
 def asked_of(command: str, query: Query, limits: Limits) -> Asked:
-    """Returns what a request asks for, as the words of the command would.
+    """Returns what a request asks for, as the command line would have it.
 
     Raises:
         Problem: A parameter has a value that it may not have.
@@ -62,7 +62,7 @@ def asked_of(command: str, query: Query, limits: Limits) -> Asked:
 
 
 def _fed(wanted: Asked, query: Query, packed: Optional[bool], limits: Limits) -> Fed:
-    """Returns what a body is fed to."""
+    """Returns the stream that takes the body."""
     common: Dict[str, Any] = dict(line_limit=wanted.line_limit, depth=wanted.depth,
                                   keep_going=wanted.keep_going, tree=wanted.tree)
     if wanted.command == "filter":
@@ -74,10 +74,10 @@ def _fed(wanted: Asked, query: Query, packed: Optional[bool], limits: Limits) ->
 
 
 def _is_packed(request: web.Request, limits: Limits) -> Optional[bool]:
-    """Returns whether a body is packed; None if its first bytes tell.
+    """Returns whether a body is packed. None if its first bytes must show it.
 
     Raises:
-        Problem: It is packed in another way, or said to be too long.
+        Problem: It is packed in another way, or its stated length is too long.
     """
     if request.content_length is not None and request.content_length > limits.body:
         raise too_long(limits.body)
@@ -90,11 +90,11 @@ def _is_packed(request: web.Request, limits: Limits) -> Optional[bool]:
 
 
 async def expected(_: web.Request) -> None:
-    """Does nothing for a request that waits to be told to go on: it is when its body is read."""
+    """Does nothing. A client that waits gets `100 Continue` when its body is read."""
 
 
 async def _go_on(request: web.Request) -> None:
-    """Tells a client that waits for it to send the body."""
+    """Asks a client that waits for it to send the body."""
     if request.headers.get("Expect") and request.version >= (1, 1):
         await request.writer.write(b"HTTP/1.1 100 Continue\r\n\r\n")
 
@@ -108,7 +108,7 @@ class Body:
         self.size = 0  # bytes that have come
 
     async def pieces(self) -> List[bytes]:
-        """Returns the next bytes, of which there are enough for a thread, and none at the end.
+        """Returns the next bytes, enough for a thread, and none at the end.
 
         Raises:
             Problem: There are too many.
@@ -131,7 +131,7 @@ class Body:
 
 
 class Judgement:
-    """A body on its way through the threads."""
+    """A body that the threads judge."""
 
     def __init__(self, request: web.Request, calls: Calls, limits: Limits, wanted: Asked,
                  query: Query) -> None:
@@ -149,11 +149,11 @@ class Judgement:
 
     @property
     def has_ended(self) -> bool:
-        """Whether nothing that follows counts."""
+        """Whether the stream has ended, so that no later bytes count."""
         return self._fed.ended
 
     async def outputs(self) -> List[Text]:
-        """Returns what is kept of the parts that are judged by now, while others are read.
+        """Returns the output of the parts that have been judged, while others are read.
 
         Raises:
             Problem: The body is broken, or too long.
@@ -164,7 +164,7 @@ class Judgement:
         outputs = []
         while self._judged and (self._is_read or len(self._judged) > self._ahead()):
             answer = await self._judged.popleft()
-            if answer.refused or answer.end is not None:  # which takes time to describe
+            if answer.refused or answer.end is not None:  # to describe it takes time
                 outputs.append(await self._calls.call(self._fed.take, answer))
             else:
                 outputs.append(self._fed.take(answer))
@@ -172,7 +172,7 @@ class Judgement:
         return outputs
 
     async def _tasks(self) -> List[Task]:
-        """Returns what judges the next parts, while what follows them is read."""
+        """Returns calls that judge the next parts, while the bytes after them are read."""
         if not self._fed.has_more:
             pieces = await (self._next or self._body.pieces())
             self._next = None
@@ -192,7 +192,7 @@ class Judgement:
         return self
 
     async def __aexit__(self, *_: Any) -> None:
-        """Ends what still reads, and what is not judged yet."""
+        """Cancels the reads and calls that have not ended."""
         self._calls.bodies -= 1
         ending: "List[asyncio.Future[Any]]" = [*self._judged]
         if self._next is not None:
@@ -203,11 +203,11 @@ class Judgement:
             await asyncio.wait(ending)
             for each in ending:
                 if not each.cancelled():
-                    each.exception()  # which nobody waits for
+                    each.exception()  # no task waits for it
 
     def told(self) -> Tuple[List[Dict[str, Any]], Dict[str, Any]]:
-        """Returns the objects of the reports, or how often each reason came, and that of the
-        result."""
+        """Returns the objects of the reports, and the object of the result. With `summary` the
+        first are one object: how often each reason occurred."""
         result: Result = self._fed.result()
         told = result_object(result, self.wanted, __version__, self._body.size, None)
         if self.wanted.summary:
@@ -233,8 +233,8 @@ async def check(request: web.Request, calls: Calls, limits: Limits) -> web.Strea
 
 
 class Trailed(web.StreamResponse):
-    """An answer in chunks, with a trailer behind the last. aiohttp writes no trailers, so that the
-    chunks are made here."""
+    """An answer in chunks, with a trailer after the last. aiohttp writes no trailers, so this class
+    makes the chunks."""
 
     _length_check = False
 
@@ -254,7 +254,7 @@ class Trailed(web.StreamResponse):
 
 
 async def filter(request: web.Request, calls: Calls, limits: Limits) -> web.StreamResponse:
-    """Answers `POST /filter`: the header and what is kept, and then the verdict."""
+    """Answers `POST /filter`: the header and the kept lines, and then the verdict."""
     query = Query(request.raw_path.partition("?")[2], FILTER)
     if query.text("verdict") not in (None, "last"):
         raise Problem(400, "verdict is last, or is left out")
@@ -291,5 +291,5 @@ async def _send(request: web.Request, response: Trailed, kept: List[Text]) -> No
 
 
 def _refused(reports: List[Dict[str, Any]], result: Dict[str, Any]) -> web.Response:
-    """Returns the answer to a stream that is found to be invalid before anything was sent."""
+    """Returns the answer for a stream that was rejected before anything was sent."""
     return web.Response(status=422, body=_lines([*reports, result]), content_type=LINES)

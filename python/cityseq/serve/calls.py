@@ -1,4 +1,4 @@
-"""Calls in threads, for an event loop: what judges, reads a disk or asks an index."""
+"""Calls in threads, for an event loop. They judge, read a disk or query an index."""
 from __future__ import annotations
 
 import asyncio
@@ -13,12 +13,12 @@ T = TypeVar("T")
 
 
 class Calls:
-    """Threads that make calls for the tasks of an event loop, at most so many at once."""
+    """Threads that make calls for the tasks of an event loop, at most `jobs` at once."""
 
     def __init__(self, jobs: Any = None) -> None:
         """Takes the number of threads; None is one for each processor."""
         self.jobs: int = usual_jobs() if jobs is None else jobs
-        self.bodies = 0  # that are judged now
+        self.bodies = 0  # those that are judged now
         self._crew = Crew(self.jobs)
 
     def start(self) -> None:
@@ -31,12 +31,12 @@ class Calls:
             raise MemoryFault("out of memory: no thread is there")
 
     def close(self) -> None:
-        """Waits until no thread is left."""
+        """Waits until all threads have ended."""
         self._crew.__exit__()
 
     async def call(self, function: Callable[..., T], *given: Any) -> T:
-        """Returns what a call returns that some thread makes, or raises what it raises. A task
-        that is cancelled meanwhile does not wait for it."""
+        """Makes a call in a thread, and returns or raises what it does. A task that is cancelled
+        in the meantime does not wait for it."""
         loop = asyncio.get_running_loop()
         future: "asyncio.Future[T]" = loop.create_future()
         job = self._crew.submit(partial(_told, loop, future, partial(function, *given)))
@@ -50,10 +50,10 @@ class Calls:
 def _told(
     loop: asyncio.AbstractEventLoop, future: "asyncio.Future[T]", call: Callable[[], T]
 ) -> None:
-    """Makes a call, and tells the loop what came of it."""
+    """Makes a call, and passes its result to the loop."""
     try:
         value = call()
-    except BaseException as fault:  # which the task gets
+    except BaseException as fault:  # the task gets it
         loop.call_soon_threadsafe(_set, future.set_exception, future, fault)
     else:
         loop.call_soon_threadsafe(_set, future.set_result, future, value)

@@ -5,7 +5,7 @@ import json
 import sys
 from typing import Any, Dict, Tuple
 
-NESTED = 1_100  # arrays and objects that a line may have open at once, and some more
+NESTED = 1_100  # more arrays and objects than a line may have open at once
 OF_FEATURES = ("CityObjects", "vertices", "appearance")  # members that a feature has itself
 _DECODER = json.JSONDecoder(parse_float=str, parse_int=str, parse_constant=str)
 _SPACE = " \t\r\n"
@@ -47,7 +47,7 @@ def members(line: bytes) -> Dict[str, str]:
 
 
 def whole(header: bytes, line: bytes) -> bytes:
-    """Returns a feature of a stream as a CityJSON object: the header, with what the feature has."""
+    """Returns a feature of a stream as a CityJSON object: the header with the feature's members."""
     merged = {name: value for name, value in members(header).items() if name not in OF_FEATURES}
     feature = members(line)
     merged.update({name: feature[name] for name in OF_FEATURES if name in feature})

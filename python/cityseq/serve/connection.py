@@ -1,5 +1,5 @@
-"""Connections: how many are open, how long one may be silent, and what a client is told whose
-request cannot be read."""
+"""Connections: how many are open, how long one may be silent, and the answer to a request that
+cannot be read."""
 from __future__ import annotations
 
 import asyncio
@@ -16,7 +16,7 @@ from .replies import Replies, Reply, is_whole, text_of
 from .settings import Limits
 
 PENDING = 32  # requests that a connection may send before the first of them is answered
-MOST_HELD = 1 << 18  # bytes behind a request for another protocol
+MOST_HELD = 1 << 18  # bytes after a request for another protocol
 LOOK = 1.0  # seconds between two looks at silent connections
 
 
@@ -26,7 +26,7 @@ class Connection(web.RequestHandler):
     __slots__ = ("_crowd", "_raw", "since", "has_bytes", "asked", "answered")
 
     def __init__(self, crowd: "Crowd", manager: Any, **options: Any) -> None:
-        """Takes all connections, and what aiohttp hands on."""
+        """Takes the crowd of all connections, and the arguments of aiohttp."""
         super().__init__(manager, **options)
         self._crowd = crowd
         self._raw: Optional[bytes] = None  # the bytes of a request that has no body
@@ -36,7 +36,7 @@ class Connection(web.RequestHandler):
 
     @property
     def is_busy(self) -> bool:
-        """Whether a request is answered."""
+        """Whether a request has no answer yet."""
         return self.asked > self.answered
 
     def connection_made(self, transport: asyncio.BaseTransport) -> None:
@@ -56,14 +56,14 @@ class Connection(web.RequestHandler):
         found = self._request_count - before
         self.asked += found
         if found and request is not None and not request.content.is_eof():
-            # no request follows a body that has not ended: it cannot be read
+            # no request follows a body that has not ended: that body cannot be read
             request.content.set_exception(web.RequestPayloadError())
-        # what follows a request for another protocol is held until that is refused
+        # the bytes after a request for another protocol are kept until that is refused
         if self.asked - self.answered > PENDING or len(self._message_tail) > MOST_HELD:
             self.drop()
 
     def _is_answered_again(self, data: bytes) -> bool:
-        """Answers a request that was answered a moment ago. Whether it has done so."""
+        """Answers a request that was answered a moment ago. Returns whether it has done so."""
         self._raw = None
         if self.is_busy or self.has_bytes or self.transport is None:
             return False
@@ -79,7 +79,7 @@ class Connection(web.RequestHandler):
         return True
 
     def _keep(self, request: Any, response: Any) -> None:
-        """Keeps an answer, to be given again."""
+        """Keeps an answer, so that it can be given again."""
         text = None if self._raw is None else text_of(response)
         if text is not None and isinstance(self.access_logger, Combined):
             told = self.access_logger.told(request, response)
@@ -98,7 +98,7 @@ class Connection(web.RequestHandler):
             self.transport.abort()
 
     def tell(self, problem: Problem) -> None:
-        """Tells the client why the connection ends, and ends it."""
+        """Sends the client the reason why the connection ends, and ends it."""
         body = json.dumps(problem.told()) + "\n"
         head = (f"HTTP/1.1 {problem.status} {problem.told()['title']}\r\n"
                 f"Content-Type: {MEDIA_TYPE}\r\nContent-Length: {len(body)}\r\n"
@@ -109,7 +109,7 @@ class Connection(web.RequestHandler):
 
     def handle_error(self, request: Any, status: int = 500, exc: Optional[BaseException] = None,
                      message: Optional[str] = None) -> web.StreamResponse:
-        """Answers a request that cannot be read, or a fault that nothing else has answered."""
+        """Answers a request that cannot be read, or a fault that has no other answer."""
         if status == 400:
             problem = _unread(exc, str(message))
         else:
@@ -121,7 +121,7 @@ class Connection(web.RequestHandler):
         return response
 
     def log_exception(self, *given: Any, **more: Any) -> None:
-        """Says a fault in one line. Of a connection that is lost nothing is said."""
+        """Writes a fault in one line. Writes nothing about a lost connection."""
         fault = more.get("exc_info")
         is_open = self.transport is not None and not self.transport.is_closing()
         if is_open and isinstance(fault, BaseException) and not isinstance(fault, ConnectionError):
@@ -130,7 +130,7 @@ class Connection(web.RequestHandler):
 
 def _unread(fault: Optional[BaseException], told: str) -> Problem:
     """Returns the problem of a request that cannot be read."""
-    if isinstance(fault, LineTooLong):  # it tells how what is too long begins
+    if isinstance(fault, LineTooLong):  # it shows how the long text begins
         if "(b'/" in told or "status line" in told.lower():
             return Problem(414, "the path or what stands behind it is too long")
         return Problem(431, "a header of the request is too long")
@@ -145,7 +145,7 @@ class Crowd:
     def __init__(self, limits: Limits) -> None:
         self._limits, self._loop = limits, asyncio.get_running_loop()
         self.replies = Replies()
-        # those that are silent come in the order in which they became so
+        # the silent ones have the order in which they became silent
         self._connections: Dict[Connection, None] = {}
         self._handle: Any = self._loop.call_later(LOOK, self._look)
 
@@ -154,12 +154,12 @@ class Crowd:
 
     @property
     def busy(self) -> int:
-        """How many requests are answered."""
+        """How many connections have a request without an answer."""
         return sum(each.is_busy for each in self._connections)
 
     def add(self, connection: Connection) -> None:
-        """Adds a connection. If there are too many then, it ends the one that is silent for the
-        longest time."""
+        """Adds a connection. If there are too many then, ends the one that has been silent
+        longest."""
         self.quiet(connection)
         if len(self._connections) > self._limits.connections:
             silent = next((each for each in self._connections if not each.is_busy), connection)
@@ -177,7 +177,7 @@ class Crowd:
         self._connections.pop(connection, None)
 
     def _look(self) -> None:
-        """Ends the connections that are silent for too long."""
+        """Ends the connections that have been silent too long."""
         before = self._loop.time() - self._limits.idle
         for each in list(self._connections):
             if each.is_busy or each.since > before:

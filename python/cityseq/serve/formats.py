@@ -1,4 +1,4 @@
-"""In which format a client gets an answer: by `f`, or by its header `Accept`."""
+"""The format of an answer. A client asks for it by `f`, or by its header `Accept`."""
 from __future__ import annotations
 
 from dataclasses import dataclass
@@ -9,7 +9,7 @@ from .problems import Problem
 
 @dataclass(frozen=True)
 class Format:
-    """A format: its value of `f`, its media type, and other media types that mean it."""
+    """A format: its value of `f`, its media type, and other media types for it."""
 
     name: str
     media_type: str
@@ -17,7 +17,7 @@ class Format:
     others: Tuple[str, ...] = ()
 
     def fits(self, asked: str) -> int:
-        """Returns how well it fits a media type that a client accepts: 0 if not at all."""
+        """Returns how well it fits a media type that a client accepts. 0 is not at all."""
         if asked == "*/*":
             return 1
         if asked.endswith("/*"):
@@ -38,7 +38,7 @@ ALIASES = {"json": GEOJSON, "cityjson": CITY_JSON, "cityjsonseq": CITY_JSON_SEQ}
 
 
 def _accepted(header: str) -> Iterator[Tuple[str, float]]:
-    """Yields the media types of a header `Accept`, and how much each is wanted."""
+    """Yields the media types of a header `Accept`, and the quality of each."""
     for item in header.split(","):
         media_type, *parameters = (part.strip().lower() for part in item.split(";"))
         share = 1.0
@@ -53,15 +53,15 @@ def _accepted(header: str) -> Iterator[Tuple[str, float]]:
 
 
 def choose(formats: Sequence[Format], asked: Optional[str], accept: str) -> Format:
-    """Returns the format of an answer: the first one, if nothing else is wanted.
+    """Returns the format of an answer. It is the first one if the client asks for none.
 
     Args:
         formats: Those that there are.
-        asked: The value of `f`, if it is there.
-        accept: The header `Accept`; it may be empty.
+        asked: The value of `f`, or None.
+        accept: The header `Accept`. It may be empty.
 
     Raises:
-        Problem: None of them is wanted.
+        Problem: The client accepts none of them.
     """
     names = ", ".join(each.name for each in formats)
     if asked is not None:

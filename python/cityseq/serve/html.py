@@ -1,4 +1,4 @@
-"""Pages for people, by templates that escape all texts."""
+"""Pages for people, from templates that escape all texts."""
 from __future__ import annotations
 
 import os
@@ -13,13 +13,13 @@ from .systems import Extent
 
 FOLDER = os.path.dirname(os.path.abspath(__file__))
 TYPES = {".css": "text/css", ".js": "text/javascript", ".svg": "image/svg+xml"}
-LONGEST = 80  # signs of an id in a list
+LONGEST = 80  # characters of an id in a list
 WIDTH, HEIGHT, MARGIN, LEAST = 640.0, 400.0, 10.0, 2.0  # of a map
 
 
 def brief(text: str) -> str:
-    """Returns a text from a stream as a page shows it: one line, of which the rest is left out if
-    it is long. Signs that are not printed are escaped, so that none turns the line."""
+    """Returns a text from a stream as a page shows it: one line, without the rest if it is long.
+    Characters that cannot be printed are escaped, so that none changes the line."""
     return shown(text if len(text) <= LONGEST else f"{text[:LONGEST]}\u2026")
 
 
@@ -52,7 +52,7 @@ def _round(extents: Sequence[Extent]) -> Extent:
 
 
 class Pages:
-    """The templates and the files that pages need, which are read once."""
+    """The templates and files of the pages. They are read once."""
 
     def __init__(self) -> None:
         import jinja2
@@ -81,7 +81,7 @@ class Pages:
         """Returns the media type and the bytes of a file.
 
         Raises:
-            Problem: There is none of this name.
+            Problem: There is no file with this name.
         """
         try:
             return self._static[name]

@@ -28,13 +28,13 @@ OF_ONE = ("f", "crs")
 ITEM = (GEOJSON, CITY_JSON, CITY_JSON_SEQ, HTML)
 USUAL_LIMIT = 10
 MOST_ON_A_PAGE = 1_000  # features as HTML
-STEP = Decimal("1e-9")  # to which a box that was moved is rounded outward
+STEP = Decimal("1e-9")  # a transformed box is rounded outward to a multiple of this
 
 
 def _box_text(query: Query, collection: Collection) -> Optional[str]:
-    """Returns the box that is asked for in the coordinates of the stream, if one is.
+    """Returns the box that is asked for, in the coordinates of the stream. None if there is none.
 
-    A box that cannot be longitudes and latitudes is taken as one of the stream's own, unless
+    A box that cannot be longitudes and latitudes is taken as a box of the stream, unless
     `bbox-crs` is there.
     """
     box, uri = query.box(), query.text("bbox-crs")
@@ -54,7 +54,7 @@ def _box_text(query: Query, collection: Collection) -> Optional[str]:
 
 
 def _work(collection: Collection, box: Optional[str], query: Query) -> Work:
-    """Returns what a request selects."""
+    """Returns the work of a request."""
     with collection.pool.index() as index:
         return index.work(query.texts("ids"), query.texts("type"), query.texts("lod"), box)
 
@@ -63,7 +63,7 @@ def _system(query: Query, collection: Collection, chosen: Format) -> Optional[st
     """Returns the system of an answer.
 
     Raises:
-        Problem: It is not to be had.
+        Problem: The answer cannot have it.
     """
     uri = query.text("crs")
     if chosen == GEOJSON:
@@ -78,10 +78,10 @@ class Items:
     """A request for a page of a collection."""
 
     def __init__(self, collection: Collection, query: Query, limits: Limits, accept: str) -> None:
-        """Reads what is asked for.
+        """Reads the request.
 
         Raises:
-            Problem: It cannot be asked for.
+            Problem: A parameter has a value that it may not have.
         """
         self.collection, self._query = collection, query
         self.chosen = choose(ITEMS, query.text("f"), accept)
@@ -105,7 +105,7 @@ class Items:
         return Page(self.collection, work, self.after, self.limit)
 
     def parameters(self, after: Optional[int], form: Format) -> Dict[str, Any]:
-        """Returns the parameters of a page behind a feature."""
+        """Returns the parameters of the page that begins after a feature."""
         return {**self.selects, "crs": self._query.text("crs"), "limit": self.limit,
                 "after": after or None, "f": form.name}
 
@@ -122,7 +122,7 @@ class Items:
         return [*found, links.to(path, "collection", "The collection", "application/json")]
 
     def matched(self) -> Optional[int]:
-        """Returns how many features match, where that is known."""
+        """Returns how many features match, if that is known."""
         selects = set(self.selects) - {"datetime", "bbox-crs"}
         return None if selects else self.collection.stream.features
 
@@ -154,7 +154,8 @@ async def send_items(request: web.Request, calls: Calls, items: Items, links: Li
 
 
 def listed(page: Page) -> Tuple[List[Any], Optional[int]]:
-    """Returns the features of a page, and behind which the next one begins. A thread calls it."""
+    """Returns the features of a page, and the feature after which the next begins. A thread calls
+    it."""
     found: List[Any] = []
     try:
         block = page.block()
@@ -170,7 +171,7 @@ def find(collection: Collection, name: str) -> Tuple[bytes, Block]:
     """Returns the header of a stream, and the first feature that has an id. A thread calls it.
 
     Raises:
-        Problem: None has it.
+        Problem: No feature has it.
     """
     try:
         with collection.pool.index() as index:

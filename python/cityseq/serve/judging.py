@@ -1,5 +1,5 @@
-"""Streams that come piece by piece, as the body of a request does: what has come is unpacked, cut
-and judged, and is not kept."""
+"""Streams that arrive piece by piece, as the body of a request does. Each piece is unpacked, cut
+and judged, and not kept."""
 from __future__ import annotations
 
 from collections import Counter
@@ -18,22 +18,22 @@ from ..running import Result, Stream, Task
 from .problems import Problem
 
 UNPACKED = 1 << 19  # bytes that are unpacked at once
-BODY = "-"  # what a body is called in reports
+BODY = "-"  # the name of a body in reports
 
 
 class Unpacking:
-    """Unpacks a body that comes piece by piece, where it is packed by gzip."""
+    """Unpacks a body that arrives piece by piece, if it is packed by gzip."""
 
     def __init__(self, is_packed: Optional[bool], limit: int) -> None:
-        """Takes whether it is packed, None if its first bytes tell, and how long it may be."""
+        """Takes whether it is packed, and its greatest length. None: its first bytes show it."""
         self._is_packed, self._limit = is_packed, limit
         self._kind = Gzip()
         self._member: Any = None
-        self._begin = b""  # of the body, as long as it does not tell
+        self._begin = b""  # the first bytes, as long as they are too few to show it
         self._length = 0
 
     def feed(self, piece: bytes) -> Iterator[bytes]:
-        """Yields what is in the next piece.
+        """Yields the text in the next piece.
 
         Raises:
             Problem: It is broken, or too long.
@@ -68,7 +68,7 @@ class Unpacking:
                 yield text
 
     def end(self) -> bytes:
-        """Returns what is left.
+        """Returns the rest.
 
         Raises:
             Problem: The archive is cut short.
@@ -84,31 +84,31 @@ def too_long(limit: int) -> Problem:
 
 
 class Fed(Stream):
-    """A stream that is fed. One thread after another may do so.
+    """A stream that receives its bytes in pieces. One thread after another may pass them.
 
-    What comes is cut into parts, which any threads judge. Their answers are taken in order.
+    The bytes are cut into parts, and any thread may judge a part. The answers are taken in order.
 
     Attributes:
         reports: The first reports, as many as are kept.
-        codes: How often each reason came.
-        has_more: Whether there may be more parts in what came.
+        codes: How often each reason occurred.
+        has_more: Whether there may be more parts in the received bytes.
     """
 
     def __init__(
         self, work: Work, unpacking: Unpacking, most_reports: int, counts_codes: bool
     ) -> None:
-        """Takes what is asked for, what unpacks the pieces, how many reports are kept, and whether
-        the reasons of all others are counted too."""
+        """Takes the work, the unpacking, and how many reports are kept. `counts_codes` is whether
+        the reasons of all other reports are counted too."""
         super().__init__(BODY, work, tell=self._keep)
         self._unpacking, self._most_reports = unpacking, most_reports
         self._counts_codes = counts_codes
         self._rest = bytearray()
         self._seen = 0  # bytes of the rest that have no LF
-        self._line: Optional[bytes] = None  # the first one, once it is whole
+        self._line: Optional[bytes] = None  # the first one, when it is whole
         self._is_first = self._is_open = True
         self._coming: Iterator[Task] = iter(())
         self.has_more = False
-        self._too_long: Optional[bytearray] = None  # the begin of a line whose end is looked for
+        self._too_long: Optional[bytearray] = None  # the beginning of a line that has no end yet
         self.reports: List[Report] = []
         self.codes: "Counter[int]" = Counter()
 
@@ -123,12 +123,12 @@ class Fed(Stream):
         return self._joined.parts > 0 and not self.ended
 
     def feed(self, pieces: Iterable[bytes]) -> None:
-        """Takes some more of the body, when nothing is left of what came before."""
+        """Takes some more of the body, after all parts of the pieces before were made."""
         self._coming, self.has_more = self._cut(pieces), True
 
     def parts(self, most: int) -> List[Task]:
-        """Returns what judges the next parts, at most so many: what is packed in few bytes may be
-        long, and no more of it is unpacked.
+        """Returns calls that judge the next parts, at most `most` of them. Few packed bytes may
+        have a long text, and only this much of it is unpacked.
 
         Raises:
             Problem: The body is broken, or too long.
@@ -145,7 +145,7 @@ class Fed(Stream):
                     yield from self._parts_of_rest()
 
     def end(self) -> List[Task]:
-        """Returns what judges what is left.
+        """Returns calls that judge the rest.
 
         Raises:
             Problem: The body is cut short.
@@ -160,11 +160,11 @@ class Fed(Stream):
         return [self._part(self._rest)] if self._rest or self._is_first else []
 
     def take(self, answer: Answer) -> Text:
-        """Joins the answer of the next part, and returns what is kept of it."""
+        """Joins the answer of the next part, and returns its output."""
         if self.ended:
             return b""
         if len(self.reports) >= self._most_reports and not self._counts_codes:
-            answer.reports = ()  # each takes time to describe, and there may be millions
+            answer.reports = ()  # to describe them takes time, and there may be millions
         self.add(answer)
         return answer.output
 
@@ -173,7 +173,7 @@ class Fed(Stream):
         self.heads(line, bytes(rest[:HEAD]))
 
     def _parts_of_rest(self) -> Iterator[Task]:
-        """Yields what judges the whole lines that are there, if they are enough."""
+        """Yields calls that judge the whole lines that have come, if they are enough."""
         limit = self.work.line_limit
         if self._line is None:
             end = self._rest.find(b"\n", self._seen, limit + 1) + 1
@@ -208,7 +208,7 @@ class Fed(Stream):
                 yield self._part(part)
 
     def _find_end(self) -> bool:
-        """Looks for the end of a line that is too long. Whether it is there."""
+        """Searches for the end of a line that is too long. Returns whether it is there."""
         end = self._rest.find(b"\n") + 1
         if not end or self._too_long is None:
             self._rest.clear()
@@ -224,10 +224,10 @@ class Fed(Stream):
         )
 
     def result(self) -> Result:
-        """Returns what came of the stream.
+        """Returns the result of the stream.
 
         Raises:
-            CityseqError: There was no memory for it.
+            CityseqError: A fault ended the run, such as refused memory.
         """
         result = self.finish()
         if result.raises is not None:

@@ -1,4 +1,4 @@
-"""Links of answers: they begin with the URL that the server has, or that a client asked for."""
+"""Links of answers. They begin with the URL that is set, or that a client asked for."""
 from __future__ import annotations
 
 import ipaddress
@@ -18,7 +18,7 @@ def host_of(request: web.BaseRequest) -> str:
     """Returns the host that a request names, or the address that it came to.
 
     Raises:
-        Problem: It names none, or more than one.
+        Problem: It names no host, or more than one.
     """
     hosts: List[str] = request.headers.getall("Host", [])
     if len(hosts) > 1 or (not hosts and request.version >= (1, 1)):
@@ -30,8 +30,8 @@ def host_of(request: web.BaseRequest) -> str:
 
 
 def is_known(host: str, settings: Settings) -> bool:
-    """Returns whether a host may be this server. Any address may be, but of names only those that
-    are set: else a page of another name could ask the server by a name that it controls."""
+    """Returns whether a host may be this server. Any address may be, but only the names that are
+    set. Otherwise a web page could reach the server by a name that its owner controls."""
     try:
         parts = urlsplit(f"//{host}")
         name, _ = parts.hostname or "", parts.port
@@ -52,14 +52,14 @@ def is_known(host: str, settings: Settings) -> bool:
 
 
 def base_of(request: web.BaseRequest, settings: Settings) -> str:
-    """Returns what the URLs of all resources begin with."""
+    """Returns the beginning of the URLs of all resources."""
     if settings.url is not None:
         return settings.url.rstrip("/")
     return f"{request.scheme}://{host_of(request)}"
 
 
 def segment(text: str) -> Optional[str]:
-    """Returns a text as a segment of a path; None if no URL can have it."""
+    """Returns a text as a segment of a path. None if no URL can have it."""
     try:
         return quote(text, safe="")
     except UnicodeEncodeError:
@@ -70,7 +70,7 @@ class Links:
     """Makes the links of an answer."""
 
     def __init__(self, base: str) -> None:
-        """Takes what they begin with."""
+        """Takes the beginning of all links."""
         self.base = base
 
     def url(self, path: str, **parameters: Any) -> str:
@@ -103,6 +103,6 @@ class Links:
 
 
 def header_of(link: Link) -> str:
-    """Returns a link as a header `Link` has it (RFC 8288)."""
+    """Returns a link as the header `Link` has it (RFC 8288)."""
     others = "".join(f'; {name}="{link[name]}"' for name in ("rel", "type") if name in link)
     return f"<{link['href']}>{others}"

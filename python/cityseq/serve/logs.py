@@ -1,4 +1,4 @@
-"""The log of requests: a line each, in the combined format that web servers have."""
+"""The log of requests: one line for each, in the combined format of web servers."""
 from __future__ import annotations
 
 import logging
@@ -10,19 +10,19 @@ from aiohttp.abc import AbstractAccessLogger
 
 from ..shown import shown
 
-LONGEST = 2_000  # signs of a part of a line that a client sent
+LONGEST = 2_000  # characters of a part of a line that a client sent
 MONTHS = "Jan Feb Mar Apr May Jun Jul Aug Sep Oct Nov Dec".split()
 
 
 class _Output(logging.StreamHandler):  # type: ignore[type-arg]
-    """Standard output, which may be closed or full: the server goes on."""
+    """Standard output. If it is closed or full, the server goes on."""
 
     def handleError(self, record: logging.LogRecord) -> None:
         """Leaves the line out."""
 
 
 def logger(is_quiet: bool) -> logging.Logger:
-    """Returns the logger of requests. It writes to standard output, and nothing if it is quiet."""
+    """Returns the logger of requests. It writes to standard output, or nothing if it is quiet."""
     found = logging.getLogger("cityseq.serve")
     found.propagate = False
     found.handlers = []
@@ -33,7 +33,7 @@ def logger(is_quiet: bool) -> logging.Logger:
 
 
 def _quoted(text: Any) -> str:
-    """Returns what a client sent as a line may have it: no quote ends it, no sign turns it."""
+    """Returns a client's text in quotes. No character of it ends the quotes or the line."""
     told = "-" if text is None else str(text)[:LONGEST].encode("utf-8", "replace").decode("utf-8")
     return '"' + shown(told.replace("\\", "\\\\").replace('"', '\\"')) + '"'
 
@@ -52,7 +52,7 @@ class Combined(AbstractAccessLogger):
             self.write(request.remote, self.told(request, response))
 
     def told(self, request: Any, response: Any) -> str:
-        """Returns what a line says behind the client and the time."""
+        """Returns the text of a line after the client and the time."""
         if not self.logger.handlers:
             return ""
         version, headers = request.version, request.headers

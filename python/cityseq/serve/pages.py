@@ -1,8 +1,8 @@
 """A page of features: candidates come from the index, and the engine judges each again.
 
-The key of a page is the number of a feature in its stream, from 1, which no two features share. So
-pages stay right where features are equal in all else. A page has the features that are kept of the
-next candidates, and it is only empty if no feature follows."""
+The key of a page is the number of a feature in its stream, from 1. No two features share a number,
+so pages stay right if features are equal in everything else. A page has the kept features of the
+next candidates. It is only empty if no feature follows."""
 from __future__ import annotations
 
 from contextlib import suppress
@@ -24,7 +24,7 @@ TOGETHER = 1 << 18  # bytes of lines that are judged together
 
 
 class Found(NamedTuple):
-    """A feature that is kept.
+    """A kept feature.
 
     Attributes:
         line: The number of its line in the stream, from 1.
@@ -49,7 +49,7 @@ class Found(NamedTuple):
 
 @dataclass(frozen=True)
 class Block:
-    """Some features of a page, as the library tells of them."""
+    """Some features of a page, as the library returns them."""
 
     collection: Collection
     part: bytes
@@ -64,7 +64,7 @@ class Block:
         return b"".join(part[raw.begin : raw.begin + raw.length] + b"\n" for raw in self.raws)
 
     def features(self) -> Iterator[Found]:
-        """Yields what is known of each."""
+        """Yields the facts of each feature."""
         for raw in self.raws:
             yield self._found(raw)
 
@@ -112,16 +112,16 @@ def _joined(parts: Iterator[Tuple[bytes, List[int]]]) -> Iterator[Tuple[bytes, L
 
 
 class Page:
-    """The features of a page, block by block. The calls may be made by one thread after another.
+    """The features of a page, block by block. One thread after another may make the calls.
 
     Attributes:
-        header: The first line of the stream, once the first block was asked for.
-        next: The number of the feature behind which the next page begins, once the first block was
-            asked for; None if nothing follows.
+        header: The first line of the stream, after the first call of `block`.
+        next: The number of the feature after which the next page begins, after the first call of
+            `block`. None if nothing follows.
     """
 
     def __init__(self, collection: Collection, work: Work, after: int, limit: int) -> None:
-        """Takes what is asked for, and the number of the feature behind which it begins."""
+        """Takes the query, and the number of the feature after which the page begins."""
         self._collection, self._work, self._limit = collection, work, limit
         self.header = b""
         self.next: Optional[int] = None
@@ -129,7 +129,7 @@ class Page:
         self._blocks = self._read()
 
     def block(self) -> Optional[Block]:
-        """Returns the next block; None at the end.
+        """Returns the next block, or None at the end.
 
         Raises:
             CityseqError: As `cityseq.Index.select`.
@@ -137,7 +137,7 @@ class Page:
         return next(self._blocks, None)
 
     def close(self) -> None:
-        """Closes what is open. While a thread makes a block, nothing is closed before its end."""
+        """Closes what is open. Does nothing while a thread makes a block."""
         with suppress(ValueError):
             self._blocks.close()
 
@@ -156,7 +156,7 @@ class Page:
                         yield block
 
     def _candidates(self) -> Tuple[List[Row], bool]:
-        """Returns the next candidates, and whether there are more behind them."""
+        """Returns the next candidates, and whether more follow."""
         collection = self._collection
         with collection.pool.index() as index:
             found = index.candidates(self._work, collection.stream, self._after, self._limit + 1)
@@ -166,7 +166,7 @@ class Page:
         return [row for _, row in rows], len(found) > self._limit
 
     def _judged(self, part: bytes, numbers: List[int]) -> Block:
-        """Returns what is kept of some lines."""
+        """Returns the kept features of some lines."""
         request = self._work.request(self.header, part)
         answer, _, raws = library().features(self.header, part, request, len(numbers))
         if answer.status == REFUSED and answer.line > 1:

@@ -13,7 +13,7 @@ class Patience:
     """Ends the task of a request that takes too long.
 
     Attributes:
-        problem: What the client is told, once the task was ended so.
+        problem: The problem that the client gets, after the task was ended.
     """
 
     def __init__(self, limits: Limits) -> None:
@@ -21,7 +21,7 @@ class Patience:
         self._limits, self._loop = limits, asyncio.get_running_loop()
         self._task: Any = asyncio.current_task()
         self._begin = self._loop.time()
-        self._since: Optional[float] = None  # which it waits for the client
+        self._since: Optional[float] = None  # when it began to wait for the client
         self.problem: Optional[Problem] = None
         self._handle = self._loop.call_later(min(limits.idle, limits.seconds), self._look)
 

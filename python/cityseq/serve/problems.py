@@ -1,4 +1,4 @@
-"""What a client is told of a request that is not done: a problem (RFC 9457)."""
+"""The answer to a request that is not done: a problem (RFC 9457)."""
 from __future__ import annotations
 
 import json
@@ -19,7 +19,7 @@ from ..faults import (
 from ..shown import shown
 
 MEDIA_TYPE = "application/problem+json"
-LONGEST = 1_000  # signs of a detail: it may have in it what a client sent
+LONGEST = 1_000  # characters of a detail: it may contain what a client sent
 
 
 class Problem(Exception):
@@ -55,7 +55,7 @@ class Problem(Exception):
 
 
 def problem_of(fault: BaseException) -> Problem:
-    """Returns the problem that a fault of the package is for a client. It names no path."""
+    """Returns the problem that a client gets for a fault of the package. It names no path."""
     if isinstance(fault, Problem):
         return fault
     if isinstance(fault, (InvalidStream, RequestError)):
@@ -70,7 +70,7 @@ def problem_of(fault: BaseException) -> Problem:
 
 
 def logged(fault: BaseException) -> Optional[str]:
-    """Returns what the log says of a fault, in one line; None of what a client has done."""
+    """Returns the text of a fault for the log, in one line. None if the client caused it."""
     if isinstance(fault, (Problem, InvalidStream, RequestError)):
         return None
     if isinstance(fault, CityseqError):

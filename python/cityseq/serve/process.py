@@ -1,4 +1,4 @@
-"""The process of a server: where it listens, how it is told to stop, and how it ends."""
+"""The process of a server: where it listens, how it is stopped, and how it ends."""
 from __future__ import annotations
 
 import asyncio
@@ -25,17 +25,17 @@ from .workers import Workers
 
 BACKLOG = 1_024
 READ = 1 << 18  # bytes of a body that wait in a connection
-LINGER = 2.0  # seconds in which what a client still sends is read and dropped
-FOREVER = 365 * 86_400.0  # seconds: a crowd ends the connections that are silent
-LOOK = 0.05  # seconds between two looks whether all is answered
-FILES = 512  # descriptors beside those of connections
+LINGER = 2.0  # seconds in which it drops what a client still sends
+FOREVER = 365 * 86_400.0  # seconds. The crowd ends silent connections
+LOOK = 0.05  # seconds between two looks at open answers
+FILES = 512  # descriptors in addition to those of connections
 
 
 def settings_of(wanted: Asked) -> Settings:
-    """Returns what the words of the command set.
+    """Returns the settings that the command line asks for.
 
     Raises:
-        RequestError: A URL is none.
+        RequestError: A URL is not valid.
     """
     limits = Limits(
         requests=wanted.max_requests, connections=_connections(), body=wanted.max_body,
@@ -48,7 +48,7 @@ def settings_of(wanted: Asked) -> Settings:
 
 
 def _connections() -> int:
-    """Returns how many connections there may be: as many as the system has descriptors for."""
+    """Returns the most connections: as many as the system has descriptors for."""
     import resource
 
     soft, hard = resource.getrlimit(resource.RLIMIT_NOFILE)
@@ -95,7 +95,7 @@ def url_of(listener: socket.socket) -> str:
 
 
 class Process:
-    """A server that runs."""
+    """A running server."""
 
     def __init__(self, server: Server, is_quiet: bool) -> None:
         self._server, self._limits, self._is_quiet = server, server.limits, is_quiet
@@ -103,7 +103,7 @@ class Process:
         self._loop = asyncio.get_running_loop()
 
     async def run(self, listeners: List[socket.socket]) -> None:
-        """Serves until it is told to stop."""
+        """Serves until a signal asks for the end."""
         log = logger(self._is_quiet)
         runner = web.AppRunner(application(self._server), access_log=log,
                                access_log_class=Combined)
@@ -133,7 +133,7 @@ class Process:
         self._stop.set()
 
     async def _finish(self, crowd: Crowd) -> None:
-        """Waits for the open answers, as long as it may."""
+        """Waits for the open answers, up to the limit."""
         end = self._loop.time() + self._limits.stop
         crowd.drop_silent()
         while crowd.busy and self._loop.time() < end:
@@ -144,7 +144,7 @@ class Process:
 
 
 def _greet(listeners: List[socket.socket], collections: int, host: str) -> None:
-    """Says where the server is."""
+    """Writes where the server is."""
     what = f"{collections} collection{'' if collections == 1 else 's'}"
     for listener in listeners:
         say(f"{url_of(listener)} serves {what}, and checks files; Ctrl-C stops it")
@@ -160,10 +160,10 @@ async def _serve(settings: Settings, listeners: List[socket.socket], is_quiet: b
 
 
 def run(wanted: Asked) -> int:
-    """Serves what the words of the command ask for, and returns the status.
+    """Serves what the command line asks for, and returns the status.
 
     Raises:
-        CityseqError: An index cannot be read, or the system lets nobody listen there.
+        CityseqError: An index cannot be read, or the system refuses to listen there.
     """
     settings, processes = settings_of(wanted), wanted.processes
     if processes > 1 and settings.jobs is None:

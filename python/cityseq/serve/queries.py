@@ -1,5 +1,4 @@
-"""What stands behind the `?` of a request, read strictly: each parameter is known, and is there
-once."""
+"""The parameters after the `?` of a request, read strictly: each must be known, and appear once."""
 from __future__ import annotations
 
 import re
@@ -34,10 +33,10 @@ class Query:
     """The parameters of a request."""
 
     def __init__(self, raw: str, known: Tuple[str, ...]) -> None:
-        """Takes what stands behind the `?`, and the names that may be there.
+        """Takes the text after the `?`, and the names that it may have.
 
         Raises:
-            Problem: A parameter is not known, or is there twice.
+            Problem: A parameter is not known, or appears twice.
         """
         self._raw: Dict[str, str] = {}
         for pair in filter(None, raw.split("&")):
@@ -58,8 +57,8 @@ class Query:
         return None if raw is None else unescaped(raw)
 
     def texts(self, name: str) -> Optional[List[str]]:
-        """Returns the texts of a parameter with commas between them. An escaped comma is part of
-        a text."""
+        """Returns the texts of a parameter, separated by commas. An escaped comma is part of a
+        text."""
         raw = self._raw.get(name)
         return None if raw is None else [unescaped(each) for each in raw.split(",")]
 
@@ -85,11 +84,11 @@ class Query:
             ) from None
 
     def limit(self, most: int, usual: int) -> int:
-        """Returns how many features are asked for: at most so many, also where more are."""
+        """Returns how many features are asked for, at most `most`."""
         return min(self.number("limit", 1, 1 << 53, usual), most)
 
     def box(self) -> Optional[Box]:
-        """Returns the box that is asked for, if one is."""
+        """Returns the box that is asked for, or None."""
         text = self.text("bbox")
         if text is None:
             return None
@@ -102,8 +101,8 @@ class Query:
         return numbers[0], numbers[1], numbers[2], numbers[3]
 
     def check_time(self) -> None:
-        """Looks whether `datetime` is a time or an interval. No feature has a time, so that it
-        selects all."""
+        """Checks that `datetime` is a time or an interval. No feature has a time, so it selects
+        all."""
         text = self.text("datetime")
         if text is None:
             return

@@ -1,21 +1,21 @@
-"""Answers that are given again: for a second, to a request that is the same byte for byte.
+"""Answers that are given again, within a second, to a request with the same bytes.
 
-Many clients ask for the same box of a map at the same time. What they get depends on the bytes of
-the request, on the streams and on nothing else, and whether a stream changed is looked for at most
-once a second anyway."""
+Many clients ask for the same box of a map at the same time. The answer depends only on the bytes
+of the request and on the streams. And the server looks at most once a second whether a stream has
+changed."""
 from __future__ import annotations
 
 from typing import Any, Dict, NamedTuple, Optional
 
 from aiohttp import web
 
-SECONDS = 1.0  # that an answer is given again
+SECONDS = 1.0  # how long an answer is given again
 MOST_BYTES = 16 << 20  # of all answers that are kept
 END = b"\r\n\r\n"
 
 
 class Reply(NamedTuple):
-    """An answer: its bytes, what the log says of it, and when it was made."""
+    """An answer: its bytes, its text in the log, and when it was made."""
 
     text: bytes
     logged: str
@@ -29,7 +29,7 @@ def is_whole(data: bytes) -> bool:
 
 
 def text_of(response: web.StreamResponse) -> Optional[bytes]:
-    """Returns the bytes of an answer; None of one that is not given again."""
+    """Returns the bytes of an answer. None if it may not be given again."""
     if not isinstance(response, web.Response) or response.status != 200 or not response.keep_alive:
         return None
     body = response.body

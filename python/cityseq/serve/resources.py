@@ -1,4 +1,4 @@
-"""What the server says of itself and of its collections: OGC API - Features, Parts 1 and 2."""
+"""Descriptions of the server and its collections: OGC API - Features, Parts 1 and 2."""
 from __future__ import annotations
 
 from typing import Any, Dict, List, Optional
@@ -53,7 +53,7 @@ def path_of(collection: Collection) -> str:
 
 
 def _shown_extent(collection: Collection) -> Optional[Object]:
-    """Returns the extent as longitude and latitude, where it can be told so."""
+    """Returns the extent as longitude and latitude, or None if that is not possible."""
     extent = collection.extent
     if extent is None or not collection.system.can_change:
         return None
@@ -74,7 +74,7 @@ def _described(collection: Collection) -> str:
 
 
 def collection(links: Links, shown: Collection, chosen: Optional[Format] = None) -> Object:
-    """Returns what a collection is."""
+    """Returns the description of a collection."""
     path, extent = path_of(shown), _shown_extent(shown)
     own = [links.to(path, "self", "This collection", JSON.media_type)]
     told: Object = {
@@ -103,7 +103,7 @@ def _storage_extent(shown: Collection) -> Optional[List[float]]:
 
 
 def collections(links: Links, catalogue: Catalogue, chosen: Format) -> Object:
-    """Returns all collections."""
+    """Returns the descriptions of all collections."""
     return {
         "links": links.formats("/collections", PAGES, chosen),
         "collections": [collection(links, each) for each in catalogue],

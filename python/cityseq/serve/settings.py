@@ -1,4 +1,4 @@
-"""How a server is set: where it listens, and what it refuses to do."""
+"""The settings of a server: where it listens, and its limits."""
 from __future__ import annotations
 
 from dataclasses import dataclass, field
@@ -10,13 +10,13 @@ from ..faults import RequestError
 from ..words import BODY, FEATURES, IDLE, REQUESTS, SECONDS, STOP
 
 CONNECTIONS = 1_000
-REPORTS, MOST_REPORTS = 1_000, 10_000  # in an answer: where nothing is asked, and at most
+REPORTS, MOST_REPORTS = 1_000, 10_000  # in an answer: the default, and the most
 LOOPBACK = ("127.0.0.1", "::1", "localhost")
 
 
 @dataclass(frozen=True)
 class Limits:
-    """What a server does at most.
+    """The limits of a server.
 
     Attributes:
         requests: Requests that it answers at once.
@@ -44,16 +44,16 @@ class Limits:
 
 @dataclass(frozen=True)
 class Settings:
-    """How a server is set.
+    """The settings of a server.
 
     Attributes:
         indexes: The paths of the indexes whose streams it serves.
         base: The URL that the streams are below. None if they are files.
-        url: The URL that clients know the server by. None if it is what they ask.
-        names: Host names that it answers to, beside that of `url` and addresses.
+        url: The URL that clients know the server by. None if it is the one that they ask for.
+        names: Host names that it answers to, in addition to that of `url` and to addresses.
         cors: The origin whose pages may read the answers; `*` for any, None for none.
         jobs: How many threads judge and cut. None is one for each processor.
-        limits: What it does at most.
+        limits: Its limits.
     """
 
     indexes: Tuple[str, ...] = ()
@@ -72,7 +72,7 @@ class Settings:
 
 
 def _parts(url: str, what: str) -> Any:
-    """Returns the parts of an http or https URL. Raises `RequestError` if it is none."""
+    """Returns the parts of a URL. Raises `RequestError` if it is not an http or https URL."""
     try:
         parts = urlsplit(url)
         port = parts.port

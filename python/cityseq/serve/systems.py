@@ -21,7 +21,7 @@ Extent = Tuple[float, float, float, float]
 
 
 def uri_of(name: Optional[str]) -> Optional[str]:
-    """Returns the URI of the system that a stream names; None of any other name."""
+    """Returns the URI of the system that a stream names. None if the name has none."""
     found = SYSTEM.match(name or "")
     return EPSG.format(int(found.group(1))) if found else None
 
@@ -38,7 +38,7 @@ def can_change() -> bool:
 
 @lru_cache(maxsize=256)
 def _transformer(source: str, target: str) -> Any:
-    """Returns what moves coordinates, in the order east, north or longitude, latitude."""
+    """Returns an object that transforms coordinates, east or longitude first."""
     from pyproj import Transformer
 
     names = ["OGC:CRS84" if uri == CRS84 else f"EPSG:{uri.rsplit('/', 1)[1]}"
@@ -47,7 +47,7 @@ def _transformer(source: str, target: str) -> Any:
 
 
 def _changed(box: Sequence[float], source: str, target: str) -> Extent:
-    """Returns the box round a box in another system.
+    """Returns the box around a box in another system.
 
     Raises:
         Problem: It has no place there.
@@ -65,7 +65,7 @@ def _changed(box: Sequence[float], source: str, target: str) -> Extent:
 
 
 class System:
-    """The systems that a collection has: that of its stream, and longitude and latitude."""
+    """The systems of a collection: that of its stream, and longitude and latitude."""
 
     def __init__(self, name: Optional[str]) -> None:
         """Takes the system that the stream names, if it names one."""
@@ -79,7 +79,7 @@ class System:
         return [CRS84, self.storage] if self.can_change else [self.storage]
 
     def asked(self, uri: Optional[str], parameter: str) -> Optional[str]:
-        """Returns the system that a parameter asks for; None is that of a stream without a name.
+        """Returns the system that a parameter asks for. None if that of the stream has no URI.
 
         Raises:
             Problem: The collection does not have it.
@@ -96,7 +96,7 @@ class System:
         return wanted
 
     def stored(self, box: Sequence[float], system: Optional[str]) -> Sequence[float]:
-        """Returns the box round a box in the system of the stream.
+        """Returns the box around a box in the system of the stream.
 
         Raises:
             Problem: It has no place there.
@@ -106,7 +106,7 @@ class System:
         return _changed(box, system, self.storage)
 
     def told(self, extent: Extent, system: Optional[str]) -> Optional[Extent]:
-        """Returns an extent of the stream in a system; None if it has no place there."""
+        """Returns an extent of the stream in a system. None if it has no place there."""
         if system is None or system == self.storage or self.storage is None:
             return extent
         try:

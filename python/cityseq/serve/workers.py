@@ -1,4 +1,4 @@
-"""Many processes of one server, which listen at the same sockets."""
+"""Several processes of one server, which listen at the same sockets."""
 from __future__ import annotations
 
 import os
@@ -9,8 +9,8 @@ from typing import Any, Callable, Dict, NoReturn
 
 from ..console import say
 
-PAUSE = 1.0  # seconds that a process has to live, before another one takes its place at once
-PATIENCE = 5.0  # seconds beside those of open answers, after which a process is killed
+PAUSE = 1.0  # seconds that a process must live before another replaces it at once
+PATIENCE = 5.0  # seconds after those for open answers, until a process is killed
 SIGNALS = (signal.SIGTERM, signal.SIGINT, signal.SIGHUP)
 FAILED = 70
 
@@ -24,10 +24,10 @@ def _stop(number: int, _: Any) -> NoReturn:
 
 
 class Workers:
-    """Processes that do the same. One that ends by itself is started again."""
+    """Processes that do the same work. One that ends by itself is started again."""
 
     def __init__(self, count: int, work: Callable[[], None], seconds: float) -> None:
-        """Takes how many there are, what each does, and how long it may take to end."""
+        """Takes how many there are, what each does, and how many seconds it may take to end."""
         self._count, self._work, self._seconds = count, work, seconds
         self._children: Dict[int, float] = {}  # when each was started
 
@@ -74,7 +74,7 @@ class Workers:
             os._exit(status)
 
     def _end(self) -> None:
-        """Asks all to end, and kills those that do not in time."""
+        """Asks all to end, and kills those that take too long."""
         for pid in self._children:
             os.kill(pid, signal.SIGTERM)
         end = time.monotonic() + self._seconds + PATIENCE
