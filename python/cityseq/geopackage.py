@@ -169,7 +169,7 @@ def describe(base: sqlite3.Connection, system: int) -> None:
         "INSERT INTO gpkg_extensions VALUES (?,?,?,?,?)",
         (
             (TABLE, COLUMN, "gpkg_rtree_index", extension, "write-only"),
-            ("cityseq_index", None, "cityseq_index", "docs/index.md of cityseq", "read-write"),
+            ("cityseq_index", None, "cityseq_index", "docs/geopackage.md of cityseq", "read-write"),
         ),
     )
     edges = ("ST_MinX", "ST_MaxX", "ST_MinY", "ST_MaxY")
