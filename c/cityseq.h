@@ -252,8 +252,8 @@ size_t cityseq_part_end(const char *part, size_t length, size_t wanted);
  * line, it is the end of the part. It is 0 if the header is not one line (CITYSEQ_NO_LINE). */
 uint64_t cityseq_line_begin(const char *header, size_t header_length, const char *part, size_t part_length, uint64_t line);
 
-/* Returns how many bytes of the stack a thread must have left for a call with this request: 131,072 if the line limit is at most
- * 65,536, else 2,097,152. */
+/* Returns how many bytes of the stack a thread must have left for a call with this request. They are 131,072 if the line limit is
+ * at most 65,536, else 2,097,152. */
 size_t cityseq_stack(const struct cityseq_request *request) CITYSEQ_NOT_NULL(1);
 
 /* Writes the words of a reason as far as they fit, in ASCII and without a NUL. It returns how many bytes they have, and 0 if no
