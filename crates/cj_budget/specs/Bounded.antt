@@ -1,13 +1,14 @@
 -- What a contract sees of a list with a limit.
-use Rattle.std.specs.Prelude.{◌≡◌, ◌↔◌, ◌⊎◌, ℕ, ◌<◌, ◌≤◌, List, [], length, max, nat_le, Bool, true, IsTrue, Result, OnOk, OnErr, IsOk, IsErrOf, refl}
+use Rattle.std.specs.Prelude.{◌≡◌, ◌↔◌, ◌⊎◌, ℕ, ◌<◌, ◌≤◌, List, [], length, max, nat_le, Bool, true, IsTrue, Result}
+use Rattle.std.specs.Prelude.{OnOk, OnErr, IsOk, IsErrOf, refl}
 use Rattle.std.specs.Coded.{Coded, code_by, coded×, coded_ℕ, coded_list, coded_bool}
 use Rattle.cj_budget.specs.Counts.{HasRisen, one_more}
 use Rattle.cj_budget.specs.declared.growth.NoMemory.{NoMemory}
 use Rattle.cj_budget.specs.declared.bounded.Refused.{Refused}
 use Rattle.cj_budget.specs.declared.bounded.Refused.TheVariants.{Full, Memory}
 
--- the elements, the greatest length that is allowed, the greatest length so far, whether there is room for the limit, and
--- how often a growth was refused
+-- the elements, the greatest length that is allowed, the greatest length so far, whether there is room for the limit,
+-- and how often a growth was refused
 pub record BoundedList (T : Type 0) : Type 0 where
   pub elements : List T
   pub limit : ℕ
@@ -30,8 +31,8 @@ module _ {T : Type 0} where
     pub below_peak : length b.elements ≤ b.peak
     pub below_limit : b.peak ≤ b.limit
 
-  -- new has the elements xs under the same limit, its peak has risen to their number, reserved room is still there, and no
-  -- growth was refused
+  -- new has the elements xs under the same limit, its peak has risen to their number, reserved room is still there, and
+  -- no growth was refused
   pub record Becomes (old : BoundedList T) (xs : List T) (new : BoundedList T) : Type 0 where
     pub elements : new.elements ≡ xs
     pub limit : new.limit ≡ old.limit
@@ -53,9 +54,10 @@ module _ {T : Type 0} where
     pub same : new ≡ record old { refused = one_more old.refused }
     pub risen : HasRisen old.refused new.refused
 
-  -- x was added, which makes xs; or it is given back: as Full exactly where the list is full, and nothing has changed; else
-  -- for want of memory, where a growth was refused, which never comes where there is room for the limit
-  pub record Adds (old : BoundedList T) (x : T) (xs : List T) (r : Result (Unit {0}) (Refused T)) (new : BoundedList T) : Type 0 where
+  -- x was added, which makes xs; or it is given back: as Full exactly where the list is full, and nothing has changed;
+  -- else for want of memory, where a growth was refused, which never comes where there is room for the limit
+  pub record Adds (old : BoundedList T) (x : T) (xs : List T) (r : Result (Unit {0}) (Refused T)) (new : BoundedList T)
+      : Type 0 where
     pub ok : OnOk r (Becomes old xs new)
     pub full : IsErrOf r (Full x) ↔ (length old.elements ≡ old.limit)
     pub kept : IsErrOf r (Full x) → new ≡ old
@@ -63,8 +65,8 @@ module _ {T : Type 0} where
     pub refused : OnErr r (IsErrOf r (Full x) ⊎ IsErrOf r (Memory x))
     pub room : IsTrue old.reserved → length old.elements < old.limit → IsOk r
 
-  -- there is room for the limit now, and all else stays; or that growth was refused, which never comes where that room was
-  -- there already
+  -- there is room for the limit now, and all else stays; or that growth was refused, which never comes where that room
+  -- was there already
   pub record Reserves (old : BoundedList T) (r : Result (Unit {0}) NoMemory) (new : BoundedList T) : Type 0 where
     pub ok : OnOk r (new ≡ record old { reserved = true })
     pub err : OnErr r (IsRefused old new)

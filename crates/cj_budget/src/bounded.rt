@@ -15,7 +15,8 @@
 //!
 //! `reserve_all` makes one request for exactly the missing memory, as a plain reserve may take
 //! twice as much. After it no call requests memory, so the reserved forms return no error.
-ghost use Rattle.std.specs.Prelude.{◌≡◌, ◌+◌, ◌<◌, ◌≤◌, ◌↔◌, ◌++◌, ◌∷◌, [], length, IsTrue, IsOk, OnOk, OnErr, IsErrOf, slice_set};
+ghost use Rattle.std.specs.Prelude.{◌≡◌, ◌+◌, ◌<◌, ◌≤◌, ◌↔◌, ◌++◌, ◌∷◌, [], length, IsTrue, IsOk, OnOk, OnErr, IsErrOf};
+ghost use Rattle.std.specs.Prelude.{slice_set};
 ghost use Rattle.cj_budget.specs.Bounded.{IsNew, IsWithin, IsRefused, Becomes, Adds, Reserves};
 
 use crate::growth::{NoMemory, Refusals};

@@ -21,6 +21,7 @@
 
 mod bounded;
 mod growth;
+mod items;
 mod limits;
 mod stack;
 #[cfg(test)]

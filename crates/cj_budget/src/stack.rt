@@ -2,35 +2,30 @@
 //!
 //! Contracts see the top first, since a scan looks at the innermost container. The code pushes at
 //! the end. The first items are in the stack itself. So `push`, `reserve_all` and `is_reserved`
-//! have a clause of their own for these. `reserve_all` requests exactly the missing memory: a plain
-//! reserve of a `SmallVec` rounds up to a power of two.
+//! have a clause of their own for these. `reserve_all` requests exactly the missing memory.
 ghost use Rattle.std.specs.Prelude.{◌≡◌, ◌<◌, ◌≤◌, ◌↔◌, ◌∷◌, [], length, drop, IsTrue, IsOk, slice_get};
 ghost use Rattle.cj_budget.specs.Bounded.{IsNew, IsWithin, Becomes, Adds, Reserves};
 
 use crate::bounded::Refused;
 use crate::growth::{NoMemory, Refusals};
-use smallvec::SmallVec;
+use crate::items::{INLINE, Items};
 use std::alloc::Global;
 use std::marker::Model;
-
-/// How many items are in the stack itself: the default depth limit, so it seldom allocates.
-const INLINE: usize = 64;
 
 /// A stack of numbers that never has more items than its limit. It remembers its peak, the greatest
 /// number of items so far. Its first 64 items need no allocation. It counts its growths that were
 /// refused. Contracts see the top item first.
 #[derive(Drop)]
 pub struct Stack {
-    items: SmallVec<u32, INLINE>,
+    items: Items,
     limit: usize,
     peak: usize,
     refusals: Refusals,
 }
 
 impl Model for Stack {
-    ghost use Rattle.std.specs.Prelude.{◌≤◌, ℕ, reverse, nat_le};
+    ghost use Rattle.std.specs.Prelude.{◌≤◌, ℕ, length, reverse, nat_le};
     ghost use Rattle.std.specs.Coded.{coded_ℕ};
-    ghost use Rattle.smallvec.specs.SmallVec.{small_vec_len};
     ghost use Rattle.cj_budget.specs.Bounded.{BoundedList, bounded_code};
 
     ghost Value = { BoundedList ℕ };
@@ -45,7 +40,7 @@ impl Model for Stack {
       refused = s.refusals;
     } };
 
-    ghost invariant = { λ s. (small_vec_len s.items ≤ s.peak) × (s.peak ≤ s.limit) × (64 ≤ s.items.capacity) };
+    ghost invariant = { λ s. (length s.items.items ≤ s.peak) × (s.peak ≤ s.limit) × (64 ≤ s.items.capacity) };
 }
 
 impl Stack {
@@ -54,7 +49,7 @@ impl Stack {
         ensures { IsNew INLINE limit result }
     {
         Stack {
-            items: SmallVec::new(alloc),
+            items: Items::new(alloc),
             limit,
             peak: 0,
             refusals: Refusals::none(),
@@ -109,16 +104,21 @@ impl Stack {
 
     /// Puts an item on top of a stack that is not full and has its memory reserved. It allocates
     /// nothing and cannot fail.
+    #[inline(always)]
     pub fn push_reserved(&mut self, item: u32)
         requires reserved { IsTrue self.old.reserved }
         requires fits { length self.old.elements < self.old.limit }
         ensures { Becomes self.old (item ∷ self.old.elements) self.new }
     {
+        let length = self.items.len() + 1;
         self.items.push_reserved(item);
-        self.peak = self.peak.max(self.items.len());
+        if length > self.peak {
+            self.peak = length;
+        }
     }
 
     /// Removes the top item and returns it. The peak and the reserved memory stay.
+    #[inline(always)]
     pub fn pop(&mut self) -> Option<u32>
         ensures top { result ≡ slice_get self.old.elements 0 }
         ensures rest { Becomes self.old (drop 1 self.old.elements) self.new }
@@ -128,11 +128,12 @@ impl Stack {
     }
 
     /// Returns the top item.
+    #[inline(always)]
     pub fn top(&self) -> Option<u32>
         ensures value { result ≡ slice_get self.now.elements 0 }
         ensures within { IsWithin self.now }
     {
-        self.items.as_slice().last().copied()
+        self.items.last()
     }
 
     /// Removes all items. The peak and the reserved memory stay.
@@ -156,7 +157,7 @@ impl Stack {
         ensures value { IsTrue result ↔ (self.now.elements ≡ []) }
         ensures within { IsWithin self.now }
     {
-        self.items.is_empty()
+        self.items.len() == 0
     }
 
     /// Returns the greatest number of items so far.

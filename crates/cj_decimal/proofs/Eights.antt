@@ -1,5 +1,5 @@
 -- Numbers of at most eight digits, read by one word of eight bytes.
-use Rattle.std.proofs.Common.{◌≡◌, ℕ, zero, suc, ◌+◌, ◌-◌, ◌*◌, ◌/◌, ◌%◌, ◌^◌, ◌<◌, ◌≤◌, List, [], ◌∷◌, ◌++◌, length, take, drop, map, Bool, true, false, ◌&&◌, ◌||◌, nat_le, nat_eq, refl, sym, ap, subst, arith, ◌∙◌, inl, inr, not}
+use Rattle.std.proofs.Common.{◌≡◌, ℕ, zero, suc, ◌+◌, ◌-◌, ◌*◌, ◌/◌, ◌%◌, ◌^◌, ◌<◌, ◌≤◌, List, [], ◌∷◌, length, take, drop, map, Bool, true, false, ◌&&◌, ◌||◌, nat_le, nat_eq, refl, sym, ap, subst, arith, ◌∙◌, inl, inr, not}
 use Rattle.std.specs.Int.Bits.{bit_and, bit_xor, and_block, xor_block}
 use Rattle.std.proofs.lemmas.Nat.{xor_lt, pow-add, pow_pos, shr-shr, shr_le, and_mask, and_shr, and_le_r}
 use Rattle.std.proofs.lemmas.Nat.Bits.{and_high_mask}
@@ -148,7 +148,7 @@ clear_word (suc j) (b ∷ s) h =
     ∙ omega (arith, rest)
 
 -- a list of eight
-eight : (P : List ℕ → Type 0) → ((a b c d e f g h : ℕ) → P (a ∷ b ∷ c ∷ d ∷ e ∷ f ∷ g ∷ h ∷ [])) → (s : List ℕ) → length s ≡ 8 → P s
+pub eight : (P : List ℕ → Type 0) → ((a b c d e f g h : ℕ) → P (a ∷ b ∷ c ∷ d ∷ e ∷ f ∷ g ∷ h ∷ [])) → (s : List ℕ) → length s ≡ 8 → P s
 eight P each [] l = absurd (omega (arith, l))
 eight P each (a ∷ []) l = absurd (omega (arith, l))
 eight P each (a ∷ b ∷ []) l = absurd (omega (arith, l))
@@ -195,11 +195,11 @@ of_pairs n p q r s t u v w e lp lq lr ls lt lu lv lw =
     products : (x y p r t v : ℕ) → x ≡ t * 2 ^ 32 + p → y ≡ v * 2 ^ 32 + r → p < 100 → r < 100 → t < 100 → v < 100 → (x * 4294967296000100 % 2 ^ 64 + y * 42949672960001 % 2 ^ 64) % 2 ^ 64 / 2 ^ 32 ≡ p * 1000000 + r * 10000 + t * 100 + v
     products x y p r t v ex ey lp lr lt lv = omega arith
 
-horner : ℕ → List ℕ → ℕ
+unfoldable pub horner : ℕ → List ℕ → ℕ
 horner n [] = n
 horner n (d ∷ s) = horner (10 * n + d) s
 
-spelled_value : (n : ℕ) (s : List ℕ) → value_after n (map (λ d. d + 48) s) ≡ horner n s
+pub spelled_value : (n : ℕ) (s : List ℕ) → value_after n (map (λ d. d + 48) s) ≡ horner n s
 unfolding horner
 spelled_value n [] = refl
 spelled_value n (d ∷ s) = let e : 10 * n + (d + 48 - 48) ≡ 10 * n + d = omega arith in ap (λ m. value_after m (map (λ c. c + 48) s)) e ∙ spelled_value (10 * n + d) s
@@ -330,6 +330,15 @@ module _ (j : ℕ) (s : List ℕ) (w m : ℕ) (lj : j ≤ 8) (ls : length s ≡ 
       let small = all_small t tested_length (clear_below j (without_zeros s) (xor_below s h)) (ap (λ v. bit_and v 0xf0f0f0f0f0f0f0f0) (sym tested) ∙ low) (ap (λ v. bit_and (v + 0x0606060606060606) 0xf0f0f0f0f0f0f0f0) (sym tested) ∙ high) in
       let end = cleared j s h small in
       (end.0, value t tested_length small tested ∙ end.1)
+
+  -- the same, where a number is known to be above theirs
+  pub digits_below : bit_and m 0xf0f0f0f0f0f0f0f0 ≡ 0 → bit_and (m + 0x0606060606060606) 0xf0f0f0f0f0f0f0f0 ≡ 0
+      → (n : ℕ) → ((t : List ℕ) → length t ≡ 8 → AllBelow 10 t → m ≡ word_of t → digits_value (map (λ d. d + 48) t) < n) → AllDigits (drop j s) × (digits_value (drop j s) < n)
+  digits_below low high n value =
+      let t = clear j (without_zeros s) in
+      let small = all_small t tested_length (clear_below j (without_zeros s) (xor_below s h)) (ap (λ v. bit_and v 0xf0f0f0f0f0f0f0f0) (sym tested) ∙ low) (ap (λ v. bit_and (v + 0x0606060606060606) 0xf0f0f0f0f0f0f0f0) (sym tested) ∙ high) in
+      let end = cleared j s h small in
+      (end.0, subst (λ v. v < n) end.1 (value t tested_length small tested))
 
   pub tests_hold : AllDigits (drop j s) → (bit_and m 0xf0f0f0f0f0f0f0f0 ≡ 0) × (bit_and (m + 0x0606060606060606) 0xf0f0f0f0f0f0f0f0 ≡ 0)
   unfolding copies

@@ -10,6 +10,7 @@ pub mod Law
 pub mod Classes
 pub mod OneClass
 pub mod Wholes
+pub mod Below
 pub mod Eights
 pub mod Scales
 pub mod Splits

@@ -3,6 +3,7 @@ pub mod Class
 pub mod Digits
 pub mod Number
 pub mod Reading
+pub mod Signs
 pub mod Spelling
 pub mod Rows
 pub mod Word

@@ -1,9 +1,11 @@
 -- What private functions say of the way through a spelling: what its parts are, seen from the front.
-use Rattle.std.specs.Prelude.{◌≡◌, ℕ, ◌+◌, ◌≤◌, ◌<◌, List, [], ◌∷◌, ◌++◌, length, drop, Bool, true, false, cond, ◌&&◌, ◌||◌, not, nat_eq, ◌^◌, ℤ, pos, neg_ℤ, ◌≤ℤ◌, unsigned_abs}
+use Rattle.std.specs.Prelude.{◌≡◌, ℕ, ◌+◌, ◌≤◌, ◌<◌, List, [], ◌∷◌, ◌++◌, length, drop, Bool, true, false, cond, ◌&&◌}
+use Rattle.std.specs.Prelude.{◌||◌, not, nat_eq, ◌^◌, ℤ, pos, neg_ℤ, ◌≤ℤ◌, unsigned_abs}
 use Rattle.std.specs.Char.{is_ascii_digit}
 use Rattle.cj_decimal.specs.Number.{signed}
 use Rattle.cj_decimal.specs.Digits.{StandsFor}
 use Rattle.cj_decimal.specs.Spelling.{value_after, digits_value, Written, Spells}
+use Rattle.cj_decimal.specs.Signs.{capital_e, decimal_point, digit_0, minus_sign, plus_sign, small_e}
 
 -- the digits at the front of a list
 unfoldable pub digits_front : List ℕ → List ℕ
@@ -49,12 +51,12 @@ begins_digit (b ∷ s) = is_ascii_digit b
 
 -- what follows a minus sign, if there is one
 unfoldable pub body : List ℕ → List ℕ
-body s = cond (begins 45 s) (drop 1 s) s
+body s = cond (begins minus_sign s) (drop 1 s) s
 
 -- digits are an int part
 unfoldable pub is_int : List ℕ → Bool
 is_int [] = false
-is_int (b ∷ s) = not (nat_eq b 48) || is_empty s
+is_int (b ∷ s) = not (nat_eq b digit_0) || is_empty s
 
 -- the list is an int part and nothing else, of the number n, which is below 10^18
 pub record IsShort (s : List ℕ) (n : ℕ) : Type 0 where
@@ -65,18 +67,18 @@ pub record IsShort (s : List ℕ) (n : ℕ) : Type 0 where
 
 -- what follows the int part begins with a right fraction, or with none
 unfoldable pub is_frac : List ℕ → Bool
-is_frac r = not (begins 46 r) || begins_digit (drop 1 r)
+is_frac r = not (begins decimal_point r) || begins_digit (drop 1 r)
 
 -- that fraction's digits, and what follows them
 unfoldable pub frac_digits : List ℕ → List ℕ
-frac_digits r = cond (begins 46 r) (digits_front (drop 1 r)) []
+frac_digits r = cond (begins decimal_point r) (digits_front (drop 1 r)) []
 
 unfoldable pub after_frac : List ℕ → List ℕ
-after_frac r = cond (begins 46 r) (digits_rest (drop 1 r)) r
+after_frac r = cond (begins decimal_point r) (digits_rest (drop 1 r)) r
 
 -- what follows the sign of an exponent, after its mark
 unfoldable pub exp_digits : List ℕ → List ℕ
-exp_digits t = cond (begins 45 t || begins 43 t) (drop 1 t) t
+exp_digits t = cond (begins minus_sign t || begins plus_sign t) (drop 1 t) t
 
 -- one digit or more, and nothing else
 unfoldable pub is_whole_digits : List ℕ → Bool
@@ -85,21 +87,22 @@ is_whole_digits t = begins_digit t && is_empty (digits_rest t)
 -- the rest of a spelling is a right exponent, or empty
 unfoldable pub is_exp : List ℕ → Bool
 is_exp [] = true
-is_exp (b ∷ t) = (nat_eq b 101 || nat_eq b 69) && is_whole_digits (exp_digits t)
+is_exp (b ∷ t) = (nat_eq b small_e || nat_eq b capital_e) && is_whole_digits (exp_digits t)
 
 -- and stands for this number
 unfoldable pub exp_value : List ℕ → ℤ
 exp_value [] = pos 0
-exp_value (b ∷ t) = signed (begins 45 t) (digits_value (exp_digits t))
+exp_value (b ∷ t) = signed (begins minus_sign t) (digits_value (exp_digits t))
 
 -- the whole test of a spelling
 abbrev pub is_number : List ℕ → Bool
-is_number s = is_int (digits_front (body s)) && (is_frac (digits_rest (body s)) && is_exp (after_frac (digits_rest (body s))))
+is_number s = is_int (digits_front (body s))
+    && (is_frac (digits_rest (body s)) && is_exp (after_frac (digits_rest (body s))))
 
 -- and what it says where the test holds
 abbrev pub written_of : List ℕ → Written
 written_of s = record {
-  negative = begins 45 s;
+  negative = begins minus_sign s;
   int = digits_front (body s);
   frac = frac_digits (digits_rest (body s));
   exponent = exp_value (after_frac (digits_rest (body s)));
@@ -117,7 +120,8 @@ pub record SaturatesSize (n r : ℕ) : Type 0 where
   pub high : 10 ^ 35 ≤ r → 10 ^ 35 ≤ n
 
 -- the parts that were read stand for what the spelling s says
-pub record IsReadOf (s : List ℕ) (negative : Bool) (lead extra : ℕ) (lost : Bool) (after_point : ℕ) (exponent : ℤ) : Type 0 where
+pub record IsReadOf (s : List ℕ) (negative : Bool) (lead extra : ℕ) (lost : Bool) (after_point : ℕ) (exponent : ℤ) :
+    Type 0 where
   pub written : Written
   pub spells : Spells s written
   pub sign : written.negative ≡ negative

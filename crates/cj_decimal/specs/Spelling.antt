@@ -1,10 +1,12 @@
 -- The numbers of RFC 8259, section 6, and what their spellings stand for.
-use Rattle.std.specs.Prelude.{◌≡◌, ℕ, ◌+◌, ◌-◌, ◌*◌, ◌≤◌, List, [], ◌∷◌, ◌++◌, length, Bool, true, false, ◌⊎◌, ℤ, pos, ◌-ℤ◌}
+use Rattle.std.specs.Prelude.{◌≡◌, ℕ, ◌+◌, ◌-◌, ◌*◌, ◌≤◌, List, [], ◌∷◌, ◌++◌, length, Bool, true, false, ◌⊎◌, ℤ, pos}
+use Rattle.std.specs.Prelude.{◌-ℤ◌}
 use Rattle.cj_decimal.specs.Number.{Number, number, signed, SameValue, IsNormal, IsInRange}
+use Rattle.cj_decimal.specs.Signs.{capital_e, decimal_point, digit_0, digit_1, digit_9, minus_sign, plus_sign, small_e}
 
 -- one of the bytes `0` to `9`
 abbrev pub IsDigit : ℕ → Type 0
-IsDigit b = (48 ≤ b) × (b ≤ 57)
+IsDigit b = (digit_0 ≤ b) × (b ≤ digit_9)
 
 -- digits alone, perhaps none
 abbrev pub AllDigits : List ℕ → Type 0
@@ -19,7 +21,7 @@ IsDigits (b ∷ s) = IsDigit b × AllDigits s
 -- int: `0` alone, or digits of which the first is not `0`
 abbrev pub IsInt : List ℕ → Type 0
 IsInt [] = ⊥
-IsInt (b ∷ s) = ((b ≡ 48) × (s ≡ [])) ⊎ ((49 ≤ b) × (b ≤ 57) × AllDigits s)
+IsInt (b ∷ s) = ((b ≡ digit_0) × (s ≡ [])) ⊎ ((digit_1 ≤ b) × (b ≤ digit_9) × AllDigits s)
 
 -- an int of at most 18 digits, and nothing else
 abbrev pub IsFewDigits : List ℕ → Type 0
@@ -27,26 +29,26 @@ IsFewDigits s = IsInt s × (length s ≤ 18)
 
 -- the same, or a minus and the same
 abbrev pub IsFewSigned : List ℕ → Type 0
-IsFewSigned s = IsFewDigits s ⊎ ((digits : List ℕ) × (s ≡ 45 ∷ digits) × IsFewDigits digits)
+IsFewSigned s = IsFewDigits s ⊎ ((digits : List ℕ) × (s ≡ minus_sign ∷ digits) × IsFewDigits digits)
 
 -- minus: `-` where the number is negative, else nothing
 abbrev pub IsMinus : Bool → List ℕ → Type 0
-IsMinus true s = s ≡ 45 ∷ []
+IsMinus true s = s ≡ minus_sign ∷ []
 IsMinus false s = s ≡ []
 
 -- frac: nothing, or `.` and one digit or more
 abbrev pub IsFrac : List ℕ → List ℕ → Type 0
-IsFrac digits s = ((digits ≡ []) × (s ≡ [])) ⊎ (IsDigits digits × (s ≡ 46 ∷ digits))
+IsFrac digits s = ((digits ≡ []) × (s ≡ [])) ⊎ (IsDigits digits × (s ≡ decimal_point ∷ digits))
 
 -- the sign of an exponent: `-` where it is negative, else `+` or nothing
 abbrev pub IsExpSign : Bool → List ℕ → Type 0
-IsExpSign true s = s ≡ 45 ∷ []
-IsExpSign false s = (s ≡ []) ⊎ (s ≡ 43 ∷ [])
+IsExpSign true s = s ≡ minus_sign ∷ []
+IsExpSign false s = (s ≡ []) ⊎ (s ≡ plus_sign ∷ [])
 
 -- the number that digits go on to spell after those that spell n
 abbrev pub value_after : ℕ → List ℕ → ℕ
 value_after n [] = n
-value_after n (b ∷ s) = value_after (10 * n + (b - 48)) s
+value_after n (b ∷ s) = value_after (10 * n + (b - digit_0)) s
 
 -- the number that digits spell
 abbrev pub digits_value : List ℕ → ℕ
@@ -58,7 +60,7 @@ pub record ExpParts (e : ℤ) (s : List ℕ) : Type 0 where
   pub negative : Bool
   pub sign : List ℕ
   pub digits : List ℕ
-  pub mark_is : (mark ≡ 101) ⊎ (mark ≡ 69)
+  pub mark_is : (mark ≡ small_e) ⊎ (mark ≡ capital_e)
   pub sign_is : IsExpSign negative sign
   pub digits_are : IsDigits digits
   pub joined : s ≡ mark ∷ (sign ++ digits)

@@ -1,5 +1,7 @@
 -- Bytes as one number, and what is read by it.
-use Rattle.std.specs.Prelude.{ℕ, ◌+◌, ◌*◌, ◌<◌, List, [], ◌∷◌}
+use Rattle.std.specs.Prelude.{◌≡◌, ℕ, ◌+◌, ◌*◌, ◌<◌, List, [], ◌∷◌, length, map, ◌^◌}
+use Rattle.cj_decimal.specs.Signs.{digit_0}
+use Rattle.cj_decimal.specs.Spelling.{digits_value}
 
 -- bytes as one number, of which the first is least
 abbrev pub word_of : List ℕ → ℕ
@@ -10,3 +12,13 @@ word_of (b ∷ s) = b + 256 * word_of s
 abbrev pub AllBelow : ℕ → List ℕ → Type 0
 AllBelow n [] = Unit {0}
 AllBelow n (b ∷ s) = (b < n) × AllBelow n s
+
+-- digits weighed by the powers of a number, the first one most
+unfoldable pub weighed : ℕ → List ℕ → ℕ
+weighed n [] = 0
+weighed n (d ∷ s) = n ^ length s * d + weighed n s
+
+-- eight digits that are below this word as bytes, the first one greatest, spell a number below n
+abbrev pub TellsBelow : ℕ → ℕ → Type 0
+TellsBelow word n = (s : List ℕ) → length s ≡ 8 → AllBelow 10 s → weighed 256 s < word
+    → digits_value (map (λ d. d + digit_0) s) < n

@@ -45,7 +45,8 @@ impl Model for Affine {
       shift = m.shift;
     } };
 
-    ghost inverse_ok = { λ a h i. record { scale = a.scale; whole = h.0.whole_is i; part = h.0.part_is i; shift = a.shift } };
+    ghost inverse_ok = { λ a h i. record
+        { scale = a.scale; whole = h.0.whole_is i; part = h.0.part_is i; shift = a.shift } };
 }
 
 impl Affine {

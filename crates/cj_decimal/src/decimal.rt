@@ -3,21 +3,25 @@
 //! Normal form is made once, in `from_parts`, and is the invariant of the type. So `==` compares
 //! fields, and the range applies to the normal form and not to the spelling. New code that makes a
 //! `Decimal` must trim its zeros, and 0 is (0, 0).
-ghost use Rattle.std.specs.Prelude.{◌≡◌, ◌↔◌, ℕ, ◌+◌, ◌*◌, ◌^◌, ◌<◌, ◌≤◌, ℤ, pos, neg_ℤ, ◌-ℤ◌, ◌*ℤ◌, unsigned_abs, length, slice_range, IsTrue, IfSome, IfNone, IsSome, IfOk, IsOk, IsErrOf};
+ghost use Rattle.std.specs.Prelude.{◌≡◌, ◌↔◌, ℕ, ◌+◌, ◌*◌, ◌^◌, ◌<◌, ◌≤◌, ℤ, pos, neg_ℤ, ◌-ℤ◌, ◌*ℤ◌, unsigned_abs};
+ghost use Rattle.std.specs.Prelude.{length, slice_range, IsTrue, IfSome, IfNone, IsSome, IfOk, IsOk, IsErrOf};
 ghost use Rattle.std.proofs.Common.{rules};
 ghost use Rattle.std.specs.Cmp.Rules.{comparing};
-ghost use Rattle.cj_decimal.specs.Spelling.{IsFewDigits, IsFewSigned, IsNumber, IsValue, IsNumberInRange, IsNumberOutOfRange, HasOneValue};
+ghost use Rattle.cj_decimal.specs.Spelling.{IsFewDigits, IsFewSigned, IsNumber, IsValue, IsNumberInRange};
+ghost use Rattle.cj_decimal.specs.Spelling.{IsNumberOutOfRange, HasOneValue};
 ghost use Rattle.cj_decimal.specs.Class.{Class, whole_answer};
-ghost use Rattle.cj_decimal.specs.Number.{number, signed, same_parts, SameValue, IsNormal, IsInRange, IsOutOfRange, IsWhole, IsFixed};
+ghost use Rattle.cj_decimal.specs.Number.{number, signed, same_parts, SameValue, IsNormal, IsInRange, IsOutOfRange};
+ghost use Rattle.cj_decimal.specs.Number.{IsWhole, IsFixed};
 ghost use Rattle.cj_decimal.specs.Digits.{StandsFor};
 ghost use Rattle.cj_decimal.specs.Reading.{Saturates};
+ghost use Rattle.cj_decimal.specs.Word.{TellsBelow};
 
 use crate::fixed::Fixed18;
 use crate::powers::wide_ten_to;
 use crate::spelling::{Parts, after_minus, has_byte, read_parts};
 use crate::trimming::without_zeros;
 use crate::whole::{read_any, read_few_digits};
-use crate::word::read_word;
+use crate::word::{is_below, read_word};
 use std::marker::Model;
 use thiserror::Error;
 
@@ -219,6 +223,19 @@ impl Decimal {
             × (stop ≤ start + 8) × (8 ≤ stop)) }
     {
         read_word(line, start, stop)
+    }
+
+    /// Returns whether such a number is below a count, without its value. `word` is that of the
+    /// count ([`digits_word`]).
+    #[inline(always)]
+    pub fn is_few_below_in(line: &[u8], start: usize, stop: usize, word: u64) -> bool
+        requires order { start < stop }
+        requires within { stop ≤ length line.now }
+        ensures few { IsTrue result → IsFewDigits (slice_range line.now start stop) }
+        ensures below { IsTrue result → (n : ℕ) → TellsBelow word n → (m : ℕ) × (m < n) × (m < 10 ^ 18)
+            × ((c : Class (slice_range line.now start stop)) → whole_answer c ≡ Ok (Some (pos m))) }
+    {
+        is_below(line, start, stop, word)
     }
 
     /// Does the same for the number of [`Decimal::read_few_signed`].

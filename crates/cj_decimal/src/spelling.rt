@@ -1,8 +1,11 @@
 //! The parts of a number's spelling, read from the front in one pass (RFC 8259, section 6).
-ghost use Rattle.std.specs.Prelude.{◌≡◌, ℕ, ◌+◌, ◌*◌, ◌^◌, ◌<◌, ◌≤◌, ◌||◌, length, drop, true, false, MatchOption, ◌-◌, unsigned_abs, IsSome, IsNone, ◌↔◌, IfSome};
+ghost use Rattle.std.specs.Prelude.{◌≡◌, ℕ, ◌+◌, ◌*◌, ◌^◌, ◌<◌, ◌≤◌, ◌||◌, length, drop, true, false, MatchOption, ◌-◌};
+ghost use Rattle.std.specs.Prelude.{unsigned_abs, IsSome, IsNone, ◌↔◌, IfSome};
 ghost use Rattle.cj_decimal.specs.Digits.{StandsFor};
 ghost use Rattle.cj_decimal.specs.Spelling.{IsNumber, digits_value, value_after};
-ghost use Rattle.cj_decimal.specs.Reading.{begins, body, digits_front, digits_rest, is_int, is_frac, frac_digits, after_frac, exp_digits, is_whole_digits, is_exp, exp_value, Saturates, SaturatesSize, IsReadOf, Passes, Carries, Stops};
+ghost use Rattle.cj_decimal.specs.Reading.{begins, body, digits_front, digits_rest, is_int, is_frac, frac_digits};
+ghost use Rattle.cj_decimal.specs.Reading.{after_frac, exp_digits, is_whole_digits, is_exp, exp_value, Saturates};
+ghost use Rattle.cj_decimal.specs.Reading.{SaturatesSize, IsReadOf, Passes, Carries, Stops};
 
 use crate::digits::{Digits, Run, read_digits, read_long, read_on, read_short};
 

@@ -1,9 +1,10 @@
 //! Numbers of at most eight digits in a line, read from one word: the eight bytes before the
 //! number's end.
-ghost use Rattle.std.specs.Prelude.{◌≡◌, ℕ, ◌+◌, ◌-◌, ◌*◌, ◌^◌, ◌<◌, ◌≤◌, List, length, map, slice_range, IfSome, IsSome, ◌↔◌};
+ghost use Rattle.std.specs.Prelude.{◌≡◌, ℕ, ◌+◌, ◌-◌, ◌*◌, ◌^◌, ◌<◌, ◌≤◌, List, length, map, slice_range, IfSome};
+ghost use Rattle.std.specs.Prelude.{IsSome, IsTrue, ◌↔◌};
 ghost use Rattle.cj_decimal.specs.Reading.{IsShort};
 ghost use Rattle.cj_decimal.specs.Spelling.{AllDigits, IsInt, digits_value};
-ghost use Rattle.cj_decimal.specs.Word.{word_of, AllBelow};
+ghost use Rattle.cj_decimal.specs.Word.{word_of, AllBelow, TellsBelow};
 
 /// The number of bytes in a word.
 const BYTES: usize = 8;
@@ -107,4 +108,70 @@ pub fn read_word(line: &[u8], start: usize, stop: usize) -> Option<u64>
         return None;
     }
     read_digits_before(line, count, stop)
+}
+
+/// The least number that has more than eight digits.
+const NINE_DIGITS: u64 = 100_000_000;
+
+/// Returns the digits of a count in the bytes of a word, the first in the greatest byte. Words of
+/// eight digits have the order of their numbers, so no value need be computed to compare two.
+///
+/// A count of more digits is above all of them.
+pub fn digits_word(count: u64) -> u64
+    ensures { TellsBelow result count }
+{
+    if count < 10 {
+        return count;
+    }
+    if count >= NINE_DIGITS {
+        return u64::MAX;
+    }
+    let a = count / 10;
+    let b = a / 10;
+    let c = b / 10;
+    let d = c / 10;
+    let e = d / 10;
+    let f = e / 10;
+    let g = f / 10;
+    let low = count % 10 + (a % 10) * 0x100 + (b % 10) * 0x1_0000 + (c % 10) * 0x100_0000;
+    let high = d % 10 + (e % 10) * 0x100 + (f % 10) * 0x1_0000 + g * 0x100_0000;
+    low + high * 0x1_0000_0000
+}
+
+/// Returns whether the last `count` bytes before `stop` are digits that spell a number below the
+/// one of this word.
+#[inline(always)]
+fn are_digits_below(line: &[u8], count: usize, stop: usize, word: u64) -> bool
+    requires few { count ≤ 8 }
+    requires room { 8 ≤ stop }
+    requires within { stop ≤ length line.now }
+    ensures { IsTrue result → (n : ℕ) → TellsBelow word n
+        → AllDigits (slice_range line.now (stop - count) stop)
+        × (digits_value (slice_range line.now (stop - count) stop) < n) }
+{
+    let digits = (word_before(line, stop) ^ ZEROS) & last_bytes(count);
+    if digits & HIGH != 0 || digits.wrapping_add(SIXES) & HIGH != 0 {
+        return false;
+    }
+    digits.swap_bytes() < word
+}
+
+/// Returns whether the bytes from `start` to `stop` are at most eight digits, with no 0 before
+/// another digit, that spell a number below the one of this word. False also if `stop` is below 8.
+#[inline(always)]
+pub fn is_below(line: &[u8], start: usize, stop: usize, word: u64) -> bool
+    requires order { start < stop }
+    requires within { stop ≤ length line.now }
+    ensures near { IsTrue result → stop ≤ start + 8 }
+    ensures short { IsTrue result → (n : ℕ) → TellsBelow word n
+        → (m : ℕ) × (m < n) × IsShort (slice_range line.now start stop) m }
+{
+    let count = stop - start;
+    if count > BYTES || stop < BYTES {
+        return false;
+    }
+    if line[start] == b'0' && count != 1 {
+        return false;
+    }
+    are_digits_below(line, count, stop, word)
 }

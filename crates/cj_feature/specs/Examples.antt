@@ -20,7 +20,8 @@ pub record Row : Type 0 where
 
 -- the line of a feature with the id `b`, these city objects and no vertices
 abbrev pub feature_line : List ℕ → List ℕ
-feature_line objects = codes "{\"type\":\"CityJSONFeature\",\"id\":\"b\",\"CityObjects\":{" ++ objects ++ codes "},\"vertices\":[]}"
+feature_line objects = codes "{\"type\":\"CityJSONFeature\",\"id\":\"b\",\"CityObjects\":{" ++ objects
+    ++ codes "},\"vertices\":[]}"
 
 -- its tree, by the members of the city objects
 abbrev pub feature_tree : List ℕ → ℕ → Members → Tree
@@ -32,7 +33,10 @@ feature_tree line n objects =
     (member (atom_at line (n + 52) (n + 62)) (array (n + 63) (n + 65) no_items) no_members))))
 
 abbrev pub row : List ℕ → (List ℕ → Members) → Row
-row objects members_of_line = record { line = feature_line objects; tree = feature_tree (feature_line objects) (length objects) (members_of_line (feature_line objects)) }
+row objects members_of_line = record {
+  line = feature_line objects;
+  tree = feature_tree (feature_line objects) (length objects) (members_of_line (feature_line objects));
+}
 
 -- children and parents of itself
 abbrev pub itself : Row

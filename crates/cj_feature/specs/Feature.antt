@@ -2,7 +2,8 @@
 use Rattle.std.specs.Prelude.{ℕ, List, [], ◌++◌, Bool, cond, Option, Some, None, codes}
 use Rattle.std.specs.List.{flat_map}
 use Rattle.std.specs.Str.{chars}
-use Rattle.cj_spans.specs.declared.reason.Reason.TheVariants.{WrongType, NotThree, UnknownObjectType, IdNotFound, NotReached}
+use Rattle.cj_spans.specs.declared.reason.Reason.TheVariants.{WrongType, NotThree, UnknownObjectType, IdNotFound}
+use Rattle.cj_spans.specs.declared.reason.Reason.TheVariants.{NotReached}
 use Rattle.cj_spans.specs.declared.finding.Finding.{Finding}
 use Rattle.cj_spans.specs.Tree.{Tree}
 use Rattle.cj_spans.specs.Kinds.{is_text, is_array, is_object}
@@ -23,7 +24,8 @@ given_list (Some t) = cond (is_array (kind_of t)) (listed t) empty
 
 -- the list of the header of this tree, or none at all
 abbrev pub templates_of : Tree → Given
-templates_of header = given_list (member_if (chars (codes "templates")) (member_of (chars (codes "geometry-templates")) header))
+templates_of header = given_list
+    (member_if (chars (codes "templates")) (member_of (chars (codes "geometry-templates")) header))
 
 -- ---- the id
 
@@ -82,8 +84,8 @@ vertex_list t = of_kind is_array (λ u. flat_map (of_length NotThree 3 whole_num
 
 -- ---- city objects that hang on the main one
 
--- a city object among these, of which none has a finding that is reached from the id; a value that is no object counts as one,
--- and has the finding of its kind before
+-- a city object among these, of which none has a finding that is reached from the id; a value that is no object counts
+-- as one, and has the finding of its kind before
 abbrev pub unreached : List (Tree × Tree) → Tree → Tree × Tree → List Finding
 unreached objects id m = cond (is_reached objects id m.0) [] (one NotReached m.1)
 
@@ -91,11 +93,13 @@ unreached objects id m = cond (is_reached objects id m.0) [] (one NotReached m.1
 abbrev pub reach_rule : Option Tree → Option Tree → List Finding
 reach_rule None objects = []
 reach_rule (Some id) None = []
-reach_rule (Some id) (Some t) = cond (is_known (members_of t) id) (flat_map (unreached (members_of t) id) (members_of t)) []
+reach_rule (Some id) (Some t) =
+    cond (is_known (members_of t) id) (flat_map (unreached (members_of t) id) (members_of t)) []
 
 -- the rule, where it is asked for
 abbrev pub reach_if : Bool → Tree → List Finding
-reach_if tree u = cond tree (reach_rule (member_of (chars (codes "id")) u) (member_of (chars (codes "CityObjects")) u)) []
+reach_if tree u = cond tree (reach_rule (member_of (chars (codes "id")) u)
+    (member_of (chars (codes "CityObjects")) u)) []
 
 -- ---- the feature
 
@@ -105,7 +109,8 @@ feature_rules templates tree u =
     distinct u
     ++ has_member_named (chars (codes "type")) WrongType (chars (codes "CityJSONFeature")) u
     ++ id_rule u
-    ++ needs (chars (codes "CityObjects")) (city_objects (count_of (member_of (chars (codes "vertices")) u)) templates) u
+    ++ needs (chars (codes "CityObjects"))
+    (city_objects (count_of (member_of (chars (codes "vertices")) u)) templates) u
     ++ needs (chars (codes "vertices")) vertex_list u
     ++ links (member_of (chars (codes "CityObjects")) u)
     ++ reach_if tree u

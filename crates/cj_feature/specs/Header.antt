@@ -1,9 +1,11 @@
 -- The findings of a header, rule by rule.
-use Rattle.std.specs.Prelude.{ℕ, List, [], ◌∷◌, ◌++◌, ◌*◌, ◌^◌, Bool, true, false, cond, nat_eq, nat_lt, length, Option, ℤ, pos, negsuc, ◌+ℤ◌, ◌*ℤ◌, unsigned_abs, codes}
+use Rattle.std.specs.Prelude.{ℕ, List, [], ◌∷◌, ◌++◌, ◌*◌, ◌^◌, Bool, true, false, cond, nat_eq, nat_lt, length, Option}
+use Rattle.std.specs.Prelude.{ℤ, pos, negsuc, ◌+ℤ◌, ◌*ℤ◌, unsigned_abs, codes}
 use Rattle.std.specs.List.{flat_map}
 use Rattle.std.specs.Str.{chars}
 use Rattle.cj_spans.specs.declared.reason.Reason.{Reason}
-use Rattle.cj_spans.specs.declared.reason.Reason.TheVariants.{WrongType, WrongVersion, NotEmpty, NotThree, TransformNotFixed}
+use Rattle.cj_spans.specs.declared.reason.Reason.TheVariants.{WrongType, WrongVersion, NotEmpty, NotThree}
+use Rattle.cj_spans.specs.declared.reason.Reason.TheVariants.{TransformNotFixed}
 use Rattle.cj_spans.specs.declared.finding.Finding.{Finding}
 use Rattle.cj_spans.specs.Tree.{Tree}
 use Rattle.cj_spans.specs.Kinds.{is_text, is_number, is_array, is_object}

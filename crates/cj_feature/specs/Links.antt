@@ -51,11 +51,13 @@ answered back item = cond back [] (one LinkNotMutual item)
 -- a child is in the feature and lists the city object of this name as a parent
 abbrev pub child : List (Tree × Tree) → Tree → Tree → List Finding
 child objects name item =
-    cond (is_text (kind_of item)) (cond (is_known objects item) (answered (lists (chars (codes "parents")) objects item name) item) (one ChildNotFound item)) []
+    cond (is_text (kind_of item)) (cond (is_known objects item)
+    (answered (lists (chars (codes "parents")) objects item name) item) (one ChildNotFound item)) []
 
 -- a parent that is in the feature lists the city object of this name as a child
 abbrev pub parent : List (Tree × Tree) → Tree → Tree → List Finding
-parent objects name item = cond (is_known objects item) (answered (lists (chars (codes "children")) objects item name) item) []
+parent objects name item = cond (is_known objects item)
+    (answered (lists (chars (codes "children")) objects item name) item) []
 
 -- the children of a city object that is no group
 abbrev pub children : List (Tree × Tree) → Tree × Tree → List Finding
@@ -67,7 +69,8 @@ parents objects m = flat_map (parent objects m.0) (listed_in (chars (codes "pare
 
 -- an array of parents has one that is in the feature, else the city object has a finding
 abbrev pub has_parent : List (Tree × Tree) → Tree → Tree → List Finding
-has_parent objects o t = cond (is_array (kind_of t) && not (list_any (is_known objects) (items_of t))) (one NoParent o) []
+has_parent objects o t = cond (is_array (kind_of t) && not (list_any (is_known objects) (items_of t)))
+    (one NoParent o) []
 
 -- a city object of the second level, by its member of parents
 abbrev pub part_of : List (Tree × Tree) → Tree → Option Tree → List Finding

@@ -48,7 +48,8 @@ ItemsHaveMarks objects items = (item : Tree) → Contains items item → HaveMar
 
 -- all that those among these city objects list that have marks, have marks
 abbrev pub ListMarks : Node → List (Tree × Tree) → Type 0
-ListMarks objects ms = (m : Tree × Tree) → Contains ms m → IsMarkedBy objects m.1 → ItemsHaveMarks objects (listed_in (chars (codes "children")) m.1)
+ListMarks objects ms = (m : Tree × Tree) → Contains ms m → IsMarkedBy objects m.1
+    → ItemsHaveMarks objects (listed_in (chars (codes "children")) m.1)
 
 -- one of these items is the name of the city object of this number, which has no mark
 pub record IsListedUnmarked (objects : Node) (items : List Tree) (number : ℕ) : Type 0 where
@@ -67,13 +68,17 @@ pub record IsNext (objects : Node) (number : ℕ) : Type 0 where
 pub record IsToMark (feature : Tree) (line : List ℕ) (tokens : List Token) (number : ℕ) : Type 0 where
   pub within : number < length tokens
   pub unmarked : IsMarked line tokens (tree_at line (spans_of tokens) number) → ⊥
-  pub reached : ((t : Tree) → IsMarked line tokens t → IsReachedObject feature t) → IsReachedObject feature (tree_at line (spans_of tokens) number)
+  pub reached : ((t : Tree) → IsMarked line tokens t → IsReachedObject feature t)
+      → IsReachedObject feature (tree_at line (spans_of tokens) number)
 
 -- the city objects that have marks are those of the feature that are reached from the id
 abbrev pub MarksFit : Node → Tree → Type 0
 MarksFit objects id =
-    (t : Tree) → (IsMarkedBy objects t → (name : Tree) × Contains (members_of (tree objects)) (name, t) × IsReached (members_of (tree objects)) id name)
-    × ((name : Tree) → Contains (members_of (tree objects)) (name, t) → IsReached (members_of (tree objects)) id name → IsMarkedBy objects t)
+    (t : Tree) → (IsMarkedBy objects t
+    → (name : Tree) × Contains (members_of (tree objects)) (name, t)
+    × IsReached (members_of (tree objects)) id name)
+    × ((name : Tree) → Contains (members_of (tree objects)) (name, t) → IsReached (members_of (tree objects)) id name
+    → IsMarkedBy objects t)
 
 -- ---- a guide that marks most of them first: it is sound, and need not be complete
 
@@ -86,20 +91,23 @@ pub record OnlyMarks (old new : BoundedList Token) : Type 0 where
   pub tokens : bare new.elements ≡ bare old.elements
   pub list : new ≡ record old { elements = new.elements }
 
--- each of these numbers is that of one of these city objects, whose name has the number before; but 0 is none, and one from
--- 2^31 on stands for one that is done with
+-- each of these numbers is that of one of these city objects, whose name has the number before; but 0 is none, and one
+-- from 2^31 on stands for one that is done with
 abbrev pub AreNamed : List (Tree × Tree) → List ℕ → List Span → List ℕ → Type 0
 AreNamed objects line spans numbers =
-    (k n : ℕ) → slice_get numbers k ≡ Some n → 0 < n → n < 2147483648 → (n < length spans) × Contains objects (tree_at line spans (n - 1), tree_at line spans n)
+    (k n : ℕ) → slice_get numbers k ≡ Some n → 0 < n → n < 2147483648
+    → (n < length spans) × Contains objects (tree_at line spans (n - 1), tree_at line spans n)
 
 -- each of the first numbers is that of a city object that is reached
 abbrev pub AreReached : Tree → List ℕ → List Span → List ℕ → ℕ → Type 0
 AreReached feature line spans numbers count =
-    (k n : ℕ) → k < count → slice_get numbers k ≡ Some n → (n < length spans) × IsReachedObject feature (tree_at line spans n)
+    (k n : ℕ) → k < count → slice_get numbers k ≡ Some n
+    → (n < length spans) × IsReachedObject feature (tree_at line spans n)
 
 -- all city objects of this name are reached
 abbrev pub ReachesName : Tree → Node → Tree → Type 0
-ReachesName feature objects id = (name t : Tree) → Contains (members_of (tree objects)) (name, t) → same_text name id ≡ true → IsReachedObject feature t
+ReachesName feature objects id = (name t : Tree) → Contains (members_of (tree objects)) (name, t)
+    → same_text name id ≡ true → IsReachedObject feature t
 
 -- the spans of the tokens that a node stands in
 abbrev pub spans_by : Node → List Span
@@ -115,11 +123,14 @@ WaitsFor feature line spans near = AreReached feature line spans near.pending ne
 
 -- each city object at hand that is not done with was at hand before
 pub record AddsNone {O L P : ℕ} (old new : Near O L P) : Type 0 where
-  pub objects : (k n : ℕ) → slice_get new.objects k ≡ Some n → n < 2147483648 → (j : ℕ) × (slice_get old.objects j ≡ Some n)
+  pub objects : (k n : ℕ) → slice_get new.objects k ≡ Some n → n < 2147483648
+      → (j : ℕ) × (slice_get old.objects j ≡ Some n)
 
 -- of a line and its tokens: those at hand are city objects, and what waits and what has marks is reached
 pub record IsGuide {O L P : ℕ} (line : List ℕ) (tokens : List Token) (near : Near O L P) : Type 0 where
   pub of : AreOf line tokens
-  pub known : (feature objects : Tree) → Json line feature → member_of (chars (codes "CityObjects")) feature ≡ Some objects → AreNamed (members_of objects) line (spans_of tokens) near.objects
+  pub known : (feature objects : Tree) → Json line feature
+      → member_of (chars (codes "CityObjects")) feature ≡ Some objects
+      → AreNamed (members_of objects) line (spans_of tokens) near.objects
   pub waiting : (feature : Tree) → Json line feature → WaitsFor feature line (spans_of tokens) near
   pub sound : (feature : Tree) → Json line feature → AllReached feature line tokens

@@ -1,5 +1,7 @@
--- Questions on links: whether a city object of one text lists another. Many are answered at once, in the order of texts.
-use Rattle.std.specs.Prelude.{◌≡◌, ℕ, ◌≤◌, List, Bool, true, false, Option, Some, slice_get, slice_index_or, take, length}
+-- Questions on links: whether a city object of one text lists another. Many are answered at once, in the order of
+-- texts.
+use Rattle.std.specs.Prelude.{◌≡◌, ℕ, ◌≤◌, List, Bool, true, false, Option, Some, slice_get, slice_index_or, take}
+use Rattle.std.specs.Prelude.{length}
 use Rattle.std.specs.List.Sorted.{IsSortedByKey, IsPartitionPoint}
 use Rattle.std.specs.Ordering.{is_lt, nat_cmp, ordering_then}
 use Rattle.std.specs.declared.cmp.Ordering.{Ordering}
@@ -69,7 +71,8 @@ AreInOrder objects qs = IsSortedByKey (key_in objects) compare_keys qs
 -- the questions before this place come before the key, and no other
 abbrev pub IsPlaceOf : Node → Key → List Question → ℕ → Type 0
 IsPlaceOf objects k qs i =
-    IsPartitionPoint (λ q. is_lt (compare_keys (key_in objects q) k) ≡ true) (λ q. is_lt (compare_keys (key_in objects q) k) ≡ false) qs i
+    IsPartitionPoint (λ q. is_lt (compare_keys (key_in objects q) k) ≡ true)
+    (λ q. is_lt (compare_keys (key_in objects q) k) ≡ false) qs i
 
 -- the first question on a text stands at this place: what is no text comes before all texts, and so do the city objects
 pub record IsFirstOn (objects : Node) (qs : List Question) (t : Tree) (i : ℕ) : Type 0 where
@@ -91,23 +94,27 @@ pub record IsQuestion (objects : Node) (qs : List Question) (from to : Tree) (i 
 -- whichever texts are those of the question, a city object of the first lists the second
 abbrev pub IsListed : List ℕ → Node → Question → Type 0
 IsListed list objects q =
-    (from to : Tree) → same_text (from_in objects q) from ≡ true → same_text (to_in objects q) to ≡ true → lists list (members_of (tree objects)) from to ≡ true
+    (from to : Tree) → same_text (from_in objects q) from ≡ true → same_text (to_in objects q) to ≡ true
+    → lists list (members_of (tree objects)) from to ≡ true
 
 -- so it is with each question that has a mark
 abbrev pub AreListed : List ℕ → Node → List Question → List Bool → Type 0
-AreListed list objects qs marks = (i : ℕ) (q : Question) → slice_get qs i ≡ Some q → slice_index_or marks i false ≡ true → IsListed list objects q
+AreListed list objects qs marks = (i : ℕ) (q : Question) → slice_get qs i ≡ Some q → slice_index_or marks i false ≡ true
+    → IsListed list objects q
 
 -- where the first question on a text has no mark, the text is an id exactly if it is one of those that are left
 abbrev pub AreLeft : Node → List Question → List Bool → List (Tree × Tree) → Type 0
 AreLeft objects qs marks left =
-    (t : Tree) (i : ℕ) → IsFirstOn objects qs t i → slice_index_or marks i false ≡ false → is_known (members_of (tree objects)) t ≡ is_known left t
+    (t : Tree) (i : ℕ) → IsFirstOn objects qs t i → slice_index_or marks i false ≡ false
+    → is_known (members_of (tree objects)) t ≡ is_known left t
 
 -- the questions that are noted
 abbrev pub noted : {R K : ℕ} → Questions R K → List Question
 noted a = take a.count a.questions
 
 -- they stand in order, and their marks answer them by all city objects but those that are left
-pub record AreAnswered {R K : ℕ} (list : List ℕ) (objects : Node) (left : List (Tree × Tree)) (a : Questions R K) : Type 0 where
+pub record AreAnswered {R K : ℕ} (list : List ℕ) (objects : Node) (left : List (Tree × Tree)) (a : Questions R K) :
+    Type 0 where
   pub few : a.count ≤ length a.questions
   pub order : AreInOrder objects (noted a)
   pub listed : AreListed list objects (noted a) a.listed

@@ -43,11 +43,17 @@ Parents objects a b = Lists (chars (codes "parents")) objects a b
 -- parent, where that is no group; a parent in the feature that does not list the city object as a child; and parents of
 -- which none is in the feature, where the city object is of the second level
 pub data IsLinkFault (objects : List (Tree × Tree)) : Finding → Type 0 where
-  child_not_found : (a : Tree × Tree) (item : Tree) (b : List ℕ) → Contains objects a → is_group a.1 ≡ false → IsListed (chars (codes "children")) a.1 item → text_of item ≡ Some b → ¬ IsIn objects b
+  child_not_found : (a : Tree × Tree) (item : Tree) (b : List ℕ) → Contains objects a → is_group a.1 ≡ false
+      → IsListed (chars (codes "children")) a.1 item → text_of item ≡ Some b → ¬ IsIn objects b
       → IsLinkFault objects (found_at (start_of item) ChildNotFound)
-  child_not_mutual : (a : Tree × Tree) (item : Tree) (x b : List ℕ) → Contains objects a → is_group a.1 ≡ false → IsListed (chars (codes "children")) a.1 item → text_of a.0 ≡ Some x → text_of item ≡ Some b
+  child_not_mutual : (a : Tree × Tree) (item : Tree) (x b : List ℕ) → Contains objects a → is_group a.1 ≡ false
+      → IsListed (chars (codes "children")) a.1 item → text_of a.0 ≡ Some x → text_of item ≡ Some b
       → IsIn objects b → ¬ Parents objects b x → IsLinkFault objects (found_at (start_of item) LinkNotMutual)
-  parent_not_mutual : (b : Tree × Tree) (item : Tree) (a x : List ℕ) → Contains objects b → IsListed (chars (codes "parents")) b.1 item → text_of b.0 ≡ Some x → text_of item ≡ Some a → IsIn objects a → ¬ Children objects a x
+  parent_not_mutual : (b : Tree × Tree) (item : Tree) (a x : List ℕ) → Contains objects b
+      → IsListed (chars (codes "parents")) b.1 item → text_of b.0 ≡ Some x → text_of item ≡ Some a → IsIn objects a
+      → ¬ Children objects a x
       → IsLinkFault objects (found_at (start_of item) LinkNotMutual)
-  no_parent : (b : Tree × Tree) (array : Tree) → Contains objects b → is_part b.1 ≡ true → member_of (chars (codes "parents")) b.1 ≡ Some array → kind_of array ≡ Array
-      → ((item : Tree) (a : List ℕ) → Contains (items_of array) item → text_of item ≡ Some a → ¬ IsIn objects a) → IsLinkFault objects (found_at (start_of b.1) NoParent)
+  no_parent : (b : Tree × Tree) (array : Tree) → Contains objects b → is_part b.1 ≡ true
+      → member_of (chars (codes "parents")) b.1 ≡ Some array → kind_of array ≡ Array
+      → ((item : Tree) (a : List ℕ) → Contains (items_of array) item → text_of item ≡ Some a → ¬ IsIn objects a)
+      → IsLinkFault objects (found_at (start_of b.1) NoParent)

@@ -1,5 +1,6 @@
 -- What a valid feature's city objects and vertices have: a type that is known, and three whole numbers.
-use Rattle.std.specs.Prelude.{ℕ, List, [], ◌∷◌, Bool, true, false, map, get_or, unwrap_or, Option, Some, None, ℤ, pos, option_and_then, codes}
+use Rattle.std.specs.Prelude.{ℕ, List, [], ◌∷◌, Bool, true, false, map, get_or, unwrap_or, Option, Some, None, ℤ, pos}
+use Rattle.std.specs.Prelude.{option_and_then, codes}
 use Rattle.std.specs.Str.{chars}
 use Rattle.cj_spans.specs.Tree.{Tree}
 use Rattle.cj_spans.specs.Parts.{items_of, members_of, member_of}

@@ -22,13 +22,16 @@ IsNoted objects names t = (n : Noted) × Contains names n × (side_in objects n 
 
 -- each of these city objects is one of the later ones, or has a mark, or its name is noted
 abbrev pub ArePassed : Node → List (Tree × Tree) → List (Tree × Tree) → List Noted → Type 0
-ArePassed objects these later names = (m : Tree × Tree) → Contains these m → Contains later m ⊎ (IsMarkedBy objects m.1 ⊎ IsNoted objects names m.0)
+ArePassed objects these later names = (m : Tree × Tree) → Contains these m
+    → Contains later m ⊎ (IsMarkedBy objects m.1 ⊎ IsNoted objects names m.0)
 
 -- the city objects whose names are noted and are these items, have marks
 abbrev pub NotedHaveMarks : Node → List Noted → List Tree → Type 0
 NotedHaveMarks objects names items =
-    (item : Tree) → Contains items item → (m : Tree × Tree) → Contains (members_of (tree objects)) m → same_text m.0 item ≡ true → IsNoted objects names m.0 → IsMarkedBy objects m.1
+    (item : Tree) → Contains items item → (m : Tree × Tree) → Contains (members_of (tree objects)) m
+    → same_text m.0 item ≡ true → IsNoted objects names m.0 → IsMarkedBy objects m.1
 
 -- the same of what those among these city objects list that have marks
 abbrev pub ListNotedMarks : Node → List Noted → List (Tree × Tree) → Type 0
-ListNotedMarks objects names ms = (m : Tree × Tree) → Contains ms m → IsMarkedBy objects m.1 → NotedHaveMarks objects names (listed_in (chars (codes "children")) m.1)
+ListNotedMarks objects names ms = (m : Tree × Tree) → Contains ms m → IsMarkedBy objects m.1
+    → NotedHaveMarks objects names (listed_in (chars (codes "children")) m.1)

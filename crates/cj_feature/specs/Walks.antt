@@ -30,7 +30,8 @@ objects_line w = members_line w.members
 
 -- a step gives the next city object
 abbrev pub YieldsObject : Objects → Option CityObject → Objects → Type 0
-YieldsObject s r t = YieldsFirstBy object_trees objects_left s r t × (objects_line t ≡ objects_line s) × IfSome r (λ o. (line_of o.id ≡ objects_line s) × (line_of o.node ≡ objects_line s))
+YieldsObject s r t = YieldsFirstBy object_trees objects_left s r t × (objects_line t ≡ objects_line s)
+    × IfSome r (λ o. (line_of o.id ≡ objects_line s) × (line_of o.node ≡ objects_line s))
 
 -- ---- geometries
 
@@ -46,7 +47,8 @@ geometries_line w = members_line w.objects
 
 -- a step gives the next geometry
 abbrev pub YieldsGeometry : Geometries → Option Node → Geometries → Type 0
-YieldsGeometry s r t = YieldsFirstBy tree geometries_left s r t × (geometries_line t ≡ geometries_line s) × IfSome r (λ n. line_of n ≡ geometries_line s)
+YieldsGeometry s r t = YieldsFirstBy tree geometries_left s r t × (geometries_line t ≡ geometries_line s)
+    × IfSome r (λ n. line_of n ≡ geometries_line s)
 
 -- ---- vertices
 

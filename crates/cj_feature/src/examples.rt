@@ -1,12 +1,22 @@
 //! The rules on worked features and headers. Each contract is a theorem in which nothing runs.
 ghost use Rattle.std.specs.Prelude.{◌≡◌, ◌∷◌, [], false, true, Some, codes};
-ghost use Rattle.cj_spans.specs.declared.reason.Reason.TheVariants.{MissingMember, DuplicateName, WrongKind, WrongType, WrongVersion, NotEmpty, NotThree, IdNotFound, ChildNotFound, LinkNotMutual, NoParent, NotReached};
+ghost use Rattle.cj_spans.specs.declared.reason.Reason.TheVariants.{MissingMember, DuplicateName, WrongKind, WrongType};
+ghost use Rattle.cj_spans.specs.declared.reason.Reason.TheVariants.{WrongVersion, NotEmpty, NotThree, IdNotFound};
+ghost use Rattle.cj_spans.specs.declared.reason.Reason.TheVariants.{ChildNotFound, LinkNotMutual, NoParent, NotReached};
 ghost use Rattle.cj_spans.specs.Finding.{least, found_at};
 ghost use Rattle.cj_spans.specs.Forest.{forest};
 ghost use Rattle.cj_spans.specs.Preorder.{preorder};
 ghost use Rattle.cj_feature.specs.Header.{header};
 ghost use Rattle.cj_feature.specs.Feature.{feature};
-ghost use Rattle.cj_feature.specs.Examples.{bare, itself, lost_child, unlisted_part, unlisted_parent, lost_parent, part_alone, part_of_other, part_of_none, part_of_number, group, unlisted_member, unlisted_group, group_of_other, part_of_no_object, no_objects, doubled, escaped, same_by_escape, no_object, child_no_object, other_id, unread_names, null_children, chain, part_apart, main_part, number_apart, plain_header, plain_header_line, other_type, other_type_line, other_version, other_version_line, more_digits, more_digits_line, no_scale, no_scale_line, two_scales, two_scales_line, with_objects, with_objects_line, with_vertices, with_vertices_line};
+ghost use Rattle.cj_feature.specs.Examples.{bare, itself, lost_child, unlisted_part, unlisted_parent, lost_parent};
+ghost use Rattle.cj_feature.specs.Examples.{part_alone, part_of_other, part_of_none, part_of_number, group};
+ghost use Rattle.cj_feature.specs.Examples.{unlisted_member, unlisted_group, group_of_other, part_of_no_object};
+ghost use Rattle.cj_feature.specs.Examples.{no_objects, doubled, escaped, same_by_escape, no_object, child_no_object};
+ghost use Rattle.cj_feature.specs.Examples.{other_id, unread_names, null_children, chain, part_apart, main_part};
+ghost use Rattle.cj_feature.specs.Examples.{number_apart, plain_header, plain_header_line, other_type, other_type_line};
+ghost use Rattle.cj_feature.specs.Examples.{other_version, other_version_line, more_digits, more_digits_line, no_scale};
+ghost use Rattle.cj_feature.specs.Examples.{no_scale_line, two_scales, two_scales_line, with_objects};
+ghost use Rattle.cj_feature.specs.Examples.{with_objects_line, with_vertices, with_vertices_line};
 
 /// A city object may list itself, as a child and as a parent.
 pub fn children_and_parents_of_itself()
@@ -57,7 +67,8 @@ pub fn values_that_are_no_city_objects()
     ensures alone { feature bare no_object.tree false ≡ found_at 54 WrongKind ∷ [] }
     ensures child { feature bare child_no_object.tree false ≡ found_at 95 WrongKind ∷ found_at 85 LinkNotMutual ∷ [] }
     ensures least { least None (feature bare child_no_object.tree false) ≡ Some (found_at 85 LinkNotMutual) }
-    ensures parent { feature bare part_of_no_object.tree false ≡ found_at 98 WrongKind ∷ found_at 88 LinkNotMutual ∷ [] }
+    ensures parent { feature bare part_of_no_object.tree false ≡ found_at 98 WrongKind
+        ∷ found_at 88 LinkNotMutual ∷ [] }
 {}
 
 /// The id of the feature is the name of a city object.

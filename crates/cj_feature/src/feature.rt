@@ -53,7 +53,8 @@ impl<'a> Feature<'a> {
     ghost use Rattle.cj_feature.specs.Relations.{IsIn};
     ghost use Rattle.cj_feature.specs.Typed.{members_if, vertex_of, number_on};
     ghost use Rattle.cj_feature.specs.View.{feature_tree, feature_line, feature_header};
-    ghost use Rattle.cj_feature.specs.Walks.{objects_left, objects_line, geometries_left, geometries_line, object_geometries, vertices_left, coordinates_left};
+    ghost use Rattle.cj_feature.specs.Walks.{objects_left, objects_line, geometries_left, geometries_line};
+    ghost use Rattle.cj_feature.specs.Walks.{object_geometries, vertices_left, coordinates_left};
 
     /// Returns the feature of a document that has no findings with this header. `objects` and
     /// `vertices` are members of the document, and `templates` those of the header.

@@ -5,8 +5,9 @@ use Rattle.std.proofs.lemmas.Bool.Decides.{nat_tests}
 use Rattle.std.proofs.lemmas.Int.{to_z-of_z, fits_signed_from_abs}
 use Rattle.cj_spans.specs.declared.token.Kind.TheVariants.{Number}
 use Rattle.cj_spans.specs.declared.reason.Reason.{Reason}
-use Rattle.cj_spans.specs.declared.reason.Reason.TheVariants.{NotWhole}
+use Rattle.cj_spans.specs.declared.reason.Reason.TheVariants.{NotWhole, WrongKind, NumberRange}
 use Rattle.cj_spans.specs.declared.finding.Finding.{Finding}
+use Rattle.cj_spans.specs.Finding.{least}
 use Rattle.cj_spans.specs.Tree.{Tree, scalar, array, object}
 use Rattle.cj_spans.specs.Json.{byte}
 use Rattle.cj_spans.specs.Forest.{kind_by}
@@ -80,6 +81,24 @@ index-of-whole t w is reason count = go (is_number (kind_of t)) refl
     go : (b : Bool) → is_number (kind_of t) ≡ b → index reason count t ≡ cond (is_outside count w) (one reason t) []
     go true e = rw e (by-whole (spelling t) t (class (spelling t)) w (rw e at is) reason count)
     go false e = absurd (cc (rw e at is))
+
+-- an index has no finding but at itself
+pub index-told : (found : Option Finding) (t : Tree) → ((r : Reason) → least found (one r t) ≡ found) → (reason : Reason) (count : Option ℕ) → least found (index reason count t) ≡ found
+index-told found t same reason count = go (is_number (kind_of t)) refl
+  where
+    by_test : (b : Bool) → least found (cond b (one reason t) []) ≡ found
+    by_test true = same reason
+    by_test false = refl
+
+    by_class : {s : List ℕ} (c : Class s) → least found (index_findings reason count t c) ≡ found
+    by_class (no_number n) = same WrongKind
+    by_class (out_of_range n) = same NumberRange
+    by_class (not_whole v value range n) = same NotWhole
+    by_class (whole v w value range is) = by_test (is_outside count w)
+
+    go : (b : Bool) → is_number (kind_of t) ≡ b → least found (index reason count t) ≡ found
+    go true e = rw e (by_class (class (spelling t)))
+    go false e = rw e (same WrongKind)
 
 -- ---- of a tree of the kind
 

@@ -1,5 +1,6 @@
 -- Entries of names: what each stands for, and how they are ordered.
-use Rattle.std.specs.Prelude.{◌≡◌, ◌⊎◌, ◌+◌, ◌*◌, ℕ, List, [], ◌∷◌, ◌++◌, map, false, Option, Some, option_map, All, Contains, true}
+use Rattle.std.specs.Prelude.{◌≡◌, ◌⊎◌, ◌+◌, ◌*◌, ℕ, List, [], ◌∷◌, ◌++◌, map, false, Option, Some, option_map, All}
+use Rattle.std.specs.Prelude.{Contains, true}
 use Rattle.std.specs.List.Sorted.{IsPermutation}
 use Rattle.std.specs.declared.cmp.Ordering.{Ordering}
 use Rattle.std.specs.Ordering.{ordering_then, nat_cmp, is_lt}
@@ -34,17 +35,19 @@ IsWorded s e = word_in e ≡ word_of (text_of (name_in s e))
 abbrev pub compare_entries : Source → Entry → Entry → Ordering
 compare_entries s d e = ordering_then (nat_cmp (word_in d) (word_in e)) (compare_names (name_in s d) (name_in s e))
 
--- the front has the least of all entries, up to the next one: none of the front is greater, and none of the others is less
+-- the front has the least of all entries, up to the next one: none of the front is greater, and none of the others is
+-- less
 pub record AreLeast (s : Source) (all front : List Entry) (next : Entry) : Type 0 where
   pub others : List Entry
   pub permutation : IsPermutation all (front ++ next ∷ others)
   pub before : All (λ e. is_lt (compare_entries s next e) ≡ false) front
   pub behind : All (λ e. is_lt (compare_entries s e next) ≡ false) others
 
--- a name taken beside these entries: they are one more then, or, where there is no room for that, the least of them, and the
--- next one is the ceiling
+-- a name taken beside these entries: they are one more then, or, where there is no room for that, the least of them,
+-- and the next one is the ceiling
 abbrev pub TakeOne : Source → Entry → List Entry → Option Entry → List Entry → Option Entry → Type 0
-TakeOne s e old ceiling new next = ((new ≡ old ++ e ∷ []) × (next ≡ ceiling)) ⊎ (c : Entry) × (next ≡ Some c) × AreLeast s (old ++ e ∷ []) new c
+TakeOne s e old ceiling new next = ((new ≡ old ++ e ∷ []) × (next ≡ ceiling)) ⊎ (c : Entry) × (next ≡ Some c)
+    × AreLeast s (old ++ e ∷ []) new c
 
 -- an entry of one of these names, above the floor and not past the ceiling
 pub record IsHeld (s : Source) (names : List Tree) (floor ceiling : Option Tree) (e : Entry) : Type 0 where
@@ -54,6 +57,8 @@ pub record IsHeld (s : Source) (names : List Tree) (floor ceiling : Option Tree)
   pub under : is_past ceiling (name_in s e) ≡ false
 
 -- such entries have all names above the floor and below the ceiling, but for those that are still to come
-pub record HoldNames (s : Source) (names left : List Tree) (floor ceiling : Option Tree) (es : List Entry) : Type 0 where
+pub record HoldNames (s : Source) (names left : List Tree) (floor ceiling : Option Tree) (es : List Entry) :
+    Type 0 where
   pub held : All (IsHeld s names floor ceiling) es
-  pub whole : (t : Tree) → Contains names t → is_above floor t ≡ true → is_below ceiling t ≡ true → Contains (names_in s es) t ⊎ Contains left t
+  pub whole : (t : Tree) → Contains names t → is_above floor t ≡ true → is_below ceiling t ≡ true
+      → Contains (names_in s es) t ⊎ Contains left t

@@ -16,7 +16,8 @@ points =
     (member (atom_at points_line 1 7) (scalar Text (atom_at points_line 8 20))
     (member (atom_at points_line 21 26) (scalar Text (atom_at points_line 27 30))
     (member (atom_at points_line 31 43)
-    (array 44 49 (item (scalar Number (atom_at points_line 45 46)) (item (scalar Number (atom_at points_line 47 48)) no_items))) no_members)))
+    (array 44 49 (item (scalar Number (atom_at points_line 45 46))
+    (item (scalar Number (atom_at points_line 47 48)) no_items))) no_members)))
 
 -- a number
 abbrev pub three : Tree
@@ -45,12 +46,14 @@ abbrev pub templates_line : List ℕ
 templates_line = codes "[{\"lod\":\"2\"}]"
 
 abbrev pub templates : Tree
-templates = array 0 13 (item (object 1 12 (member (atom_at templates_line 2 7) (scalar Text (atom_at templates_line 8 11)) no_members)) no_items)
+templates = array 0 13 (item (object 1 12
+    (member (atom_at templates_line 2 7) (scalar Text (atom_at templates_line 8 11)) no_members)) no_items)
 
 -- an instance of the template of this number, at this vertex, with a matrix of these numbers
 abbrev pub placed_line : List ℕ → List ℕ → List ℕ → List ℕ
 placed_line template vertex matrix =
-    codes "{\"type\":\"GeometryInstance\",\"template\":" ++ template ++ codes ",\"boundaries\":[" ++ vertex ++ codes "],\"transformationMatrix\":[" ++ matrix ++ codes "]}"
+    codes "{\"type\":\"GeometryInstance\",\"template\":" ++ template ++ codes ",\"boundaries\":[" ++ vertex
+    ++ codes "],\"transformationMatrix\":[" ++ matrix ++ codes "]}"
 
 -- so many numbers of one digit with commas between them, from a place on
 abbrev pub digits_from : List ℕ → ℕ → ℕ → Items
@@ -67,7 +70,8 @@ placed template vertex matrix count =
     object 0 (c + 2)
     (member (atom_at line 1 7) (scalar Text (atom_at line 8 26))
     (member (atom_at line 27 37) (scalar Number (atom_at line 38 a))
-    (member (atom_at line (a + 1) (a + 13)) (array (a + 14) (b + 1) (item (scalar Number (atom_at line (a + 15) b)) no_items))
+    (member (atom_at line (a + 1) (a + 13))
+    (array (a + 14) (b + 1) (item (scalar Number (atom_at line (a + 15) b)) no_items))
     (member (atom_at line (b + 2) (b + 24)) (array (b + 25) (c + 1) (digits_from line (b + 26) count)) no_members))))
 
 -- matrices of 16 numbers, of one less and of one more
@@ -101,7 +105,8 @@ abbrev pub doubled_line : List ℕ
 doubled_line = codes "{\"type\":\"Cone\",\"\\u0074ype\":\"Solid\"}"
 
 abbrev pub doubled : Tree
-doubled = object 0 35 (member (atom_at doubled_line 1 7) (scalar Text (atom_at doubled_line 8 14)) (member (atom_at doubled_line 15 26) (scalar Text (atom_at doubled_line 27 34)) no_members))
+doubled = object 0 35 (member (atom_at doubled_line 1 7) (scalar Text (atom_at doubled_line 8 14))
+    (member (atom_at doubled_line 15 26) (scalar Text (atom_at doubled_line 27 34)) no_members))
 
 -- a solid of a shell of two surfaces, with semantics of one surface and values of these bytes
 abbrev pub solid_line : List ℕ → List ℕ
@@ -109,13 +114,18 @@ solid_line values = codes "{\"type\":\"Solid\",\"lod\":\"1\",\"boundaries\":[[[[
 
 -- a ring of three vertices
 abbrev pub ring : List ℕ → ℕ → Tree
-ring line i = array i (i + 7) (item (scalar Number (atom_at line (i + 1) (i + 2))) (item (scalar Number (atom_at line (i + 3) (i + 4))) (item (scalar Number (atom_at line (i + 5) (i + 6))) no_items)))
+ring line i = array i (i + 7) (item (scalar Number (atom_at line (i + 1) (i + 2)))
+    (item (scalar Number (atom_at line (i + 3) (i + 4)))
+    (item (scalar Number (atom_at line (i + 5) (i + 6))) no_items)))
 
 abbrev pub shell : List ℕ → Tree
-shell line = array 39 62 (item (array 40 61 (item (array 41 50 (item (ring line 42) no_items)) (item (array 51 60 (item (ring line 52) no_items)) no_items))) no_items)
+shell line = array 39 62 (item (array 40 61
+    (item (array 41 50 (item (ring line 42) no_items))
+    (item (array 51 60 (item (ring line 52) no_items)) no_items))) no_items)
 
 abbrev pub roof_surfaces : List ℕ → Tree
-roof_surfaces line = array 87 111 (item (object 88 110 (member (atom_at line 89 95) (scalar Text (atom_at line 96 109)) no_members)) no_items)
+roof_surfaces line = array 87 111
+    (item (object 88 110 (member (atom_at line 89 95) (scalar Text (atom_at line 96 109)) no_members)) no_items)
 
 -- its tree, by the tree of the values
 abbrev pub solid : List ℕ → (List ℕ → Tree) → Tree
@@ -126,7 +136,9 @@ solid values tree_of =
     (member (atom_at line 16 21) (scalar Text (atom_at line 22 25))
     (member (atom_at line 26 38) (shell line)
     (member (atom_at line 63 74)
-    (object 75 (122 + length values) (member (atom_at line 76 86) (roof_surfaces line) (member (atom_at line 112 120) (tree_of line) no_members))) no_members))))
+    (object 75 (122 + length values)
+    (member (atom_at line 76 86) (roof_surfaces line) (member (atom_at line 112 120) (tree_of line) no_members)))
+    no_members))))
 
 -- null as a whole, for the shell, and for the second surface
 abbrev pub null_whole : Tree
@@ -136,17 +148,22 @@ abbrev pub null_shell : Tree
 null_shell = solid (codes "[null]") (λ line. array 121 127 (item (scalar Null (atom_at line 122 126)) no_items))
 
 abbrev pub null_surface : Tree
-null_surface = solid (codes "[[0,null]]") (λ line. array 121 131 (item (array 122 130 (item (scalar Number (atom_at line 123 124)) (item (scalar Null (atom_at line 125 129)) no_items))) no_items))
+null_surface = solid (codes "[[0,null]]")
+    (λ line. array 121 131 (item (array 122 130
+    (item (scalar Number (atom_at line 123 124)) (item (scalar Null (atom_at line 125 129)) no_items))) no_items))
 
 -- values of no shell, of one surface, and with an index past the surfaces
 abbrev pub no_shell : Tree
 no_shell = solid (codes "[]") (λ line. array 121 123 no_items)
 
 abbrev pub one_surface : Tree
-one_surface = solid (codes "[[0]]") (λ line. array 121 126 (item (array 122 125 (item (scalar Number (atom_at line 123 124)) no_items)) no_items))
+one_surface = solid (codes "[[0]]")
+    (λ line. array 121 126 (item (array 122 125 (item (scalar Number (atom_at line 123 124)) no_items)) no_items))
 
 abbrev pub past_surfaces : Tree
-past_surfaces = solid (codes "[[0,1]]") (λ line. array 121 128 (item (array 122 127 (item (scalar Number (atom_at line 123 124)) (item (scalar Number (atom_at line 125 126)) no_items))) no_items))
+past_surfaces = solid (codes "[[0,1]]")
+    (λ line. array 121 128 (item (array 122 127
+    (item (scalar Number (atom_at line 123 124)) (item (scalar Number (atom_at line 125 126)) no_items))) no_items))
 
 -- a string of this spelling
 abbrev pub string : List ℕ → Tree

@@ -1,8 +1,10 @@
 -- The findings of a geometry, rule by rule.
-use Rattle.std.specs.Prelude.{ℕ, zero, suc, List, [], ◌∷◌, ◌++◌, Bool, true, false, not, ◌&&◌, cond, nat_eq, length, Option, Some, None, codes}
+use Rattle.std.specs.Prelude.{ℕ, zero, suc, List, [], ◌∷◌, ◌++◌, Bool, true, false, not, ◌&&◌, cond, nat_eq, length}
+use Rattle.std.specs.Prelude.{Option, Some, None, codes}
 use Rattle.std.specs.List.{flat_map}
 use Rattle.std.specs.Str.{chars}
-use Rattle.cj_spans.specs.declared.reason.Reason.TheVariants.{UnknownGeometryType, VertexIndex, SemanticsCount, SemanticsIndex, TemplateIndex, BadInstance}
+use Rattle.cj_spans.specs.declared.reason.Reason.TheVariants.{UnknownGeometryType, VertexIndex, SemanticsCount}
+use Rattle.cj_spans.specs.declared.reason.Reason.TheVariants.{SemanticsIndex, TemplateIndex, BadInstance}
 use Rattle.cj_spans.specs.declared.finding.Finding.{Finding}
 use Rattle.cj_spans.specs.Tree.{Tree}
 use Rattle.cj_spans.specs.declared.node.Items.{Items}
@@ -44,7 +46,8 @@ shape vertices (suc depth) t = of_kind is_array (λ u. flat_map (shape vertices 
 -- an array has as many items as the part of the boundaries beside it, if that is an array
 abbrev pub other_count : Tree → Option Tree → List Finding
 other_count v None = []
-other_count v (Some b) = cond (is_array (kind_of b) && not (nat_eq (length (items_of v)) (length (items_of b)))) (one SemanticsCount v) []
+other_count v (Some b) = cond (is_array (kind_of b) && not (nat_eq (length (items_of v)) (length (items_of b))))
+    (one SemanticsCount v) []
 
 -- the first of some parts, and the others
 abbrev pub first_part : List Tree → Option Tree
@@ -74,11 +77,13 @@ beside rule (v ∷ vs) bs = rule v (first_part bs) ++ beside rule vs (other_part
 abbrev pub entry : Option ℕ → Tree → List Finding
 entry surfaces v = cond (is_null (kind_of v)) [] (index SemanticsIndex surfaces v)
 
--- semantic values of some depth beside a part of the boundaries: null at every level; arrays, as long as the part beside
--- them; and below them indices of surfaces
+-- semantic values of some depth beside a part of the boundaries: null at every level; arrays, as long as the part
+-- beside them; and below them indices of surfaces
 abbrev pub values : Option ℕ → ℕ → Tree → Option Tree → List Finding
 values surfaces zero v b = entry surfaces v
-values surfaces (suc depth) v b = cond (is_null (kind_of v)) [] (of_kind is_array (λ u. other_count u b ++ beside (values surfaces depth) (items_of u) (parts_of b)) v)
+values surfaces (suc depth) v b =
+    cond (is_null (kind_of v)) [] (of_kind is_array
+    (λ u. other_count u b ++ beside (values surfaces depth) (items_of u) (parts_of b)) v)
 
 -- a surface is an object that needs a type
 abbrev pub surface : Tree → List Finding
@@ -102,12 +107,14 @@ semantics depth boundaries t =
     of_kind is_object (λ u.
     distinct u
     ++ needs (chars (codes "surfaces")) surfaces u
-    ++ needs (chars (codes "values")) (λ v. values (count_of (member_of (chars (codes "surfaces")) u)) depth v boundaries) u) t
+    ++ needs (chars (codes "values"))
+    (λ v. values (count_of (member_of (chars (codes "surfaces")) u)) depth v boundaries) u) t
 
 -- semantics, where the type has them
 abbrev pub semantics_if : Option ℕ → Tree → List Finding
 semantics_if None g = []
-semantics_if (Some depth) g = may_have (chars (codes "semantics")) (semantics depth (member_of (chars (codes "boundaries")) g)) g
+semantics_if (Some depth) g = may_have (chars (codes "semantics"))
+    (semantics depth (member_of (chars (codes "boundaries")) g)) g
 
 -- the rules on boundaries of some depth, with semantic values of a depth or unread ones
 abbrev pub part_rules : Option ℕ → ℕ → Option ℕ → Tree → List Finding
@@ -132,7 +139,8 @@ form_rules vertices templates g t (Some instance) =
 
 -- the rules by the type of a geometry
 abbrev pub typed_rules : Option ℕ → Given → Tree → List Finding
-typed_rules vertices templates g = needs (chars (codes "type")) (of_kind is_text (λ name. form_rules vertices templates g name (form_of name))) g
+typed_rules vertices templates g =
+    needs (chars (codes "type")) (of_kind is_text (λ name. form_rules vertices templates g name (form_of name))) g
 
 -- the findings of a geometry, with so many vertices if that is known
 abbrev pub geometry : Option ℕ → Given → Tree → List Finding

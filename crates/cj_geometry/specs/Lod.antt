@@ -1,5 +1,6 @@
 -- The level of detail of a geometry.
-use Rattle.std.specs.Prelude.{List, Bool, false, cond, Option, Some, None, ℤ, pos, negsuc, codes, option_and_then, slice_get}
+use Rattle.std.specs.Prelude.{List, Bool, false, cond, Option, Some, None, ℤ, pos, negsuc, codes, option_and_then}
+use Rattle.std.specs.Prelude.{slice_get}
 use Rattle.std.specs.Str.{chars}
 use Rattle.cj_spans.specs.Tree.{Tree}
 use Rattle.cj_spans.specs.Parts.{items_of, member_of, has_text}
@@ -27,7 +28,8 @@ is_instance g = names_instance (member_of (chars (codes "type")) g)
 
 -- the level of detail of an instance's template
 abbrev pub template_lod : Given → Tree → Option Tree
-template_lod templates g = option_and_then (member_of (chars (codes "lod"))) (option_and_then (chosen templates) (member_of (chars (codes "template")) g))
+template_lod templates g = option_and_then (member_of (chars (codes "lod")))
+    (option_and_then (chosen templates) (member_of (chars (codes "template")) g))
 
 -- the level of detail: that of the geometry, or of its template
 abbrev pub lod : Given → Tree → Option Tree

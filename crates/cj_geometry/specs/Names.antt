@@ -1,5 +1,6 @@
 -- The names of an object in order, by text and then by place: names of one text are neighbours.
-use Rattle.std.specs.Prelude.{◌≡◌, List, [], ◌∷◌, ◌++◌, map, Bool, true, false, ◌&&◌, cond, nat_lt, Option, Some, None, All, ⊤}
+use Rattle.std.specs.Prelude.{◌≡◌, List, [], ◌∷◌, ◌++◌, map, Bool, true, false, ◌&&◌, cond, nat_lt, Option, Some, None}
+use Rattle.std.specs.Prelude.{All, ⊤}
 use Rattle.std.specs.declared.cmp.Ordering.{Ordering}
 use Rattle.std.specs.Ordering.{ordering_then, nat_cmp, is_lt}
 use Rattle.cj_spans.specs.declared.reason.Reason.TheVariants.{DuplicateName}
@@ -40,7 +41,8 @@ Ascend (t ∷ ts) = All (λ u. is_earlier u t ≡ false) ts × Ascend ts
 -- a finding at a name that has the text of the one before it, and starts behind that
 abbrev pub repeat_of : Option Tree → Tree → List Finding
 repeat_of None t = []
-repeat_of (Some u) t = cond (are_same_texts (text_of t) (text_of u) && nat_lt (start_of u) (start_of t)) (one DuplicateName t) []
+repeat_of (Some u) t = cond (are_same_texts (text_of t) (text_of u) && nat_lt (start_of u) (start_of t))
+    (one DuplicateName t) []
 
 -- a finding at each of these that repeats the one before it, which is the given one before the first
 abbrev pub neighbours : Option Tree → List Tree → List Finding

@@ -4,7 +4,19 @@ use Rattle.std.specs.Str.{chars, bytes_eq}
 use Rattle.cj_spans.specs.Tree.{Tree}
 use Rattle.cj_spans.specs.Parts.{has_text}
 use Rattle.cj_geometry.specs.declared.object_type.ObjectType.{ObjectType}
-use Rattle.cj_geometry.specs.declared.object_type.ObjectType.TheVariants.{Bridge, Building, CityFurniture, CityObjectGroup, GenericCityObject, LandUse, OtherConstruction, PlantCover, Railway, Road, SolitaryVegetationObject, TINRelief, TransportSquare, Tunnel, WaterBody, Waterway, BridgeConstructiveElement, BridgeFurniture, BridgeInstallation, BridgePart, BridgeRoom, BuildingConstructiveElement, BuildingFurniture, BuildingInstallation, BuildingPart, BuildingRoom, BuildingStorey, BuildingUnit, TunnelConstructiveElement, TunnelFurniture, TunnelHollowSpace, TunnelInstallation, TunnelPart}
+use Rattle.cj_geometry.specs.declared.object_type.ObjectType.TheVariants.{Bridge, Building, CityFurniture}
+use Rattle.cj_geometry.specs.declared.object_type.ObjectType.TheVariants.{CityObjectGroup, GenericCityObject, LandUse}
+use Rattle.cj_geometry.specs.declared.object_type.ObjectType.TheVariants.{OtherConstruction, PlantCover, Railway, Road}
+use Rattle.cj_geometry.specs.declared.object_type.ObjectType.TheVariants.{SolitaryVegetationObject, TINRelief}
+use Rattle.cj_geometry.specs.declared.object_type.ObjectType.TheVariants.{TransportSquare, Tunnel, WaterBody, Waterway}
+use Rattle.cj_geometry.specs.declared.object_type.ObjectType.TheVariants.{BridgeConstructiveElement, BridgeFurniture}
+use Rattle.cj_geometry.specs.declared.object_type.ObjectType.TheVariants.{BridgeInstallation, BridgePart, BridgeRoom}
+use Rattle.cj_geometry.specs.declared.object_type.ObjectType.TheVariants.{BuildingConstructiveElement}
+use Rattle.cj_geometry.specs.declared.object_type.ObjectType.TheVariants.{BuildingFurniture, BuildingInstallation}
+use Rattle.cj_geometry.specs.declared.object_type.ObjectType.TheVariants.{BuildingPart, BuildingRoom, BuildingStorey}
+use Rattle.cj_geometry.specs.declared.object_type.ObjectType.TheVariants.{BuildingUnit, TunnelConstructiveElement}
+use Rattle.cj_geometry.specs.declared.object_type.ObjectType.TheVariants.{TunnelFurniture, TunnelHollowSpace}
+use Rattle.cj_geometry.specs.declared.object_type.ObjectType.TheVariants.{TunnelInstallation, TunnelPart}
 
 -- a name, whether a type of this name is of the second level, and its number
 pub record ObjectRow : Type 0 where

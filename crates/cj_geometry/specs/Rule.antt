@@ -1,9 +1,11 @@
 -- Rules that stand alone: kinds, members, numbers, names.
-use Rattle.std.specs.Prelude.{ℕ, List, [], ◌∷◌, ◌++◌, length, Bool, true, false, not, cond, nat_eq, nat_lt, Option, Some, None, ℤ, pos, negsuc}
+use Rattle.std.specs.Prelude.{ℕ, List, [], ◌∷◌, ◌++◌, length, Bool, true, false, not, cond, nat_eq, nat_lt, Option}
+use Rattle.std.specs.Prelude.{Some, None, ℤ, pos, negsuc}
 use Rattle.std.specs.List.{flat_map}
 use Rattle.cj_spans.specs.declared.token.Kind.{Kind}
 use Rattle.cj_spans.specs.declared.reason.Reason.{Reason}
-use Rattle.cj_spans.specs.declared.reason.Reason.TheVariants.{MissingMember, DuplicateName, WrongKind, NumberRange, NotWhole}
+use Rattle.cj_spans.specs.declared.reason.Reason.TheVariants.{MissingMember, DuplicateName, WrongKind, NumberRange}
+use Rattle.cj_spans.specs.declared.reason.Reason.TheVariants.{NotWhole}
 use Rattle.cj_spans.specs.declared.finding.Finding.{Finding}
 use Rattle.cj_spans.specs.Finding.{found_at}
 use Rattle.cj_spans.specs.Tree.{Tree, scalar, array, object, start_of}

@@ -1,4 +1,5 @@
--- Trees are a set: that two of them are the same has one proof, so a ghost field may hold it. Shown by codes: trees of numbers, one for each.
+-- Trees are a set: that two of them are the same has one proof, so a ghost field may hold it. Shown by codes: trees of
+-- numbers, one for each.
 use Rattle.std.specs.Prelude.{◌≡◌, ℕ, List, ◌==◌, cond, Option, refl}
 use mathlib.Core.Path.{ap, sym, ◌∙◌}
 use base.Stored.{Gv, gnil, gnum, gcons, Coded, Coded-set, coded_ℕ, coded_list, coded×, coded_via}
@@ -19,7 +20,8 @@ kind_number Array = 4
 kind_number Object = 5
 
 abbrev kind_at : ℕ → Kind
-kind_at n = cond (n == 0) Null (cond (n == 1) Truth (cond (n == 2) Number (cond (n == 3) Text (cond (n == 4) Array Object))))
+kind_at n = cond (n == 0) Null (cond (n == 1) Truth
+    (cond (n == 2) Number (cond (n == 3) Text (cond (n == 4) Array Object))))
 
 kind-back : (k : Kind) → kind_at (kind_number k) ≡ k
 kind-back Null = refl

@@ -6,7 +6,7 @@ ghost use Rattle.cj_spans.specs.View.{tree};
 ghost use Rattle.cj_geometry.specs.Rule.{needs};
 ghost use Rattle.cj_geometry.specs.Geometry.{shape};
 
-use crate::rule::{add, check_index, count_indices, needed};
+use crate::rule::{Bound, add, check_index_below, count_indices, needed};
 use cj_spans::{Kind, Least, Node, Reason};
 
 /// Checks that the value is a list of indices of vertices: the lowest level, with nearly all
@@ -15,14 +15,14 @@ use cj_spans::{Kind, Least, Node, Reason};
 /// It first counts the valid indices at the front, in a loop that does nothing else. All rules are
 /// checked for the rest.
 #[inline(always)]
-fn check_indices(node: Node, vertices: Option<u64>, found: &mut Least)
-    ensures { found.new ≡ least found.old (shape vertices 1 (tree node.entry)) }
+fn check_indices(node: Node, vertices: Bound, found: &mut Least)
+    ensures { found.new ≡ least found.old (shape vertices.count 1 (tree node.entry)) }
 {
     match node.kind() {
         Kind::Array => {
             let front = count_indices(node, vertices);
             for item in node.items_behind(front) {
-                check_index(item, Reason::VertexIndex, vertices, found);
+                check_index_below(item, Reason::VertexIndex, vertices, found);
             }
         }
         _ => add(node, Reason::WrongKind, found),
@@ -31,8 +31,8 @@ fn check_indices(node: Node, vertices: Option<u64>, found: &mut Least)
 
 /// Checks that the value is a list of such lists: a surface of rings.
 #[inline(always)]
-fn check_rings(node: Node, vertices: Option<u64>, found: &mut Least)
-    ensures { found.new ≡ least found.old (shape vertices 2 (tree node.entry)) }
+fn check_rings(node: Node, vertices: Bound, found: &mut Least)
+    ensures { found.new ≡ least found.old (shape vertices.count 2 (tree node.entry)) }
 {
     match node.kind() {
         Kind::Array => {
@@ -46,11 +46,11 @@ fn check_rings(node: Node, vertices: Option<u64>, found: &mut Least)
 
 /// Checks that the value has lists of this depth, and below them indices of vertices. Most lists
 /// are in surfaces, which it reads without a call for each.
-fn check_shape(node: Node, depth: u8, vertices: Option<u64>, found: &mut Least)
-    ensures { found.new ≡ least found.old (shape vertices depth (tree node.entry)) }
+fn check_shape(node: Node, depth: u8, vertices: Bound, found: &mut Least)
+    ensures { found.new ≡ least found.old (shape vertices.count depth (tree node.entry)) }
 {
     if depth == 0 {
-        check_index(node, Reason::VertexIndex, vertices, found);
+        check_index_below(node, Reason::VertexIndex, vertices, found);
         return;
     }
     if depth == 1 {
@@ -81,6 +81,6 @@ pub fn check_boundaries(object: Node, depth: u8, vertices: Option<u64>, found: &
         ≡ least found.old (needs (chars (codes "boundaries")) (shape vertices depth) (tree object.entry)) }
 {
     if let Some(boundaries) = needed(object, "boundaries", found) {
-        check_shape(boundaries, depth, vertices, found);
+        check_shape(boundaries, depth, Bound::of(vertices), found);
     }
 }

@@ -3,7 +3,9 @@
 ghost use Rattle.std.specs.Prelude.{◌≡◌, ◌<◌, ◌∷◌, [], ℕ, length, nat_le, true, codes, Some, None};
 ghost use Rattle.std.specs.Str.{chars};
 ghost use Rattle.cj_spans.specs.Parts.{has_text};
-ghost use Rattle.cj_spans.specs.declared.reason.Reason.TheVariants.{MissingMember, DuplicateName, WrongKind, UnknownGeometryType, VertexIndex, SemanticsCount, SemanticsIndex, TemplateIndex, BadInstance};
+ghost use Rattle.cj_spans.specs.declared.reason.Reason.TheVariants.{MissingMember, DuplicateName, WrongKind};
+ghost use Rattle.cj_spans.specs.declared.reason.Reason.TheVariants.{UnknownGeometryType, VertexIndex, SemanticsCount};
+ghost use Rattle.cj_spans.specs.declared.reason.Reason.TheVariants.{SemanticsIndex, TemplateIndex, BadInstance};
 ghost use Rattle.cj_spans.specs.Finding.{least, found_at};
 ghost use Rattle.cj_spans.specs.Tree.{Tree, scalar};
 ghost use Rattle.cj_spans.specs.Json.{atom_at};
@@ -15,7 +17,12 @@ ghost use Rattle.cj_geometry.specs.Lod.{lod};
 ghost use Rattle.cj_geometry.specs.ObjectTypes.{object_types, row_of, row_numbered, number_of, row_at};
 ghost use Rattle.cj_geometry.specs.declared.object_type.ObjectType.{ObjectType};
 ghost use Rattle.cj_geometry.specs.Table.{parts, instance, table, form_of};
-ghost use Rattle.cj_geometry.specs.Examples.{points_line, points, three, empty_object, cone_line, cone, instance_line, bare_instance, templates_line, templates, placed_line, sixteen, fifteen, seventeen, complete_instance, short_instance, long_instance, negative_instance, past_instance, doubled_line, doubled, solid_line, null_whole, null_shell, null_surface, no_shell, one_surface, past_surfaces, string, HaveTheirForms, HasNoName};
+ghost use Rattle.cj_geometry.specs.Examples.{points_line, points, three, empty_object, cone_line, cone, instance_line};
+ghost use Rattle.cj_geometry.specs.Examples.{bare_instance, templates_line, templates, placed_line, sixteen, fifteen};
+ghost use Rattle.cj_geometry.specs.Examples.{seventeen, complete_instance, short_instance, long_instance};
+ghost use Rattle.cj_geometry.specs.Examples.{negative_instance, past_instance, doubled_line, doubled, solid_line};
+ghost use Rattle.cj_geometry.specs.Examples.{null_whole, null_shell, null_surface, no_shell, one_surface};
+ghost use Rattle.cj_geometry.specs.Examples.{past_surfaces, string, HaveTheirForms, HasNoName};
 
 /// An index is below the number of vertices, if that is known.
 pub fn two_points_beside_one_vertex()

@@ -3,7 +3,8 @@
 //! An instance names its template by a number. The steps of the list find it ([`Steps`]), or finer
 //! steps after many searches. A template may have many members before its level of detail, so the
 //! last results are kept.
-ghost use Rattle.std.specs.Prelude.{◌≡◌, ◌<◌, ℕ, Some, IfSome, codes, option_and_then, option_map, slice_get, slice_set};
+ghost use Rattle.std.specs.Prelude.{◌≡◌, ◌<◌, ℕ, Some, IfSome, codes, option_and_then, option_map, slice_get};
+ghost use Rattle.std.specs.Prelude.{slice_set};
 ghost use Rattle.std.specs.Option.{ForSome};
 ghost use Rattle.std.specs.Str.{chars};
 ghost use Rattle.cj_spans.specs.Parts.{items_of, member_of};

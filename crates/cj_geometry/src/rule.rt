@@ -36,7 +36,10 @@ pub use array::{check_length, count_items};
 use cj_spans::{Finding, Kind, Least, Node, Reason};
 pub use member::{check_text_member, needed};
 pub use names::check_names;
-pub use number::{check_index, check_number, check_whole, count_indices, count_wholes, read_whole};
+pub use number::{
+    Bound, check_index, check_index_below, check_number, check_whole, count_indices, count_wholes,
+    read_whole,
+};
 
 /// Adds a reason at a value. Few values have one.
 #[cold]

@@ -6,11 +6,12 @@ ghost use Rattle.cj_spans.specs.Finding.{least};
 ghost use Rattle.cj_spans.specs.Parts.{items_of, member_of};
 ghost use Rattle.cj_spans.specs.View.{tree};
 ghost use Rattle.cj_geometry.specs.Rule.{needs};
-ghost use Rattle.cj_geometry.specs.Geometry.{first_part, other_parts, left_of, parts_of, other_count, entry, values, surface, surfaces, count_of, semantics, semantics_if};
+ghost use Rattle.cj_geometry.specs.Geometry.{first_part, other_parts, left_of, parts_of, other_count, entry, values};
+ghost use Rattle.cj_geometry.specs.Geometry.{surface, surfaces, count_of, semantics, semantics_if};
 
 use crate::rule::{
-    add, check_array, check_index, check_names, check_object, check_text_member, count_items,
-    needed,
+    Bound, add, check_array, check_index_below, check_names, check_object, check_text_member,
+    count_items, needed,
 };
 use cj_spans::{Items, Kind, Least, Node, Reason};
 
@@ -58,21 +59,21 @@ fn check_evenness(node: Node, part: Option<Node>, even: bool, found: &mut Least)
 
 /// Checks that the value is null, or an index of a surface.
 #[inline(always)]
-fn check_entry(node: Node, surfaces: Option<u64>, found: &mut Least)
-    ensures { found.new ≡ least found.old (entry surfaces (tree node.entry)) }
+fn check_entry(node: Node, surfaces: Bound, found: &mut Least)
+    ensures { found.new ≡ least found.old (entry surfaces.count (tree node.entry)) }
 {
     match node.kind() {
         Kind::Null => {}
-        _ => check_index(node, Reason::SemanticsIndex, surfaces, found),
+        _ => check_index_below(node, Reason::SemanticsIndex, surfaces, found),
     }
 }
 
 /// Checks that the items are entries, as many as there are parts: the lowest level, with nearly all
 /// of them.
-fn check_entries(node: Node, part: Option<Node>, surfaces: Option<u64>, found: &mut Least)
+fn check_entries(node: Node, part: Option<Node>, surfaces: Bound, found: &mut Least)
     ensures { found.new
         ≡ least found.old
-        (flat_map (entry surfaces) (items_of (tree node.entry)) ++ other_count (tree node.entry)
+        (flat_map (entry surfaces.count) (items_of (tree node.entry)) ++ other_count (tree node.entry)
         (option_map tree part.entry)) }
 {
     let mut parts = walk(part);
@@ -87,8 +88,8 @@ fn check_entries(node: Node, part: Option<Node>, surfaces: Option<u64>, found: &
 
 /// Checks that the values have this depth, for a part of the boundaries, and below it indices of
 /// surfaces.
-fn check_values(node: Node, part: Option<Node>, depth: u8, surfaces: Option<u64>, found: &mut Least)
-    ensures { found.new ≡ least found.old (values surfaces depth (tree node.entry) (option_map tree part.entry)) }
+fn check_values(node: Node, part: Option<Node>, depth: u8, surfaces: Bound, found: &mut Least)
+    ensures { found.new ≡ least found.old (values surfaces.count depth (tree node.entry) (option_map tree part.entry)) }
 {
     if depth == 0 {
         check_entry(node, surfaces, found);
@@ -167,7 +168,8 @@ fn check_values_member(object: Node, boundaries: Option<Node>, depth: u8, found:
         (option_map tree boundaries.entry)) (tree object.entry)) }
 {
     if let Some(value) = needed(object, "values", found) {
-        check_values(value, boundaries, depth, count_surfaces(object), found);
+        let surfaces = Bound::of(count_surfaces(object));
+        check_values(value, boundaries, depth, surfaces, found);
     }
 }
 

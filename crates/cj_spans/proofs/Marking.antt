@@ -1,12 +1,12 @@
 -- Marks: what they leave, and that a node is found by its tree.
-use Rattle.std.proofs.Common.{◌≡◌, ◌≢◌, ℕ, zero, suc, ◌+◌, ◌-◌, ◌%◌, ◌^◌, ◌<◌, ◌≤◌, List, [], ◌∷◌, length, drop, slice_get, true, false, inl, inr, Some, refl, sym, ap, subst, arith, ◌∙◌}
+use Rattle.std.proofs.Common.{◌≡◌, ◌≢◌, ℕ, zero, suc, ◌+◌, ◌-◌, ◌%◌, ◌^◌, ◌<◌, List, [], ◌∷◌, length, drop, slice_get, true, inl, inr, Some, refl, sym, ap, subst, arith, ◌∙◌}
 use Rattle.std.specs.Prelude.{nat_le, slice_set, min}
 use Rattle.std.proofs.lemmas.Bool.{cases_lt}
 use Rattle.std.proofs.lemmas.Bool.Decides.{nat_tests}
 use Rattle.cj_budget.specs.Bounded.{BoundedList, IsWithin}
 use Rattle.cj_spans.specs.declared.token.Token.{Token}
 use Rattle.cj_spans.specs.Tree.{Tree, start_of}
-use Rattle.cj_spans.specs.Preorder.{Span, spans_of, token_at}
+use Rattle.cj_spans.specs.Preorder.{spans_of, token_at}
 use Rattle.cj_spans.specs.Forest.{forest}
 use Rattle.cj_spans.specs.Sound.{AreOf, AreRising, AreLinked, before, link_of}
 use Rattle.cj_spans.specs.Marks.{has_mark, is_marked_at, bare, KeepsTokens}

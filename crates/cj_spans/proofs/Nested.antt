@@ -11,7 +11,7 @@ use Rattle.cj_spans.specs.declared.step.Move.{Move}
 use Rattle.cj_spans.specs.declared.step.Move.TheVariants.{To}
 use Rattle.cj_spans.specs.Json.{byte}
 use Rattle.cj_spans.specs.Preorder.{token_at}
-use Rattle.cj_spans.specs.Machine.{State, state, between, start, read, with_opened, phase_after, deepest_after, Answers, ReadsByte, BeginsValue, InArray, IsNumberItem, FitsToken, Grown, Kept}
+use Rattle.cj_spans.specs.Machine.{State, state, between, start, read, with_opened, phase_after, deepest_after, Answers, ReadsByte, BeginsValue, InArray, IsNumberUpTo, EndsItem, FitsToken, Grown, Kept}
 use Rattle.cj_spans.specs.Pass.{Standing, Stands, GoesOn, IsComma}
 use Rattle.cj_spans.proofs.Spellings.{some_same}
 use Rattle.cj_spans.proofs.Runs.{idle}
@@ -54,10 +54,10 @@ module _ (b : List ℕ) (t0 : BoundedList Token) (s0 : BoundedList ℕ) where
       standing_with b t0 s0 ts ts ks After Ready i (i + 1) s (grown_same ts s.kept.within) (omega arith) (λ p. comma_read b start Array Ready ks.elements ts.elements i p (λ _ _ _. refl) c.array c.within c.comma)
 
   -- behind a number
-  pub standing_number : (ts ts1 : BoundedList Token) (ks : BoundedList ℕ) (m : Mode) (i k : ℕ) → Standing b t0 s0 ts ks m i → BeginsValue m → IsNumberItem b i k → Becomes ts (ts.elements ++ token_at i k (length ts.elements + 1) ∷ []) ts1 → Standing b t0 s0 ts1 ks After k
-  standing_number ts ts1 ks m i k s v n e =
+  pub standing_number : (ts ts1 : BoundedList Token) (ks : BoundedList ℕ) (m : Mode) (i k : ℕ) → Standing b t0 s0 ts ks m i → BeginsValue m → IsNumberUpTo b i k → EndsItem (byte b k) → Becomes ts (ts.elements ++ token_at i k (length ts.elements + 1) ∷ []) ts1 → Standing b t0 s0 ts1 ks After k
+  standing_number ts ts1 ks m i k s v n w e =
       let inside = n.within in
-      standing_with b t0 s0 ts ts1 ks m After i k s (grown_more ts ts1 _ s.kept.within e) (omega arith) (λ p. number_read b start m ks.elements ts.elements ts1.elements i k p n v e.elements)
+      standing_with b t0 s0 ts ts1 ks m After i k s (grown_more ts ts1 _ s.kept.within e) (omega arith) (λ p. number_read b start m ks.elements ts.elements ts1.elements i k p n w v e.elements)
 
 -- `[` opens an array where a value may begin
 opened_at : (m : Mode) (s : State) → BeginsValue m → read m 91 s ≡ Some (with_opened Array FirstItem s)

@@ -1,13 +1,13 @@
 -- Trees that stand side by side start one after another.
-use Rattle.std.proofs.Common.{◌≡◌, ℕ, zero, suc, ◌+◌, ◌-◌, ◌<◌, ◌≤◌, List, [], ◌∷◌, length, take, drop, get_or, slice_get, slice_range, Some, inl, inr, refl, sym, ap, subst, arith, ◌∙◌}
+use Rattle.std.proofs.Common.{◌≡◌, ℕ, suc, ◌-◌, ◌<◌, ◌≤◌, List, [], ◌∷◌, length, drop, slice_get, slice_range, Some, inl, inr, refl, sym, subst, arith}
 use Rattle.std.specs.Prelude.{All, ⊤}
 use Rattle.std.proofs.lemmas.Bool.{cases_lt}
-use Rattle.std.proofs.lemmas.List.Elements.{All-nil, All-cons, All-head, All-tail, All-take, All-drop, All-weaker}
+use Rattle.std.proofs.lemmas.List.Elements.{All-nil, All-cons, All-head, All-tail, All-take, All-drop}
 use Rattle.cj_spans.specs.declared.token.Token.{Token}
 use Rattle.cj_spans.specs.Tree.{Tree, start_of}
 use Rattle.cj_spans.specs.Json.{byte}
 use Rattle.cj_spans.specs.Preorder.{Span, spans_of}
-use Rattle.cj_spans.specs.Forest.{forest, held, past, node, kind_by}
+use Rattle.cj_spans.specs.Forest.{forest, held, past, kind_by}
 use Rattle.cj_spans.specs.Parts.{AreInOrder, AreInValueOrder}
 use Rattle.cj_spans.specs.Sound.{AreWithin, shown_between}
 use Rattle.cj_spans.specs.View.{pairs_of}

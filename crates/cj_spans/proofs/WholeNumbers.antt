@@ -12,7 +12,7 @@ use Rattle.cj_spans.specs.declared.step.Mode.TheVariants.{Ready, FirstItem, Afte
 use Rattle.cj_spans.specs.Spelling.{is_white_space}
 use Rattle.cj_spans.specs.Json.{byte}
 use Rattle.cj_spans.specs.Preorder.{token_at}
-use Rattle.cj_spans.specs.Machine.{State, state, in_atom, moved, step, lex_start, lex_step, Continues, still, further, ComesTo, BeginsValue, IsNumberItem, is_digit}
+use Rattle.cj_spans.specs.Machine.{State, state, in_atom, moved, step, lex_start, lex_step, Continues, still, further, ComesTo, BeginsValue, IsNumberUpTo, EndsItem, is_digit}
 use Rattle.cj_spans.proofs.Runs.{idle, atom_ends, IsEnd, comma, bracket}
 use Rattle.cj_spans.proofs.Atoms.{ends_ok}
 use Rattle.cj_spans.proofs.Signs.{step_on}
@@ -47,19 +47,23 @@ number_begins _ c x ks ts i p v d h = absurd v
 
 -- ---- one number
 
-ended : (c : ℕ) → (c ≡ 44) ⊎ (c ≡ 93) → IsEnd c
+ended : (c : ℕ) → EndsItem c → IsEnd c
 ended c (inl e) = subst IsEnd (sym e) comma
 ended c (inr e) = subst IsEnd (sym e) bracket
 
 -- the machine has read a number
-pub number_read : (b : List ℕ) (s : State) (m : Mode) (ks : List ℕ) (ts us : List Token) (i k p : ℕ) → IsNumberItem b i k → BeginsValue m → us ≡ ts ++ token_at i k (length ts + 1) ∷ []
+pub number_read : (b : List ℕ) (s : State) (m : Mode) (ks : List ℕ) (ts us : List Token) (i k p : ℕ) → IsNumberUpTo b i k → EndsItem (byte b k) → BeginsValue m → us ≡ ts ++ token_at i k (length ts + 1) ∷ []
     → ComesTo b s (idle m ks ts i p) → ComesTo b s (idle After ks us k p)
-number_read b s m ks ts us i k p n v q h =
+number_read b s m ks ts us i k p n w v q h =
     let below = n.order in let inside = n.within in
     let r = step_on b s (idle m ks ts i p) (state (in_atom After i n.first) ks ts (suc i) p) h (omega arith) (number_begins m (byte b i) n.first ks ts i p v n.sign n.begins) in
-    settles_both r (ends_ok b i k p n.first n.last Number After ks ts us n.goes (inr (atom_ends n.last (byte b k) Number n.done (ended (byte b k) n.ended))) n.done q)
+    settles_both r (ends_ok b i k p n.first n.last Number After ks ts us n.goes (inr (atom_ends n.last (byte b k) Number n.done (ended (byte b k) w))) n.done q)
 
 -- ---- what the code's tests say
+
+-- a digit goes on with a number
+pub whole_stays : (c : ℕ) → is_digit c ≡ true → lex_step Whole c ≡ Some Whole
+whole_stays c h = grind (arith)
 
 first_zero : (c : ℕ) → c ≡ 48 → lex_start c ≡ Some Zero
 first_zero c e = ap lex_start e
@@ -68,22 +72,22 @@ first_whole : (c : ℕ) → 49 ≤ c → c ≤ 57 → lex_start c ≡ Some Whole
 first_whole c l h = grind (arith, nat_tests)
 
 -- digits alone, of which the first is `0` only if it stands alone
-pub number_is : (b : List ℕ) (i k : ℕ) → (48 ≤ byte b i) × (byte b i ≤ 57) → (byte b i ≡ 48 → k ≡ i + 1) → ((j : ℕ) (x : Lex) → Continues b j x (i + 1) Whole → Continues b j x k Whole) → i + 1 ≤ k → k < length b → (byte b k ≡ 44) ⊎ (byte b k ≡ 93)
-    → (48 ≤ byte b i) × IsNumberItem b i k
-number_is b i k d z same l h e = (d.0, choose (split (byte b i)))
+pub number_is : (b : List ℕ) (i k : ℕ) → (48 ≤ byte b i) × (byte b i ≤ 57) → (byte b i ≡ 48 → k ≡ i + 1) → ((j : ℕ) (x : Lex) → Continues b j x (i + 1) Whole → Continues b j x k Whole) → i + 1 ≤ k → k < length b
+    → (48 ≤ byte b i) × IsNumberUpTo b i k
+number_is b i k d z same l h = (d.0, choose (split (byte b i)))
   where
     split : (c : ℕ) → (c ≡ 48) ⊎ (c ≡ 48 → ⊥)
     split c = grind arith
 
-    choose : (byte b i ≡ 48) ⊎ (byte b i ≡ 48 → ⊥) → IsNumberItem b i k
+    choose : (byte b i ≡ 48) ⊎ (byte b i ≡ 48 → ⊥) → IsNumberUpTo b i k
     choose (inl q) =
         let f : suc i ≡ k = let g = z q in omega arith in
         let low = d.0 in
-        record { first = Zero; last = Zero; sign = (omega arith, d.1); begins = first_zero (byte b i) q; goes = subst (λ n. Continues b (suc i) Zero n Zero) f still; done = refl; order = omega arith; within = h; ended = e }
+        record { first = Zero; last = Zero; sign = (omega arith, d.1); begins = first_zero (byte b i) q; goes = subst (λ n. Continues b (suc i) Zero n Zero) f still; done = refl; order = omega arith; within = h }
     choose (inr q) =
         let f : suc i ≡ i + 1 = omega arith in
         let low = d.0 in let high = d.1 in
-        record { first = Whole; last = Whole; sign = (omega arith, high); begins = first_whole (byte b i) (omega arith) high; goes = same (suc i) Whole (subst (λ n. Continues b (suc i) Whole n Whole) f still); done = refl; order = omega arith; within = h; ended = e }
+        record { first = Whole; last = Whole; sign = (omega arith, high); begins = first_whole (byte b i) (omega arith) high; goes = same (suc i) Whole (subst (λ n. Continues b (suc i) Whole n Whole) f still); done = refl; order = omega arith; within = h }
 
 -- a digit goes on behind a minus as it begins a number
 behind_minus : (c : ℕ) → 48 ≤ c → c ≤ 57 → lex_step Minus c ≡ lex_start c
@@ -95,7 +99,7 @@ from_front {b} {i} {x} {y} h still = further i x y still h
 from_front {b} {i} {x} {y} h (further k u v c e) = further k u v (from_front h c) e
 
 -- the same behind a minus
-minus_is : (b : List ℕ) (i k : ℕ) → byte b i ≡ 45 → (48 ≤ byte b (i + 1)) × IsNumberItem b (i + 1) k → IsNumberItem b i k
+minus_is : (b : List ℕ) (i k : ℕ) → byte b i ≡ 45 → (48 ≤ byte b (i + 1)) × IsNumberUpTo b (i + 1) k → IsNumberUpTo b i k
 minus_is b i k e d =
     let n = d.1 in
     let f : suc i ≡ i + 1 = omega arith in
@@ -110,10 +114,9 @@ minus_is b i k e d =
       done = n.done;
       order = omega arith;
       within = n.within;
-      ended = n.ended;
     }
 
-pub behind_minus_stop : (b : List ℕ) (i : ℕ) (r : Option ℕ) → byte b i ≡ 45 → IfSome r (λ k. (48 ≤ byte b (i + 1)) × IsNumberItem b (i + 1) k) → IfSome r (λ k. IsNumberItem b i k)
+pub behind_minus_stop : (b : List ℕ) (i : ℕ) (r : Option ℕ) → byte b i ≡ 45 → IfSome r (λ k. (48 ≤ byte b (i + 1)) × IsNumberUpTo b (i + 1) k) → IfSome r (λ k. IsNumberUpTo b i k)
 behind_minus_stop b i None e h = tt
 behind_minus_stop b i (Some k) e h = minus_is b i k e h
 

@@ -1,10 +1,12 @@
 -- What is read of a text, and what is left. Only private clauses cite it.
-use Rattle.std.specs.Prelude.{◌≡◌, ◌+◌, ◌-◌, ◌<◌, ◌≤◌, ℕ, List, [], ◌∷◌, length, drop, get_or, false, cond, not, ◌&&◌, nat_eq, nat_lt, Option, Some, None}
+use Rattle.std.specs.Prelude.{◌≡◌, ◌+◌, ◌-◌, ◌<◌, ◌≤◌, ℕ, List, [], ◌∷◌, length, drop, get_or, false, cond, not, ◌&&◌}
+use Rattle.std.specs.Prelude.{nat_eq, nat_lt, Option, Some, None}
 use Rattle.std.specs.Str.{chars, chars_after}
 use Rattle.cj_spans.specs.declared.text.CodePoint.{CodePoint}
 use Rattle.cj_spans.specs.declared.text.CodePoints.{CodePoints}
 use Rattle.cj_spans.specs.declared.text.Characters.{Characters}
 use Rattle.cj_spans.specs.Text.{code_points_after}
+use Rattle.cj_spans.specs.Signs.{backslash}
 
 -- the characters that are left from a place on
 abbrev pub left : List ℕ → ℕ → List ℕ
@@ -23,7 +25,7 @@ pub record ReadsCodePoint (bytes cs : List ℕ) (x n : ℕ) (p : CodePoint) : Ty
 -- the first byte, where it alone is a character that stands for itself: ASCII, and no backslash
 abbrev pub plain_front : List ℕ → Option ℕ
 plain_front [] = None
-plain_front (b ∷ bs) = cond (nat_lt b 128 && not (nat_eq b 92)) (Some b) None
+plain_front (b ∷ bs) = cond (nat_lt b 128 && not (nat_eq b backslash)) (Some b) None
 
 -- the code points from a place on
 abbrev pub code_points_from : List ℕ → ℕ → List ℕ
@@ -39,7 +41,9 @@ characters_left c = left c.bytes.now c.place
 
 -- the next n bytes of two strings are the same, and each of them is a character that stands for itself
 abbrev pub AreAlike : List ℕ → ℕ → List ℕ → ℕ → ℕ → Type 0
-AreAlike bs i ds j n = (k : ℕ) → k < n → (get_or bs (i + k) 0 ≡ get_or ds (j + k) 0) × (get_or bs (i + k) 0 < 128) × (nat_eq (get_or bs (i + k) 0) 92 ≡ false)
+AreAlike bs i ds j n = (k : ℕ) → k < n
+    → (get_or bs (i + k) 0 ≡ get_or ds (j + k) 0) × (get_or bs (i + k) 0 < 128)
+    × (nat_eq (get_or bs (i + k) 0) backslash ≡ false)
 
 -- of what is left from two places on so many are alike
 pub record StartAlike (bs : List ℕ) (i : ℕ) (ds : List ℕ) (j n : ℕ) : Type 0 where

@@ -15,7 +15,9 @@ line = codes "{\"a\":{\"b\":[]},\"c\":0}"
 
 -- a tree of seven values and names
 abbrev pub seven : Tree
-seven = object 0 20 (member (atom_at line 1 4) (object 5 13 (member (atom_at line 6 9) (array 10 12 no_items) no_members)) (member (atom_at line 14 17) (scalar Number (atom_at line 18 19)) no_members))
+seven = object 0 20 (member (atom_at line 1 4)
+    (object 5 13 (member (atom_at line 6 9) (array 10 12 no_items) no_members))
+    (member (atom_at line 14 17) (scalar Number (atom_at line 18 19)) no_members))
 
 -- a line of one name twice, spelled in two ways
 abbrev pub named_line : List ℕ
@@ -23,7 +25,8 @@ named_line = codes "{\"\\u0062\":1,\"b\":2}"
 
 -- its tree
 abbrev pub named : Tree
-named = object 0 18 (member (atom_at named_line 1 9) (scalar Number (atom_at named_line 10 11)) (member (atom_at named_line 12 15) (scalar Number (atom_at named_line 16 17)) no_members))
+named = object 0 18 (member (atom_at named_line 1 9) (scalar Number (atom_at named_line 10 11))
+    (member (atom_at named_line 12 15) (scalar Number (atom_at named_line 16 17)) no_members))
 
 -- a rule over items: each is a number, else a finding at the item
 abbrev pub at_other : Kind → ℕ → List Finding

@@ -1,5 +1,6 @@
 -- Findings, each a place and a reason, and the least of them by place and code.
-use Rattle.std.specs.Prelude.{◌≡◌, ℕ, ◌<◌, ◌≤◌, ◌⊎◌, ◌↔◌, ◌||◌, ◌&&◌, nat_lt, nat_eq, Bool, cond, List, [], ◌∷◌, Option, Some, None, All, Contains}
+use Rattle.std.specs.Prelude.{◌≡◌, ℕ, ◌<◌, ◌≤◌, ◌⊎◌, ◌↔◌, ◌||◌, ◌&&◌, nat_lt, nat_eq, Bool, cond, List, [], ◌∷◌, Option}
+use Rattle.std.specs.Prelude.{Some, None, All, Contains}
 use Rattle.cj_spans.specs.declared.reason.Reason.{Reason}
 use Rattle.cj_spans.specs.declared.finding.Finding.{Finding}
 use Rattle.cj_spans.specs.Reason.{code_of}

@@ -3,14 +3,17 @@
 use Rattle.std.specs.Prelude.{ℕ, List, [], ◌∷◌, cond, nat_eq, nat_lt, ◌||◌}
 use Rattle.cj_spans.specs.declared.token.Kind.{Kind}
 use Rattle.cj_spans.specs.declared.token.Kind.TheVariants.{Null, Truth, Number, Text, Array, Object}
-use Rattle.cj_spans.specs.Tree.{Atom, Tree, scalar, array, object, Items, no_items, item, Members, no_members, member, start_of}
+use Rattle.cj_spans.specs.Tree.{Atom, Tree, scalar, array, object, Items, no_items, item, Members, no_members, member}
+use Rattle.cj_spans.specs.Tree.{start_of}
 use Rattle.cj_spans.specs.Json.{byte, atom_at}
 use Rattle.cj_spans.specs.Preorder.{Span}
+use Rattle.cj_spans.specs.Signs.{left_brace, left_bracket, quote, small_f, small_n, small_t}
 
 -- the kind of a value that begins with this byte
 abbrev pub kind_by : ℕ → Kind
 kind_by b =
-    cond (nat_eq b 91) Array (cond (nat_eq b 123) Object (cond (nat_eq b 34) Text (cond (nat_eq b 110) Null (cond (nat_eq b 116 || nat_eq b 102) Truth Number))))
+    cond (nat_eq b left_bracket) Array (cond (nat_eq b left_brace) Object (cond (nat_eq b quote) Text
+    (cond (nat_eq b small_n) Null (cond (nat_eq b small_t || nat_eq b small_f) Truth Number))))
 
 -- the trees at the front that start before the place j
 abbrev pub held : ℕ → List Tree → List Tree
@@ -48,4 +51,5 @@ node b k i j ts = scalar k (atom_at b i j)
 -- the trees that these spans of the line b show
 unfoldable pub forest : List ℕ → List Span → List Tree
 forest b [] = []
-forest b (s ∷ ss) = node b (kind_by (byte b s.start)) s.start s.stop (held s.stop (forest b ss)) ∷ past s.stop (forest b ss)
+forest b (s ∷ ss) = node b (kind_by (byte b s.start)) s.start s.stop (held s.stop (forest b ss))
+    ∷ past s.stop (forest b ss)

@@ -3,7 +3,8 @@ use Rattle.std.specs.Prelude.{◌≡◌, ℕ, ◌≤◌, ◌⊎◌, List, Result
 use Rattle.cj_spans.specs.declared.fault.ScanFault.{ScanFault}
 use Rattle.cj_spans.specs.declared.fault.ScanFault.TheVariants.{NotUtf8, Syntax, TooDeep, Memory}
 use Rattle.cj_spans.specs.declared.fault.LineFault.{LineFault}
-use Rattle.cj_spans.specs.declared.fault.LineFault.TheVariants.{NotUtf8 as LineNotUtf8, Syntax as LineSyntax, TooDeep as LineTooDeep}
+use Rattle.cj_spans.specs.declared.fault.LineFault.TheVariants.{NotUtf8 as LineNotUtf8, Syntax as LineSyntax}
+use Rattle.cj_spans.specs.declared.fault.LineFault.TheVariants.{TooDeep as LineTooDeep}
 use Rattle.cj_spans.specs.Tree.{Tree, size, nest}
 use Rattle.cj_spans.specs.Json.{Json}
 use Rattle.cj_spans.specs.Front.{SyntaxAt, DeepAt, NowhereDeep}

@@ -1,3 +1,4 @@
+pub mod Signs
 pub mod Spelling
 pub mod Tree
 pub mod Json

@@ -1,5 +1,7 @@
 -- The machine that reads a line byte by byte. Only private clauses cite it.
-use Rattle.std.specs.Prelude.{◌≡◌, ℕ, suc, ◌^◌, ◌<◌, ◌≤◌, List, [], ◌∷◌, ◌++◌, length, drop, max, slice_get, slice_set, Bool, cond, ◌⊎◌, ◌||◌, ◌&&◌, nat_eq, nat_le, Option, Some, None, IsSomeAnd, option_map, option_and_then, Result, Ok, Err, OnErr, IsTrue}
+use Rattle.std.specs.Prelude.{◌≡◌, ℕ, suc, ◌^◌, ◌<◌, ◌≤◌, List, [], ◌∷◌, ◌++◌, length, drop, max, slice_get, slice_set}
+use Rattle.std.specs.Prelude.{Bool, cond, ◌⊎◌, ◌||◌, ◌&&◌, nat_eq, nat_le, Option, Some, None, IsSomeAnd, option_map}
+use Rattle.std.specs.Prelude.{option_and_then, Result, Ok, Err, OnErr, IsTrue}
 use Rattle.cj_budget.specs.Bounded.{BoundedList, IsWithin}
 use Rattle.cj_spans.specs.declared.fault.LineFault.{LineFault}
 use Rattle.cj_spans.specs.declared.fault.LineFault.TheVariants.{NotUtf8, Syntax, TooDeep}
@@ -7,7 +9,10 @@ use Rattle.cj_spans.specs.declared.token.Kind.{Kind}
 use Rattle.cj_spans.specs.declared.token.Kind.TheVariants.{Null, Truth, Number, Text, Array, Object}
 use Rattle.cj_spans.specs.declared.token.Token.{Token}
 use Rattle.cj_spans.specs.declared.lex.Lex.{Lex}
-use Rattle.cj_spans.specs.declared.lex.Lex.TheVariants.{AfterN, AfterNu, AfterNul, NullDone, AfterT, AfterTr, AfterTru, AfterF, AfterFa, AfterFal, AfterFals, TruthDone, Minus, Zero, Whole, Point, Fraction, Mark, MarkSign, Exponent, InString, Escape, Hex4, Hex3, Hex2, Hex1, StringDone}
+use Rattle.cj_spans.specs.declared.lex.Lex.TheVariants.{AfterN, AfterNu, AfterNul, NullDone, AfterT, AfterTr, AfterTru}
+use Rattle.cj_spans.specs.declared.lex.Lex.TheVariants.{AfterF, AfterFa, AfterFal, AfterFals, TruthDone, Minus, Zero}
+use Rattle.cj_spans.specs.declared.lex.Lex.TheVariants.{Whole, Point, Fraction, Mark, MarkSign, Exponent, InString}
+use Rattle.cj_spans.specs.declared.lex.Lex.TheVariants.{Escape, Hex4, Hex3, Hex2, Hex1, StringDone}
 use Rattle.cj_spans.specs.declared.step.Mode.{Mode}
 use Rattle.cj_spans.specs.declared.step.Mode.TheVariants.{Ready, FirstItem, After, FirstName, NextName, AfterName}
 use Rattle.cj_spans.specs.declared.step.Move.{Move}
@@ -16,18 +21,22 @@ use Rattle.cj_spans.specs.declared.step.Next.{Next}
 use Rattle.cj_spans.specs.Spelling.{is_white_space, is_hex, is_escape}
 use Rattle.cj_spans.specs.Json.{byte}
 use Rattle.cj_spans.specs.Preorder.{token_at}
+use Rattle.cj_spans.specs.Signs.{backslash, capital_e, colon, comma, decimal_point, digit_0, digit_1, digit_9}
+use Rattle.cj_spans.specs.Signs.{left_brace, left_bracket, minus_sign, plus_sign, quote, right_brace, right_bracket}
+use Rattle.cj_spans.specs.Signs.{small_a, small_e, small_f, small_l, small_n, small_r, small_s, small_t, small_u, space}
 
 -- ---- scalars and names
 
 -- one of the bytes `0` to `9`
 abbrev pub is_digit : ℕ → Bool
-is_digit b = nat_le 48 b && nat_le b 57
+is_digit b = nat_le digit_0 b && nat_le b digit_9
 
 -- what the first byte of a scalar begins
 abbrev pub lex_start : ℕ → Option Lex
 lex_start b =
-    cond (nat_eq b 110) (Some AfterN) (cond (nat_eq b 116) (Some AfterT) (cond (nat_eq b 102) (Some AfterF) (cond (nat_eq b 45) (Some Minus) (cond (nat_eq b 48) (Some Zero)
-    (cond (nat_le 49 b && nat_le b 57) (Some Whole) (cond (nat_eq b 34) (Some InString) None))))))
+    cond (nat_eq b small_n) (Some AfterN) (cond (nat_eq b small_t) (Some AfterT) (cond (nat_eq b small_f) (Some AfterF)
+    (cond (nat_eq b minus_sign) (Some Minus) (cond (nat_eq b digit_0) (Some Zero)
+    (cond (nat_le digit_1 b && nat_le b digit_9) (Some Whole) (cond (nat_eq b quote) (Some InString) None))))))
 
 -- the reading x after the byte d alone
 abbrev pub one : ℕ → ℕ → Lex → Option Lex
@@ -43,40 +52,41 @@ hex b x = cond (is_hex b) (Some x) None
 
 -- the mark of an exponent
 abbrev pub mark : ℕ → Option Lex
-mark b = cond (nat_eq b 101 || nat_eq b 69) (Some Mark) None
+mark b = cond (nat_eq b small_e || nat_eq b capital_e) (Some Mark) None
 
 -- a point or the mark of an exponent
 abbrev pub point_or_mark : ℕ → Option Lex
-point_or_mark b = cond (nat_eq b 46) (Some Point) (mark b)
+point_or_mark b = cond (nat_eq b decimal_point) (Some Point) (mark b)
 
 -- the first digit of a number
 abbrev pub zero_or_whole : ℕ → Option Lex
-zero_or_whole b = cond (nat_eq b 48) (Some Zero) (cond (nat_le 49 b && nat_le b 57) (Some Whole) None)
+zero_or_whole b = cond (nat_eq b digit_0) (Some Zero) (cond (nat_le digit_1 b && nat_le b digit_9) (Some Whole) None)
 
 -- the sign of an exponent
 abbrev pub sign_mark : ℕ → Option Lex
-sign_mark b = cond (nat_eq b 43 || nat_eq b 45) (Some MarkSign) None
+sign_mark b = cond (nat_eq b plus_sign || nat_eq b minus_sign) (Some MarkSign) None
 
 -- a byte in a string
 abbrev pub string_step : ℕ → Option Lex
-string_step b = cond (nat_eq b 34) (Some StringDone) (cond (nat_eq b 92) (Some Escape) (cond (nat_le 32 b) (Some InString) None))
+string_step b = cond (nat_eq b quote) (Some StringDone)
+    (cond (nat_eq b backslash) (Some Escape) (cond (nat_le space b) (Some InString) None))
 
 -- a byte after a backslash
 abbrev pub escape_step : ℕ → Option Lex
-escape_step b = cond (is_escape b) (Some InString) (cond (nat_eq b 117) (Some Hex4) None)
+escape_step b = cond (is_escape b) (Some InString) (cond (nat_eq b small_u) (Some Hex4) None)
 
 -- how far the spelling is after one byte more
 abbrev pub lex_step : Lex → ℕ → Option Lex
-lex_step AfterN b = one b 117 AfterNu
-lex_step AfterNu b = one b 108 AfterNul
-lex_step AfterNul b = one b 108 NullDone
-lex_step AfterT b = one b 114 AfterTr
-lex_step AfterTr b = one b 117 AfterTru
-lex_step AfterTru b = one b 101 TruthDone
-lex_step AfterF b = one b 97 AfterFa
-lex_step AfterFa b = one b 108 AfterFal
-lex_step AfterFal b = one b 115 AfterFals
-lex_step AfterFals b = one b 101 TruthDone
+lex_step AfterN b = one b small_u AfterNu
+lex_step AfterNu b = one b small_l AfterNul
+lex_step AfterNul b = one b small_l NullDone
+lex_step AfterT b = one b small_r AfterTr
+lex_step AfterTr b = one b small_u AfterTru
+lex_step AfterTru b = one b small_e TruthDone
+lex_step AfterF b = one b small_a AfterFa
+lex_step AfterFa b = one b small_l AfterFal
+lex_step AfterFal b = one b small_s AfterFals
+lex_step AfterFals b = one b small_e TruthDone
 lex_step NullDone b = None
 lex_step TruthDone b = None
 lex_step Minus b = zero_or_whole b
@@ -141,7 +151,8 @@ pub data Phase : Type 0 where
   between : Mode → Phase
   in_atom : Mode → ℕ → Lex → Phase
 
--- the phase, the open containers from the innermost on, the tokens, how many bytes were read, and the most containers that were open
+-- the phase, the open containers from the innermost on, the tokens, how many bytes were read, and the most containers
+-- that were open
 pub record State : Type 0 where
   pub phase : Phase
   pub stack : List ℕ
@@ -172,23 +183,26 @@ moved f s = state f s.stack s.tokens (suc s.place) s.deepest
 
 -- the byte opens a container of the kind k, in which the mode m comes
 abbrev pub with_opened : Kind → Mode → State → State
-with_opened k m s = state (between m) (length s.tokens ∷ s.stack) (s.tokens ++ token_at s.place 0 (open_link k) ∷ []) (suc s.place) (max s.deepest (suc (length s.stack)))
+with_opened k m s = state (between m) (length s.tokens ∷ s.stack) (s.tokens ++ token_at s.place 0 (open_link k) ∷ [])
+    (suc s.place) (max s.deepest (suc (length s.stack)))
 
 -- the innermost container k, whose token is t, ends with the byte that is read
 abbrev pub with_closed : ℕ → Token → State → State
-with_closed k t s = state (between After) (drop 1 s.stack) (slice_set s.tokens k (token_at t.start (suc s.place) (length s.tokens))) (suc s.place) s.deepest
+with_closed k t s = state (between After) (drop 1 s.stack)
+    (slice_set s.tokens k (token_at t.start (suc s.place) (length s.tokens))) (suc s.place) s.deepest
 
 -- ---- one byte
 
 -- a byte where a value may begin
 abbrev pub begin_value : ℕ → State → Option State
 begin_value c s =
-    cond (nat_eq c 91) (Some (with_opened Array FirstItem s)) (cond (nat_eq c 123) (Some (with_opened Object FirstName s))
+    cond (nat_eq c left_bracket) (Some (with_opened Array FirstItem s))
+    (cond (nat_eq c left_brace) (Some (with_opened Object FirstName s))
     (option_map (λ x. moved (in_atom After s.place x) s) (lex_start c)))
 
 -- a byte where a name may begin
 abbrev pub begin_name : ℕ → State → Option State
-begin_name c s = cond (nat_eq c 34) (Some (moved (in_atom AfterName s.place InString) s)) None
+begin_name c s = cond (nat_eq c quote) (Some (moved (in_atom AfterName s.place InString) s)) None
 
 -- the container k with the token t is closed by the bracket d
 abbrev pub close_by : ℕ → ℕ → ℕ → Token → State → Option State
@@ -196,8 +210,8 @@ close_by c d k t s = cond (nat_eq c d) (Some (with_closed k t s)) None
 
 -- a byte after a value in a container of this kind
 abbrev pub after_in : Kind → ℕ → ℕ → Token → State → Option State
-after_in Array c k t s = cond (nat_eq c 44) (Some (moved (between Ready) s)) (close_by c 93 k t s)
-after_in Object c k t s = cond (nat_eq c 44) (Some (moved (between NextName) s)) (close_by c 125 k t s)
+after_in Array c k t s = cond (nat_eq c comma) (Some (moved (between Ready) s)) (close_by c right_bracket k t s)
+after_in Object c k t s = cond (nat_eq c comma) (Some (moved (between NextName) s)) (close_by c right_brace k t s)
 after_in _ c k t s = None
 
 -- the same, in the container whose token this is
@@ -230,14 +244,14 @@ close_empty s = close_top (slice_get s.stack 0) s
 
 -- a byte after a name
 abbrev pub colon_step : ℕ → State → Option State
-colon_step c s = cond (nat_eq c 58) (Some (moved (between Ready) s)) None
+colon_step c s = cond (nat_eq c colon) (Some (moved (between Ready) s)) None
 
 -- a byte that is not white space, between scalars and names
 abbrev pub read_in : Mode → ℕ → State → Option State
 read_in Ready c s = begin_value c s
-read_in FirstItem c s = cond (nat_eq c 93) (close_empty s) (begin_value c s)
+read_in FirstItem c s = cond (nat_eq c right_bracket) (close_empty s) (begin_value c s)
 read_in After c s = after_value c s
-read_in FirstName c s = cond (nat_eq c 125) (close_empty s) (begin_name c s)
+read_in FirstName c s = cond (nat_eq c right_brace) (close_empty s) (begin_name c s)
 read_in NextName c s = begin_name c s
 read_in AfterName c s = colon_step c s
 
@@ -248,7 +262,8 @@ read m c s = cond (is_white_space c) (Some (moved (between m) s)) (read_in m c s
 -- where a scalar or a name may end, it has ended
 abbrev pub end_atom : Mode → ℕ → Option Kind → State → Option State
 end_atom m i None s = None
-end_atom m i (Some k) s = Some (state (between m) s.stack (s.tokens ++ token_at i s.place (suc (length s.tokens)) ∷ []) s.place s.deepest)
+end_atom m i (Some k) s = Some (state (between m) s.stack (s.tokens ++ token_at i s.place (suc (length s.tokens)) ∷ [])
+    s.place s.deepest)
 
 -- the scalar goes on, or the other state comes
 abbrev pub go_on : (Lex → Phase) → Option Lex → State → Option State → Option State
@@ -258,7 +273,8 @@ go_on f None s other = other
 -- a byte in this phase
 abbrev pub step_by : Phase → ℕ → State → Option State
 step_by (between m) c s = read m c s
-step_by (in_atom m i x) c s = go_on (λ y. in_atom m i y) (lex_step x c) s (option_and_then (read m c) (end_atom m i (lex_kind x) s))
+step_by (in_atom m i x) c s = go_on (λ y. in_atom m i y) (lex_step x c) s
+    (option_and_then (read m c) (end_atom m i (lex_kind x) s))
 
 -- a byte
 abbrev pub step : ℕ → State → Option State
@@ -293,7 +309,9 @@ pub record Sticks (b : List ℕ) (s : State) (i : ℕ) : Type 0 where
   pub reached : Reaches b s last
   pub at : last.place ≡ i
   pub within : i ≤ length b
-  pub stuck : ((i < length b) × (step (byte b i) last ≡ None)) ⊎ ((i ≡ length b) × ((ts : List Token) (p : ℕ) → settle last ≡ Some (state (between After) [] ts (length b) p) → ⊥))
+  pub stuck : ((i < length b) × (step (byte b i) last ≡ None))
+      ⊎ ((i ≡ length b) × ((ts : List Token) (p : ℕ) → settle last ≡ Some (state (between After) [] ts (length b) p)
+      → ⊥))
 
 -- the same where no container opens on the way
 pub record SticksFlat (b : List ℕ) (s : State) (i : ℕ) : Type 0 where
@@ -314,7 +332,8 @@ abbrev pub deepest_after : Move → ℕ → ℕ → ℕ
 deepest_after (Open m) p n = max p n
 deepest_after _ p n = p
 
--- what a call answers that reads the byte at the place i in the mode m, where the machine's step gives o, under the limit d
+-- what a call answers that reads the byte at the place i in the mode m, where the machine's step gives o, under the
+-- limit d
 abbrev pub Answers : Option State → Mode → ℕ → ℕ → ℕ → Result Move LineFault → List ℕ → List Token → Type 0
 Answers o m i p d (Ok v) ks ts = o ≡ Some (state (phase_after m i v) ks ts (suc i) (deepest_after v p (length ks)))
 Answers o m i p d (Err (Syntax j)) ks ts = (j ≡ i) × (o ≡ None)
@@ -323,7 +342,8 @@ Answers o m i p d (Err (NotUtf8 j)) ks ts = ⊥
 
 -- what a call answers that ends the scalar or the name of the state s, if it is in one
 abbrev pub EndAnswers : List ℕ → State → Result Next LineFault → List Token → Type 0
-EndAnswers b s (Ok n) ts = ComesTo b s (state (between n.mode) s.stack ts n.place s.deepest) × (s.place ≤ n.place) × (n.place ≤ length b)
+EndAnswers b s (Ok n) ts = ComesTo b s (state (between n.mode) s.stack ts n.place s.deepest) × (s.place ≤ n.place)
+    × (n.place ≤ length b)
 EndAnswers b s (Err (Syntax j)) ts = SticksFlat b s j
 EndAnswers b s (Err (TooDeep j)) ts = ⊥
 EndAnswers b s (Err (NotUtf8 j)) ts = ⊥
@@ -345,8 +365,11 @@ pub record Grown (old new : BoundedList Token) : Type 0 where
   pub longer : length old.elements ≤ length new.elements
 
 -- what a call does with the lists that reads the byte at the place i, where the machine does f, from whatever mode
-pub record ReadsByte (f : State → Option State) (i : ℕ) (result : Result Move LineFault) (old_tokens new_tokens : BoundedList Token) (old_stack new_stack : BoundedList ℕ) : Type 0 where
-  pub answer : (m : Mode) (p : ℕ) → Answers (f (state (between m) old_stack.elements old_tokens.elements i p)) m i p old_stack.limit result new_stack.elements new_tokens.elements
+pub record ReadsByte (f : State → Option State) (i : ℕ) (result : Result Move LineFault)
+    (old_tokens new_tokens : BoundedList Token) (old_stack new_stack : BoundedList ℕ) : Type 0 where
+  pub answer : (m : Mode) (p : ℕ)
+      → Answers (f (state (between m) old_stack.elements old_tokens.elements i p)) m i p old_stack.limit result
+      new_stack.elements new_tokens.elements
   pub tokens : Grown old_tokens new_tokens
   pub stack : Kept old_stack new_stack
   pub err : OnErr result ((new_tokens ≡ old_tokens) × (length old_stack.elements ≤ length new_stack.elements))
@@ -388,7 +411,7 @@ StringLeads _ _ = ⊥
 
 -- the bytes from i to k are a string with its quotes
 pub record IsQuoted (b : List ℕ) (i k : ℕ) : Type 0 where
-  pub opens : byte b i ≡ 34
+  pub opens : byte b i ≡ quote
   pub goes : Continues b (suc i) InString k StringDone
   pub order : i < k
   pub within : k ≤ length b
@@ -401,14 +424,14 @@ BeginsNameNext _ = ⊥
 
 -- the byte c is `{` or the comma of an object, by the move that it makes
 abbrev pub StaysInObjectNext : ℕ → Move → Type 0
-StaysInObjectNext c (To NextName) = c ≡ 44
-StaysInObjectNext c (Open FirstName) = c ≡ 123
+StaysInObjectNext c (To NextName) = c ≡ comma
+StaysInObjectNext c (Open FirstName) = c ≡ left_brace
 StaysInObjectNext c _ = ⊥
 
 -- the byte c, after which the mode comes, is `[` or the comma of an array
 abbrev pub StaysInArray : ℕ → Mode → Type 0
-StaysInArray c Ready = c ≡ 44
-StaysInArray c FirstItem = c ≡ 91
+StaysInArray c Ready = c ≡ comma
+StaysInArray c FirstItem = c ≡ left_bracket
 StaysInArray c _ = ⊥
 
 -- a value may begin after the move of a sign or a bracket
@@ -423,17 +446,20 @@ StaysInArrayNext c (To m) = StaysInArray c m
 StaysInArrayNext c (Open m) = StaysInArray c m
 StaysInArrayNext c _ = ⊥
 
--- the bytes from i to k are a number, and a comma or `]` comes after it; the first is a minus or a digit
-pub record IsNumberItem (b : List ℕ) (i k : ℕ) : Type 0 where
+-- the bytes from i to k are a number, if the byte at k does not go on with it; the first is a minus or a digit
+pub record IsNumberUpTo (b : List ℕ) (i k : ℕ) : Type 0 where
   pub first : Lex
   pub last : Lex
-  pub sign : (45 ≤ byte b i) × (byte b i ≤ 57)
+  pub sign : (minus_sign ≤ byte b i) × (byte b i ≤ digit_9)
   pub begins : lex_start (byte b i) ≡ Some first
   pub goes : Continues b (suc i) first k last
   pub done : lex_kind last ≡ Some Number
   pub order : i < k
   pub within : k < length b
-  pub ended : (byte b k ≡ 44) ⊎ (byte b k ≡ 93)
+
+-- the byte is a comma or `]`
+abbrev pub EndsItem : ℕ → Type 0
+EndsItem c = (c ≡ comma) ⊎ (c ≡ right_bracket)
 
 -- the byte begins a scalar or a name
 abbrev pub BeginsAtom : Move → Type 0
@@ -463,7 +489,8 @@ pub record Accepts (b : List ℕ) (tokens : BoundedList Token) (old new : Bounde
   pub shallow : deepest ≤ old.limit
 
 -- what the pass over a line answers
-abbrev pub RunAnswers : {X : Type 0} → List ℕ → BoundedList ℕ → Result X LineFault → BoundedList Token → BoundedList ℕ → Type 0
+abbrev pub RunAnswers : {X : Type 0} → List ℕ → BoundedList ℕ → Result X LineFault → BoundedList Token → BoundedList ℕ
+    → Type 0
 RunAnswers b old (Ok v) tokens new = Accepts b tokens old new
 RunAnswers b old (Err (Syntax i)) tokens new = SticksAt b old.limit i
 RunAnswers b old (Err (TooDeep i)) tokens new = SinksAt b old.limit i

@@ -1,8 +1,10 @@
 -- What is asked of a tree: its kind, its spelling, its items and members, its text, the member of a name.
-use Rattle.std.specs.Prelude.{ℕ, ◌<◌, List, [], ◌∷◌, slice_range, Bool, false, cond, Option, Some, None, option_and_then, All, ⊤}
+use Rattle.std.specs.Prelude.{ℕ, ◌<◌, List, [], ◌∷◌, slice_range, Bool, false, cond, Option, Some, None}
+use Rattle.std.specs.Prelude.{option_and_then, All, ⊤}
 use Rattle.cj_spans.specs.declared.token.Kind.{Kind}
 use Rattle.cj_spans.specs.declared.token.Kind.TheVariants.{Null, Truth, Number, Text, Array, Object}
-use Rattle.cj_spans.specs.Tree.{Tree, scalar, array, object, Items, no_items, item, Members, no_members, member, start_of}
+use Rattle.cj_spans.specs.Tree.{Tree, scalar, array, object, Items, no_items, item, Members, no_members, member}
+use Rattle.cj_spans.specs.Tree.{start_of}
 use Rattle.cj_spans.specs.Text.{text, are_same}
 
 -- the kind of a value or a name

@@ -8,9 +8,11 @@ use Rattle.cj_spans.specs.declared.step.Next.{Next}
 use Rattle.cj_spans.specs.Json.{byte}
 use Rattle.cj_spans.specs.Scan.{KeepsLaw}
 use Rattle.cj_spans.specs.Machine.{state, between, start, ComesTo, Kept, InArray, InObject, RunAnswers}
+use Rattle.cj_spans.specs.Signs.{comma}
 
 -- the machine has come to the mode m at the place i, and the lists are those that it has, from these on
-pub record Standing (b : List ℕ) (tokens0 : BoundedList Token) (stack0 : BoundedList ℕ) (tokens : BoundedList Token) (stack : BoundedList ℕ) (m : Mode) (i : ℕ) : Type 0 where
+pub record Standing (b : List ℕ) (tokens0 : BoundedList Token) (stack0 : BoundedList ℕ) (tokens : BoundedList Token)
+    (stack : BoundedList ℕ) (m : Mode) (i : ℕ) : Type 0 where
   pub deepest : ℕ
   pub settles : ComesTo b start (state (between m) stack.elements tokens.elements i deepest)
   pub place : i ≤ length b
@@ -34,14 +36,16 @@ pub record Stands (b : List ℕ) (tokens : BoundedList Token) (stack : BoundedLi
   pub room : HasLineRoom b tokens0 stack0
 
 -- what a call answers that goes on with the pass: where it stands, or what the pass answers
-abbrev pub GoesOn : List ℕ → BoundedList Token → BoundedList ℕ → Result Next LineFault → BoundedList Token → BoundedList ℕ → Type 0
+abbrev pub GoesOn : List ℕ → BoundedList Token → BoundedList ℕ → Result Next LineFault → BoundedList Token
+    → BoundedList ℕ → Type 0
 GoesOn b tokens0 stack0 (Ok n) tokens stack = Standing b tokens0 stack0 tokens stack n.mode n.place
-GoesOn b tokens0 stack0 (Err f) tokens stack = RunAnswers {X = Unit {0}} b stack0 (Err f) tokens stack × KeepsLaw b tokens0 tokens stack0 stack
+GoesOn b tokens0 stack0 (Err f) tokens stack = RunAnswers {X = Unit {0}} b stack0 (Err f) tokens stack
+    × KeepsLaw b tokens0 tokens stack0 stack
 
 -- the comma of an array stands at the place i
 pub record IsComma (b : List ℕ) (tokens : BoundedList Token) (stack : BoundedList ℕ) (i : ℕ) : Type 0 where
   pub within : i < length b
-  pub comma : byte b i ≡ 44
+  pub comma : byte b i ≡ comma
   pub array : InArray stack.elements tokens.elements
 
 -- a pass over the line stands so, and an object is innermost
@@ -52,5 +56,6 @@ pub record StandsInObject (b : List ℕ) (tokens : BoundedList Token) (m : Mode)
 
 -- a call that leaves the stack takes a pass, where an object is innermost, from the mode m at the place i to n at j
 abbrev pub Leads : List ℕ → BoundedList Token → Mode → ℕ → BoundedList Token → Mode → ℕ → Type 0
-Leads b tokens m i tokens1 n j = (tokens0 : BoundedList Token) (stack0 stack : BoundedList ℕ) → InObject stack.elements tokens.elements → Standing b tokens0 stack0 tokens stack m i
+Leads b tokens m i tokens1 n j = (tokens0 : BoundedList Token) (stack0 stack : BoundedList ℕ)
+    → InObject stack.elements tokens.elements → Standing b tokens0 stack0 tokens stack m i
     → InObject stack.elements tokens1.elements × Standing b tokens0 stack0 tokens1 stack n j

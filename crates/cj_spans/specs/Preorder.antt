@@ -1,7 +1,8 @@
 -- The tokens of a tree, each before those of its parts.
 use Rattle.std.specs.Prelude.{ℕ, suc, ◌+◌, List, [], ◌∷◌, ◌++◌}
 use Rattle.cj_spans.specs.declared.token.Token.{Token}
-use Rattle.cj_spans.specs.Tree.{Tree, scalar, array, object, Items, no_items, item, Members, no_members, member, size, items_size, members_size}
+use Rattle.cj_spans.specs.Tree.{Tree, scalar, array, object, Items, no_items, item, Members, no_members, member, size}
+use Rattle.cj_spans.specs.Tree.{items_size, members_size}
 
 -- where a value or a name starts and stops
 pub record Span : Type 0 where
@@ -45,7 +46,8 @@ abbrev mutual
 
   pub flatten_members : ℕ → Members → List Token
   flatten_members n no_members = []
-  flatten_members n (member m t ms) = token_at m.start m.stop (suc n) ∷ (flatten (suc n) t ++ flatten_members (suc n + size t) ms)
+  flatten_members n (member m t ms) =
+      token_at m.start m.stop (suc n) ∷ (flatten (suc n) t ++ flatten_members (suc n + size t) ms)
 
 -- where each token starts and stops
 abbrev pub spans_of : List Token → List Span

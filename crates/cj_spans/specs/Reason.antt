@@ -1,7 +1,13 @@
 -- The table of reasons: code and words of each.
 use Rattle.std.specs.Prelude.{ℕ, List, codes}
 use Rattle.cj_spans.specs.declared.reason.Reason.{Reason}
-use Rattle.cj_spans.specs.declared.reason.Reason.TheVariants.{NoHeader, LineTooLong, NotUtf8, Syntax, TooDeep, MissingMember, DuplicateName, WrongKind, NumberRange, WrongType, WrongVersion, NotEmpty, NotThree, NotWhole, UnknownObjectType, IdNotFound, ChildNotFound, LinkNotMutual, NoParent, UnknownGeometryType, VertexIndex, SemanticsCount, SemanticsIndex, TemplateIndex, BadInstance, TransformNotFixed, NotReached}
+use Rattle.cj_spans.specs.declared.reason.Reason.TheVariants.{NoHeader, LineTooLong, NotUtf8, Syntax, TooDeep}
+use Rattle.cj_spans.specs.declared.reason.Reason.TheVariants.{MissingMember, DuplicateName, WrongKind, NumberRange}
+use Rattle.cj_spans.specs.declared.reason.Reason.TheVariants.{WrongType, WrongVersion, NotEmpty, NotThree, NotWhole}
+use Rattle.cj_spans.specs.declared.reason.Reason.TheVariants.{UnknownObjectType, IdNotFound, ChildNotFound}
+use Rattle.cj_spans.specs.declared.reason.Reason.TheVariants.{LinkNotMutual, NoParent, UnknownGeometryType, VertexIndex}
+use Rattle.cj_spans.specs.declared.reason.Reason.TheVariants.{SemanticsCount, SemanticsIndex, TemplateIndex}
+use Rattle.cj_spans.specs.declared.reason.Reason.TheVariants.{BadInstance, TransformNotFixed, NotReached}
 
 -- the number that stands for a reason
 abbrev pub code_of : Reason → ℕ

@@ -11,10 +11,12 @@ use Rattle.cj_spans.specs.View.{tree_at}
 
 -- each token links past its tree: the k-th to k and the size of the tree that it shows
 abbrev pub AreSized : List ℕ → List Token → Type 0
-AreSized line tokens = (k : ℕ) (t : Token) → slice_get tokens k ≡ Some t → link_of t ≡ k + size (tree_at line (spans_of tokens) k)
+AreSized line tokens = (k : ℕ) (t : Token) → slice_get tokens k ≡ Some t
+    → link_of t ≡ k + size (tree_at line (spans_of tokens) k)
 
 -- the line spells the tree t and no other, which opens no more containers than the limit, and the lists show it
-pub record IsScanOf (line : List ℕ) (t : Tree) (old_tokens new_tokens : BoundedList Token) (old_stack new_stack : BoundedList ℕ) : Type 0 where
+pub record IsScanOf (line : List ℕ) (t : Tree) (old_tokens new_tokens : BoundedList Token)
+    (old_stack new_stack : BoundedList ℕ) : Type 0 where
   pub json : Json line t
   pub only : (u : Tree) → Json line u → u ≡ t
   pub shallow : nest t ≤ old_stack.limit
@@ -27,7 +29,8 @@ pub record IsScanOf (line : List ℕ) (t : Tree) (old_tokens new_tokens : Bounde
   pub stack_peak : new_stack.peak ≡ max old_stack.peak (nest t)
 
 -- at every exit: twice the tokens are within the bytes, the open containers and one; and what the lists keep
-pub record KeepsLaw (line : List ℕ) (old_tokens new_tokens : BoundedList Token) (old_stack new_stack : BoundedList ℕ) : Type 0 where
+pub record KeepsLaw (line : List ℕ) (old_tokens new_tokens : BoundedList Token) (old_stack new_stack : BoundedList ℕ) :
+    Type 0 where
   pub law : 2 * length new_tokens.elements ≤ length line + length new_stack.elements + 1
   pub token_limit : new_tokens.limit ≡ old_tokens.limit
   pub token_peak : new_tokens.peak ≡ max old_tokens.peak (length new_tokens.elements)

@@ -1,5 +1,6 @@
 -- When tokens show the tree of a line.
-use Rattle.std.specs.Prelude.{◌≡◌, ℕ, suc, ◌+◌, ◌%◌, ◌^◌, ◌<◌, ◌≤◌, List, [], ◌∷◌, length, drop, slice_range, Bool, true, false, ◌&&◌, cond, nat_lt, Some, slice_get}
+use Rattle.std.specs.Prelude.{◌≡◌, ℕ, suc, ◌+◌, ◌%◌, ◌^◌, ◌<◌, ◌≤◌, List, [], ◌∷◌, length, drop, slice_range, Bool}
+use Rattle.std.specs.Prelude.{true, false, ◌&&◌, cond, nat_lt, Some, slice_get}
 use Rattle.cj_spans.specs.declared.token.Kind.TheVariants.{Text, Null, Truth, Number, Array, Object}
 use Rattle.cj_spans.specs.declared.token.Kind.{Kind}
 use Rattle.cj_spans.specs.declared.token.Token.{Token}
@@ -8,6 +9,7 @@ use Rattle.cj_spans.specs.Json.{Json, byte}
 use Rattle.cj_spans.specs.Preorder.{spans_of}
 use Rattle.cj_spans.specs.Forest.{forest, held}
 use Rattle.cj_spans.specs.Kinds.{is_text}
+use Rattle.cj_spans.specs.Signs.{left_brace, quote}
 
 -- how many tokens at the front start before the place
 abbrev pub before : ℕ → List Token → ℕ
@@ -20,7 +22,8 @@ link_of t = t.link % 2 ^ 31
 
 -- each token links to the first later one that does not start before it stops, or past the last one
 abbrev pub AreLinked : List Token → Type 0
-AreLinked tokens = (k : ℕ) (t : Token) → slice_get tokens k ≡ Some t → link_of t ≡ k + 1 + before t.stop (drop (k + 1) tokens)
+AreLinked tokens = (k : ℕ) (t : Token) → slice_get tokens k ≡ Some t
+    → link_of t ≡ k + 1 + before t.stop (drop (k + 1) tokens)
 
 -- the tokens are what a scan of the line leaves: they show a tree that the line spells, with one token for each of its
 -- values and names
@@ -41,7 +44,8 @@ AreWithin line tokens = (k : ℕ) (t : Token) → slice_get tokens k ≡ Some t 
 
 -- each token starts before those after it
 abbrev pub AreRising : List Token → Type 0
-AreRising tokens = (i k : ℕ) (t u : Token) → i < k → slice_get tokens i ≡ Some t → slice_get tokens k ≡ Some u → t.start < u.start
+AreRising tokens = (i k : ℕ) (t u : Token) → i < k → slice_get tokens i ≡ Some t → slice_get tokens k ≡ Some u
+    → t.start < u.start
 
 -- from the k-th token on, what starts before the place stops before it
 abbrev pub StopBefore : List Token → ℕ → ℕ → Type 0
@@ -65,15 +69,17 @@ are_members (n ∷ t ∷ ts) = is_name n && are_members ts
 
 -- what a token of an object holds are names and values in turn
 abbrev pub AreNamed : List ℕ → List Token → Type 0
-AreNamed line tokens = (k : ℕ) (t : Token) → slice_get tokens k ≡ Some t → byte line t.start ≡ 123 → are_members (held t.stop (forest line (drop (k + 1) (spans_of tokens)))) ≡ true
+AreNamed line tokens = (k : ℕ) (t : Token) → slice_get tokens k ≡ Some t → byte line t.start ≡ left_brace
+    → are_members (held t.stop (forest line (drop (k + 1) (spans_of tokens)))) ≡ true
 
 -- a string has no parts: its token links to the next one
 abbrev pub AreLone : List ℕ → List Token → Type 0
-AreLone line tokens = (k : ℕ) (t : Token) → slice_get tokens k ≡ Some t → byte line t.start ≡ 34 → link_of t ≡ k + 1
+AreLone line tokens = (k : ℕ) (t : Token) → slice_get tokens k ≡ Some t → byte line t.start ≡ quote → link_of t ≡ k + 1
 
 -- there are n tokens, and none of those from the k-th to the n-th links past the n-th
 abbrev pub AreWhole : List Token → ℕ → ℕ → Type 0
-AreWhole tokens k n = (n ≤ length tokens) × ((i : ℕ) (t : Token) → k ≤ i → i < n → slice_get tokens i ≡ Some t → link_of t ≤ n)
+AreWhole tokens k n = (n ≤ length tokens)
+    × ((i : ℕ) (t : Token) → k ≤ i → i < n → slice_get tokens i ≡ Some t → link_of t ≤ n)
 
 -- the trees that the tokens from the k-th to the n-th show
 abbrev pub shown_between : List ℕ → List Token → ℕ → ℕ → List Tree

@@ -1,15 +1,18 @@
 -- The spellings of RFC 8259: white space (section 2), literals (3), numbers (6) and strings (7), over bytes.
-use Rattle.std.specs.Prelude.{◌≡◌, ℕ, ◌≤◌, List, [], ◌∷◌, ◌++◌, Bool, true, ◌||◌, ◌&&◌, nat_eq, nat_le, not, ◌⊎◌}
+use Rattle.std.specs.Prelude.{◌≡◌, ℕ, ◌≤◌, List, [], ◌∷◌, ◌++◌, codes, Bool, true, ◌||◌, ◌&&◌, nat_eq, nat_le, not, ◌⊎◌}
 use Rattle.cj_spans.specs.declared.token.Kind.{Kind}
 use Rattle.cj_spans.specs.declared.token.Kind.TheVariants.{Null, Truth, Number, Text, Array, Object}
+use Rattle.cj_spans.specs.Signs.{backslash, capital_a, capital_e, capital_f, carriage_return, decimal_point, digit_0}
+use Rattle.cj_spans.specs.Signs.{digit_1, digit_9, minus_sign, newline, plus_sign, quote, slash, small_a, small_b}
+use Rattle.cj_spans.specs.Signs.{small_e, small_f, small_n, small_r, small_t, small_u, space, tab}
 
 -- space, tab, LF or CR
 abbrev pub is_white_space : ℕ → Bool
-is_white_space b = nat_eq b 32 || nat_eq b 9 || nat_eq b 10 || nat_eq b 13
+is_white_space b = nat_eq b space || nat_eq b tab || nat_eq b newline || nat_eq b carriage_return
 
 -- one of the bytes `0` to `9`
 abbrev pub IsDigit : ℕ → Type 0
-IsDigit b = (48 ≤ b) × (b ≤ 57)
+IsDigit b = (digit_0 ≤ b) × (b ≤ digit_9)
 
 -- digits alone, perhaps none
 abbrev pub AllDigits : List ℕ → Type 0
@@ -23,21 +26,21 @@ IsDigits (b ∷ s) = IsDigit b × AllDigits s
 
 -- minus: `-` or nothing
 abbrev pub IsMinus : List ℕ → Type 0
-IsMinus s = (s ≡ []) ⊎ (s ≡ 45 ∷ [])
+IsMinus s = (s ≡ []) ⊎ (s ≡ minus_sign ∷ [])
 
 -- int: `0` alone, or digits of which the first is not `0`
 abbrev pub IsInt : List ℕ → Type 0
 IsInt [] = ⊥
-IsInt (b ∷ s) = ((b ≡ 48) × (s ≡ [])) ⊎ ((49 ≤ b) × (b ≤ 57) × AllDigits s)
+IsInt (b ∷ s) = ((b ≡ digit_0) × (s ≡ [])) ⊎ ((digit_1 ≤ b) × (b ≤ digit_9) × AllDigits s)
 
 -- frac: nothing, or `.` and one digit or more
 abbrev pub IsFrac : List ℕ → Type 0
 IsFrac [] = Unit {0}
-IsFrac (b ∷ s) = (b ≡ 46) × IsDigits s
+IsFrac (b ∷ s) = (b ≡ decimal_point) × IsDigits s
 
 -- the sign of an exponent: nothing, `+` or `-`
 abbrev pub IsExpSign : List ℕ → Type 0
-IsExpSign s = (s ≡ []) ⊎ ((s ≡ 43 ∷ []) ⊎ (s ≡ 45 ∷ []))
+IsExpSign s = (s ≡ []) ⊎ ((s ≡ plus_sign ∷ []) ⊎ (s ≡ minus_sign ∷ []))
 
 -- a sign and one digit or more
 pub record IsExpRest (s : List ℕ) : Type 0 where
@@ -50,7 +53,7 @@ pub record IsExpRest (s : List ℕ) : Type 0 where
 -- exp: nothing, or `e` or `E`, a sign, and one digit or more
 abbrev pub IsExp : List ℕ → Type 0
 IsExp [] = Unit {0}
-IsExp (b ∷ s) = ((b ≡ 101) ⊎ (b ≡ 69)) × IsExpRest s
+IsExp (b ∷ s) = ((b ≡ small_e) ⊎ (b ≡ capital_e)) × IsExpRest s
 
 -- a number: minus, int, frac and exp
 pub record IsNumber (s : List ℕ) : Type 0 where
@@ -66,40 +69,44 @@ pub record IsNumber (s : List ℕ) : Type 0 where
 
 -- a hexadecimal digit of either case
 abbrev pub is_hex : ℕ → Bool
-is_hex b = (nat_le 48 b && nat_le b 57) || (nat_le 65 b && nat_le b 70) || (nat_le 97 b && nat_le b 102)
+is_hex b = (nat_le digit_0 b && nat_le b digit_9) || (nat_le capital_a b && nat_le b capital_f)
+    || (nat_le small_a b && nat_le b small_f)
 
--- a byte of a string that stands for itself or is a part of a longer character: neither a control character, `"` nor `\`
+-- a byte of a string that stands for itself or is a part of a longer character: neither a control character, `"` nor
+-- `\`
 abbrev pub is_plain : ℕ → Bool
-is_plain b = nat_le 32 b && (not (nat_eq b 34) && not (nat_eq b 92))
+is_plain b = nat_le space b && (not (nat_eq b quote) && not (nat_eq b backslash))
 
 -- what may follow a backslash, beside `u`: one of `"` `\` `/` `b` `f` `n` `r` `t`
 abbrev pub is_escape : ℕ → Bool
-is_escape b = nat_eq b 34 || nat_eq b 92 || nat_eq b 47 || nat_eq b 98 || nat_eq b 102 || nat_eq b 110 || nat_eq b 114 || nat_eq b 116
+is_escape b =
+    nat_eq b quote || nat_eq b backslash || nat_eq b slash || nat_eq b small_b || nat_eq b small_f || nat_eq b small_n
+    || nat_eq b small_r
+    || nat_eq b small_t
 
 -- what stands between the quotes: plain bytes, escapes, and `\u` with four hexadecimal digits
 pub data IsBody : List ℕ → Type 0 where
   nothing : IsBody []
   plain : (b : ℕ) (s : List ℕ) → is_plain b ≡ true → IsBody s → IsBody (b ∷ s)
-  escape : (b : ℕ) (s : List ℕ) → is_escape b ≡ true → IsBody s → IsBody (92 ∷ b ∷ s)
-  unicode : (h i j k : ℕ) (s : List ℕ) → is_hex h && is_hex i && is_hex j && is_hex k ≡ true → IsBody s → IsBody (92 ∷ 117 ∷ h ∷ i ∷ j ∷ k ∷ s)
+  escape : (b : ℕ) (s : List ℕ) → is_escape b ≡ true → IsBody s → IsBody (backslash ∷ b ∷ s)
+  unicode : (h i j k : ℕ) (s : List ℕ) → is_hex h && is_hex i && is_hex j && is_hex k ≡ true → IsBody s
+      → IsBody (backslash ∷ small_u ∷ h ∷ i ∷ j ∷ k ∷ s)
 
 -- a string: a body between quotes
 pub record IsString (s : List ℕ) : Type 0 where
   pub body : List ℕ
   pub body_is : IsBody body
-  pub joined : s ≡ 34 ∷ (body ++ 34 ∷ [])
+  pub joined : s ≡ quote ∷ (body ++ quote ∷ [])
 
--- the letters of `null`
+-- the three literal names
 abbrev pub null_text : List ℕ
-null_text = 110 ∷ 117 ∷ 108 ∷ 108 ∷ []
+null_text = codes "null"
 
--- the letters of `true`
 abbrev pub true_text : List ℕ
-true_text = 116 ∷ 114 ∷ 117 ∷ 101 ∷ []
+true_text = codes "true"
 
--- the letters of `false`
 abbrev pub false_text : List ℕ
-false_text = 102 ∷ 97 ∷ 108 ∷ 115 ∷ 101 ∷ []
+false_text = codes "false"
 
 -- these bytes spell a scalar of the kind
 abbrev pub IsScalar : Kind → List ℕ → Type 0

@@ -1,10 +1,13 @@
 -- The texts of strings (RFC 8259, section 7): the code points between the quotes, with the escapes undone. An escaped
 -- surrogate that is in no pair stands for itself.
-use Rattle.std.specs.Prelude.{◌≡◌, ℕ, zero, suc, ◌+◌, ◌-◌, ◌*◌, List, [], ◌∷◌, length, drop, get_or, slice_range, Bool, true, false, cond, ◌&&◌, nat_eq}
+use Rattle.std.specs.Prelude.{◌≡◌, ℕ, zero, suc, ◌+◌, ◌-◌, ◌*◌, List, [], ◌∷◌, length, drop, get_or, slice_range, Bool}
+use Rattle.std.specs.Prelude.{true, false, cond, ◌&&◌, nat_eq}
 use Rattle.std.specs.Cmp.Lexicographic.{pointwise}
 use Rattle.std.specs.Str.{chars}
 use Rattle.std.specs.Char.{digit_value}
 use Rattle.std.specs.Char.Utf16.{is_high_surrogate, is_low_surrogate, surrogate_pair_char}
+use Rattle.cj_spans.specs.Signs.{backslash, backspace, carriage_return, form_feed, newline, small_b, small_f, small_n}
+use Rattle.cj_spans.specs.Signs.{small_r, small_t, small_u, tab}
 
 -- the character at a place, or 0 past the end
 abbrev pub char_of : List ℕ → ℕ → ℕ
@@ -12,19 +15,22 @@ char_of cs k = get_or cs k 0
 
 -- the number of four hexadecimal digits at the front
 abbrev pub four_digits : List ℕ → ℕ
-four_digits cs = ((digit_value (char_of cs 0) * 16 + digit_value (char_of cs 1)) * 16 + digit_value (char_of cs 2)) * 16 + digit_value (char_of cs 3)
+four_digits cs = ((digit_value (char_of cs 0) * 16 + digit_value (char_of cs 1)) * 16 + digit_value (char_of cs 2)) * 16
+    + digit_value (char_of cs 3)
 
 -- what a letter after a backslash stands for: `b` `f` `n` `r` `t` for control characters, any other for itself
 abbrev pub escaped : ℕ → ℕ
-escaped c = cond (nat_eq c 98) 8 (cond (nat_eq c 102) 12 (cond (nat_eq c 110) 10 (cond (nat_eq c 114) 13 (cond (nat_eq c 116) 9 c))))
+escaped c =
+    cond (nat_eq c small_b) backspace (cond (nat_eq c small_f) form_feed (cond (nat_eq c small_n) newline
+    (cond (nat_eq c small_r) carriage_return (cond (nat_eq c small_t) tab c))))
 
 -- a backslash is at the front
 abbrev pub is_escaped : List ℕ → Bool
-is_escaped cs = nat_eq (char_of cs 0) 92
+is_escaped cs = nat_eq (char_of cs 0) backslash
 
 -- a backslash and a `u` are at the front
 abbrev pub is_unicode : List ℕ → Bool
-is_unicode cs = is_escaped cs && nat_eq (char_of cs 1) 117
+is_unicode cs = is_escaped cs && nat_eq (char_of cs 1) small_u
 
 -- the unit that a backslash, a `u` and four digits at the front stand for
 abbrev pub unit : List ℕ → ℕ
@@ -32,11 +38,13 @@ unit cs = four_digits (drop 2 cs)
 
 -- an escaped high surrogate is at the front, at once followed by an escaped low one
 abbrev pub is_pair : List ℕ → Bool
-is_pair cs = is_unicode cs && is_high_surrogate (unit cs) && is_unicode (drop 6 cs) && is_low_surrogate (unit (drop 6 cs))
+is_pair cs = is_unicode cs && is_high_surrogate (unit cs) && is_unicode (drop 6 cs)
+    && is_low_surrogate (unit (drop 6 cs))
 
 -- the code point that the front stands for
 unfoldable pub first_code_point : List ℕ → ℕ
-first_code_point cs = cond (is_pair cs) (surrogate_pair_char (unit cs) (unit (drop 6 cs))) (cond (is_unicode cs) (unit cs) (cond (is_escaped cs) (escaped (char_of cs 1)) (char_of cs 0)))
+first_code_point cs = cond (is_pair cs) (surrogate_pair_char (unit cs) (unit (drop 6 cs)))
+    (cond (is_unicode cs) (unit cs) (cond (is_escaped cs) (escaped (char_of cs 1)) (char_of cs 0)))
 
 -- the number of characters that it takes
 unfoldable pub first_width : List ℕ → ℕ
@@ -52,11 +60,15 @@ code_points_after (suc n) (c ∷ cs) = code_points_after n cs
 -- letter, an escaped surrogate pair, and any other backslash and `u` with four digits
 pub data StandFor : List ℕ → List ℕ → Type 0 where
   done : StandFor [] []
-  plain : (c : ℕ) (cs ps : List ℕ) → nat_eq c 92 ≡ false → StandFor cs ps → StandFor (c ∷ cs) (c ∷ ps)
-  letter : (c : ℕ) (cs ps : List ℕ) → nat_eq c 117 ≡ false → StandFor cs ps → StandFor (92 ∷ c ∷ cs) (escaped c ∷ ps)
-  pair : (h i j k l m n o : ℕ) (cs ps : List ℕ) → is_high_surrogate (four_digits (h ∷ i ∷ j ∷ k ∷ [])) ≡ true → is_low_surrogate (four_digits (l ∷ m ∷ n ∷ o ∷ [])) ≡ true → StandFor cs ps
-      → StandFor (92 ∷ 117 ∷ h ∷ i ∷ j ∷ k ∷ 92 ∷ 117 ∷ l ∷ m ∷ n ∷ o ∷ cs) (surrogate_pair_char (four_digits (h ∷ i ∷ j ∷ k ∷ [])) (four_digits (l ∷ m ∷ n ∷ o ∷ [])) ∷ ps)
-  single : (h i j k : ℕ) (cs ps : List ℕ) → is_pair (92 ∷ 117 ∷ h ∷ i ∷ j ∷ k ∷ cs) ≡ false → StandFor cs ps → StandFor (92 ∷ 117 ∷ h ∷ i ∷ j ∷ k ∷ cs) (four_digits (h ∷ i ∷ j ∷ k ∷ []) ∷ ps)
+  plain : (c : ℕ) (cs ps : List ℕ) → nat_eq c backslash ≡ false → StandFor cs ps → StandFor (c ∷ cs) (c ∷ ps)
+  letter : (c : ℕ) (cs ps : List ℕ) → nat_eq c small_u ≡ false → StandFor cs ps
+      → StandFor (backslash ∷ c ∷ cs) (escaped c ∷ ps)
+  pair : (h i j k l m n o : ℕ) (cs ps : List ℕ) → is_high_surrogate (four_digits (h ∷ i ∷ j ∷ k ∷ [])) ≡ true
+      → is_low_surrogate (four_digits (l ∷ m ∷ n ∷ o ∷ [])) ≡ true → StandFor cs ps
+      → StandFor (backslash ∷ small_u ∷ h ∷ i ∷ j ∷ k ∷ backslash ∷ small_u ∷ l ∷ m ∷ n ∷ o ∷ cs)
+      (surrogate_pair_char (four_digits (h ∷ i ∷ j ∷ k ∷ [])) (four_digits (l ∷ m ∷ n ∷ o ∷ [])) ∷ ps)
+  single : (h i j k : ℕ) (cs ps : List ℕ) → is_pair (backslash ∷ small_u ∷ h ∷ i ∷ j ∷ k ∷ cs) ≡ false → StandFor cs ps
+      → StandFor (backslash ∷ small_u ∷ h ∷ i ∷ j ∷ k ∷ cs) (four_digits (h ∷ i ∷ j ∷ k ∷ []) ∷ ps)
 
 -- the bytes between the quotes
 abbrev pub body_of : List ℕ → List ℕ

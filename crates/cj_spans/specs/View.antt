@@ -84,10 +84,13 @@ tree_in s k = tree_at s.line.now (spans_of s.tokens.now) (min k (length s.tokens
 -- a step of a walk gives the next item, of the line and the tokens that the walk goes over
 abbrev pub YieldsItem : Items → Option Node → Items → Type 0
 YieldsItem s r t =
-    YieldsFirstBy tree items_left s r t × (items_line t ≡ items_line s) × IfSome r (λ n. line_of n ≡ items_line s) × (items_source t ≡ items_source s) × IfSome r (λ n. source_of n ≡ items_source s)
+    YieldsFirstBy tree items_left s r t × (items_line t ≡ items_line s) × IfSome r (λ n. line_of n ≡ items_line s)
+    × (items_source t ≡ items_source s) × IfSome r (λ n. source_of n ≡ items_source s)
 
 -- a step of a walk gives the next member
 abbrev pub YieldsMember : Members → Option (Node × Node) → Members → Type 0
 YieldsMember s r t =
-    YieldsFirstBy trees members_left s r t × (members_line t ≡ members_line s) × IfSome r (λ p. (line_of p.0 ≡ members_line s) × (line_of p.1 ≡ members_line s)) × (members_source t ≡ members_source s)
+    YieldsFirstBy trees members_left s r t × (members_line t ≡ members_line s)
+    × IfSome r (λ p. (line_of p.0 ≡ members_line s) × (line_of p.1 ≡ members_line s))
+    × (members_source t ≡ members_source s)
     × IfSome r (λ p. (source_of p.0 ≡ members_source s) × (source_of p.1 ≡ members_source s))

@@ -120,7 +120,8 @@ fn read_string(line: &[u8], place: usize) -> Reach
 #[inline(always)]
 fn begins_fraction(line: &[u8], place: usize) -> bool
     requires { place ≤ length line.now }
-    ensures { IsTrue result → (x : LexOf) → lex_step_of x 46 ≡ Some Point → GoesTo line.now place x (place + 2) Fraction }
+    ensures { IsTrue result → (x : LexOf) → lex_step_of x 46 ≡ Some Point
+        → GoesTo line.now place x (place + 2) Fraction }
 {
     if line.len() - place < 2 || line[place] != b'.' {
         return false;

@@ -38,7 +38,8 @@ impl Ord for Finding {
 
     ghost matches_partial_cmp = { Prim.search (comparing, rules) };
 
-    ghost matches_eq = { λ x y. both_tied _ _ _ (nat_cmp (code_of x.reason) (code_of y.reason)) (unsigned_ties x.place y.place) (unsigned_ties (code_of x.reason) (code_of y.reason)) };
+    ghost matches_eq = { λ x y. both_tied _ _ _ (nat_cmp (code_of x.reason) (code_of y.reason))
+        (unsigned_ties x.place y.place) (unsigned_ties (code_of x.reason) (code_of y.reason)) };
 
     fn cmp(&self, other: &Finding) -> Ordering {
         self.place
@@ -50,7 +51,9 @@ impl Ord for Finding {
 impl PartialOrd for Finding {
     ghost partial_cmp = { as_partial_cmp (then_cmp (on (λ f. f.place) nat_cmp) (on (λ f. code_of f.reason) nat_cmp)) };
 
-    ghost laws = { partial_order_from_own_ties (Prim.search (comparing, rules)) (λ x y. both_tied _ _ _ (nat_cmp (code_of x.reason) (code_of y.reason)) (unsigned_ties x.place y.place) (unsigned_ties (code_of x.reason) (code_of y.reason))) };
+    ghost laws = { partial_order_from_own_ties (Prim.search (comparing, rules))
+        (λ x y. both_tied _ _ _ (nat_cmp (code_of x.reason) (code_of y.reason)) (unsigned_ties x.place y.place)
+        (unsigned_ties (code_of x.reason) (code_of y.reason))) };
 
     fn partial_cmp(&self, other: &Finding) -> Option<Ordering> {
         Some(self.cmp(other))

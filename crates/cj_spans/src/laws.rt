@@ -1,11 +1,13 @@
 //! Laws of the definitions that contracts cite, each proved once.
-ghost use Rattle.std.specs.Prelude.{◌≡◌, ◌≢◌, ◌<◌, ◌≤◌, ◌↔◌, List, ℕ, Option as OptionOf, IsTrue, nat_eq, nat_lt, codes};
+ghost use Rattle.std.specs.Prelude.{◌≡◌, ◌≢◌, ◌<◌, ◌≤◌, ◌↔◌, List, ℕ, Option as OptionOf, IsTrue, nat_eq, nat_lt};
+ghost use Rattle.std.specs.Prelude.{codes};
 ghost use Rattle.std.specs.Char.{digit_value};
 ghost use Rattle.std.specs.List.{list_any};
 ghost use Rattle.std.specs.Str.{chars, IsUtf8};
 ghost use Rattle.std.specs.Cmp.{IsTotalOrder};
 ghost use Rattle.std.specs.declared.cmp.Ordering.TheVariants.{Less, Equal};
 ghost use Rattle.cj_spans.specs.Order.{compare, compare_texts, word_of};
+ghost use Rattle.cj_spans.specs.Signs.{backslash, quote, space};
 ghost use Rattle.cj_spans.specs.Spelling.{IsString, is_hex, is_plain, is_escape};
 ghost use Rattle.cj_spans.specs.Text.{text, body_of, StandFor};
 ghost use Rattle.cj_spans.specs.Judgement.{Judgement, SaySame};
@@ -26,11 +28,11 @@ pub fn one_judgement()
 {}
 
 /// The classes of bytes in the grammar of strings (RFC 8259, section 7), in other words. A
-/// hexadecimal digit is a byte whose value as a digit is below 16. A byte is plain from 32 on,
-/// unless it is the quote or the backslash. Eight bytes other than `u` may follow a backslash.
+/// hexadecimal digit is a byte whose value as a digit is below 16. A byte is plain from the space
+/// on, unless it is the quote or the backslash. Eight bytes other than `u` may follow a backslash.
 pub fn bytes_of_strings()
     ensures hex { (b : ℕ) → is_hex b ≡ nat_lt (digit_value b) 16 }
-    ensures plain { (b : ℕ) → IsTrue (is_plain b) ↔ ((32 ≤ b) × (b ≢ 34) × (b ≢ 92)) }
+    ensures plain { (b : ℕ) → IsTrue (is_plain b) ↔ ((space ≤ b) × (b ≢ quote) × (b ≢ backslash)) }
     ensures escape { (b : ℕ) → is_escape b ≡ list_any (nat_eq b) (codes "\"\\/bfnrt") }
 {}
 

@@ -12,7 +12,8 @@
 //! }
 //! ```
 ghost use Rattle.std.specs.Prelude.{◌≡◌, ◌<◌, ◌≤◌, ◌+◌, ◌^◌, ℕ, length, slice_get, Some, List, take, drop, slice_range};
-ghost use Rattle.cj_spans.specs.Sound.{AreOf, AreFull, AreWithin, AreRising, AreNested, AreNamed, AreLinked, AreLone, AreWhole, ShowMembers, before};
+ghost use Rattle.cj_spans.specs.Sound.{AreOf, AreFull, AreWithin, AreRising, AreNested, AreNamed, AreLinked, AreLone};
+ghost use Rattle.cj_spans.specs.Sound.{AreWhole, ShowMembers, before};
 ghost use Rattle.cj_spans.specs.Tree.{Tree};
 ghost use Rattle.cj_spans.specs.declared.token.Token.{Token as TokenOf};
 ghost use Rattle.cj_spans.specs.Json.{Json, byte};
@@ -140,7 +141,8 @@ impl<'a> Source<'a> {
 }
 
 impl<'a> Doc<'a> {
-    ghost use Rattle.cj_spans.specs.View.{document, document_line, document_source, tree, line_of, source_of, tokens_in};
+    ghost use Rattle.cj_spans.specs.View.{document, document_line, document_source, tree, line_of, source_of};
+    ghost use Rattle.cj_spans.specs.View.{tokens_in};
 
     /// Returns a view of a line, given the tokens that a scan of it left with `Ok`. A copy of the
     /// line and the tokens works too, also later.
@@ -180,7 +182,8 @@ impl<'a> Doc<'a> {
 impl<'a> Node<'a> {
     ghost use Rattle.cj_spans.specs.Parts.{kind_of, spelling_of, items_of, members_of, AreInOrder, AreInValueOrder};
     ghost use Rattle.cj_spans.specs.Tree.{start_of, size, total_size};
-    ghost use Rattle.cj_spans.specs.View.{tree, line_of, source_of, items_left, items_line, items_source, members_left, members_line, members_source};
+    ghost use Rattle.cj_spans.specs.View.{tree, line_of, source_of, items_left, items_line, items_source, members_left};
+    ghost use Rattle.cj_spans.specs.View.{members_line, members_source};
 
     /// Returns the kind of value. A member name is a `Text`.
     pub fn kind(self) -> Kind
@@ -298,7 +301,8 @@ impl<'a> Node<'a> {
     /// as many.
     pub fn number(self) -> u32
         ensures node { tree_in (source_of self.entry) result ≡ tree self.entry }
-        ensures token { tree_at (line_of self.entry) (spans_of (tokens_in (source_of self.entry))) result ≡ tree self.entry }
+        ensures token { tree_at (line_of self.entry) (spans_of (tokens_in (source_of self.entry))) result
+            ≡ tree self.entry }
         ensures within { result < length (tokens_in (source_of self.entry)) }
     {
         self.index as u32
@@ -306,8 +310,10 @@ impl<'a> Node<'a> {
 
     /// Returns whether its token has a mark.
     pub fn marked(self) -> bool
-        ensures yes { result ≡ true → IsMarked (line_of self.entry) (tokens_in (source_of self.entry)) (tree self.entry) }
-        ensures no { result ≡ false → IsMarked (line_of self.entry) (tokens_in (source_of self.entry)) (tree self.entry) → ⊥ }
+        ensures yes { result ≡ true → IsMarked (line_of self.entry) (tokens_in (source_of self.entry))
+            (tree self.entry) }
+        ensures no { result ≡ false → IsMarked (line_of self.entry) (tokens_in (source_of self.entry))
+            (tree self.entry) → ⊥ }
     {
         has_mark(token_at(self.source.tokens, self.index))
     }

@@ -1,50 +1,52 @@
 //! Whole numbers that are items of an array, with no white space after them.
-ghost use Rattle.std.specs.Prelude.{◌≡◌, ◌+◌, ◌^◌, ◌≤◌, ◌<◌, ◌++◌, ◌∷◌, ◌↔◌, ◌⊎◌, [], length, IfSome, IfNone, IsTrue};
-ghost use Rattle.cj_budget.specs.Bounded.{Becomes};
+ghost use Rattle.std.specs.Prelude.{◌≡◌, ◌+◌, ◌^◌, ◌≤◌, ◌<◌, ℕ, length, IfSome};
+ghost use Rattle.cj_spans.specs.declared.lex.Lex.{Lex as LexOf};
+ghost use Rattle.cj_spans.specs.declared.lex.Lex.TheVariants.{Whole};
 ghost use Rattle.cj_spans.specs.Json.{byte as byte_of};
-ghost use Rattle.cj_spans.specs.Preorder.{token_at};
-ghost use Rattle.cj_spans.specs.Machine.{IsNumberItem};
+ghost use Rattle.cj_spans.specs.Machine.{Continues, IsNumberUpTo};
 
 use crate::bytes::is_digit;
+use crate::lanes::{LANES, find_other};
 use crate::lex::{Lex, skip_digits};
-use crate::token::{Token, keep_atom};
-use cj_budget::Bounded;
 
-/// Returns whether the byte is a comma, or the bracket that closes an array.
+/// Returns `stop`, where the digits that begin at `place` end. None if a 0 comes before another
+/// digit.
 #[inline(always)]
-fn ends_item(byte: u8) -> bool
-    ensures { IsTrue result ↔ ((byte ≡ 44) ⊎ (byte ≡ 93)) }
+fn int_stop(line: &[u8], place: usize, stop: usize) -> Option<usize>
+    requires digit { (48 ≤ byte_of line.now place) × (byte_of line.now place ≤ 57) }
+    requires same { (i : ℕ) (x : LexOf) → Continues line.now i x (place + 1) Whole → Continues line.now i x stop Whole }
+    requires order { place + 1 ≤ stop }
+    requires within { stop < length line.now }
+    ensures { IfSome result (λ k. (48 ≤ byte_of line.now place) × IsNumberUpTo line.now place k) }
 {
-    byte == b',' || byte == b']'
-}
-
-/// Returns where the digits that begin at `place` end. None unless they are a whole number,
-/// followed by the end of an array's item.
-#[inline(always)]
-fn digits_stop(line: &[u8], place: usize) -> Option<usize>
-    requires { place < length line.now }
-    ensures { IfSome result (λ k. (48 ≤ byte_of line.now place) × IsNumberItem line.now place k) }
-{
-    let first = line[place];
-    if !is_digit(first) {
-        return None;
-    }
-    let stop = skip_digits(line, Lex::Whole, place + 1);
-    if stop == line.len() || !ends_item(line[stop]) {
-        return None;
-    }
-    if first == b'0' && stop != place + 1 {
+    if line[place] == b'0' && stop != place + 1 {
         return None;
     }
     Some(stop)
 }
 
-/// Returns where the whole number that begins at `place` ends. It begins with a digit or a minus.
-/// None unless the end of an array's item follows it.
+/// Returns where the whole number that begins at `place` with a digit ends.
 #[inline(always)]
-fn number_stop(line: &[u8], place: usize) -> Option<usize>
-    requires { place < length line.now }
-    ensures { IfSome result (λ k. IsNumberItem line.now place k) }
+fn digits_stop(line: &[u8], place: usize) -> Option<usize>
+    requires within { place < length line.now }
+    ensures { IfSome result (λ k. (48 ≤ byte_of line.now place) × IsNumberUpTo line.now place k) }
+{
+    if !is_digit(line[place]) {
+        return None;
+    }
+    let stop = skip_digits(line, Lex::Whole, place + 1);
+    if stop == line.len() {
+        return None;
+    }
+    int_stop(line, place, stop)
+}
+
+/// Does what [`number_stop`] does, for a minus, for any count of digits, and near the end of the
+/// line.
+#[inline(never)]
+fn any_number_stop(line: &[u8], place: usize) -> Option<usize>
+    requires within { place < length line.now }
+    ensures { IfSome result (λ k. IsNumberUpTo line.now place k) }
 {
     if is_digit(line[place]) {
         return digits_stop(line, place);
@@ -55,21 +57,38 @@ fn number_stop(line: &[u8], place: usize) -> Option<usize>
     digits_stop(line, place + 1)
 }
 
-/// Reads the whole number that begins at `place`, and keeps its token. Returns where it ends. None
-/// unless there is such a number, followed by the end of an item.
+/// Returns where the digits that begin at `place` end, the usual case. None if they are more than
+/// one vector has.
+///
+/// A 0 is the whole number. If a digit follows it, no item ends there.
 #[inline(always)]
-pub fn read_number(line: &[u8], place: usize, tokens: &mut Bounded<Token>) -> Option<usize>
+fn few_digits_stop(line: &[u8], place: usize) -> Option<usize>
+    requires digit { (48 ≤ byte_of line.now place) × (byte_of line.now place ≤ 57) }
+    requires room { place + 17 < length line.now }
+    ensures { IfSome result (λ k. IsNumberUpTo line.now place k) }
+{
+    if line[place] == b'0' {
+        return Some(place + 1);
+    }
+    let stop = find_other(line, place + 1)?;
+    Some(stop)
+}
+
+/// Returns where the whole number that begins at `place` ends. It begins with a digit or a minus.
+/// None unless there is such a number, and another byte follows.
+#[inline(always)]
+pub fn number_stop(line: &[u8], place: usize) -> Option<usize>
     requires short { length line.now < 2 ^ 31 }
     requires within { place < length line.now }
-    requires small { length tokens.old.elements < 2 ^ 31 }
-    requires room { length tokens.old.elements < tokens.old.limit }
-    requires reserved { IsTrue tokens.old.reserved }
-    ensures number { IfSome result (λ k. IsNumberItem line.now place k
-        × Becomes tokens.old
-        (tokens.old.elements ++ token_at place k (length tokens.old.elements + 1) ∷ []) tokens.new) }
-    ensures none { IfNone result (tokens.new ≡ tokens.old) }
+    ensures { IfSome result (λ k. IsNumberUpTo line.now place k) }
 {
-    let stop = number_stop(line, place)?;
-    keep_atom(place, stop, tokens);
-    Some(stop)
+    if !is_digit(line[place]) && line[place] != b'-' {
+        return None;
+    }
+    if is_digit(line[place]) && place + LANES + 1 < line.len() {
+        if let Some(stop) = few_digits_stop(line, place) {
+            return Some(stop);
+        }
+    }
+    any_number_stop(line, place)
 }

@@ -16,7 +16,8 @@
 //!
 //! Each token but the last has two bytes of its own, or a container that is open. So the lists are
 //! long enough: `2 * tokens ≤ bytes + open + 1`. A token for anything else would break this.
-ghost use Rattle.std.specs.Prelude.{◌≡◌, ◌+◌, ◌*◌, ◌/◌, ◌^◌, ◌≤◌, ◌<◌, ◌↔◌, ◌⊎◌, [], length, List, ℕ, suc, OnOk, OnErr, IfOk, IsOk, IsErrOf, IsTrue, IsUtf8};
+ghost use Rattle.std.specs.Prelude.{◌≡◌, ◌+◌, ◌*◌, ◌/◌, ◌^◌, ◌≤◌, ◌<◌, ◌↔◌, ◌⊎◌, [], length, List, ℕ, suc, OnOk, OnErr};
+ghost use Rattle.std.specs.Prelude.{IfOk, IsOk, IsErrOf, IsTrue, IsUtf8};
 ghost use Rattle.std.specs.Str.{IsValidUpTo};
 ghost use Rattle.cj_budget.specs.Bounded.{BoundedList, IsWithin};
 ghost use Rattle.cj_budget.specs.Counts.{HasRisen};
@@ -30,7 +31,9 @@ ghost use Rattle.cj_spans.specs.Scan.{IsScanOf, AreSized, KeepsLaw, IsEmptied};
 ghost use Rattle.cj_spans.specs.Judgement.{Judgement, IsAnswerOf, IsReservedAnswerOf};
 ghost use Rattle.cj_spans.specs.Json.{byte as byte_of};
 ghost use Rattle.cj_spans.specs.declared.token.Token.{Token as TokenOf};
-ghost use Rattle.cj_spans.specs.Machine.{State, state, between, in_atom, ComesTo, phase_after, EndAnswers, Grown, BeginsAtom, BeginsValue, BeginsValueNext, BeginsNameNext, InArray, InObject, StaysInArrayNext, StaysInObjectNext, RunAnswers};
+ghost use Rattle.cj_spans.specs.Machine.{State, state, between, in_atom, ComesTo, phase_after, EndAnswers, Grown};
+ghost use Rattle.cj_spans.specs.Machine.{BeginsAtom, BeginsValue, BeginsValueNext, BeginsNameNext, InArray, InObject};
+ghost use Rattle.cj_spans.specs.Machine.{StaysInArrayNext, StaysInObjectNext, RunAnswers};
 ghost use Rattle.cj_spans.specs.Pass.{Standing, Stands, GoesOn};
 
 use crate::arrays::{enters_array, read_arrays};

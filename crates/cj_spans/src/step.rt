@@ -1,10 +1,17 @@
 //! One byte of a line: what may come, and how the byte changes the open containers and the tokens.
-ghost use Rattle.std.specs.Prelude.{◌≡◌, ◌⊎◌, true, false, ◌≤◌, ◌<◌, ◌++◌, ◌∷◌, [], length, List, ℕ, slice_get, Some, None, OnErr, IsTrue};
+ghost use Rattle.std.specs.Prelude.{◌≡◌, ◌⊎◌, true, false, ◌≤◌, ◌<◌, ◌++◌, ◌∷◌, [], length, List, ℕ, slice_get, Some};
+ghost use Rattle.std.specs.Prelude.{None, OnErr, IsTrue};
 ghost use Rattle.cj_budget.specs.Bounded.{IsWithin};
 ghost use Rattle.cj_spans.specs.declared.token.Token.{Token as TokenOf};
 ghost use Rattle.cj_spans.specs.declared.step.Mode.{Mode as ModeOf};
 ghost use Rattle.cj_spans.specs.declared.step.Mode.TheVariants.{Ready, FirstItem, After};
-ghost use Rattle.cj_spans.specs.Machine.{state, between, read as read_of, read_in as read_in_of, begin_value as begin_value_of, begin_name as begin_name_of, after_value as after_value_of, after_in as after_in_of, close_token as close_token_of, close_empty as close_empty_of, colon_step as colon_step_of, open_link as open_link_of, open_kind as open_kind_of, with_opened, Answers, Grown, Kept, ReadsByte, BeginsValue, FitsToken};
+ghost use Rattle.cj_spans.specs.Machine.{state, between, read as read_of, read_in as read_in_of};
+ghost use Rattle.cj_spans.specs.Machine.{begin_value as begin_value_of, begin_name as begin_name_of};
+ghost use Rattle.cj_spans.specs.Machine.{after_value as after_value_of, after_in as after_in_of};
+ghost use Rattle.cj_spans.specs.Machine.{close_token as close_token_of, close_empty as close_empty_of};
+ghost use Rattle.cj_spans.specs.Machine.{colon_step as colon_step_of, open_link as open_link_of};
+ghost use Rattle.cj_spans.specs.Machine.{open_kind as open_kind_of, with_opened, Answers, Grown, Kept, ReadsByte};
+ghost use Rattle.cj_spans.specs.Machine.{BeginsValue, FitsToken};
 
 use crate::bytes::is_white_space;
 use crate::fault::LineFault;

@@ -2,15 +2,18 @@
 //!
 //! The functions on whole texts have a fast form for plain bytes: ASCII and no backslash. A plain
 //! byte is a code point by itself. A slow form, marked cold, handles escapes and everything else.
-ghost use Rattle.std.specs.Prelude.{◌≡◌, ◌+◌, ◌-◌, ◌*◌, ◌<◌, ◌≤◌, ◌^◌, ℕ, suc, [], ◌∷◌, length, drop, get_or, nat_eq, IfSome, is_some, Some, List, true, false};
+ghost use Rattle.std.specs.Prelude.{◌≡◌, ◌+◌, ◌-◌, ◌*◌, ◌<◌, ◌≤◌, ◌^◌, ℕ, suc, [], ◌∷◌, length, drop, get_or, nat_eq};
+ghost use Rattle.std.specs.Prelude.{IfSome, is_some, Some, List, true, false};
 ghost use Rattle.std.specs.Str.{chars, chars_after};
 ghost use Rattle.std.specs.Char.{digit_value as digit_value_of};
 ghost use Rattle.std.specs.Char.Utf16.{is_high_surrogate as is_high_of, is_low_surrogate as is_low_of};
-ghost use Rattle.cj_spans.specs.Decoding.{left, after_read, ReadsCodePoint, plain_front, code_points_from, code_points_left, characters_left, StartAlike};
+ghost use Rattle.cj_spans.specs.Decoding.{left, after_read, ReadsCodePoint, plain_front, code_points_from};
+ghost use Rattle.cj_spans.specs.Decoding.{code_points_left, characters_left, StartAlike};
 ghost use Rattle.cj_spans.specs.Tail.{tail_step, tail_on};
 ghost use Rattle.cj_spans.specs.Mix.{mix_step, mix_on};
 ghost use Rattle.cj_spans.specs.Order.{compare, digits};
-ghost use Rattle.cj_spans.specs.Text.{char_of, four_digits, escaped as escaped_of, is_escaped, is_unicode, unit, first_code_point, first_width, text, are_same};
+ghost use Rattle.cj_spans.specs.Text.{char_of, four_digits, escaped as escaped_of, is_escaped, is_unicode, unit};
+ghost use Rattle.cj_spans.specs.Text.{first_code_point, first_width, text, are_same};
 
 #[cfg(test)]
 mod examples;

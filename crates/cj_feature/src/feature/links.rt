@@ -7,7 +7,9 @@ ghost use Rattle.cj_spans.specs.Finding.{least};
 ghost use Rattle.cj_spans.specs.Parts.{items_of, members_of};
 ghost use Rattle.cj_spans.specs.View.{tree, trees};
 ghost use Rattle.cj_feature.specs.Part.{part_parents};
-ghost use Rattle.cj_feature.specs.Links.{is_known as is_known_in, has_item as has_item_of, lists as lists_of, listed_in, is_group as is_group_of, child, parent, children, parents, part, object_links, links};
+ghost use Rattle.cj_feature.specs.Links.{is_known as is_known_in, has_item as has_item_of, lists as lists_of};
+ghost use Rattle.cj_feature.specs.Links.{listed_in, is_group as is_group_of, child, parent, children, parents, part};
+ghost use Rattle.cj_feature.specs.Links.{object_links, links};
 
 use crate::feature::ids::is_known;
 use crate::feature::many_links::check_many_links;

@@ -7,7 +7,8 @@ ghost use Rattle.std.specs.Str.{chars};
 ghost use Rattle.cj_spans.specs.Finding.{least};
 ghost use Rattle.cj_spans.specs.Parts.{items_of, members_of};
 ghost use Rattle.cj_spans.specs.View.{tree, source_of, tree_in};
-ghost use Rattle.cj_feature.specs.Links.{is_known as is_known_in, listed_in, child, parent, children, parents, part, object_links};
+ghost use Rattle.cj_feature.specs.Links.{is_known as is_known_in, listed_in, child, parent, children, parents, part};
+ghost use Rattle.cj_feature.specs.Links.{object_links};
 ghost use Rattle.cj_feature.specs.Questions.{noted_in, AreAnswered};
 
 use crate::feature::ids::is_known;

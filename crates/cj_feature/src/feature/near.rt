@@ -123,7 +123,8 @@ impl<const OBJECTS: usize, const LISTS: usize, const PENDING: usize> Near<OBJECT
     ghost use Rattle.cj_spans.specs.Sound.{AreOf};
     ghost use Rattle.cj_spans.specs.Tree.{Tree};
     ghost use Rattle.cj_spans.specs.View.{tree, line_of, tree_at, document, document_line, document_source, tokens_in};
-    ghost use Rattle.cj_feature.specs.Marking.{AllReached, OnlyMarks, ReachesName, Knows, WaitsFor, AddsNone, IsGuide, IsBeside, spans_by};
+    ghost use Rattle.cj_feature.specs.Marking.{AllReached, OnlyMarks, ReachesName, Knows, WaitsFor, AddsNone, IsGuide};
+    ghost use Rattle.cj_feature.specs.Marking.{IsBeside, spans_by};
     ghost use Rattle.cj_feature.specs.Reached.{IsReachedObject};
 
     /// Returns a guide that holds no city object, and where none waits.

@@ -17,7 +17,8 @@
 //!
 //! `Questions` allocates no memory. It uses 18 bytes of the stack for each question, and 28 for
 //! each kept text.
-ghost use Rattle.std.specs.Prelude.{◌≡◌, ◌+◌, ◌≤◌, ◌<◌, ℕ, List, [], ◌∷◌, Some, IfSome, length, true, false, slice_get, slice_index_or, slice_set};
+ghost use Rattle.std.specs.Prelude.{◌≡◌, ◌+◌, ◌≤◌, ◌<◌, ℕ, List, [], ◌∷◌, Some, IfSome, length, true, false, slice_get};
+ghost use Rattle.std.specs.Prelude.{slice_index_or, slice_set};
 ghost use Rattle.std.specs.Ordering.{is_lt};
 ghost use Rattle.std.specs.Str.{chars};
 ghost use Rattle.cj_spans.specs.Order.{compare_texts};
@@ -26,7 +27,9 @@ ghost use Rattle.cj_spans.specs.Parts.{members_of, text_of};
 ghost use Rattle.cj_spans.specs.View.{tree, trees, members_left, source_of, tree_in};
 ghost use Rattle.cj_feature.specs.Links.{same_text, listed_in, has_item as has_item_of, lists as lists_of};
 ghost use Rattle.cj_feature.specs.Tag.{tag_of as tag_of_text};
-ghost use Rattle.cj_feature.specs.Questions.{compare_sides, text_side, noted_in, side_in, pair_key, key_in, compare_keys, AreInOrder, IsPlaceOf, IsFirstOn, IsQuestion, AreAnswered, IsAnswer};
+ghost use Rattle.cj_feature.specs.Questions.{compare_sides, text_side, noted_in, side_in, pair_key, key_in};
+ghost use Rattle.cj_feature.specs.Questions.{compare_keys, AreInOrder, IsPlaceOf, IsFirstOn, IsQuestion, AreAnswered};
+ghost use Rattle.cj_feature.specs.Questions.{IsAnswer};
 
 use crate::feature::tagged::{Text, tag_of};
 use cj_spans::{Items, Kind, Members, Node};

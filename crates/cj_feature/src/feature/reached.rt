@@ -16,7 +16,9 @@ ghost use Rattle.cj_spans.specs.Tree.{Tree};
 ghost use Rattle.cj_spans.specs.View.{tree, line_of, source_of, tokens_in, document, document_line, document_source};
 ghost use Rattle.cj_feature.specs.Feature.{unreached, reach_rule, reach_if};
 ghost use Rattle.cj_feature.specs.Links.{listed_in};
-ghost use Rattle.cj_feature.specs.Marking.{IsUnmarked, AllMarked, HaveMarks, ItemsHaveMarks, ListMarks, IsListedUnmarked, IsNext, IsToMark, MarksFit, IsBeside, AllReached, OnlyMarks};
+ghost use Rattle.cj_feature.specs.Marking.{IsUnmarked, AllMarked, HaveMarks, ItemsHaveMarks, ListMarks};
+ghost use Rattle.cj_feature.specs.Marking.{IsListedUnmarked, IsNext, IsToMark, MarksFit, IsBeside, AllReached};
+ghost use Rattle.cj_feature.specs.Marking.{OnlyMarks};
 ghost use Rattle.cj_feature.specs.Reached.{AreMarks, IsReachedObject};
 ghost use Rattle.cj_feature.specs.Unmarked.{AreInNameOrder, NotedHaveMarks, ListNotedMarks};
 

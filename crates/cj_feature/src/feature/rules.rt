@@ -57,6 +57,9 @@ fn check_vertex(node: Node, found: &mut Least)
 }
 
 /// Checks that the value is an array of vertices. Returns how many there are, if it is an array.
+///
+/// It is never inlined, so that its loop has the registers.
+#[inline(never)]
 fn check_vertices(node: Node, found: &mut Least) -> Option<u64>
     ensures count { result ≡ count_if (tree node.entry) }
     ensures found { found.new ≡ least found.old (vertex_list (tree node.entry)) }

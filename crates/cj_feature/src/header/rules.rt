@@ -7,7 +7,8 @@ ghost use Rattle.cj_spans.specs.View.{tree, document, document_line};
 ghost use Rattle.cj_geometry.specs.Rule.{one, needs, may_have, number, of_length};
 ghost use Rattle.cj_geometry.specs.Geometry.{count_of};
 ghost use Rattle.cj_spans.specs.Parts.{items_of, member_of};
-ghost use Rattle.cj_feature.specs.Header.{fixed, first_two, three_numbers, transform, no_members, empty_object, empty_array, template_vertices, template_list, geometry_templates, header};
+ghost use Rattle.cj_feature.specs.Header.{fixed, first_two, three_numbers, transform, no_members, empty_object};
+ghost use Rattle.cj_feature.specs.Header.{empty_array, template_vertices, template_list, geometry_templates, header};
 ghost use Rattle.cj_feature.specs.HeaderView.{header_tree, header_line, has_box};
 
 use crate::header::Header;

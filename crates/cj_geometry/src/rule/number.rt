@@ -1,15 +1,17 @@
 //! Numbers that rules read.
-ghost use Rattle.std.specs.Prelude.{◌≡◌, ℕ, ◌<◌, ◌^◌, nat_lt, not, pos, Some, IfSome, length, take, []};
+ghost use Rattle.std.specs.Prelude.{◌≡◌, ℕ, ◌<◌, ◌^◌, nat_lt, not, pos, Some, IfSome, IsTrue, length, take, []};
 ghost use Rattle.std.specs.List.{flat_map};
 ghost use Rattle.cj_spans.specs.declared.reason.Reason.{Reason as ReasonOf};
 ghost use Rattle.cj_spans.specs.Parts.{items_of};
+ghost use Rattle.cj_decimal.specs.Word.{TellsBelow};
 ghost use Rattle.cj_geometry.specs.Lone.{AreLone};
 ghost use Rattle.cj_spans.specs.Finding.{least};
 ghost use Rattle.cj_spans.specs.View.{tree};
-ghost use Rattle.cj_geometry.specs.Rule.{number, index, whole_number, is_outside as is_outside_of, whole_of, fault_reason};
+ghost use Rattle.cj_geometry.specs.Rule.{number, index, whole_number, is_outside as is_outside_of, whole_of};
+ghost use Rattle.cj_geometry.specs.Rule.{fault_reason};
 
-use crate::rule::add;
-use cj_decimal::{Decimal, DecimalFault};
+use crate::rule::{add, is_told_before};
+use cj_decimal::{Decimal, DecimalFault, digits_word};
 use cj_spans::{Kind, Least, Node, Reason};
 
 /// Returns the reason for a fault of a number. A value that is no number has the wrong kind.
@@ -205,28 +207,75 @@ pub fn check_whole(node: Node, found: &mut Least)
     }
 }
 
-/// Returns how many items at the front of an array are indices below a count, if that is known.
-/// None of them has a finding.
+/// Checks an index that [`is_few_below`] does not accept, as [`check_index`] does.
+#[inline(never)]
+fn check_other_index(node: Node, outside: Reason, count: Option<u64>, found: &mut Least)
+    ensures { found.new ≡ least found.old (index outside count (tree node.entry)) }
+{
+    check_index(node, outside, count, found);
+}
+
+/// What indices must be below, if that is known: as a number, and as a word that tells of eight
+/// digits whether they are below.
+#[derive(Clone, Copy)]
+pub struct Bound {
+    pub count: Option<u64>,
+    limit: u64,
+    word: u64,
+    ghost outside: { (n : ℕ) → n < 10 ^ 18 → is_outside_of count (pos n) ≡ not (nat_lt n limit) },
+    ghost tells: { TellsBelow word limit },
+}
+
+impl Bound {
+    /// Returns the bound that this count is.
+    pub fn of(count: Option<u64>) -> Bound
+        ensures { result.count ≡ count }
+    {
+        let limit = bound_of(count);
+        let word = digits_word(limit);
+        Bound { count, limit, word }
+    }
+}
+
+/// Returns whether the value is a number of at most eight digits below the bound. It reads the line
+/// as [`read_word`] does, and computes no value.
+#[inline(always)]
+fn is_few_below(node: Node, bound: Bound) -> bool
+    ensures { IsTrue result → (n : ℕ) × (n < bound.limit) × (n < 10 ^ 18)
+        × (whole_of (tree node.entry) ≡ Some (pos n)) }
+{
+    let (start, stop) = node.span();
+    Decimal::is_few_below_in(node.line(), start, stop, bound.word)
+}
+
+/// Does what [`check_index`] does, with a bound. Nearly all indices are below it.
+#[inline(always)]
+pub fn check_index_below(node: Node, outside: Reason, bound: Bound, found: &mut Least)
+    ensures { found.new ≡ least found.old (index outside bound.count (tree node.entry)) }
+{
+    if !is_few_below(node, bound) {
+        if !is_told_before(*found, node) {
+            check_other_index(node, outside, bound.count, found);
+        }
+    }
+}
+
+/// Returns how many items at the front of an array are indices below a bound. None of them has a
+/// finding.
 ///
 /// It reads only numbers of at most eight digits, one item after another, and does not look where
 /// each ends.
 #[inline(always)]
-pub fn count_indices(node: Node, count: Option<u64>) -> u32
+pub fn count_indices(node: Node, bound: Bound) -> u32
     ensures lone { AreLone result (items_of (tree node.entry)) }
     ensures none { (outside : ReasonOf)
-        → flat_map (index outside count) (take result (items_of (tree node.entry))) ≡ [] }
+        → flat_map (index outside bound.count) (take result (items_of (tree node.entry))) ≡ [] }
 {
-    let bound = bound_of(count);
     let mut items = node.items();
     let mut front = 0;
     while let Some(item) = items.next() {
-        match read_word(item) {
-            Some(whole) => {
-                if whole >= bound {
-                    break;
-                }
-            }
-            None => break,
+        if !is_few_below(item, bound) {
+            break;
         }
         front += 1;
         items = node.items_behind(front);

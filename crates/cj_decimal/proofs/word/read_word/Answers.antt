@@ -1,9 +1,8 @@
-use Rattle.std.proofs.Common.{◌≡◌, ◌-◌, ◌+◌, ◌<◌, ◌≤◌, ℕ, List, get_or, subst, sym, arith}
+use Rattle.std.proofs.Common.{◌≡◌, ◌-◌, ℕ, List, get_or, subst, sym, arith}
 use Rattle.std.specs.Prelude.{slice_range}
-use Rattle.std.proofs.lemmas.Bool.{false≢true}
 use Rattle.cj_decimal.specs.Spelling.{AllDigits}
 use Rattle.cj_decimal.proofs.Grammar.{int_digits}
-use Rattle.cj_decimal.proofs.Eights.{word_short, int_slice, lead_alone}
+use Rattle.cj_decimal.proofs.Eights.{word_short, int_slice}
 use Rattle.cj_decimal.proofs.word.read_word.Goals.{After-read_digits_before, else-line-start-eq48-via-then-line-start-eq48+else-count-ne1, else-line-start-eq48-via-else-line-start-eq48}
 use Rattle.cj_decimal.proofs.word.read_word.Goals as goal
 

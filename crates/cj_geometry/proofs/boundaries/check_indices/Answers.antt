@@ -10,11 +10,11 @@ use Rattle.cj_geometry.specs.Geometry.{shape}
 use Rattle.cj_geometry.proofs.boundaries.check_indices.Goals as goal
 
 pub loop-item-preserved : goal.loop-item-preserved
-loop-item-preserved c = least_on (shape c.args.vertices 0) _ _ _ _ _ _ c.loop-item.invariant c.in-Some.ensures.steps.0 c.check_index.ensures
+loop-item-preserved c = least_on (shape c.args.vertices.count 0) _ _ _ _ _ _ c.loop-item.invariant c.in-Some.ensures.steps.0 c.check_index_below.ensures
 
 pub loop-item-init : goal.loop-item-init
 loop-item-init c =
-    let v = c.args.vertices in
+    let v = c.args.vertices.count in
     let front = c.count_indices-front in
     let behind = c.items_behind-item-items.ensures front.result front.ensures.lone.within front.ensures.lone.sizes in
     let left = ap items_left c.into_iter-item-iterator.ensures.into_iter_gives ∙ behind in

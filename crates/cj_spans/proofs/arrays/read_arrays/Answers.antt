@@ -1,4 +1,4 @@
-use Rattle.std.proofs.Common.{◌≡◌, ℕ, ◌+◌, Bool, true, false, not, refl, arith}
+use Rattle.std.proofs.Common.{◌≡◌, ℕ, ◌+◌, Bool, true, false, not, inl, inr, refl, arith}
 use Rattle.std.specs.Prelude.{IsTrue}
 use Rattle.cj_budget.specs.Bounded.{BoundedList}
 use Rattle.cj_spans.specs.declared.token.Token.{Token}
@@ -36,44 +36,67 @@ loop-next-preserved c =
       order = omega arith;
     }
 
-pub read_number-requires-clause-small : goal.read_number-requires-clause-small
-read_number-requires-clause-small c = (stands_small _ _ _ _ _ c.loop-next.invariant.stands c.loop-next-test.true).1
+pub keep_atom-requires-clause-small : goal.keep_atom-requires-clause-small
+keep_atom-requires-clause-small c = (stands_small _ _ _ _ _ c.loop-next.invariant.stands c.loop-next-test.true).1
 
-pub read_number-requires-clause-room : goal.read_number-requires-clause-room
-read_number-requires-clause-room c = stands_room _ _ _ _ _ c.loop-next.invariant.stands c.loop-next-test.true c.loop-next.invariant.begins
+pub keep_atom-requires-clause-room : goal.keep_atom-requires-clause-room
+keep_atom-requires-clause-room c = stands_room _ _ _ _ _ c.loop-next.invariant.stands c.loop-next-test.true c.loop-next.invariant.begins
 
-pub read_number-requires-clause-reserved : goal.read_number-requires-clause-reserved
-read_number-requires-clause-reserved c = (stands_reserved _ _ _ _ _ c.loop-next.invariant.stands).0
+pub keep_atom-requires-then-line-stop-eq93-clause-small : goal.keep_atom-requires-then-line-stop-eq93-clause-small
+keep_atom-requires-then-line-stop-eq93-clause-small c = (stands_small _ _ _ _ _ c.loop-next.invariant.stands c.loop-next-test.true).1
 
-pub end_number-behind-requires-clause-stands : goal.end_number-behind-requires-clause-stands
-end_number-behind-requires-clause-stands c =
+pub keep_atom-requires-then-line-stop-eq93-clause-room : goal.keep_atom-requires-then-line-stop-eq93-clause-room
+keep_atom-requires-then-line-stop-eq93-clause-room c = stands_room _ _ _ _ _ c.loop-next.invariant.stands c.loop-next-test.true c.loop-next.invariant.begins
+
+pub loop-next-preserved-then-line-stop-eq44 : goal.loop-next-preserved-then-line-stop-eq44
+loop-next-preserved-then-line-stop-eq44 c =
     let l = c.loop-next in
-    let n = c.in-Some.ensures.number in
-    stands_on c.args.line.now l.tokens c.read_number.new.tokens l.stack l.stack l.next.mode After l.next.place c.in-Some.stop l.invariant.stands
-    (λ ts ks s. standing_number c.args.line.now ts ks l.tokens c.read_number.new.tokens l.stack l.next.mode l.next.place c.in-Some.stop s l.invariant.begins n.0 n.1)
+    let n = c.in-Some.ensures in
+    let k = c.keep_atom in
+    let order = l.invariant.order in let further = n.order in
+    let array = innermost_more _ _ _ _ _ l.invariant.array k.ensures.elements in
+    let go : (ts : BoundedList Token) (ks : BoundedList ℕ) → Standing c.args.line.now ts ks l.tokens l.stack l.next.mode l.next.place → Standing c.args.line.now ts ks k.new.tokens l.stack Ready (c.in-Some.stop + 1)
+    = λ ts ks s. standing_comma c.args.line.now ts ks k.new.tokens l.stack c.in-Some.stop (standing_number c.args.line.now ts ks l.tokens k.new.tokens l.stack l.next.mode l.next.place c.in-Some.stop s l.invariant.begins n (inl c.if-line-stop-eq44.true) k.ensures) (record { within = n.within; comma = c.if-line-stop-eq44.true; array = array }) in
+    record {
+      stands = stands_on c.args.line.now l.tokens k.new.tokens l.stack l.stack l.next.mode Ready l.next.place (c.in-Some.stop + 1) l.invariant.stands go;
+      answer = λ ts ks s. go ts ks (l.invariant.answer ts ks s);
+      array = array;
+      begins = tt;
+      order = omega arith;
+    }
 
-pub end_number-behind-requires-clause-array : goal.end_number-behind-requires-clause-array
-end_number-behind-requires-clause-array c = innermost_more _ _ _ _ _ c.loop-next.invariant.array c.in-Some.ensures.number.1.elements
+pub close_arrays-behind-requires-clause-stands : goal.close_arrays-behind-requires-clause-stands
+close_arrays-behind-requires-clause-stands c =
+    let l = c.loop-next in
+    let n = c.in-Some.ensures in
+    let k = c.keep_atom-then-line-stop-eq93 in
+    stands_on c.args.line.now l.tokens k.new.tokens l.stack l.stack l.next.mode After l.next.place c.in-Some.stop l.invariant.stands
+    (λ ts ks s. standing_number c.args.line.now ts ks l.tokens k.new.tokens l.stack l.next.mode l.next.place c.in-Some.stop s l.invariant.begins n (inr c.if-line-stop-eq93.true) k.ensures)
+
+pub close_arrays-behind-requires-clause-array : goal.close_arrays-behind-requires-clause-array
+close_arrays-behind-requires-clause-array c = innermost_more _ _ _ _ _ c.loop-next.invariant.array c.keep_atom-then-line-stop-eq93.ensures.elements
 
 pub returns-then-not-behind-clause-answer : goal.returns-then-not-behind-clause-answer
 returns-then-not-behind-clause-answer c = λ ts ks s.
     let l = c.loop-next in
-    let n = c.in-Some.ensures.number in
-    c.end_number-behind.ensures.answer ts ks (standing_number c.args.line.now ts ks l.tokens c.read_number.new.tokens l.stack l.next.mode l.next.place c.in-Some.stop (l.invariant.answer ts ks s) l.invariant.begins n.0 n.1)
+    let n = c.in-Some.ensures in
+    let k = c.keep_atom-then-line-stop-eq93 in
+    c.close_arrays-behind.ensures.answer ts ks (standing_number c.args.line.now ts ks l.tokens k.new.tokens l.stack l.next.mode l.next.place c.in-Some.stop (l.invariant.answer ts ks s) l.invariant.begins n (inr c.if-line-stop-eq93.true) k.ensures)
 
 set : (x : Bool) → not x ≡ false → IsTrue x
 set true h = refl
 set false h = cc
 
-pub loop-next-preserved-then-line-next-ne91 : goal.loop-next-preserved-then-line-next-ne91
-loop-next-preserved-then-line-next-ne91 c =
+pub loop-next-preserved-then-line-stop-eq93 : goal.loop-next-preserved-then-line-stop-eq93
+loop-next-preserved-then-line-stop-eq93 c =
     let l = c.loop-next in
-    let n = c.in-Some.ensures.number in
-    let e = c.end_number-behind in
-    let order = l.invariant.order in let further = n.0.order in let last = e.ensures.order in
+    let n = c.in-Some.ensures in
+    let k = c.keep_atom-then-line-stop-eq93 in
+    let e = c.close_arrays-behind in
+    let order = l.invariant.order in let further = n.order in let last = e.ensures.order in
     let comma = e.ensures.comma (set _ c.if-not-behind.false) in
     let go : (ts : BoundedList Token) (ks : BoundedList ℕ) → Standing c.args.line.now ts ks l.tokens l.stack l.next.mode l.next.place → Standing c.args.line.now ts ks e.new.tokens e.new.stack Ready (e.result.place + 1)
-    = λ ts ks s. standing_comma c.args.line.now ts ks e.new.tokens e.new.stack e.result.place (e.ensures.answer ts ks (standing_number c.args.line.now ts ks l.tokens c.read_number.new.tokens l.stack l.next.mode l.next.place c.in-Some.stop s l.invariant.begins n.0 n.1)) comma in
+    = λ ts ks s. standing_comma c.args.line.now ts ks e.new.tokens e.new.stack e.result.place (e.ensures.answer ts ks (standing_number c.args.line.now ts ks l.tokens k.new.tokens l.stack l.next.mode l.next.place c.in-Some.stop s l.invariant.begins n (inr c.if-line-stop-eq93.true) k.ensures)) comma in
     record {
       stands = stands_on c.args.line.now l.tokens e.new.tokens l.stack e.new.stack l.next.mode Ready l.next.place (e.result.place + 1) l.invariant.stands go;
       answer = λ ts ks s. go ts ks (l.invariant.answer ts ks s);

@@ -1,5 +1,5 @@
-use Rattle.std.proofs.Common.{◌≡◌, slice_get, Some, ap, sym, subst, ◌∙◌}
-use Rattle.std.specs.Prelude.{slice_set, true}
+use Rattle.std.proofs.Common.{◌≡◌, slice_get, Some, ap, sym, ◌∙◌}
+use Rattle.std.specs.Prelude.{slice_set}
 use Rattle.cj_spans.specs.Marks.{is_marked_at}
 use Rattle.cj_spans.proofs.Marking.{with_mark, marked_here, marked_elsewhere, keeps}
 use Rattle.cj_spans.proofs.mark.set_mark.Goals as goal

@@ -1,7 +1,7 @@
-use Rattle.std.proofs.Common.{◌≡◌, ◌+◌, ◌∷◌, drop, sym, ◌∙◌, arith}
+use Rattle.std.proofs.Common.{◌≡◌, ℕ, ◌+◌, ◌∷◌, ◌<◌, ◌^◌, drop, Some, pos, sym, ◌∙◌, arith}
 use Rattle.cj_spans.specs.Parts.{items_of}
 use Rattle.cj_spans.specs.View.{tree, items_left}
-use Rattle.cj_geometry.specs.Rule.{index}
+use Rattle.cj_geometry.specs.Rule.{index, whole_of}
 use Rattle.cj_geometry.specs.Lone.{AreLone}
 use Rattle.cj_geometry.proofs.Lone.{lone-more, none-more, lone-below, left-falls, whole-size, index-none}
 use Rattle.cj_geometry.proofs.rule.number.count_indices.Goals.{After-items_behind-items}
@@ -15,8 +15,11 @@ overflow_add-front c =
 next : (c : After-items_behind-items) → drop c.loop-item.front (items_of (tree c.args.node)) ≡ tree c.in-Some.item ∷ items_left c.next.new.self
 next c = sym c.loop-item.invariant.left ∙ c.in-Some.ensures.steps.0
 
+read : (c : After-items_behind-items) → (n : ℕ) × (n < c.args.bound.limit) × (n < 10 ^ 18) × (whole_of (tree c.in-Some.item) ≡ Some (pos n))
+read c = c.is_few_below.ensures c.if-not-is_few_below.false
+
 lone : (c : After-items_behind-items) → AreLone (c.loop-item.front + 1) (items_of (tree c.args.node))
-lone c = lone-more c.loop-item.front (items_of (tree c.args.node)) (tree c.in-Some.item) (items_left c.next.new.self) (next c) (whole-size (tree c.in-Some.item) _ c.in-Some-read_word.ensures.1) c.loop-item.invariant.lone
+lone c = lone-more c.loop-item.front (items_of (tree c.args.node)) (tree c.in-Some.item) (items_left c.next.new.self) (next c) (whole-size (tree c.in-Some.item) _ (read c).3) c.loop-item.invariant.lone
 
 pub loop-item-smaller : goal.loop-item-smaller
 loop-item-smaller c = let l = lone c in left-falls c.loop-item.front (items_of (tree c.args.node)) _ _ c.loop-item.invariant.left (c.items_behind-items.ensures (c.loop-item.front + 1) l.within l.sizes) l.within
@@ -27,6 +30,6 @@ loop-item-preserved c =
     record {
       left = c.items_behind-items.ensures (c.loop-item.front + 1) l.within l.sizes;
       lone = l;
-      none = λ outside. none-more c.loop-item.front (items_of (tree c.args.node)) (tree c.in-Some.item) (items_left c.next.new.self) (next c) (index outside c.args.count) (index-none (tree c.in-Some.item) c.in-Some-read_word.whole c.bound_of-bound.result c.in-Some-read_word.ensures.1 outside c.args.count (c.bound_of-bound.ensures c.in-Some-read_word.whole c.in-Some-read_word.ensures.0) c.if-whole-bound.false) (c.loop-item.invariant.none outside);
+      none = λ outside. none-more c.loop-item.front (items_of (tree c.args.node)) (tree c.in-Some.item) (items_left c.next.new.self) (next c) (index outside c.args.bound.count) (index-none (tree c.in-Some.item) (read c).0 c.args.bound.limit (read c).3 outside c.args.bound.count (c.args.bound.outside (read c).0 (read c).2) (read c).1) (c.loop-item.invariant.none outside);
       small = c.loop-item.invariant.small;
     }

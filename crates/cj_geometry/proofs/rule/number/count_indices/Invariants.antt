@@ -12,7 +12,7 @@ abbrev pub invariant-loop-item : goal.invariant-loop-item
 invariant-loop-item l = record {
   left : items_left l.items ≡ drop l.front (items_of (tree l.node));
   lone : AreLone l.front (items_of (tree l.node));
-  none : ((outside : Reason) → flat_map (index outside l.fn.count) (take l.front (items_of (tree l.node))) ≡ []);
+  none : ((outside : Reason) → flat_map (index outside l.bound.count) (take l.front (items_of (tree l.node))) ≡ []);
   small : total_size (items_of (tree l.node)) < 2 ^ 31;
 }
 

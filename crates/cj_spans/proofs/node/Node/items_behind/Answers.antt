@@ -1,5 +1,4 @@
-use Rattle.std.proofs.Common.{◌+◌, ap, sym, ◌∙◌, length, drop, take, arith, subst}
-use Rattle.cj_spans.specs.Tree.{total_size}
+use Rattle.std.proofs.Common.{◌+◌, arith}
 use Rattle.cj_spans.specs.View.{tree, items_left}
 use Rattle.cj_spans.proofs.Sizes.{full_sized}
 use Rattle.cj_spans.proofs.Walks.{items_from_link, whole_later, items_behind_link}

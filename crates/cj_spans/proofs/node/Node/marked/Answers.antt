@@ -1,4 +1,4 @@
-use Rattle.std.proofs.Common.{◌≡◌, true, refl, sym, ap, subst, ◌∙◌}
+use Rattle.std.proofs.Common.{◌≡◌, true, refl, sym, subst, ◌∙◌}
 use Rattle.cj_spans.specs.Marks.{is_marked_at}
 use Rattle.cj_spans.specs.View.{tree, line_of, source_of, tokens_in}
 use Rattle.cj_spans.proofs.Marking.{mark_of, marked_within, one_number}

@@ -1,0 +1,93 @@
+-- Words of eight digits, from the first one on, have the order of their numbers.
+use Rattle.std.proofs.Common.{◌≡◌, ℕ, zero, suc, ◌+◌, ◌-◌, ◌*◌, ◌/◌, ◌%◌, ◌^◌, ◌<◌, ◌≤◌, List, [], ◌∷◌, length, map, get_or, refl, sym, ap, subst, arith, ◌∙◌, inl, inr, w64}
+use Rattle.std.specs.Int.{swap_bytes, to_le_bytes, from_le_bytes, from_be_bytes}
+use Rattle.std.proofs.lemmas.Nat.{le_bytes_8, pow-add}
+use Rattle.std.proofs.lemmas.Bool.{cases_lt}
+use Rattle.std.proofs.Math.Nat.{mul-le-mul_left}
+use Rattle.cj_decimal.specs.Spelling.{digits_value}
+use Rattle.cj_decimal.specs.Word.{word_of, AllBelow, TellsBelow, weighed}
+use Rattle.cj_decimal.proofs.Eights.{eight, horner, spelled_value}
+
+-- a digit more in front
+below_next : (p d x n : ℕ) → suc d ≤ n → x < p → p * d + x < p * n
+below_next p d x n h l = let m = mul-le-mul_left p h in omega (arith, m, l)
+
+weighed_below : (n : ℕ) → 10 ≤ n → n ^ 0 ≡ 1 → n ^ 1 ≡ n → (s : List ℕ) → AllBelow 10 s → weighed n s < n ^ length s
+unfolding weighed
+weighed_below n h one self [] z = nothing (n ^ 0) one
+  where
+    nothing : (p : ℕ) → p ≡ 1 → 0 < p
+    nothing p e = omega arith
+weighed_below n h one self (d ∷ s) z =
+    let rest = weighed_below n h one self s z.1 in
+    let l = z.0 in
+    let more : suc (length s) ≡ length s + 1 = omega arith in
+    let power : n ^ suc (length s) ≡ n ^ length s * n = ap (λ k. n ^ k) more ∙ pow-add n (length s) 1 ∙ ap (λ k. n ^ length s * k) self in
+    subst (λ p. n ^ length s * d + weighed n s < p) (sym power) (below_next (n ^ length s) d (weighed n s) n (omega arith) rest)
+
+-- one digit decides, or the rest does
+step : (p q a b x y u v : ℕ) → x < q → y < q → u < p → (x < y → u < v) → q * a + x < q * b + y → p * a + u < p * b + v
+step p q a b x y u v lx ly lu f h =
+    elim (cases_lt a b) [
+      | inl less ↦ let m = mul-le-mul_left p less in omega (arith, m, lu)
+      | inr more ↦ elim (cases_lt b a) [
+        | inl greater ↦ let m = mul-le-mul_left q greater in absurd (omega (arith, m, ly, h))
+        | inr equal ↦ let e : a ≡ b = omega arith in same e
+      ]
+    ]
+  where
+    same : a ≡ b → p * a + u < p * b + v
+    same e = let g : q * a + x < q * a + y = subst (λ k. q * a + x < q * k + y) (sym e) h in let l = f (omega (arith, g)) in subst (λ k. p * a + u < p * k + v) e (omega (arith, l))
+
+order : (s t : List ℕ) → length s ≡ length t → AllBelow 10 s → AllBelow 10 t → weighed 256 s < weighed 256 t → weighed 10 s < weighed 10 t
+unfolding weighed
+order [] [] e hs ht l = l
+order [] (b ∷ t) e hs ht l = absurd (omega (arith, e))
+order (a ∷ s) [] e hs ht l = absurd (omega (arith, e))
+order (a ∷ s) (b ∷ t) e hs ht l =
+    let n : length t ≡ length s = omega (arith, e) in
+    let small = weighed_below 256 (omega arith) refl refl s hs.1 in
+    let other : weighed 256 t < 256 ^ length s = subst (λ k. weighed 256 t < 256 ^ k) n (weighed_below 256 (omega arith) refl refl t ht.1) in
+    let g : 256 ^ length s * a + weighed 256 s < 256 ^ length s * b + weighed 256 t = subst (λ k. 256 ^ length s * a + weighed 256 s < 256 ^ k * b + weighed 256 t) n l in
+    subst (λ k. 10 ^ length s * a + weighed 10 s < 10 ^ k * b + weighed 10 t) (sym n)
+    (step (10 ^ length s) (256 ^ length s) a b (weighed 256 s) (weighed 256 t) (weighed 10 s) (weighed 10 t) small other (weighed_below 10 (omega arith) refl refl s hs.1) (order s t (sym n) hs.1 ht.1) g)
+
+-- ---- eight digits
+
+value_weighed : (s : List ℕ) → length s ≡ 8 → digits_value (map (λ d. d + 48) s) ≡ weighed 10 s
+unfolding weighed horner
+value_weighed s l = eight (λ s. digits_value (map (λ d. d + 48) s) ≡ weighed 10 s) (λ a b c d e f g h. spelled_value 0 (a ∷ b ∷ c ∷ d ∷ e ∷ f ∷ g ∷ h ∷ []) ∙ omega arith) s l
+
+bytes_of : (s : List ℕ) → AllBelow 10 s → (i : ℕ) → get_or s i 0 < 256
+bytes_of [] h i = omega arith
+bytes_of (b ∷ s) h zero = let l = h.0 in omega arith
+bytes_of (b ∷ s) h (suc i) = bytes_of s h.1 i
+
+pub swapped : (s : List ℕ) → length s ≡ 8 → AllBelow 10 s → swap_bytes w64 (word_of s) ≡ weighed 256 s
+unfolding weighed
+swapped s l = eight (λ s. AllBelow 10 s → swap_bytes w64 (word_of s) ≡ weighed 256 s) each s l
+  where
+    each : (a b c d e f g h : ℕ) → AllBelow 10 (a ∷ b ∷ c ∷ d ∷ e ∷ f ∷ g ∷ h ∷ []) → swap_bytes w64 (word_of (a ∷ b ∷ c ∷ d ∷ e ∷ f ∷ g ∷ h ∷ [])) ≡ weighed 256 (a ∷ b ∷ c ∷ d ∷ e ∷ f ∷ g ∷ h ∷ [])
+    each a b c d e f g h z =
+        let s = a ∷ b ∷ c ∷ d ∷ e ∷ f ∷ g ∷ h ∷ [] in
+        let same : word_of s ≡ from_le_bytes w64 s = omega arith in
+        ap (from_be_bytes w64) (le_bytes_8 s (word_of s) refl (bytes_of s z) same) ∙ omega arith
+
+-- ---- what a word of a count tells
+
+pub all_below : (n word : ℕ) → 100000000 ≤ n → TellsBelow word n
+unfolding weighed
+all_below n word h = λ s l z w. let v = value_weighed s l in let b = weighed_below 10 (omega arith) refl refl s z in let p : 10 ^ length s ≡ 100000000 = ap (λ k. 10 ^ k) l in omega (arith, v, b, p)
+
+pub told : (n a b c d e f g word : ℕ) → n < 100000000 → a ≡ n / 10 → b ≡ a / 10 → c ≡ b / 10 → d ≡ c / 10 → e ≡ d / 10 → f ≡ e / 10 → g ≡ f / 10
+    → word ≡ n % 10 + a % 10 * 256 + b % 10 * 65536 + c % 10 * 16777216 + (d % 10 + e % 10 * 256 + f % 10 * 65536 + g * 16777216) * 4294967296
+    → TellsBelow word n
+unfolding weighed
+told n a b c d e f g word small ia ib ic id ie if ig is = λ s l z w.
+    let t = g ∷ f % 10 ∷ e % 10 ∷ d % 10 ∷ c % 10 ∷ b % 10 ∷ a % 10 ∷ n % 10 ∷ [] in
+    let first : g < 10 = omega arith in
+    let digits : AllBelow 10 t = (first, (omega arith, (omega arith, (omega arith, (omega arith, (omega arith, (omega arith, (omega arith, tt)))))))) in
+    let as_word : word ≡ weighed 256 t = omega (arith, is) in
+    let value : weighed 10 t ≡ n = omega arith in
+    let o = order s t l z digits (subst (λ x. weighed 256 s < x) as_word w) in
+    subst (λ x. x < n) (sym (value_weighed s l)) (subst (λ x. weighed 10 s < x) value o)

@@ -1,0 +1,20 @@
+use Rattle.std.proofs.Common.{Some, arith}
+use Rattle.std.specs.Prelude.{slice_range}
+use Rattle.cj_decimal.proofs.Below.{all_below}
+use Rattle.cj_decimal.proofs.Eights.{length_slice}
+use Rattle.cj_decimal.proofs.Wholes.{answer_of_few, int_alone_read}
+use Rattle.cj_decimal.proofs.decimal.Decimal.is_few_below_in.Goals as goal
+
+pub returns-clause-few : goal.returns-clause-few
+returns-clause-few c = λ holds.
+    let s = slice_range c.args.line.now c.args.start c.args.stop in
+    let short = (c.is_below.ensures.short holds 4294967296 (all_below 4294967296 c.args.word (omega arith))).2 in
+    let l = length_slice c.args.line.now c.args.start c.args.stop c.requires.within in
+    let near = c.is_below.ensures.near holds in
+    (int_alone_read s short.int short.rest, omega (arith, l, near))
+
+pub returns-clause-below : goal.returns-clause-below
+returns-clause-below c = λ holds n tells.
+    let r = c.is_below.ensures.short holds n tells in
+    let short = r.2 in
+    (r.0, r.1, short.small, answer_of_few (slice_range c.args.line.now c.args.start c.args.stop) (Some r.0) short)
