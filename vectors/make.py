@@ -11,7 +11,7 @@ import re
 import shutil
 
 HERE = os.path.dirname(os.path.abspath(__file__))
-TESTS = os.path.join(HERE, os.pardir, "crates", "cj_stream_rows", "src", "tests", "table.rt")
+TESTS = os.path.join(HERE, os.pardir, "crates", "cj_stream_verdicts", "src", "tests", "table.rt")
 LIMITS = (1_000, 64)  # where a row asks for no others: a line of so many bytes, so many open arrays and objects
 TEXTS = {
     1: "no header line", 2: "line too long", 3: "not UTF-8", 4: "syntax", 5: "nested too deep", 10: "member missing",

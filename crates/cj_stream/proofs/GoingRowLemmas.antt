@@ -19,7 +19,7 @@ use Rattle.cj_stream.proofs.RowLemmas.{header_first, header_tight, feature_first
 use Rattle.cj_stream.proofs.VerdictLemmas.{verdict-long}
 
 -- no verdict hangs on whether reading goes on
-same-verdict : (rules : Rules) (n : ℕ) (header : Tree) (c : List ℕ) → verdict_at (going rules) n header c ≡ verdict_at rules n header c
+pub same-verdict : (rules : Rules) (n : ℕ) (header : Tree) (c : List ℕ) → verdict_at (going rules) n header c ≡ verdict_at rules n header c
 unfolding verdict_at
 same-verdict rules n header c = go (judgement c rules.limits.depth)
   where

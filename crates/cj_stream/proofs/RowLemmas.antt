@@ -102,9 +102,12 @@ euro_text : IsUtf8 euro_feature
 unfolding is_utf8 chars encode
 euro_text = IsUtf8-from_is_utf8 euro_feature refl
 
--- the tree of the header
+-- the trees of the header and of the feature
 pub header_tree : tree_of 64 small_header ≡ plain_header
 header_tree = judged plain_header header_json (lit≤ tt) (judgement small_header 64)
+
+pub feature_tree : tree_of 64 small_feature ≡ plain_feature.tree
+feature_tree = judged plain_feature.tree feature_json (lit≤ tt) (judgement small_feature 64)
 
 pub header_first : (t : Tree) → verdict_at wide_rules 1 t small_header ≡ Valid
 header_first t = sound 1 t small_header plain_header header_json (lit≤ tt) 8388608 (lit≤ tt) header_text refl ∙ tree-valid wide_rules 1 t plain_header plain_header-valid refl

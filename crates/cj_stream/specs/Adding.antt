@@ -1,5 +1,6 @@
 -- What is asked once a part is set or grows: the other parts stay.
-use Rattle.std.specs.Prelude.{ℕ, List, [], ◌∷◌, ◌++◌, Bool, true, false, replicate, slice_set, Option, Some, unwrap_or, option_and_then}
+use Rattle.std.specs.Prelude.{ℕ, List, [], ◌∷◌, ◌++◌, Bool, true, false, replicate, slice_set, Option, Some, unwrap_or}
+use Rattle.std.specs.Prelude.{option_and_then}
 use Rattle.cj_geometry.specs.ObjectTypes.{ObjectRow, row_named}
 use Rattle.cj_stream.specs.Criteria.{Criteria, Box}
 
@@ -28,4 +29,5 @@ with_box box criteria = record criteria { box = Some box }
 -- these flags, and those of the types of these names; none where a name is no type's
 abbrev pub flags_with : List (List ℕ) → List Bool → Option (List Bool)
 flags_with [] flags = Some flags
-flags_with (name ∷ names) flags = option_and_then (λ (row : ObjectRow). flags_with names (slice_set flags row.number true)) (row_named name)
+flags_with (name ∷ names) flags =
+    option_and_then (λ (row : ObjectRow). flags_with names (slice_set flags row.number true)) (row_named name)

@@ -1,5 +1,6 @@
 -- The most that may be held, and how much was held at most.
-use Rattle.std.specs.Prelude.{◌≡◌, ℕ, ◌+◌, ◌/◌, ◌≤◌, List, [], ◌∷◌, Bool, true, false, not, nat_lt, ◌&&◌, ◌||◌, if◌then◌else◌, length, map, max, min, take}
+use Rattle.std.specs.Prelude.{◌≡◌, ℕ, ◌+◌, ◌/◌, ◌≤◌, List, [], ◌∷◌, Bool, true, false, not, nat_lt, ◌&&◌, ◌||◌}
+use Rattle.std.specs.Prelude.{if◌then◌else◌, length, map, max, min, take}
 use Rattle.std.specs.List.{flat_map, list_all}
 use Rattle.std.specs.Str.{is_utf8}
 use Rattle.cj_budget.specs.Limits.{LimitPair}

@@ -9,7 +9,8 @@ ones n = pos (n * 10 ^ 18)
 
 -- a box of whole edges
 abbrev pub BoxRow : Type 0
-BoxRow = box_text (codes "1001,2001,1005,2005") ≡ Ok (record { min_x = ones 1001; min_y = ones 2001; max_x = ones 1005; max_y = ones 2005 })
+BoxRow = box_text (codes "1001,2001,1005,2005")
+    ≡ Ok (record { min_x = ones 1001; min_y = ones 2001; max_x = ones 1005; max_y = ones 2005 })
 
 -- there are four fields, and each is a number, blanks too
 abbrev pub FieldRows : Type 0

@@ -1,5 +1,6 @@
 -- The box that a text spells: `minx,miny,maxx,maxy`.
-use Rattle.std.specs.Prelude.{ℕ, List, [], Bool, true, false, ◌&&◌, ◌||◌, not, if◌then◌else◌, nat_eq, length, get_or, ℤ, int_lt, Result, Ok, Err}
+use Rattle.std.specs.Prelude.{ℕ, List, [], Bool, true, false, ◌&&◌, ◌||◌, not, if◌then◌else◌, nat_eq, length, get_or, ℤ}
+use Rattle.std.specs.Prelude.{int_lt, Result, Ok, Err}
 use Rattle.std.specs.List.{slice_split, list_all}
 use Rattle.cj_decimal.specs.Class.{Class, no_number, out_of_range, not_whole, whole}
 use Rattle.cj_decimal.proofs.Classes.{class}

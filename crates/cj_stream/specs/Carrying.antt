@@ -1,4 +1,5 @@
--- What a framer is as one value, what always holds of it, and what each call that takes bytes or ends the stream carries on.
+-- What a framer is as one value, what always holds of it, and what each call that takes bytes or ends the stream
+-- carries on.
 use Rattle.std.specs.Prelude.{ℕ, ◌<◌, ◌≤◌, Result, IfErr, IsErrOf}
 use Rattle.cj_stream.specs.declared.ending.End.{End}
 use Rattle.cj_stream.specs.declared.ending.End.TheVariants.{WriteFault, Memory}
@@ -17,9 +18,11 @@ pub record IsFramed (f : FramerState) : Type 0 where
   pub sound : IsSound f.reading
   pub room : HasRoom f.reading.rules.limits f.scanning
 
--- whatever came of a call: the rules stay, no peak falls, and no list is above its limit. A write fault has its cause in the
--- sink, and want of memory in a growth that was refused; and it comes before the header is dealt with, or not at all
-pub record Carries {S T : Type 0} (failures : S → ℕ) (f g : FramerState) (answer : Result T End) (s t : S) : Type 0 where
+-- whatever came of a call: the rules stay, no peak falls, and no list is above its limit. A write fault has its cause
+-- in the sink, and want of memory in a growth that was refused; and it comes before the header is dealt with, or not at
+-- all
+pub record Carries {S T : Type 0} (failures : S → ℕ) (f g : FramerState) (answer : Result T End) (s t : S) :
+    Type 0 where
   pub stays : Stays f.reading g.reading
   pub rises : Rises f.scanning g.scanning
   pub framed : IsFramed g

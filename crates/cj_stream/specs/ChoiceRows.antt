@@ -9,14 +9,18 @@ use Rattle.cj_stream.specs.Verdict.{Rules}
 
 -- the usual limits, where all is asked for, and these options
 abbrev pub choosing : Bool → Bool → Rules
-choosing tree exclude = record { limits = record { line = 8388608; depth = 64 }; criteria = everything; options = record { keep_going = false; tree = tree; exclude = exclude } }
+choosing tree exclude = record {
+  limits = record { line = 8388608; depth = 64 };
+  criteria = everything;
+  options = record { keep_going = false; tree = tree; exclude = exclude };
+}
 
 -- the header, and these lines
 abbrev pub behind_header : List ℕ → List ℕ
 behind_header lines = small_header ++ 10 ∷ lines
 
--- a part before its parent, of which neither is reached, and the parent of a main city object of the second level that does not
--- list it: the line is refused where each city object has to be reached, also where all features are left out
+-- a part before its parent, of which neither is reached, and the parent of a main city object of the second level that
+-- does not list it: the line is refused where each city object has to be reached, also where all features are left out
 abbrev pub ApartRow : Type 0
 ApartRow =
     Gives (choosing false false) (behind_header part_apart.line) Complete (behind_header part_apart.line)

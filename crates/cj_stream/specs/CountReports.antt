@@ -24,8 +24,8 @@ pub record CountsFirst (rs : List Report) (c : CountReports) : Type 0 where
   pub all : rs ≡ front ++ others
   pub counts : c ≡ count_of front
 
--- the count of what is reported of the bytes r that a run read, by its end; of their whole lines where a read failed or the
--- reads ran out, of the first reports where a write failed, and of nothing where memory was refused
+-- the count of what is reported of the bytes r that a run read, by its end; of their whole lines where a read failed or
+-- the reads ran out, of the first reports where a write failed, and of nothing where memory was refused
 abbrev pub CountsReportsOfRun : Rules → List ℕ → End → CountReports → Type 0
 CountsReportsOfRun rules r Complete c = c ≡ count_of (reported rules r)
 CountsReportsOfRun rules r (Refused number place reason) c = c ≡ count_of (reported rules r)
@@ -34,8 +34,8 @@ CountsReportsOfRun rules r ReadLimit c = c ≡ count_of (reported rules (whole r
 CountsReportsOfRun rules r WriteFault c = CountsFirst (reported rules r) c
 CountsReportsOfRun rules r Memory c = c ≡ no_reports
 
--- the count of what is reported of a cut stream; or, after a write fault, of the first reports of the pieces that were given,
--- of which n were wholly taken; and of nothing where memory was refused
+-- the count of what is reported of a cut stream; or, after a write fault, of the first reports of the pieces that were
+-- given, of which n were wholly taken; and of nothing where memory was refused
 abbrev pub CountsReportsOfPieces : Rules → List (List ℕ) → ℕ → End → CountReports → Type 0
 CountsReportsOfPieces rules pieces n Complete c = c ≡ count_of (reported rules (joined pieces))
 CountsReportsOfPieces rules pieces n (Refused number place reason) c = c ≡ count_of (reported rules (joined pieces))

@@ -28,7 +28,8 @@ ClassRows =
 -- a building with geometries of LoDs 0 and 4, and a road with one of LoD 5
 abbrev pub three_classes : Tree
 three_classes =
-    feature ((codes "b", city_object (codes "Building") (geometry (codes "0") ∷ geometry (codes "4") ∷ [])) ∷ (codes "r", city_object (codes "Road") (geometry (codes "5") ∷ [])) ∷ []) []
+    feature ((codes "b", city_object (codes "Building") (geometry (codes "0") ∷ geometry (codes "4") ∷ []))
+    ∷ (codes "r", city_object (codes "Road") (geometry (codes "5") ∷ [])) ∷ []) []
 
 -- its geometries are counted once each, those of LoD 5 as other ones
 abbrev pub LodRows : Type 0

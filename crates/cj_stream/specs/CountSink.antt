@@ -59,13 +59,15 @@ CountsRun rules r ReadLimit c = c ≡ counts_of (kept rules (whole r))
 CountsRun rules r WriteFault c = ⊥
 CountsRun rules r Memory c = CountsFront (kept rules r) [] c
 
--- the count of what is kept of a cut stream, whose ending is the answer; or, where memory was refused, of a prefix of the
--- pieces that were given, of which n were wholly taken
+-- the count of what is kept of a cut stream, whose ending is the answer; or, where memory was refused, of a prefix of
+-- the pieces that were given, of which n were wholly taken
 abbrev pub CountsPieces : Rules → List (List ℕ) → ℕ → End → CountSink → Type 0
-CountsPieces rules pieces n Complete c = (ending rules (joined pieces) ≡ Complete) × (c ≡ counts_of (kept rules (joined pieces)))
+CountsPieces rules pieces n Complete c = (ending rules (joined pieces) ≡ Complete)
+    × (c ≡ counts_of (kept rules (joined pieces)))
 CountsPieces rules pieces n (Refused number place reason) c =
     (ending rules (joined pieces) ≡ Refused number place reason) × (c ≡ counts_of (kept rules (joined pieces)))
 CountsPieces rules pieces n ReadFault c = ⊥
 CountsPieces rules pieces n ReadLimit c = ⊥
 CountsPieces rules pieces n WriteFault c = ⊥
-CountsPieces rules pieces n Memory c = CountsFront (kept rules (joined (take (n + 1) pieces))) (kept rules (whole (joined (take n pieces)))) c
+CountsPieces rules pieces n Memory c =
+    CountsFront (kept rules (joined (take (n + 1) pieces))) (kept rules (whole (joined (take n pieces)))) c

@@ -58,11 +58,13 @@ objects_of t = members_if (member_of (chars (codes "CityObjects")) t)
 
 -- the type of some city object is one of these
 abbrev pub has_type : List Bool → Tree → Bool
-has_type types t = list_any (λ m. there_is (λ (r : ObjectRow). get_or types r.number false) (type_row m.1)) (objects_of t)
+has_type types t = list_any (λ m. there_is (λ (r : ObjectRow). get_or types r.number false) (type_row m.1))
+    (objects_of t)
 
 -- the LoD of some geometry is one of these; an instance has that of its template, which the header has
 abbrev pub has_lod : List (List ℕ) → Tree → Tree → Bool
-has_lod lods header t = list_any (λ g. there_is (is_one_of lods) (lod (templates_of header) g)) (flat_map object_geometries (objects_of t))
+has_lod lods header t = list_any (λ g. there_is (is_one_of lods) (lod (templates_of header) g))
+    (flat_map object_geometries (objects_of t))
 
 -- ---- the box
 

@@ -7,8 +7,10 @@ use Rattle.cj_stream.specs.Verdict.{Verdict, Refuse, Blank, Unwanted, Valid}
 
 -- it is refused, or not asked for, and the sink stays; or it was put, or a fault of the sink is the end. No line of a
 -- tree is blank
-abbrev pub Hands : {S : Type 0} → (S → Item → S → Type 0) → (S → Item → S → Type 0) → Verdict → ℕ → Item → S → Result Bool End → S → Type 0
+abbrev pub Hands : {S : Type 0} → (S → Item → S → Type 0) → (S → Item → S → Type 0) → Verdict → ℕ → Item → S
+    → Result Bool End → S → Type 0
 Hands takes leaves (Refuse place reason) number i s r t = (r ≡ Err (Refused number place reason)) × (t ≡ s)
 Hands takes leaves Blank number i s r t = ⊥
 Hands takes leaves Unwanted number i s r t = (r ≡ Ok false) × (t ≡ s)
-Hands takes leaves Valid number i s r t = MatchResult r (λ put. (put ≡ true) × takes s i t) (λ e. (e ≡ WriteFault) × leaves s i t)
+Hands takes leaves Valid number i s r t =
+    MatchResult r (λ put. (put ≡ true) × takes s i t) (λ e. (e ≡ WriteFault) × leaves s i t)

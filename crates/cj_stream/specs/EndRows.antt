@@ -13,4 +13,5 @@ UnhinderedRow =
 -- a failed read and the last of the reads end a run alone
 abbrev pub UnreadRow : Type 0
 UnreadRow =
-    IsUnread Complete × IsUnread (Refused 2 26 Syntax) × IsUnread WriteFault × IsUnread Memory × ¬ IsUnread ReadFault × ¬ IsUnread ReadLimit
+    IsUnread Complete × IsUnread (Refused 2 26 Syntax) × IsUnread WriteFault × IsUnread Memory × ¬ IsUnread ReadFault
+    × ¬ IsUnread ReadLimit

@@ -3,9 +3,12 @@ use Rattle.std.specs.Prelude.{◌≡◌, ◌<◌, None}
 use Rattle.cj_stream.specs.declared.ending.End.{End}
 use Rattle.cj_stream.specs.declared.ending.End.TheVariants.{Complete, Refused, ReadFault, ReadLimit, WriteFault, Memory}
 use Rattle.cj_stream.specs.declared.ending.HeaderEnd.{HeaderEnd}
-use Rattle.cj_stream.specs.declared.ending.HeaderEnd.TheVariants.{Complete as HeaderComplete, Refused as HeaderRefused, WriteFault as HeaderWriteFault, Memory as HeaderMemory}
+use Rattle.cj_stream.specs.declared.ending.HeaderEnd.TheVariants.{Complete as HeaderComplete, Refused as HeaderRefused}
+use Rattle.cj_stream.specs.declared.ending.HeaderEnd.TheVariants.{WriteFault as HeaderWriteFault}
+use Rattle.cj_stream.specs.declared.ending.HeaderEnd.TheVariants.{Memory as HeaderMemory}
 use Rattle.cj_stream.specs.declared.ending.LineEnd.{LineEnd}
-use Rattle.cj_stream.specs.declared.ending.LineEnd.TheVariants.{Complete as LineComplete, Refused as LineRefused, WriteFault as LineWriteFault}
+use Rattle.cj_stream.specs.declared.ending.LineEnd.TheVariants.{Complete as LineComplete, Refused as LineRefused}
+use Rattle.cj_stream.specs.declared.ending.LineEnd.TheVariants.{WriteFault as LineWriteFault}
 use Rattle.cj_stream.specs.Engine.{EngineState, lines_of}
 
 -- what ends a reader of a header, and what ends a reader of lines

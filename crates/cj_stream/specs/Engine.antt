@@ -1,12 +1,14 @@
 -- Which bytes an engine stands for, and what it answers.
-use Rattle.std.specs.Prelude.{◌≡◌, ℕ, ◌+◌, ◌≤◌, List, [], ◌++◌, true, Option, Some, None, is_none, Result, Ok, Err, if◌then◌else◌, length, take, slice_get}
+use Rattle.std.specs.Prelude.{◌≡◌, ℕ, ◌+◌, ◌≤◌, List, [], ◌++◌, true, Option, Some, None, is_none, Result, Ok, Err}
+use Rattle.std.specs.Prelude.{if◌then◌else◌, length, take, slice_get}
 use Rattle.cj_budget.specs.Limits.{LimitPair}
 use Rattle.cj_budget.specs.declared.limits.Peaks.{Peaks}
 use Rattle.cj_stream.specs.declared.ending.End.{End}
 use Rattle.cj_stream.specs.declared.ending.End.TheVariants.{Complete, Refused, ReadFault, ReadLimit, WriteFault, Memory}
 use Rattle.cj_stream.specs.Lines.{Line, closed, lines, whole, first_content, begun_later}
 use Rattle.cj_stream.specs.Item.{Item}
-use Rattle.cj_stream.specs.Verdict.{Rules, refusal_in, judged, verdict, item_after, is_kept, good, ending, kept_first, features_first, reported_first}
+use Rattle.cj_stream.specs.Verdict.{Rules, refusal_in, judged, verdict, item_after, is_kept, good, ending, kept_first}
+use Rattle.cj_stream.specs.Verdict.{features_first, reported_first}
 use Rattle.cj_stream.specs.Bound.{IsBounded, IsBelow, of_first, tree_size}
 use Rattle.cj_stream.specs.Reading.{Reading, Reads, stored}
 use Rattle.cj_stream.specs.Scanning.{Scanning, Scanned, RefusesRoom}
@@ -81,15 +83,18 @@ given e p piece = if is_none e.ended then p ++ piece else p
 abbrev pub Faults : {S : Type 0} → (S → Item → S → Type 0) → Rules → List ℕ → ℕ → S → S → Option End → Type 0
 Faults leaves rules q n s t None = t ≡ s
 Faults leaves rules q n s t (Some WriteFault) =
-    (l : Line) × (slice_get (lines q) n ≡ Some l) × (is_kept (verdict rules (take n (lines q)) l.content) ≡ true) × leaves s (item_after rules (take n (lines q)) l) t
+    (l : Line) × (slice_get (lines q) n ≡ Some l) × (is_kept (verdict rules (take n (lines q)) l.content) ≡ true)
+    × leaves s (item_after rules (take n (lines q)) l) t
 Faults leaves rules q n s t (Some Complete) = t ≡ s
 Faults leaves rules q n s t (Some (Refused number place reason)) = t ≡ s
 Faults leaves rules q n s t (Some ReadFault) = t ≡ s
 Faults leaves rules q n s t (Some ReadLimit) = t ≡ s
 Faults leaves rules q n s t (Some Memory) = t ≡ s
 
--- the sink has taken the kept ones of the lines of q from one count to another, and after a write fault what that leaves
-pub record Delivers {S : Type 0} (takes leaves : S → Item → S → Type 0) (rules : Rules) (q : List ℕ) (from to : ℕ) (s t : S) (ended : Option End) : Type 0 where
+-- the sink has taken the kept ones of the lines of q from one count to another, and after a write fault what that
+-- leaves
+pub record Delivers {S : Type 0} (takes leaves : S → Item → S → Type 0) (rules : Rules) (q : List ℕ) (from to : ℕ)
+    (s t : S) (ended : Option End) : Type 0 where
   pub added : List Item
   pub middle : S
   pub kept : kept_first rules to q ≡ kept_first rules from q ++ added
@@ -97,7 +102,8 @@ pub record Delivers {S : Type 0} (takes leaves : S → Item → S → Type 0) (r
   pub fault : Faults leaves rules q to middle t ended
 
 -- nothing that could be judged of these bytes was the end: all whole lines are dealt with, and what is held are the
--- bytes of the first line and of the begun one, unless that is too long, and the tokens of the first line if it is whole
+-- bytes of the first line and of the begun one, unless that is too long, and the tokens of the first line if it is
+-- whole
 pub record Going (e : EngineState) (q : List ℕ) : Type 0 where
   pub good : refusal_in (rules_of e) (judged (limits_of e) q) ≡ None
   pub lines : lines_of e ≡ length (lines (whole q))
@@ -110,7 +116,8 @@ pub record Going (e : EngineState) (q : List ℕ) : Type 0 where
 -- what an end tells of the lines of q that can be judged, after n of them
 abbrev pub Tells : Rules → List ℕ → ℕ → End → Type 0
 Tells rules q n Complete = ⊥
-Tells rules q n (Refused number place reason) = (refusal_in rules (judged rules.limits q) ≡ Some (Refused number place reason)) × (number ≡ n + 1)
+Tells rules q n (Refused number place reason) =
+    (refusal_in rules (judged rules.limits q) ≡ Some (Refused number place reason)) × (number ≡ n + 1)
 Tells rules q n ReadFault = ⊥
 Tells rules q n ReadLimit = ⊥
 Tells rules q n WriteFault = Unit {0}
@@ -119,7 +126,8 @@ Tells rules q n Memory = Unit {0}
 -- what the end of a stream tells of it, after n of its lines: its ending, after all good lines
 abbrev pub Concludes : Rules → List ℕ → ℕ → End → Type 0
 Concludes rules p n Complete = (ending rules p ≡ Complete) × (n ≡ length (good rules p))
-Concludes rules p n (Refused number place reason) = (ending rules p ≡ Refused number place reason) × (n ≡ length (good rules p))
+Concludes rules p n (Refused number place reason) = (ending rules p ≡ Refused number place reason)
+    × (n ≡ length (good rules p))
 Concludes rules p n ReadFault = ⊥
 Concludes rules p n ReadLimit = ⊥
 Concludes rules p n WriteFault = Unit {0}

@@ -19,7 +19,8 @@ GivesAll rules text e written reports = Gives (going rules) text e written × (r
 abbrev pub BetweenRow : Type 0
 BetweenRow =
     let comma = codes "{\"type\":\"CityJSONFeature\",}" in
-    GivesAll wide_rules (small_header ++ 10 ∷ (comma ++ 10 ∷ small_feature)) Complete (small_header ++ 10 ∷ small_feature) (record { line = 2; place = 26; reason = Syntax } ∷ [])
+    GivesAll wide_rules (small_header ++ 10 ∷ (comma ++ 10 ∷ small_feature)) Complete
+    (small_header ++ 10 ∷ small_feature) (record { line = 2; place = 26; reason = Syntax } ∷ [])
 
 -- a first line that is bad is the end, and not reported
 abbrev pub FirstRow : Type 0
@@ -27,4 +28,5 @@ FirstRow = GivesAll wide_rules (small_feature ++ 10 ∷ small_header) (Refused 1
 
 -- a last line that is one byte too long is reported
 abbrev pub LastRow : Type 0
-LastRow = GivesAll tight_rules (small_header ++ 10 ∷ (small_header ++ 32 ∷ [])) Complete (small_header ++ 10 ∷ []) (record { line = 2; place = 116; reason = LineTooLong } ∷ [])
+LastRow = GivesAll tight_rules (small_header ++ 10 ∷ (small_header ++ 32 ∷ [])) Complete (small_header ++ 10 ∷ [])
+    (record { line = 2; place = 116; reason = LineTooLong } ∷ [])

@@ -21,14 +21,15 @@ IsUnhindered ReadLimit = Unit {0}
 IsUnhindered WriteFault = ⊥
 IsUnhindered Memory = ⊥
 
--- A stream, under rules of two limits, of what is asked and of what is told beside these, was given to an engine as far as a
--- prefix of it, until this end. Where no growth was refused and no write failed, the writer has got exactly the header and the
--- valid features that satisfy what is asked, byte for byte, in order, up to the first invalid line or, told to go on past a
--- valid header, all of them; and each invalid line that was met is given with its number, place and reason: by a report, or
--- by the end. A write fault is told only where a write to it has failed. Whatever came, no more was held than h + L bytes,
--- (h + L + D) / 2 + 1 tokens and D open containers, where h is the length of the first line, cut at L; and at a complete
--- end it is told how much.
-pub record Headline {N : Type 0} (notes : N → Report → N → Type 0) (rules : Rules) (text given : List ℕ) (end : End) (peaks : Peaks) (old new : Channel) (n m : N) : Type 0 where
+-- A stream, under rules of two limits, of what is asked and of what is told beside these, was given to an engine as far
+-- as a prefix of it, until this end. Where no growth was refused and no write failed, the writer has got exactly the
+-- header and the valid features that satisfy what is asked, byte for byte, in order, up to the first invalid line or,
+-- told to go on past a valid header, all of them; and each invalid line that was met is given with its number, place
+-- and reason: by a report, or by the end. A write fault is told only where a write to it has failed. Whatever came, no
+-- more was held than h + L bytes, (h + L + D) / 2 + 1 tokens and D open containers, where h is the length of the first
+-- line, cut at L; and at a complete end it is told how much.
+pub record Headline {N : Type 0} (notes : N → Report → N → Type 0) (rules : Rules) (text given : List ℕ) (end : End)
+    (peaks : Peaks) (old new : Channel) (n m : N) : Type 0 where
   pub writes : IsUnhindered end → Appends old.bytes new.bytes (output rules text)
   pub gives : IsUnhindered end → Took notes n (reported rules text) m
   pub ends : IsUnhindered end → end ≡ ending rules text

@@ -1,5 +1,6 @@
 -- How the ids of a query are kept, so that one is found among many.
-use Rattle.std.specs.Prelude.{◌≡◌, ℕ, Bool, true, not, cond, ◌&&◌, ◌||◌, nat_eq, nat_lt, ◌≤◌, List, [], ◌∷◌, length, map, take, drop, sum, All, Option, Some, slice_index, slice_range}
+use Rattle.std.specs.Prelude.{◌≡◌, ℕ, Bool, true, not, cond, ◌&&◌, ◌||◌, nat_eq, nat_lt, ◌≤◌, List, [], ◌∷◌, length}
+use Rattle.std.specs.Prelude.{map, take, drop, sum, All, Option, Some, slice_index, slice_range}
 use Rattle.std.specs.List.{list_any}
 use Rattle.std.specs.List.Sorted.{IsPermutation, IsSortedBy}
 use Rattle.std.specs.Ordering.{nat_cmp, ordering_then, is_lt}
@@ -29,11 +30,13 @@ pieces bytes (n ∷ ns) = take n bytes ∷ pieces (drop n bytes) ns
 
 -- whether the bytes of a text may be cut at a place: a character begins there, or they end
 abbrev pub may_cut : List ℕ → ℕ → Bool
-may_cut bytes place = cond (nat_lt place (length bytes)) (nat_lt (slice_index bytes place) 128 || nat_lt 191 (slice_index bytes place)) (nat_eq place (length bytes))
+may_cut bytes place = cond (nat_lt place (length bytes))
+    (nat_lt (slice_index bytes place) 128 || nat_lt 191 (slice_index bytes place)) (nat_eq place (length bytes))
 
 -- the piece of a text from one place to another; the empty one where it may not be cut there
 abbrev pub piece : List ℕ → ℕ → ℕ → List ℕ
-piece bytes start end = cond (not (nat_lt end start) && (may_cut bytes start && may_cut bytes end)) (slice_range bytes start end) []
+piece bytes start end = cond (not (nat_lt end start) && (may_cut bytes start && may_cut bytes end))
+    (slice_range bytes start end) []
 
 -- the key of an entry beside the bytes of all ids, of which it tells where its own begins and ends
 abbrev pub key_at : List ℕ → Entry → Key
@@ -50,7 +53,8 @@ keys_of ids = map (λ id. key_of (Some (chars id))) ids
 abbrev pub Ascend : List Key → Type 0
 Ascend keys = IsSortedBy (λ a b. is_lt (compare_keys a b)) keys
 
--- a part of some entries has all of them that have this number: what only these pass, passes in the part as in the whole
+-- a part of some entries has all of them that have this number: what only these pass, passes in the part as in the
+-- whole
 abbrev pub HasAllOf : ℕ → List Entry → List Entry → Type 0
 HasAllOf number part whole = (test : Entry → Bool) → ((entry : Entry) → test entry ≡ true → entry.number ≡ number)
     → list_any test part ≡ list_any test whole

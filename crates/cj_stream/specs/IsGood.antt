@@ -13,7 +13,8 @@ pub record IsFront (ls all : List Line) : Type 0 where
 
 -- the refusal of none of these lines is an end, each one after those before it
 abbrev pub NoneRefused : Rules → List Line → Type 0
-NoneRefused rules ls = (before : List Line) (l : Line) (after : List Line) → ls ≡ before ++ l ∷ after → refusal_of rules (length before + 1) (verdict rules before l.content) ≡ None
+NoneRefused rules ls = (before : List Line) (l : Line) (after : List Line) → ls ≡ before ++ l ∷ after
+    → refusal_of rules (length before + 1) (verdict rules before l.content) ≡ None
 
 -- the longest prefix of the lines of a stream of which no refusal is an end
 pub record AreGood (rules : Rules) (s : List ℕ) (ls : List Line) : Type 0 where

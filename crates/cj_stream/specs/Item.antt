@@ -28,7 +28,11 @@ abbrev pub header_item : Header → Bool → Item
 header_item h lf = record { line = record { content = header_line h; lf = lf }; tree = header_tree h; header = None }
 
 abbrev pub feature_item : Feature → Bool → Item
-feature_item f lf = record { line = record { content = feature_line f; lf = lf }; tree = feature_tree f; header = Some (feature_header f) }
+feature_item f lf = record {
+  line = record { content = feature_line f; lf = lf };
+  tree = feature_tree f;
+  header = Some (feature_header f);
+}
 
 -- the tree that a content spells under a depth limit, by its one judgement, or an empty array where it spells none
 abbrev pub judged_tree : {c : List ℕ} {depth : ℕ} → Judgement c depth → Tree
@@ -41,4 +45,5 @@ tree_of depth c = judged_tree (judgement c depth)
 
 -- the item that a line is under a depth limit, by its number and the tree of the header
 abbrev pub item_at : ℕ → ℕ → Tree → Line → Item
-item_at depth number header l = record { line = l; tree = tree_of depth l.content; header = if number == 1 then None else Some header }
+item_at depth number header l =
+    record { line = l; tree = tree_of depth l.content; header = if number == 1 then None else Some header }

@@ -24,15 +24,18 @@ use Rattle.cj_stream.specs.Verdict.{Rules, Refuse, Blank, is_blank_line, verdict
 abbrev pub Decides : Rules → ℕ → Tree → List ℕ → Content → Type 0
 Decides rules number header c (Faulty place reason) = verdict_at rules number header c ≡ Refuse place reason
 Decides rules number header c BlankLine = verdict_at rules number header c ≡ Blank
-Decides rules number header c Sound = verdict_at rules number header c ≡ tree_verdict rules number header (tree_of rules.limits.depth c)
+Decides rules number header c Sound =
+    verdict_at rules number header c ≡ tree_verdict rules number header (tree_of rules.limits.depth c)
 
 -- and it says so under any rules with this depth limit, whatever the header
 abbrev pub Says : ℕ → List ℕ → ℕ → Content → Type 0
-Says number c depth x = (rules : Rules) (header : Tree) → length c ≤ rules.limits.line → rules.limits.depth ≡ depth → Decides rules number header c x
+Says number c depth x = (rules : Rules) (header : Tree) → length c ≤ rules.limits.line → rules.limits.depth ≡ depth
+    → Decides rules number header c x
 
 -- a content that is told to be faulty is none that can be read: it is not blank, and no text that spells a tree
 abbrev pub Misreads : ℕ → List ℕ → ℕ → Content → Type 0
-Misreads number c depth (Faulty place reason) = (is_blank_line number c ≡ false) × (is_utf8 c && is_spelled (judgement c depth) ≡ false)
+Misreads number c depth (Faulty place reason) = (is_blank_line number c ≡ false)
+    × (is_utf8 c && is_spelled (judgement c depth) ≡ false)
 Misreads number c depth BlankLine = Unit {0}
 Misreads number c depth Sound = Unit {0}
 
@@ -41,7 +44,8 @@ pub record ShowsTree (c : List ℕ) (depth : ℕ) (tokens : List Token) : Type 0
   pub tokens_of : AreOf c tokens
   pub json : Json c (tree_of depth c)
 
--- the tokens of a later line have the marks that its rules ask for: of the city objects that are reached, where each has to be
+-- the tokens of a later line have the marks that its rules ask for: of the city objects that are reached, where each
+-- has to be
 abbrev pub HasMarks : List ℕ → LimitPair → OptionSet → List Token → Type 0
 HasMarks c limits options tokens = IsTrue options.tree → AreMarks (tree_of limits.depth c) c tokens
 

@@ -36,7 +36,8 @@ pieces_outcome o = record { taken = o.taken; peaks = o.peaks; ended = line_end o
 -- of it failed, the end is the ending of the whole stream, and it took what is kept of it after those lines. After a
 -- fault it took a prefix of that, of the pieces that were given, with all that is kept of the whole lines of those that
 -- were wholly taken, and then what the failed step leaves.
-pub record PutsLines {S : Type 0} (takes leaves : S → Item → S → Type 0) (rules : Rules) (p : List ℕ) (pieces : List (List ℕ)) (n : ℕ) (outcome : LinesOutcome) (s t : S) : Type 0 where
+pub record PutsLines {S : Type 0} (takes leaves : S → Item → S → Type 0) (rules : Rules) (p : List ℕ)
+    (pieces : List (List ℕ)) (n : ℕ) (outcome : LinesOutcome) (s t : S) : Type 0 where
   pub ends : outcome.ended ≢ WriteFault → line_end outcome.ended ≡ ending rules (p ++ joined pieces)
   pub took : outcome.ended ≢ WriteFault → Took takes s (kept_after rules n (p ++ joined pieces)) t
   pub fault : outcome.ended ≡ WriteFault
@@ -44,25 +45,30 @@ pub record PutsLines {S : Type 0} (takes leaves : S → Item → S → Type 0) (
       (kept_after rules n (whole (p ++ joined (take outcome.taken pieces)))) s t
 
 -- the same of reports: after a fault of the sink a prefix was noted of what is reported of the pieces that were given
-pub record NotesLines {N : Type 0} (notes : N → Report → N → Type 0) (rules : Rules) (p : List ℕ) (pieces : List (List ℕ)) (n : ℕ) (outcome : LinesOutcome) (a b : N) : Type 0 where
+pub record NotesLines {N : Type 0} (notes : N → Report → N → Type 0) (rules : Rules) (p : List ℕ)
+    (pieces : List (List ℕ)) (n : ℕ) (outcome : LinesOutcome) (a b : N) : Type 0 where
   pub noted : outcome.ended ≢ WriteFault → Took notes a (reported_after rules n (p ++ joined pieces)) b
-  pub fault : outcome.ended ≡ WriteFault → TookFront notes (λ others x y. y ≡ x) (reported_after rules n (p ++ joined (take (outcome.taken + 1) pieces))) [] a b
+  pub fault : outcome.ended ≡ WriteFault
+      → TookFront notes (λ others x y. y ≡ x)
+      (reported_after rules n (p ++ joined (take (outcome.taken + 1) pieces))) [] a b
 
--- a writer that was given these pieces: it has what is written of the stream after those lines, or, after a write fault,
--- a prefix of that of the pieces that were given, with all that is written of the whole lines of those that were wholly
--- taken
-pub record CopiesLines (rules : Rules) (p : List ℕ) (pieces : List (List ℕ)) (n : ℕ) (outcome : LinesOutcome) (old new : Option (List ℕ)) : Type 0 where
+-- a writer that was given these pieces: it has what is written of the stream after those lines, or, after a write
+-- fault, a prefix of that of the pieces that were given, with all that is written of the whole lines of those that were
+-- wholly taken
+pub record CopiesLines (rules : Rules) (p : List ℕ) (pieces : List (List ℕ)) (n : ℕ) (outcome : LinesOutcome)
+    (old new : Option (List ℕ)) : Type 0 where
   pub writes : outcome.ended ≢ WriteFault → Appends old new (output_after rules n (p ++ joined pieces))
   pub part : outcome.ended ≡ WriteFault
       → AppendsPart old new (output_after rules n (p ++ joined (take (outcome.taken + 1) pieces)))
   pub more : outcome.ended ≡ WriteFault
       → AppendsMore old new (output_after rules n (whole (p ++ joined (take outcome.taken pieces))))
 
--- The headline of a stream whose first n lines were dealt with: there is no case for want of memory. Where no write failed,
--- the writer has got exactly what the output has after those lines, what is reported of the others was noted, and the end is
--- the ending of the whole; a write fault is told only where a write has failed; and whatever came, what was held is within the
--- bound, and told at a complete end.
-pub record HeadlineOfLines {N : Type 0} (notes : N → Report → N → Type 0) (rules : Rules) (text given : List ℕ) (n : ℕ) (end : LineEnd) (peaks : Peaks) (old new : Channel) (a b : N) : Type 0 where
+-- The headline of a stream whose first n lines were dealt with: there is no case for want of memory. Where no write
+-- failed, the writer has got exactly what the output has after those lines, what is reported of the others was noted,
+-- and the end is the ending of the whole; a write fault is told only where a write has failed; and whatever came, what
+-- was held is within the bound, and told at a complete end.
+pub record HeadlineOfLines {N : Type 0} (notes : N → Report → N → Type 0) (rules : Rules) (text given : List ℕ) (n : ℕ)
+    (end : LineEnd) (peaks : Peaks) (old new : Channel) (a b : N) : Type 0 where
   pub writes : end ≢ WriteFault → Appends old.bytes new.bytes (output_after rules n text)
   pub gives : end ≢ WriteFault → Took notes a (reported_after rules n text) b
   pub ends : end ≢ WriteFault → line_end end ≡ ending rules text

@@ -1,10 +1,7 @@
 -- The lines of a stream.
 use Rattle.std.specs.Prelude.{◌≡◌, ℕ, List, [], ◌∷◌, ◌++◌, Bool, true, false, ◌==◌, if◌then◌else◌, map}
 use Rattle.std.specs.List.{flat_map}
-
--- the byte that ends a line
-abbrev pub newline : ℕ
-newline = 10
+pub use Rattle.cj_spans.specs.Signs.{newline}
 
 -- a line: its content, and whether LF ended it
 pub record Line : Type 0 where

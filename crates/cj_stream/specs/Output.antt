@@ -25,7 +25,11 @@ pub record Channel : Type 0 where
   pub flushed : Option (Result (Unit {0}) WriteFault)
 
 abbrev pub channel : {W : Type 0} → (W → Option (List ℕ)) → Output W → Channel
-channel contents o = record { bytes = contents (output_writer o); failures = output_failures o; flushed = flush_answer o }
+channel contents o = record {
+  bytes = contents (output_writer o);
+  failures = output_failures o;
+  flushed = flush_answer o;
+}
 
 -- what an item makes of an output: the bytes that its writer holds grow by the bytes of the item
 abbrev pub WritesItem : {W : Type 0} → (W → Option (List ℕ)) → Output W → Item → Output W → Type 0

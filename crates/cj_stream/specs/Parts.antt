@@ -1,4 +1,5 @@
--- A stream that is read in parts: a header with the first of its later lines, and the same header with what follows these.
+-- A stream that is read in parts: a header with the first of its later lines, and the same header with what follows
+-- these.
 use Rattle.std.specs.Prelude.{◌≡◌, ℕ, ◌+◌, ◌-◌, ◌<◌, ◌≤◌, List, [], ◌∷◌, ◌++◌, Option, Some, None, ℤ, max, get_or}
 use Rattle.std.specs.Int.{int_min, int_max}
 use Rattle.cj_budget.specs.declared.limits.Peaks.{Peaks}
@@ -63,7 +64,13 @@ both_outcomes first second = record {
 
 -- the same with counts that stop at the greatest u64
 abbrev pub capped_outcome : Outcome → Outcome
-capped_outcome o = record { lines = capped o.lines; kept = capped o.kept; refused = capped o.refused; peaks = o.peaks; ended = capped_end o.ended }
+capped_outcome o = record {
+  lines = capped o.lines;
+  kept = capped o.kept;
+  refused = capped o.refused;
+  peaks = o.peaks;
+  ended = capped_end o.ended;
+}
 
 -- ---- tallies
 
@@ -77,7 +84,9 @@ wider (Some p) (Some q) = Some (int_min p.0 q.0, int_max p.1 q.1)
 pub record JoinsTallies (first second both : Tally) : Type 0 where
   pub features : both.features ≡ capped (first.features + second.features)
   pub types : (n : ℕ) → n < 33 → get_or both.types n 0 ≡ capped (get_or first.types n 0 + get_or second.types n 0)
-  pub lods : (class : ℕ) → class ≤ 5 → get_or both.lods class 0 ≡ capped (get_or first.lods class 0 + get_or second.lods class 0)
-  pub ranges : (axis : ℕ) → axis < 3 → get_or both.ranges axis None ≡ wider (get_or first.ranges axis None) (get_or second.ranges axis None)
+  pub lods : (class : ℕ) → class ≤ 5
+      → get_or both.lods class 0 ≡ capped (get_or first.lods class 0 + get_or second.lods class 0)
+  pub ranges : (axis : ℕ) → axis < 3
+      → get_or both.ranges axis None ≡ wider (get_or first.ranges axis None) (get_or second.ranges axis None)
   pub scale : both.scale ≡ first.scale
   pub translate : both.translate ≡ first.translate

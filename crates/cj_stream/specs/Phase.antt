@@ -18,8 +18,8 @@ state_of (Lines l) = l
 abbrev no_list : {T : Type 0} → BoundedList T
 no_list = record { elements = []; limit = 0; peak = 0; reserved = false; refused = 0 }
 
--- what is seen of an engine: the state that it holds, but for the bytes that it has taken and its end, which are its own.
--- While one state becomes the other it holds none, which nobody sees
+-- what is seen of an engine: the state that it holds, but for the bytes that it has taken and its end, which are its
+-- own. While one state becomes the other it holds none, which nobody sees
 abbrev pub seen : Option Phase → ℕ → Option End → EngineState
 seen (Some phase) taken ended = record (state_of phase) { taken = taken; ended = ended }
 seen None taken ended = record {

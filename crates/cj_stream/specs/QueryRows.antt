@@ -1,6 +1,7 @@
 -- Small features, and which of them satisfy what is asked. Their trees are made of names and texts alone: where they
 -- stand in a line plays no part.
-use Rattle.std.specs.Prelude.{◌≡◌, ℕ, ◌*◌, ◌^◌, List, [], ◌∷◌, ◌++◌, Bool, true, false, Some, ℤ, pos, neg_ℤ, codes, slice_set}
+use Rattle.std.specs.Prelude.{◌≡◌, ℕ, ◌*◌, ◌^◌, List, [], ◌∷◌, ◌++◌, Bool, true, false, Some, ℤ, pos, neg_ℤ, codes}
+use Rattle.std.specs.Prelude.{slice_set}
 use Rattle.cj_spans.specs.declared.token.Kind.TheVariants.{Number, Text}
 use Rattle.cj_spans.specs.Tree.{Tree, Atom, Items, Members, scalar, array, object, no_items, item, no_members, member}
 use Rattle.cj_stream.specs.Criteria.{Criteria, Box, everything, holds}
@@ -45,7 +46,12 @@ three x y z = list (digits x ∷ digits y ∷ digits z ∷ [])
 -- a header under which a vertex stands where its numbers say, with these members more
 abbrev pub header_with : List (List ℕ × Tree) → Tree
 header_with more =
-    named ((codes "transform", named ((codes "scale", three (codes "1") (codes "1") (codes "1")) ∷ (codes "translate", three (codes "0") (codes "0") (codes "0")) ∷ [])) ∷ more)
+    named ((
+      codes "transform",
+      named
+          ((codes "scale", three (codes "1") (codes "1") (codes "1"))
+          ∷ (codes "translate", three (codes "0") (codes "0") (codes "0")) ∷ []),
+    ) ∷ more)
 
 abbrev pub plain_header : Tree
 plain_header = header_with []
@@ -56,7 +62,8 @@ geometry lod = named ((codes "type", string (codes "MultiSurface")) ∷ (codes "
 
 -- a header with one template, of this LoD, and an instance of it
 abbrev pub template_header : List ℕ → Tree
-template_header lod = header_with ((codes "geometry-templates", named ((codes "templates", list (geometry lod ∷ [])) ∷ [])) ∷ [])
+template_header lod = header_with
+    ((codes "geometry-templates", named ((codes "templates", list (geometry lod ∷ [])) ∷ [])) ∷ [])
 
 abbrev pub instance : Tree
 instance = named ((codes "type", string (codes "GeometryInstance")) ∷ (codes "template", digits (codes "0")) ∷ [])
@@ -68,13 +75,15 @@ city_object type geometries = named ((codes "type", string type) ∷ (codes "geo
 -- a feature with the id `b`, these city objects and these vertices
 abbrev pub feature : List (List ℕ × Tree) → List Tree → Tree
 feature objects vertices =
-    named ((codes "type", string (codes "CityJSONFeature")) ∷ (codes "id", string (codes "b")) ∷ (codes "CityObjects", named objects) ∷ (codes "vertices", list vertices) ∷ [])
+    named ((codes "type", string (codes "CityJSONFeature")) ∷ (codes "id", string (codes "b"))
+    ∷ (codes "CityObjects", named objects) ∷ (codes "vertices", list vertices) ∷ [])
 
 -- a building with geometries of the LoDs 1 and 1.2, and a road with one of LoD 2; x runs from 0 to 1, and y is 0
 abbrev pub two_objects : Tree
 two_objects =
     feature
-    ((codes "b", city_object (codes "Building") (geometry (codes "1") ∷ geometry (codes "1.2") ∷ [])) ∷ (codes "r", city_object (codes "Road") (geometry (codes "2") ∷ [])) ∷ [])
+    ((codes "b", city_object (codes "Building") (geometry (codes "1") ∷ geometry (codes "1.2") ∷ []))
+    ∷ (codes "r", city_object (codes "Road") (geometry (codes "2") ∷ [])) ∷ [])
     (three (codes "0") (codes "0") (codes "1") ∷ three (codes "1") (codes "0") (codes "0") ∷ [])
 
 -- a building with an instance
@@ -96,7 +105,8 @@ lods texts = record everything { lods = Some texts }
 abbrev pub boxed : Box → Criteria
 boxed box = record everything { box = Some box }
 
--- the feature's id is asked for, the first or a later one; the name of another city object is none, nor is a longer text
+-- the feature's id is asked for, the first or a later one; the name of another city object is none, nor is a longer
+-- text
 abbrev pub IdRows : Type 0
 IdRows =
     (holds (ids (codes "b" ∷ [])) plain_header two_objects ≡ true)
@@ -185,7 +195,27 @@ OutOfBoxRows =
 -- each part that is set has to hold
 abbrev pub EachPartRows : Type 0
 EachPartRows =
-    (holds (record { ids = Some (codes "b" ∷ []); types = Some roads; lods = Some (codes "1.2" ∷ []); box = everything.box }) plain_header two_objects ≡ true)
-    × (holds (record { ids = Some (codes "r" ∷ []); types = Some roads; lods = Some (codes "1.2" ∷ []); box = everything.box }) plain_header two_objects ≡ false)
-    × (holds (record { ids = Some (codes "b" ∷ []); types = Some bridges; lods = Some (codes "1.2" ∷ []); box = everything.box }) plain_header two_objects ≡ false)
-    × (holds (record { ids = Some (codes "b" ∷ []); types = Some roads; lods = Some (codes "3" ∷ []); box = everything.box }) plain_header two_objects ≡ false)
+    (holds (record {
+      ids = Some (codes "b" ∷ []);
+      types = Some roads;
+      lods = Some (codes "1.2" ∷ []);
+      box = everything.box;
+    }) plain_header two_objects ≡ true)
+    × (holds (record {
+      ids = Some (codes "r" ∷ []);
+      types = Some roads;
+      lods = Some (codes "1.2" ∷ []);
+      box = everything.box;
+    }) plain_header two_objects ≡ false)
+    × (holds (record {
+      ids = Some (codes "b" ∷ []);
+      types = Some bridges;
+      lods = Some (codes "1.2" ∷ []);
+      box = everything.box;
+    }) plain_header two_objects ≡ false)
+    × (holds (record {
+      ids = Some (codes "b" ∷ []);
+      types = Some roads;
+      lods = Some (codes "3" ∷ []);
+      box = everything.box;
+    }) plain_header two_objects ≡ false)

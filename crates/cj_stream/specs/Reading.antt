@@ -1,7 +1,9 @@
 -- What is held of a stream while its lines are read, and which bytes it stands for.
 use Rattle.std.specs.List.{filter}
 use Rattle.cj_spans.specs.Tree.{Tree}
-use Rattle.std.specs.Prelude.{◌≡◌, ◌⊎◌, ℕ, ◌+◌, ◌<◌, ◌≤◌, List, [], ◌∷◌, ◌++◌, Bool, true, false, ◌&&◌, ◌==◌, nat_lt, if◌then◌else◌, IsTrue, Some, None, Result, Ok, Err, length, map, max, MatchResult, slice_get}
+use Rattle.std.specs.Prelude.{◌≡◌, ◌⊎◌, ℕ, ◌+◌, ◌<◌, ◌≤◌, List, [], ◌∷◌, ◌++◌, Bool, true, false, ◌&&◌, ◌==◌, nat_lt}
+use Rattle.std.specs.Prelude.{if◌then◌else◌, IsTrue, Some, None, Result, Ok, Err, length, map, max, MatchResult}
+use Rattle.std.specs.Prelude.{slice_get}
 use Rattle.cj_budget.specs.Bounded.{BoundedList, IsWithin, Becomes}
 use Rattle.cj_budget.specs.Limits.{LimitPair, InLine}
 use Rattle.cj_stream.specs.declared.desk.Desk.{Desk}
@@ -13,7 +15,8 @@ use Rattle.cj_stream.specs.declared.ending.End.TheVariants.{Complete, Refused, R
 use Rattle.cj_stream.specs.Lines.{Line, lines, closed, begun, begun_later, ended_line, first_content, later_of}
 use Rattle.cj_stream.specs.Item.{Item, is_feature, tree_of, item_at}
 use Rattle.cj_stream.specs.Query.{rules_for}
-use Rattle.cj_stream.specs.Verdict.{Rules, Verdict, Refuse, Blank, Unwanted, Valid, tree_verdict, verdict_at, verdict, item_after, is_kept, goes_on, refusal_in, kept_from, reported_from, judged}
+use Rattle.cj_stream.specs.Verdict.{Rules, Verdict, Refuse, Blank, Unwanted, Valid, tree_verdict, verdict_at, verdict}
+use Rattle.cj_stream.specs.Verdict.{item_after, is_kept, goes_on, refusal_in, kept_from, reported_from, judged}
 use Rattle.cj_stream.specs.Bound.{greatest, held_length}
 use Rattle.cj_stream.specs.Sink.{Took}
 
@@ -76,7 +79,8 @@ pub record IsBegun (f : Reading) (c : List ℕ) : Type 0 where
 abbrev pub told_verdict : Reading → Verdict
 told_verdict f = if f.dropped then Refuse f.rules.limits.line LineTooLong else next_verdict f (begun_of f)
 
--- the line limit is in range, both lists have it, and no more features are kept, nor lines refused, than there are lines
+-- the line limit is in range, both lists have it, and no more features are kept, nor lines refused, than there are
+-- lines
 pub record IsSound (f : Reading) : Type 0 where
   pub range : InLine f.rules.limits.line
   pub header : f.header.limit ≡ f.rules.limits.line
@@ -107,7 +111,8 @@ StaysDropped old new = (old.dropped ≡ true) × (new ≡ old)
 
 -- why a part of a line is not stored: the line is too long by it, and that is the end
 abbrev pub Unstored : Reading → List ℕ → End → Type 0
-Unstored f part e = (e ≡ Refused (f.lines + 1) f.rules.limits.line LineTooLong) × (f.rules.limits.line < length (begun_of f) + length part) × (is_lenient f ≡ false) × (f.dropped ≡ false)
+Unstored f part e = (e ≡ Refused (f.lines + 1) f.rules.limits.line LineTooLong)
+    × (f.rules.limits.line < length (begun_of f) + length part) × (is_lenient f ≡ false) × (f.dropped ≡ false)
 
 -- the begun line has grown by these bytes
 pub record Stores (old : Reading) (part : List ℕ) (new : Reading) : Type 0 where
@@ -142,16 +147,20 @@ Refuses true place reason f r g = (r ≡ Ok tt) × Passes false true f g
 Refuses false place reason f r g = (r ≡ Err (Refused (f.lines + 1) place reason)) × (g ≡ f)
 
 -- what comes of a line with this verdict, where reading goes on after a refused one, or not
-abbrev pub Deals : {S : Type 0} → (S → Item → S → Type 0) → (S → Item → S → Type 0) → Bool → Verdict → Item → Reading → S → Result (Unit {0}) End → Reading → S → Type 0
+abbrev pub Deals : {S : Type 0} → (S → Item → S → Type 0) → (S → Item → S → Type 0) → Bool → Verdict → Item → Reading
+    → S → Result (Unit {0}) End → Reading → S → Type 0
 Deals takes leaves on (Refuse place reason) i f s r g t = Refuses on place reason f r g × (t ≡ s)
 Deals takes leaves on Blank i f s r g t = (r ≡ Ok tt) × Passes false false f g × (t ≡ s)
 Deals takes leaves on Unwanted i f s r g t = (r ≡ Ok tt) × Passes false false f g × (t ≡ s)
-Deals takes leaves on Valid i f s r g t = MatchResult r (λ _. Passes true false f g × takes s i t) (λ e. (e ≡ WriteFault) × IsLeft f g × leaves s i t)
+Deals takes leaves on Valid i f s r g t =
+    MatchResult r (λ _. Passes true false f g × takes s i t) (λ e. (e ≡ WriteFault) × IsLeft f g × leaves s i t)
 
 -- what comes of a line with this verdict, or no memory was granted for later lines, and nothing comes of it; so it is
 -- only with a valid first line that LF ended
-abbrev pub Settles : {S : Type 0} → (S → Item → S → Type 0) → (S → Item → S → Type 0) → Bool → Verdict → Item → Reading → S → Result (Unit {0}) End → Reading → S → Type 0
-Settles takes leaves on v i f s r g t = Deals takes leaves on v i f s r g t ⊎ ((r ≡ Err Memory) × IsLeft f g × (t ≡ s) × (f.lines ≡ 0) × (v ≡ Valid) × (i.line.lf ≡ true))
+abbrev pub Settles : {S : Type 0} → (S → Item → S → Type 0) → (S → Item → S → Type 0) → Bool → Verdict → Item → Reading
+    → S → Result (Unit {0}) End → Reading → S → Type 0
+Settles takes leaves on v i f s r g t = Deals takes leaves on v i f s r g t
+    ⊎ ((r ≡ Err Memory) × IsLeft f g × (t ≡ s) × (f.lines ≡ 0) × (v ≡ Valid) × (i.line.lf ≡ true))
 
 -- these bytes have been read, and no line of them was the end
 pub record Reads (f : Reading) (p : List ℕ) : Type 0 where
@@ -164,7 +173,8 @@ pub record Reads (f : Reading) (p : List ℕ) : Type 0 where
   pub kept : f.kept ≡ length (filter is_feature (kept_from f.rules [] (map ended_line (closed p))))
   pub refused : f.refused ≡ length (reported_from f.rules [] (map ended_line (closed p)))
   pub peak : f.header.peak ≡ length f.header.elements
-  pub line_peak : f.line.peak ≡ max (greatest (held_length f.rules.limits) (later_of (closed p))) (held_length f.rules.limits (begun_later p))
+  pub line_peak : f.line.peak ≡ max (greatest (held_length f.rules.limits) (later_of (closed p)))
+      (held_length f.rules.limits (begun_later p))
   pub header_within : IsWithin f.header
   pub line_within : IsWithin f.line
 
@@ -174,10 +184,12 @@ kept_closed rules s = kept_from rules [] (map ended_line (closed s))
 
 -- the sink has taken the kept lines of q that are not of p
 abbrev pub Puts : {S : Type 0} → (S → Item → S → Type 0) → Rules → List ℕ → List ℕ → S → S → Type 0
-Puts takes rules p q s t = (added : List Item) × (kept_closed rules q ≡ kept_closed rules p ++ added) × Took takes s added t
+Puts takes rules p q s t = (added : List Item) × (kept_closed rules q ≡ kept_closed rules p ++ added)
+    × Took takes s added t
 
 -- these bytes more have been read too, and the sink has what is kept of them
-pub record Advances {S : Type 0} (takes : S → Item → S → Type 0) (f : Reading) (s : S) (p more : List ℕ) (g : Reading) (t : S) : Type 0 where
+pub record Advances {S : Type 0} (takes : S → Item → S → Type 0) (f : Reading) (s : S) (p more : List ℕ) (g : Reading)
+    (t : S) : Type 0 where
   pub rules : g.rules ≡ f.rules
   pub reads : Reads g (p ++ more)
   pub puts : Puts takes f.rules p (p ++ more) s t
@@ -198,15 +210,19 @@ pub record LacksMemory (rules : Rules) (q : List ℕ) (n : ℕ) : Type 0 where
 abbrev pub HasCause : {S : Type 0} → (S → Item → S → Type 0) → Rules → List ℕ → List ℕ → ℕ → S → S → End → Type 0
 HasCause leaves rules p q n s t Complete = ⊥
 HasCause leaves rules p q n s t (Refused number place reason) =
-    (l : Line) × IsNext rules.limits p q l × (number ≡ n + 1) × (verdict rules (map ended_line (closed p)) l.content ≡ Refuse place reason) × (t ≡ s) × (goes_on rules number ≡ false)
+    (l : Line) × IsNext rules.limits p q l × (number ≡ n + 1)
+    × (verdict rules (map ended_line (closed p)) l.content ≡ Refuse place reason) × (t ≡ s)
+    × (goes_on rules number ≡ false)
 HasCause leaves rules p q n s t ReadFault = ⊥
 HasCause leaves rules p q n s t ReadLimit = ⊥
 HasCause leaves rules p q n s t WriteFault =
-    (l : Line) × IsNext rules.limits p q l × (is_kept (verdict rules (map ended_line (closed p)) l.content) ≡ true) × leaves s (item_after rules (map ended_line (closed p)) l) t
+    (l : Line) × IsNext rules.limits p q l × (is_kept (verdict rules (map ended_line (closed p)) l.content) ≡ true)
+    × leaves s (item_after rules (map ended_line (closed p)) l) t
 HasCause leaves rules p q n s t Memory = (t ≡ s) × LacksMemory rules q n
 
 -- reading stopped within these bytes
-pub record Stops {S : Type 0} (takes leaves : S → Item → S → Type 0) (f : Reading) (s : S) (p more : List ℕ) (e : End) (g : Reading) (t : S) : Type 0 where
+pub record Stops {S : Type 0} (takes leaves : S → Item → S → Type 0) (f : Reading) (s : S) (p more : List ℕ) (e : End)
+    (g : Reading) (t : S) : Type 0 where
   pub done : List ℕ
   pub left : List ℕ
   pub middle : S
@@ -223,10 +239,14 @@ pub record Stays (f g : Reading) : Type 0 where
   pub line_rises : f.line.peak ≤ g.line.peak
 
 -- what comes of the end of a stream, where this is the begun line: of a last line, and of a stream without one
-abbrev pub FinishesWith : {S : Type 0} → (S → Item → S → Type 0) → (S → Item → S → Type 0) → List ℕ → Reading → S → Result (Unit {0}) End → Reading → S → Type 0
-FinishesWith takes leaves [] f s r g t = (r ≡ (if f.lines == 0 then Err (Refused 1 0 NoHeader) else Ok tt)) × (g ≡ f) × (t ≡ s)
+abbrev pub FinishesWith : {S : Type 0} → (S → Item → S → Type 0) → (S → Item → S → Type 0) → List ℕ → Reading → S
+    → Result (Unit {0}) End → Reading → S → Type 0
+FinishesWith takes leaves [] f s r g t = (r ≡ (if f.lines == 0 then Err (Refused 1 0 NoHeader) else Ok tt))
+    × (g ≡ f) × (t ≡ s)
 FinishesWith takes leaves (b ∷ c) f s r g t =
-    Settles takes leaves (is_lenient f) (next_verdict f (b ∷ c)) (next_item f (record { content = b ∷ c; lf = false })) f s r g t
+    Settles takes leaves (is_lenient f) (next_verdict f (b ∷ c))
+    (next_item f (record { content = b ∷ c; lf = false })) f s r g t
 
-abbrev pub Finishes : {S : Type 0} → (S → Item → S → Type 0) → (S → Item → S → Type 0) → Reading → S → List ℕ → Result (Unit {0}) End → Reading → S → Type 0
+abbrev pub Finishes : {S : Type 0} → (S → Item → S → Type 0) → (S → Item → S → Type 0) → Reading → S → List ℕ
+    → Result (Unit {0}) End → Reading → S → Type 0
 Finishes takes leaves f s p r g t = FinishesWith takes leaves (begun p) f s r g t

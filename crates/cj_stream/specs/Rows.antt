@@ -1,6 +1,7 @@
 -- Worked rows, which compute.
 use Rattle.std.specs.Prelude.{◌≡◌, ℕ, List, [], ◌∷◌, ◌++◌, take, replicate, codes}
-use Rattle.cj_spans.specs.declared.reason.Reason.TheVariants.{NoHeader, LineTooLong, NotUtf8, Syntax, TooDeep, MissingMember, IdNotFound}
+use Rattle.cj_spans.specs.declared.reason.Reason.TheVariants.{NoHeader, LineTooLong, NotUtf8, Syntax, TooDeep}
+use Rattle.cj_spans.specs.declared.reason.Reason.TheVariants.{MissingMember, IdNotFound}
 use Rattle.cj_stream.specs.declared.ending.End.{End}
 use Rattle.cj_stream.specs.declared.ending.End.TheVariants.{Complete, Refused}
 use Rattle.cj_stream.specs.Criteria.{everything}
@@ -19,7 +20,8 @@ lost_feature = codes "{\"type\":\"CityJSONFeature\",\"id\":\"b\",\"CityObjects\"
 
 -- the small feature with a name of three bytes
 abbrev pub euro_feature : List ℕ
-euro_feature = codes "{\"type\":\"CityJSONFeature\",\"id\":\"" ++ 226 ∷ 130 ∷ 172 ∷ codes "\",\"CityObjects\":{\"" ++ 226 ∷ 130 ∷ 172 ∷ codes "\":{\"type\":\"Building\"}},\"vertices\":[]}"
+euro_feature = codes "{\"type\":\"CityJSONFeature\",\"id\":\"" ++ 226 ∷ 130 ∷ 172 ∷ codes "\",\"CityObjects\":{\""
+    ++ 226 ∷ 130 ∷ 172 ∷ codes "\":{\"type\":\"Building\"}},\"vertices\":[]}"
 
 -- limits that no row but one with many brackets comes to, and limits that the small header just meets
 abbrev pub wide_rules : Rules
@@ -61,8 +63,10 @@ abbrev pub LongRow : Type 0
 LongRow =
     Gives tight_rules (small_header ++ 32 ∷ []) (Refused 1 116 LineTooLong) []
     × Gives tight_rules (small_header ++ 32 ∷ 10 ∷ []) (Refused 1 116 LineTooLong) []
-    × Gives tight_rules (small_header ++ 10 ∷ (small_header ++ 32 ∷ [])) (Refused 2 116 LineTooLong) (small_header ++ 10 ∷ [])
-    × Gives tight_rules (small_header ++ 10 ∷ (small_header ++ 32 ∷ 10 ∷ [])) (Refused 2 116 LineTooLong) (small_header ++ 10 ∷ [])
+    × Gives tight_rules (small_header ++ 10 ∷ (small_header ++ 32 ∷ [])) (Refused 2 116 LineTooLong)
+    (small_header ++ 10 ∷ [])
+    × Gives tight_rules (small_header ++ 10 ∷ (small_header ++ 32 ∷ 10 ∷ [])) (Refused 2 116 LineTooLong)
+    (small_header ++ 10 ∷ [])
 
 -- a character of three bytes, and what is refused without its last one
 abbrev pub TextRow : Type 0

@@ -1,5 +1,6 @@
 -- What a whole run makes of the bytes that it reads.
-use Rattle.std.specs.Prelude.{◌≡◌, ◌⊎◌, ℕ, ◌*◌, ◌<◌, ◌≤◌, List, [], ◌++◌, Option, Some, None, true, length, take, slice_get}
+use Rattle.std.specs.Prelude.{◌≡◌, ◌⊎◌, ℕ, ◌*◌, ◌<◌, ◌≤◌, List, [], ◌++◌, Option, Some, None, true, length, take}
+use Rattle.std.specs.Prelude.{slice_get}
 use Rattle.std.specs.List.{filter}
 use Rattle.std.specs.Io.KnownBytes.{Appends, Keeps}
 use Rattle.cj_stream.specs.declared.ending.End.{End}
@@ -8,7 +9,8 @@ use Rattle.cj_stream.specs.declared.reporting.Report.{Report}
 use Rattle.cj_stream.specs.declared.running.Outcome.{Outcome}
 use Rattle.cj_stream.specs.Lines.{Line, lines, raw, whole}
 use Rattle.cj_stream.specs.Item.{Item, is_feature}
-use Rattle.cj_stream.specs.Verdict.{Rules, refusal_in, judged, good, is_kept, kept, ending, output, output_first, reported, verdict}
+use Rattle.cj_stream.specs.Verdict.{Rules, refusal_in, judged, good, is_kept, kept, ending, output, output_first}
+use Rattle.cj_stream.specs.Verdict.{reported, verdict}
 use Rattle.cj_stream.specs.Bound.{IsBelow, IsBounded, IsExact, exact_peaks, first_lines}
 use Rattle.cj_stream.specs.Engine.{EngineState, Counts, Delivers, lines_of, refused_of, peaks_of}
 use Rattle.cj_stream.specs.Reading.{LacksMemory}
@@ -23,29 +25,36 @@ pub record Run : Type 0 where
 
 -- how a run went that left its engine so, and came to this end
 abbrev pub outcome_of : EngineState → End → Outcome
-outcome_of e end = record { lines = lines_of e; kept = e.reading.kept; refused = refused_of e; peaks = peaks_of e; ended = end }
+outcome_of e end = record {
+  lines = lines_of e;
+  kept = e.reading.kept;
+  refused = refused_of e;
+  peaks = peaks_of e;
+  ended = end;
+}
 
 -- what the end of a run tells of the bytes r that it read, after n of their lines; `at_end` says that r is all there
 -- was. A line is refused before that only if LF ended it or it is too long.
 abbrev pub Ends : Rules → List ℕ → ℕ → Type 0 → End → Type 0
 Ends rules r n at_end Complete = (ending rules r ≡ Complete) × (n ≡ length (good rules r)) × at_end
 Ends rules r n at_end (Refused number place reason) =
-    (ending rules r ≡ Refused number place reason) × (n ≡ length (good rules r)) × (at_end ⊎ (refusal_in rules (judged rules.limits r) ≡ Some (Refused number place reason)))
+    (ending rules r ≡ Refused number place reason) × (n ≡ length (good rules r))
+    × (at_end ⊎ (refusal_in rules (judged rules.limits r) ≡ Some (Refused number place reason)))
 Ends rules r n at_end ReadFault = (refusal_in rules (lines (whole r)) ≡ None) × (n ≡ length (lines (whole r)))
 Ends rules r n at_end ReadLimit = (refusal_in rules (lines (whole r)) ≡ None) × (n ≡ length (lines (whole r)))
 Ends rules r n at_end WriteFault = Unit {0}
 Ends rules r n at_end Memory = Unit {0}
 
--- the account of a run: so many lines were dealt with, so many features kept and lines refused, no more was held, and it ended so;
--- what it held at most is exact where it is complete; `at_end` says that what it read is all there was
+-- the account of a run: so many lines were dealt with, so many features kept and lines refused, no more was held, and
+-- it ended so; what it held at most is exact where it is complete; `at_end` says that what it read is all there was
 pub record Account (run : Run) (at_end : Type 0) : Type 0 where
   pub bounded : IsBounded run.rules.limits run.read run.outcome.peaks
   pub exact : run.outcome.ended ≡ Complete → IsExact run.rules.limits run.read run.outcome.peaks
   pub counts : Counts run.rules run.read run.outcome.lines run.outcome.kept run.outcome.refused
   pub ends : Ends run.rules run.read run.outcome.lines at_end run.outcome.ended
 
--- the counts of a run are of all of a stream: of its good lines, of the features among them that are kept, and of the lines
--- among them that are reported
+-- the counts of a run are of all of a stream: of its good lines, of the features among them that are kept, and of the
+-- lines among them that are reported
 pub record CountsAll (rules : Rules) (s : List ℕ) (outcome : Outcome) : Type 0 where
   pub lines : outcome.lines ≡ length (good rules s)
   pub kept : outcome.kept ≡ length (filter is_feature (kept rules s))
@@ -54,7 +63,8 @@ pub record CountsAll (rules : Rules) (s : List ℕ) (outcome : Outcome) : Type 0
 -- what a sink took of the bytes r, by the end of the run: what is kept of them, or of their whole lines where a read
 -- failed or the reads ran out; or a prefix of that, and then what a failed step of the next one may leave, or nothing
 -- more where memory was refused
-abbrev pub Puts : {S : Type 0} → (S → Item → S → Type 0) → (S → Item → S → Type 0) → Rules → List ℕ → End → S → S → Type 0
+abbrev pub Puts : {S : Type 0} → (S → Item → S → Type 0) → (S → Item → S → Type 0) → Rules → List ℕ → End → S
+    → S → Type 0
 Puts takes leaves rules r Complete s t = Took takes s (kept rules r) t
 Puts takes leaves rules r (Refused number place reason) s t = Took takes s (kept rules r) t
 Puts takes leaves rules r ReadFault s t = Took takes s (kept rules (whole r)) t
@@ -62,8 +72,8 @@ Puts takes leaves rules r ReadLimit s t = Took takes s (kept rules (whole r)) t
 Puts takes leaves rules r WriteFault s t = TookFront takes (LeavesNext leaves) (kept rules r) [] s t
 Puts takes leaves rules r Memory s t = TookFront takes (λ others a b. b ≡ a) (kept rules r) [] s t
 
--- of so many reads n gave bytes, by the end: not the one that found the end of the input, nor the one that failed; and all,
--- where the reads ran out
+-- of so many reads n gave bytes, by the end: not the one that found the end of the input, nor the one that failed; and
+-- all, where the reads ran out
 abbrev pub Gave : ℕ → ℕ → End → Type 0
 Gave reads n Complete = n < reads
 Gave reads n (Refused number place reason) = n ≤ reads
@@ -121,7 +131,8 @@ pub record StopsInTime (run : Run) : Type 0 where
 
 -- a run from one state of a sink to another: its account, and what the sink took, by the lines that were dealt with and
 -- by the end
-pub record Runs {S : Type 0} (takes leaves : S → Item → S → Type 0) (run : Run) (at_end : Type 0) (old new : S) : Type 0 where
+pub record Runs {S : Type 0} (takes leaves : S → Item → S → Type 0) (run : Run) (at_end : Type 0) (old new : S) :
+    Type 0 where
   pub account : Account run at_end
   pub sink : Delivers takes leaves run.rules run.read 0 run.outcome.lines old new (Some run.outcome.ended)
   pub puts : Puts takes leaves run.rules run.read run.outcome.ended old new

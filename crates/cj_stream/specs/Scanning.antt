@@ -1,5 +1,6 @@
 -- What is held of the trees of a stream's lines.
-use Rattle.std.specs.Prelude.{◌≡◌, ◌⊎◌, ℕ, ◌+◌, ◌*◌, ◌/◌, ◌<◌, ◌≤◌, List, [], ◌∷◌, ◌++◌, Bool, true, IsTrue, length, max, min}
+use Rattle.std.specs.Prelude.{◌≡◌, ◌⊎◌, ℕ, ◌+◌, ◌*◌, ◌/◌, ◌<◌, ◌≤◌, List, [], ◌∷◌, ◌++◌, Bool, true, IsTrue, length}
+use Rattle.std.specs.Prelude.{max, min}
 use Rattle.std.specs.List.{list_all}
 use Rattle.std.specs.Str.{is_utf8}
 use Rattle.cj_budget.specs.Bounded.{BoundedList, IsWithin, Becomes}
@@ -78,11 +79,13 @@ pub record HeldUntil (limits : LimitPair) (p more : List ℕ) (n : ℕ) (s : Sca
 
 -- the begun line of f was dealt with: what is held of trees is that of one line more, whatever lines came before it
 abbrev pub ScansNext : Reading → Scanning → Scanning → Type 0
-ScansNext f old new = (cs : List (List ℕ)) (c : List ℕ) → length cs ≡ f.lines → IsBegun f c → Scanned f.rules.limits cs old → Scanned f.rules.limits (cs ++ c ∷ []) new
+ScansNext f old new = (cs : List (List ℕ)) (c : List ℕ) → length cs ≡ f.lines → IsBegun f c
+    → Scanned f.rules.limits cs old → Scanned f.rules.limits (cs ++ c ∷ []) new
 
 -- whatever came of that line, no more was held than the bytes allow
 abbrev pub HoldsFewNext : Reading → Scanning → Scanning → Type 0
-HoldsFewNext f old new = (cs : List (List ℕ)) (c : List ℕ) → length cs ≡ f.lines → IsBegun f c → Scanned f.rules.limits cs old → HoldsFew f.rules.limits (length (first_of cs c)) new
+HoldsFewNext f old new = (cs : List (List ℕ)) (c : List ℕ) → length cs ≡ f.lines → IsBegun f c
+    → Scanned f.rules.limits cs old → HoldsFew f.rules.limits (length (first_of cs c)) new
 
 -- peaks that do not fall
 pub record Rises (old new : Scanning) : Type 0 where
@@ -122,12 +125,15 @@ pub record IsOpen (before : ℕ) (s : Scanning) : Type 0 where
   pub later : 0 < before → IsTrue s.line.reserved
   pub opened : IsTrue s.opened.reserved
 
--- nothing has changed but that the tokens of a later line may have marks, and that there may be more room for such lines, or
--- that it was refused
+-- nothing has changed but that the tokens of a later line may have marks, and that there may be more room for such
+-- lines, or that it was refused
 pub record IsStill (old new : Scanning) : Type 0 where
   pub kept : IsTrue old.line.reserved → IsTrue new.line.reserved
   pub count : length new.line.elements ≡ length old.line.elements
-  pub same : new ≡ record old { line = record old.line { elements = new.line.elements; reserved = new.line.reserved; refused = new.line.refused } }
+  pub same : new ≡ record old {
+    line = record old.line
+        { elements = new.line.elements; reserved = new.line.reserved; refused = new.line.refused };
+  }
 
 -- room for later lines was refused: the count of that has risen, of their bytes or of their tokens
 abbrev pub RefusesRoom : Reading → Scanning → Reading → Scanning → Type 0

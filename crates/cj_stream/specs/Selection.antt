@@ -13,4 +13,5 @@ staying (x ∷ xs) = if x.1 then x.0 ∷ staying xs else staying xs
 
 -- no line goes that is kept after this header
 abbrev pub LeavesKept : Rules → Line → List (Line × Bool) → Type 0
-LeavesKept rules header xs = All (λ (x : Line × Bool). x.1 ≡ false → is_kept (verdict rules (header ∷ []) x.0.content) ≡ false) xs
+LeavesKept rules header xs = All
+    (λ (x : Line × Bool). x.1 ≡ false → is_kept (verdict rules (header ∷ []) x.0.content) ≡ false) xs

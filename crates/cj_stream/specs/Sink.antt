@@ -19,7 +19,8 @@ LeavesNext leaves [] old new = ⊥
 LeavesNext leaves (x ∷ xs) old new = leaves old x new
 
 -- a prefix of these made steps, with all of the first of them, and then this happened, by those that were to come
-pub record TookFront {S X : Type 0} (takes : S → X → S → Type 0) (then : List X → S → S → Type 0) (all first : List X) (old new : S) : Type 0 where
+pub record TookFront {S X : Type 0} (takes : S → X → S → Type 0) (then : List X → S → S → Type 0) (all first : List X)
+    (old new : S) : Type 0 where
   pub more : List X
   pub others : List X
   pub middle : S

@@ -1,5 +1,6 @@
 -- What is tallied of features: types of city objects, classes of LoDs, and numbers of vertices.
-use Rattle.std.specs.Prelude.{◌≡◌, ℕ, ◌-◌, ◌^◌, List, [], length, min, if◌then◌else◌, ◌&&◌, Option, Some, None, ℤ, ◌≤ℤ◌, map, option_and_then, nat_eq, nat_le, All, Contains}
+use Rattle.std.specs.Prelude.{◌≡◌, ℕ, ◌-◌, ◌^◌, List, [], length, min, if◌then◌else◌, ◌&&◌, Option, Some, None, ℤ, ◌≤ℤ◌}
+use Rattle.std.specs.Prelude.{map, option_and_then, nat_eq, nat_le, All, Contains}
 use Rattle.std.specs.List.{filter, flat_map}
 use Rattle.cj_spans.specs.Tree.{Tree}
 use Rattle.cj_spans.specs.Parts.{first_code_of}

@@ -1,5 +1,6 @@
 -- What contracts see of a tally, what an item makes of it, and which tally some items have.
-use Rattle.std.specs.Prelude.{◌≡◌, ℕ, ◌+◌, ◌<◌, ◌≤◌, List, [], ◌++◌, Option, Some, None, ℤ, get_or, map, option_map, codes, replicate, take}
+use Rattle.std.specs.Prelude.{◌≡◌, ℕ, ◌+◌, ◌<◌, ◌≤◌, List, [], ◌++◌, Option, Some, None, ℤ, get_or, map, option_map}
+use Rattle.std.specs.Prelude.{codes, replicate, take}
 use Rattle.std.specs.List.{filter, last_or}
 use Rattle.std.specs.Str.{chars}
 use Rattle.cj_spans.specs.Tree.{Tree}
@@ -26,7 +27,14 @@ pub record Tally : Type 0 where
 
 -- the tally of nothing
 abbrev pub no_tally : Tally
-no_tally = record { features = 0; types = replicate 33 0; lods = replicate 6 0; ranges = replicate 3 None; scale = None; translate = None }
+no_tally = record {
+  features = 0;
+  types = replicate 33 0;
+  lods = replicate 6 0;
+  ranges = replicate 3 None;
+  scale = None;
+  translate = None;
+}
 
 -- ---- one item
 
@@ -56,7 +64,8 @@ pub record TalliesFeature (a : Tally) (header t : Tree) (b : Tally) : Type 0 whe
   pub features : b.features ≡ one_more a.features
   pub types : RisesBy 33 a.types (type_numbers t) b.types
   pub lods : RisesBy 6 a.lods (lod_classes header t) b.lods
-  pub ranges : (axis : ℕ) → axis < 3 → Widens (get_or a.ranges axis None) (numbers_on axis t) (get_or b.ranges axis None)
+  pub ranges : (axis : ℕ) → axis < 3
+      → Widens (get_or a.ranges axis None) (numbers_on axis t) (get_or b.ranges axis None)
   pub scale : b.scale ≡ a.scale
   pub translate : b.translate ≡ a.translate
 
@@ -77,9 +86,11 @@ last_shown name is = last_or None (map (λ i. transform_values (chars name) i.tr
 -- the tally of some items; counts stop at the greatest u64
 pub record IsTallyOf (is : List Item) (t : Tally) : Type 0 where
   pub features : t.features ≡ how_many is_feature is
-  pub types : (n : ℕ) → n < 33 → get_or t.types n 0 ≡ capped (how_often n (over_features (λ header f. type_numbers f) is))
+  pub types : (n : ℕ) → n < 33 → get_or t.types n 0
+      ≡ capped (how_often n (over_features (λ header f. type_numbers f) is))
   pub lods : (class : ℕ) → class ≤ 5 → get_or t.lods class 0 ≡ capped (how_often class (over_features lod_classes is))
-  pub ranges : (axis : ℕ) → axis < 3 → IsRange (over_features (λ header. numbers_on axis) is) (get_or t.ranges axis None)
+  pub ranges : (axis : ℕ) → axis < 3
+      → IsRange (over_features (λ header. numbers_on axis) is) (get_or t.ranges axis None)
   pub scale : option_map (map Some) t.scale ≡ last_shown (codes "scale") is
   pub translate : option_map (map Some) t.translate ≡ last_shown (codes "translate") is
 
@@ -102,13 +113,15 @@ TalliesRun rules r ReadLimit t = IsTallyOf (kept rules (whole r)) t
 TalliesRun rules r WriteFault t = ⊥
 TalliesRun rules r Memory t = TalliesFront (kept rules r) [] t
 
--- the tally of what is kept of a cut stream, whose ending is the answer; or, where memory was refused, of a prefix of the
--- pieces that were given, of which n were wholly taken
+-- the tally of what is kept of a cut stream, whose ending is the answer; or, where memory was refused, of a prefix of
+-- the pieces that were given, of which n were wholly taken
 abbrev pub TalliesPieces : Rules → List (List ℕ) → ℕ → End → Tally → Type 0
-TalliesPieces rules pieces n Complete t = (ending rules (joined pieces) ≡ Complete) × IsTallyOf (kept rules (joined pieces)) t
+TalliesPieces rules pieces n Complete t = (ending rules (joined pieces) ≡ Complete)
+    × IsTallyOf (kept rules (joined pieces)) t
 TalliesPieces rules pieces n (Refused number place reason) t =
     (ending rules (joined pieces) ≡ Refused number place reason) × IsTallyOf (kept rules (joined pieces)) t
 TalliesPieces rules pieces n ReadFault t = ⊥
 TalliesPieces rules pieces n ReadLimit t = ⊥
 TalliesPieces rules pieces n WriteFault t = ⊥
-TalliesPieces rules pieces n Memory t = TalliesFront (kept rules (joined (take (n + 1) pieces))) (kept rules (whole (joined (take n pieces)))) t
+TalliesPieces rules pieces n Memory t =
+    TalliesFront (kept rules (joined (take (n + 1) pieces))) (kept rules (whole (joined (take n pieces)))) t

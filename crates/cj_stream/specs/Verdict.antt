@@ -1,5 +1,6 @@
 -- Which lines are refused, which are blank, and what is kept of a stream.
-use Rattle.std.specs.Prelude.{ℕ, ◌+◌, List, [], ◌∷◌, ◌++◌, Bool, true, false, not, ◌&&◌, ◌||◌, ◌==◌, nat_lt, if◌then◌else◌, Option, Some, None, length, take, map, unwrap_or, is_some}
+use Rattle.std.specs.Prelude.{ℕ, ◌+◌, List, [], ◌∷◌, ◌++◌, Bool, true, false, not, ◌&&◌, ◌||◌, ◌==◌, nat_lt}
+use Rattle.std.specs.Prelude.{if◌then◌else◌, Option, Some, None, length, take, map, unwrap_or, is_some}
 use Rattle.std.specs.List.{filter, flat_map, list_all}
 use Rattle.std.specs.Str.{is_utf8}
 use Rattle.std.specs.Str.Lossy.{utf8_valid_len}
@@ -7,6 +8,7 @@ use Rattle.cj_budget.specs.Limits.{LimitPair}
 use Rattle.cj_spans.specs.declared.reason.Reason.{Reason}
 use Rattle.cj_spans.specs.declared.reason.Reason.TheVariants.{NoHeader, LineTooLong, NotUtf8, Syntax, TooDeep}
 use Rattle.cj_spans.specs.declared.finding.Finding.{Finding}
+use Rattle.cj_spans.specs.Signs.{carriage_return, space, tab}
 use Rattle.cj_spans.specs.Finding.{least}
 use Rattle.cj_spans.specs.Tree.{Tree}
 use Rattle.cj_spans.specs.Judgement.{Judgement, spelled, broken, sunk}
@@ -37,20 +39,22 @@ pub data Verdict : Type 0 where
 
 -- space, tab and CR
 abbrev pub is_blank_byte : ℕ → Bool
-is_blank_byte b = b == 32 || (b == 9 || b == 13)
+is_blank_byte b = b == space || (b == tab || b == carriage_return)
 
 -- a later line of such bytes alone is blank
 abbrev pub is_blank_line : ℕ → List ℕ → Bool
 is_blank_line number content = nat_lt 1 number && list_all is_blank_byte content
 
--- the findings of the tree of a line: of a header on the first line, and of a feature beside the header on a later one, of
--- which each city object has to be reached where that is told
+-- the findings of the tree of a line: of a header on the first line, and of a feature beside the header on a later one,
+-- of which each city object has to be reached where that is told
 abbrev pub findings : Rules → ℕ → Tree → Tree → List Finding
-findings rules number header t = if number == 1 then header_findings (needs_box rules.criteria) t else feature_findings header t rules.options.tree
+findings rules number header t =
+    if number == 1 then header_findings (needs_box rules.criteria) t else feature_findings header t rules.options.tree
 
 -- a feature is asked for that satisfies what is asked, or, where such are left out, one that does not
 abbrev pub is_asked : Rules → Tree → Tree → Bool
-is_asked rules header t = if rules.options.exclude then not (holds rules.criteria header t) else holds rules.criteria header t
+is_asked rules header t = if rules.options.exclude then not (holds rules.criteria header t) else holds
+    rules.criteria header t
 
 -- a header is wanted, and a feature that is asked for
 abbrev pub is_wanted : Rules → ℕ → Tree → Tree → Bool
@@ -63,7 +67,8 @@ by_least wanted (Some f) = Refuse f.place f.reason
 
 -- the verdict on a line of this tree
 abbrev pub tree_verdict : Rules → ℕ → Tree → Tree → Verdict
-tree_verdict rules number header t = by_least (is_wanted rules number header t) (least None (findings rules number header t))
+tree_verdict rules number header t =
+    by_least (is_wanted rules number header t) (least None (findings rules number header t))
 
 -- the verdict on bytes of UTF-8, by what they are as a JSON text under a depth limit
 abbrev pub text_verdict : {c : List ℕ} {depth : ℕ} → Rules → ℕ → Tree → Judgement c depth → Verdict
@@ -104,7 +109,8 @@ goes_on rules number = nat_lt 1 number && rules.options.keep_going
 
 -- the end that a refusal makes, where reading does not go on after it
 abbrev pub refusal_of : Rules → ℕ → Verdict → Option End
-refusal_of rules number (Refuse place reason) = if goes_on rules number then None else Some (Refused number place reason)
+refusal_of rules number (Refuse place reason) =
+    if goes_on rules number then None else Some (Refused number place reason)
 refusal_of rules number Blank = None
 refusal_of rules number Unwanted = None
 refusal_of rules number Valid = None
@@ -134,7 +140,8 @@ refusal_from rules before (l ∷ ls) =
 abbrev pub good_from : Rules → List Line → List Line → List Line
 good_from rules before [] = []
 good_from rules before (l ∷ ls) =
-    if is_some (refusal_of rules (length before + 1) (verdict rules before l.content)) then [] else l ∷ good_from rules (before ++ l ∷ []) ls
+    if is_some (refusal_of rules (length before + 1) (verdict rules before l.content)) then []
+    else l ∷ good_from rules (before ++ l ∷ []) ls
 
 -- the items of the lines that are kept: the header, and each feature that satisfies what is asked
 abbrev pub kept_from : Rules → List Line → List Line → List Item
@@ -146,7 +153,8 @@ kept_from rules before (l ∷ ls) =
 -- what is reported of lines that come after others
 abbrev pub reported_from : Rules → List Line → List Line → List Report
 reported_from rules before [] = []
-reported_from rules before (l ∷ ls) = report_of (length before + 1) (verdict rules before l.content) ++ reported_from rules (before ++ l ∷ []) ls
+reported_from rules before (l ∷ ls) =
+    report_of (length before + 1) (verdict rules before l.content) ++ reported_from rules (before ++ l ∷ []) ls
 
 -- the first such refusal among the lines of a stream, or of a prefix of them
 abbrev pub refusal_in : Rules → List Line → Option End

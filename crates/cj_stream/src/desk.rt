@@ -7,7 +7,8 @@
 //! That the header's tokens and parts belong to the header (`KeepsHeader`) is required by the
 //! functions that use them. A view borrows the lists, so they change only after the call of the
 //! sink. A line's number is the number of lines before it plus one, so the header has number 1.
-ghost use Rattle.std.specs.Prelude.{◌≡◌, ◌+◌, ◌<◌, ◌≤◌, ◌^◌, ◌/◌, List, length, [], OnOk, OnErr, IfOk, IfErr, IsErrOf, MatchResult, IsTrue, None, Some};
+ghost use Rattle.std.specs.Prelude.{◌≡◌, ◌+◌, ◌<◌, ◌≤◌, ◌^◌, ◌/◌, List, length, [], OnOk, OnErr, IfOk, IfErr, IsErrOf};
+ghost use Rattle.std.specs.Prelude.{MatchResult, IsTrue, None, Some};
 ghost use Rattle.cj_budget.specs.Bounded.{IsNew, Becomes};
 ghost use Rattle.cj_budget.specs.Limits.{InLine};
 ghost use Rattle.cj_spans.specs.Marks.{AreUnmarked};
@@ -108,7 +109,8 @@ impl<'q> Desk<'q> {
             (rules_for self.now.limits self.now.query.now self.now.options) parts) }
         ensures valid { OnOk result (tree_verdict (rules_for self.now.limits self.now.query.now self.now.options) 1
             (tree_of self.now.limits.depth content.now) (tree_of self.now.limits.depth content.now) ≡ Valid) }
-        ensures refused { IfErr result (λ e. refusal_of (rules_for self.now.limits self.now.query.now self.now.options) 1
+        ensures refused { IfErr result (λ e. refusal_of
+            (rules_for self.now.limits self.now.query.now self.now.options) 1
             (tree_verdict (rules_for self.now.limits self.now.query.now self.now.options) 1
             (tree_of self.now.limits.depth content.now) (tree_of self.now.limits.depth content.now)) ≡ Some e) }
     {
@@ -139,7 +141,8 @@ impl<'q> Desk<'q> {
             (tree_of self.old.limits.depth content.now) (record { content = content.now; lf = lf })) sink.new) }
         ensures same { OnErr result (self.new ≡ self.old) }
         ensures rest { OnOk result (self.new ≡ record self.old { parts = self.new.parts }) }
-        ensures keeps { OnOk result (KeepsHeader content.now (rules_for self.old.limits self.old.query.now self.old.options)
+        ensures keeps { OnOk result (KeepsHeader content.now
+            (rules_for self.old.limits self.old.query.now self.old.options)
             self.old.header_tokens.elements self.new.parts) }
     {
         let doc = Doc::of(content, self.header_tokens.as_slice());
@@ -187,7 +190,8 @@ impl<'q> Desk<'q> {
             self.now.header_tokens.elements self.now.parts }
         ensures counts { S.failures sink.old ≤ S.failures sink.new }
         ensures cause { IsErrOf result End.WriteFault → HasRisen (S.failures sink.old) (S.failures sink.new) }
-        ensures hands { Hands S.takes S.leaves (tree_verdict (rules_for self.now.limits self.now.query.now self.now.options) (before + 1)
+        ensures hands { Hands S.takes S.leaves
+            (tree_verdict (rules_for self.now.limits self.now.query.now self.now.options) (before + 1)
             (tree_of self.now.limits.depth first.now) (tree_of self.now.limits.depth content.now)) (before + 1)
             (item_at self.now.limits.depth (before + 1) (tree_of self.now.limits.depth first.now)
             (record { content = content.now; lf = lf })) sink.old result sink.new }

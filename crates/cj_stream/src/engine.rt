@@ -7,7 +7,8 @@
 //!
 //! The engine has its own count of the bytes taken. If the rest of such a piece ends the stream,
 //! the engine has not taken the piece, although the reader of the header took its first bytes.
-ghost use Rattle.std.specs.Prelude.{◌≡◌, ◌≢◌, ◌+◌, ◌++◌, ◌^◌, ◌≤◌, ◌<◌, ℕ, List, [], length, OnOk, OnErr, IfOk, Some, None, Err};
+ghost use Rattle.std.specs.Prelude.{◌≡◌, ◌≢◌, ◌+◌, ◌++◌, ◌^◌, ◌≤◌, ◌<◌, ℕ, List, [], length, OnOk, OnErr, IfOk, Some};
+ghost use Rattle.std.specs.Prelude.{None, Err};
 ghost use Rattle.cj_stream.specs.Ending.{header_end, line_end, IsAccepted};
 ghost use Rattle.cj_stream.specs.Feeding.{Feeds, IsFinished};
 ghost use Rattle.cj_stream.specs.Phase.{state_of, IsUnderWay};
@@ -49,7 +50,8 @@ impl<'q> Phase<'q> {
         ensures going { OnOk result.1 (IsUnderWay result.0 ((state_of self.entry).taken + length piece.now)) }
         ensures feeds { Feeds S.takes S.leaves S.failures (state_of self.entry) piece.now result.1 (state_of result.0)
             sink.old sink.new }
-        ensures reports { (p : List ℕ) → StandsFor (state_of self.entry) p → Notes N.notes (rules_of (state_of self.entry))
+        ensures reports { (p : List ℕ) → StandsFor (state_of self.entry) p
+            → Notes N.notes (rules_of (state_of self.entry))
             (p ++ piece.now) (lines_of (state_of self.entry)) (lines_of (state_of result.0)) reports.old reports.new }
         ensures late { 0 < lines_of (state_of self.entry) → result.1 ≢ Err End.Memory }
         ensures none { result.1 ≡ Err End.Memory → lines_of (state_of result.0) ≡ 0 }
@@ -65,7 +67,8 @@ impl<'q> Phase<'q> {
         requires going { IsUnderWay self.old (state_of self.old).taken }
         ensures finished { IsFinished S.takes S.leaves S.failures (state_of self.old) result (state_of self.new)
             sink.old sink.new }
-        ensures reports { (p : List ℕ) → StandsFor (state_of self.old) p → Notes N.notes (rules_of (state_of self.old)) p
+        ensures reports { (p : List ℕ) → StandsFor (state_of self.old) p
+            → Notes N.notes (rules_of (state_of self.old)) p
             (lines_of (state_of self.old)) (lines_of (state_of self.new)) reports.old reports.new }
     {
         match self {
@@ -117,7 +120,8 @@ impl<'q> Engine<'q> {
         options: Options,
     ) -> Result<Engine<'q>, NoMemory>
         ensures empty { IfOk result
-            (λ e. StandsFor e [] × (rules_of e ≡ rules_for limits query.now options) × (e.ended ≡ None) × (e.taken ≡ 0)) }
+            (λ e. StandsFor e [] × (rules_of e ≡ rules_for limits query.now options) × (e.ended ≡ None)
+            × (e.taken ≡ 0)) }
     {
         Ok(Engine {
             phase: Some(Phase::Header(HeaderReader::open(alloc, limits, query, options)?)),
@@ -145,7 +149,8 @@ impl<'q> Engine<'q> {
         ensures late { 0 < lines_of self.old → result ≢ Err End.Memory }
 
         // What the result says of all bytes so far, and of the sinks.
-        ensures reports { (p : List ℕ) → StandsFor self.old p → self.old.ended ≡ None → Notes N.notes (rules_of self.old)
+        ensures reports { (p : List ℕ) → StandsFor self.old p → self.old.ended ≡ None
+            → Notes N.notes (rules_of self.old)
             (p ++ piece.now) (lines_of self.old) (lines_of self.new) reports.old reports.new }
         ensures feeds { Feeds S.takes S.leaves S.failures self.old piece.now result self.new sink.old sink.new }
     {
@@ -174,7 +179,8 @@ impl<'q> Engine<'q> {
         ensures again { (e : End) → self.old.ended ≡ Some e →
             (result ≡ e) × (self.new ≡ self.old) × (sink.new ≡ sink.old) × (reports.new ≡ reports.old) }
         ensures untaken { self.new.taken ≡ self.old.taken }
-        ensures reports { (p : List ℕ) → StandsFor self.old p → self.old.ended ≡ None → Notes N.notes (rules_of self.old) p
+        ensures reports { (p : List ℕ) → StandsFor self.old p → self.old.ended ≡ None
+            → Notes N.notes (rules_of self.old) p
             (lines_of self.old) (lines_of self.new) reports.old reports.new }
         ensures finished { IsFinished S.takes S.leaves S.failures self.old result self.new sink.old sink.new }
     {

@@ -23,7 +23,8 @@
 //! If `make_room` fails, or the sink fails after it, only this memory and the count of refused
 //! growths change (`IsLeft`, `IsStill`). Each list counts the growths that were refused. An end
 //! reports a lack of memory only if such a count has risen.
-ghost use Rattle.std.specs.Prelude.{◌≡◌, ◌+◌, ◌^◌, ◌<◌, ◌≤◌, ℕ, List, [], ◌∷◌, ◌++◌, ◌⊎◌, true, false, length, take, if◌then◌else◌, OnOk, OnErr, IfOk, IfErr, IsErrOf, IsTrue, Some};
+ghost use Rattle.std.specs.Prelude.{◌≡◌, ◌+◌, ◌^◌, ◌<◌, ◌≤◌, ℕ, List, [], ◌∷◌, ◌++◌, ◌⊎◌, true, false, length, take};
+ghost use Rattle.std.specs.Prelude.{if◌then◌else◌, OnOk, OnErr, IfOk, IfErr, IsErrOf, IsTrue, Some};
 ghost use Rattle.cj_budget.specs.Bounded.{IsWithin};
 ghost use Rattle.cj_spans.specs.Marks.{AreUnmarked};
 ghost use Rattle.cj_stream.specs.Bound.{contents};
@@ -34,9 +35,11 @@ ghost use Rattle.cj_stream.specs.Front.{IsFront};
 ghost use Rattle.cj_stream.specs.Item.{tree_of};
 ghost use Rattle.cj_stream.specs.Judging.{Says, Misreads, ShowsTree, IsHeaderOf};
 ghost use Rattle.cj_stream.specs.Query.{rules_for};
-ghost use Rattle.cj_stream.specs.Reading.{begun_of, begun_verdict, told_verdict, next_item, is_lenient, IsLeft, Stores, Unstored, Passes, Deals, Settles, Reads, Advances, Stops, Stays, Finishes};
+ghost use Rattle.cj_stream.specs.Reading.{begun_of, begun_verdict, told_verdict, next_item, is_lenient, IsLeft, Stores};
+ghost use Rattle.cj_stream.specs.Reading.{Unstored, Passes, Deals, Settles, Reads, Advances, Stops, Stays, Finishes};
 ghost use Rattle.cj_stream.specs.Reporting.{Notes};
-ghost use Rattle.cj_stream.specs.Scanning.{Scanning, IsReady, IsStill, RefusesRoom, Scanned, ScansNext, HoldsFew, HoldsFewNext, HeldUntil, JudgesLine, Forgets};
+ghost use Rattle.cj_stream.specs.Scanning.{Scanning, IsReady, IsStill, RefusesRoom, Scanned, ScansNext, HoldsFew};
+ghost use Rattle.cj_stream.specs.Scanning.{HoldsFewNext, HeldUntil, JudgesLine, Forgets};
 ghost use Rattle.cj_stream.specs.Sink.{HasRisen, Took};
 ghost use Rattle.cj_stream.specs.Verdict.{Valid, report_of};
 
@@ -78,7 +81,8 @@ impl<'q> Model for Framer<'q> {
 
     ghost view = { λ f. record { reading = reading f.store f.desk f.kept f.refused; scanning = scanning f.desk } };
 
-    ghost invariant = { λ f. IsFramed (record { reading = reading f.store f.desk f.kept f.refused; scanning = scanning f.desk })
+    ghost invariant = { λ f. IsFramed
+        (record { reading = reading f.store f.desk f.kept f.refused; scanning = scanning f.desk })
         × KeepsFirst (reading f.store f.desk f.kept f.refused) (scanning f.desk) f.desk.parts };
 }
 
@@ -139,7 +143,8 @@ impl<'q> Framer<'q> {
     /// Returns the end at the begun line if it is too long.
     fn too_long(&self) -> End
         requires room { self.now.reading.lines < 2 ^ 62 }
-        ensures { result ≡ End.Refused (self.now.reading.lines + 1) self.now.reading.rules.limits.line Reason.LineTooLong }
+        ensures { result ≡ End.Refused (self.now.reading.lines + 1) self.now.reading.rules.limits.line
+            Reason.LineTooLong }
     {
         End::Refused {
             line: self.store.lines + 1,
@@ -489,10 +494,12 @@ impl<'q> Framer<'q> {
             self.new.reading sink.new) }
         ensures ready { OnOk result (IsReady self.new.reading self.new.scanning) }
         ensures scanned { OnOk result
-            ((p : List ℕ) → Reads self.old.reading p → Scanned self.old.reading.rules.limits (closed p) self.old.scanning
+            ((p : List ℕ) → Reads self.old.reading p
+            → Scanned self.old.reading.rules.limits (closed p) self.old.scanning
             → Scanned self.old.reading.rules.limits (closed (p ++ (part.now ++ newline ∷ []))) self.new.scanning) }
         ensures held { OnErr result
-            ((p more : List ℕ) → Reads self.old.reading p → Scanned self.old.reading.rules.limits (closed p) self.old.scanning
+            ((p more : List ℕ) → Reads self.old.reading p
+            → Scanned self.old.reading.rules.limits (closed p) self.old.scanning
             → HoldsFew self.old.reading.rules.limits (length (first_content (p ++ (part.now ++ newline ∷ more))))
             self.new.scanning) }
         ensures undealt { OnErr result (self.new.reading.lines ≡ self.old.reading.lines) }
@@ -523,10 +530,12 @@ impl<'q> Framer<'q> {
             Stops S.takes S.leaves self.old.reading sink.old p (part.now ++ newline ∷ more) e
             self.new.reading sink.new) }
         ensures scanned { OnOk result
-            ((p : List ℕ) → Reads self.old.reading p → Scanned self.old.reading.rules.limits (closed p) self.old.scanning
+            ((p : List ℕ) → Reads self.old.reading p
+            → Scanned self.old.reading.rules.limits (closed p) self.old.scanning
             → Scanned self.old.reading.rules.limits (closed (p ++ (part.now ++ newline ∷ []))) self.new.scanning) }
         ensures held { OnErr result
-            ((p more : List ℕ) → Reads self.old.reading p → Scanned self.old.reading.rules.limits (closed p) self.old.scanning
+            ((p more : List ℕ) → Reads self.old.reading p
+            → Scanned self.old.reading.rules.limits (closed p) self.old.scanning
             → HoldsFew self.old.reading.rules.limits (length (first_content (p ++ (part.now ++ newline ∷ more))))
             self.new.scanning) }
         ensures undealt { OnErr result (self.new.reading.lines ≡ self.old.reading.lines) }
@@ -560,10 +569,12 @@ impl<'q> Framer<'q> {
             (p : List ℕ) → Reads self.old.reading p → Scanned self.old.reading.rules.limits (closed p) self.old.scanning
             → Scanned self.old.reading.rules.limits (closed (p ++ take t.used piece.now)) self.new.scanning) }
         ensures held { OnErr result
-            ((p : List ℕ) → Reads self.old.reading p → Scanned self.old.reading.rules.limits (closed p) self.old.scanning
+            ((p : List ℕ) → Reads self.old.reading p
+            → Scanned self.old.reading.rules.limits (closed p) self.old.scanning
             → HoldsFew self.old.reading.rules.limits (length (first_content (p ++ piece.now))) self.new.scanning) }
         ensures least { OnErr result
-            ((p : List ℕ) → Reads self.old.reading p → Scanned self.old.reading.rules.limits (closed p) self.old.scanning
+            ((p : List ℕ) → Reads self.old.reading p
+            → Scanned self.old.reading.rules.limits (closed p) self.old.scanning
             → HeldUntil self.old.reading.rules.limits p piece.now self.new.reading.lines self.new.scanning) }
     {
         let Some(at) = memchr(b'\n', piece) else {
@@ -598,15 +609,19 @@ impl<'q> Framer<'q> {
         ensures err { IfErr result (λ e. (p : List ℕ) → Reads self.old.reading p →
             Stops S.takes S.leaves self.old.reading sink.old p piece.now e self.new.reading sink.new) }
         ensures scanned { OnOk result
-            ((p : List ℕ) → Reads self.old.reading p → Scanned self.old.reading.rules.limits (closed p) self.old.scanning
+            ((p : List ℕ) → Reads self.old.reading p
+            → Scanned self.old.reading.rules.limits (closed p) self.old.scanning
             → Scanned self.old.reading.rules.limits (closed (p ++ piece.now)) self.new.scanning) }
         ensures held { OnErr result
-            ((p : List ℕ) → Reads self.old.reading p → Scanned self.old.reading.rules.limits (closed p) self.old.scanning
+            ((p : List ℕ) → Reads self.old.reading p
+            → Scanned self.old.reading.rules.limits (closed p) self.old.scanning
             → HoldsFew self.old.reading.rules.limits (length (first_content (p ++ piece.now))) self.new.scanning) }
         ensures least { OnErr result
-            ((p : List ℕ) → Reads self.old.reading p → Scanned self.old.reading.rules.limits (closed p) self.old.scanning
+            ((p : List ℕ) → Reads self.old.reading p
+            → Scanned self.old.reading.rules.limits (closed p) self.old.scanning
             → HeldUntil self.old.reading.rules.limits p piece.now self.new.reading.lines self.new.scanning) }
-        ensures reports { (p : List ℕ) → Reads self.old.reading p → Notes N.notes self.old.reading.rules (p ++ piece.now)
+        ensures reports { (p : List ℕ) → Reads self.old.reading p
+            → Notes N.notes self.old.reading.rules (p ++ piece.now)
             self.old.reading.lines self.new.reading.lines reports.old reports.new }
     {
         let mut rest = piece;
@@ -629,7 +644,8 @@ impl<'q> Framer<'q> {
         ensures finishes { (p : List ℕ) → Reads self.old.reading p →
             Finishes S.takes S.leaves self.old.reading sink.old p result self.new.reading sink.new }
         ensures scanned { OnOk result
-            ((p : List ℕ) → Reads self.old.reading p → Scanned self.old.reading.rules.limits (closed p) self.old.scanning
+            ((p : List ℕ) → Reads self.old.reading p
+            → Scanned self.old.reading.rules.limits (closed p) self.old.scanning
             → Scanned self.old.reading.rules.limits (contents p) self.new.scanning) }
         ensures held { (p : List ℕ) → Reads self.old.reading p
             → Scanned self.old.reading.rules.limits (closed p) self.old.scanning
@@ -661,7 +677,8 @@ impl<'q> Framer<'q> {
         ensures finishes { (p : List ℕ) → Reads self.old.reading p →
             Finishes S.takes S.leaves self.old.reading sink.old p result self.new.reading sink.new }
         ensures scanned { OnOk result
-            ((p : List ℕ) → Reads self.old.reading p → Scanned self.old.reading.rules.limits (closed p) self.old.scanning
+            ((p : List ℕ) → Reads self.old.reading p
+            → Scanned self.old.reading.rules.limits (closed p) self.old.scanning
             → Scanned self.old.reading.rules.limits (contents p) self.new.scanning) }
         ensures held { (p : List ℕ) → Reads self.old.reading p
             → Scanned self.old.reading.rules.limits (closed p) self.old.scanning
@@ -699,7 +716,8 @@ impl<'q> Framer<'q> {
     /// Returns what is held now.
     pub fn held(&self) -> Peaks
         ensures bytes { result.bytes ≡ length self.now.reading.header.elements + length self.now.reading.line.elements }
-        ensures tokens { result.tokens ≡ length self.now.scanning.header.elements + length self.now.scanning.line.elements }
+        ensures tokens { result.tokens ≡ length self.now.scanning.header.elements + length
+            self.now.scanning.line.elements }
         ensures depth { result.depth ≡ length self.now.scanning.opened.elements }
     {
         Peaks {
@@ -726,7 +744,8 @@ impl<'q> Framer<'q> {
 /// Reserves memory for the first line, and for as many open containers as the depth limit allows. A
 /// refusal is counted.
 fn reserve_first(store: &mut Store, desk: &mut Desk) -> Result<(), NoMemory>
-    ensures bytes { OnOk result (store.new ≡ record store.old { header = record store.old.header { reserved = true } }) }
+    ensures bytes { OnOk result (store.new
+        ≡ record store.old { header = record store.old.header { reserved = true } }) }
     ensures trees { OnOk result (desk.new ≡ record desk.old {
       header_tokens = record desk.old.header_tokens { reserved = true };
       opened = record desk.old.opened { reserved = true };

@@ -7,7 +7,8 @@
 //!
 //! One record (`EngineState`) describes both states, and their ends count as ends of a stream. So
 //! their contracts use the same words as those of the engine.
-ghost use Rattle.std.specs.Prelude.{◌≡◌, ◌+◌, ◌^◌, ◌≤◌, ◌↔◌, [], length, take, OnOk, OnErr, IfOk, IsTrue, MatchResult, Some, None, Ok, Err};
+ghost use Rattle.std.specs.Prelude.{◌≡◌, ◌+◌, ◌^◌, ◌≤◌, ◌↔◌, [], length, take, OnOk, OnErr, IfOk, IsTrue, MatchResult};
+ghost use Rattle.std.specs.Prelude.{Some, None, Ok, Err};
 ghost use Rattle.cj_stream.specs.Ending.{header_end, IsAccepted};
 ghost use Rattle.cj_stream.specs.Feeding.{Feeds, IsFinished};
 ghost use Rattle.cj_stream.specs.Front.{IsFront};
@@ -54,7 +55,13 @@ impl<'q> Model for HeaderReader<'q> {
 
     ghost Value = { EngineState };
 
-    ghost view = { λ e. record { reading = e.framer.reading; scanning = e.framer.scanning; taken = e.taken; ended = option_map header_end e.ended } };
+    ghost view = { λ e. record {
+      reading = e.framer.reading;
+      scanning = e.framer.scanning;
+      taken = e.taken;
+      ended
+          = option_map header_end e.ended;
+    } };
 
     ghost invariant = { λ e. (e.framer.reading.lines ≤ 1) × (e.ended ≡ None → e.framer.reading.lines ≤ e.taken)
         × (e.taken ≤ 2 ^ 60) × (e.ended ≡ None → IsReady e.framer.reading e.framer.scanning)
@@ -78,7 +85,8 @@ impl<'q> HeaderReader<'q> {
         options: Options,
     ) -> Result<HeaderReader<'q>, NoMemory>
         ensures empty { IfOk result
-            (λ e. StandsFor e [] × (rules_of e ≡ rules_for limits query.now options) × (e.ended ≡ None) × (e.taken ≡ 0)) }
+            (λ e. StandsFor e [] × (rules_of e ≡ rules_for limits query.now options) × (e.ended ≡ None)
+            × (e.taken ≡ 0)) }
         ensures reserved { IfOk result (λ e. IsReady e.reading e.scanning) }
     {
         Ok(HeaderReader {

@@ -10,7 +10,8 @@
 //! let outcome = run(alloc, &mut reader, &mut tally, &mut NoReports, limits, &query, usual);
 //! laws::puts_are_tallied();                     // so the tally is that of what is kept
 //! ```
-ghost use Rattle.std.specs.Prelude.{◌≡◌, ◌≢◌, ◌+◌, ◌++◌, ℕ, List, [], Bool, Option, Some, None, true, false, drop, length, map, take};
+ghost use Rattle.std.specs.Prelude.{◌≡◌, ◌≢◌, ◌+◌, ◌++◌, ℕ, List, [], Bool, Option, Some, None, true, false, drop};
+ghost use Rattle.std.specs.Prelude.{length, map, take};
 ghost use Rattle.std.specs.List.{filter, flat_map};
 ghost use Rattle.std.specs.Io.KnownBytes.{IsAtEnd};
 ghost use Rattle.cj_budget.specs.Limits.{LimitPair};
@@ -26,13 +27,15 @@ ghost use Rattle.cj_stream.specs.IsLines.{IsLines, IsWhole};
 ghost use Rattle.cj_stream.specs.Item.{is_feature};
 ghost use Rattle.cj_stream.specs.Lines.{Line, NoLf, ended_line, later_of, lines, whole};
 ghost use Rattle.cj_stream.specs.Output.{output_writer, output_failures, channel, WritesItem, WritesPart};
-ghost use Rattle.cj_stream.specs.Parts.{headed, IsCut, AreComplete, moved_end, moved_report, greater_peaks, JoinsTallies};
+ghost use Rattle.cj_stream.specs.Parts.{headed, IsCut, AreComplete, moved_end, moved_report, greater_peaks};
+ghost use Rattle.cj_stream.specs.Parts.{JoinsTallies};
 ghost use Rattle.cj_stream.specs.Reporting.{Collects, CountsReport, Notes, NotesRun, NotesPieces};
 ghost use Rattle.cj_stream.specs.Run.{Account, Puts, Run, Runs, RunsNoting, Writes, WritesLines};
 ghost use Rattle.cj_stream.specs.Selection.{LeavesKept, all_lines, staying};
 ghost use Rattle.cj_stream.specs.Sink.{HasRisen};
 ghost use Rattle.cj_stream.specs.TallySink.{Tally, no_tally, Tallies, IsTallyOf, TalliesRun, TalliesPieces};
-ghost use Rattle.cj_stream.specs.Verdict.{Rules, refusal_in, good, kept, kept_first, reported, reported_first, output, ending};
+ghost use Rattle.cj_stream.specs.Verdict.{Rules, refusal_in, good, kept, kept_first, reported, reported_first, output};
+ghost use Rattle.cj_stream.specs.Verdict.{ending};
 ghost use Rattle.cj_stream.specs.declared.ending.End.{End};
 ghost use Rattle.cj_stream.specs.declared.ending.LineEnd.{LineEnd};
 ghost use Rattle.cj_stream.specs.declared.output.Output.{Output};
@@ -67,7 +70,8 @@ pub fn good_lines_are_the_longest(stream: &[u8])
 /// If reading goes on after invalid lines, all lines are good, unless the first one is invalid.
 /// Then none is good.
 pub fn good_lines_are_all_or_none()
-    ensures all { (rules : Rules) (r : List ℕ) → rules.options.keep_going ≡ true → refusal_in rules (take 1 (lines r)) ≡ None
+    ensures all { (rules : Rules) (r : List ℕ) → rules.options.keep_going ≡ true
+        → refusal_in rules (take 1 (lines r)) ≡ None
         → good rules r ≡ lines r }
     ensures none { (rules : Rules) (r : List ℕ) (e : End) → refusal_in rules (take 1 (lines r)) ≡ Some e
         → good rules r ≡ [] }

@@ -35,7 +35,8 @@
 //! - `line_pieces`: both for what comes after a header ([`put_lines`], [`headline_of_lines`]).
 //! - `sink`: the trait of a sink ([`LineSink`]), a sink that ignores and one that counts.
 //! - `output`: the sink that writes ([`Output`]).
-//! - `tally`: the sink that tallies ([`TallySink`]).
+//! - `tally`: the sink that tallies ([`TallySink`]), and what one feature adds ([`count_lods`],
+//!   [`widen_all`]).
 //! - `query`: which features are selected ([`Query`]).
 //! - `options`: how a stream is read and judged ([`Options`]).
 //! - `reporting`: the trait of a sink of reports ([`ReportSink`]), one that counts and one that
@@ -90,4 +91,4 @@ pub use query::{Query, QueryFault};
 pub use reporting::{CountReports, NoReports, Report, ReportSink};
 pub use running::{Outcome, run, run_within};
 pub use sink::{CountSink, IgnoreSink, LineSink};
-pub use tally::TallySink;
+pub use tally::{TallySink, count_lods, widen_all};

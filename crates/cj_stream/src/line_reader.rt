@@ -3,7 +3,8 @@
 //! [`crate::HeaderReader::into_lines`] makes it from an accepted header. The lists that take a line
 //! have their memory reserved, and this is part of the invariant. So no call allocates, and no end
 //! is a lack of memory.
-ghost use Rattle.std.specs.Prelude.{◌≡◌, ◌+◌, ◌++◌, ◌^◌, ◌≤◌, ◌<◌, ℕ, List, length, OnOk, OnErr, MatchResult, Some, None, Ok, Err};
+ghost use Rattle.std.specs.Prelude.{◌≡◌, ◌+◌, ◌++◌, ◌^◌, ◌≤◌, ◌<◌, ℕ, List, length, OnOk, OnErr, MatchResult, Some};
+ghost use Rattle.std.specs.Prelude.{None, Ok, Err};
 ghost use Rattle.cj_stream.specs.Ending.{line_end};
 ghost use Rattle.cj_stream.specs.Feeding.{Feeds, IsFinished};
 ghost use Rattle.cj_stream.specs.Scanning.{IsReady};
@@ -35,7 +36,13 @@ impl<'q> Model for LineReader<'q> {
 
     ghost Value = { EngineState };
 
-    ghost view = { λ e. record { reading = e.framer.reading; scanning = e.framer.scanning; taken = e.taken; ended = option_map line_end e.ended } };
+    ghost view = { λ e. record {
+      reading = e.framer.reading;
+      scanning = e.framer.scanning;
+      taken = e.taken;
+      ended
+          = option_map line_end e.ended;
+    } };
 
     ghost invariant = { λ e. (0 < e.framer.reading.lines) × (e.ended ≡ None → e.framer.reading.lines ≤ e.taken)
         × (e.taken ≤ 2 ^ 60) × IsReady e.framer.reading e.framer.scanning };
@@ -79,7 +86,8 @@ impl<'q> LineReader<'q> {
         ensures reserved { IsReady self.new.reading self.new.scanning × (0 < lines_of self.new) }
 
         // What the result says of all bytes so far, and of the sinks.
-        ensures reports { (p : List ℕ) → StandsFor self.old p → self.old.ended ≡ None → Notes N.notes (rules_of self.old)
+        ensures reports { (p : List ℕ) → StandsFor self.old p → self.old.ended ≡ None
+            → Notes N.notes (rules_of self.old)
             (p ++ piece.now) (lines_of self.old) (lines_of self.new) reports.old reports.new }
         ensures feeds { MatchResult result
             (λ _. Feeds S.takes S.leaves S.failures self.old piece.now (Ok tt) self.new sink.old sink.new)
@@ -107,7 +115,8 @@ impl<'q> LineReader<'q> {
             (result ≡ e) × (self.new ≡ self.old) × (sink.new ≡ sink.old) × (reports.new ≡ reports.old) }
         ensures untaken { self.new.taken ≡ self.old.taken }
         ensures reserved { IsReady self.new.reading self.new.scanning × (0 < lines_of self.new) }
-        ensures reports { (p : List ℕ) → StandsFor self.old p → self.old.ended ≡ None → Notes N.notes (rules_of self.old) p
+        ensures reports { (p : List ℕ) → StandsFor self.old p → self.old.ended ≡ None
+            → Notes N.notes (rules_of self.old) p
             (lines_of self.old) (lines_of self.new) reports.old reports.new }
         ensures finished { IsFinished S.takes S.leaves S.failures self.old (line_end result) self.new
             sink.old sink.new }

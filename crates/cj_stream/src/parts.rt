@@ -5,7 +5,8 @@
 ghost use Rattle.std.specs.Prelude.{◌≡◌, ◌≢◌, ◌+◌, ◌-◌, ◌<◌, ◌^◌, ◌++◌, ℕ, List, Option};
 ghost use Rattle.std.specs.Io.KnownBytes.{IsAtEnd};
 ghost use Rattle.cj_stream.specs.Cut.{IsUnread};
-ghost use Rattle.cj_stream.specs.Parts.{headed, IsCut, moved_end, greater_peaks, capped_end, both_outcomes, capped_outcome};
+ghost use Rattle.cj_stream.specs.Parts.{headed, IsCut, moved_end, greater_peaks, capped_end, both_outcomes};
+ghost use Rattle.cj_stream.specs.Parts.{capped_outcome};
 ghost use Rattle.cj_stream.specs.Run.{Account};
 ghost use Rattle.cj_stream.specs.Verdict.{Rules};
 

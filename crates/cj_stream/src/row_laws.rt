@@ -1,14 +1,17 @@
 //! Worked examples of the definitions in the promises: small cases with known results, and cases
 //! that are refuted. Each row is a theorem, proved once.
-ghost use Rattle.cj_stream.specs.BoundRows.{EmptyRow as BoundOfNothing, HeaderRow as BoundOfHeader, CutRow as BoundOfLongLine, EdgeRow, ExactRow};
+ghost use Rattle.cj_stream.specs.BoundRows.{EmptyRow as BoundOfNothing, HeaderRow as BoundOfHeader};
+ghost use Rattle.cj_stream.specs.BoundRows.{CutRow as BoundOfLongLine, EdgeRow, ExactRow};
 ghost use Rattle.cj_stream.specs.BoxRows.{BoxRow, FieldRows, RangeRows, EmptyRow as BoxOfNothing, OrderRows};
 ghost use Rattle.cj_stream.specs.ChoiceRows.{ApartRow, ChainRow, ExcludeRow};
 ghost use Rattle.cj_stream.specs.CountRows.{RiseRows, ClassRows, LodRows as LodCounts};
 ghost use Rattle.cj_stream.specs.EndRows.{UnhinderedRow, UnreadRow};
 ghost use Rattle.cj_stream.specs.GoingRows.{BetweenRow, FirstRow as GoingFirst, LastRow};
 ghost use Rattle.cj_stream.specs.LineRows.{TabRow, HeaderRow};
-ghost use Rattle.cj_stream.specs.QueryRows.{IdRows, TypeRows, LodRows, InstanceRows, InBoxRows, OutOfBoxRows, EachPartRows};
-ghost use Rattle.cj_stream.specs.Rows.{EmptyRow, WholeRow, BlankRow, OrderRow, BadRow, LongRow, TextRow, SyntaxRow, DeepRow};
+ghost use Rattle.cj_stream.specs.QueryRows.{IdRows, TypeRows, LodRows, InstanceRows, InBoxRows, OutOfBoxRows};
+ghost use Rattle.cj_stream.specs.QueryRows.{EachPartRows};
+ghost use Rattle.cj_stream.specs.Rows.{EmptyRow, WholeRow, BlankRow, OrderRow, BadRow, LongRow, TextRow, SyntaxRow};
+ghost use Rattle.cj_stream.specs.Rows.{DeepRow};
 
 /// How a stream ends, and what is written of it.
 pub fn rows_compute()

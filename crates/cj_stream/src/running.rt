@@ -48,7 +48,14 @@ impl Outcome {
     /// Returns the outcome of a run whose allocation failed before the first read.
     fn without_memory() -> Outcome
         ensures { result
-            ≡ record { lines = 0; kept = 0; refused = 0; peaks = record { bytes = 0; tokens = 0; depth = 0 }; ended = End.Memory } }
+            ≡ record {
+              lines = 0;
+              kept = 0;
+              refused = 0;
+              peaks = record { bytes = 0; tokens = 0; depth = 0 };
+              ended
+                  = End.Memory;
+            } }
     {
         Outcome {
             lines: 0,

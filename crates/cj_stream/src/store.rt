@@ -7,7 +7,8 @@
 //!
 //! A later line that is too long may be dropped. The bytes that fit are stored first, however the
 //! line is cut. From then on nothing of the line is held, up to its LF.
-ghost use Rattle.std.specs.Prelude.{◌≡◌, ◌+◌, ◌<◌, ◌≤◌, ◌^◌, ◌==◌, ◌++◌, [], false, true, length, if◌then◌else◌, OnOk, OnErr, IsTrue};
+ghost use Rattle.std.specs.Prelude.{◌≡◌, ◌+◌, ◌<◌, ◌≤◌, ◌^◌, ◌==◌, ◌++◌, [], false, true, length, if◌then◌else◌, OnOk};
+ghost use Rattle.std.specs.Prelude.{OnErr, IsTrue};
 ghost use Rattle.cj_budget.specs.Bounded.{IsNew, IsWithin, Becomes};
 
 use cj_budget::Bounded;
@@ -47,7 +48,8 @@ impl Store {
 
     /// Returns the content of the begun line so far.
     pub fn begun(&self) -> &[u8]
-        ensures value { result.now ≡ (if self.now.lines == 0 then self.now.header.elements else self.now.line.elements) }
+        ensures value { result.now ≡ (if self.now.lines == 0 then self.now.header.elements else
+            self.now.line.elements) }
         ensures header { IsWithin self.now.header }
         ensures line { IsWithin self.now.line }
     {
@@ -66,7 +68,8 @@ impl Store {
         requires later { 0 < self.old.lines → IsTrue self.old.line.reserved }
         ensures lines { self.new.lines ≡ self.old.lines }
         ensures same { self.new.dropped ≡ self.old.dropped }
-        ensures short { OnOk result (length (if self.old.lines == 0 then self.old.header.elements else self.old.line.elements)
+        ensures short { OnOk result (length
+            (if self.old.lines == 0 then self.old.header.elements else self.old.line.elements)
             + length part.now ≤ self.old.header.limit) }
         ensures first { OnOk result (self.old.lines ≡ 0
             → Becomes self.old.header (self.old.header.elements ++ part.now) self.new.header

@@ -11,7 +11,8 @@ mod joining;
 
 use crate::output::WriteFault;
 use crate::sink::LineSink;
-use adding::{count_lods, count_types, widen_all};
+use adding::count_types;
+pub use adding::{count_lods, widen_all};
 use cj_decimal::Decimal;
 use cj_feature::{Feature, Header};
 use cj_geometry::ObjectType;

@@ -1,5 +1,6 @@
 //! The box of a query.
-ghost use Rattle.std.specs.Prelude.{◌≡◌, ◌∷◌, [], Some, None, Ok, Err, if◌then◌else◌, MatchOption, MatchResult, length, ◌≢◌, int_lt};
+ghost use Rattle.std.specs.Prelude.{◌≡◌, ◌∷◌, [], Some, None, Ok, Err, if◌then◌else◌, MatchOption, MatchResult, length};
+ghost use Rattle.std.specs.Prelude.{◌≢◌, int_lt};
 ghost use Rattle.cj_stream.specs.BoxText.{fields, is_number, is_edge, edge, box_text};
 ghost use Rattle.cj_stream.specs.Query.{box_of};
 ghost use Rattle.cj_stream.specs.declared.query.fault.QueryFault.TheVariants.{BadBox};

@@ -19,7 +19,9 @@
 //! are a hint. The picked entries are used only if the first and the last of them show that no
 //! other entry has the number. Otherwise the whole run is searched. So the proof needs no fact
 //! about heads.
-ghost use Rattle.std.specs.Prelude.{◌≡◌, ◌+◌, ◌-◌, ◌<◌, ◌≤◌, ◌^◌, [], ◌∷◌, ◌++◌, length, take, drop, sum, vec_items, vec_len, vec_capacity, string_bytes, string_len, string_capacity, OnOk, OnErr, IfSome};
+ghost use Rattle.std.specs.Prelude.{◌≡◌, ◌+◌, ◌-◌, ◌<◌, ◌≤◌, ◌^◌, [], ◌∷◌, ◌++◌, length, take, drop, sum, vec_items};
+ghost use Rattle.std.specs.Prelude.{vec_len, vec_capacity, string_bytes, string_len, string_capacity, OnOk, OnErr};
+ghost use Rattle.std.specs.Prelude.{IfSome};
 ghost use Rattle.std.specs.List.{list_any};
 ghost use Rattle.std.specs.List.Sorted.{IsNonDecreasingBy, IsPermutation};
 ghost use Rattle.std.specs.Ordering.{is_eq};
@@ -27,7 +29,8 @@ ghost use Rattle.cj_spans.specs.Parts.{text_of};
 ghost use Rattle.cj_spans.specs.View.{tree};
 ghost use Rattle.cj_stream.specs.Adding.{with_text};
 ghost use Rattle.cj_stream.specs.Criteria.{is_one_of as is_one};
-ghost use Rattle.cj_stream.specs.Ids.{key_of, compare_keys, pieces, piece, key_at, keys_at, Ascend, AreRuns, AreIndexed, HasAllOf};
+ghost use Rattle.cj_stream.specs.Ids.{key_of, compare_keys, pieces, piece, key_at, keys_at, Ascend, AreRuns};
+ghost use Rattle.cj_stream.specs.Ids.{AreIndexed, HasAllOf};
 ghost use Rattle.cj_stream.specs.Sink.{HasRisen, counted};
 
 use cj_budget::{NoMemory, Refusals};
@@ -72,7 +75,8 @@ impl Model for Ids {
 
     ghost view = { λ a. pieces (string_bytes a.text) (vec_items a.lengths) };
 
-    ghost invariant = { λ a. AreIndexed (string_bytes a.text) (vec_items a.lengths) (vec_items a.entries) (vec_items a.runs) };
+    ghost invariant = { λ a. AreIndexed (string_bytes a.text) (vec_items a.lengths) (vec_items a.entries)
+        (vec_items a.runs) };
 }
 
 /// Returns the id of an entry, or the empty text if the text may not be cut there.
@@ -172,7 +176,8 @@ fn make_text_room(
 ) -> Result<(), NoMemory>
     ensures text { string_bytes text.new ≡ string_bytes text.old }
     ensures lengths { vec_items lengths.new ≡ vec_items lengths.old }
-    ensures room { OnOk result ((string_len text.new + more ≤ string_capacity text.new) × (vec_len lengths.new < vec_capacity lengths.new)) }
+    ensures room { OnOk result ((string_len text.new + more ≤ string_capacity text.new)
+        × (vec_len lengths.new < vec_capacity lengths.new)) }
     ensures cause { OnErr result (HasRisen refusals.old refusals.new) }
     ensures count { refusals.new ≡ counted refusals.old result }
 {
@@ -189,7 +194,8 @@ fn make_entry_room(
 ) -> Result<(), NoMemory>
     ensures entries { vec_items entries.new ≡ vec_items entries.old }
     ensures runs { vec_items runs.new ≡ vec_items runs.old }
-    ensures room { OnOk result ((vec_len entries.new < vec_capacity entries.new) × (vec_len runs.new < vec_capacity runs.new)) }
+    ensures room { OnOk result ((vec_len entries.new < vec_capacity entries.new)
+        × (vec_len runs.new < vec_capacity runs.new)) }
     ensures cause { OnErr result (HasRisen refusals.old refusals.new) }
     ensures count { refusals.new ≡ counted refusals.old result }
 {
@@ -206,13 +212,16 @@ fn add_entry(
     runs: &mut Vec<usize>,
     id: &str,
 )
-    requires indexed { AreIndexed (string_bytes text.old) (vec_items lengths.old) (vec_items entries.old) (vec_items runs.old) }
+    requires indexed { AreIndexed (string_bytes text.old) (vec_items lengths.old) (vec_items entries.old)
+        (vec_items runs.old) }
     requires text_room { string_len text.old + length id.now ≤ string_capacity text.old }
     requires length_room { vec_len lengths.old < vec_capacity lengths.old }
     requires entry_room { vec_len entries.old < vec_capacity entries.old }
     requires run_room { vec_len runs.old < vec_capacity runs.old }
-    ensures added { pieces (string_bytes text.new) (vec_items lengths.new) ≡ pieces (string_bytes text.old) (vec_items lengths.old) ++ id.now ∷ [] }
-    ensures indexed { AreIndexed (string_bytes text.new) (vec_items lengths.new) (vec_items entries.new) (vec_items runs.new) }
+    ensures added { pieces (string_bytes text.new) (vec_items lengths.new)
+        ≡ pieces (string_bytes text.old) (vec_items lengths.old) ++ id.now ∷ [] }
+    ensures indexed { AreIndexed (string_bytes text.new) (vec_items lengths.new) (vec_items entries.new)
+        (vec_items runs.new) }
 {
     let begin = text.len();
     let _never_fails = text.push_str(id);

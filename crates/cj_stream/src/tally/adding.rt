@@ -1,12 +1,14 @@
 //! What a feature adds to a tally.
-ghost use Rattle.std.specs.Prelude.{◌≡◌, ◌∷◌, [], ◌<◌, ℕ, get_or, None, option_map};
+ghost use Rattle.std.specs.Prelude.{◌≡◌, ◌∷◌, [], ◌<◌, ℕ, get_or, map, None, option_map, pos, Some};
 ghost use Rattle.cj_spans.specs.View.{tree};
+ghost use Rattle.cj_feature.specs.Typed.{number_on};
 ghost use Rattle.cj_feature.specs.View.{feature_tree, feature_header};
+ghost use Rattle.cj_feature.specs.Walks.{vertices_left};
 ghost use Rattle.cj_stream.specs.Tallied.{class_of as lod_class, type_numbers, lod_classes, numbers_on};
 ghost use Rattle.cj_stream.specs.TallySink.{RisesBy, Widens};
 
 use super::CLASSES;
-use cj_feature::Feature;
+use cj_feature::{Feature, Vertices};
 use cj_geometry::{Lods, lod_of};
 use cj_spans::Node;
 
@@ -44,7 +46,8 @@ pub fn count_types(counts: &mut [u64; 33], feature: &Feature)
 
 /// Counts the geometries of a feature by LoD class. It looks up each LoD on its own.
 fn count_alone(counts: &mut [u64; CLASSES], feature: &Feature)
-    ensures { RisesBy CLASSES counts.old (lod_classes (feature_header feature.now) (feature_tree feature.now)) counts.new }
+    ensures { RisesBy CLASSES counts.old (lod_classes (feature_header feature.now) (feature_tree feature.now))
+        counts.new }
 {
     let templates = feature.templates();
     for geometry in feature.geometries() {
@@ -57,7 +60,8 @@ fn count_alone(counts: &mut [u64; CLASSES], feature: &Feature)
 /// which takes time to fill.
 #[inline(never)]
 fn count_together(counts: &mut [u64; CLASSES], feature: &Feature)
-    ensures { RisesBy CLASSES counts.old (lod_classes (feature_header feature.now) (feature_tree feature.now)) counts.new }
+    ensures { RisesBy CLASSES counts.old (lod_classes (feature_header feature.now) (feature_tree feature.now))
+        counts.new }
 {
     let mut lods = Lods::beside(feature.templates());
     for geometry in feature.geometries() {
@@ -66,9 +70,9 @@ fn count_together(counts: &mut [u64; CLASSES], feature: &Feature)
     }
 }
 
-/// Counts the geometries of a feature by LoD class.
-pub fn count_lods(counts: &mut [u64; CLASSES], feature: &Feature)
-    ensures { RisesBy CLASSES counts.old (lod_classes (feature_header feature.now) (feature_tree feature.now)) counts.new }
+/// Counts the geometries of a feature by LoD class, as [`crate::TallySink::by_lod`] does.
+pub fn count_lods(counts: &mut [u64; 6], feature: &Feature)
+    ensures { RisesBy 6 counts.old (lod_classes (feature_header feature.now) (feature_tree feature.now)) counts.new }
 {
     if feature.templates().is_empty() {
         count_alone(counts, feature);
@@ -77,14 +81,39 @@ pub fn count_lods(counts: &mut [u64; CLASSES], feature: &Feature)
     }
 }
 
-/// Returns the range with one number more.
-fn widened(range: Option<(i64, i64)>, number: i64) -> Option<(i64, i64)>
-    ensures { Widens range (number ∷ []) result }
+/// Returns a range with one number more.
+#[inline(always)]
+fn widened(range: (i64, i64), number: i64) -> (i64, i64)
+    ensures { Widens (Some range) (number ∷ []) (Some result) }
+{
+    let (least, greatest) = range;
+    (least.min(number), greatest.max(number))
+}
+
+/// Returns a range with one number more. It may have none before.
+fn begun(range: Option<(i64, i64)>, number: i64) -> (i64, i64)
+    ensures { Widens range (number ∷ []) (Some result) }
 {
     match range {
-        Some((least, greatest)) => Some((least.min(number), greatest.max(number))),
-        None => Some((number, number)),
+        Some(range) => widened(range, number),
+        None => (number, number),
     }
+}
+
+/// Returns ranges on the axes, widened by vertices. A range that is never empty takes no test for
+/// each vertex.
+#[inline(always)]
+fn widen_by(ranges: [(i64, i64); 3], vertices: Vertices) -> [(i64, i64); 3]
+    ensures { (axis : ℕ) → axis < 3 → Widens (Some (get_or ranges axis (pos 0, pos 0)))
+        (map (number_on axis) (vertices_left vertices.entry)) (Some (get_or result axis (pos 0, pos 0))) }
+{
+    let [mut on_x, mut on_y, mut on_z] = ranges;
+    for [x, y, z] in vertices {
+        on_x = widened(on_x, x);
+        on_y = widened(on_y, y);
+        on_z = widened(on_z, z);
+    }
+    [on_x, on_y, on_z]
 }
 
 /// Returns the ranges on the axes, widened by the vertices of a feature.
@@ -92,11 +121,15 @@ pub fn widen_all(ranges: [Option<(i64, i64)>; 3], feature: &Feature) -> [Option<
     ensures { (axis : ℕ) → axis < 3
         → Widens (get_or ranges axis None) (numbers_on axis (feature_tree feature.now)) (get_or result axis None) }
 {
-    let [mut on_x, mut on_y, mut on_z] = ranges;
-    for [x, y, z] in feature.vertices() {
-        on_x = widened(on_x, x);
-        on_y = widened(on_y, y);
-        on_z = widened(on_z, z);
+    let mut vertices = feature.vertices();
+    match vertices.next() {
+        Some(vertex) => {
+            let [x, y, z] = vertex;
+            let [on_x, on_y, on_z] = ranges;
+            let first = [begun(on_x, x), begun(on_y, y), begun(on_z, z)];
+            let [on_x, on_y, on_z] = widen_by(first, vertices);
+            [Some(on_x), Some(on_y), Some(on_z)]
+        }
+        None => ranges,
     }
-    [on_x, on_y, on_z]
 }

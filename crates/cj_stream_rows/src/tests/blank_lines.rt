@@ -1,10 +1,10 @@
 //! Blank lines, and lines that only look blank. A blank line has only spaces, tabs and CR. Any
 //! other line is invalid at the first byte that no JSON text has there, or at its end.
-use super::calls::{held, joined, outcome, refused};
-use super::rows::{FEATURE, FIRST, STREAM, Wanted, check_place, check_run};
+use super::rows::{Wanted, check_place, check_run};
 use cj_budget::Limits;
 use cj_spans::Reason;
 use cj_stream::End;
+use cj_stream_samples::{FEATURE, FIRST, STREAM, held, joined, outcome, refused};
 use std::alloc::Global;
 use std::process::Abort;
 use std::test::Fail;

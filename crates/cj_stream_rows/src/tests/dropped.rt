@@ -1,10 +1,9 @@
 //! Lines that are too long, step by step: what is held and returned while their bytes come, and
 //! when they are reported. The line limit is always 210.
-use super::calls::{check_bytes, check_joined, held, joined};
-use super::reports::going;
-use super::rows::{FEATURE, FIRST, HEADER, STREAM, THIRD_REFUSED};
+use super::calls::{check_bytes, check_joined};
 use super::steps::{Opening, Step, written_by_steps};
 use cj_stream::End;
+use cj_stream_samples::{FEATURE, FIRST, HEADER, STREAM, THIRD_REFUSED, going, held, joined};
 use std::alloc::Global;
 use std::process::Abort;
 use std::test::Fail;

@@ -1,9 +1,9 @@
 //! Rows of an engine that is called step by step.
-use super::calls::{check_bytes, check_number, held, joined, refused};
-use super::rows::{FEATURE, HEADER, STREAM, THIRD_REFUSED};
+use super::calls::{check_bytes, check_number};
 use super::steps::{Opening, Step, written_by_steps};
 use cj_spans::Reason;
 use cj_stream::End;
+use cj_stream_samples::{FEATURE, HEADER, STREAM, THIRD_REFUSED, held, joined, refused};
 use std::alloc::Global;
 use std::process::Abort;
 use std::test::Fail;

@@ -1,14 +1,13 @@
 //! Devices that fail: a prefix of the output is written, and the end says why.
-use super::calls::{
-    Reading, check_bytes, check_ended, check_number, copied, copied_to, joined, ran, ran_to,
-    refused,
-};
-use super::devices::{SlowReader, SlowWriter};
-use super::rows::{BEYOND, FIRST, HEADER, STREAM};
+use super::calls::{check_bytes, check_ended, check_number};
 use super::steps::{Opening, Step, check_steps};
 use cj_budget::Limits;
 use cj_spans::Reason;
 use cj_stream::{End, LineSink, NoReports, Outcome, Output, Query, WriteSink};
+use cj_stream_samples::{
+    BEYOND, FIRST, HEADER, Reading, STREAM, SlowReader, SlowWriter, copied, copied_to, joined, ran,
+    ran_to, refused,
+};
 use std::alloc::Global;
 use std::io::ErrorKind;
 use std::process::Abort;

@@ -1,15 +1,15 @@
 //! Streams with invalid lines that reading goes on after. Each is run whole, by single bytes, and
 //! cut in two at every place. A run, an engine and a reader of lines read it.
-use super::calls::{
-    Reading, check_bytes, check_joined, check_outcome, given, held, joined, outcome, ran, refused,
-};
-use super::devices::SlowReader;
+use super::calls::{check_bytes, check_joined, check_notes, check_outcome};
 use super::line_pieces::given_behind;
-use super::reports::{NoteReports, check_notes, going};
-use super::rows::{BEYOND, FEATURE, FIRST, HEADER, SMALL, STREAM, attributed};
+use super::rows::attributed;
 use cj_budget::{Limits, Peaks};
 use cj_spans::Reason;
 use cj_stream::{End, Outcome, Query, WriteSink};
+use cj_stream_samples::{
+    BEYOND, FEATURE, FIRST, HEADER, NoteReports, Reading, SMALL, STREAM, SlowReader, complete,
+    given, going, held, joined, outcome, ran, refused,
+};
 use std::alloc::Global;
 use std::process::Abort;
 use std::test::Fail;
@@ -24,17 +24,6 @@ struct Row<'a> {
     written: &'a [&'a [u8]],
     reports: &'a str,
     outcome: Outcome,
-}
-
-/// Returns how a complete run went.
-pub const fn complete(lines: u64, kept: u64, refused: u64, peaks: Peaks) -> Outcome {
-    Outcome {
-        lines,
-        kept,
-        refused,
-        peaks,
-        ended: End::Complete,
-    }
 }
 
 /// Compares the outcome and the reports of a stream that was cut here.
@@ -85,7 +74,7 @@ fn check_cut(
     let mut sink = WriteSink::new(Vec::new(alloc));
     let mut reports = NoteReports::new(alloc);
     let reading = going_within(Limits::new(row.line_limit, 64)?, &query);
-    let got = given(rt, alloc, text, at, &mut sink, &mut reports, &reading)?;
+    let got = given(alloc, text, at, &mut sink, &mut reports, &reading)?;
     check_told(rt, row, got, &reports, at as u64);
     check_bytes(rt, &sink.into_inner(), written, row.name, at as u64);
     Ok(())

@@ -1,13 +1,11 @@
 //! Large lists, and queries of many and of long texts.
-use super::calls::{
-    Reading, check_bytes, check_ended, check_number, check_outcome, copied, held, joined, outcome,
-    refused, written_by,
-};
-use super::devices::SlowReader;
-use super::rows::{FEATURE, FIRST};
+use super::calls::{check_bytes, check_ended, check_number, check_outcome};
 use cj_budget::Limits;
 use cj_spans::Reason;
 use cj_stream::{End, Outcome, Query};
+use cj_stream_samples::{
+    FEATURE, FIRST, Reading, SlowReader, copied, held, joined, outcome, refused, written_by,
+};
 use std::alloc::Global;
 use std::process::Abort;
 use std::test::Fail;
@@ -53,10 +51,10 @@ fn zeros_without_brackets(rt: HostRuntime) -> Result<(), Fail> {
 /// and two for each zero but the last.
 fn listed(alloc: Global, zeros: &[u8]) -> Result<Vec<u8>, Fail> {
     let (front, back) = (&FEATURE[..150], &FEATURE[150..]);
-    joined(
+    Ok(joined(
         alloc,
         &[front, b",\"attributes\":{\"a\":[", zeros, b"0]}", back],
-    )
+    )?)
 }
 
 /// A line of 8,388,607 bytes. In addition to the feature it has two names, an object, a list and
@@ -139,7 +137,7 @@ fn letters(alloc: Global, count: usize, end: &str) -> Result<String, Fail> {
 
 /// Returns a feature with this id, and an LoD of the same text.
 fn named(alloc: Global, name: &str) -> Result<Vec<u8>, Fail> {
-    joined(
+    Ok(joined(
         alloc,
         &[
             b"{\"type\":\"CityJSONFeature\",\"id\":\"",
@@ -150,7 +148,7 @@ fn named(alloc: Global, name: &str) -> Result<Vec<u8>, Fail> {
             name.as_bytes(),
             b"\",\"boundaries\":[]}]}},\"vertices\":[]}",
         ],
-    )
+    )?)
 }
 
 /// Selects a text as an id, and then as an LoD. The feature has a text of 100,000 letters as both.

@@ -1,8 +1,8 @@
 //! What a sink borrows: the header, and each feature by itself, with the contents of their lines.
-use super::calls::{check_bytes, check_outcome, held, joined, outcome, ran_to};
-use super::rows::{FEATURE, STREAM};
+use super::calls::{check_bytes, check_outcome};
 use cj_feature::{Feature, Header};
 use cj_stream::{CountSink, End, IgnoreSink, LineSink, WriteFault};
+use cj_stream_samples::{FEATURE, STREAM, held, joined, outcome, ran_to};
 use std::alloc::{AllocError, Global};
 use std::process::Abort;
 use std::test::Fail;

@@ -1,6 +1,5 @@
 //! What comes after a header, in pieces given to its reader of lines.
-use super::calls::{Reading, check_bytes, check_outcome, held, outcome, refused};
-use super::rows::{HEADER, STREAM, THIRD_REFUSED};
+use super::calls::{check_bytes, check_outcome};
 use super::states::{check_progress, feed_header, header_opened};
 use cj_budget::{Limits, Peaks};
 use cj_spans::Reason;
@@ -8,6 +7,7 @@ use cj_stream::{
     End, HeaderReader, LineReader, NoReports, Outcome, Query, ReportSink, WriteSink,
     headline_of_lines,
 };
+use cj_stream_samples::{HEADER, Reading, STREAM, THIRD_REFUSED, held, outcome, refused};
 use std::alloc::Global;
 use std::process::Abort;
 use std::test::Fail;

@@ -1,9 +1,9 @@
 //! Devices that are slow or that fail, with streams longer than each buffer.
-use super::calls::{check_bytes, check_ended, check_number, copied, copied_to};
-use super::devices::{SlowReader, SlowWriter};
+use super::calls::{check_bytes, check_ended, check_number};
 use super::long_lines::{long_text, many_features};
 use cj_budget::Limits;
 use cj_stream::End;
+use cj_stream_samples::{SlowReader, SlowWriter, copied, copied_to};
 use std::alloc::Global;
 use std::process::Abort;
 use std::test::Fail;

@@ -1,9 +1,10 @@
 //! Lines longer than one read, given at once and in very many pieces.
-use super::calls::{check_bytes, held, joined, outcome};
-use super::rows::{FEATURE, FIRST, Wanted, attributed, check_run};
+use super::calls::check_bytes;
+use super::rows::{Wanted, attributed, check_run};
 use super::steps::{Opening, Step, written_by_steps};
 use cj_budget::Limits;
 use cj_stream::{End, Outcome};
+use cj_stream_samples::{FEATURE, FIRST, held, joined, outcome};
 use std::alloc::Global;
 use std::process::Abort;
 use std::test::Fail;
@@ -22,7 +23,7 @@ fn digits(alloc: Global, count: usize) -> Result<Vec<u8>, Fail> {
 pub fn long_text(alloc: Global, length: usize) -> Result<Vec<u8>, Fail> {
     let digits = digits(alloc, length.saturating_sub(232))?;
     let [front, name, value, end, back] = attributed(&digits);
-    joined(alloc, &[FIRST, front, name, value, end, back, b"\n"])
+    Ok(joined(alloc, &[FIRST, front, name, value, end, back, b"\n"])?)
 }
 
 /// Gives a stream in pieces of `step` bytes, and its end, and compares the outcome.

@@ -1,9 +1,8 @@
 //! Which of several broken rules of one line is reported.
-use super::calls::{check_ended, copied, joined, refused};
-use super::devices::SlowReader;
-use super::rows::FIRST;
+use super::calls::check_ended;
 use cj_budget::Limits;
 use cj_spans::Reason;
+use cj_stream_samples::{FIRST, SlowReader, copied, joined, refused};
 use std::alloc::Global;
 use std::process::Abort;
 use std::test::Fail;

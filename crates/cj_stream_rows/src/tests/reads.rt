@@ -1,11 +1,13 @@
 //! Runs with a limit on the number of reads: how often the reader is read, what is written, and how
 //! they end.
-use super::calls::{Reading, check_bytes, check_ended, check_number, ran, refused};
-use super::devices::{EndlessReader, SlowReader, SlowWriter};
-use super::rows::{FIRST, HEADER, STREAM, THIRD_REFUSED};
+use super::calls::{check_bytes, check_ended, check_number};
 use cj_budget::Limits;
 use cj_spans::Reason;
 use cj_stream::{End, NoReports, Options, Outcome, Output, Query, WriteSink, run_within};
+use cj_stream_samples::{
+    EndlessReader, FIRST, HEADER, Reading, STREAM, SlowReader, SlowWriter, THIRD_REFUSED, ran,
+    refused,
+};
 use std::alloc::Global;
 use std::io::Read;
 use std::process::Abort;

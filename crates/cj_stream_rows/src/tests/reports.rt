@@ -1,70 +1,19 @@
 //! What is reported of invalid lines if reading goes on after them. It has a sink that notes each
 //! report, the sink that counts, and cases without any report.
-use super::calls::{
-    Reading, check_bytes, check_ended, check_number, joined, ran, refused, written_by,
-};
-use super::devices::{SlowReader, SlowWriter};
-use super::rows::{BEYOND, FEATURE, FIRST};
+use super::calls::{check_bytes, check_ended, check_notes, check_number};
 use super::steps::{Opening, Step, check_steps, written_by_steps};
 use cj_budget::Limits;
 use cj_spans::Reason;
 use cj_stream::{
     CountReports, End, Options, Outcome, Output, Query, Report, ReportSink, WriteSink, run_within,
 };
+use cj_stream_samples::{
+    BEYOND, FEATURE, FIRST, NoteReports, Reading, SlowReader, SlowWriter, going, joined, outcome,
+    ran, refused, written_by,
+};
 use std::alloc::{AllocError, Global};
 use std::process::Abort;
 use std::test::Fail;
-
-/// Notes each report on a line: the line's number, the byte, and the code of the reason. If memory
-/// is refused, it notes that it has lost something.
-#[derive(Drop)]
-pub struct NoteReports {
-    alloc: Global,
-    pub notes: String,
-    pub lost: bool,
-}
-
-impl NoteReports {
-    /// Returns a sink that has taken nothing.
-    pub fn new(alloc: Global) -> NoteReports {
-        NoteReports {
-            alloc,
-            notes: String::new(alloc),
-            lost: false,
-        }
-    }
-}
-
-/// Returns a report as it is noted.
-pub fn note(alloc: Global, report: Report) -> Result<String, AllocError> {
-    let code = report.reason.code();
-    format!(in alloc; "{} {} {code}\n", report.line, report.place)
-}
-
-impl ReportSink for NoteReports {
-    ghost use Rattle.std.specs.Prelude.{⊤};
-
-    ghost notes = { λ a r b. ⊤ };
-
-    fn report(&mut self, report: Report) {
-        let taken = match note(self.alloc, report) {
-            Ok(text) => self.notes.push_str(&text).is_ok(),
-            Err(AllocError) => false,
-        };
-        self.lost = self.lost || !taken;
-    }
-}
-
-/// Compares what was noted.
-pub fn check_notes(rt: &impl Abort, reports: &NoteReports, wanted: &str, row: &str, at: u64) {
-    assert!(rt; !reports.lost);
-    check_bytes(rt, reports.notes.as_bytes(), wanted.as_bytes(), row, at);
-}
-
-/// Returns the options to go on after an invalid line.
-pub fn going() -> Options {
-    Options::new().keep_going(true)
-}
 
 // ---- counts
 
@@ -113,7 +62,7 @@ fn options_are_set_by_name(rt: HostRuntime) {
 /// Returns a stream whose third line has begun. It is too long already, or would be invalid at its
 /// end.
 fn begun(alloc: Global, line: &[u8]) -> Result<Vec<u8>, Fail> {
-    joined(alloc, &[FIRST, b"{}\n", line])
+    Ok(joined(alloc, &[FIRST, b"{}\n", line])?)
 }
 
 /// Compares a run up to the third line, which is not reported.

@@ -1,48 +1,19 @@
 //! Worked examples: inputs, what is written of them, and how they end.
-use super::calls::{
-    Reading, check_bytes, check_ended, check_number, check_outcome, copied, given, held, joined,
-    outcome, refused,
-};
-use super::devices::SlowReader;
+use super::calls::{check_bytes, check_ended, check_number, check_outcome};
 use cj_budget::{Limits, Peaks};
 use cj_spans::Reason;
 use cj_stream::{CountReports, End, NoReports, Outcome, Query, WriteSink, laws, row_laws};
+use cj_stream_samples::{
+    BEYOND, FEATURE, FIRST, HEADER, Reading, SMALL, STREAM, SlowReader, THIRD_REFUSED, copied,
+    given, held, joined, outcome, refused,
+};
 use std::alloc::Global;
 use std::process::Abort;
 use std::test::Fail;
 
-/// A header of 140 bytes, with 21 values and names, and depth 3.
-pub const HEADER: &[u8] =
-    b"{\"type\":\"CityJSON\",\"version\":\"2.0\",\"transform\":{\"scale\":[0.001,0.001,0.001],\"translate\":[1000.0,2000.0,0.0]},\"CityObjects\":{},\"vertices\":[]}";
-
-/// A feature of 210 bytes, with 44 values and names, and depth 8.
-pub const FEATURE: &[u8] =
-    b"{\"type\":\"CityJSONFeature\",\"id\":\"b1\",\"CityObjects\":{\"b1\":{\"type\":\"Building\",\"geometry\":[{\"type\":\"MultiSurface\",\"lod\":\"2.2\",\"boundaries\":[[[0,1,2,3]]]}]}},\"vertices\":[[0,0,0],[1000,0,0],[1000,1000,0],[0,1000,0]]}";
-
 /// The same feature, with a space after the first brace.
 const SPACED: &[u8] =
     b"{ \"type\":\"CityJSONFeature\",\"id\":\"b1\",\"CityObjects\":{\"b1\":{\"type\":\"Building\",\"geometry\":[{\"type\":\"MultiSurface\",\"lod\":\"2.2\",\"boundaries\":[[[0,1,2,3]]]}]}},\"vertices\":[[0,0,0],[1000,0,0],[1000,1000,0],[0,1000,0]]}";
-
-/// A feature of 89 bytes, with 13 values and names, and depth 3.
-pub const SMALL: &[u8] =
-    b"{\"type\":\"CityJSONFeature\",\"id\":\"b\",\"CityObjects\":{\"b\":{\"type\":\"Building\"}},\"vertices\":[]}";
-
-/// The same feature, with its last index, at byte 144, past its four vertices.
-pub const BEYOND: &[u8] =
-    b"{\"type\":\"CityJSONFeature\",\"id\":\"b1\",\"CityObjects\":{\"b1\":{\"type\":\"Building\",\"geometry\":[{\"type\":\"MultiSurface\",\"lod\":\"2.2\",\"boundaries\":[[[0,1,2,4]]]}]}},\"vertices\":[[0,0,0],[1000,0,0],[1000,1000,0],[0,1000,0]]}";
-
-/// The header with its LF.
-pub const FIRST: &[u8] =
-    b"{\"type\":\"CityJSON\",\"version\":\"2.0\",\"transform\":{\"scale\":[0.001,0.001,0.001],\"translate\":[1000.0,2000.0,0.0]},\"CityObjects\":{},\"vertices\":[]}\n";
-
-/// The header and the feature, each with its LF.
-pub const STREAM: &[u8] =
-    b"{\"type\":\"CityJSON\",\"version\":\"2.0\",\"transform\":{\"scale\":[0.001,0.001,0.001],\"translate\":[1000.0,2000.0,0.0]},\"CityObjects\":{},\"vertices\":[]}\n{\"type\":\"CityJSONFeature\",\"id\":\"b1\",\"CityObjects\":{\"b1\":{\"type\":\"Building\",\"geometry\":[{\"type\":\"MultiSurface\",\"lod\":\"2.2\",\"boundaries\":[[[0,1,2,3]]]}]}},\"vertices\":[[0,0,0],[1000,0,0],[1000,1000,0],[0,1000,0]]}\n";
-
-/// A header, a feature, one with its last index past its vertices, and the feature again. The LF at
-/// byte 562 ends the run.
-pub const THIRD_REFUSED: &[u8] =
-    b"{\"type\":\"CityJSON\",\"version\":\"2.0\",\"transform\":{\"scale\":[0.001,0.001,0.001],\"translate\":[1000.0,2000.0,0.0]},\"CityObjects\":{},\"vertices\":[]}\n{\"type\":\"CityJSONFeature\",\"id\":\"b1\",\"CityObjects\":{\"b1\":{\"type\":\"Building\",\"geometry\":[{\"type\":\"MultiSurface\",\"lod\":\"2.2\",\"boundaries\":[[[0,1,2,3]]]}]}},\"vertices\":[[0,0,0],[1000,0,0],[1000,1000,0],[0,1000,0]]}\n{\"type\":\"CityJSONFeature\",\"id\":\"b1\",\"CityObjects\":{\"b1\":{\"type\":\"Building\",\"geometry\":[{\"type\":\"MultiSurface\",\"lod\":\"2.2\",\"boundaries\":[[[0,1,2,4]]]}]}},\"vertices\":[[0,0,0],[1000,0,0],[1000,1000,0],[0,1000,0]]}\n{\"type\":\"CityJSONFeature\",\"id\":\"b1\",\"CityObjects\":{\"b1\":{\"type\":\"Building\",\"geometry\":[{\"type\":\"MultiSurface\",\"lod\":\"2.2\",\"boundaries\":[[[0,1,2,3]]]}]}},\"vertices\":[[0,0,0],[1000,0,0],[1000,1000,0],[0,1000,0]]}\n";
 
 /// The expected result of a run over a stream.
 #[derive(Clone, Copy)]
@@ -80,7 +51,7 @@ fn check_cut(
     let mut sink = WriteSink::new(Vec::new(alloc));
     let mut reports = CountReports { reports: 0 };
     let reading = Reading::usual(limits, &query);
-    let told = given(rt, alloc, text, at, &mut sink, &mut reports, &reading)?;
+    let told = given(alloc, text, at, &mut sink, &mut reports, &reading)?;
     check_number(rt, reports.reports, 0, wanted.name, at as u64);
     check_outcome(rt, told, wanted.outcome, wanted.name, at as u64);
     let written = sink.into_inner();

@@ -1,14 +1,15 @@
 //! Rows through the two states, with every cut, and what both return where one becomes the other.
-use super::calls::{
-    Reading, check_bytes, check_ended, check_number, check_outcome, held, joined, outcome, refused,
-};
-use super::rows::{FEATURE, FIRST, HEADER, SMALL, STREAM, THIRD_REFUSED, Wanted};
+use super::calls::{check_bytes, check_ended, check_number, check_outcome};
+use super::rows::Wanted;
 use super::steps::{Opening, Step, written_by_steps};
 use cj_budget::Limits;
 use cj_spans::Reason;
 use cj_stream::{
     End, HeaderEnd, HeaderReader, LineEnd, LineReader, LineSink, NoReports, Outcome, Progress,
     Query, WriteSink,
+};
+use cj_stream_samples::{
+    FEATURE, FIRST, HEADER, Reading, SMALL, STREAM, THIRD_REFUSED, held, joined, outcome, refused,
 };
 use std::alloc::Global;
 use std::process::Abort;

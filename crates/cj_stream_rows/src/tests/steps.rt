@@ -1,10 +1,12 @@
 //! Engines that are called step by step. A row is a list of calls, each with its expected result
 //! and the engine's expected counts. One function opens all of these engines, since the proof of a
 //! function that owns one is slow.
-use super::calls::{check_counts, check_feed, check_finish, check_held, check_number, opened};
-use super::reports::{NoteReports, check_notes};
+use super::calls::{
+    check_counts, check_feed, check_finish, check_held, check_notes, check_number, opened,
+};
 use cj_budget::Peaks;
 use cj_stream::{End, Engine, LineSink, Options, Query, WriteSink};
+use cj_stream_samples::NoteReports;
 use std::alloc::Global;
 use std::process::Abort;
 use std::test::Fail;

@@ -1,9 +1,9 @@
 //! What is tallied of a stream.
-use super::calls::{check_bytes, joined, ran_to};
-use super::rows::FEATURE;
+use super::calls::check_bytes;
 use cj_budget::Limits;
 use cj_feature::{Feature, Header};
 use cj_stream::{Engine, LineSink, NoReports, Options, Query, TallySink, WriteFault, put_pieces};
+use cj_stream_samples::{FEATURE, joined, ran_to};
 use std::alloc::{AllocError, Global};
 use std::process::Abort;
 use std::test::Fail;
@@ -85,7 +85,7 @@ fn report(alloc: Global, tally: &TallySink) -> Result<String, AllocError> {
 
 /// Returns the header, the feature of the rows, and the one with an instance.
 fn sample(alloc: Global) -> Result<Vec<u8>, Fail> {
-    joined(
+    Ok(joined(
         alloc,
         &[
             TEMPLATES.as_bytes(),
@@ -95,7 +95,7 @@ fn sample(alloc: Global) -> Result<Vec<u8>, Fail> {
             TREE.as_bytes(),
             b"\n",
         ],
-    )
+    )?)
 }
 
 /// Tallies, and notes after each feature the counts of the types of its city objects. It never

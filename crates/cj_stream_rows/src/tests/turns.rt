@@ -1,6 +1,5 @@
 //! What both states return, call by call: where one becomes the other, and after an end.
-use super::calls::{check_bytes, check_number, held, joined};
-use super::rows::{FEATURE, FIRST, HEADER, STREAM, THIRD_REFUSED};
+use super::calls::{check_bytes, check_number};
 use super::states::{
     behind_header, check_progress, feed_header, feed_lines, finish_header, turned, until_accepted,
     usual_header,
@@ -11,6 +10,7 @@ use cj_stream::{
     CountSink, Engine, HeaderEnd, HeaderReader, LineEnd, LineReader, LineSink, NoReports, Options,
     Query, WriteSink, put_pieces,
 };
+use cj_stream_samples::{FEATURE, FIRST, HEADER, STREAM, THIRD_REFUSED, held, joined};
 use std::alloc::Global;
 use std::process::Abort;
 use std::test::Fail;

@@ -1,14 +1,14 @@
 //! Streams of many lines that look random, each compared with the plain program. They run with and
 //! without going on after invalid lines. They are cut into single bytes, into reads of varying
 //! lengths, and in two.
-use super::calls::{Reading, check_bound, check_bytes, check_outcome, ran};
-use super::devices::{CutReader, SlowReader};
+use super::calls::{check_bound, check_bytes, check_notes, check_outcome};
 use super::plain::{Known, Plain, Verdict, Way, plainly};
-use super::reports::{NoteReports, check_notes};
-use super::rows::{BEYOND, FEATURE, HEADER, SMALL};
 use cj_budget::{Limits, Peaks};
 use cj_spans::Reason;
 use cj_stream::{End, Options, Outcome, Query, WriteSink};
+use cj_stream_samples::{
+    BEYOND, CutReader, FEATURE, HEADER, NoteReports, Reading, SMALL, SlowReader, ran,
+};
 use std::alloc::Global;
 use std::io::{Read, Result as IoResult};
 use std::process::Abort;

@@ -1,13 +1,14 @@
 //! Every two options, and all three, with every two parts of a query.
 //!
 //! Which features satisfy two parts follows from the rows for one part each, in `choosing`.
-use super::calls::{check_number, joined, refused};
+use super::calls::{check_notes, check_number};
 use super::choosing::{APART, Came, ROAD, came_of, check_went};
-use super::queries::{Parts, SEVERAL, by_ids, by_lods, by_types, query_of};
-use super::reports::{check_notes, going};
-use super::rows::{FEATURE, FIRST, SMALL, STREAM};
 use cj_spans::Reason;
 use cj_stream::{End, Options};
+use cj_stream_samples::{
+    FEATURE, FIRST, Parts, SEVERAL, SMALL, STREAM, by_ids, by_lods, by_types, going, joined,
+    query_of, refused,
+};
 use std::alloc::Global;
 use std::process::Abort;
 use std::test::Fail;

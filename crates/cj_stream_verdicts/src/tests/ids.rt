@@ -1,9 +1,8 @@
 //! Queries of many ids: each id that was added is found, and no other.
-use super::calls::{Reading, check_ended, check_number, joined, ran};
-use super::devices::SlowReader;
-use super::rows::FIRST;
+use super::calls::{check_ended, check_number};
 use cj_budget::Limits;
 use cj_stream::{CountSink, End, NoReports, Query};
+use cj_stream_samples::{FIRST, Reading, SlowReader, joined, ran};
 use std::alloc::Global;
 use std::process::Abort;
 use std::test::Fail;
@@ -48,7 +47,7 @@ fn query_of(alloc: Global, count: u64, order: Order, times: u64) -> Result<Query
 
 /// Returns a feature with this id, as it is spelled, and an LF.
 fn named(alloc: Global, id: &[u8]) -> Result<Vec<u8>, Fail> {
-    joined(
+    Ok(joined(
         alloc,
         &[
             b"{\"type\":\"CityJSONFeature\",\"id\":\"",
@@ -57,7 +56,7 @@ fn named(alloc: Global, id: &[u8]) -> Result<Vec<u8>, Fail> {
             id,
             b"\":{\"type\":\"Building\"}},\"vertices\":[]}\n",
         ],
-    )
+    )?)
 }
 
 /// Returns a header, and a feature for each number below this.

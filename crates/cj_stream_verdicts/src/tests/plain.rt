@@ -2,11 +2,10 @@
 //!
 //! It cuts a text into its lines, and looks each up in a table of lines with verdicts found by
 //! hand. It returns what is written, reported, counted and held.
-use super::calls::{held, refused};
-use super::reports::note;
 use cj_budget::Peaks;
 use cj_spans::Reason;
 use cj_stream::{End, Outcome, Report};
+use cj_stream_samples::{held, note, refused};
 use std::alloc::Global;
 use std::process::Abort;
 use std::test::Fail;

@@ -1,101 +1,15 @@
 //! Rows of queries: which features of a stream are kept.
-use super::calls::{Reading, check_ended, check_joined, check_number, joined, refused, written_by};
-use super::devices::SlowReader;
-use super::rows::{FEATURE, HEADER, STREAM};
+use super::calls::{check_ended, check_joined, check_number};
 use cj_budget::Limits;
 use cj_spans::Reason;
 use cj_stream::{End, Outcome, Query, QueryFault};
+use cj_stream_samples::{
+    ALL, FEATURE, HEADER, Parts, Reading, SEVERAL, STREAM, SlowReader, by_box, by_ids, by_lods,
+    by_types, joined, outcome, query_of, refused, written_by,
+};
 use std::alloc::Global;
 use std::process::Abort;
 use std::test::Fail;
-
-/// The parts of a query, as a user gives them.
-#[derive(Clone, Copy)]
-pub struct Parts<'a> {
-    pub ids: Option<&'a [&'a str]>,
-    pub types: Option<&'a [&'a str]>,
-    pub lods: Option<&'a [&'a str]>,
-    pub bounds: Option<&'a str>,
-}
-
-/// No part is set.
-pub const ALL: Parts = Parts {
-    ids: None,
-    types: None,
-    lods: None,
-    bounds: None,
-};
-
-/// Returns a query by ids, by types, by LoDs and by a box.
-pub const fn by_ids<'a>(ids: &'a [&'a str]) -> Parts<'a> {
-    Parts {
-        ids: Some(ids),
-        ..ALL
-    }
-}
-
-pub const fn by_types<'a>(types: &'a [&'a str]) -> Parts<'a> {
-    Parts {
-        types: Some(types),
-        ..ALL
-    }
-}
-
-pub const fn by_lods<'a>(lods: &'a [&'a str]) -> Parts<'a> {
-    Parts {
-        lods: Some(lods),
-        ..ALL
-    }
-}
-
-pub const fn by_box(bounds: &str) -> Parts<'_> {
-    Parts {
-        bounds: Some(bounds),
-        ..ALL
-    }
-}
-
-fn set_ids(query: &mut Query, ids: &[&str]) -> Result<(), QueryFault> {
-    query.start_ids();
-    for id in ids {
-        query.add_id(id)?;
-    }
-    Ok(())
-}
-
-fn set_types(query: &mut Query, types: &[&str]) -> Result<(), QueryFault> {
-    query.start_types();
-    for name in types {
-        query.add_type(name)?;
-    }
-    Ok(())
-}
-
-fn set_lods(query: &mut Query, lods: &[&str]) -> Result<(), QueryFault> {
-    query.start_lods();
-    for lod in lods {
-        query.add_lod(lod)?;
-    }
-    Ok(())
-}
-
-/// Returns the query of these parts.
-pub fn query_of(alloc: Global, parts: &Parts) -> Result<Query, QueryFault> {
-    let mut query = Query::all(alloc);
-    if let Some(ids) = parts.ids {
-        set_ids(&mut query, ids)?;
-    }
-    if let Some(types) = parts.types {
-        set_types(&mut query, types)?;
-    }
-    if let Some(lods) = parts.lods {
-        set_lods(&mut query, lods)?;
-    }
-    if let Some(bounds) = parts.bounds {
-        query.bbox(bounds)?;
-    }
-    Ok(query)
-}
 
 /// Runs over a text. Returns the outcome, and what was written.
 fn kept_of(alloc: Global, text: &[u8], limits: Limits, query: &Query) -> (Outcome, Vec<u8>) {
@@ -114,11 +28,6 @@ const USUAL: Pair = Pair {
     header: HEADER,
     feature: FEATURE,
 };
-
-/// A feature of a building with geometries of two LoDs, a road with one of a third, and a lake with
-/// none. It has the extent of the usual feature.
-pub const SEVERAL: &[u8] =
-    b"{\"type\":\"CityJSONFeature\",\"id\":\"b1\",\"CityObjects\":{\"b1\":{\"type\":\"Building\",\"geometry\":[{\"type\":\"MultiPoint\",\"lod\":\"1\",\"boundaries\":[0]},{\"type\":\"MultiPoint\",\"lod\":\"1.2\",\"boundaries\":[1]}]},\"r1\":{\"type\":\"Road\",\"geometry\":[{\"type\":\"MultiPoint\",\"lod\":\"2.2\",\"boundaries\":[2]}]},\"w1\":{\"type\":\"WaterBody\"}},\"vertices\":[[0,0,0],[1000,500,0],[500,1000,0]]}";
 
 const MIXED: Pair = Pair {
     header: HEADER,

@@ -2,18 +2,15 @@
 //! left out.
 //!
 //! The rows with a whole outcome are run whole, by single bytes, and cut in two at every place.
-use super::calls::{
-    Reading, check_bytes, check_ended, check_number, check_outcome, given, held, joined, outcome,
-    ran, refused,
-};
-use super::devices::SlowReader;
-use super::going::complete;
-use super::queries::{ALL, Parts, SEVERAL, by_box, by_ids, by_lods, by_types, query_of};
-use super::reports::{NoteReports, check_notes, going};
-use super::rows::{FEATURE, FIRST, HEADER, SMALL, STREAM};
+use super::calls::{check_bytes, check_ended, check_notes, check_number, check_outcome};
 use cj_budget::Limits;
 use cj_spans::Reason;
 use cj_stream::{End, Options, Outcome, Query, WriteSink};
+use cj_stream_samples::{
+    ALL, FEATURE, FIRST, HEADER, NoteReports, Parts, Reading, SEVERAL, SMALL, STREAM, SlowReader,
+    by_box, by_ids, by_lods, by_types, complete, given, going, held, joined, outcome, query_of,
+    ran, refused,
+};
 use std::alloc::Global;
 use std::process::Abort;
 use std::test::Fail;
@@ -79,7 +76,7 @@ fn came_of_cut(
         query,
         options,
     };
-    let outcome = given(rt, alloc, text, at, &mut sink, &mut reports, &reading)?;
+    let outcome = given(alloc, text, at, &mut sink, &mut reports, &reading)?;
     let written = sink.into_inner();
     Ok(Came {
         outcome,

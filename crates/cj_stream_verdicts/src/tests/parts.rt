@@ -1,13 +1,13 @@
 //! Streams that are read in parts. Runs over a header with some of the later lines give one joint
 //! outcome, and reports.
-use super::calls::{Reading, check_outcome, held, joined, outcome, ran, refused};
-use super::devices::SlowReader;
-use super::going::complete;
-use super::reports::{NoteReports, check_notes, going};
-use super::rows::{BEYOND, FEATURE, HEADER, SMALL};
+use super::calls::{check_notes, check_outcome};
 use cj_budget::Limits;
 use cj_spans::Reason;
 use cj_stream::{IgnoreSink, Options, Outcome, Query};
+use cj_stream_samples::{
+    BEYOND, FEATURE, HEADER, NoteReports, Reading, SMALL, SlowReader, complete, going, held,
+    joined, outcome, ran, refused,
+};
 use std::alloc::Global;
 use std::process::Abort;
 use std::test::Fail;

@@ -3,13 +3,10 @@
 //!
 //! There are two families. One is a feature that is cut short at each place. The other is a feature
 //! with a byte that is not UTF-8 at each place. All other vectors are in `table`.
-use super::calls::{
-    Reading, check_bound, check_bytes, check_ended, check_outcome, ran, written_by,
-};
-use super::devices::{CutReader, SlowReader};
-use super::rows::{FEATURE, HEADER};
+use super::calls::{check_bound, check_bytes, check_ended, check_outcome};
 use cj_budget::Limits;
 use cj_stream::{End, IgnoreSink, Options, Outcome, Query, Report, ReportSink};
+use cj_stream_samples::{CutReader, FEATURE, HEADER, Reading, SlowReader, ran, written_by};
 use std::alloc::{AllocError, Global};
 use std::io::Read;
 use std::process::Abort;
