@@ -18,8 +18,7 @@
  *   process. So read a file that others may write to.
  * - Do not call from a signal handler. In a child of a process with threads, do not call before exec.
  * - malloc, realloc and free belong to one allocator, and align a block as the C standard says. A call frees what it took before
- *   it returns. Let n be the line limit, or the length of the longer piece if that is less. Then a call takes at most 14 * n
- *   bytes, 16 bytes for each level of depth, 4 KB, and memory for the texts of the query.
+ *   it returns. By measurement, it has at most as many bytes at one time as cityseq_memory says.
  * - A thread has as much of the stack as cityseq_stack says. With glibc it has more by default. By measurement, a call takes at
  *   most 64 KB if no feature has more than 256 city objects, 128 KB under a line limit of 65,536, and else 2 MB.
  * - The processor has x86-64-v2: SSE 4.2, SSSE3 and POPCNT.
@@ -45,10 +44,9 @@ extern "C" {
 /* The interface that this file declares. cityseq_interface returns that of the library.
  *
  * 2: cityseq_tally is now cityseq_info, so that in C++ the struct needs no keyword. New are cityseq_features, the joins,
- *    cityseq_part_end, cityseq_line_begin, cityseq_stack and
- *    cityseq_version. A report has `begin`, and a tally has the transform. There are
- *    constants for the reasons and for the sizes of a tally. NULL is allowed if there are no bytes. After CITYSEQ_NO_MEMORY all
- *    counts are 0. After it and CITYSEQ_BAD_REQUEST a tally is as it was.
+ *    cityseq_part_end, cityseq_line_begin, cityseq_stack, cityseq_memory and cityseq_version. A report has `begin`, and a tally
+ *    has the transform. There are constants for the reasons and for the sizes of a tally. NULL is allowed if there are no bytes.
+ *    After CITYSEQ_NO_MEMORY all counts are 0. After it and CITYSEQ_BAD_REQUEST a tally is as it was.
  * 1: the first one. */
 #define CITYSEQ_INTERFACE 2
 
@@ -255,6 +253,15 @@ uint64_t cityseq_line_begin(const char *header, size_t header_length, const char
 /* Returns how many bytes of the stack a thread must have left for a call with this request. They are 131,072 if the line limit is
  * at most 65,536, else 2,097,152. */
 size_t cityseq_stack(const struct cityseq_request *request) CITYSEQ_NOT_NULL(1);
+
+/* Returns the most bytes that the blocks of a call have at one time, for this request and for pieces of these lengths. A block
+ * that realloc moves counts twice. Let n be the line limit, or the length of the longer piece if that is less, but at least 1.
+ * Let d be the depth limit. Then the bytes are the sum of these:
+ * - 2 * n for a header and a later line, and 24 * ((n + d + 1) / 2), rounded down, for their tokens.
+ * - 4 * (d - 64) if d is above 64.
+ * - For ids that are asked for: 3 * ids_length, 96 for each id, and 1,024. For LoDs the same.
+ * It is 0 if a limit is out of range, and stops at SIZE_MAX. */
+size_t cityseq_memory(const struct cityseq_request *request, size_t header_length, size_t part_length) CITYSEQ_NOT_NULL(1);
 
 /* Writes the words of a reason as far as they fit, in ASCII and without a NUL. It returns how many bytes they have, and 0 if no
  * reason has this code. */

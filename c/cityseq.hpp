@@ -138,6 +138,19 @@ class request {
         return raw;
     }
 
+    // Returns how many bytes of the stack a thread must have left for a call.
+    std::size_t stack() const noexcept {
+        const ::cityseq_request asked = raw();
+        return ::cityseq_stack(&asked);
+    }
+
+    // Returns the most bytes that the blocks of a call have at one time, for a header and a part of
+    // these lengths.
+    std::size_t memory(std::size_t header_length, std::size_t part_length) const noexcept {
+        const ::cityseq_request asked = raw();
+        return ::cityseq_memory(&asked, header_length, part_length);
+    }
+
   private:
     // A part of the query, as cityseq.h has it: texts with an LF between each two.
     struct part {

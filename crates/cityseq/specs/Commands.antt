@@ -1,6 +1,7 @@
 -- What `clap` is told of the command line: the program's commands, and the options of each.
 use Rattle.std.specs.Prelude.{◌≡◌, ℕ, List, [], ◌∷◌, Option, Some, true, false, codes, decimal}
-use Rattle.clap.specs.Words.{App, Rule, Text, app_of, new_app, new_rule, rule_of, rows_of, found_of, subcommand_of, with_rule, with_subcommand}
+use Rattle.clap.specs.Words.{App, Rule, Text, app_of, new_app, new_rule, rule_of, rows_of, found_of, subcommand_of}
+use Rattle.clap.specs.Words.{with_rule, with_subcommand}
 use Rattle.clap.specs.declared.builder.action.ArgAction.TheVariants.{SetTrue}
 use Rattle.clap.specs.declared.builder.arg.Arg.{Arg}
 use Rattle.clap.specs.declared.builder.command.Command.{Command}
@@ -14,7 +15,8 @@ text_rule name = record (new_rule name) { long = Some name; value_names = 1 }
 
 -- one that takes a number from the least to the most, with the one that is usual where none is given
 abbrev pub number_rule : Text → ℕ → ℕ → ℕ → Rule
-number_rule name usual least most = record (text_rule name) { defaults = decimal usual ∷ []; parser = Some (Unsigned least most) }
+number_rule name usual least most =
+    record (text_rule name) { defaults = decimal usual ∷ []; parser = Some (Unsigned least most) }
 
 -- and one that takes none: it is given or not
 abbrev pub flag_rule : Text → Rule
@@ -45,7 +47,8 @@ abbrev pub filter_app : App
 filter_app =
     let common = with_tree (with_keep_going (with_limits (new_app (codes "filter")))) in
     let ids = with_rule (with_rule common (flag_rule (codes "exclude"))) (text_rule (codes "id")) in
-    with_rule (with_rule (with_rule ids (text_rule (codes "type"))) (text_rule (codes "lod"))) (text_rule (codes "bbox"))
+    with_rule (with_rule (with_rule ids (text_rule (codes "type"))) (text_rule (codes "lod")))
+    (text_rule (codes "bbox"))
 
 abbrev pub info_app : App
 info_app = with_tree (with_limits (new_app (codes "info")))

@@ -21,17 +21,20 @@ NothingRow = criteria_by no_texts ≡ Ok everything
 -- ids stand in the order in which they are given, and the empty text is one id
 abbrev pub IdRows : Type 0
 IdRows =
-    (criteria_by (record no_texts { ids = Some (codes "b2,b1") }) ≡ Ok (record everything { ids = Some (codes "b2" ∷ codes "b1" ∷ []) }))
+    (criteria_by (record no_texts { ids = Some (codes "b2,b1") })
+    ≡ Ok (record everything { ids = Some (codes "b2" ∷ codes "b1" ∷ []) }))
     × (criteria_by (record no_texts { ids = Some [] }) ≡ Ok (record everything { ids = Some ([] ∷ []) }))
 
 -- levels of detail are texts too
 abbrev pub LodRow : Type 0
-LodRow = criteria_by (record no_texts { lods = Some (codes "2.2,1") }) ≡ Ok (record everything { lods = Some (codes "2.2" ∷ codes "1" ∷ []) })
+LodRow = criteria_by (record no_texts { lods = Some (codes "2.2,1") })
+    ≡ Ok (record everything { lods = Some (codes "2.2" ∷ codes "1" ∷ []) })
 
 -- types are told by their names: no type has the empty name, and none that begins with `+`
 abbrev pub TypeRows : Type 0
 TypeRows =
-    (criteria_by (record no_texts { types = Some (codes "Building") }) ≡ Ok (record everything { types = Some buildings }))
+    (criteria_by (record no_texts { types = Some (codes "Building") })
+    ≡ Ok (record everything { types = Some buildings }))
     × (criteria_by (record no_texts { types = Some (codes "Building,") }) ≡ Err UnknownTypeName)
     × (criteria_by (record no_texts { types = Some (codes "+Shed") }) ≡ Err UnknownTypeName)
 
@@ -48,7 +51,12 @@ OrderRows =
 -- all options at once
 abbrev pub AllRow : Type 0
 AllRow =
-    criteria_by (record { ids = Some (codes "b1"); types = Some (codes "Building"); lods = Some (codes "1"); box = Some (codes "1001,2001,1005,2005") })
+    criteria_by (record {
+      ids = Some (codes "b1");
+      types = Some (codes "Building");
+      lods = Some (codes "1");
+      box = Some (codes "1001,2001,1005,2005");
+    })
     ≡ Ok (record {
       ids = Some (codes "b1" ∷ []);
       types = Some buildings;

@@ -1,10 +1,12 @@
 -- The criteria that the options of `filter` make.
-use Rattle.std.specs.Prelude.{◌≡◌, ◌⊎◌, ℕ, List, Bool, Option, Some, None, Result, Ok, Err, IsSome, IsOk, option_copied, option_map}
+use Rattle.std.specs.Prelude.{◌≡◌, ◌⊎◌, ℕ, List, Bool, Option, Some, None, Result, Ok, Err, IsSome, IsOk, option_copied}
+use Rattle.std.specs.Prelude.{option_map}
 use Rattle.cj_stream.specs.Criteria.{Criteria, Box}
 use Rattle.cj_stream.specs.Adding.{flags_with, no_types}
 use Rattle.cj_stream.specs.BoxText.{fields, box_text}
 use Rattle.cj_stream.specs.declared.query.fault.QueryFault.{QueryFault}
-use Rattle.cj_stream.specs.declared.query.fault.QueryFault.TheVariants.{Memory, UnknownTypeName, BadBox, BoxRange, EmptyBox}
+use Rattle.cj_stream.specs.declared.query.fault.QueryFault.TheVariants.{Memory, UnknownTypeName, BadBox, BoxRange}
+use Rattle.cj_stream.specs.declared.query.fault.QueryFault.TheVariants.{EmptyBox}
 use Rattle.cityseq.specs.declared.words.QueryTexts.{QueryTexts}
 
 -- the texts of the options of a query that were given
@@ -42,14 +44,16 @@ box_wanted None = Ok None
 box_wanted (Some text) = box_or_fault (box_text text)
 
 -- the criteria of these ids and LoDs, types and a box; the first refusal of the last two, if there is one
-abbrev pub criteria_with : Option (List (List ℕ)) → Option (List (List ℕ)) → Result (Option (List Bool)) QueryFault → Result (Option Box) QueryFault → Result Criteria QueryFault
+abbrev pub criteria_with : Option (List (List ℕ)) → Option (List (List ℕ)) → Result (Option (List Bool)) QueryFault
+    → Result (Option Box) QueryFault → Result Criteria QueryFault
 criteria_with ids lods (Err fault) box = Err fault
 criteria_with ids lods (Ok types) (Err fault) = Err fault
 criteria_with ids lods (Ok types) (Ok box) = Ok (record { ids = ids; types = types; lods = lods; box = box })
 
 -- the criteria that texts make: ids, types and LoDs are what stands between the commas, be it nothing
 abbrev pub criteria_by : Texts → Result Criteria QueryFault
-criteria_by t = criteria_with (option_map fields t.ids) (option_map fields t.lods) (types_wanted t.types) (box_wanted t.box)
+criteria_by t = criteria_with (option_map fields t.ids) (option_map fields t.lods) (types_wanted t.types)
+    (box_wanted t.box)
 
 -- memory is wanted for ids, or for LoDs, which come after types that are not refused
 abbrev pub WantsMemory : Texts → Type 0

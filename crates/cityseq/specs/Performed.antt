@@ -23,7 +23,8 @@ use Rattle.cj_stream.specs.declared.ending.End.TheVariants.{Complete, Refused, R
 use Rattle.cj_stream.specs.declared.output.WriteFault.{WriteFault as Unwritten}
 use Rattle.cj_stream.specs.declared.reporting.Report.{Report}
 use Rattle.cj_stream.specs.declared.running.Outcome.{Outcome}
-use Rattle.cityseq.specs.Report.{Reports, Wrote, fault_line, limit_line, no_command_line, query_line, status_of, status_after, status_of_query}
+use Rattle.cityseq.specs.Report.{Reports, Wrote, fault_line, limit_line, no_command_line, query_line, status_of}
+use Rattle.cityseq.specs.Report.{status_after, status_of_query}
 use Rattle.cityseq.specs.Reporting.{AreReported, report_lines}
 use Rattle.cityseq.specs.Summary.{check_text, report}
 use Rattle.cityseq.specs.declared.ask.Ask.{Ask}
@@ -40,10 +41,11 @@ abbrev pub end_of_writing : Result (Unit {0}) Unwritten → End
 end_of_writing (Ok x) = Complete
 end_of_writing (Err fault) = WriteFault
 
--- After a run that wrote nothing and ended so a text is written where the run is complete, and nothing otherwise. What is
--- told is the run's end; or a write fault where a write of the text failed, and then a prefix of it was written.
+-- After a run that wrote nothing and ended so a text is written where the run is complete, and nothing otherwise. What
+-- is told is the run's end; or a write fault where a write of the text failed, and then a prefix of it was written.
 abbrev pub Says : List ℕ → End → End → Channel → Channel → Type 0
-Says text Complete told old new = (written : Result (Unit {0}) Unwritten) × (told ≡ end_of_writing written) × Wrote text written old new
+Says text Complete told old new = (written : Result (Unit {0}) Unwritten) × (told ≡ end_of_writing written)
+    × Wrote text written old new
 Says text (Refused line place reason) told old new = (told ≡ Refused line place reason) × Keeps old.bytes new.bytes
 Says text ReadFault told old new = (told ≡ ReadFault) × Keeps old.bytes new.bytes
 Says text ReadLimit told old new = (told ≡ ReadLimit) × Keeps old.bytes new.bytes
@@ -53,7 +55,8 @@ Says text Memory told old new = (told ≡ Memory) × Keeps old.bytes new.bytes
 -- of the bytes r: how many good lines they have, how many features, and how many lines are reported as refused
 abbrev pub SaysCheck : Rules → List ℕ → End → End → Channel → Channel → Type 0
 SaysCheck rules r e told old new =
-    Says (check_text (length (good rules r)) (length (filter is_feature (kept rules r))) (length (reported rules r))) e told old new
+    Says (check_text (length (good rules r)) (length (filter is_feature (kept rules r))) (length (reported rules r))) e
+    told old new
 
 -- of the bytes r: how many good lines they have, their tally, and what was held at most
 pub record SaysReport (rules : Rules) (r : List ℕ) (e told : End) (old new : Channel) : Type 0 where
@@ -77,8 +80,8 @@ rules_of_ask (Check limits options) = all_under limits options
 rules_of_ask (Filter limits query options) = rules_for limits query options
 rules_of_ask (Info limits options) = all_under limits options
 
--- a command takes the options that are set: `filter` alone leaves out what is asked for, and a report of `info` is of valid
--- streams alone, so it does not go on
+-- a command takes the options that are set: `filter` alone leaves out what is asked for, and a report of `info` is of
+-- valid streams alone, so it does not go on
 abbrev pub TakesOptions : Ask → Type 0
 TakesOptions (Check limits options) = options.exclude ≡ false
 TakesOptions (Filter limits query options) = Unit {0}
@@ -88,20 +91,23 @@ TakesOptions (Info limits options) = (options.keep_going ≡ false) × (options.
 abbrev pub run_of : Ask → List ℕ → Outcome → Run
 run_of ask r outcome = record { rules = rules_of_ask ask; read = r; outcome = outcome }
 
--- What is written of the bytes r, over which a run went so, with these reports, and the end that is told of it. Of what is
--- copied the headline holds.
+-- What is written of the bytes r, over which a run went so, with these reports, and the end that is told of it. Of what
+-- is copied the headline holds.
 abbrev pub Answers : Ask → List ℕ → Type 0 → Outcome → List Report → End → Channel → Channel → Type 0
-Answers (Check limits options) r at_end outcome reports told old new = SaysCheck (all_under limits options) r outcome.ended told old new
+Answers (Check limits options) r at_end outcome reports told old new =
+    SaysCheck (all_under limits options) r outcome.ended told old new
 Answers (Filter limits query options) r at_end outcome reports told old new =
     (told ≡ outcome.ended) × Writes (rules_for limits query options) r outcome.ended old.bytes new.bytes
     × HeadlineOfRun Collects (run_of (Filter limits query options) r outcome) at_end old new [] reports
     × WritesLines (rules_for limits query options) r outcome.lines outcome.ended old.bytes new.bytes
-Answers (Info limits options) r at_end outcome reports told old new = SaysReport (all_under limits options) r outcome.ended told old new
+Answers (Info limits options) r at_end outcome reports told old new =
+    SaysReport (all_under limits options) r outcome.ended told old new
 
 -- What is asked was done with bytes r that were read, but for what is said at its end: the account of the run over
 -- them, which stopped in time; its reports, which a sink of reports has taken; what standard output has got, and that a
 -- write to it failed where that is told; and how many lines were refused that reading went on after.
-pub record Does {N : Type 0} (notes : N → Report → N → Type 0) (ask : Ask) (r : List ℕ) (at_end : Type 0) (told : Told) (old new : Channel) (n m : N) : Type 0 where
+pub record Does {N : Type 0} (notes : N → Report → N → Type 0) (ask : Ask) (r : List ℕ) (at_end : Type 0) (told : Told)
+    (old new : Channel) (n m : N) : Type 0 where
   pub outcome : Outcome
   pub refused : List Report
   pub account : Account (run_of ask r outcome) at_end
@@ -170,9 +176,9 @@ TellsError kind answer old new =
     ⊎ ((kind ≢ OutOfMemory) × IsNoHelp kind × (new.out ≡ old.out) × TellsWrongWords answer old.err new.err)
     ⊎ (¬ IsNoHelp kind × TellsHelp answer old new)
 
--- Nothing is done with the stream, for this reason: an error of the words is told by its kind; and that no command is named,
--- the fault of a limit and that of a query each by a line of its own. But for help nothing is written to standard output, and
--- it is not flushed.
+-- Nothing is done with the stream, for this reason: an error of the words is told by its kind; and that no command is
+-- named, the fault of a limit and that of a query each by a line of its own. But for help nothing is written to
+-- standard output, and it is not flushed.
 abbrev pub Declines : NoAsk → ℕ → Channels → Channels → Type 0
 Declines (Words error) answer old new = TellsError (kind_of error) answer old new
 Declines NoCommand answer old new = (new.out ≡ old.out) × TellsFault no_command_line 2 answer old.err new.err

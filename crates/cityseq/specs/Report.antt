@@ -1,5 +1,6 @@
 -- What the program says of an end.
-use Rattle.std.specs.Prelude.{◌≡◌, ℕ, zero, suc, List, [], ◌∷◌, ◌++◌, Option, Some, Result, Ok, Err, OnOk, OnErr, codes, decimal}
+use Rattle.std.specs.Prelude.{◌≡◌, ℕ, zero, suc, List, [], ◌∷◌, ◌++◌, Option, Some, Result, Ok, Err, OnOk, OnErr, codes}
+use Rattle.std.specs.Prelude.{decimal}
 use Rattle.std.specs.Io.KnownBytes.{Appends}
 use Rattle.cj_stream.specs.Cut.{joined}
 use Rattle.cj_stream.specs.Output.{Channel}
@@ -10,7 +11,8 @@ use Rattle.cj_budget.specs.declared.limits.LimitFault.TheVariants.{LineLimit, De
 use Rattle.cj_stream.specs.declared.output.WriteFault.{WriteFault as Unwritten}
 use Rattle.cj_spans.specs.Reason.{code_of, words_of}
 use Rattle.cj_stream.specs.declared.query.fault.QueryFault.{QueryFault}
-use Rattle.cj_stream.specs.declared.query.fault.QueryFault.TheVariants.{Memory as NoMemory, UnknownTypeName, BadBox, BoxRange, EmptyBox}
+use Rattle.cj_stream.specs.declared.query.fault.QueryFault.TheVariants.{Memory as NoMemory, UnknownTypeName, BadBox}
+use Rattle.cj_stream.specs.declared.query.fault.QueryFault.TheVariants.{BoxRange, EmptyBox}
 use Rattle.cj_stream.specs.declared.ending.End.{End}
 use Rattle.cj_stream.specs.declared.ending.End.TheVariants.{Complete, Refused, ReadFault, ReadLimit, WriteFault, Memory}
 
@@ -39,7 +41,8 @@ status_after (suc n) Memory = status_of Memory
 abbrev pub fault_line : End → List ℕ
 fault_line Complete = []
 fault_line (Refused line place reason) =
-    joined (codes "line " ∷ decimal line ∷ codes ", byte " ∷ decimal place ∷ codes ": " ∷ decimal (code_of reason) ∷ codes " " ∷ words_of reason ∷ codes "\n" ∷ [])
+    joined (codes "line " ∷ decimal line ∷ codes ", byte " ∷ decimal place ∷ codes ": " ∷ decimal (code_of reason)
+    ∷ codes " " ∷ words_of reason ∷ codes "\n" ∷ [])
 fault_line ReadFault = codes "read fault\n"
 fault_line ReadLimit = codes "read limit\n"
 fault_line WriteFault = codes "write fault\n"
@@ -61,7 +64,8 @@ status_of_query BadBox = 2
 status_of_query BoxRange = 2
 status_of_query EmptyBox = 2
 
--- what stands on standard error of a limit that is out of its range, and where the words name no command; the status is 2
+-- what stands on standard error of a limit that is out of its range, and where the words name no command; the status is
+-- 2
 abbrev pub limit_line : LimitFault → List ℕ
 limit_line LineLimit = codes "the line limit is out of range\n"
 limit_line DepthLimit = codes "the depth limit is out of range\n"
@@ -86,9 +90,10 @@ WroteAfter (Ok x) text answer old new = Wrote text answer old new
 WroteAfter (Err f) text answer old new = (answer ≡ Err f) × (new ≡ old)
 
 -- a run ended so, its output noted this of the flush after it, and this is shown: the run's end, or a write fault where
--- that flush failed; and the line of that end after a text that came before, of which standard error has taken all, or a
--- prefix where it failed
-pub record Reports (e : End) (before : List ℕ) (noted : Option (Result (Unit {0}) Unwritten)) (shown : Shown) (old new : Channel) : Type 0 where
+-- that flush failed; and the line of that end after a text that came before, of which standard error has taken all, or
+-- a prefix where it failed
+pub record Reports (e : End) (before : List ℕ) (noted : Option (Result (Unit {0}) Unwritten)) (shown : Shown)
+    (old new : Channel) : Type 0 where
   pub flushed : Result (Unit {0}) Unwritten
   pub told : noted ≡ Some flushed
   pub end : shown.end ≡ shown_end flushed e

@@ -1,4 +1,5 @@
--- What is reported of the invalid lines that a run went on after, and what a sink that writes these reports makes of its output.
+-- What is reported of the invalid lines that a run went on after, and what a sink that writes these reports makes of
+-- its output.
 use Rattle.std.specs.Prelude.{◌≡◌, ℕ, List, [], Option, Result}
 use Rattle.std.specs.List.{flat_map}
 use Rattle.cj_stream.specs.Output.{Channel, channel}
@@ -14,9 +15,10 @@ use Rattle.cityseq.specs.declared.reporting.WriteReports.{WriteReports}
 
 -- ---- the reports of a run
 
--- these are the reports of a run, one for each line that was refused and gone on after: what was collected of it from its
--- start; and they took a sink of reports from one state to another
-pub record AreReported {N : Type 0} (notes : N → Report → N → Type 0) (run : Run) (reports : List Report) (old new : N) : Type 0 where
+-- these are the reports of a run, one for each line that was refused and gone on after: what was collected of it from
+-- its start; and they took a sink of reports from one state to another
+pub record AreReported {N : Type 0} (notes : N → Report → N → Type 0) (run : Run) (reports : List Report) (old new : N)
+    : Type 0 where
   pub collected : RunsNoting Collects run [] reports
   pub took : Took notes old reports new
 
@@ -41,6 +43,8 @@ abbrev pub writing : {E : Type 0} → WriteReports E → Result (Unit {0}) Unwri
 writing w = w.written
 
 -- a report is written as its line, after all others, and the sink keeps its loan
-pub record WritesReport {E : Type 0} (contents : E → Option (List ℕ)) (a : WriteReports E) (report : Report) (b : WriteReports E) : Type 0 where
+pub record WritesReport {E : Type 0} (contents : E → Option (List ℕ)) (a : WriteReports E) (report : Report)
+    (b : WriteReports E) : Type 0 where
   pub same_loan : loan_name b ≡ loan_name a
-  pub line : WroteAfter (writing a) (report_line report) (writing b) (channel contents (lent_output a)) (channel contents (lent_output b))
+  pub line : WroteAfter (writing a) (report_line report) (writing b) (channel contents (lent_output a))
+      (channel contents (lent_output b))

@@ -14,7 +14,8 @@ abbrev pub check_text : ℕ → ℕ → ℕ → List ℕ
 check_text lines features zero =
     joined (codes "valid lines=" ∷ decimal lines ∷ codes " features=" ∷ decimal features ∷ codes "\n" ∷ [])
 check_text lines features (suc n) =
-    joined (codes "invalid lines=" ∷ decimal lines ∷ codes " features=" ∷ decimal features ∷ codes " refused=" ∷ decimal (suc n) ∷ codes "\n" ∷ [])
+    joined (codes "invalid lines=" ∷ decimal lines ∷ codes " features=" ∷ decimal features ∷ codes " refused="
+    ∷ decimal (suc n) ∷ codes "\n" ∷ [])
 
 -- ---- what `info` says
 

@@ -1,10 +1,11 @@
 -- Lines of text that the program writes.
 use Rattle.std.specs.Prelude.{ℕ, suc, zero, List, [], ◌∷◌, ◌++◌, decimal}
 use Rattle.std.specs.List.{flat_map}
+use Rattle.cj_spans.specs.Signs.{newline, space}
 
 -- a line: a name, and words after it, each behind a space
 abbrev pub text_line : List ℕ → List (List ℕ) → List ℕ
-text_line name words = name ++ flat_map (λ word. 32 ∷ word) words ++ 10 ∷ []
+text_line name words = name ++ flat_map (λ word. space ∷ word) words ++ newline ∷ []
 
 -- a line with a count
 abbrev pub count_line : List ℕ → ℕ → List ℕ

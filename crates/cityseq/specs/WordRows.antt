@@ -1,12 +1,14 @@
 -- What small command lines name and give, and what is wrong with others.
 use Rattle.std.specs.Prelude.{◌≡◌, List, [], ◌∷◌, Option, Some, codes, option_map}
 use Rattle.clap.specs.Words.{Text, fault_of, first_of, subcommand_of}
-use Rattle.clap.specs.declared.error.kind.ErrorKind.TheVariants.{DisplayHelp, DisplayHelpOnMissingArgumentOrSubcommand, UnknownArgument, ValueValidation}
+use Rattle.clap.specs.declared.error.kind.ErrorKind.TheVariants.{DisplayHelp, DisplayHelpOnMissingArgumentOrSubcommand}
+use Rattle.clap.specs.declared.error.kind.ErrorKind.TheVariants.{UnknownArgument, ValueValidation}
 use Rattle.cityseq.specs.Commands.{program_app}
 
 -- the command that the words name, and the text that it has of this option
 abbrev pub found_in : List Text → Text → Option (Text × Option Text)
-found_in words option = option_map (λ p. (p.0, first_of option p.1)) (subcommand_of program_app (codes "cityseq" ∷ words))
+found_in words option = option_map (λ p. (p.0, first_of option p.1))
+    (subcommand_of program_app (codes "cityseq" ∷ words))
 
 -- the limits that hold where none is given
 abbrev pub UsualRow : Type 0
@@ -24,7 +26,8 @@ GivenRow =
     × (found_in words (codes "id") ≡ Some (codes "filter", Some (codes "b")))
     × (found_in words (codes "exclude") ≡ Some (codes "filter", Some (codes "true")))
 
--- a file that is named, an option that a command does not take, a limit that is out of its range, no word at all, and help
+-- a file that is named, an option that a command does not take, a limit that is out of its range, no word at all, and
+-- help
 abbrev pub FaultRow : Type 0
 FaultRow =
     (fault_of program_app (codes "cityseq" ∷ codes "check" ∷ codes "town.city.jsonl" ∷ []) ≡ UnknownArgument ∷ [])

@@ -1,5 +1,6 @@
 -- What the words of a command line say, as `clap` found it.
-use Rattle.std.specs.Prelude.{◌≡◌, ◌≢◌, ℕ, ◌<◌, ◌^◌, List, Bool, true, false, Some, None, Ok, codes, decimal, option_map}
+use Rattle.std.specs.Prelude.{◌≡◌, ◌≢◌, ℕ, ◌<◌, ◌^◌, List, Bool, true, false, Some, None, Ok, codes, decimal}
+use Rattle.std.specs.Prelude.{option_map}
 use Rattle.clap.specs.Words.{HasKind, Text, fault_of, found_of, first_value, one_text, subcommand_of}
 use Rattle.clap.specs.declared.parser.matches.ArgMatches.{ArgMatches}
 use Rattle.cj_budget.specs.Limits.{LimitPair, InLine, InDepth}
@@ -70,7 +71,8 @@ pub record HasInfoOptions (m : ArgMatches) (options : OptionSet) : Type 0 where
 -- a command of this name with these options asks for this
 abbrev pub AsksBy : List ℕ → ArgMatches → Ask → Type 0
 AsksBy name m (Check limits options) = (name ≡ codes "check") × HasLimits m limits × HasCheckOptions m options
-AsksBy name m (Filter limits query options) = (name ≡ codes "filter") × HasLimits m limits × (criteria_by (texts_in m) ≡ Ok (criteria query)) × HasFilterOptions m options
+AsksBy name m (Filter limits query options) = (name ≡ codes "filter") × HasLimits m limits
+    × (criteria_by (texts_in m) ≡ Ok (criteria query)) × HasFilterOptions m options
 AsksBy name m (Info limits options) = (name ≡ codes "info") × HasLimits m limits × HasInfoOptions m options
 
 -- a command of this name with these options cannot be asked: it is `filter`, and this is the first refusal of its texts
@@ -85,18 +87,21 @@ IsNoCommand name = (name ≢ codes "check") × (name ≢ codes "filter") × (nam
 abbrev pub AsksFor : List Text → Ask → Type 0
 AsksFor words ask = (name : List ℕ) × (options : ArgMatches) × IsCalled words name options × AsksBy name options ask
 
--- what a command of this name asks for with these options cannot be done: it is none of the program's; this is the first limit
--- that is out of its range; or this is the first refusal of its texts
+-- what a command of this name asks for with these options cannot be done: it is none of the program's; this is the
+-- first limit that is out of its range; or this is the first refusal of its texts
 abbrev pub Refuses : List ℕ → ArgMatches → NoAsk → Type 0
 Refuses name m (Words error) = ⊥
 Refuses name m NoCommand = IsNoCommand name
 Refuses name m (Limits fault) = RefusesLimits m fault
 Refuses name m (Query fault) = CannotAsk name m fault
 
--- what these words ask for cannot be done: by the rules of `clap` they have a fault or ask for help, or memory was refused to
--- it; they name no command of the program; or a command that they name refuses its limits or its query
+-- what these words ask for cannot be done: by the rules of `clap` they have a fault or ask for help, or memory was
+-- refused to it; they name no command of the program; or a command that they name refuses its limits or its query
 abbrev pub MayDecline : List Text → NoAsk → Type 0
 MayDecline words (Words error) = HasKind (fault_of program_app words) error
-MayDecline words NoCommand = (name : List ℕ) → option_map (λ p. p.0) (subcommand_of program_app words) ≡ Some name → IsNoCommand name
-MayDecline words (Limits fault) = (name : List ℕ) × (options : ArgMatches) × IsCalled words name options × Refuses name options (Limits fault)
-MayDecline words (Query fault) = (name : List ℕ) × (options : ArgMatches) × IsCalled words name options × Refuses name options (Query fault)
+MayDecline words NoCommand = (name : List ℕ) → option_map (λ p. p.0) (subcommand_of program_app words) ≡ Some name
+    → IsNoCommand name
+MayDecline words (Limits fault) = (name : List ℕ) × (options : ArgMatches) × IsCalled words name options
+    × Refuses name options (Limits fault)
+MayDecline words (Query fault) = (name : List ℕ) × (options : ArgMatches) × IsCalled words name options
+    × Refuses name options (Query fault)

@@ -4,7 +4,8 @@ ghost use Rattle.std.specs.Io.KnownBytes.{Appends};
 ghost use Rattle.cj_stream.specs.Sink.{AppendsPart, RisesOnErr};
 ghost use Rattle.cj_stream.specs.Output.{channel, output_writer, output_failures};
 ghost use Rattle.cityseq.specs.Report.{Wrote};
-ghost use Rattle.cityseq.specs.Summary.{check_text, numbers_line, power_text, types_text, class_names, lods_text, range_line, ranges_text, tally_text, peaks_text, report};
+ghost use Rattle.cityseq.specs.Summary.{check_text, numbers_line, power_text, types_text, class_names, lods_text};
+ghost use Rattle.cityseq.specs.Summary.{range_line, ranges_text, tally_text, peaks_text, report};
 ghost use Rattle.cityseq.specs.Text.{text_line, count_line, counted};
 
 use crate::report::{write_parts, write_text};

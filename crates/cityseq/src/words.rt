@@ -3,9 +3,11 @@
 ghost use Rattle.std.specs.Prelude.{◌≡◌, IfOk, IfErr, true, codes, decimal, map, string_bytes};
 ghost use Rattle.clap.specs.Words.{App, FailsBy, fault_of, kind_of, subcommand_of, subcommand_rows_of, new_app, takes};
 ghost use Rattle.clap.specs.declared.error.kind.ErrorKind.{ErrorKind};
-ghost use Rattle.cityseq.specs.Commands.{IsOption, IsCommand, line_rule, depth_rule, flag_rule, text_rule, with_limits as limited, check_app, filter_app, info_app, program_app};
+ghost use Rattle.cityseq.specs.Commands.{IsOption, IsCommand, line_rule, depth_rule, flag_rule, text_rule};
+ghost use Rattle.cityseq.specs.Commands.{with_limits as limited, check_app, filter_app, info_app, program_app};
 ghost use Rattle.cityseq.specs.Options.{texts_of as texts_given};
-ghost use Rattle.cityseq.specs.Words.{texts_in, HasNumber, HasLimits, RefusesLimits, HasFlag, HasCheckOptions, HasFilterOptions, HasInfoOptions};
+ghost use Rattle.cityseq.specs.Words.{texts_in, HasNumber, HasLimits, RefusesLimits, HasFlag, HasCheckOptions};
+ghost use Rattle.cityseq.specs.Words.{HasFilterOptions, HasInfoOptions};
 
 use cj_budget::{LimitFault, Limits, USUAL_DEPTH, USUAL_LINE};
 use cj_stream::Options;

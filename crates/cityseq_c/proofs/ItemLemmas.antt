@@ -15,7 +15,7 @@ abbrev pub steps : Split ℕ → Option (Bor (List ℕ)) → Split ℕ → Type 
 steps = split_steps FindsChar (λ a b. b ≡ a)
 
 -- the items of a text that is not empty
-items-some : (s : List ℕ) → nat_eq (length s) 0 ≡ false → items s ≡ slice_split (λ c. nat_eq c 10) s
+pub items-some : (s : List ℕ) → nat_eq (length s) 0 ≡ false → items s ≡ slice_split (λ c. nat_eq c 10) s
 items-some [] some = absurd (cc some)
 items-some (b ∷ s) some = refl
 

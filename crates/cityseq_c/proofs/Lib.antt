@@ -3,6 +3,7 @@ pub mod AskedLemmas
 pub mod BitLemmas
 pub mod BoxLemmas
 pub mod CalledLemmas
+pub mod CountLemmas
 pub mod CursorLemmas
 pub mod CuttingLemmas
 pub mod FaultLemmas
@@ -18,6 +19,7 @@ pub mod RangeLemmas
 pub mod RecordLemmas
 pub mod ReportLemmas
 pub mod RoomLemmas
+pub mod RowLemmas
 pub mod SeekLemmas
 pub mod SpotLemmas
 pub mod TallyLemmas

@@ -2,7 +2,8 @@
 use Rattle.std.specs.Prelude.{ℕ, Result, Ok, Err}
 use Rattle.cj_spans.specs.Reason.{code_of}
 use Rattle.cj_stream.specs.declared.ending.End.{End}
-use Rattle.cj_stream.specs.declared.ending.End.TheVariants.{Complete, Refused, ReadFault, ReadLimit, WriteFault, Memory as NoMemory}
+use Rattle.cj_stream.specs.declared.ending.End.TheVariants.{Complete, Refused, ReadFault, ReadLimit, WriteFault}
+use Rattle.cj_stream.specs.declared.ending.End.TheVariants.{Memory as NoMemory}
 use Rattle.cj_stream.specs.declared.running.Outcome.{Outcome}
 use Rattle.cityseq_c.specs.Request.{fault_code}
 use Rattle.cityseq_c.specs.declared.answer.Answer.{Answer}

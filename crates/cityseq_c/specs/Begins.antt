@@ -8,7 +8,8 @@ use Rattle.cityseq_c.specs.Features.{Place}
 abbrev pub begin_of : List ℕ → ℕ → ℕ
 begin_of text line = length (flat_map raw (take (line - 1) (lines text)))
 
--- a place is behind the first lines of a part, whose first is the second of the stream: that number of lines, and their bytes
+-- a place is behind the first lines of a part, whose first is the second of the stream: that number of lines, and their
+-- bytes
 pub record IsAlong (part : List ℕ) (p : Place) : Type 0 where
   pub line : 2 ≤ p.line
   pub begin : p.begin ≡ length (flat_map raw (take (p.line - 2) (lines part)))
@@ -16,4 +17,5 @@ pub record IsAlong (part : List ℕ) (p : Place) : Type 0 where
 
 -- the later lines of a text begin behind the header, where they begin in the part
 abbrev pub AreBehind : List ℕ → List ℕ → Type 0
-AreBehind header part = (line : ℕ) → 2 ≤ line → begin_of (header ++ part) line ≡ length header + length (flat_map raw (take (line - 2) (lines part)))
+AreBehind header part = (line : ℕ) → 2 ≤ line
+    → begin_of (header ++ part) line ≡ length header + length (flat_map raw (take (line - 2) (lines part)))

@@ -1,5 +1,6 @@
 -- What the calls of C answer.
-use Rattle.std.specs.Prelude.{◌≡◌, ◌⊎◌, ℕ, ◌+◌, ◌<◌, ◌≤◌, ◌≢◌, List, ◌++◌, Some, Result, Ok, Err, true, length, slice_get, take}
+use Rattle.std.specs.Prelude.{◌≡◌, ◌⊎◌, ℕ, ◌+◌, ◌<◌, ◌≤◌, ◌≢◌, List, ◌++◌, Some, Result, Ok, Err, true, length}
+use Rattle.std.specs.Prelude.{slice_get, take}
 use Rattle.cj_stream.specs.declared.ending.End.TheVariants.{WriteFault}
 use Rattle.cj_stream.specs.declared.running.Outcome.{Outcome}
 use Rattle.cj_stream.specs.Headline.{IsUnhindered}
@@ -19,16 +20,18 @@ use Rattle.cityseq_c.specs.declared.request.NotJudged.{NotJudged}
 use Rattle.cityseq_c.specs.declared.request.Request.{Request}
 use Rattle.cityseq_c.specs.declared.tally.Tally.{Tally}
 
--- A call over a header and a part, by how it went: they were judged, as one stream, by the rules that were asked for, and this is
--- told of it, with what else comes of these; or nothing was read, for what is wrong or for want of memory, and no room has
--- changed.
-abbrev pub Goes : Request → List ℕ → List ℕ → List Told → List Told → (Rules → Outcome → Type 0) → Result Outcome NotJudged → Type 0
+-- A call over a header and a part, by how it went: they were judged, as one stream, by the rules that were asked for,
+-- and this is told of it, with what else comes of these; or nothing was read, for what is wrong or for want of memory,
+-- and no room has changed.
+abbrev pub Goes : Request → List ℕ → List ℕ → List Told → List Told → (Rules → Outcome → Type 0)
+    → Result Outcome NotJudged → Type 0
 Goes r header part old new also (Ok outcome) =
     (rules : Rules) × IsAsked r rules × Tells rules (header ++ part) outcome old new × also rules outcome
 Goes r header part old new also (Err why) = RefusesCall r header part why × (new ≡ old)
 
 -- a call answers by how it went, where so many bytes of output were written
-pub record Calls (r : Request) (header part : List ℕ) (old new : List Told) (also : Rules → Outcome → Type 0) (written : ℕ) (answer : Answer) : Type 0 where
+pub record Calls (r : Request) (header part : List ℕ) (old new : List Told) (also : Rules → Outcome → Type 0)
+    (written : ℕ) (answer : Answer) : Type 0 where
   pub went : Result Outcome NotJudged
   pub goes : Goes r header part old new also went
   pub told : answer ≡ answer_to went written
@@ -50,8 +53,8 @@ pub record IsFull (rules : Rules) (text out : List ℕ) (written n : ℕ) : Type
   pub kept : is_kept (verdict rules (take n (lines text)) next.content) ≡ true
   pub full : length out < written + length (raw next)
 
--- what was written of a text: its output, or that of the lines that were dealt with where the next one did not fit; room for as
--- many bytes as the text has is always enough
+-- what was written of a text: its output, or that of the lines that were dealt with where the next one did not fit;
+-- room for as many bytes as the text has is always enough
 pub record Copied (rules : Rules) (text out : List ℕ) (written : ℕ) (outcome : Outcome) : Type 0 where
   pub all : IsUnhindered outcome.ended → IsWritten (output rules text) out written
   pub full : outcome.ended ≡ WriteFault → IsFull rules text out written outcome.lines
@@ -59,7 +62,9 @@ pub record Copied (rules : Rules) (text out : List ℕ) (written : ℕ) (outcome
 
 -- a filter, with what was lent for the output as it is then
 abbrev pub Filters : Request → List ℕ → List ℕ → List ℕ → List Told → List Told → Answer → Type 0
-Filters r header part out old new answer = Calls r header part old new (λ rules outcome. Copied rules (header ++ part) out answer.written outcome) answer.written answer
+Filters r header part out old new answer =
+    Calls r header part old new (λ rules outcome. Copied rules (header ++ part) out answer.written outcome)
+    answer.written answer
 
 -- the tally is that of what is kept of a text
 pub record IsTalliedOf (rules : Rules) (text : List ℕ) (tally : Tally) : Type 0 where
@@ -70,13 +75,16 @@ pub record IsTalliedOf (rules : Rules) (text : List ℕ) (tally : Tally) : Type 
 -- a tally
 abbrev pub TalliesPart : Request → List ℕ → List ℕ → Tally → List Told → List Told → Answer → Type 0
 TalliesPart r header part tally old new answer =
-    Calls r header part old new (λ rules outcome. IsUnhindered outcome.ended → IsTalliedOf rules (header ++ part) tally) 0 answer
+    Calls r header part old new (λ rules outcome. IsUnhindered outcome.ended
+    → IsTalliedOf rules (header ++ part) tally) 0 answer
 
 -- nothing was judged: the request is wrong, or no memory was granted
 abbrev pub IsUnjudged : Answer → Type 0
 IsUnjudged answer = (answer.status ≡ 2) ⊎ (answer.status ≡ 5)
 
 -- records of features, in room that is as it was where nothing was judged
-abbrev pub Lists : Request → List ℕ → List ℕ → List FeatureRecord → List FeatureRecord → List Told → List Told → Answer → Type 0
+abbrev pub Lists : Request → List ℕ → List ℕ → List FeatureRecord → List FeatureRecord → List Told → List Told
+    → Answer → Type 0
 Lists r header part before after old new answer =
-    Calls r header part old new (λ rules outcome. IsUnhindered outcome.ended → HoldsRecords (spots rules (header ++ part)) before after) 0 answer
+    Calls r header part old new (λ rules outcome. IsUnhindered outcome.ended
+    → HoldsRecords (spots rules (header ++ part)) before after) 0 answer

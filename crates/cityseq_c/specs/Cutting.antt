@@ -7,6 +7,8 @@ abbrev pub first_end : List (List ℕ) → ℕ
 first_end [] = 0
 first_end (c ∷ cs) = length c + 1
 
--- where whole lines end that have at most so many bytes; where the first line has more, where it ends; and 0 where no line ends
+-- where whole lines end that have at most so many bytes; where the first line has more, where it ends; and 0 where no
+-- line ends
 abbrev pub part_end : List ℕ → ℕ → ℕ
-part_end s wanted = if nat_lt 0 (length (whole (take wanted s))) then length (whole (take wanted s)) else first_end (closed s)
+part_end s wanted = if nat_lt 0 (length (whole (take wanted s))) then length (whole (take wanted s)) else
+    first_end (closed s)

@@ -1,5 +1,7 @@
 -- The records of the features that are kept: where each stands in a part, and what is in it.
-use Rattle.std.specs.Prelude.{◌≡◌, ℕ, zero, suc, ◌+◌, ◌*◌, ◌<◌, ◌^◌, List, [], ◌∷◌, ◌++◌, Bool, true, false, Option, Some, None, ℤ, if◌then◌else◌, MatchOption, codes, drop, get_or, length, min, nat_lt, slice_set, take}
+use Rattle.std.specs.Prelude.{◌≡◌, ℕ, zero, suc, ◌+◌, ◌*◌, ◌<◌, ◌^◌, List, [], ◌∷◌, ◌++◌, Bool, true, false, Option}
+use Rattle.std.specs.Prelude.{Some, None, ℤ, if◌then◌else◌, MatchOption, codes, drop, get_or, length, min, nat_lt}
+use Rattle.std.specs.Prelude.{slice_set, take}
 use Rattle.std.specs.List.{AllZip, filter, flat_map}
 use Rattle.std.specs.Str.{bytes_eq, chars}
 use Rattle.cj_spans.specs.Parts.{member_of, spelling_of}
@@ -153,7 +155,8 @@ pub record KeepsRoom (a b : Listed) : Type 0 where
 -- the record of a feature is written behind the others, if there is room for it
 abbrev pub StoresBy : Bool → Spot → Listed → Listed → Type 0
 StoresBy true x a b =
-    (f : FeatureRecord) × IsRecordOf x f × (listed_room b ≡ slice_set (listed_room a) (listed_count a) f) × (listed_count b ≡ listed_count a + 1)
+    (f : FeatureRecord) × IsRecordOf x f × (listed_room b ≡ slice_set (listed_room a) (listed_count a) f)
+    × (listed_count b ≡ listed_count a + 1)
 StoresBy false x a b = (listed_room b ≡ listed_room a) × (listed_count b ≡ listed_count a)
 
 pub record AddsRecord (x : Spot) (a b : Listed) : Type 0 where

@@ -25,8 +25,9 @@ IsJudged Memory = ⊥
 abbrev pub run_over : Rules → List ℕ → Outcome → Run
 run_over rules text outcome = record { rules = rules; read = text; outcome = outcome }
 
--- What is told of a text that was judged by rules. Its end, its counts and the reports in the room for them are those of the whole
--- text, unless the sink failed. Whatever the end is, counts and reports are those of the first lines, as many as were dealt with.
+-- What is told of a text that was judged by rules. Its end, its counts and the reports in the room for them are those
+-- of the whole text, unless the sink failed. Whatever the end is, counts and reports are those of the first lines, as
+-- many as were dealt with.
 pub record Tells (rules : Rules) (text : List ℕ) (outcome : Outcome) (old new : List Told) : Type 0 where
   pub judged : IsJudged outcome.ended
   pub account : Account (run_over rules text outcome) (Unit {0})
@@ -35,9 +36,10 @@ pub record Tells (rules : Rules) (text : List ℕ) (outcome : Outcome) (old new 
   pub reports : IsUnhindered outcome.ended → Holds text (reported rules text) old new
   pub first : Holds text (reported_first rules outcome.lines text) old new
 
--- a text was judged: what is told of it, and what a sink took: all that is kept of it, or that of the lines that were dealt with,
--- and then what a fault may leave
-pub record Judged {S : Type 0} (takes leaves : S → Item → S → Type 0) (rules : Rules) (text : List ℕ) (outcome : Outcome) (s t : S) (old new : List Told) : Type 0 where
+-- a text was judged: what is told of it, and what a sink took: all that is kept of it, or that of the lines that were
+-- dealt with, and then what a fault may leave
+pub record Judged {S : Type 0} (takes leaves : S → Item → S → Type 0) (rules : Rules) (text : List ℕ)
+    (outcome : Outcome) (s t : S) (old new : List Told) : Type 0 where
   pub tells : Tells rules text outcome old new
   pub took : IsUnhindered outcome.ended → Took takes s (kept rules text) t
   pub delivers : Delivers takes leaves rules text 0 outcome.lines s t (Some outcome.ended)

@@ -5,9 +5,11 @@ pub mod Cutting
 pub mod Features
 pub mod Joined
 pub mod Judged
+pub mod Memory
 pub mod Query
 pub mod Reports
 pub mod Request
 pub mod Room
+pub mod Rows
 pub mod Tally
 pub mod Words

@@ -34,7 +34,8 @@ count_of n = n.count
 pub record NotesOne (a : Noted) (r : Report) (b : Noted) : Type 0 where
   pub text : noted_text b ≡ noted_text a
   pub loan : noted_loan b ≡ noted_loan a
-  pub reports : noted_room b ≡ (if nat_lt (count_of a) (length (noted_room a)) then slice_set (noted_room a) (count_of a) (told (noted_text a) r) else noted_room a)
+  pub reports : noted_room b ≡ (if nat_lt (count_of a) (length (noted_room a)) then slice_set (noted_room a)
+      (count_of a) (told (noted_text a) r) else noted_room a)
   pub count : count_of b ≡ (if nat_lt (count_of a) (length (noted_room a)) then count_of a + 1 else count_of a)
 
 -- room has the first of these reports of a text, as many as fit, and is else as it was

@@ -1,5 +1,6 @@
 -- What C asks for, and what is wrong with it.
-use Rattle.std.specs.Prelude.{◌≡◌, ◌⊎◌, ℕ, ◌+◌, ◌^◌, ◌<◌, ◌≤◌, List, [], ◌∷◌, ◌++◌, Bool, true, false, if◌then◌else◌, nat_eq, nat_le, length, max, min, Option, Some, None, Result, Ok, Err, option_map}
+use Rattle.std.specs.Prelude.{◌≡◌, ◌⊎◌, ℕ, ◌+◌, ◌^◌, ◌<◌, ◌≤◌, List, [], ◌∷◌, ◌++◌, Bool, true, false, if◌then◌else◌}
+use Rattle.std.specs.Prelude.{nat_eq, nat_le, length, max, min, Option, Some, None, Result, Ok, Err, option_map}
 use Rattle.std.specs.List.{slice_split}
 use Rattle.std.specs.Str.{is_utf8}
 use Rattle.cj_budget.specs.Limits.{InLine, InDepth, LimitPair}
@@ -10,9 +11,12 @@ use Rattle.cj_stream.specs.Lines.{NoLf, newline}
 use Rattle.cj_stream.specs.Options.{OptionSet}
 use Rattle.cj_stream.specs.Verdict.{Rules}
 use Rattle.cj_stream.specs.declared.query.fault.QueryFault.{QueryFault}
-use Rattle.cj_stream.specs.declared.query.fault.QueryFault.TheVariants.{Memory, UnknownTypeName, BadBox as BadBoxText, BoxRange as BoxTextRange, EmptyBox as EmptyBoxText}
+use Rattle.cj_stream.specs.declared.query.fault.QueryFault.TheVariants.{Memory, UnknownTypeName, BadBox as BadBoxText}
+use Rattle.cj_stream.specs.declared.query.fault.QueryFault.TheVariants.{BoxRange as BoxTextRange}
+use Rattle.cj_stream.specs.declared.query.fault.QueryFault.TheVariants.{EmptyBox as EmptyBoxText}
 use Rattle.cityseq_c.specs.declared.request.Fault.{Fault}
-use Rattle.cityseq_c.specs.declared.request.Fault.TheVariants.{LineLimit, DepthLimit, NoLine, NotUtf8, UnknownType, BadBox, BoxRange, EmptyBox, TooLong}
+use Rattle.cityseq_c.specs.declared.request.Fault.TheVariants.{LineLimit, DepthLimit, NoLine, NotUtf8, UnknownType}
+use Rattle.cityseq_c.specs.declared.request.Fault.TheVariants.{BadBox, BoxRange, EmptyBox, TooLong}
 use Rattle.cityseq_c.specs.declared.request.Request.{Request}
 
 -- the number that stands for a fault
@@ -32,7 +36,7 @@ fault_code TooLong = 9
 -- the texts that stand between the LFs of a text; none where it is empty
 abbrev pub items : List ℕ → List (List ℕ)
 items [] = []
-items (b ∷ s) = slice_split (λ c. nat_eq c 10) (b ∷ s)
+items (b ∷ s) = slice_split (λ c. nat_eq c newline) (b ∷ s)
 
 -- a text, if it is asked for; it has to be UTF-8
 abbrev pub text_asked : Bool → List ℕ → Result (Option (List ℕ)) Fault
@@ -105,14 +109,19 @@ fault_of r = or_fault (ids_asked r) (or_fault (types_asked r) (or_fault (lods_as
 abbrev pub options_of : Request → OptionSet
 options_of r = record { keep_going = r.keep_going; tree = r.tree; exclude = r.exclude }
 
--- a header and a part are cut behind the first line: the header is a line that LF ends; or the first line that LF does not end,
--- and there is no more
+-- a header and a part are cut behind the first line: the header is a line that LF ends; or the first line that LF does
+-- not end, and there is no more
 abbrev pub AreCut : List ℕ → List ℕ → Type 0
 AreCut header part = ((h : List ℕ) × NoLf h × (header ≡ h ++ newline ∷ [])) ⊎ (NoLf header × (part ≡ []))
 
--- the limits that are needed for a header and a part: no line is longer than the longer one of these
+-- the line limit that is needed for a header and a part of these lengths: no line is longer than the longer one of
+-- these
+abbrev pub needed_line : ℕ → ℕ → ℕ → ℕ
+needed_line line_limit header part = min line_limit (max 1 (max header part))
+
 abbrev pub needed_limits : LimitPair → List ℕ → List ℕ → LimitPair
-needed_limits asked header part = record { line = min asked.line (max 1 (max (length header) (length part))); depth = asked.depth }
+needed_limits asked header part =
+    record { line = needed_line asked.line (length header) (length part); depth = asked.depth }
 
 -- the bytes of the stack that a caller has to have for a call under a line limit
 abbrev pub stack_bytes : ℕ → ℕ
@@ -131,12 +140,14 @@ pub record IsAsked (r : Request) (rules : Rules) : Type 0 where
   pub criteria : AsksFor r rules.criteria
   pub options : rules.options ≡ options_of r
 
--- a request over a header and a part has this fault: the first of its limits, the length, the cut, and the parts of the query
+-- a request over a header and a part has this fault: the first of its limits, the length, the cut, and the parts of the
+-- query
 abbrev pub HasFault : Request → List ℕ → List ℕ → Fault → Type 0
 HasFault r header part LineLimit = ¬ InLine r.line_limit
 HasFault r header part DepthLimit = InLine r.line_limit × ¬ InDepth r.depth_limit
 HasFault r header part TooLong = InLine r.line_limit × InDepth r.depth_limit × (2 ^ 60 < length header + length part)
-HasFault r header part NoLine = InLine r.line_limit × InDepth r.depth_limit × (length header + length part ≤ 2 ^ 60) × ¬ AreCut header part
+HasFault r header part NoLine = InLine r.line_limit × InDepth r.depth_limit × (length header + length part ≤ 2 ^ 60)
+    × ¬ AreCut header part
 HasFault r header part NotUtf8 = IsFit r header part × (fault_of r ≡ Some NotUtf8)
 HasFault r header part UnknownType = IsFit r header part × (fault_of r ≡ Some UnknownType)
 HasFault r header part BadBox = IsFit r header part × (fault_of r ≡ Some BadBox)

@@ -1,5 +1,6 @@
 -- A tally, as C has it.
-use Rattle.std.specs.Prelude.{◌≡◌, ℕ, ◌+◌, ◌*◌, ◌^◌, ◌<◌, List, [], ◌∷◌, Option, None, Some, ℤ, pos, get_or, int_lt, is_some, nat_eq, unsigned_abs, if◌then◌else◌}
+use Rattle.std.specs.Prelude.{◌≡◌, ℕ, ◌+◌, ◌*◌, ◌^◌, ◌<◌, List, [], ◌∷◌, Option, None, Some, ℤ, pos, get_or, int_lt}
+use Rattle.std.specs.Prelude.{is_some, nat_eq, unsigned_abs, if◌then◌else◌}
 use Rattle.std.specs.List.{AllZip}
 use Rattle.cj_decimal.specs.Number.{Number}
 use Rattle.cj_stream.specs.TallySink.{Tally as Tallied}
@@ -43,7 +44,8 @@ pub record IsTally (t : Tallied) (told : Tally) : Type 0 where
   pub features : told.features ≡ t.features
   pub types : told.types ≡ t.types
   pub lods : told.lods ≡ t.lods
-  pub ranges : told.ranges ≡ range_of (get_or t.ranges 0 None) ∷ range_of (get_or t.ranges 1 None) ∷ range_of (get_or t.ranges 2 None) ∷ []
+  pub ranges : told.ranges ≡ range_of (get_or t.ranges 0 None) ∷ range_of (get_or t.ranges 1 None)
+      ∷ range_of (get_or t.ranges 2 None) ∷ []
   pub transformed : told.transformed ≡ (if is_some t.scale then 1 else 0)
   pub scale : AreShown t.scale told.scale
   pub translate : AreShown t.translate told.translate

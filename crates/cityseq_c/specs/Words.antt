@@ -1,15 +1,24 @@
 -- The texts of reasons and the names of types, by their numbers.
-use Rattle.std.specs.Prelude.{◌≡◌, ℕ, List, [], ◌∷◌, ◌++◌, Option, None, Some, length, take, drop, min, nat_eq, if◌then◌else◌}
+use Rattle.std.specs.Prelude.{◌≡◌, ℕ, List, [], ◌∷◌, ◌++◌, Option, None, Some, length, take, drop, min, nat_eq}
+use Rattle.std.specs.Prelude.{if◌then◌else◌}
 use Rattle.cj_geometry.specs.ObjectTypes.{ObjectRow, object_types}
 use Rattle.cj_spans.specs.Reason.{code_of, words_of}
 use Rattle.cj_spans.specs.declared.reason.Reason.{Reason}
-use Rattle.cj_spans.specs.declared.reason.Reason.TheVariants.{NoHeader, LineTooLong, NotUtf8, Syntax, TooDeep, MissingMember, DuplicateName, WrongKind, NumberRange, WrongType, WrongVersion, NotEmpty, NotThree, NotWhole, UnknownObjectType, IdNotFound, ChildNotFound, LinkNotMutual, NoParent, UnknownGeometryType, VertexIndex, SemanticsCount, SemanticsIndex, TemplateIndex, BadInstance, TransformNotFixed, NotReached}
+use Rattle.cj_spans.specs.declared.reason.Reason.TheVariants.{NoHeader, LineTooLong, NotUtf8, Syntax, TooDeep}
+use Rattle.cj_spans.specs.declared.reason.Reason.TheVariants.{MissingMember, DuplicateName, WrongKind, NumberRange}
+use Rattle.cj_spans.specs.declared.reason.Reason.TheVariants.{WrongType, WrongVersion, NotEmpty, NotThree, NotWhole}
+use Rattle.cj_spans.specs.declared.reason.Reason.TheVariants.{UnknownObjectType, IdNotFound, ChildNotFound}
+use Rattle.cj_spans.specs.declared.reason.Reason.TheVariants.{LinkNotMutual, NoParent, UnknownGeometryType, VertexIndex}
+use Rattle.cj_spans.specs.declared.reason.Reason.TheVariants.{SemanticsCount, SemanticsIndex, TemplateIndex}
+use Rattle.cj_spans.specs.declared.reason.Reason.TheVariants.{BadInstance, TransformNotFixed, NotReached}
 
 -- all reasons
 abbrev pub reasons : List Reason
 reasons =
-    NoHeader ∷ LineTooLong ∷ NotUtf8 ∷ Syntax ∷ TooDeep ∷ MissingMember ∷ DuplicateName ∷ WrongKind ∷ NumberRange ∷ WrongType ∷ WrongVersion ∷ NotEmpty ∷ NotThree
-    ∷ NotWhole ∷ UnknownObjectType ∷ IdNotFound ∷ ChildNotFound ∷ LinkNotMutual ∷ NoParent ∷ UnknownGeometryType ∷ VertexIndex ∷ SemanticsCount ∷ SemanticsIndex
+    NoHeader ∷ LineTooLong ∷ NotUtf8 ∷ Syntax ∷ TooDeep ∷ MissingMember ∷ DuplicateName ∷ WrongKind ∷ NumberRange
+    ∷ WrongType ∷ WrongVersion ∷ NotEmpty ∷ NotThree
+    ∷ NotWhole ∷ UnknownObjectType ∷ IdNotFound ∷ ChildNotFound ∷ LinkNotMutual ∷ NoParent ∷ UnknownGeometryType
+    ∷ VertexIndex ∷ SemanticsCount ∷ SemanticsIndex
     ∷ TemplateIndex ∷ BadInstance ∷ TransformNotFixed ∷ NotReached ∷ []
 
 -- the first of these that has a code, if one has

@@ -8,6 +8,7 @@ ghost use Rattle.cityseq_c.specs.Query.{RefusesCall};
 ghost use Rattle.cityseq_c.specs.Request.{AreCut, IsAsked, IsFit, needed_limits, options_of};
 
 use crate::finder::Finder;
+use crate::memory::needed_line;
 use crate::query::query_of;
 use crate::reports::{Noted, Told};
 use crate::request::{Fault, NotJudged, Request};
@@ -63,8 +64,8 @@ fn limits_of(header: &[u8], part: &[u8], request: &Request<'_>) -> Result<Limits
 fn limits_needed(asked: Limits, header: &[u8], part: &[u8]) -> Limits
     ensures { result ≡ needed_limits asked header.now part.now }
 {
-    let longest = header.len().max(part.len()).max(1) as u64;
-    Limits::new(asked.line().min(longest), asked.depth()).unwrap_or(asked)
+    let line = needed_line(asked.line(), header.len(), part.len());
+    Limits::new(line, asked.depth()).unwrap_or(asked)
 }
 
 /// Judges a header and a part, which are one stream, with a new engine.
@@ -84,7 +85,8 @@ fn judge_stream<S: LineSink>(
     requires short { length header.now + length part.now ≤ 2 ^ 60 }
     ensures ok { IfOk result (λ outcome. Judged S.takes S.leaves (rules_of engine.old) (header.now ++ part.now) outcome
         sink.old sink.new reports.old reports.new) }
-    ensures cause { IfOk result (λ outcome. outcome.ended ≡ End.WriteFault → HasRisen (S.failures sink.old) (S.failures sink.new)) }
+    ensures cause { IfOk result (λ outcome. outcome.ended ≡ End.WriteFault
+        → HasRisen (S.failures sink.old) (S.failures sink.new)) }
     ensures memory { IfErr result (λ why. why ≡ NotJudged.Memory) }
     ensures unread { OnErr result ((sink.new ≡ sink.old) × (reports.new ≡ reports.old)) }
 {
@@ -121,7 +123,8 @@ pub fn judge<S: LineSink>(
     ensures ok { IfOk result (λ outcome. (rules : Rules) × IsAsked request.now rules
         × Judged S.takes S.leaves rules (header.now ++ part.now) outcome sink.old sink.new reports.old reports.new) }
     ensures fit { OnOk result (IsFit request.now header.now part.now) }
-    ensures cause { IfOk result (λ outcome. outcome.ended ≡ End.WriteFault → HasRisen (S.failures sink.old) (S.failures sink.new)) }
+    ensures cause { IfOk result (λ outcome. outcome.ended ≡ End.WriteFault
+        → HasRisen (S.failures sink.old) (S.failures sink.new)) }
     ensures refused { IfErr result (RefusesCall request.now header.now part.now) }
     ensures unread { OnErr result ((sink.new ≡ sink.old) × (reports.new ≡ reports.old)) }
 {

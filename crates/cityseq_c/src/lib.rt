@@ -14,10 +14,12 @@
 //! - `judging`: judges a header and a part as one stream.
 //! - `answer`: the result of a call for C, and that of two parts as one.
 //! - `cutting`: where a part ends. `finder`: where lines begin.
+//! - `memory`: the memory that a call takes.
 //! - `room`: the sink that writes the output to bytes of the caller.
 //! - `reports`: the sink of reports. `features`: the sink that writes records of features.
 //! - `tally`: a tally as C has it, and that of two parts as one.
 //! - `words`: the texts of reasons and the names of types.
+//! - [`row_laws`]: the definitions on worked examples.
 #![tactic(auto)]
 
 ghost use Rattle.std.specs.Prelude.{◌≡◌, ◌≢◌, ◌+◌, ◌-◌, ◌<◌, ◌^◌, ◌++◌, ℕ, List, take, length};
@@ -30,6 +32,7 @@ ghost use Rattle.cityseq_c.specs.Answer.{not_judged};
 ghost use Rattle.cityseq_c.specs.Called.{Checks, Filters, IsTalliedOf, IsUnjudged, Lists, TalliesPart};
 ghost use Rattle.cityseq_c.specs.Cutting.{part_end};
 ghost use Rattle.cityseq_c.specs.Joined.{IsAnswerOf};
+ghost use Rattle.cityseq_c.specs.Memory.{memory_bytes};
 ghost use Rattle.cityseq_c.specs.Begins.{begin_of};
 ghost use Rattle.cityseq_c.specs.Request.{AreCut, stack_bytes};
 ghost use Rattle.cityseq_c.specs.Words.{reason_words, type_words, IsCopied};
@@ -39,10 +42,12 @@ mod cutting;
 mod features;
 mod finder;
 mod judging;
+mod memory;
 mod query;
 mod reports;
 mod request;
 mod room;
+pub mod row_laws;
 mod tally;
 #[cfg(test)]
 mod tests;
@@ -53,6 +58,7 @@ use cj_stream::{IgnoreSink, TallySink, laws};
 use features::{FeatureRecord, Listed};
 use finder::Finder;
 use judging::{are_cut, judge};
+use memory::memory_of;
 use reports::Told;
 use request::Request;
 use room::Room;
@@ -91,7 +97,8 @@ pub extern "C" fn cityseq_check(
 ) -> Answer
     ensures checks { Checks request.now header.now part.now reports.old reports.new result }
     ensures fits { result.status ≢ 4 }
-    ensures unjudged { IsUnjudged result → (result ≡ not_judged result.status result.code) × (reports.new ≡ reports.old) }
+    ensures unjudged { IsUnjudged result
+        → (result ≡ not_judged result.status result.code) × (reports.new ≡ reports.old) }
 {
     Answer::of(
         judge(alloc, header, part, request, &mut IgnoreSink, reports),
@@ -227,6 +234,19 @@ pub extern "C" fn cityseq_stack(request: &Request<'_>) -> usize
     } else {
         STACK
     }
+}
+
+/// Returns the most bytes of memory that a call with this request takes at one time, for a header
+/// and a part of these lengths. It is 0 if a limit is out of range, and stops at 2^64 - 1.
+#[unsafe(no_mangle)]
+pub extern "C" fn cityseq_memory(
+    request: &Request<'_>,
+    header_length: usize,
+    part_length: usize,
+) -> usize
+    ensures { result ≡ memory_bytes request.now header_length part_length }
+{
+    memory_of(request, header_length, part_length)
 }
 
 /// Writes the words of a reason as far as they fit. Returns how many bytes they have, and 0 if no

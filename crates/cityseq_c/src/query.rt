@@ -3,7 +3,8 @@ ghost use Rattle.std.specs.Prelude.{◌≡◌, None, Some, Ok, Err, IfOk, IfErr,
 ghost use Rattle.cj_stream.specs.Adding.{flags_with, no_types};
 ghost use Rattle.cj_stream.specs.Query.{criteria};
 ghost use Rattle.cityseq_c.specs.Query.{Reads, Refuses, RefusesQuery};
-ghost use Rattle.cityseq_c.specs.Request.{AsksFor, box_asked, box_fault as fault_of_box, ids_asked, items, lods_asked, text_asked, types_asked};
+ghost use Rattle.cityseq_c.specs.Request.{AsksFor, box_asked, box_fault as fault_of_box, ids_asked, items, lods_asked};
+ghost use Rattle.cityseq_c.specs.Request.{text_asked, types_asked};
 
 use crate::request::{Fault, NotJudged, Request};
 use cj_stream::{Query, QueryFault};

@@ -6,8 +6,8 @@ use crate::request::Request;
 use crate::tally::{Number, Range, Tally};
 use crate::{
     Answer, cityseq_answer_then, cityseq_check, cityseq_features, cityseq_filter, cityseq_info,
-    cityseq_interface, cityseq_line_begin, cityseq_part_end, cityseq_reason_text, cityseq_stack,
-    cityseq_tally_then, cityseq_type_name, cityseq_version,
+    cityseq_interface, cityseq_line_begin, cityseq_memory, cityseq_part_end, cityseq_reason_text,
+    cityseq_stack, cityseq_tally_then, cityseq_type_name, cityseq_version,
 };
 use std::process::Abort;
 use std::test::Fail;
@@ -320,6 +320,27 @@ fn a_longer_line_needs_more_of_the_stack(rt: HostRuntime) -> Result<(), Fail> {
         ..usual()
     };
     assert_eq!(rt; cityseq_stack(&long), 2_097_152);
+    Ok(())
+}
+
+#[test]
+fn a_call_takes_so_much_memory(rt: HostRuntime) -> Result<(), Fail> {
+    assert_eq!(rt; cityseq_memory(&usual(), 100, 90), 200 + 24 * 82);
+    let asked = Request {
+        depth_limit: 65,
+        asks_ids: true,
+        ids: b"a\nb",
+        ..usual()
+    };
+    assert_eq!(rt;
+        cityseq_memory(&asked, 100, 90),
+        200 + 24 * 83 + 4 + 9 + 192 + 1_024
+    );
+    let wrong = Request {
+        line_limit: 0,
+        ..asked
+    };
+    assert_eq!(rt; cityseq_memory(&wrong, 100, 90), 0);
     Ok(())
 }
 

@@ -48,10 +48,10 @@ impl LineSink for Listed<'_> {
         Ok(())
     }
 
-    fn put(&mut self, feature: &Feature<'_>, lf: bool) -> Result<(), WriteFault> {
+    fn put(&mut self, feature: &Feature<'_>, _lf: bool) -> Result<(), WriteFault> {
         if let Some((line, begin)) = self.cursor.seek(feature.bytes()) {
             if self.count < self.records.len() {
-                self.records[self.count] = FeatureRecord::of(line, begin, feature, lf);
+                self.records[self.count] = FeatureRecord::of(line, begin, feature);
                 self.count += 1;
             }
         }

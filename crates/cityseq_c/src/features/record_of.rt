@@ -1,16 +1,15 @@
 //! The record of a feature: where it is in a part, and what is in it.
-ghost use Rattle.std.specs.Prelude.{◌≡◌, ◌<◌, ◌≤◌, ℕ, get_or, length, nat_lt};
+ghost use Rattle.std.specs.Prelude.{◌≡◌, ◌≤◌, Bool, get_or, length, nat_lt, sum};
 ghost use Rattle.std.specs.List.{flat_map};
 ghost use Rattle.cj_feature.specs.View.{feature_header, feature_tree};
 ghost use Rattle.cj_feature.specs.Walks.{object_geometries};
 ghost use Rattle.cj_stream.specs.Criteria.{objects_of};
 ghost use Rattle.cj_stream.specs.Item.{feature_item};
-ghost use Rattle.cj_stream.specs.Tallied.{capped};
-ghost use Rattle.cj_stream.specs.TallySink.{TalliesFeature, no_tally};
-ghost use Rattle.cityseq_c.specs.Features.{IsRecordOf, bits};
+ghost use Rattle.cj_stream.specs.Tallied.{capped, lod_classes, type_numbers};
+ghost use Rattle.cityseq_c.specs.Features.{IsRecordOf, bits, is_among};
 
 use crate::tally::{Range, range_of};
-use cj_stream::{Feature, LineSink, TallySink, WriteFault};
+use cj_stream::{Feature, count_lods, widen_all};
 
 /// A kept feature, as C has it.
 #[repr(C)]
@@ -38,26 +37,30 @@ pub struct FeatureRecord {
     pub ranges: [Range; 3],
 }
 
-/// Returns the number of city objects of a feature. The count stops at 2^64 - 1.
-fn count_objects(feature: &Feature) -> u64
-    ensures { result ≡ capped (length (objects_of (feature_tree feature.now))) }
+/// Returns the number of city objects of a feature, and the number whose bit n is set if one of
+/// them has the type of number n. The count stops at 2^64 - 1.
+fn tally_objects(feature: &Feature) -> (u64, u64)
+    ensures count { result.0 ≡ capped (length (objects_of (feature_tree feature.now))) }
+    ensures types { result.1 ≡ bits (is_among (type_numbers (feature_tree feature.now))) 33 }
 {
     let mut count = 0u64;
-    for _object in feature.objects() {
+    let mut types = 0u64;
+    for object in feature.objects() {
         count = count.saturating_add(1);
+        types |= 1 << object.object_type.number();
     }
-    count
+    (count, types)
 }
 
-/// Returns the number of geometries of a feature. The count stops at 2^64 - 1.
-fn count_geometries(feature: &Feature) -> u64
-    ensures { result ≡ capped (length (flat_map object_geometries (objects_of (feature_tree feature.now)))) }
+/// Returns the sum of some counts. It stops at 2^64 - 1.
+fn sum_of(counts: &[u64]) -> u64
+    ensures { result ≡ capped (sum counts.now) }
 {
-    let mut count = 0u64;
-    for _geometry in feature.geometries() {
-        count = count.saturating_add(1);
+    let mut total = 0u64;
+    for count in counts {
+        total = total.saturating_add(*count);
     }
-    count
+    total
 }
 
 /// Returns the number whose bit n is set if the count at n is not 0.
@@ -76,40 +79,39 @@ fn bits_of(counts: &[u64]) -> u64
     bits
 }
 
-/// Returns the tally of one feature.
-fn tally_of(feature: &Feature, lf: bool) -> TallySink
-    ensures { TalliesFeature no_tally (feature_header feature.now) (feature_tree feature.now) result }
+/// Returns the number of geometries of a feature, and the number whose bit n is set if one of them
+/// has an LoD of class n. The count stops at 2^64 - 1.
+fn tally_geometries(feature: &Feature) -> (u64, u64)
+    ensures count { result.0 ≡ capped (length (flat_map object_geometries (objects_of (feature_tree feature.now)))) }
+    ensures lods { result.1 ≡ bits (is_among (lod_classes (feature_header feature.now) (feature_tree feature.now))) 6 }
 {
-    let mut tally = TallySink::new();
-    match tally.put(feature, lf) {
-        Ok(()) => tally,
-        Err(WriteFault) => unreachable!(),
-    }
+    let mut counts = [0; 6];
+    count_lods(&mut counts, feature);
+    (sum_of(&counts), bits_of(&counts))
 }
 
 impl FeatureRecord {
     /// Returns the record of a feature. Its line has this number and begins at this byte of the
     /// part.
-    pub fn of(line: u64, begin: u64, feature: &Feature, lf: bool) -> FeatureRecord
-        ensures { IsRecordOf (record { line = line; begin = begin; item = feature_item feature.now lf }) result }
+    pub fn of(line: u64, begin: u64, feature: &Feature) -> FeatureRecord
+        ensures { (lf : Bool)
+            → IsRecordOf (record { line = line; begin = begin; item = feature_item feature.now lf }) result }
     {
-        let tally = tally_of(feature, lf);
         let id = feature.id();
+        let (objects, types) = tally_objects(feature);
+        let (geometries, lods) = tally_geometries(feature);
+        let [x, y, z] = widen_all([None; 3], feature);
         FeatureRecord {
             line,
             begin,
             length: feature.bytes().len() as u64,
             id_begin: id.start(),
             id_length: id.bytes().len() as u64,
-            objects: count_objects(feature),
-            geometries: count_geometries(feature),
-            types: bits_of(&tally.types()),
-            lods: bits_of(&tally.lods()),
-            ranges: [
-                range_of(tally.range(0)),
-                range_of(tally.range(1)),
-                range_of(tally.range(2)),
-            ],
+            objects,
+            geometries,
+            types,
+            lods,
+            ranges: [range_of(x), range_of(y), range_of(z)],
         }
     }
 }

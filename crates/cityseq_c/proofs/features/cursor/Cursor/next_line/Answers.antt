@@ -1,4 +1,4 @@
-use Rattle.std.proofs.Common.{◌≡◌, ◌-◌, List, ℕ, length, take, drop, ap, arith, length-drop}
+use Rattle.std.proofs.Common.{◌≡◌, ◌-◌, length, take, drop, ap, arith, length-drop}
 use Rattle.std.proofs.lemmas.List.{take_all}
 use Rattle.cityseq_c.proofs.CursorLemmas.{passes-begun, passes-ended}
 use Rattle.cityseq_c.proofs.features.cursor.Cursor.next_line.Goals as goal

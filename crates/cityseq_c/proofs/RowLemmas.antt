@@ -1,0 +1,83 @@
+-- Worked rows: where features stand, and the record of one.
+use Rattle.std.proofs.Common.{◌≡◌, ℕ, zero, suc, true, ◌+◌, ◌<◌, List, [], ◌∷◌, ◌++◌, None, Some, get_or, length, lit≤, map, refl, arith, ◌∙◌}
+use Rattle.std.specs.List.{filter}
+use Rattle.std.specs.Str.{chars}
+use Rattle.cj_spans.specs.declared.reason.Reason.{Reason}
+use Rattle.cj_spans.specs.declared.reason.Reason.TheVariants.{Syntax}
+use Rattle.cj_spans.specs.Text.{text, code_points_after, first_code_point, first_width}
+use Rattle.cj_spans.specs.Tree.{Tree}
+use Rattle.cj_geometry.specs.ObjectTypes.{object_types}
+use Rattle.cj_feature.specs.Examples.{plain_header}
+use Rattle.cj_feature.proofs.Worked.{plain_feature}
+use Rattle.cj_stream.specs.GoingRows.{going}
+use Rattle.cj_stream.specs.Item.{is_feature, tree_of}
+use Rattle.cj_stream.specs.Lines.{Line, ended_line, raw}
+use Rattle.cj_stream.specs.Rows.{small_feature, small_header, wide_rules}
+use Rattle.cj_stream.specs.Verdict.{Blank, Refuse, Rules, Valid, good_from, verdict, verdict_at}
+use Rattle.cj_stream.proofs.GoingRowLemmas.{same-verdict}
+use Rattle.cj_stream.proofs.RowLemmas.{comma_second, feature_third, feature_tree, header_first, header_tree, open_line}
+use Rattle.cj_stream.proofs.VerdictLemmas.{verdict-blank}
+use Rattle.cityseq_c.specs.Features.{IsRecordOf, Spot, bits, spots_from}
+use Rattle.cityseq_c.specs.Rows.{BetweenRow, BitRow, BlankRow, RecordRow, small_record}
+use Rattle.cityseq_c.specs.Tally.{range_of}
+
+-- the lines of the features that are kept of some lines, and where these begin
+abbrev places_of : Rules → List Line → List (ℕ × ℕ)
+places_of rules ls = map (λ x. (x.line, x.begin)) (filter (λ x. is_feature x.item) (spots_from rules [] (good_from rules [] ls)))
+
+-- a line without a feature, and then one
+module _ (rules : Rules) (h l f : Line) (first : verdict rules [] h.content ≡ Valid) (third : verdict rules (h ∷ l ∷ []) f.content ≡ Valid) where
+  after-blank : verdict rules (h ∷ []) l.content ≡ Blank → places_of rules (h ∷ l ∷ f ∷ []) ≡ (3, length (raw l ++ [])) ∷ []
+  unfolding verdict_at
+  after-blank blank = rw (first, blank, third) (rw (first, blank, third) refl)
+
+  after-invalid : (place : ℕ) (reason : Reason) → rules.options.keep_going ≡ true → verdict rules (h ∷ []) l.content ≡ Refuse place reason
+      → places_of rules (h ∷ l ∷ f ∷ []) ≡ (3, length (raw l ++ [])) ∷ []
+  unfolding verdict_at
+  after-invalid place reason on bad = rw (first, bad, on, third) (rw (first, bad, third) refl)
+
+pub blank : BlankRow
+blank = after-blank wide_rules (ended_line small_header) (ended_line (13 ∷ [])) (open_line small_feature) (header_first _) feature_third (verdict-blank wide_rules 2 _ (13 ∷ []) (lit≤ tt) refl)
+
+pub between : BetweenRow
+between =
+    after-invalid (going wide_rules) (ended_line small_header) (ended_line _) (open_line small_feature)
+    (same-verdict wide_rules 1 _ small_header ∙ header_first _) (same-verdict wide_rules 3 _ small_feature ∙ feature_third)
+    26 Syntax refl (same-verdict wide_rules 2 _ _ ∙ comma_second _)
+
+pub bit : BitRow
+unfolding bits
+bit = (refl, refl)
+
+-- the record of the small feature, with its tree
+small : Spot
+small = record { line = 2; begin = 0; item = record { line = ended_line small_feature; tree = plain_feature.tree; header = Some plain_header } }
+
+no-range : (axis : ℕ) → axis < 3 → get_or (range_of None ∷ range_of None ∷ range_of None ∷ []) axis (range_of None) ≡ range_of None
+no-range zero low = refl
+no-range (suc zero) low = refl
+no-range (suc (suc zero)) low = refl
+no-range (suc (suc (suc n))) low = absurd (omega (arith, low))
+
+shown : (t header : Tree) → t ≡ plain_feature.tree → header ≡ plain_header
+    → IsRecordOf (record { line = 2; begin = 0; item = record { line = ended_line small_feature; tree = t; header = Some header } }) small_record
+unfolding text code_points_after first_code_point first_width chars object_types bits
+shown t header e f = rw (e, f) (record {
+  line = refl;
+  begin = refl;
+  long = refl;
+  id = record { id = _; member = refl; begin = refl; long = refl };
+  objects = refl;
+  geometries = refl;
+  types = refl;
+  lods = refl;
+  ranges = λ axis low. record { range = None; ends = refl; told = no-range axis low };
+})
+
+other : (t header : Tree) → t ≡ plain_feature.tree
+    → ¬ IsRecordOf (record { line = 2; begin = 0; item = record { line = ended_line small_feature; tree = t; header = Some header } }) (record small_record { objects = 2 })
+unfolding text code_points_after first_code_point first_width chars
+other t header e h = let two = h.objects in let wrong = rw e at two in absurd (omega (arith, wrong))
+
+pub record_of : RecordRow
+record_of = (shown (tree_of 64 small_feature) (tree_of 64 small_header) feature_tree header_tree, other (tree_of 64 small_feature) (tree_of 64 small_header) feature_tree)

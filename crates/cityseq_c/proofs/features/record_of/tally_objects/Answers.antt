@@ -1,0 +1,39 @@
+use Rattle.std.proofs.Common.{◌∷◌, ap, arith, length, map, refl, sym, ◌∙◌}
+use Rattle.cj_spans.specs.Tree.{Tree}
+use Rattle.cj_feature.specs.Typed.{type_row}
+use Rattle.cj_feature.specs.Walks.{objects_left}
+use Rattle.cj_stream.specs.Tallied.{row_number}
+use Rattle.cityseq_c.proofs.BitLemmas.{Marking-end, Marking-start, Marking-step}
+use Rattle.cityseq_c.proofs.features.record_of.tally_objects.Goals as goal
+
+pub loop-object-init : goal.loop-object-init
+loop-object-init c =
+    let all = ap objects_left c.into_iter-object-iterator.ensures.into_iter_gives ∙ c.objects-object-items.ensures.objects in
+    let long = ap length all in
+    record {
+      few = omega arith;
+      counted = omega (arith, long);
+      marked = Marking-start 33 _ _ (ap (map (λ (m : Tree × Tree). row_number (type_row m.1))) all);
+    }
+
+pub loop-object-preserved : goal.loop-object-preserved
+loop-object-preserved c =
+    let number = λ (m : Tree × Tree). row_number (type_row m.1) in
+    let step = c.in-Some.ensures.steps.0 in
+    let long = ap length step in
+    let own = ap row_number c.in-Some.object.typed ∙ sym c.number.ensures.number in
+    let first = ap (map number) step ∙ ap (λ n. n ∷ map number (objects_left c.next.new.self)) own in
+    let before = c.loop-object.invariant in
+    record {
+      few = c.saturating_add-count.type_inv;
+      counted = omega (arith, long, before.few, before.counted, c.saturating_add-count.ensures);
+      marked = Marking-step 33 _ c.loop-object.types c.number.result _ _ _ c.number.ensures.below (omega arith) first refl before.marked;
+    }
+
+pub returns-clause-count : goal.returns-clause-count
+returns-clause-count c =
+    let before = c.loop-object.invariant in
+    let e = rw c.in-None.ensures.steps.0.0 at before.counted in omega (arith, e, before.few)
+
+pub returns-clause-types : goal.returns-clause-types
+returns-clause-types c = Marking-end 33 _ _ (rw c.in-None.ensures.steps.0.0 at c.loop-object.invariant.marked)
