@@ -1,5 +1,6 @@
 #!/usr/bin/env python3
-"""Writes cityseq/reasons.json anew, of docs/REASONS.md: for each code its text, what it means and how to fix it."""
+"""Writes cityseq/reasons.json from docs/REASONS.md: for each code its text, its meaning and the
+fix."""
 import json
 import os
 import re

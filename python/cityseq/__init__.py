@@ -27,6 +27,7 @@ from .faults import (
     OutOfDate,
     ReadFault,
     RequestError,
+    Status,
     WriteFault,
 )
 from .outputs import Target, Writer
@@ -41,6 +42,7 @@ if TYPE_CHECKING:
     from .listing import Feature
     from .lookup import Index
 
+# `filter` is public too. It is left out, so that `import *` does not hide Python's own function.
 __all__ = [
     "CityseqError",
     "Explanation",
@@ -54,12 +56,12 @@ __all__ = [
     "Report",
     "RequestError",
     "Result",
+    "Status",
     "WriteFault",
     "check",
     "check_files",
     "explain",
     "features",
-    "filter",
     "index",
     "info",
     "report",

@@ -3,6 +3,7 @@ call runs without the interpreter's lock."""
 from __future__ import annotations
 
 import ctypes
+import enum
 import os
 import resource
 import threading
@@ -12,10 +13,20 @@ from typing import Any, Iterable, Optional, Sequence, Tuple, Union
 from .faults import LibraryMissing
 
 INTERFACE = 2
-COMPLETE, REFUSED, BAD_REQUEST, NO_ROOM, NO_MEMORY = 0, 1, 2, 4, 5
 LINE_LIMITS, DEPTH_LIMITS = (1, 1_073_741_824), (1, 1_024)
 USUAL_LINE, USUAL_DEPTH = 8_388_608, 64
 TYPES, LOD_CLASSES = 33, ("0", "1", "2", "3", "4", "other")
+
+
+class CallStatus(enum.IntEnum):
+    """How a call ended: `enum cityseq_status`."""
+
+    COMPLETE = 0
+    REFUSED = 1
+    BAD_REQUEST = 2
+    NO_ROOM = 4
+    NO_MEMORY = 5
+
 
 # What is wrong with a request, by its code. The words are the program's own if it has some.
 FAULTS = {
@@ -303,22 +314,36 @@ def _load() -> Library:
 
 # Settings of `mallopt` in glibc (malloc.h). The first is how many free bytes make it return some
 # to the system. The second is how many bytes make it ask the system for a block. The third is how
-# many arenas there are. Each arena after the first reserves 64 MB of addresses.
+# many arenas there are. Each arena after the first reserves 64 MB of addresses, and has no room for
+# a longer block, as for a line of 6 MB. Many threads need less memory if each has an arena.
 _TRIM_THRESHOLD, _MMAP_THRESHOLD, _ARENA_MAX = -1, -3, -8
 
 
-def keep_room() -> None:
+def keep_room(jobs: Optional[int] = None) -> None:
     """Makes glibc keep the memory of a call for the next one. Otherwise each call asks the system
     for memory, which the system clears first. The setting is for the whole process, so it suits
-    only a process that does nothing else."""
+    only a process that does nothing else, by that number of threads."""
     try:
         setting = ctypes.CDLL(None).mallopt
     except (OSError, AttributeError, TypeError):
         return
     for threshold in (_MMAP_THRESHOLD, _TRIM_THRESHOLD):
         setting(threshold, 1 << 30)
-    if resource.getrlimit(resource.RLIMIT_AS)[0] != resource.RLIM_INFINITY:
+    if jobs == 1 or resource.getrlimit(resource.RLIMIT_AS)[0] != resource.RLIM_INFINITY:
         setting(_ARENA_MAX, 1)
+
+
+def sort_texts(texts: bytearray, size: int) -> bool:
+    """Sorts texts of this size by their bytes. A NUL ends each, and no other byte is one. Returns
+    False if the C library is not there."""
+    try:
+        libc = ctypes.CDLL(None)
+        sort, order = libc.qsort, libc.strcmp
+    except (OSError, AttributeError, TypeError):
+        return False
+    first = (ctypes.c_char * len(texts)).from_buffer(texts)
+    sort(first, c_size_t(len(texts) // size), c_size_t(size), order)
+    return True
 
 
 def library() -> Library:

@@ -117,23 +117,41 @@ class Builder:
     """Writes an index to `NAME.part`, and renames it when it is whole."""
 
     def __init__(self, path: str) -> None:
-        """Begins the file.
+        """Takes the name of the index. It opens no file.
+
+        Raises:
+            WriteFault: An index cannot have this name.
+        """
+        self.name, self._fid = path, 0
+        self._systems: Set[int] = set()  # of coordinates
+        self._opened: Optional[sqlite3.Connection] = None
+        self._is_begun = False
+        part = part_of(path)
+        if part is None:
+            what = "Is a directory" if os.path.isdir(path) else "an index is a regular file"
+            raise WriteFault(f"write fault: {what}", None, path)
+        self._path = part
+
+    @property
+    def _base(self) -> sqlite3.Connection:
+        assert self._opened is not None
+        return self._opened
+
+    def open(self) -> None:
+        """Begins the file. An interrupt may come at once, so who calls it must call `discard`.
 
         Raises:
             WriteFault: It cannot be opened or written.
         """
-        self.name, self._path, self._fid = path, part_of(path), 0
-        self._systems: Set[int] = set()  # of coordinates
-        if self._path is None:
-            what = "Is a directory" if os.path.isdir(path) else "an index is a regular file"
-            raise WriteFault(f"write fault: {what}", None, path)
+        self._is_begun = True  # before the file exists
         try:
             with open(self._path, "wb"):
-                hand_mode_on(path, self._path)
+                hand_mode_on(self.name, self._path)
         except OSError as fault:
-            raise write_fault(fault, path) from fault
-        self._base = sqlite3.connect(self._path, isolation_level=None)
-        with telling_of(path):
+            self._is_begun = False
+            raise write_fault(fault, self.name) from fault
+        self._opened = sqlite3.connect(self._path, isolation_level=None)
+        with telling_of(self.name):
             for setting in (
                 "journal_mode = OFF",
                 "synchronous = OFF",
@@ -233,7 +251,6 @@ class Builder:
         Raises:
             WriteFault: It cannot be written.
         """
-        assert self._path is not None
         base = self._base
         with telling_of(self.name):
             system = self._one_system()
@@ -267,10 +284,12 @@ class Builder:
 
     def discard(self) -> None:
         """Removes what was written, if the index is not whole."""
-        with suppress(sqlite3.Error):
-            self._base.close()
-        with suppress(OSError):
-            os.unlink(self._path or "")
+        if self._opened is not None:
+            with suppress(sqlite3.Error):
+                self._opened.close()
+        if self._is_begun:
+            with suppress(OSError):
+                os.unlink(self._path)
 
 
 def _path_columns(path: str, index: str) -> Tuple[str, Optional[bytes]]:

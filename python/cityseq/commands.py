@@ -12,19 +12,18 @@ from typing import Any, Deque, Dict, Iterable, List, NoReturn, Optional, Sequenc
 from . import __version__
 from ._library import keep_room
 from .console import flush, put, say
-from .faults import CityseqError, MemoryFault, RequestError, WriteFault, write_fault
+from .faults import CityseqError, RequestError, Status, write_fault
 from .outputs import Writer
 from .progress import Bar
 from .query import UnknownType, Work, asked
 from .reports import explain
 from .running import Result, Stream, threaded
-from .same import refuse_same
+from .same import refuse_same, refuse_standard
 from .shown import shown
 from .sources import is_path, size_of
 from .telling import brief, is_terminal, teller_of
 from .words import Asked, Mistake, Told, read_words
 
-UNEXPECTED = 70
 STOPPED = 128  # plus the number of the signal
 WHERE = "to those who gave you cityseq"  # where to report an unexpected failure
 HASHES = 2  # files that are hashed at once
@@ -149,10 +148,8 @@ def _outputs(wanted: Asked, files: Sequence[str]) -> List[Optional[str]]:
 def _refuse_same(wanted: Asked, files: Iterable[str], outputs: Iterable[Optional[str]]) -> None:
     """Refuses to write to a file that is read, also by standard output or standard error."""
     read = [*files, *filter(None, (wanted.ids_from, wanted.files_from))]
-    refuse_same(
-        read,
-        [output for output in (*outputs, wanted.record, "-", sys.stderr) if output is not None],
-    )
+    refuse_standard(read)
+    refuse_same(read, [output for output in (*outputs, wanted.record) if output is not None])
 
 
 def make_folder(path: str) -> None:
@@ -271,7 +268,7 @@ def _run(wanted: Asked) -> int:
         refuse_unrecorded(wanted, files)
     if wanted.is_plain and is_terminal(sys.stdin) and is_terminal(sys.stderr):
         say("reading standard input; it ends with Ctrl-D")
-    keep_room()
+    keep_room(wanted.jobs)
     sizes = [size_of(file) for file in files] if wanted.progress else []
     with Bar(None if None in sizes else sum(filter(None, sizes)), wanted.progress) as bar, Run(
         wanted, files, bar
@@ -346,7 +343,7 @@ def _refused(fault: CityseqError, wanted: Optional[Asked]) -> None:
     else:
         say(
             brief(fault.words)
-            if is_plain and fault.status != RequestError.status
+            if is_plain and fault.status != Status.BAD_REQUEST
             else shown(str(fault))
         )
 
@@ -380,12 +377,12 @@ def main(words: Optional[Sequence[str]] = None) -> int:
         return status
     except CityseqError as fault:
         _refused(fault, wanted)
-        if fault.status == WriteFault.status:
+        if fault.status == Status.WRITE_FAULT:
             _drop_output()
         return fault.status
     except MemoryError:
         say("out of memory")
-        return MemoryFault.status
+        return Status.NO_MEMORY
     except KeyboardInterrupt:
         say("interrupted")
         return STOPPED + signal.SIGINT
@@ -397,4 +394,4 @@ def main(words: Optional[Sequence[str]] = None) -> int:
             f"unexpected failure: {_traced(fault)}. This is a fault of cityseq: please report this"
             f" line and the command {WHERE}"
         )
-        return UNEXPECTED
+        return Status.UNEXPECTED

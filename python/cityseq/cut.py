@@ -6,18 +6,17 @@ from contextlib import closing
 from dataclasses import replace
 from typing import TYPE_CHECKING, Any, Callable, Iterable, Iterator, Optional, Tuple
 
-from .faults import OutOfDate, RequestError, write_fault
+from .faults import OutOfDate, RequestError, Status, write_fault
 from .fetching import OTHER_LINES, IndexedStream, Row, header_of, lines_of, placed
 from .outputs import Target, Writer
 from .query import Work
 from .running import Result, Stream, threaded
-from .sources import is_path
+from .sources import PIECE, is_path
 
 if TYPE_CHECKING:
     from .lookup import Index
 
 HELD = 16 << 20  # bytes of an output that wait in memory until it is whole; more wait on a disk
-PIECE = 1 << 20
 Selections = Iterable[Tuple[IndexedStream, Iterator[Row]]]
 
 
@@ -75,7 +74,7 @@ def _counted(result: Result, streams: Iterable[IndexedStream]) -> Result:
         result,
         lines=sum(stream.lines for stream in listed),
         refused=refused,
-        status=int(refused > 0),
+        status=Status(refused > 0),
     )
 
 

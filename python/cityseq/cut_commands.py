@@ -16,7 +16,7 @@ from .objects import result_object
 from .progress import Bar
 from .query import Work
 from .running import Result
-from .same import refuse_same
+from .same import refuse_same, refuse_standard
 from .shown import shown
 from .sources import size_of
 from .telling import teller_of
@@ -76,7 +76,9 @@ def _cut(wanted: Asked, index: Index) -> int:
     work = index.work(ids_of(wanted), texts_of(wanted.type), texts_of(wanted.lod), wanted.bbox)
     outputs = _outputs(wanted, index)
     read = [index.path, *filter(None, [wanted.ids_from])]
-    refuse_same(read + [stream.path for stream in index.streams if index.base is None], outputs)
+    read += [stream.path for stream in index.streams if index.base is None]
+    refuse_standard(read)
+    refuse_same(read, outputs)
     if not wanted.quiet:
         for stream in index.streams:
             if stream.packing is not None:

@@ -2,9 +2,29 @@
 that the program `cityseq` ends with."""
 from __future__ import annotations
 
+import enum
 from typing import Any, Optional, Type, TypeVar
 
 Fault = TypeVar("Fault", bound="CityseqError")
+
+
+class Status(enum.IntEnum):
+    """How a run ended. The number is the status that the program or the command ends with."""
+
+    VALID = 0
+    INVALID = 1
+    BAD_REQUEST = 2
+    READ_FAULT = 3
+    WRITE_FAULT = 4
+    NO_MEMORY = 5
+    UNEXPECTED = 70
+
+    __str__ = int.__repr__
+
+    @property
+    def verdict(self) -> str:
+        """`valid`, `invalid` or `fault`."""
+        return self.name.lower() if self <= Status.INVALID else "fault"
 
 
 class CityseqError(Exception):
@@ -12,7 +32,7 @@ class CityseqError(Exception):
     one. `result` is the result for the stream up to the fault. `__cause__` is the system's error,
     if there is one."""
 
-    status = 2
+    status = Status.BAD_REQUEST
 
     def __init__(
         self, words: str, result: Optional[Any] = None, file: Optional[str] = None
@@ -48,13 +68,13 @@ class InvalidStream(CityseqError, ValueError):
     """A stream is invalid, so there is no whole output. If there is a `result`, its `end` is the
     report."""
 
-    status = 1
+    status = Status.INVALID
 
 
 class ReadFault(CityseqError, OSError):
     """A source could not be opened, or a read failed."""
 
-    status = 3
+    status = Status.READ_FAULT
 
 
 class OutOfDate(ReadFault):
@@ -69,13 +89,13 @@ class OutOfDate(ReadFault):
 class WriteFault(CityseqError, OSError):
     """An output could not be opened, or a write failed."""
 
-    status = 4
+    status = Status.WRITE_FAULT
 
 
 class MemoryFault(CityseqError, MemoryError):
     """Memory was refused."""
 
-    status = 5
+    status = Status.NO_MEMORY
 
 
 def why(fault: BaseException) -> str:

@@ -1,44 +1,78 @@
 """Queries for very many ids. The library prepares a query for each call. For a million ids this
 takes longer than judging a part.
 
-If lines are short, parts become as long as the query needs. Otherwise each part is judged with only
-the ids that may be in it. Python finds these: it may find some that are not ids of features, but it
-misses none. The library then decides which feature has which id."""
+If the ids are many, parts become so long that preparing them takes little of the time. If such a
+part would be too long, each part is judged with only the ids that may be in it. Python finds these:
+it may find some that are not ids of features, but it misses none. The library then decides which
+feature has which id."""
 from __future__ import annotations
 
+import io
 import json
 import re
+import threading
 from functools import lru_cache
-from typing import FrozenSet, Iterable, Iterator, List, Optional, Union
+from operator import le
+from typing import Callable, FrozenSet, Iterable, Iterator, List, Optional, TypeVar
+
+from ._library import Text, sort_texts
 
 MANY = 2_000  # bytes of ids for which this is worthwhile
-LONGER = 16  # if a part is this many times as long as the ids, they take little of the time
-SHORT = (
-    4_096  # bytes of a line: in shorter ones Python reads ids slowly, compared with the library
-)
-MOST = 256 << 20  # the most bytes of such a part
+LONGER = 32  # if a part is this many times as long as the ids, they take little of the time
+MOST = 16 << 20  # the most bytes of a part that is made longer for its ids
 SPACE = rb"[ \t\r]*"
-USUAL = b'{"type":"CityJSONFeature","id":"'  # how most features begin
 VALUE = SPACE + b":" + SPACE + rb'("(?:[^"\\\x00-\x1f]|\\.)*")'
 ANYWHERE = re.compile(rb'"id"' + VALUE)
 ESCAPED = re.compile(rb'"(?:i|\\u0069)(?:d|\\u0064)"' + VALUE)
-Text = Union[bytes, bytearray, memoryview]
-FIRST = 10_000  # bytes of ids that show whether all are sorted
+# How most features begin, up to the id.
+BEGINNING = re.compile(
+    SPACE + rb"\{" + SPACE
+    + rb'(?:"type"' + SPACE + b":" + SPACE + b'"CityJSONFeature"' + SPACE + b"," + SPACE + b")?"
+    + b'"id"' + SPACE + b":" + SPACE + b'"'
+)
+UP_TO_QUOTE = re.compile(b"[\x00-!]")  # the signs that are less than a quote
+MORE = 4  # times as many ids as lines are not too many for a part
+Made = TypeVar("Made")
+_making = threading.Lock()
 
 
-def in_order(ids: bytes) -> bytes:
-    """Returns the ids of a query, one a line. Many ids are sorted by their bytes. The library
-    prepares them for each part, which takes several times as long if they are not sorted."""
-    first = ids[:FIRST].split(b"\n")[:-1]
-    if len(ids) < MANY or first == sorted(first):
-        return ids
-    return b"\n".join(sorted(ids.split(b"\n")))
+def part_size_for(ids: bytes) -> int:
+    """Returns the least size of parts for a query with these ids, or 0."""
+    size = 2 * LONGER * len(ids)
+    return size if len(ids) >= MANY and size <= MOST else 0
+
+
+@lru_cache(maxsize=2)
+def _sorted(ids: bytes) -> bytes:
+    """Returns the ids of a query in the order of their bytes, with an LF after each. They are given
+    one a line."""
+    width, count = ids.find(b"\n") + 1, ids.count(b"\n") + 1
+    is_even = len(ids) + 1 == count * width and ids[width - 1 :: width] == b"\n" * (count - 1)
+    if is_even and b"\0" not in ids:  # C sorts texts of one length in half the time
+        texts = bytearray(ids.replace(b"\n", b"\0") + b"\0")
+        if sort_texts(texts, width):
+            return bytes(texts.replace(b"\0", b"\n"))
+    # a character for each byte: Python sorts such texts faster than bytes
+    listed = sorted(ids.decode("latin-1").split("\n"))
+    return ("\n".join(listed) + "\n").encode("latin-1")
 
 
 @lru_cache(maxsize=2)
 def _listed(ids: bytes) -> FrozenSet[bytes]:
     """Returns the ids of a query as a set. They are given one a line."""
     return frozenset(ids.split(b"\n"))
+
+
+def _for_all(make: Callable[[bytes], Made], ids: bytes) -> Made:
+    """Returns what one thread makes of the ids of a query, for all threads."""
+    with _making:
+        return make(ids)
+
+
+def in_order(ids: bytes) -> bytes:
+    """Returns the ids of a query, one a line. If each part gets all of many ids, these are sorted
+    by their bytes: to prepare them then takes a fraction of the time."""
+    return _sorted(ids)[:-1] if part_size_for(ids) else ids
 
 
 def _thorough(part: bytes) -> Iterator[bytes]:
@@ -54,28 +88,70 @@ def _thorough(part: bytes) -> Iterator[bytes]:
             pass  # not JSON, or a lone surrogate, which no query has
 
 
-def _usual(text: bytes) -> Optional[List[bytes]]:
-    """Returns the id of each line. None if a line has another beginning, or an id an escape."""
-    found: List[bytes] = []
-    # the methods are looked up once, because there are very many lines
-    add, find, begins, length = found.append, text.find, text.startswith, len(USUAL)
-    place = 0
-    while begins(USUAL, place):
-        place += length
-        end = find(b'"', place)
-        add(text[place:end])
-        place = find(b"\n", end) + 1
-        if not place or place == len(text):
-            ids = b"".join(found)
-            return None if b"\\" in ids or b"\n" in ids else found
-    return None
+def _id_of(line: bytes, begin: int) -> bytes:
+    """Returns the id of a line, as it is spelled from this byte on. A line that is cut short has
+    all the rest."""
+    end = line.find(b'"', begin)
+    return line[begin:] if end < 0 else line[begin:end]
 
 
-def _ids_in(part: Text) -> Iterable[bytes]:
-    """Returns each text that may be the id of a feature in a part."""
-    text = part if isinstance(part, bytes) else bytes(part)
-    found = _usual(text)
-    return _thorough(text) if found is None else found
+def _place_of(ids: bytes, least: bytes) -> int:
+    """Returns where the first of sorted ids begins that is not less than a text. An LF follows each
+    id."""
+    low, high = 0, len(ids)
+    while low < high:
+        middle = (low + high) // 2
+        begin, end = ids.rfind(b"\n", low, middle) + 1 or low, ids.find(b"\n", middle)
+        if ids[begin:end] < least:
+            low = end + 1
+        else:
+            high = begin
+    return low
+
+
+def _between(ids: bytes, lines: List[bytes], begin: int) -> Optional[bytes]:
+    """Returns the ids of a query that may be in lines that are sorted, begin alike up to their ids,
+    and have no escape. None if they would be many more than the lines.
+
+    An id with the quote after it is then not less than that of the first line, nor greater than
+    that of the last one. So the id itself is not less than that of the first line up to a sign
+    that is less than the quote."""
+    wanted = _for_all(_sorted, ids)
+    first, last = _id_of(lines[0], begin), _id_of(lines[-1], begin)
+    left = _place_of(wanted, UP_TO_QUOTE.split(first, 1)[0])
+    right = _place_of(wanted, last + b'"\0')
+    found = wanted[left:right] if right - left <= MORE * len(lines) * (len(last) + 1) else None
+    return found[:-1] if found and found != b"\n" else found
+
+
+def _usual(lines: List[bytes], begin: bytes) -> Optional[List[bytes]]:
+    """Returns the id of each line. None if not all have this beginning up to the id, or if an id
+    has an escape."""
+    place = len(begin)
+    # no call for each line, because there are very many
+    ids = [line[place : line.find(b'"', place)] for line in lines if line.startswith(begin)]
+    return ids if len(ids) == len(lines) and b"\\" not in b"".join(ids) else None
+
+
+def _chosen(ids: bytes, found: Iterable[bytes]) -> bytes:
+    """Returns the ids of a query that are among some texts."""
+    texts = sorted(_for_all(_listed, ids).intersection(found))
+    return b"\n" * (texts[:1] == [b""]) + b"\n".join(texts)
+
+
+def _ids_in(ids: bytes, text: bytes) -> bytes:
+    """Returns the ids of a query that may be in a part."""
+    first = BEGINNING.match(text)
+    if first is None:
+        return _chosen(ids, _thorough(text))
+    lines = io.BytesIO(text).readlines()  # this finds LFs faster than `splitlines`
+    begin, chosen = first.group(), None
+    if b"\\" not in text and lines[-1].startswith(begin) and all(map(le, lines, lines[1:])):
+        chosen = _between(ids, lines, len(begin))
+    if chosen is None:
+        found = _usual(lines, begin)
+        chosen = _chosen(ids, _thorough(text) if found is None else found)
+    return chosen
 
 
 def ids_for(ids: bytes, part: Text) -> bytes:
@@ -83,12 +159,4 @@ def ids_for(ids: bytes, part: Text) -> bytes:
     compared with the part."""
     if len(ids) < MANY or len(part) >= LONGER * len(ids):
         return ids
-    texts = _listed(ids).intersection(_ids_in(part)) if part else ()
-    return b"\n" * (b"" in texts) + b"\n".join(filter(None, texts))
-
-
-def part_size_for(ids: bytes, head: bytes) -> int:
-    """Returns the least size of parts for a query with these ids. `head` is the beginning of the
-    stream after its header."""
-    are_short = len(head) < SHORT * head.count(b"\n")
-    return min(2 * LONGER * len(ids), MOST) if len(ids) >= MANY and are_short else 0
+    return _ids_in(ids, bytes(part)) if part else b""

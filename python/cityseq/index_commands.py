@@ -17,7 +17,7 @@ from .objects import result_object
 from .progress import Bar
 from .query import Work, asked
 from .running import Result, Stream
-from .same import refuse_same
+from .same import refuse_same, refuse_standard
 from .sources import size_of
 from .telling import Teller, teller_of
 from .words import Asked
@@ -40,7 +40,9 @@ def _build(wanted: Asked) -> int:
     """Writes an index and the result of each file."""
     if wanted.output == "-":
         raise RequestError("an index is written to a file: name it by --output")
-    files = checked(files_of(wanted), wanted.output)
+    named = files_of(wanted)
+    refuse_standard([*named, *filter(None, [wanted.files_from])])
+    files = checked(named, wanted.output)
     refuse_same(filter(None, [wanted.files_from]), [wanted.output])
     work = asked(
         "check",

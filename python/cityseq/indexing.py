@@ -214,6 +214,7 @@ def written(
     from . import __version__
 
     try:
+        builder.open()
         with closing(run()) as found:
             for result in found:
                 take(result)

@@ -8,16 +8,7 @@ from dataclasses import dataclass
 from math import nan
 from typing import TYPE_CHECKING, Any, Dict, Iterator, List, Tuple
 
-from ._library import (
-    COMPLETE,
-    LOD_CLASSES,
-    NO_MEMORY,
-    REFUSED,
-    RawAnswer,
-    RawFeature,
-    Text,
-    library,
-)
+from ._library import LOD_CLASSES, CallStatus, RawAnswer, RawFeature, Text, library
 from .faults import CityseqError, InvalidStream, MemoryFault
 from .parts import PART, Cutter, read_header
 from .query import Work
@@ -97,9 +88,9 @@ def feature_of(raw: RawFeature, header: bytes, part: Text, lines: int) -> Featur
 
 def fault_of(answer: RawAnswer, header: bytes, part: Text, lines: int, file: str) -> CityseqError:
     """Returns the fault for an answer that is not complete."""
-    if answer.status == NO_MEMORY:
+    if answer.status == CallStatus.NO_MEMORY:
         return MemoryFault("out of memory", None, file)
-    if answer.status == REFUSED:
+    if answer.status == CallStatus.REFUSED:
         report = next(describe([answer], header, part, file)).moved(lines)
         return InvalidStream(str(report), None, file)
     return CityseqError(f"the library answered {answer.status}, code {answer.code}", None, file)
@@ -127,7 +118,7 @@ def features(source: Source, work: Work) -> Iterator[Feature]:
             answer, _, raws = library().features(header, part, work.request(header, part), room)
             for raw in raws:
                 yield feature_of(raw, header, part, lines)
-            if answer.status != COMPLETE:
+            if answer.status != CallStatus.COMPLETE:
                 raise fault_of(answer, header, part, lines, file)
             if joined is not None:
                 answer = library().answer_then(joined, answer, len(header))

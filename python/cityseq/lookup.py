@@ -9,7 +9,7 @@ from itertools import groupby
 from typing import Any, Iterator, List, Optional, Tuple, Union
 
 from . import geopackage
-from ._library import COMPLETE, LOD_CLASSES, REFUSED, library
+from ._library import LOD_CLASSES, CallStatus, library
 from .extents import box_of
 from .faults import OutOfDate, ReadFault, RequestError, read_fault
 from .fetching import IndexedStream, Row, check_file, header_of, lines_of, placed
@@ -364,9 +364,9 @@ def _kept(
 ) -> Iterator[IndexedFeature]:
     """Yields the features of some lines that the engine keeps."""
     answer, _, raws = library().features(header, part, work.request(header, part), len(numbers))
-    if answer.status == REFUSED and answer.line > 1:
+    if answer.status == CallStatus.REFUSED and answer.line > 1:
         raise OutOfDate.because("the stream has other lines", stream.path)
-    if answer.status != COMPLETE:
+    if answer.status != CallStatus.COMPLETE:
         raise fault_of(answer, header, part, 0, stream.path)
     for raw in raws:
         found = feature_of(raw, header, part, 0)

@@ -8,7 +8,7 @@ from typing import Any, Callable, Dict, Iterator, List, Optional, Tuple
 
 from .shown import quoted
 
-LONGEST = 1 << 20  # longer lines are not read
+LONGEST = 1 << 20  # longer lines are not read as JSON
 VALUE = 256  # bytes of a value that are read
 NAME_BEFORE = re.compile(rb'("(?:[^"\\\x00-\x1f]|\\.)*")[ \t\r]*:[ \t\r]*\Z')
 STRING = re.compile(rb'"(?:[^"\\\x00-\x1f]|\\.)*"')

@@ -11,7 +11,6 @@ if TYPE_CHECKING:
     from decimal import Decimal
 
 VERSION = 1  # of the objects: it changes if a member is renamed, removed or changes its meaning
-VERDICTS = {0: "valid", 1: "invalid"}
 LONGEST = 40  # digits before or after the point of a number that is written out
 MOST = 1 << 53  # a double has every whole number up to this
 Object = Dict[str, Any]
@@ -76,7 +75,7 @@ def options_object(asked: Asked) -> Object:
 def _counts(result: Result) -> Object:
     return {
         "status": result.status,
-        "verdict": VERDICTS.get(result.status, "fault"),
+        "verdict": result.status.verdict,
         "lines": result.lines,
         "features": result.features,
         "refused": result.refused,

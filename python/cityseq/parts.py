@@ -11,7 +11,7 @@ from dataclasses import dataclass, field
 from itertools import islice
 from typing import Callable, Iterable, Iterator, Optional, Tuple, Union
 
-from ._library import COMPLETE, NO_MEMORY, REFUSED, RawAnswer, RawReports, Text, library
+from ._library import CallStatus, RawAnswer, RawReports, Text, library
 from .faults import CityseqError, ReadFault
 from .query import Work
 from .reports import Report, describe
@@ -155,9 +155,9 @@ class Answer:
     parts: int = 1
 
     @property
-    def status(self) -> int:
+    def status(self) -> CallStatus:
         """The status that the library returned."""
-        return int(self.told.status)
+        return CallStatus(self.told.status)
 
     @property
     def lines(self) -> int:
@@ -218,7 +218,7 @@ def judge(work: Work, file: str, header: bytes, part: Text, first: bool) -> Answ
     try:
         return _judge(work, file, header, part, first)
     except MemoryError:
-        return Answer(RawAnswer(NO_MEMORY))
+        return Answer(RawAnswer(CallStatus.NO_MEMORY))
 
 
 def held(part: Text) -> Union[bytes, bytearray]:
@@ -233,19 +233,20 @@ def _judge(work: Work, file: str, header: bytes, part: Text, first: bool) -> Ans
     answer, raws, output, tally = _call(work, header, part, room)
     if answer.refused > room and work.keep_going:
         answer, raws, output, tally = _call(work, header, part, answer.refused)
-    if answer.status not in (COMPLETE, REFUSED, NO_MEMORY):
+    if answer.status not in (CallStatus.COMPLETE, CallStatus.REFUSED, CallStatus.NO_MEMORY):
         raise CityseqError(
             f"the library answered {answer.status}, code {answer.code},"
             f" of a part of {len(part)} bytes"
         )
-    if tally is not None and work.exact_lods and answer.status == COMPLETE:
+    if tally is not None and work.exact_lods and answer.status == CallStatus.COMPLETE:
         from . import lods  # few runs need it
 
         lods.count(tally, work, header, part)
-    told = held(part) if answer.refused or answer.status == REFUSED else b""
+    is_ended = answer.status == CallStatus.REFUSED
+    told = held(part) if answer.refused or is_ended else b""
     return Answer(
         answer,
-        end=next(describe([answer], header, told, file)) if answer.status == REFUSED else None,
+        end=next(describe([answer], header, told, file)) if is_ended else None,
         reports=describe(islice(raws, answer.refused), header, told, file)
         if answer.refused
         else (),

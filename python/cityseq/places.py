@@ -1,7 +1,5 @@
-"""Parts of a regular file, each read by the thread that judges it.
-
-With many threads, `Places` finds the ends of parts first, and reads only a little around each. With
-one thread, `Turns` reads the parts one after another."""
+"""Parts of a regular file, each read by the thread that judges it. `Places` finds where parts end,
+and reads only a little around each end."""
 from __future__ import annotations
 
 import io
@@ -10,11 +8,10 @@ import stat
 import sys
 import threading
 from contextlib import suppress
-from dataclasses import replace
 from functools import partial
 from typing import Any, Callable, Iterator, Optional, Tuple
 
-from ._library import COMPLETE, NO_MEMORY, RawAnswer, Text, library
+from ._library import CallStatus, RawAnswer, Text, library
 from .faults import read_fault
 from .parts import Answer, judge, whole_lines
 from .query import Work
@@ -54,12 +51,21 @@ class Placed:
         if self._descriptor >= 0:
             os.close(self._descriptor)
 
-    def look(self, begin: int, end: int) -> Optional[bytes]:
-        """Returns the bytes between two places, or those that one read gives. None if it fails."""
-        try:
-            return os.pread(self._descriptor, end - begin, begin)
-        except OSError:
-            return None
+    def look(self, begin: int, end: int) -> bytes:
+        """Returns the bytes between two places, or those that one read gives."""
+        return os.pread(self._descriptor, end - begin, begin)
+
+    def line_end(self, begin: int, last: int) -> Optional[int]:
+        """Returns the place after the first LF between two places. None if there is none."""
+        while begin < last:
+            piece = self.look(begin, min(begin + PIECE, last))
+            if not piece:
+                break
+            found = library().part_end(piece, 1)
+            if found:
+                return begin + found
+            begin += len(piece)
+        return None
 
     def fill(self, room: memoryview, begin: int) -> Tuple[int, Optional[OSError]]:
         """Fills a room from a place on. Returns how many bytes it read, and why a read after them
@@ -82,6 +88,15 @@ class Placed:
         count, fault = self.fill(room, begin)
         return room[:count], fault
 
+    def whole(self, begin: int, end: int) -> bytearray:
+        """Returns the bytes between two places, or those that there are, in memory of their own."""
+        room = bytearray(max(end - begin, 0))
+        count, fault = self.fill(memoryview(room), begin)
+        if fault is not None:
+            raise fault
+        del room[count:]
+        return room
+
 
 def placed(file: Any) -> Optional[Placed]:
     """Returns a file to read at any place, or None if that is not possible."""
@@ -101,10 +116,13 @@ class Places:
     """Cuts a file from a byte on into parts of whole lines.
 
     A part has at most the given size, or it is one longer line. The rest is left: the end of the
-    file, a line that is too long, or a place where a read fails."""
+    file, a line that is too long, or a place where a read fails. If an end is given, lines end
+    there, and nothing is left before it."""
 
-    def __init__(self, file: Placed, begin: int, size: int, line_limit: int) -> None:
-        self._file, self._size, self._line_limit = file, size, line_limit
+    def __init__(
+        self, file: Placed, begin: int, size: int, line_limit: int, end: int = sys.maxsize
+    ) -> None:
+        self._file, self._size, self._line_limit, self._end = file, size, line_limit, end
         self.begin = begin  # of the rest
 
     def _end_before(self, end: int) -> Optional[int]:
@@ -114,79 +132,35 @@ class Places:
         while True:
             begin = max(self.begin, end - look)
             piece = self._file.look(begin, end)
-            if piece is None or len(piece) < end - begin:
+            if len(piece) < end - begin:
                 return None
             found = whole_lines(piece)
             if found or begin == self.begin:
                 return begin + found
             look *= 4
 
-    def _end_of_line(self) -> Optional[int]:
-        """Returns the end of the line that begins the part and is longer. None if it is too
-        long."""
-        place, last = self.begin + self._size, self.begin + self._line_limit + 1
-        while place < last:
-            piece = self._file.look(place, min(place + PIECE, last))
-            if not piece:
-                return None
-            found = library().part_end(piece, 1)
-            if found:
-                return place + found
-            place += len(piece)
-        return None
+    def _next_end(self) -> Optional[int]:
+        """Returns where the next part ends. None if only the rest is left."""
+        wanted = self.begin + self._size
+        if wanted >= self._end:
+            return self._end if self.begin < self._end else None
+        try:
+            end = self._end_before(wanted)
+            if end == self.begin:  # of a longer line
+                return self._file.line_end(wanted, self.begin + self._line_limit + 1)
+            return end
+        except OSError:
+            return None
 
     def parts(self) -> Iterator[Tuple[int, int]]:
-        """Yields where each part begins and ends, in order."""
+        """Yields where each part begins and ends, in order. When the caller asks for the next part,
+        this one is no longer in the rest."""
         while True:
-            end = self._end_before(self.begin + self._size)
-            if end == self.begin:
-                end = self._end_of_line()
+            end = self._next_end()
             if end is None:
                 return
             yield self.begin, end
             self.begin = end
-
-
-class Turns:
-    """Reads a file, or its bytes up to one of them, part by part.
-
-    Each part is judged before the next one is read, because all are read into one room. A part
-    begins after the last LF of the part before. If a line is longer than the room, the room becomes
-    twice as long, or as long as all bytes up to the end. Later parts are as long as the room.
-    The rest is the same as that of `Places`."""
-
-    def __init__(
-        self, file: Placed, begin: int, size: int, line_limit: int, end: int = sys.maxsize
-    ) -> None:
-        self._file, self._end, self._line_limit = file, end, line_limit
-        self._size, self._room = min(size, end - begin), bytearray()
-        self.begin = begin  # of the rest
-
-    def _next(self) -> Tuple[memoryview, Optional[OSError]]:
-        """Returns the next part, which is empty at the rest. If a read fails, it returns the bytes
-        before that, and the reason."""
-        while True:
-            if len(self._room) < self._size:
-                self._room = bytearray(self._size)
-            room = memoryview(self._room)[: self._end - self.begin]
-            count, fault = self._file.fill(room, self.begin)
-            if fault is not None:
-                return room[:count], fault
-            if count < len(room):
-                return room[:0], None
-            end = whole_lines(room[:count])
-            if end or count == self._end - self.begin or count > self._line_limit:
-                return room[:end], None
-            self._size = 2 * count if self._end == sys.maxsize else self._end - self.begin
-
-    def parts(self) -> Iterator[Read]:
-        """Yields a call for each part, in order, that returns it."""
-        while True:
-            part, fault = self._next()
-            if not part and fault is None:
-                return
-            yield partial(given, part, fault)
-            self.begin += len(part)
 
     def counted(self, work: Work, header: bytes, most: int) -> Optional[Answer]:
         """Judges parts while they are valid, up to about that number of bytes, and returns one
@@ -195,16 +169,18 @@ class Turns:
         begin = self.begin
         with suppress(MemoryError):  # the next part raises it again
             while self.begin < begin + most:
-                part, fault = self._next()
-                if not part or fault is not None:
+                end = self._next_end()
+                if end is None:
+                    break
+                part, fault = self._file.read(self.begin, end)
+                if fault is not None or len(part) < end - self.begin:
                     break
                 told, _ = library().check(header, part, work.request(header, part), 0)
-                if told.status != COMPLETE:
+                if told.status != CallStatus.COMPLETE:
                     break
                 if joined is not None:
                     told = library().answer_then(joined, told, len(header))
-                joined = told
-                self.begin += len(part)
+                joined, self.begin = told, end
         return None if joined is None else Answer(joined, size=self.begin - begin)
 
 
@@ -213,17 +189,22 @@ def given(part: Text, fault: Optional[OSError] = None) -> Tuple[Text, Optional[O
     return part, fault
 
 
-def judge_read(work: Work, file: str, header: bytes, read: Read, first: bool) -> Answer:
-    """Judges a header and the part that a read gives. If the read failed, only the whole lines
-    before are judged, and the fault counts if these are valid."""
+def judge_by(judged: Callable[[Text], Answer], read: Read, file: str) -> Answer:
+    """Judges the part that a read gives. If the read failed, only the whole lines before are
+    judged, and the fault counts if these are valid."""
     try:
         part, fault = read()
+        answer = judged(part if fault is None else part[: whole_lines(part)])
     except MemoryError:
-        return Answer(RawAnswer(NO_MEMORY))
-    if fault is None:
-        return judge(work, file, header, part, first)
-    answer = judge(work, file, header, part[: whole_lines(part)], first)
-    return replace(answer, fault=read_fault(fault, file)) if answer.status == COMPLETE else answer
+        return Answer(RawAnswer(CallStatus.NO_MEMORY))
+    if fault is not None and answer.status == CallStatus.COMPLETE:
+        answer.fault = read_fault(fault, file)
+    return answer
+
+
+def judge_read(work: Work, file: str, header: bytes, read: Read, first: bool) -> Answer:
+    """Judges a header and the part that a read gives."""
+    return judge_by(lambda part: judge(work, file, header, part, first), read, file)
 
 
 def judge_placed(
@@ -239,8 +220,8 @@ def judge_placed(
     is judged in smaller parts of the given size."""
     begin, end = ends
     if work.counts_alone:
-        turns = Turns(source, begin, size, work.line_limit, end)
-        answer = turns.counted(work, header, end - begin)
-        if answer is not None and turns.begin == end:
+        places = Places(source, begin, size, work.line_limit, end)
+        answer = places.counted(work, header, end - begin)
+        if answer is not None and places.begin == end:
             return answer
     return judge_read(work, file, header, partial(source.read, begin, end), first)

@@ -7,12 +7,12 @@ from functools import lru_cache
 from typing import TYPE_CHECKING, Any, Iterable, Optional, Union
 
 from ._library import (
-    BAD_REQUEST,
     DEPTH_LIMITS,
     FAULTS,
     LINE_LIMITS,
     USUAL_DEPTH,
     USUAL_LINE,
+    CallStatus,
     RawRequest,
     Text,
     library,
@@ -146,7 +146,7 @@ def asked(
         bool(exact_lods),
     )
     answer = library().check(b"", b"", work.request(b"", b""), 0)[0]
-    if answer.status == BAD_REQUEST:
+    if answer.status == CallStatus.BAD_REQUEST:
         words = FAULTS.get(answer.code, f"bad request {answer.code}")
         raise UnknownType(words, work) if answer.code == UNKNOWN_TYPE else RequestError(words)
     return work

@@ -4,18 +4,18 @@ from __future__ import annotations
 
 from dataclasses import dataclass, replace
 from functools import partial
-from typing import IO, Iterator, Optional, Tuple
+from typing import Iterator, Optional, Tuple
 
-from ._library import RawAnswer, library
+from ._library import RawAnswer
 from .faults import ReadFault, read_fault
 from .hints import HEAD
 from .packed import Unpacker
 from .parts import Answer, judge, read_header, whole_lines
-from .places import given
+from .places import Placed, given
 from .query import Work
 from .records import find_read
 from .running import Stream, in_turn
-from .sources import CHANGED, PIECE, READ_FAULTS, Reader, State, opened, size_of, state_of
+from .sources import CHANGED, READ_FAULTS, State, opened, size_of, state_of
 
 Range = Tuple[int, int]
 
@@ -49,47 +49,18 @@ def cut(begin: int, size: int, each: int) -> Iterator[Range]:
     return ((left, min(left + each, size)) for left in range(begin, size, each))
 
 
-def _first_line(file: IO[bytes], begin: int, end: int) -> int:
-    """Returns where the first line begins at or after a byte. If none begins before `end`, returns
-    `end` or a later byte."""
-    file.seek(begin - 1)
-    place = begin - 1
-    while place < end:
-        piece = file.read(min(PIECE, end - place))
-        found = library().part_end(piece, 1)
-        if found:
-            return place + found
-        if not piece:
-            break
-        place += len(piece)
-    return end
-
-
-def _lines_from(file: IO[bytes], begin: int, end: int, work: Work) -> bytearray:
+def _lines_from(source: Placed, begin: int, end: int, work: Work) -> bytearray:
     """Returns the lines that begin from one byte on and before another. If the last line is too
     long, returns one byte more than the limit of it."""
-    file.seek(begin)
-    reader, lines = Reader(file, file.name), bytearray()
-    while len(lines) < end - begin:
-        piece = reader.read(end - begin - len(lines))
-        if not piece:
-            break
-        lines += piece
+    lines = source.whole(begin, end)
     last = whole_lines(lines)
-    while last < len(lines) <= last + work.line_limit:
-        piece = reader.read(min(PIECE, last + work.line_limit + 1 - len(lines)))
-        if not piece:
-            break
-        found = library().part_end(piece, 1)
-        lines += piece[:found] if found else piece
-        if found:
-            break
-    if reader.fault is not None:
-        raise reader.fault
-    if len(lines) > last + work.line_limit + 1 or not lines.endswith(b"\n"):
+    if last == len(lines):
+        return lines
+    most = begin + last + work.line_limit + 1  # where the last line is too long
+    lines += source.whole(end, source.line_end(end, most) or most)
+    if not lines.endswith(b"\n") and len(lines) > last + work.line_limit:
         del lines[last + work.line_limit + 1 :]
-        if work.keep_going and len(lines) > last + work.line_limit:
-            lines += b"\n"
+        lines += b"\n" * work.keep_going
     return lines
 
 
@@ -99,9 +70,9 @@ def _read_range(
     """Returns the header of a file, where the first line of a range begins, and the lines that
     begin in the range. Raises `OSError` if the file is in another state than the given one."""
     with open(path, "rb") as file:
-        header = file.readline(work.line_limit + 1)
-        left = max(_first_line(file, begin, end), begin) if begin < end else end
-        part = _lines_from(file, left, end, work) if left < end else bytearray()
+        header, source = file.readline(work.line_limit + 1), Placed(file.fileno())
+        left = (source.line_end(begin - 1, end) or end) if begin < end else end
+        part = _lines_from(source, left, end, work) if left < end else bytearray()
         if state is not None and state_of(file.fileno()) != state:
             raise OSError(CHANGED)
     return header, left, part

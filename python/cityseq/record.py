@@ -10,10 +10,8 @@ from typing import Any, Callable, Dict, Optional, Tuple
 
 from .faults import RequestError, write_fault
 from .objects import Object, options_object
-from .sources import is_path
+from .sources import PIECE, is_path
 from .words import Asked
-
-PIECE = 1 << 20
 
 
 def sha256_of(path: str, is_stopped: Callable[[], bool] = lambda: False) -> Optional[str]:

@@ -3,14 +3,14 @@ from __future__ import annotations
 
 import json
 import struct
-from dataclasses import dataclass, field, replace
+from dataclasses import dataclass, field
 from itertools import islice
 from typing import Iterator, List, Optional, Tuple
 
-from ._library import COMPLETE, NO_MEMORY, REFUSED, RawAnswer, RawReports, Text, library
-from .faults import CityseqError, read_fault
+from ._library import CallStatus, RawAnswer, RawReports, Text, library
+from .faults import CityseqError
 from .parts import ROOM, Answer, held
-from .places import Read, Room
+from .places import Read, Room, judge_by
 from .query import Work
 from .reports import describe
 
@@ -109,12 +109,13 @@ def _ids(part: Text, raw: bytes) -> List[bytes]:
 def find(work: Work, file: str, header: bytes, part: Text, begin: int) -> Found:
     """Judges a header and a part that begins at this byte, and returns records and reports."""
     answer, reports, raw = _called(work, header, part, ROOM if work.keep_going else 0)
-    if answer.status not in (COMPLETE, REFUSED, NO_MEMORY):
+    if answer.status not in (CallStatus.COMPLETE, CallStatus.REFUSED, CallStatus.NO_MEMORY):
         raise CityseqError(f"the library answered {answer.status}, code {answer.code}")
-    text = held(part) if answer.refused or answer.status == REFUSED else b""
+    is_ended = answer.status == CallStatus.REFUSED
+    text = held(part) if answer.refused or is_ended else b""
     return Found(
         told=answer,
-        end=next(describe([answer], header, text, file)) if answer.status == REFUSED else None,
+        end=next(describe([answer], header, text, file)) if is_ended else None,
         # they are read only when they are joined, because there may be very many
         reports=describe(islice(reports, answer.refused), header, text, file)
         if answer.refused
@@ -125,13 +126,5 @@ def find(work: Work, file: str, header: bytes, part: Text, begin: int) -> Found:
 
 
 def find_read(work: Work, file: str, header: bytes, read: Read, begin: int, _first: bool) -> Answer:
-    """Does the same with the part that a read gives. If the read failed, the fault counts after
-    the whole lines before it."""
-    try:
-        part, fault = read()
-        if fault is None:
-            return find(work, file, header, part, begin)
-        found = find(work, file, header, part[: bytes(part).rfind(b"\n") + 1], begin)
-    except MemoryError:
-        return Answer(RawAnswer(status=NO_MEMORY))
-    return replace(found, fault=read_fault(fault, file)) if found.status == COMPLETE else found
+    """Does the same with the part that a read gives."""
+    return judge_by(lambda part: find(work, file, header, part, begin), read, file)

@@ -9,13 +9,12 @@ import unicodedata
 from dataclasses import dataclass, replace
 from typing import Any, Dict, Iterable, Iterator, Optional, Tuple, Union
 
-from .met import met
+from .met import LONGEST, met
 
 Text = Union[bytes, bytearray]
 
 TOO_LONG = 2
 BESIDE = 40  # how many bytes an excerpt shows on each side of the place
-LONGEST_READ = 1 << 20  # longer lines are not read as JSON to find an id
 # The usual beginning of a feature: its id, or its type and then its id.
 USUAL_BEGIN = (
     rb'[ \t\r]*\{[ \t\r]*(?:"type"[ \t\r]*:[ \t\r]*"CityJSONFeature"[ \t\r]*,[ \t\r]*)?'
@@ -86,7 +85,7 @@ class Report:
 def find_id(line: Text) -> Optional[str]:
     """Returns the id of a feature, or None if the line cannot be read that far."""
     usual = re.match(USUAL_BEGIN, line)
-    if usual is None and len(line) > LONGEST_READ:
+    if usual is None and len(line) > LONGEST:
         return None
     try:
         told = json.loads((usual.group(1) if usual else line).decode("utf-8"))

@@ -24,14 +24,22 @@ from typing import (
     Union,
 )
 
-from ._library import COMPLETE, NO_MEMORY, REFUSED
-from .faults import CityseqError, InvalidStream, MemoryFault, ReadFault, RequestError, WriteFault
+from ._library import CallStatus
+from .faults import (
+    CityseqError,
+    InvalidStream,
+    MemoryFault,
+    ReadFault,
+    RequestError,
+    Status,
+    WriteFault,
+)
 from .hints import HEAD, hints_for
 from .ids import part_size_for
 from .outputs import Writer
 from .packed import BLOCK, Packing, Unpacker, pack
 from .parts import PART, Answer, Cutter, read_header
-from .places import SMALL, Placed, Places, Turns, given, judge_placed, judge_read, placed
+from .places import SMALL, Placed, Places, given, judge_placed, judge_read, placed
 from .query import Work
 from .reports import Report
 from .sources import CHANGED, Reader, Source, Watch, is_packed, is_path, name_of, opened
@@ -61,7 +69,6 @@ class Result:
         status: As the program's: 0 valid, 1 a line is invalid, 3 to 5 a fault.
         lines: The lines up to the end, with blank ones and the header.
         features: The features that are kept.
-        features: The features that are kept.
         refused: The invalid lines that the run went on after.
         peak_bytes: The most bytes of lines that were in memory.
         peak_tokens: The most tokens that were in memory.
@@ -75,7 +82,7 @@ class Result:
     """
 
     file: str
-    status: int
+    status: Status
     lines: int
     features: int
     refused: int
@@ -92,7 +99,7 @@ class Result:
     @property
     def valid(self) -> bool:
         """Whether the whole stream is valid."""
-        return self.status == 0
+        return self.status == Status.VALID
 
     def raised(self) -> "Result":
         """Returns the same. Raises the fault that ended the run, if one did, with this result."""
@@ -105,7 +112,7 @@ class Result:
         """Returns the same. Raises `InvalidStream` too if the stream is invalid, unless the run
         goes on after invalid lines."""
         self.raised()
-        if self.status == InvalidStream.status and not keep_going:
+        if self.status == Status.INVALID and not keep_going:
             raise InvalidStream(str(self.end), self, self.file)
         return self
 
@@ -169,7 +176,7 @@ class Stream:
     @property
     def ended(self) -> bool:
         """Whether the stream has ended, so that no later part counts."""
-        return self._joined.status != 0 or self._fault is not None
+        return self._joined.status != CallStatus.COMPLETE or self._fault is not None
 
     def read_in_turn(self) -> "Stream":
         """Returns the same, for a caller that makes each task before it asks for the next."""
@@ -263,21 +270,19 @@ class Stream:
         # Whether there are too many texts of LoDs can depend on the size of parts. The answer must
         # be the same for any number of threads.
         usual = PART if self.work.exact_lods else SMALL
-        turns = Turns(file, len(header), self._part_size(usual, header), self.work.line_limit)
-        answer = turns.counted(self.work, header, AT_ONCE) if self.work.counts_alone else None
+        places = Places(file, len(header), self._part_size(usual, header), self.work.line_limit)
+        answer = places.counted(self.work, header, AT_ONCE) if self.work.counts_alone else None
         while answer is not None:
             yield partial(_told, answer)
-            answer = turns.counted(self.work, header, AT_ONCE)
-        for read in turns.parts():
-            yield partial(judge_read, self.work, self.file, header, read)
-        return turns.begin
+            answer = places.counted(self.work, header, AT_ONCE)
+        for ends in places.parts():
+            yield partial(judge_read, self.work, self.file, header, partial(file.read, *ends))
+        return places.begin
 
     def _part_size(self, usual: int, header: bytes) -> int:
         """Returns the size of parts. The header is judged again with each part, and the ids of a
         query are prepared again. So parts are longer if the header is long, or the ids are many."""
-        for_ids = (
-            0 if self.work.ids is None else part_size_for(self.work.ids, self._head[len(header) :])
-        )
+        for_ids = 0 if self.work.ids is None else part_size_for(self.work.ids)
         return self.size or max(usual, HEADERS * len(header), for_ids)
 
     def heads(self, header: bytes, behind: bytes) -> None:
@@ -288,7 +293,7 @@ class Stream:
         """Joins the answer of the next part."""
         size = self._done(answer)
         self._joined.add(answer, len(self._header), self._tell)
-        if answer.status == NO_MEMORY:
+        if answer.status == CallStatus.NO_MEMORY:
             self._fault = MemoryFault("out of memory", None, self.file)
         if self._output is not None and self._fault is None:
             self._write(
@@ -329,7 +334,7 @@ class Stream:
             self._fault = self._late
         if self._watch is not None and self._watch.is_changed():
             self._fault = ReadFault(f"read fault: {CHANGED}", None, self.file)
-        refused = joined.status == REFUSED or joined.refused > 0
+        refused = joined.status == CallStatus.REFUSED or joined.refused > 0
         if self._output is not None:
             whole = (
                 self._fault is None and joined.end is None and (not refused or self.work.keep_going)
@@ -339,7 +344,7 @@ class Stream:
         made: Type[Result] = Info if self.work.kind == "info" else Result
         result = made(
             self.file,
-            int(refused),
+            Status(refused),
             joined.lines,
             joined.kept,
             joined.refused,
@@ -468,7 +473,7 @@ def _next_answers(tasks: Tasks) -> List[Answer]:
         answer = task()
         answers.append(answer)
         size += answer.size
-        if size >= PART or answer.status != COMPLETE or answer.fault is not None:
+        if size >= PART or answer.status != CallStatus.COMPLETE or answer.fault is not None:
             break
     return answers
 

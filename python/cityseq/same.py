@@ -3,6 +3,7 @@ from __future__ import annotations
 
 import os
 import stat
+import sys
 from typing import Any, Iterable, Iterator, Optional, Set, Tuple
 
 from .faults import RequestError
@@ -45,14 +46,26 @@ def _written(outputs: Iterable[Any]) -> Iterator[Tuple[str, Any]]:
                 yield part, part
 
 
+def _read(sources: Iterable[Any]) -> Set[Identity]:
+    """Returns the identities of the files that are read."""
+    found = (identity(source, 0) for source in sources if not isinstance(source, bytes))
+    return {each for each in found if each}
+
+
 def refuse_same(sources: Iterable[Any], outputs: Iterable[Any]) -> None:
     """Raises `RequestError` if an output is a file that is read. The output `-` is standard
     output."""
-    read: Set[Identity] = {
-        found
-        for found in (identity(source, 0) for source in sources if not isinstance(source, bytes))
-        if found
-    }
+    read = _read(sources)
     for name, output in _written(outputs):
         if identity(output, 1) in read:
             raise RequestError(f"{name}: the output is a file that is read")
+
+
+def refuse_standard(sources: Iterable[Any]) -> None:
+    """Raises `RequestError` if standard output or standard error is a file that is read. If that
+    is standard error, nothing is written to it any more, not even this fault."""
+    sources = list(sources)
+    if sys.stderr is not None and identity(sys.stderr, 2) in _read(sources):
+        sys.stderr = None  # type: ignore[assignment]
+        raise RequestError("standard error is a file that is read")
+    refuse_same(sources, ["-"])

@@ -187,9 +187,8 @@ class TextTeller(Teller):
                 [self._of(result.file) + line for line in info_lines(result, self._asked.is_plain)]
             )
         elif result.end is None and self._asked.command in ("check", "index"):
-            verdict = "invalid" if result.refused else "valid"
             counts = _counts(result.lines, result.features, result.refused)
-            self._put([f"{self._of(result.file)}{verdict} {counts}"])
+            self._put([f"{self._of(result.file)}{result.status.verdict} {counts}"])
 
     def _fault(self, result: Result, words: str) -> str:
         """Returns the text of a fault. Standard input alone has the program's words."""

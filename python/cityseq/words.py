@@ -280,7 +280,8 @@ RECORDS = (
 CUTS = (
     Option(
         "index",
-        "Read the selected lines alone, of the streams that this index is of; no FILE is named then",
+        "Read the selected lines alone, of the streams that this index is of; no FILE is named"
+        " then",
         "INDEX",
     ),
     Option("base", "With --index: read the streams from a web server, below this URL", "URL"),
@@ -392,9 +393,9 @@ Examples:
   {0} report --output delivery.html north.city.jsonl.gz south.city.jsonl.gz
   {0} report --json delivery/*.gz > delivery.json
 
-Judges each FILE as check --keep-going does. OUTPUT is one page of HTML, which needs nothing else: is
-each FILE valid, what is in it, where that is on a map, which lines are not valid and how to fix them,
-which ids appear twice. The page needs Jinja2 and matplotlib. Its status is that of check. See
+Judges each FILE as check --keep-going does. OUTPUT is one page of HTML, which needs nothing else:
+is each FILE valid, what is in it, where that is on a map, which lines are not valid and how to fix
+them, which ids appear twice. The page needs Jinja2 and matplotlib. Its status is that of check. See
 '{0} --help' for the exit status."""
 SERVE_AFTER = """\
 Examples:

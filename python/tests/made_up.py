@@ -3,6 +3,7 @@ import random
 from decimal import Decimal
 
 import cityseq
+from cityseq import Status
 from cityseq.delivery import facts
 from cityseq.reports import Report
 
@@ -97,7 +98,7 @@ def file(name, status=0, invalid=0, **more):
     ]
     return facts.File(
         name,
-        status,
+        Status(status),
         123_456_789,
         "ab" * 32,
         1_201,

@@ -80,7 +80,8 @@ def numbered(reports):
 
 
 def box_of_polygon(geometry):
-    """The least and greatest x and y of a polygon of a GeoPackage, without envelope and little-endian."""
+    """The least and greatest x and y of a polygon of a GeoPackage, without envelope and in
+    little-endian order."""
     kind, rings, points = struct.unpack_from("<III", geometry, 9)
     if (geometry[:4], kind, rings, points) != (b"GP\0\1", 3, 1, 5):
         raise AssertionError(f"no polygon of five points: {geometry[:21].hex()}")

@@ -26,6 +26,7 @@ else:
 def by_ranges(path, each, work):
     """What comes of a file whose ranges are judged one after another, as each task does."""
     from cityseq.parts import Answer
+
     seen, joined, output, reports, first = (
         look(path, work.line_limit),
         Answer(parts=0),
@@ -66,7 +67,6 @@ class Ranges(InFolder):
             for each in (1, chance.randrange(2, 300), 700, 100_000):
                 with self.subTest(seed=seed, each=each):
                     self.assertEqual(by_ranges(path, each, asked("filter", **options)), wanted)
-
 
     def test_a_file_that_changes(self):
         path, work = self.file(HEADER + feature("a") * 9), asked("check")
@@ -150,18 +150,31 @@ class Clusters(InFolder):
 
     def test_an_index(self):
         from .test_index import dump
-        texts = [support.HEADER + b"".join(support.lines_by_chance(random.Random(seed), 300)) for seed in range(3)]
+
+        texts = [
+            support.HEADER + b"".join(support.lines_by_chance(random.Random(seed), 300))
+            for seed in range(3)
+        ]
         paths = [self.file(text, f"s{number}") for number, text in enumerate(texts)]
         here, there = self.folder / "here.gpkg", self.folder / "there.gpkg"
         wanted = cityseq.index(paths, here, keep_going=True, line_limit=1_000)
         self.assertGreater(sum(result.refused for result in wanted), 10)
         for size in (700, 5_000, 32 << 20):
-            found = cityseq.dask.index(self.client, paths, there, keep_going=True, line_limit=1_000, part_size=size)
+            found = cityseq.dask.index(
+                self.client, paths, there, keep_going=True, line_limit=1_000, part_size=size
+            )
             self.assertEqual((found, dump(there)), (wanted, dump(here)))
         before = there.read_bytes()
-        town, broken = (os.path.join(support.ROOT, "examples", f"{name}.city.jsonl") for name in ("town", "broken"))
-        for kind, path in ((cityseq.InvalidStream, broken), (cityseq.ReadFault, self.folder / "none"),
-                           (cityseq.RequestError, self.file(HEADER, "a.city.jsonl.gz")), (cityseq.RequestError, "-")):
+        town, broken = (
+            os.path.join(support.ROOT, "examples", f"{name}.city.jsonl")
+            for name in ("town", "broken")
+        )
+        for kind, path in (
+            (cityseq.InvalidStream, broken),
+            (cityseq.ReadFault, self.folder / "none"),
+            (cityseq.RequestError, self.file(HEADER, "a.city.jsonl.gz")),
+            (cityseq.RequestError, "-"),
+        ):
             with self.assertRaises(kind):
                 cityseq.dask.index(self.client, [town, path], there)
             self.assertEqual(there.read_bytes(), before)
@@ -179,10 +192,17 @@ class Clusters(InFolder):
                 os.kill(killed[0], 9)
 
         told = []
-        there, = cityseq.dask.check(self.client, path, keep_going=True, part_size=200_000,
-                                    on_report=lambda report: (told.append(report), kill(report)))
-        self.assertEqual((told, there.lines, there.features, there.refused, there.status),
-                         (here.reports, here.lines, here.features, here.refused, 1))
+        (there,) = cityseq.dask.check(
+            self.client,
+            path,
+            keep_going=True,
+            part_size=200_000,
+            on_report=lambda report: (told.append(report), kill(report)),
+        )
+        self.assertEqual(
+            (told, there.lines, there.features, there.refused, there.status),
+            (here.reports, here.lines, here.features, here.refused, 1),
+        )
         for _ in range(100):
             if len(self.client.scheduler_info()["workers"]) == 2:
                 break

@@ -9,7 +9,7 @@ from .support import HEADER, PLAIN, feature
 
 import cityseq
 from cityseq import ids as ids_of
-from cityseq.ids import MANY, ids_for, in_order, part_size_for
+from cityseq.ids import MANY, MOST, _ids_in, _sorted, ids_for, in_order, part_size_for
 from cityseq.query import asked
 
 FEW = [f"other-{number:05}" for number in range(MANY // 8)]  # that are in no stream here
@@ -54,7 +54,7 @@ class Subsets(unittest.TestCase):
                 b'{"type":"CityJSONFeature","id":"cut\n' + line,
             ):
                 for text in (part, bytearray(part), memoryview(bytearray(part))):
-                    found = self.asked([name or "none", "never", "cut"], text)
+                    found = self.asked(["none" if name is None else name, "never", "cut"], text)
                     self.assertEqual(
                         (name is None or name.encode() in found, b"never" in found),
                         (True, False),
@@ -77,18 +77,25 @@ class Order(unittest.TestCase):
             wanted = sorted(FEW * 9 + more, key=str.encode)
             mixed = random.Random(1).sample(wanted, len(wanted))
             found = asked("filter", ids=mixed).ids
-            self.assertEqual(found, "\n".join(wanted).encode())
-            self.assertIs(in_order(found), found)
+            self.assertTrue(found == "\n".join(wanted).encode())
+            self.assertTrue(in_order(found) == found)
+            with mock.patch("cityseq.ids.sort_texts", lambda *_: False):
+                _sorted.cache_clear()
+                self.assertTrue(in_order("\n".join(mixed).encode()) == found)
 
     def test_few_are_left_as_they_are(self):
         for ids in (b"", b"b\na", b"\n"):
             self.assertIs(in_order(ids), ids)
 
+    def test_those_that_no_part_gets_at_once_are_left_as_they_are(self):
+        ids = b"b\na\n" * (MOST // 64)
+        self.assertIs(in_order(ids), ids)
+
     def test_no_ids_are_no_query(self):
         self.assertEqual((asked("filter").ids, asked("filter", ids=[]).ids), (None, b""))
 
 
-class Filters(unittest.TestCase):
+class Filters(support.InFolder):
     """What is kept, by the library's own query and by subsets of it."""
 
     def kept(self, text, **options):
@@ -119,43 +126,76 @@ class Filters(unittest.TestCase):
                 with mock.patch("cityseq.ids.MANY", 1 << 40):
                     self.assertEqual(found, self.kept(text, **options))
 
-    def test_parts_are_as_long_as_the_query_asks(self):
-        many = b"x" * 100_000
-        for ids, head, size in (
-            (many, PLAIN * 9, 3_200_000),
-            (many, b"y" * 9_000 + b"\n", 0),
-            (many, b"", 0),
-            (b"x" * 99, PLAIN, 0),
-            (b"x" * (64 << 20), PLAIN * 9, 256 << 20),
-        ):
-            self.assertEqual(part_size_for(ids, head), size)
-        wanted, whole, prepare = [f"b{number}" for number in range(100_000)], [], ids_of.ids_for
+    def asked_for(self, count, many, **options):
+        """The lengths of the parts of a stream of features, and of the ids that are asked for of
+        each. The query is for the first ones, or for more than there are: ids in no order."""
+        wanted, lengths, prepare = [f"b{number}" for number in range(many)], [], ids_of.ids_for
 
         def noted(texts, part):
-            whole.append(part and prepare(texts, part) is texts)
+            lengths.append((len(part), len(prepare(texts, part))))
             return prepare(texts, part)
 
-        text = HEADER + b"".join(feature(f"b{number}") for number in range(100_000))
+        random.Random(1).shuffle(wanted)
+        path = self.folder / "stream.city.jsonl"
+        path.write_bytes(HEADER + b"".join(feature(f"b{number}") for number in range(count)))
         with mock.patch("cityseq.query.ids_for", noted):
-            self.assertEqual(self.kept(text, ids=wanted)[1], 100_000)
-        self.assertEqual((len(whole) < 5, whole.count(True)), (True, 1), whole)
+            self.assertEqual(self.kept(path, ids=wanted, **options)[1], min(count, many))
+        return [each for each in lengths if each[0]]
+
+    def test_parts_are_as_long_as_the_query_asks(self):
+        for length, size in ((99, 0), (100_000, 6_400_000), (262_144, 16 << 20), (262_145, 0)):
+            self.assertEqual(part_size_for(b"x" * length), size)
+        for jobs in (1, 3):
+            (first, ids), *others = self.asked_for(60_000, 20_000, jobs=jobs)
+            self.assertGreater(first, 32 * ids)
+            self.assertTrue(all(each == ids for _, each in others), others)
 
     def test_of_a_part_no_more_ids_are_asked_for_than_it_has_lines(self):
-        asked, prepare = [], ids_of.ids_for
+        for jobs in (1, 3):
+            for part, ids in self.asked_for(20_000, 100_000, jobs=jobs):
+                self.assertLess(part, 5 << 20)
+                self.assertLess(ids, 4 * 7 * part / len(feature("b1")))
+        few = self.asked_for(200, 100_000, part_size=3_000)
+        self.assertTrue(10 < len(few) and max(ids for _, ids in few) < 200, few)
 
-        def noted(texts, part):
-            asked.append(len(prepare(texts, part)))
-            return prepare(texts, part)
-
-        text = HEADER + b"".join(feature(f"b{number}") for number in range(200))
-        with mock.patch("cityseq.query.ids_for", noted):
-            self.assertEqual(
-                self.kept(text, ids=[f"b{number}" for number in range(100_000)], part_size=3_000)[
-                    1
-                ],
-                200,
+    def test_streams_that_are_in_order(self):
+        """Ids whose order differs from that of their lines, since a quote follows each there."""
+        names = sorted(
+            ("", "!", " ", "a", "a!", "a !", "a b", "ab", "a#", "a#b", "é", "é!", "\x7f", "~", "z")
+        )
+        lines = sorted(feature(name) for name in names)
+        for seed in range(200):
+            chance = random.Random(seed)
+            begin, end = sorted(chance.sample(range(len(lines) + 1), 2))
+            part, wanted = b"".join(lines[begin:end]), chance.sample(names, 7)
+            found = set(_ids_in("\n".join(wanted).encode(), part).split(b"\n"))
+            self.assertTrue(
+                {name.encode() for name in wanted if feature(name) in lines[begin:end]} <= found,
+                (lines[begin:end], wanted, found),
             )
-        self.assertTrue(10 < len(asked) and max(asked) < 200, asked)
+
+    def test_lines_that_are_cut_short(self):
+        wanted = "\n".join(("ab", "abb", "abc", "abcd", "z"))
+        for cut, others, last in (
+            ("abc", ("ab", "abb"), True),
+            ("abc\n", ("abcd", "z"), False),
+            ("abb\n", ("abb", "abc"), False),
+            ("ab", (), True),
+        ):
+            lines = [feature(name) for name in others]
+            lines.insert(len(lines) if last else 0, feature("x").split(b"x")[0] + cut.encode())
+            self.assertEqual(lines, sorted(lines))
+            found = _ids_in(wanted.encode(), b"".join(lines)).split(b"\n")
+            self.assertTrue({name.encode() for name in others} <= set(found), (lines, found))
+
+    def test_a_stream_in_order_is_not_read_for_each_id(self):
+        wanted = [f"b{number:07}" for number in range(0, 100_000, 2)]
+        text = HEADER + b"".join(feature(f"b{number:07}") for number in range(2_000))
+        with mock.patch("cityseq.ids._usual", side_effect=AssertionError):
+            self.assertEqual(self.kept(text, ids=wanted)[1], 1_000)
+        with mock.patch("cityseq.ids._between", side_effect=AssertionError):
+            mixed = text.replace(b"b0000000", b"b0001999")
+            self.assertEqual(self.kept(mixed, ids=wanted)[1], 999)
 
 
 if __name__ == "__main__":

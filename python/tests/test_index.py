@@ -13,11 +13,13 @@ import time
 import unittest
 from contextlib import closing
 from fractions import Fraction
+from unittest import mock
 
 from . import support
 from .support import HEADER, PLAIN, ROOT, InFolder, command, feature
 
 import cityseq
+from cityseq import builder
 from cityseq.records import id_of
 
 TOWN, SAMPLE, BROKEN, DELIVERY = (
@@ -539,6 +541,33 @@ class BadInput(InFolder):
             self.assertEqual((output, found.decode(), child.returncode), (b"", said, 128 + number))
             self.assertEqual(self.index.read_bytes(), before)
             self.assertEqual(sorted(os.listdir(self.folder)), ["it.gpkg", "stream.city.jsonl"])
+
+    def test_an_interrupt_of_the_opening(self):
+        """No file is there before what removes it is in place."""
+        path, good = str(self.folder / "new.gpkg"), self.file(HEADER + feature("a"), "good.jsonl")
+        before = sorted(os.listdir(self.folder))
+        builder.Builder(path)
+        self.assertEqual(sorted(os.listdir(self.folder)), before)
+
+        def interrupted(*_):
+            self.assertTrue(os.path.exists(f"{path}.part"))
+            raise KeyboardInterrupt
+
+        with mock.patch.object(builder.geopackage, "create", interrupted):
+            with self.assertRaises(KeyboardInterrupt):
+                cityseq.index(good, path)
+        self.assertEqual(sorted(os.listdir(self.folder)), before)
+
+    def test_a_part_of_another_user(self):
+        """It is not removed if it cannot be written."""
+        path, good = str(self.folder / "new.gpkg"), self.file(HEADER + feature("a"), "good.jsonl")
+        self.file(b"theirs", "new.gpkg.part")
+        refused = mock.Mock(side_effect=PermissionError(13, "Permission denied"))
+        with mock.patch.object(builder, "open", refused, create=True):
+            with self.assertRaises(cityseq.WriteFault):
+                cityseq.index(good, path)
+        with open(f"{path}.part", "rb") as part:
+            self.assertEqual(part.read(), b"theirs")
 
     def test_what_is_no_index(self):
         no_database, database, empty = (

@@ -7,16 +7,7 @@ import unittest
 from . import support
 from .support import HEADER, PLAIN, feature
 
-from cityseq._library import (
-    BAD_REQUEST,
-    COMPLETE,
-    NO_MEMORY,
-    NO_ROOM,
-    RawAnswer,
-    RawRequest,
-    RawTally,
-    library,
-)
+from cityseq._library import CallStatus, RawAnswer, RawRequest, RawTally, library
 from cityseq.parts import Answer, judge, whole_lines
 from cityseq.query import asked
 
@@ -99,13 +90,13 @@ class Answers(unittest.TestCase):
 
     def test_what_was_not_judged_has_the_counts_of_the_first(self):
         first = library().check(HEADER, PLAIN, RawRequest(1_000, 64), 0)[0]
-        for status in (BAD_REQUEST, NO_MEMORY):
+        for status in (CallStatus.BAD_REQUEST, CallStatus.NO_MEMORY):
             joined = library().answer_then(first, RawAnswer(status, 7), len(HEADER))
             self.assertEqual(fields(joined), {**fields(first), "status": status, "code": 7})
 
     def test_the_first_that_is_not_complete_stands(self):
         after = library().check(HEADER, PLAIN, RawRequest(1_000, 64), 0)[0]
-        for status in (1, BAD_REQUEST, NO_ROOM, NO_MEMORY):
+        for status in (1, CallStatus.BAD_REQUEST, CallStatus.NO_ROOM, CallStatus.NO_MEMORY):
             first = RawAnswer(status, 2, lines=5, kept=3)
             self.assertEqual(fields(library().answer_then(first, after, 1)), fields(first))
 
@@ -120,7 +111,7 @@ class Tallies(unittest.TestCase):
             for each in cut(part, chance):
                 answer, tally = self.tally(header, each, work)
                 joined = library().tally_then(joined, tally)
-                if answer.status != COMPLETE:
+                if answer.status != CallStatus.COMPLETE:
                     break
             with self.subTest(seed=seed):
                 self.assertEqual(bytes(joined), bytes(whole))
@@ -162,7 +153,7 @@ class Package(unittest.TestCase):
             answer = judge(work, "one", header, bytearray(part), joined.parts == 0)
             joined.add(answer, len(header), reports.append)
             output += answer.output
-            if joined.status != COMPLETE:
+            if joined.status != CallStatus.COMPLETE:
                 break
         tally = None if joined.tally is None else bytes(joined.tally.told)
         return fields(joined.told), joined.end, reports, output, tally

@@ -42,7 +42,9 @@ def tables():
                 title = line.split("`")[1]
             elif row:
                 types = [TYPES[kind] for kind in re.split(r",? or ", row.group(2))]
-                found.setdefault(title, {}).update(dict.fromkeys(re.findall(r"\w+", row.group(1)), types))
+                found.setdefault(title, {}).update(
+                    dict.fromkeys(re.findall(r"\w+", row.group(1)), types)
+                )
     return found
 
 
@@ -165,14 +167,24 @@ class Objects(Documented):
         self.told("filter", "--json", "-", given=GOOD)
 
     def test_index(self):
-        index, paths = str(self.folder / "it.gpkg"), [example("town"), str(self.file(HEADER + PLAIN + PLAIN, "two.gz"))]
+        index, paths = str(self.folder / "it.gpkg"), [
+            example("town"),
+            str(self.file(HEADER + PLAIN + PLAIN, "two.gz")),
+        ]
         objects, said, status = self.told("index", "--json", "--output", index, *paths)
-        self.assertEqual(([(one["file"], one["command"], one["features"]) for one in objects], said, status),
-                         ([(paths[0], "index", 4), (paths[1], "index", 2)], "", 0))
+        self.assertEqual(
+            ([(one["file"], one["command"], one["features"]) for one in objects], said, status),
+            ([(paths[0], "index", 4), (paths[1], "index", 2)], "", 0),
+        )
         (told,), _, _ = self.told("index", "--json", "--show", index)
-        self.assertEqual((told["features"], told["bbox"], [one["packing"] for one in told["streams"]]),
-                         (6, [995, 1990, 1050, 2005], [None, "gzip"]))
-        self.assertEqual(told["repeated_ids"], [{"id": "b", "places": [{"file": paths[1], "line": 2}, {"file": paths[1], "line": 3}]}])
+        self.assertEqual(
+            (told["features"], told["bbox"], [one["packing"] for one in told["streams"]]),
+            (6, [995, 1990, 1050, 2005], [None, "gzip"]),
+        )
+        self.assertEqual(
+            told["repeated_ids"],
+            [{"id": "b", "places": [{"file": paths[1], "line": 2}, {"file": paths[1], "line": 3}]}],
+        )
         for one in told["streams"]:
             self.fits(one, TABLES["streams"])
         self.fits(told["repeated_ids"][0], TABLES["repeated_ids"])

@@ -163,6 +163,29 @@ class Sames(InFolder):
             self.assertEqual((ran.returncode, paths[0].read_bytes()), (2, GOOD))
         self.assertEqual([path.read_bytes() for path in (*paths, ids)], [GOOD, GOOD, b"a\n"])
 
+    def test_standard_error_of_the_command(self):
+        """Not even the words that refuse it are written to it."""
+        path, index = self.file(GOOD + b"{}\n", "bad.jsonl"), self.folder / "it.gpkg"
+        good = self.file(GOOD, "good.jsonl")
+        self.assertEqual(command("index", "--output", index, good)[2], 0)
+        for words, read in (
+            (("check", path), path),
+            (("filter", "--keep-going", "--output", self.folder / "out", path), path),
+            (("filter", "--output", path, path), path),
+            (("index", "--output", self.folder / "no.gpkg", path), path),
+            (("report", "--json", path), path),
+            (("filter", "--index", index, "--id", "a"), good),
+        ):
+            before = read.read_bytes()
+            with open(read, "ab") as appended, self.subTest(words[0]):
+                ran = subprocess.run(
+                    [sys.executable, "-m", "cityseq", *words],
+                    stdout=subprocess.PIPE,
+                    stderr=appended,
+                    env={**os.environ, "PYTHONPATH": os.path.join(support.ROOT, "python")},
+                )
+                self.assertEqual((ran.returncode, ran.stdout, read.read_bytes()), (2, b"", before))
+
 
 class Writers(InFolder):
     """What writes."""

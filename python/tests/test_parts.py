@@ -37,23 +37,26 @@ def filtered(text, **options):
 
 
 # Prints how many pages the system had to find for the last ten of some calls, each with a line of
-# 100,000 numbers.
+# many numbers, in a thread.
 CALLS = """
 import resource
 from cityseq._library import keep_room
 from cityseq.parts import judge
 from cityseq.query import asked
+from cityseq.threads import in_thread
 line = (
     b'{"type":"CityJSONFeature","id":"b",'
     b'"CityObjects":{"b":{"type":"Building","attributes":{"a":[%s0]}}},"vertices":[]}'
 )
-part, header, work = bytearray(line % (b"0," * 100_000)), HEADER, asked("check")
-keep_room()
-for count in 3, 10:
-    begun = resource.getrusage(resource.RUSAGE_SELF).ru_minflt
-    for _ in range(count):
-        assert judge(work, "one", header, part, True).kept == 1
-print(resource.getrusage(resource.RUSAGE_SELF).ru_minflt - begun)
+part, header, work = bytearray(line % (b"0," * NUMBERS)), HEADER, asked("check")
+keep_room(1)
+def judge_often():
+    for count in 3, 10:
+        begun = resource.getrusage(resource.RUSAGE_SELF).ru_minflt
+        for _ in range(count):
+            assert judge(work, "one", header, part, True).kept == 1
+    return resource.getrusage(resource.RUSAGE_SELF).ru_minflt - begun
+print(in_thread(judge_often))
 """
 
 
@@ -73,15 +76,16 @@ class Room(unittest.TestCase):
 
     @unittest.skipUnless(platform.libc_ver()[0] == "glibc", "the C library is another one")
     def test_it_is_kept_for_the_next_call(self):
-        script = CALLS.replace("HEADER", repr(HEADER))
-        ran = subprocess.run(
-            [sys.executable, "-c", script],
-            stdout=subprocess.PIPE,
-            timeout=60,
-            check=True,
-            env={**os.environ, "PYTHONPATH": os.path.join(support.ROOT, "python")},
-        )
-        self.assertLess(int(ran.stdout), 300)  # of some 3,500 that they touch
+        for numbers in (100_000, 3_000_000):
+            script = CALLS.replace("HEADER", repr(HEADER)).replace("NUMBERS", str(numbers))
+            ran = subprocess.run(
+                [sys.executable, "-c", script],
+                stdout=subprocess.PIPE,
+                timeout=60,
+                check=True,
+                env={**os.environ, "PYTHONPATH": os.path.join(support.ROOT, "python")},
+            )
+            self.assertLess(int(ran.stdout), 300)  # of some 3,500 that they touch, or 100,000
 
 
 class Cuts(unittest.TestCase):

@@ -1,5 +1,5 @@
-"""Files that are read by their places, where their parts are judged or in turn: the same comes of
-them as of their bytes."""
+"""Files that are read by their places, where their parts are judged: the same comes of them as of
+their bytes."""
 import io
 import os
 import random
@@ -12,7 +12,7 @@ from .support import HEADER, PLAIN, InFolder, feature
 
 import cityseq
 from cityseq.parts import read_header
-from cityseq.places import Places, Turns, placed
+from cityseq.places import Places, placed
 from cityseq.query import asked
 from cityseq.sources import Reader
 
@@ -31,17 +31,14 @@ def failing_at(place):
     return mock.patch("os.preadv", read)
 
 
-def cut(path, size, line_limit, turns=False):
-    """The header, the parts that are found by their places or read in turn, and what they leave."""
+def cut(path, size, line_limit):
+    """The header, the parts that are found by their places, and what they leave."""
     with open(path, "rb") as file:
         header, _ = read_header(Reader(file), line_limit)
         source = placed(file)
-        places = (Turns if turns else Places)(source, len(header), size, line_limit)
+        places = Places(source, len(header), size, line_limit)
         found = places.parts() if header.endswith(b"\n") else ()
-        parts = [
-            (bytes(part), fault)
-            for part, fault in (read() if turns else source.read(*read) for read in found)
-        ]
+        parts = [(bytes(part), fault) for part, fault in (source.read(*ends) for ends in found)]
         file.seek(places.begin)
         return header, parts, file.read()
 
@@ -65,50 +62,29 @@ class Cuts(InFolder):
                 if header.endswith(b"\n"):
                     self.assertLessEqual(len(rest), max(size, 5_000))
 
-    def test_parts_in_turn_make_the_file_again(self):
-        for seed in range(150):
-            text = support.stream_by_chance(seed)
-            path, longest = self.file(text), max(map(len, text.split(b"\n"))) + 1
-            for size in (1, 10, 300, 10_000):
-                header, parts, rest = cut(path, size, 5_000, turns=True)
-                self.assertEqual(header + b"".join(part for part, _ in parts) + rest, text)
-                self.assertTrue(
-                    all(fault is None and part.endswith(b"\n") for part, fault in parts)
-                )
-                self.assertTrue(all(len(part) <= max(size, 2 * longest) for part, _ in parts))
-                if header.endswith(b"\n"):
-                    self.assertLess(len(rest), max(size, 2 * longest))
-
-    def test_parts_in_turn_are_as_long_as_asked(self):
+    def test_parts_are_as_long_as_asked(self):
         path = self.file(b"h\n" + b"abcd\n" * 7 + b"ab")
         parts = [b"abcd\n" * 2] * 3
         self.assertEqual(
-            cut(path, 13, 50, turns=True), (b"h\n", [(part, None) for part in parts], b"abcd\nab")
+            cut(path, 13, 50), (b"h\n", [(part, None) for part in parts], b"abcd\nab")
         )
 
-    def test_parts_in_turn_are_twice_as_long_from_a_longer_line_on(self):
-        path = self.file(b"h\na\n" + b"b" * 9 + b"\n" + b"c\n" * 20)
-        _, parts, rest = cut(path, 4, 50, turns=True)
-        self.assertEqual(
-            [part for part, _ in parts],
-            [b"a\n", b"b" * 9 + b"\n" + b"c\n" * 3, b"c\n" * 8, b"c\n" * 8],
-        )
-        self.assertEqual(rest, b"c\n")
-
-    def test_parts_in_turn_up_to_a_byte(self):
+    def test_parts_up_to_an_end(self):
         path = self.file(b"a\n" * 5 + b"b" * 20 + b"\n" + b"c\n" * 10)
-        two, three, line = [b"a\n" * 2] * 2, [b"a\n" * 2] * 2 + [b"a\n"], b"b" * 20 + b"\n"
+        two, line = [b"a\n" * 2] * 2, b"b" * 20 + b"\n"
         for end, wanted in (
-            (9, two),
-            (10, three),
-            (30, three),
-            (31, three + [line]),
-            (36, three + [line + b"c\n" * 2]),
+            (0, []),
+            (2, [b"a\n"]),
+            (8, two),
+            (10, two + [b"a\n"]),
+            (31, two + [b"a\n", line]),
+            (37, two + [b"a\n", line] + [b"c\n" * 2, b"c\n"]),
         ):
             with open(path, "rb") as file, self.subTest(end=end):
-                turns = Turns(placed(file), 0, 4, 50, end)
-                self.assertEqual([bytes(part()[0]) for part in turns.parts()], wanted)
-                self.assertEqual(turns.begin, len(b"".join(wanted)))
+                source = placed(file)
+                places = Places(source, 0, 4, 50, end)
+                parts = [bytes(source.read(*ends)[0]) for ends in places.parts()]
+                self.assertEqual((parts, places.begin), (wanted, end))
 
     def test_ends_far_from_where_they_are_looked_for(self):
         lines = [
@@ -146,13 +122,14 @@ class Cuts(InFolder):
             cut(path, 4, 50), (b"h\n", [(b"a\n", None), (b"b" * 50 + b"\n", None)], b"c\n")
         )
         self.assertEqual(cut(path, 4, 49), (b"h\n", [(b"a\n", None)], b"b" * 50 + b"\nc\n"))
-        path = self.file(b"h\na\n" + b"b" * 64 + b"\nc\n")
-        self.assertEqual(
-            cut(path, 4, 63, turns=True), (b"h\n", [(b"a\n", None)], b"b" * 64 + b"\nc\n")
-        )
-        self.assertEqual(
-            cut(path, 4, 64, turns=True), (b"h\n", [(b"a\n", None)], b"b" * 64 + b"\nc\n")
-        )
+
+    def test_a_place_that_cannot_be_read_is_left(self):
+        path, text = self.file(HEADER + PLAIN * 50), PLAIN * 50
+        with mock.patch("os.pread", side_effect=OSError(5, "Input/output error")):
+            self.assertEqual(cut(path, 1_000, 5_000), (HEADER, [], text))
+            for jobs in (1, 2):
+                result = cityseq.check(path, part_size=1_000, jobs=jobs)
+                self.assertEqual((result.status, result.features), (0, 50))
 
     def test_what_has_no_places(self):
         self.assertIsNone(placed(io.BytesIO(b"h\n")))
@@ -174,14 +151,14 @@ class Counted(InFolder):
     """Parts of which nothing but counts is told."""
 
     def counted(self, text, size, most):
-        """What is told of parts that are read in turn, as long as something is."""
+        """What is told of parts, as long as something is."""
         work, path = asked("check"), self.file(HEADER + text)
         with open(path, "rb") as file:
-            turns = Turns(placed(file), len(HEADER), size, work.line_limit)
-            told = list(iter(lambda: turns.counted(work, HEADER, most), None))
+            places = Places(placed(file), len(HEADER), size, work.line_limit)
+            told = list(iter(lambda: places.counted(work, HEADER, most), None))
         return [
             (answer.lines, answer.kept, answer.size, answer.parts) for answer in told
-        ], turns.begin - len(HEADER)
+        ], places.begin - len(HEADER)
 
     def test_valid_parts_are_joined(self):
         length = len(PLAIN)

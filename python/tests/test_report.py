@@ -7,6 +7,7 @@ import subprocess
 import sys
 import time
 import unittest
+from unittest import mock
 
 from . import support
 from .support import HEADER, InFolder, command, feature
@@ -14,7 +15,7 @@ from .test_delivery import MISSING, lists_of
 from .test_told import example
 
 import cityseq
-from cityseq.delivery import extras
+from cityseq.delivery import extras, making
 from cityseq.delivery.told import delivery_object
 
 
@@ -177,6 +178,22 @@ class Command(InFolder):
             _, said = run.communicate(timeout=120)
             self.assertEqual((said.decode(), run.returncode), (words, 128 + number))
             self.assertEqual(self.names(), ["good.jsonl", "long.jsonl"])
+
+    def test_an_interrupt_of_the_opening_leaves_nothing(self):
+        """No file is there before what removes it is in place."""
+        making._Output([str(self.good)], str(self.page))
+        self.assertEqual(self.names(), ["good.jsonl"])
+        open_all = making._Output.open
+
+        def interrupted(output):
+            open_all(output)
+            self.assertEqual(len(self.names()), 4)
+            raise KeyboardInterrupt
+
+        with mock.patch.object(making._Output, "open", interrupted):
+            with self.assertRaises(KeyboardInterrupt):
+                cityseq.report(self.good, self.page)
+        self.assertEqual(self.names(), ["good.jsonl"])
 
     def test_names_that_are_no_text(self):
         path = os.path.join(os.fsencode(self.folder), b"\xff<b>\x1b=\n.jsonl")

@@ -80,7 +80,9 @@ class Safety(Served):
     def test_hosts(self):
         for host, wanted in (("localhost:8080", True), ("127.0.0.1", True), ("[::1]:80", True), ("10.1.2.3:9", True),
                              ("a.localhost", True), ("evil.example", False), ("", False), ("localhost.evil.example", False),
-                             ("user@localhost", False), ("localhost/x", False), ("localhost:x", False), ("[::1", False)):
+                             ("user@localhost", False), ("localhost/x", False), ("localhost:x", False), ("[::1", False),
+                             ("[fe80::1%a>b]", False), ("[FE80::1]", True), ("localhost:65536", False), ("127.1", False),
+                             ("localhost\t", False), ("local\u212ahost", False), ("127.0.0.1.evil.example", False)):
             self.assertEqual(is_known(host, Settings()), wanted, host)
         settings = Settings(url="https://city.example.org/cities", names=("models.example",))
         self.assertTrue(is_known("city.example.org", settings) and is_known("models.example:80", settings))
@@ -126,6 +128,15 @@ class Safety(Served):
             self.assertRegex(line, wanted)
             self.assertTrue(line[:-1].isprintable(), line)
         self.assertEqual(_quoted("a\"b\\c\r\n\x1b\u202e"), '"a\\"b\\\\c\\u000d\\u000a\\u001b\\u202e"')
+
+    def test_log_lines_have_the_bytes_of_bodies(self):
+        body = HEADER + feature("b") * 9_000
+        for path, method, sent in (("/conformance?f=json", "GET", None), ("/conformance?f=html", "HEAD", None), ("/none?sized", "GET", None),
+                                   ("/filter?keep_going", "POST", body), ("/check?summary", "POST", body)):
+            for _ in range(2):  # the second may be given again
+                answer = self.server.ask(path, method, sent)
+                ending = f'"{method} {path} HTTP/1.1" {answer.status} {len(answer.body)} '
+                self.assertTrue(soon(lambda: any(ending in line for line in self.server.log)), (ending, self.server.log[-1]))
 
     def test_answers_that_are_given_again(self):
         """The same request has the same answer, on the same connection and on others, in any pieces."""
@@ -255,13 +266,15 @@ class Safety(Served):
             web.wait(10)
 
     def test_what_is_missing_is_said(self):
-        (self.folder / "aiohttp.py").write_text("raise ImportError('none')")
-        code = f"import sys; sys.path.insert(0, {str(self.folder)!r}); from cityseq.commands import main; sys.exit(main(['serve']))"
-        ran = subprocess.run([sys.executable, "-c", code], stderr=subprocess.PIPE, timeout=30,
-                             env={**os.environ, "PYTHONPATH": os.path.join(ROOT, "python")})
-        (self.folder / "aiohttp.py").unlink()
-        self.assertEqual(ran.returncode, 2)
-        self.assertRegex(ran.stderr.decode(), r"\Athere is no aiohttp for Python: install python3-aiohttp.*\n\Z")
+        for text, wanted in (("raise ImportError('none')", "there is no aiohttp for Python: install python3-aiohttp"),
+                             ("web = None", "this version of aiohttp cannot be used: ")):
+            (self.folder / "aiohttp.py").write_text(text)
+            code = f"import sys; sys.path.insert(0, {str(self.folder)!r}); from cityseq.commands import main; sys.exit(main(['serve']))"
+            ran = subprocess.run([sys.executable, "-c", code], stderr=subprocess.PIPE, timeout=30,
+                                 env={**os.environ, "PYTHONPATH": os.path.join(ROOT, "python")})
+            (self.folder / "aiohttp.py").unlink()
+            self.assertEqual(ran.returncode, 2)
+            self.assertRegex(ran.stderr.decode(), rf"\A{wanted}.*\n\Z")
 
 
 @unittest.skipIf(MISSING, MISSING)

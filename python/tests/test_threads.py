@@ -88,7 +88,8 @@ class Crews(unittest.TestCase):
             self.assertEqual(crew.submit(lambda: 5).result(), 5)
 
     def test_an_interrupt_when_a_thread_was_just_started(self):
-        """The crew does not know that thread, which takes the sign of the end before the other one does."""
+        """The crew does not know that thread, which takes the sign of the end before the other
+        one."""
         started, ended = [], threading.Event()
         start = threads._start
 

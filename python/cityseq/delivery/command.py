@@ -11,11 +11,10 @@ from ..faults import RequestError
 from ..progress import Bar
 from ..query import asked
 from ..running import Result
-from ..same import refuse_same
+from ..same import refuse_same, refuse_standard
 from ..shown import shown
 from ..sources import size_of
 from ..words import COMMANDS, Asked
-from .facts import VERDICTS
 from .making import How, checked, report
 
 
@@ -26,7 +25,9 @@ def run(wanted: Asked, program: str) -> int:
         raise RequestError("a report is written to a file: name it by --output")
     if not wanted.files and wanted.files_from is None:
         raise RequestError("a report is about files: name each FILE")
-    files, _ = checked(files_of(wanted), output)
+    named = files_of(wanted)
+    refuse_standard([*named, *filter(None, [wanted.files_from])])
+    files, _ = checked(named, output)
     refuse_same(filter(None, [wanted.files_from]), filter(None, [output]))
     work = asked("check", line_limit=wanted.line_limit, depth=wanted.depth, keep_going=True,
                  tree=wanted.tree)
@@ -72,4 +73,4 @@ def _say(result: Result, wanted: Asked) -> None:
     else:
         counts = f"lines={result.lines} features={result.features}"
         refused = f" refused={result.refused}" if result.refused else ""
-        put(f"{name}: {'invalid' if refused else VERDICTS[0]} {counts}{refused}")
+        put(f"{name}: {result.status.verdict} {counts}{refused}")

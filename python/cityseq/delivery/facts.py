@@ -5,6 +5,7 @@ from collections import Counter
 from dataclasses import dataclass, field
 from typing import TYPE_CHECKING, Dict, List, Optional, Tuple, TypeVar
 
+from ..faults import Status
 from ..reports import Explanation, Report, explain
 from ..tally import Range
 
@@ -14,8 +15,6 @@ if TYPE_CHECKING:
     from ..world import Extent
 
 EXAMPLES = 3  # reports of each reason that are kept as examples
-VALID, INVALID, NOT_JUDGED = "valid", "invalid", "fault"
-VERDICTS = {0: VALID, 1: INVALID}
 Key = TypeVar("Key")
 Rectangle = Tuple[float, float, float, float]  # xmin, ymin, xmax, ymax, in world coordinates
 Point = Tuple[float, float]
@@ -71,7 +70,7 @@ class File:
     """
 
     name: str
-    status: int = 0
+    status: Status = Status.VALID
     size: Optional[int] = None
     sha256: Optional[str] = None
     lines: int = 0
@@ -92,7 +91,7 @@ class File:
     @property
     def verdict(self) -> str:
         """`valid`, `invalid` or `fault`."""
-        return VERDICTS.get(self.status, NOT_JUDGED)
+        return self.status.verdict
 
 
 @dataclass
@@ -225,9 +224,9 @@ class Delivery:
     report_files: Tuple[str, ...] = ()
 
     @property
-    def status(self) -> int:
+    def status(self) -> Status:
         """The greatest status of all files, as the status of `check`."""
-        return max((file.status for file in self.files), default=0)
+        return max((file.status for file in self.files), default=Status.VALID)
 
     @property
     def verdicts(self) -> "Counter[str]":

@@ -45,23 +45,22 @@ class Lists:
     """Writes both files. Each is renamed when it is whole."""
 
     def __init__(self, page: str) -> None:
-        """Opens both.
-
-        Raises:
-            WriteFault: One cannot be opened.
-        """
+        """Takes the name of the page. It opens no file."""
         self.names = names_of_lists(page)
         self._csv, self._json = (Writer(name) for name in self.names)
-        try:
-            self._csv.write(b"")  # so that a folder that cannot be written to is reported at once
-            self._json.write(b"")
-        except BaseException:
-            self.discard()
-            raise
         self._rows, self._lines = io.StringIO(newline=""), io.StringIO()
         self._rows.write(MARK)
         self._writer = csv.writer(self._rows)
         self._writer.writerow(COLUMNS)
+
+    def open(self) -> None:
+        """Opens both files, so that a folder that cannot be written to is reported at once.
+
+        Raises:
+            WriteFault: One cannot be opened.
+        """
+        self._csv.write(b"")
+        self._json.write(b"")
 
     def add(self, report: Report) -> None:
         """Writes a report.

@@ -107,11 +107,15 @@ class _Output:
         refuse_same(names, [output, *names_of_lists(output)])
         self.page = Writer(output)
         self.lists = Lists(output)
-        try:
-            self.page.write(b"")  # so that a folder that cannot be written to is reported at once
-        except BaseException:
-            self.discard()
-            raise
+
+    def open(self) -> None:
+        """Opens all files. An interrupt may come at once, so who calls it must call `discard`.
+
+        Raises:
+            WriteFault: One cannot be opened.
+        """
+        self.lists.open()
+        self.page.write(b"")
 
     def close(self, delivery: Delivery) -> None:
         """Writes the page, and gives all files their names.
@@ -140,6 +144,8 @@ def report(paths: Any, output: Any, work: Work, how: How) -> Delivery:
     delivery = Delivery(how.title or _title(page), run)
     made = None if page is None else _Output(names, page)
     try:
+        if made is not None:
+            made.open()
         _survey(delivery, names, work, how, None if made is None else made.lists)
         if made is not None:
             delivery.report_files = tuple(os.path.basename(name) for name in made.lists.names)

@@ -9,7 +9,7 @@ from decimal import DecimalException
 from functools import partial
 from typing import TYPE_CHECKING, Any, Callable, Dict, Iterator, List, Optional, Sequence, Tuple
 
-from .._library import LOD_CLASSES, NO_MEMORY, RawAnswer, Text, library
+from .._library import LOD_CLASSES, CallStatus, RawAnswer, Text, library
 from ..geopackage import system_of
 from ..indexing import Recorded
 from ..parts import Answer
@@ -102,7 +102,7 @@ def marked(find: Callable[[Read], Answer], is_marked: Callable[[], bool], read: 
         answer.reports = list(answer.reports)  # they may be made only when they are read
         middles = list(middles_of(answer.reports, parts[0]))
     except MemoryError:
-        return Answer(RawAnswer(status=NO_MEMORY))
+        return Answer(RawAnswer(status=CallStatus.NO_MEMORY))
     return Marked(**vars(answer), middles=middles)
 
 

@@ -73,6 +73,8 @@ def app(
 def run(wanted: "Asked") -> int:
     """Runs the command `serve`, and returns the status."""
     _require()
-    from .process import run as run_process
-
+    try:
+        from .process import run as run_process
+    except (AttributeError, ImportError) as fault:
+        raise RequestError(f"this version of aiohttp cannot be used: {fault}") from fault
     return run_process(wanted)

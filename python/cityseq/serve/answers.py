@@ -9,6 +9,7 @@ from aiohttp import web
 
 from .calls import Calls
 from .links import Link, segment
+from .logs import SENT
 from .pages import Block, Found, Page
 from .patience import Patience
 from .resources import path_of
@@ -133,6 +134,7 @@ async def write(response: web.StreamResponse, text: bytes, patience: Patience) -
     for begin in range(0, len(view), PIECE):
         with patience.waiting():
             await response.write(view[begin : begin + PIECE])
+    response[SENT] = response.get(SENT, 0) + len(view)
 
 
 async def send_page(request: web.Request, calls: Calls, make: Callable[[], Page], form: Any,

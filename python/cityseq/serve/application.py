@@ -3,6 +3,8 @@ from __future__ import annotations
 
 import asyncio
 import re
+import socket
+import struct
 from typing import Any, Awaitable, Callable, Dict, Optional, Set, Tuple
 
 from aiohttp import web
@@ -10,7 +12,7 @@ from aiohttp import web
 from ..console import say
 from ..faults import CityseqError
 from . import bodies, items, openapi, resources
-from .answers import dumped, item_path
+from .answers import dumped
 from .calls import Calls
 from .catalogue import Catalogue
 from .connection import Connection
@@ -36,6 +38,7 @@ HEADERS = {
 }
 LOOK = 1.0  # seconds between two looks whether an index was built again
 MOST_HOSTS = 100  # host names that are remembered
+MOST_HEADERS = 128  # of a request
 VERSIONS = ((1, 0), (1, 1))
 TOKEN = re.compile(r"[!#$%&'*+.^_`|~0-9A-Za-z-]+\Z")
 ALLOWED = {
@@ -72,7 +75,7 @@ class Server:
     async def guard(self, request: web.Request, handler: Handler) -> web.StreamResponse:
         """Answers a request within the limits. A fault becomes a problem. Once the answer has
         begun, a fault ends the connection."""
-        patience = request["patience"] = Patience(self.limits)
+        patience = request["patience"] = Patience(self.limits, request.transport)
         self._open += 1
         try:
             self._check(request)
@@ -92,6 +95,8 @@ class Server:
         """
         if request.version not in VERSIONS:
             raise Problem(505, "the server speaks HTTP/1.1")
+        if len(request.headers) > MOST_HEADERS:
+            raise Problem(431, "the request has too many headers")
         if not all(map(TOKEN.match, request.headers)):
             raise Problem(400, "a name of a header has a sign that no name has")
         if request.headers.get("Expect", bodies.GO_ON).strip().lower() != bodies.GO_ON:
@@ -114,8 +119,9 @@ class Server:
         return True
 
     def _is_own(self, request: web.Request, origin: str) -> bool:
-        base = base_of(request, self.settings)
-        return self.settings.cors in ("*", origin) or f"{base}/".startswith(f"{origin}/")
+        scheme, _, rest = base_of(request, self.settings).partition("://")
+        own = f"{scheme}://{rest.partition('/')[0]}"
+        return self.settings.cors in ("*", origin) or origin == own
 
     def _failed(self, request: web.Request, fault: BaseException, patience: Patience
                 ) -> web.StreamResponse:
@@ -133,8 +139,7 @@ class Server:
             say(told)
         begun: Optional[web.StreamResponse] = request.get("begun")
         if begun is not None:
-            if request.transport is not None:
-                request.transport.abort()
+            _break_off(request)
             return begun
         problem = problem_of(fault)
         if problem.status == 505 and isinstance(request.protocol, Connection):
@@ -178,12 +183,14 @@ class Server:
     def _asked(self, request: web.Request, formats: Tuple[Format, ...],
                known: Tuple[str, ...] = ("f",)) -> Tuple[Query, Format]:
         query = Query(request.raw_path.partition("?")[2], known)
-        return query, choose(formats, query.text("f"), request.headers.get("Accept", ""))
+        return query, choose(formats, query.text("f"), _accept(request))
 
-    def _answer(self, chosen: Format, told: Any, page: str, **more: Any) -> web.Response:
+    def _answer(self, chosen: Format, told: Any, page: str, system: Optional[str] = None,
+                **more: Any) -> web.Response:
         if chosen == HTML:
             text = self.pages.render(page, told=told, **more)
-            return web.Response(text=text, content_type="text/html")
+            headers = None if system is None else {"Content-Crs": f"<{system}>"}
+            return web.Response(text=text, content_type="text/html", headers=headers)
         return web.Response(body=dumped(told) + b"\n", headers={"Content-Type": chosen.media_type})
 
     async def landing(self, request: web.Request) -> web.StreamResponse:
@@ -199,8 +206,8 @@ class Server:
         """Answers `/conformance`."""
         _, chosen = self._asked(request, resources.PAGES)
         links = self._links(request)
-        return self._answer(chosen, resources.conformance(links, chosen), "conformance.html",
-                            links=links)
+        told = resources.conformance(links, self.catalogue, chosen)
+        return self._answer(chosen, told, "conformance.html", links=links)
 
     async def api(self, request: web.Request) -> web.StreamResponse:
         """Answers `/api`."""
@@ -230,14 +237,15 @@ class Server:
         """Answers `/collections/NAME/items`."""
         found = self._collection(request)
         query = Query(request.raw_path.partition("?")[2], items.PARAMETERS)
-        asked = items.Items(found, query, self.limits, request.headers.get("Accept", ""))
+        asked = items.Items(found, query, self.limits, _accept(request))
         links = self._links(request)
         if asked.chosen != HTML:
             return await items.send_items(request, self.calls, asked, links)
         features, following = await self.calls.call(lambda: items.listed(asked.page()))
         next_link = None if following is None else asked.following(links, following)
-        return self._answer(HTML, {"links": asked.own_links(links)}, "items.html", links=links,
-                            features=features, collection=found, asked=asked, next=next_link)
+        return self._answer(HTML, {"links": asked.own_links(links)}, "items.html", asked.system,
+                            links=links, features=features, collection=found, asked=asked,
+                            next=next_link)
 
     async def item(self, request: web.Request) -> web.StreamResponse:
         """Answers `/collections/NAME/items/ID`."""
@@ -248,10 +256,9 @@ class Server:
         links = self._links(request)
         if chosen != HTML:
             return items.item_answer(collection, query, chosen, links, found)
-        feature = next(found[1].features())
-        path = item_path(collection, name) or ""
-        return self._answer(HTML, {"links": links.formats(path, items.ITEM, HTML)}, "item.html",
-                            links=links, feature=feature, collection=collection)
+        own = items.links_of_one(collection, query, HTML, links, name)
+        return self._answer(HTML, {"links": own}, "item.html", collection.system.storage,
+                            links=links, feature=next(found[1].features()), collection=collection)
 
     async def check(self, request: web.Request) -> web.StreamResponse:
         """Answers `POST /check`."""
@@ -272,6 +279,22 @@ class Server:
         if self.settings.cors is None:
             raise Problem(405, "there is nothing to ask", {"Allow": "GET, HEAD, POST"})
         return web.Response(status=204, headers=ALLOWED)
+
+
+def _break_off(request: web.Request) -> None:
+    """Ends an answer so that the client sees that it is not whole. By HTTP/1.1 it has no last
+    chunk. By HTTP/1.0 its end would be that of the connection, so that is reset."""
+    if request.transport is None:
+        return
+    if request.version < (1, 1):
+        peer = request.transport.get_extra_info("socket")
+        peer.setsockopt(socket.SOL_SOCKET, socket.SO_LINGER, struct.pack("ii", 1, 0))
+    request.transport.abort()
+
+
+def _accept(request: web.Request) -> str:
+    """Returns the header `Accept`. A client may send it in several lines."""
+    return ", ".join(request.headers.getall("Accept", []))
 
 
 def _problem_of_route(fault: web.HTTPException) -> Problem:

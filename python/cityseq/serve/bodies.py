@@ -22,6 +22,7 @@ from ..words import Asked
 from .answers import write
 from .calls import Calls
 from .judging import Fed, Unpacking, too_long
+from .logs import SENT
 from .patience import Patience
 from .problems import Problem
 from .queries import Query
@@ -246,7 +247,9 @@ class Trailed(web.StreamResponse):
     async def put(self, text: Text, patience: Patience) -> None:
         """Writes some bytes as a chunk."""
         if len(text):
-            await write(self, b"%x\r\n%b\r\n" % (len(text), bytes(text)), patience)
+            begin = b"%x\r\n" % len(text)
+            await write(self, begin + bytes(text) + b"\r\n", patience)
+            self[SENT] -= len(begin) + 2
 
     async def finish(self, trailer: str) -> None:
         """Writes the end, with the trailer."""

@@ -6,38 +6,77 @@ import asyncio
 import json
 from typing import Any, Dict, Optional
 
+import aiohttp
 from aiohttp import web
 from aiohttp.http_exceptions import LineTooLong
+from aiohttp.streams import EMPTY_PAYLOAD
 
 from ..console import say
+from ..faults import RequestError
 from .logs import Combined
+from .patience import unsent
 from .problems import MEDIA_TYPE, Problem, logged
-from .replies import Replies, Reply, is_whole, text_of
+from .replies import END, Replies, Reply, is_whole, text_of
 from .settings import Limits
 
 PENDING = 32  # requests that a connection may send before the first of them is answered
 MOST_HELD = 1 << 18  # bytes after a request for another protocol
+MOST_HEAD = 1 << 18  # bytes of the head of a request that is not yet whole
 LOOK = 1.0  # seconds between two looks at silent connections
+# members of aiohttp's connection that are not documented, and the versions that have them
+PRIVATE = ("_current_request", "_message_tail", "_messages", "_request_count", "handle_error",
+           "log_access")
+TRIED = "3.8.4 of Debian 12, 3.11.16 and 3.14.3"
+
+
+def require_hooks() -> None:
+    """Raises `RequestError` if aiohttp lacks what a connection needs."""
+    missing = [name for name in PRIVATE if not hasattr(web.RequestHandler, name)]
+    if missing:
+        raise RequestError(
+            f"aiohttp {aiohttp.__version__} cannot be used: it has no {', '.join(missing)}."
+            f" These versions can: {TRIED}")
 
 
 class Connection(web.RequestHandler):
     """A connection of a client."""
 
-    __slots__ = ("_crowd", "_raw", "since", "has_bytes", "asked", "answered")
+    __slots__ = ("_crowd", "_raw", "_body", "_head", "_is_clean", "_unsent", "_stuck", "since",
+                 "has_bytes", "answered")
 
     def __init__(self, crowd: "Crowd", manager: Any, **options: Any) -> None:
         """Takes the crowd of all connections, and the arguments of aiohttp."""
         super().__init__(manager, **options)
         self._crowd = crowd
         self._raw: Optional[bytes] = None  # the bytes of a request that has no body
-        self.since = 0.0  # when it became silent
-        self.has_bytes = False  # since then
-        self.asked = self.answered = 0  # requests
+        self._body: Any = None  # of the last request that has come
+        self._head = 0  # bytes of the head that has begun after it
+        self._is_clean = True  # the last bytes ended a request without a body
+        self._unsent, self._stuck = (0, 0), 0.0  # what the client has not taken, and since when
+        self.since = 0.0  # when it became silent, or when its open request began
+        self.has_bytes = False  # since it became silent
+        self.answered = 0  # requests
 
     @property
     def is_busy(self) -> bool:
         """Whether a request has no answer yet."""
-        return self.asked > self.answered
+        return self._request_count > self.answered
+
+    @property
+    def has_begun(self) -> bool:
+        """Whether a head has begun that is not whole. Other bytes are of a body that was refused.
+        aiohttp reads those for a moment, and ends the connection."""
+        return self.has_bytes and (self._body is None or bool(self._body.is_eof()))
+
+    def is_stuck(self, now: float, limits: Limits) -> bool:
+        """Returns whether the client has taken nothing of an answer for too long, or takes too long
+        for the whole. `Patience` does the same as long as a request is handled."""
+        size = unsent(self.transport)
+        state = self.answered, size
+        if not size or state != self._unsent or self._current_request is not None:
+            self._unsent, self._stuck = state, now
+        is_slow = self.is_busy and now - self.since > limits.seconds + limits.idle
+        return is_slow or now - self._stuck > limits.idle
 
     def connection_made(self, transport: asyncio.BaseTransport) -> None:
         super().connection_made(transport)
@@ -51,21 +90,35 @@ class Connection(web.RequestHandler):
         if self._is_answered_again(data):
             return
         self.has_bytes = True
-        before, request = self._request_count, self._current_request
+        before, request, was_busy = self._request_count, self._current_request, self.is_busy
         super().data_received(data)
-        found = self._request_count - before
-        self.asked += found
-        if found and request is not None and not request.content.is_eof():
-            # no request follows a body that has not ended: that body cannot be read
-            request.content.set_exception(web.RequestPayloadError())
+        if self.is_busy and not was_busy:
+            self.since = self._loop.time()
+        if self._request_count > before:
+            if request is not None and not request.content.is_eof():
+                # no request follows a body that has not ended: that body cannot be read
+                request.content.set_exception(web.RequestPayloadError())
+            self._body = self._messages[-1][1]
+            self._head = 0
+            self._is_clean = self._body is EMPTY_PAYLOAD and data.endswith(END)
+        elif self._body is None or self._body.is_eof():
+            self._count_head(len(data))
         # the bytes after a request for another protocol are kept until that is refused
-        if self.asked - self.answered > PENDING or len(self._message_tail) > MOST_HELD:
+        if self._request_count - self.answered > PENDING or len(self._message_tail) > MOST_HELD:
+            self.drop()
+
+    def _count_head(self, size: int) -> None:
+        """Counts bytes of a head that is not whole. Not all versions of aiohttp bound it."""
+        self._head += size
+        if self._head > MOST_HEAD and not self.is_busy:
+            self.tell(Problem(431, f"the head of a request has at most {MOST_HEAD:,} bytes"))
+        elif self._head > MOST_HEAD:
             self.drop()
 
     def _is_answered_again(self, data: bytes) -> bool:
         """Answers a request that was answered a moment ago. Returns whether it has done so."""
         self._raw = None
-        if self.is_busy or self.has_bytes or self.transport is None:
+        if self.is_busy or self.has_bytes or not self._is_clean or self.transport is None:
             return False
         reply = self._crowd.replies.find(data, self._loop.time())
         if reply is None or self.transport.get_write_buffer_size():
@@ -79,8 +132,9 @@ class Connection(web.RequestHandler):
         return True
 
     def _keep(self, request: Any, response: Any) -> None:
-        """Keeps an answer, so that it can be given again."""
-        text = None if self._raw is None else text_of(response)
+        """Keeps an answer, so that it can be given again. What follows a request with a body is
+        no request, so the next such one has to be read."""
+        text = text_of(response) if self._raw is not None and self._is_clean else None
         if text is not None and isinstance(self.access_logger, Combined):
             told = self.access_logger.told(request, response)
             self._crowd.replies.keep(self._raw or b"", Reply(text, told, self._loop.time()))
@@ -89,6 +143,7 @@ class Connection(web.RequestHandler):
         super().log_access(request, response, time)
         self._keep(request, response)
         self.answered += 1
+        self.since = self._loop.time()
         if not self.is_busy:
             self._crowd.quiet(self)
 
@@ -177,14 +232,16 @@ class Crowd:
         self._connections.pop(connection, None)
 
     def _look(self) -> None:
-        """Ends the connections that have been silent too long."""
-        before = self._loop.time() - self._limits.idle
+        """Ends the connections that have been silent too long, or that take no answer."""
+        now = self._loop.time()
         for each in list(self._connections):
-            if each.is_busy or each.since > before:
+            if each.is_stuck(now, self._limits):
+                each.drop()
+            elif each.is_busy or each.since > now - self._limits.idle:
                 continue
-            if each.has_bytes:
+            elif each.has_begun:
                 each.tell(Problem(408, f"no whole request came in {self._limits.idle:g} seconds"))
-            else:
+            elif not each.has_bytes:
                 each.drop()
         self._handle = self._loop.call_later(LOOK, self._look)
 

@@ -34,11 +34,12 @@ CITY_JSON_SEQ = Format("city-json-seq", "application/city+json-seq", "CityJSONSe
                        ("application/json-seq",))
 OPENAPI = Format("openapi", "application/vnd.oai.openapi+json;version=3.0", "OpenAPI 3.0",
                  ("application/vnd.oai.openapi+json", "application/json"))
-ALIASES = {"json": GEOJSON, "cityjson": CITY_JSON, "cityjsonseq": CITY_JSON_SEQ}
+ALIASES = {"json": (GEOJSON, OPENAPI), "cityjson": (CITY_JSON,), "cityjsonseq": (CITY_JSON_SEQ,)}
 
 
 def _accepted(header: str) -> Iterator[Tuple[str, float]]:
-    """Yields the media types of a header `Accept`, and the quality of each."""
+    """Yields the media types of a header `Accept`, and the quality of each. One that is no number
+    from 0 to 1 is 0."""
     for item in header.split(","):
         media_type, *parameters = (part.strip().lower() for part in item.split(";"))
         share = 1.0
@@ -49,7 +50,7 @@ def _accepted(header: str) -> Iterator[Tuple[str, float]]:
                 except ValueError:
                     share = 0.0
         if media_type:
-            yield media_type, share
+            yield media_type, share if 0 <= share <= 1 else 0.0
 
 
 def choose(formats: Sequence[Format], asked: Optional[str], accept: str) -> Format:
@@ -66,8 +67,9 @@ def choose(formats: Sequence[Format], asked: Optional[str], accept: str) -> Form
     names = ", ".join(each.name for each in formats)
     if asked is not None:
         named = {each.name: each for each in formats}
-        found = named.get(asked) or ALIASES.get(asked)
-        if found not in formats or found is None:
+        others = (each for each in ALIASES.get(asked, ()) if each in formats)
+        found = named.get(asked) or next(others, None)
+        if found is None:
             raise Problem(400, f"f is one of {names}: {asked}")
         return found
     wanted = list(_accepted(accept))

@@ -2,7 +2,8 @@
 from __future__ import annotations
 
 from decimal import ROUND_CEILING, ROUND_FLOOR, Decimal
-from typing import Any, Dict, List, Optional, Tuple
+from functools import lru_cache, partial
+from typing import Any, Callable, Dict, List, NamedTuple, Optional, Tuple
 
 from aiohttp import web
 
@@ -20,9 +21,10 @@ from .problems import Problem
 from .queries import Query
 from .resources import ITEMS, path_of
 from .settings import Limits
-from .systems import may_be_degrees
+from .systems import Extent, may_be_degrees, overlap
 
-SELECTS = ("bbox", "bbox-crs", "datetime", "ids", "type", "lod")
+LISTS = ("ids", "type", "lod")
+SELECTS = ("bbox", "bbox-crs", "datetime", *LISTS)
 PARAMETERS = (*SELECTS, "crs", "limit", "after", "f")
 OF_ONE = ("f", "crs")
 ITEM = (GEOJSON, CITY_JSON, CITY_JSON_SEQ, HTML)
@@ -31,11 +33,23 @@ MOST_ON_A_PAGE = 1_000  # features as HTML
 STEP = Decimal("1e-9")  # a transformed box is rounded outward to a multiple of this
 
 
-def _box_text(query: Query, collection: Collection) -> Optional[str]:
-    """Returns the box that is asked for, in the coordinates of the stream. None if there is none.
+class Reach(NamedTuple):
+    """A box that is asked for.
+
+    Attributes:
+        text: The box around it in the coordinates of the stream. None if no box is asked for.
+        reaches: If that is a larger box, returns whether an extent reaches into the one asked for.
+    """
+
+    text: Optional[str]
+    reaches: Optional[Callable[[Extent], bool]] = None
+
+
+def _reach_of(query: Query, collection: Collection) -> Reach:
+    """Returns the box that is asked for.
 
     A box that cannot be longitudes and latitudes is taken as a box of the stream, unless
-    `bbox-crs` is there.
+    `bbox-crs` is there. The axes of a box in `bbox-crs` have the order of that system.
     """
     box, uri = query.box(), query.text("bbox-crs")
     system = collection.system
@@ -44,13 +58,24 @@ def _box_text(query: Query, collection: Collection) -> Optional[str]:
     else:
         asked = system.asked(uri, "bbox-crs")
     if box is None:
-        return None
+        return Reach(None)
     if asked == system.storage:
-        return ",".join(map(plain, box))
-    moved = system.stored(list(map(float, box)), asked)
+        return Reach(",".join(map(plain, box if uri is None else system.turned(box))))
+    west, south, east, north = map(float, box)
+    edges = west, south, east, north
     ways = (ROUND_FLOOR, ROUND_FLOOR, ROUND_CEILING, ROUND_CEILING)
-    rounded = (Decimal(edge).quantize(STEP, way) for edge, way in zip(moved, ways))
-    return ",".join(map(plain, rounded))
+    moved = zip(system.stored(edges, asked), ways)
+    text = ",".join(plain(Decimal(edge).quantize(STEP, way)) for edge, way in moved)
+    inner = lru_cache(maxsize=1)(partial(system.inner, edges, asked))
+
+    def reaches(extent: Extent) -> bool:
+        within = inner()  # to move an extent takes time
+        if within is not None and overlap(extent, within):
+            return True
+        told = system.told(extent, asked)
+        return told is None or overlap(told, edges)
+
+    return Reach(text, reaches)
 
 
 def _work(collection: Collection, box: Optional[str], query: Query) -> Work:
@@ -74,6 +99,14 @@ def _system(query: Query, collection: Collection, chosen: Format) -> Optional[st
     return storage
 
 
+def _crs_of(query: Query, system: Optional[str], collection: Collection, form: Format
+            ) -> Optional[str]:
+    """Returns the parameter `crs` for a link from an answer in a system to a format. Only GeoJSON
+    has other coordinates than the stream."""
+    is_possible = form == GEOJSON or system == collection.system.storage
+    return query.text("crs") if is_possible else None
+
+
 class Items:
     """A request for a page of a collection."""
 
@@ -92,8 +125,11 @@ class Items:
         self.limit = query.limit(most, usual)
         self.after = query.number("after", 0, 1 << 53, 0)
         query.check_time()
-        self._box = _box_text(query, collection)
-        self.selects = {name: query.text(name) for name in SELECTS if name in query}
+        self._reach = _reach_of(query, collection)
+        self.selects: Dict[str, Any] = {
+            name: query.texts(name) if name in LISTS else query.text(name)
+            for name in SELECTS if name in query
+        }
 
     def page(self) -> Page:
         """Returns the page. A thread calls it.
@@ -101,13 +137,14 @@ class Items:
         Raises:
             RequestError: A text of the query cannot be asked for.
         """
-        work = _work(self.collection, self._box, self._query)
-        return Page(self.collection, work, self.after, self.limit)
+        work = _work(self.collection, self._reach.text, self._query)
+        return Page(self.collection, work, self.after, self.limit, self._reach.reaches)
 
     def parameters(self, after: Optional[int], form: Format) -> Dict[str, Any]:
         """Returns the parameters of the page that begins after a feature."""
-        return {**self.selects, "crs": self._query.text("crs"), "limit": self.limit,
-                "after": after or None, "f": form.name}
+        crs = _crs_of(self._query, self.system, self.collection, form)
+        return {**self.selects, "crs": crs, "limit": self.limit, "after": after or None,
+                "f": form.name}
 
     def following(self, links: Links, after: int) -> Link:
         """Returns the link to the next page."""
@@ -118,7 +155,7 @@ class Items:
         """Returns the links to this page, to its other formats, and to the collection."""
         path = path_of(self.collection)
         found = links.formats(f"{path}/items", ITEMS, self.chosen,
-                              **self.parameters(self.after, self.chosen))
+                              lambda form: self.parameters(self.after, form))
         return [*found, links.to(path, "collection", "The collection", "application/json")]
 
     def matched(self) -> Optional[int]:
@@ -135,12 +172,31 @@ class Items:
         if page.next is not None and not self.has_limit:
             raise Problem(400, f"there are more than {self.limit:,} features: ask for less, or set"
                                " limit and follow the links to the next pages")
-        head = {"Content-Type": self.chosen.media_type}
-        if self.system is not None:
-            head["Content-Crs"] = f"<{self.system}>"
-        if page.next is not None:
-            head["Link"] = header_of(self.following(links, page.next))
-        return head
+        following = None if page.next is None else self.following(links, page.next)
+        own = [] if self.chosen == GEOJSON else self.own_links(links)
+        return head_of(self.chosen, self.system, own, following)
+
+
+def head_of(form: Format, system: Optional[str], links: List[Link], following: Optional[Link] = None
+            ) -> Dict[str, str]:
+    """Returns the headers of an answer. They have the links that its body cannot have."""
+    head = {"Content-Type": form.media_type}
+    if system is not None:
+        head["Content-Crs"] = f"<{system}>"
+    told = header_of(links, following)
+    if told:
+        head["Link"] = told
+    return head
+
+
+def links_of_one(collection: Collection, query: Query, chosen: Format, links: Links, name: str
+                 ) -> List[Link]:
+    """Returns the links from a feature to itself, to its other formats, and to the collection."""
+    system, path = _system(query, collection, chosen), item_path(collection, name)
+    own = [] if path is None else links.formats(
+        path, ITEM, chosen, lambda form: {"crs": _crs_of(query, system, collection, form)})
+    return [*own, links.to(path_of(collection), "collection", "The collection",
+                           "application/json")]
 
 
 async def send_items(request: web.Request, calls: Calls, items: Items, links: Links
@@ -192,18 +248,12 @@ def item_answer(collection: Collection, query: Query, chosen: Format, links: Lin
                 found: Tuple[bytes, Block]) -> web.Response:
     """Returns the answer that has one feature."""
     header, block = found
-    system = _system(query, collection, chosen)
-    head = {"Content-Type": chosen.media_type}
-    if system is not None:
-        head["Content-Crs"] = f"<{system}>"
+    system, feature = _system(query, collection, chosen), next(block.features())
+    own = links_of_one(collection, query, chosen, links, feature.id)
+    head = head_of(chosen, system, [] if chosen == GEOJSON else own)
     if chosen == CITY_JSON_SEQ:
         return web.Response(body=header + block.lines(), headers=head)
     if chosen == CITY_JSON:
         return web.Response(body=whole(header, block.lines()), headers=head)
-    feature = next(block.features())
-    told = geojson_feature(feature, collection.system, system)
-    path = item_path(collection, feature.id)
-    told["links"] = [] if path is None else links.formats(path, ITEM, chosen)
-    told["links"].append(links.to(path_of(collection), "collection", "The collection",
-                                  "application/json"))
+    told = {**geojson_feature(feature, collection.system, system), "links": own}
     return web.Response(body=dumped(told) + b"\n", headers=head)

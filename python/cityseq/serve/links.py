@@ -2,8 +2,8 @@
 from __future__ import annotations
 
 import ipaddress
-from typing import Any, Dict, List, Optional, Sequence
-from urllib.parse import quote, urlencode, urlsplit
+from typing import Any, Callable, Dict, List, Optional, Sequence
+from urllib.parse import quote, quote_plus, urlsplit
 
 from aiohttp import web
 
@@ -12,6 +12,7 @@ from .problems import Problem
 from .settings import Settings
 
 Link = Dict[str, str]
+LONGEST = 2_000  # characters of a header with links
 
 
 def host_of(request: web.BaseRequest) -> str:
@@ -48,7 +49,7 @@ def is_known(host: str, settings: Settings) -> bool:
         ipaddress.ip_address(name)
     except ValueError:
         return False
-    return True
+    return "%" not in name  # behind it any text may stand
 
 
 def base_of(request: web.BaseRequest, settings: Settings) -> str:
@@ -59,11 +60,22 @@ def base_of(request: web.BaseRequest, settings: Settings) -> str:
 
 
 def segment(text: str) -> Optional[str]:
-    """Returns a text as a segment of a path. None if no URL can have it."""
+    """Returns a text as a segment of a path. None if no URL can have it: clients take `.` and `..`
+    for other paths, also where they are escaped."""
+    if text in ("", ".", ".."):
+        return None
     try:
         return quote(text, safe="")
     except UnicodeEncodeError:
         return None
+
+
+def _value(told: Any) -> str:
+    """Returns the value of a parameter. A list of texts has commas between them, and a comma in a
+    text is escaped."""
+    if isinstance(told, list):
+        return ",".join(quote_plus(each, safe=":/") for each in told)
+    return quote_plus(str(told), safe=",:/")
 
 
 class Links:
@@ -75,8 +87,8 @@ class Links:
 
     def url(self, path: str, **parameters: Any) -> str:
         """Returns the URL of a path, with parameters."""
-        text = urlencode({name: value for name, value in parameters.items() if value is not None},
-                         safe=",:/")
+        text = "&".join(f"{name}={_value(value)}" for name, value in parameters.items()
+                        if value is not None)
         return f"{self.base}{path}" + (f"?{text}" if text else "")
 
     def local(self, path: str) -> str:
@@ -92,17 +104,25 @@ class Links:
         return {**link, "title": title}
 
     def formats(self, path: str, formats: Sequence[Format], chosen: Format,
-                **parameters: Any) -> List[Link]:
-        """Returns the links from an answer to itself, and to its other formats."""
+                parameters: Callable[[Format], Dict[str, Any]] = lambda form: {}) -> List[Link]:
+        """Returns the links from an answer to itself, and to its other formats. `parameters` are
+        those of a format."""
         return [
             self.to(path, "self" if each == chosen else "alternate",
                     "This document" if each == chosen else f"As {each.title}",
-                    each.media_type, **{**parameters, "f": each.name})
+                    each.media_type, **{**parameters(each), "f": each.name})
             for each in formats
         ]
 
 
-def header_of(link: Link) -> str:
-    """Returns a link as the header `Link` has it (RFC 8288)."""
+def _header_of(link: Link) -> str:
     others = "".join(f'; {name}="{link[name]}"' for name in ("rel", "type") if name in link)
     return f"<{link['href']}>{others}"
+
+
+def header_of(links: Sequence[Link], following: Optional[Link]) -> str:
+    """Returns the links of an answer, and the one to the next page, as the header `Link` has them
+    (RFC 8288). If they are long, it has only the next page: proxies bound the head of an answer."""
+    first = [] if following is None else [_header_of(following)]
+    told = ", ".join([*first, *map(_header_of, links)])
+    return told if len(told) <= LONGEST else "".join(first)

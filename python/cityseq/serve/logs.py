@@ -4,13 +4,14 @@ from __future__ import annotations
 import logging
 import sys
 import time as clock
-from typing import Any
+from typing import Any, Optional
 
 from aiohttp.abc import AbstractAccessLogger
 
 from ..shown import shown
 
 LONGEST = 2_000  # characters of a part of a line that a client sent
+SENT = "sent"  # the item of an answer in pieces that has how many bytes were sent
 MONTHS = "Jan Feb Mar Apr May Jun Jul Aug Sep Oct Nov Dec".split()
 
 
@@ -43,6 +44,15 @@ def _when(now: float) -> str:
     return clock.strftime(f"%d/{MONTHS[told.tm_mon - 1]}/%Y:%H:%M:%S +0000", told)
 
 
+def body_size(request: Any, response: Any) -> int:
+    """Returns how many bytes the body of an answer has, without those of chunks."""
+    if request.method == "HEAD" or response.status == 204:
+        return 0
+    length: Optional[int] = response.content_length
+    sent: int = response.get(SENT, 0)
+    return sent if length is None else length
+
+
 class Combined(AbstractAccessLogger):
     """Logs requests in the combined format."""
 
@@ -57,7 +67,7 @@ class Combined(AbstractAccessLogger):
             return ""
         version, headers = request.version, request.headers
         line = f"{request.method} {request.raw_path} HTTP/{version[0]}.{version[1]}"
-        size = response.content_length or response.body_length
+        size = body_size(request, response)
         return (f"{_quoted(line)} {response.status} {size} {_quoted(headers.get('Referer'))}"
                 f" {_quoted(headers.get('User-Agent'))}")
 

@@ -48,8 +48,9 @@ def _parameters(limits: Limits) -> Object:
             _whole(1, limits.features, USUAL_LIMIT)),
         "bbox": _parameter(
             "bbox", "Features whose extent reaches into this box: minx,miny,maxx,maxy. The system"
-            " is that of bbox-crs, CRS84 if that is left out. Then a box that cannot be longitudes"
-            " and latitudes is in the system of the stream.", NUMBERS),
+            " is that of bbox-crs, with its axes in their order. It is CRS84 if that is left out."
+            " Then a box that cannot be longitudes and latitudes is in the system of the stream,"
+            " with x first.", NUMBERS),
         "bbox-crs": _parameter("bbox-crs", "The system of bbox.", URI),
         "crs": _parameter("crs", "The system of geometries in GeoJSON, CRS84 if left out.", URI),
         "datetime": _parameter(

@@ -6,10 +6,10 @@ next candidates. It is only empty if no feature follows."""
 from __future__ import annotations
 
 from contextlib import suppress
-from dataclasses import dataclass
-from typing import Generator, Iterator, List, NamedTuple, Optional, Tuple
+from dataclasses import dataclass, replace
+from typing import Callable, Generator, Iterator, List, NamedTuple, Optional, Tuple
 
-from .._library import COMPLETE, REFUSED, RawFeature, library
+from .._library import CallStatus, RawFeature, library
 from ..builder import names_of_lods, names_of_types
 from ..faults import OutOfDate
 from ..fetching import Row, header_of, lines_of, placed
@@ -62,6 +62,12 @@ class Block:
         if len(self.raws) == len(self.numbers) and part.endswith(b"\n"):
             return part  # all that was read is kept
         return b"".join(part[raw.begin : raw.begin + raw.length] + b"\n" for raw in self.raws)
+
+    def within(self, reaches: Callable[[Extent], bool]) -> "Block":
+        """Returns the features whose extent passes a test, and those without one."""
+        extents = [self._place(raw)[0] for raw in self.raws]
+        kept = [raw for raw, extent in zip(self.raws, extents) if extent is None or reaches(extent)]
+        return replace(self, raws=kept)
 
     def features(self) -> Iterator[Found]:
         """Yields the facts of each feature."""
@@ -120,9 +126,12 @@ class Page:
             `block`. None if nothing follows.
     """
 
-    def __init__(self, collection: Collection, work: Work, after: int, limit: int) -> None:
-        """Takes the query, and the number of the feature after which the page begins."""
+    def __init__(self, collection: Collection, work: Work, after: int, limit: int,
+                 reaches: Optional[Callable[[Extent], bool]] = None) -> None:
+        """Takes the query, and the number of the feature after which the page begins. `reaches`
+        tests the extent of a feature that the query selects."""
         self._collection, self._work, self._limit = collection, work, limit
+        self._reaches = reaches
         self.header = b""
         self.next: Optional[int] = None
         self._after = after
@@ -169,8 +178,9 @@ class Page:
         """Returns the kept features of some lines."""
         request = self._work.request(self.header, part)
         answer, _, raws = library().features(self.header, part, request, len(numbers))
-        if answer.status == REFUSED and answer.line > 1:
+        if answer.status == CallStatus.REFUSED and answer.line > 1:
             raise OutOfDate.because("the stream has other lines", self._collection.stream.path)
-        if answer.status != COMPLETE:
+        if answer.status != CallStatus.COMPLETE:
             raise fault_of(answer, self.header, part, 0, self._collection.stream.path)
-        return Block(self._collection, part, list(raws), numbers)
+        block = Block(self._collection, part, list(raws), numbers)
+        return block if self._reaches is None else block.within(self._reaches)

@@ -2,11 +2,27 @@
 from __future__ import annotations
 
 import asyncio
+import fcntl
+import struct
+import termios
 from contextlib import contextmanager
 from typing import Any, Iterator, Optional
 
 from .problems import Problem
 from .settings import Limits
+
+
+def unsent(transport: Any) -> int:
+    """Returns how many bytes a client has not taken yet, in the process and in the system."""
+    if transport is None:
+        return 0
+    waiting: int = transport.get_write_buffer_size()
+    try:
+        number = transport.get_extra_info("socket").fileno()
+        told = fcntl.ioctl(number, termios.TIOCOUTQ, bytes(4))
+    except (AttributeError, OSError, ValueError):  # it is closed, or no socket
+        return waiting
+    return waiting + int(struct.unpack("i", told)[0])
 
 
 class Patience:
@@ -16,9 +32,10 @@ class Patience:
         problem: The problem that the client gets, after the task was ended.
     """
 
-    def __init__(self, limits: Limits) -> None:
-        """Begins to watch the task that calls it."""
+    def __init__(self, limits: Limits, transport: Any) -> None:
+        """Begins to watch the task that calls it, and the connection of its client."""
         self._limits, self._loop = limits, asyncio.get_running_loop()
+        self._transport, self._unsent = transport, 0
         self._task: Any = asyncio.current_task()
         self._begin = self._loop.time()
         self._since: Optional[float] = None  # when it began to wait for the client
@@ -28,7 +45,7 @@ class Patience:
     @contextmanager
     def waiting(self) -> Iterator[None]:
         """Notes that the task waits for the client."""
-        self._since = self._loop.time()
+        self._since, self._unsent = self._loop.time(), unsent(self._transport)
         try:
             yield
         finally:
@@ -50,8 +67,11 @@ class Patience:
             self.end(Problem(503, f"the request took longer than {limits.seconds:g} seconds"))
             return
         if self._since is not None and now - self._since >= limits.idle:
-            self.end(Problem(408, f"nothing came for {limits.idle:g} seconds"))
-            return
+            before, self._unsent = self._unsent, unsent(self._transport)
+            if self._unsent >= before:
+                self.end(Problem(408, f"nothing came for {limits.idle:g} seconds"))
+                return
+            self._since = now  # it takes what the system holds for it
         silent = now if self._since is None else self._since
         due = min(silent + limits.idle, self._begin + limits.seconds)
         self._handle = self._loop.call_at(due, self._look)

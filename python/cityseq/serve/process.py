@@ -18,7 +18,7 @@ from ..running import usual_jobs
 from ..words import Asked
 from .application import Server, application
 from .catalogue import Catalogue
-from .connection import Connection, Crowd
+from .connection import Connection, Crowd, require_hooks
 from .logs import Combined, logger
 from .settings import LOOPBACK, Limits, Settings
 from .workers import Workers
@@ -165,6 +165,7 @@ def run(wanted: Asked) -> int:
     Raises:
         CityseqError: An index cannot be read, or the system refuses to listen there.
     """
+    require_hooks()
     settings, processes = settings_of(wanted), wanted.processes
     if processes > 1 and settings.jobs is None:
         settings = replace(settings, jobs=max(usual_jobs() // processes, 1))

@@ -2,7 +2,8 @@
 from __future__ import annotations
 
 import re
-from decimal import Decimal
+from datetime import date
+from decimal import Decimal, InvalidOperation
 from typing import Dict, List, Optional, Tuple
 from urllib.parse import unquote_to_bytes
 
@@ -11,8 +12,11 @@ from .problems import Problem
 
 NUMBER = re.compile(r"[-+]?(?:\d+\.?\d*|\.\d+)(?:[eE][-+]?\d+)?\Z", re.ASCII)
 LONGEST_NUMBER = 100
-DATE_TIME = re.compile(r"\d{4}-\d\d-\d\d(?:T\d\d:\d\d:\d\d(?:\.\d+)?(?:Z|[-+]\d\d:\d\d))?\Z",
-                       re.ASCII)
+LONGEST_WHOLE = 15  # digits
+CLOCK = r"(?:[01]\d|2[0-3]):[0-5]\d"
+DATE_TIME = re.compile(  # second 60 is a leap second
+    rf"(\d{{4}}-\d\d-\d\d)(?:T{CLOCK}:(?:[0-5]\d|60)(?:\.\d+)?(?:Z|[-+]{CLOCK}))?\Z",
+    re.ASCII | re.IGNORECASE)
 FLAGS = {"": True, "true": True, "1": True, "false": False, "0": False}
 Box = Tuple[Decimal, Decimal, Decimal, Decimal]
 
@@ -84,8 +88,12 @@ class Query:
             ) from None
 
     def limit(self, most: int, usual: int) -> int:
-        """Returns how many features are asked for, at most `most`."""
-        return min(self.number("limit", 1, 1 << 53, usual), most)
+        """Returns how many features are asked for, at most `most`. By the standard it is no mistake
+        to ask for more."""
+        digits = (self.text("limit") or "").lstrip("0")
+        if len(digits) > LONGEST_WHOLE and digits.isascii() and digits.isdigit():
+            return most
+        return min(self.number("limit", 1, 10**LONGEST_WHOLE, usual), most)
 
     def box(self) -> Optional[Box]:
         """Returns the box that is asked for, or None."""
@@ -109,15 +117,27 @@ class Query:
         parts = text.split("/")
         is_open = len(parts) == 2
         if len(parts) > 2 or not all(
-            DATE_TIME.match(part) or (is_open and part in ("", "..")) for part in parts
+            _is_time(part) or (is_open and part in ("", "..")) for part in parts
         ):
             raise Problem(400, f"datetime is a time as of RFC 3339, or two with / between: {text}")
+
+
+def _is_time(text: str) -> bool:
+    """Returns whether a text is a date, or a date and a time, that there is."""
+    found = DATE_TIME.match(text)
+    try:
+        return found is not None and bool(date.fromisoformat(found.group(1)))
+    except ValueError:
+        return False
 
 
 def _number(text: str, whole: str) -> Decimal:
     if len(text) > LONGEST_NUMBER or not NUMBER.match(text):
         raise Problem(400, f"bbox has four numbers, minx,miny,maxx,maxy: {whole}")
-    number = Decimal(text)
-    if abs(number.adjusted()) > LONGEST_NUMBER and number != 0:
+    try:
+        number = Decimal(text)
+    except InvalidOperation:  # its exponent has too many digits
+        number = Decimal("Infinity")
+    if number != 0 and not (number.is_finite() and abs(number.adjusted()) <= LONGEST_NUMBER):
         raise Problem(400, f"a number of bbox is out of range: {whole}")
     return number

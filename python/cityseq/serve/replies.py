@@ -23,9 +23,10 @@ class Reply(NamedTuple):
 
 
 def is_whole(data: bytes) -> bool:
-    """Returns whether some bytes are one request without a body."""
-    is_get = data.startswith(b"GET ") and data.find(END) == len(data) - len(END)
-    return is_get and b" HTTP/1.1\r\n" in data
+    """Returns whether some bytes are the whole head of a `GET` by HTTP/1.1."""
+    line = data.partition(b"\r\n")[0]
+    is_get = line.startswith(b"GET ") and line.endswith(b" HTTP/1.1")
+    return is_get and data.find(END) == len(data) - len(END)
 
 
 def text_of(response: web.StreamResponse) -> Optional[bytes]:

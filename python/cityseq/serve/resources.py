@@ -42,9 +42,13 @@ def landing(links: Links, chosen: Format) -> Object:
     }
 
 
-def conformance(links: Links, chosen: Format) -> Object:
-    """Returns the classes of requirements that the server conforms to."""
-    return {"conformsTo": list(CONFORMANCE), "links": links.formats("/conformance", PAGES, chosen)}
+def conformance(links: Links, catalogue: Catalogue, chosen: Format) -> Object:
+    """Returns the classes of requirements that the server conforms to. All of them need longitude
+    and latitude, so without pyproj there may be none."""
+    systems = [each.system for each in catalogue]
+    has_degrees = all(each.can_change or each.storage is None for each in systems)
+    return {"conformsTo": list(CONFORMANCE if has_degrees else ()),
+            "links": links.formats("/conformance", PAGES, chosen)}
 
 
 def path_of(collection: Collection) -> str:

@@ -13,6 +13,7 @@ CRS84 = "http://www.opengis.net/def/crs/OGC/1.3/CRS84"
 EPSG = "http://www.opengis.net/def/crs/EPSG/0/{}"
 URI = re.compile(r"https?://www\.opengis\.net/def/crs/([A-Za-z]+)/([0-9.]+)/([A-Za-z0-9]+)/?\Z")
 ALONG = 21  # points along each edge of a box that is moved to another system
+RIM = 0.001  # of a side: how much smaller a box within another is, as edges become curves
 NO_PYPROJ = (
     "the server cannot change coordinates, for want of pyproj: ask for those of the stream by"
     " {} and the URI of storageCrs"
@@ -46,6 +47,20 @@ def _transformer(source: str, target: str) -> Any:
     return Transformer.from_crs(names[0], names[1], always_xy=True)
 
 
+@lru_cache(maxsize=256)
+def _is_north_first(uri: str) -> bool:
+    """Returns whether the axes of a system are those of a map the other way round, by its
+    definition: the first goes north, and the second east."""
+    from pyproj import CRS
+    from pyproj.exceptions import ProjError
+
+    try:
+        axes = CRS.from_epsg(int(uri.rsplit("/", 1)[1])).axis_info
+    except ProjError:
+        return False
+    return [axis.direction for axis in axes[:2]] == ["north", "east"]
+
+
 def _changed(box: Sequence[float], source: str, target: str) -> Extent:
     """Returns the box around a box in another system.
 
@@ -62,6 +77,31 @@ def _changed(box: Sequence[float], source: str, target: str) -> Extent:
     if not all(abs(edge) < 1e18 for edge in moved):
         raise Problem(400, f"the box has no place in {target}")
     return tuple(moved)  # type: ignore[return-value]
+
+
+def _within(box: Extent, source: str, target: str) -> Optional[Extent]:
+    """Returns a box in another system that lies within a box. None if none is found."""
+    west, south, east, north = box
+    transformer = _transformer(source, target)
+
+    def edge(axis: int, begin: Tuple[float, float], end: Tuple[float, float]) -> Sequence[float]:
+        points = [[first + (last - first) * step / ALONG for step in range(ALONG + 1)]
+                  for first, last in zip(begin, end)]
+        found: Sequence[float] = transformer.transform(*points)[axis]
+        return found
+
+    left, right = max(edge(0, (west, south), (west, north))), min(edge(0, (east, south), box[2:]))
+    low, high = max(edge(1, (west, south), (east, south))), min(edge(1, (west, north), box[2:]))
+    aside, up = (right - left) * RIM, (high - low) * RIM
+    inner = left + aside, low + up, right - aside, high - up
+    is_found = all(abs(value) < 1e18 for value in inner) and aside > 0 and up > 0
+    return inner if is_found else None
+
+
+def overlap(one: Sequence[float], other: Sequence[float]) -> bool:
+    """Returns whether two boxes have a point in common."""
+    return (one[0] <= other[2] and one[2] >= other[0]
+            and one[1] <= other[3] and one[3] >= other[1])
 
 
 class System:
@@ -95,6 +135,18 @@ class System:
             raise Problem(400, NO_PYPROJ.format(parameter))
         return wanted
 
+    @property
+    def is_north_first(self) -> bool:
+        """Whether the system of the stream names north before east. Streams have east first.
+        Without pyproj that is not known, and False."""
+        return self.can_change and self.storage is not None and _is_north_first(self.storage)
+
+    def turned(self, box: Sequence[Any]) -> Any:
+        """Returns a box with the axes of the stream in the order of its system, or the other way
+        round."""
+        west, south, east, north = box
+        return (south, west, north, east) if self.is_north_first else (west, south, east, north)
+
     def stored(self, box: Sequence[float], system: Optional[str]) -> Sequence[float]:
         """Returns the box around a box in the system of the stream.
 
@@ -105,10 +157,19 @@ class System:
             return box
         return _changed(box, system, self.storage)
 
+    def inner(self, box: Extent, system: Optional[str]) -> Optional[Extent]:
+        """Returns a box in the system of the stream that lies within a box in another one. None if
+        none is found."""
+        if system is None or self.storage is None:
+            return None
+        return _within(box, system, self.storage)
+
     def told(self, extent: Extent, system: Optional[str]) -> Optional[Extent]:
         """Returns an extent of the stream in a system. None if it has no place there."""
-        if system is None or system == self.storage or self.storage is None:
+        if system is None or self.storage is None:
             return extent
+        if system == self.storage:
+            return self.turned(extent)  # type: ignore[no-any-return]
         try:
             return _changed(extent, self.storage, system)
         except Problem:

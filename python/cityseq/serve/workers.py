@@ -8,11 +8,11 @@ from contextlib import suppress
 from typing import Any, Callable, Dict, NoReturn
 
 from ..console import say
+from ..faults import Status
 
 PAUSE = 1.0  # seconds that a process must live before another replaces it at once
 PATIENCE = 5.0  # seconds after those for open answers, until a process is killed
 SIGNALS = (signal.SIGTERM, signal.SIGINT, signal.SIGHUP)
-FAILED = 70
 
 
 class _Stop(BaseException):
@@ -61,7 +61,7 @@ class Workers:
 
     def _be_child(self) -> NoReturn:
         """Does the work, and ends the process."""
-        status = FAILED
+        status: int = Status.UNEXPECTED
         try:
             for number in SIGNALS:
                 signal.signal(number, signal.SIG_DFL)
