@@ -40,4 +40,4 @@ reproducible:           ## make all packages twice, and compare the bytes
 	@packaging/reproducible.sh
 
 bench:                  ## measure the commands beside other programs
-	@bench/commands.sh
+	@bench/run commands

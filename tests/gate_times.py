@@ -8,7 +8,6 @@ that is not to be read it prints nothing.
 """
 
 import os
-import re
 import signal
 import sys
 import time

@@ -74,6 +74,9 @@ count "$scratch/library" rows
 count "$scratch/shared" rows
 row 'the tests of the stack are compiled' "$compiler" $strict tests/library_stack.c c/out/libcityseq.a -pthread -o "$scratch/stack"
 count "$scratch/stack"
+row 'the tests of the memory are compiled' \
+  "$compiler" $strict -Wl,--wrap=malloc,--wrap=realloc,--wrap=free tests/library_memory.c c/out/libcityseq.a -o "$scratch/memory"
+count "$scratch/memory"
 cpp_compiler=${CXX:-c++}
 strict_cpp='-std=c++17 -Wall -Wextra -Wpedantic -Werror -O1 -g'
 if ! command -v "$cpp_compiler" > "$scratch/unread"; then

@@ -187,6 +187,13 @@ void texts() {
     row("the version", cityseq::version() == "0.2.0");
 }
 
+void needs() {
+    const auto short_lines = cityseq::request().line_limit(65536).ids({"a", "b"});
+    row("the stack", short_lines.stack() == 131072 && cityseq::request().stack() == 2097152);
+    row("the memory", short_lines.memory(100, 90) == 200 + 24 * 82 + 9 + 192 + 1024);
+    row("the memory under a wrong limit", cityseq::request().line_limit(0).memory(100, 90) == 0);
+}
+
 void callbacks() {
     unsigned calls = 0;
     cityseq::stream stream = cityseq::stream::filtering(
@@ -267,6 +274,7 @@ int main(int count, char **folders) {
     Chance chance(7);
     requests();
     texts();
+    needs();
     callbacks();
     ends();
     long_lines();

@@ -163,6 +163,19 @@ help_names_all_targets() {
   done
 }
 
+# Whether the scripts of a folder are listed with a line each, and another name is refused.
+lists_scripts() {
+  "$1/run" > "$scratch/listed" && grep -qE '^  [a-z_]+  +[A-Z].{20}' "$scratch/listed" &&
+    ! grep -E '^  [a-z_]+ *$' "$scratch/listed" && ! "$1/run" nothing 2> "$scratch/said" &&
+    grep -qx 'no nothing' "$scratch/said"
+}
+
+# Whether scripts run by their names, each with its arguments.
+runs_scripts() {
+  bench/run make_stream tiny 0 -- make_stream tiny 0 > "$scratch/said" &&
+    [ "$(grep -c '"type":"CityJSON",' "$scratch/said")" = 2 ]
+}
+
 installs_and_removes() {
   local folder="$scratch/a folder" flags
   local -x PKG_CONFIG_PATH="$folder/lib/pkgconfig"
@@ -185,6 +198,8 @@ mkdir "$scratch/few" && ln -s /usr/bin/* "$scratch/few/" 2> "$scratch/unread"
 rm -f "$scratch"/few/{dpkg-buildpackage,dh,objdump,rt}
 
 row 'make alone shows its targets' help_names_all_targets
+for folder in tests bench; do row "$folder/run lists all" lists_scripts $folder; done
+row 'bench/run runs by name' runs_scripts
 have pkg-config 'an installation' && row 'a folder with a space' installs_and_removes
 row 'no rights to install' fails_with 'set PREFIX' make -s install PREFIX=/proc/cityseq
 for target in install deb wheel dist; do

@@ -224,7 +224,7 @@ def check_tests(code, report):
 def check_headline(report):
     """The record of the headline stands in the document as in its definition."""
     definition = (ROOT / 'crates/cj_stream/specs/Headline.antt').read_text()
-    record = re.search(r'^pub record Headline .*\n(?:  pub .*\n)+', definition, re.M)
+    record = re.search(r'^pub record Headline .*\n(?:    .*\n)*(?:  pub .*\n)+', definition, re.M)
     report.place = 'docs/PROMISES.md'
     document = (ROOT / 'docs/PROMISES.md').read_text()
     is_there = record is not None and f'```\n{record[0]}```\n' in document

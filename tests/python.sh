@@ -4,7 +4,8 @@
 # - Its own tests.
 # - The edges of its command.
 # - The rows of the program, over its command.
-# - Its types.
+# - Its types, by mypy.
+# - All Python sources of the repository, by flake8.
 #
 # If a package of Python is not there, the tests that need it are left out, and the script says so.
 # The last line is 'N passed, M failed' over all, and the status is 0 if none failed.
@@ -35,6 +36,12 @@ types() {
   cat "$scratch/mistakes" && echo '0 passed, 1 failed'
 }
 
+lint() {
+  if ! "$python" -c 'import flake8' 2> "$scratch/noise"; then echo 'left out: flake8 is not there' && echo '0 passed, 0 failed' && return; fi
+  "$python" -m flake8 bench bench/run examples packaging packaging/cityseq-run python tests tests/run vectors && echo '1 passed, 0 failed' && return
+  echo '0 passed, 1 failed'
+}
+
 # Shows what a part printed, and adds the counts of its last line. One that does not end so counts as one failure.
 count() {
   cat "$scratch/$1"
@@ -45,10 +52,11 @@ count() {
   fi
 }
 
-parts='own_tests edges program types'
+parts='own_tests edges program types lint'
 for part in $parts; do "$part" > "$scratch/$part" 2>&1 & done
 wait
 for part in $parts; do count "$part"; done
 echo 'left out: the page of the server in a browser, which tests/serve_browser.py tries'
+echo 'left out: most of the 10,000 silent connections to the server, which tests/serve_attack.py tries'
 echo "$passed passed, $failed failed"
 [ "$failed" = 0 ]

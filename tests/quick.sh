@@ -1,7 +1,8 @@
 #!/usr/bin/env bash
 # Takes a first look before the gate, within three minutes on four idle cores and without a proof.
 # It checks the layout of the sources, the names in documents and the version. It runs the tests of
-# the crates on an interpreter. Those of cj_stream_rows are left out, since they take longer.
+# the crates on an interpreter. Those of the engine's worked rows are left out, since they take
+# longer.
 #
 #     tests/quick.sh
 #
@@ -54,7 +55,7 @@ row 'names in documents' tests/promises.py
 row 'one version' packaging/version.py
 tested=
 for crate in $(tac <<< "$crates"); do  # the highest crates take longest
-  [ "$crate" = cj_stream_rows ] || ! grep -rqF '#[test]' "crates/$crate/src" || tested+=" $crate"
+  [[ $crate = cj_stream_* ]] || ! grep -rqF '#[test]' "crates/$crate/src" || tested+=" $crate"
 done
 for crate in $tested; do
   while [ "$(jobs -rp | wc -l)" -ge "$(nproc)" ]; do wait -n; done
@@ -62,6 +63,6 @@ for crate in $tested; do
 done
 wait
 for crate in $tested; do row "tests of $crate" have_passed "$crate"; done
-echo 'left out: the tests of cj_stream_rows, which take longer; the gate has them'
+echo 'left out: the tests of cj_stream_rows and cj_stream_verdicts, which take longer; the gate has them'
 echo "$passed passed, $failed failed"
 [ "$failed" = 0 ]

@@ -181,13 +181,16 @@ NOT_HTTP = {
     "a path of 1 MB": (get("/" + LONG), 414),
     "a header of 1 MB": (get("/", f"X: {LONG}"), 431),
     "10,000 headers": (get("/", *(f"X{number}: {number}" for number in range(10_000))), 400, 431),
+    "200 headers": (get("/", *(f"X{number}: {number}" for number in range(200))), 400, 431),
+    "headers without end": (get("/")[:-2] + b"X: y\r\n" * 500_000, 400, 431),
 }
 QUERIES = {
     "bbox": ("NaN,0,1,1", "0,0,1e400,1", "inf,0,1,1", "0,0,0,1,1,1", "5,0,1,1", "0,5,1,1", "",
              "1,2,3", "1,2,3,4,", "a,b,c,d", "0x1,0,1,1", "1_0,0,20,1", "0,0,1;1,1",
              "84000,447000,1e99,448000", "%00,0,1,1", "0,0,1,%ff", "1" * 200 + ",0,1,1",
-             "%D9%A1,0,5,5", "181,0,182,1,"),
-    "limit": ("0", "-1", "x", "1e3", "", "9" * 40, "1.5", "%00"),
+             "%D9%A1,0,5,5", "181,0,182,1,", "1e99999999999999999999,0,1,1",
+             "0e-99999999999999999999,0,1,1"),
+    "limit": ("0", "-1", "x", "1e3", "", "1.5", "%00"),
     "after": ("-1", "x", "9" * 40),
     "crs": ("EPSG:7415", "http://www.opengis.net/def/crs/EPSG/0/28992", "", "%00", "file:///etc"),
     "bbox-crs": ("EPSG:7415", "http://www.opengis.net/def/crs/EPSG/0/1", "x"),
@@ -195,7 +198,7 @@ QUERIES = {
     "type": ("Shed", "", "Building%00", "Building%0ARoad"),
     "lod": ("%ff", "2%0A1"),
     "ids": ("%ff", "a%0Ab", "%ed%a0%80"),
-    "datetime": ("yesterday", "2020-01-01/x", "a/b/c"),
+    "datetime": ("yesterday", "2020-01-01/x", "a/b/c", "2020-13-01", "2020-01-01T25:00:00Z"),
     "nothing": ("1",),
 }
 PATHS = {
@@ -238,6 +241,21 @@ def chunked(text, size=1 << 16):
     for begin in range(0, len(text), size):
         piece = text[begin : begin + size]
         yield b"%x\r\n%b\r\n" % (len(piece), piece)
+
+
+def request_in_a_body(server):
+    """What follows the head of a `GET` is its body, also where the same head came a moment ago."""
+    body = get("/nothing")
+    head = get("/conformance", f"Content-Length: {len(body)}").replace(b"close", b"keep-alive")
+    for _ in range(3):
+        with server.connect() as connection:
+            connection.sendall(head)
+            time.sleep(0.1)
+            connection.sendall(body + GOOD)
+            answer = read_all(connection)
+        if answer.count(b"HTTP/1.1 200 ") != 2 or b"HTTP/1.1 404 " in answer:
+            return f"{answer[:200]}"
+    return ""
 
 
 def too_long_in_chunks(server):
@@ -327,6 +345,17 @@ def many_requests_at_once(server):
     return wrong or ("" if "retry-after" in parted(answer)[1] else "no Retry-After")
 
 
+def answers_that_are_not_read(server):
+    """A client that reads none of a few short answers is dropped."""
+    with server.connect() as connection:
+        connection.setsockopt(socket.SOL_SOCKET, socket.SO_RCVBUF, 1 << 16)
+        request = get(f"{ITEMS}?f=city-json-seq").replace(b"close", b"keep-alive")
+        connection.sendall(request * 30)
+        time.sleep(IDLE + 4)
+        answer = read_all(connection)
+    return "all are answered" if answer.count(b"HTTP/1.1 200 ") == 30 else ""
+
+
 def requests_without_reading(server):
     """A client that sends requests and reads no answer is dropped."""
     with server.connect() as connection, contextlib.suppress(OSError):
@@ -385,6 +414,7 @@ SLOW = {
     "a head that stops": head_that_stops, "a head byte by byte": head_byte_by_byte,
     "a body that stops": body_that_stops, "silence": silence,
     "a client that does not read": client_that_does_not_read,
+    "answers that are not read": answers_that_are_not_read,
 }
 
 
@@ -399,6 +429,7 @@ def rows(connections):
         yield f"the path {path[:60]}", raw(get(path), *wanted)
     yield "a body that is too long, in chunks", too_long_in_chunks
     yield "no length of a later chunk", no_chunk_in_the_middle
+    yield "a request in a body", request_in_a_body
     yield "clients that go away", client_that_goes_away
     yield "an invalid stream to filter", invalid_stream_to_filter
     yield "many requests at once", many_requests_at_once
