@@ -67,4 +67,4 @@ for shape in usual tiny huge text; do
     python3 make_stream.py "$shape" "$megabytes" > "out/$shape.jsonl"
 done
 head -n 2 ../examples/sample.city.jsonl > out/one.jsonl
-python3 measure.py "$program" "$twin" "$narrow" "$typed" "$peer" out/one.jsonl out/usual.jsonl out/tiny.jsonl out/huge.jsonl out/text.jsonl
+PROGRAM=$program python3 compare.py "$twin" "$narrow" "$typed" "$peer" out/one.jsonl out/usual.jsonl out/tiny.jsonl out/huge.jsonl out/text.jsonl

@@ -13,4 +13,4 @@ cd "$(dirname "$0")"
 meeting=$(mktemp)
 trap 'rm -f "$meeting"' EXIT
 cc -O2 -o "$meeting" hostile/meeting.c
-python3 hostile/measure.py ../crates/cityseq/out/cityseq "$meeting" "${1:-20}" "${2:-}"
+python3 hostile/shapes.py ../crates/cityseq/out/cityseq "$meeting" "${1:-20}" "${2:-}"

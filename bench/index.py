@@ -2,7 +2,7 @@
 """Measures indexes of the Python package: each time by the clock and of the processor, as a ratio
 within one round.
 
-    bench/index.py [MEGABYTES [ROUNDS [CASE..]]]      (1000, 3, and all)
+    bench/run index [MEGABYTES [ROUNDS [CASE..]]]      (1000, 3, and all)
 
 build    `index` of usual lines with one and four jobs, of the time of `check` with as many, and the
          memory of both
@@ -12,28 +12,19 @@ cut      `filter --index` of 1,000 features in a block, a process of its own, of
 records  10 million made-up records (RECORDS sets how many): the time to write the index, its size,
          and a box of 1,000 rows
 
-It needs the library python/cityseq/libcityseq.so, and the built program, which PROGRAM may name,
-for its own `filter`.
+It needs the library python/cityseq/libcityseq.so, and the built program for its own `filter`.
 """
 import os
 import random
-import subprocess
 import sys
 import time
-from pathlib import Path
+from functools import partial
 from statistics import median
 
-HERE = Path(__file__).resolve().parent
-OUT = HERE / "out"
-sys.path.insert(0, str(HERE.parent / "python"))
-PYTHON = [sys.executable, "-m", "cityseq"]
-PROGRAM = os.environ.get("PROGRAM", str(HERE.parent / "crates/cityseq/out/cityseq"))
-SETTINGS = {
-    **os.environ,
-    "PYTHONPATH": str(HERE.parent / "python"),
-    "PYTHONPYCACHEPREFIX": str(OUT / "compiled"),
-}
-SETTINGS.pop("PYTHONDONTWRITEBYTECODE", None)
+from measure import OUT, PACKAGE, PROGRAM, ROOT, chosen, in_turn, least, machine, middle, of_each
+from measure import run, stream_of
+
+sys.path.insert(0, str(ROOT / "python"))
 BOXES = {"grid": "84616,447422,84936,447739", "spread": "84620,447430,85010,447500"}
 
 
@@ -43,56 +34,26 @@ HEADER = (
 )
 
 
-def stream_of(shape, megabytes):
-    """A stream of this shape, made once."""
-    path = OUT / f"parts-{shape}-{megabytes}.jsonl"
-    if not path.exists():
-        with open(path, "wb") as file:
-            subprocess.run(
-                [sys.executable, HERE / "make_stream.py", shape, str(megabytes)],
-                stdout=file,
-                check=True,
-            )
-    return str(path)
-
-
-def run(words, source=None):
-    """The seconds of a run by the clock and of the processor, and its peak resident MB."""
-    with open(source or os.devnull, "rb") as given:
-        begun = time.monotonic()
-        child = subprocess.Popen(words, stdin=given, stdout=subprocess.DEVNULL, env=SETTINGS)
-        _, status, used = os.wait4(child.pid, 0)
-    if status:
-        sys.exit(f"{' '.join(words)}: status {status}")
-    return time.monotonic() - begun, used.ru_utime + used.ru_stime, used.ru_maxrss / 1024
-
-
 def compared(name, words, bases, rounds):
     """Prints the time of a run, and its ratios to each other run of the same round."""
-    own, others = [], {base: [] for base in bases}
-    for _ in range(rounds):
-        own.append(run(words))
-        for base, (base_words, source) in bases.items():
-            others[base].append(run(base_words, source))
-    clock, processor, peak = map(min, zip(*own))
-    print(f"{name}: {clock:.3f} s, processor {processor:.3f} s, peak {peak:.0f} MB")
-    for base, found in others.items():
-        by_clock, by_processor = (
-            median(mine[kind] / other[kind] for mine, other in zip(own, found)) for kind in (0, 1)
-        )
-        least = min(other[2] for other in found)
-        print(f"    of {base}: {by_clock:.3f}, of its processor time: {by_processor:.3f},")
-        print(f"        where the peak is {least:.0f} MB")
+    own, *others = in_turn([partial(run, words), *(partial(run, *base) for base in bases.values())],
+                           rounds)
+    one = least(own)
+    print(f"{name}: {one.clock:.3f} s, processor {one.processor:.3f} s, peak {one.peak:.0f} MB")
+    for base, found in zip(bases, others):
+        ratio = middle(of_each(own, found))
+        print(f"    of {base}: {ratio.clock:.3f}, of its processor time: {ratio.processor:.3f},")
+        print(f"        where the peak is {least(found).peak:.0f} MB")
 
 
 def build(megabytes, rounds):
     stream, index = stream_of("usual", megabytes), str(OUT / "build.gpkg")
     for jobs in ("1", "4"):
-        words = [*PYTHON, "index", "--jobs", jobs, "--output", index, stream]
+        words = [*PACKAGE, "index", "--jobs", jobs, "--output", index, stream]
         compared(
             f"build, {jobs} jobs",
             words,
-            {f"check, {jobs} jobs": ([*PYTHON, "check", "--jobs", jobs, stream], None)},
+            {f"check, {jobs} jobs": ([*PACKAGE, "check", "--jobs", jobs, stream],)},
             rounds,
         )
 
@@ -100,15 +61,15 @@ def build(megabytes, rounds):
 def cut(megabytes, rounds):
     for shape, box in BOXES.items():
         stream, index = stream_of(shape, megabytes), str(OUT / f"cut-{shape}.gpkg")
-        run([*PYTHON, "index", "--output", index, stream])
-        selected = [*PYTHON, "filter", "--index", index, f"--bbox={box}"]
+        run([*PACKAGE, "index", "--output", index, stream])
+        selected = [*PACKAGE, "filter", "--index", index, f"--bbox={box}"]
         target = str(OUT / "cut.city.jsonl")
         run([*selected, "--output", target])
         with open(target, "rb") as file:
             features = sum(1 for _ in file) - 1
         print(f"{shape}: {features} features, {os.path.getsize(target) / 1e6:.1f} MB")
         whole = {
-            "filter, 4 jobs": ([*PYTHON, "filter", "--jobs", "4", f"--bbox={box}", stream], None)
+            "filter, 4 jobs": ([*PACKAGE, "filter", "--jobs", "4", f"--bbox={box}", stream],)
         }
         if os.path.exists(PROGRAM):
             whole["the program's filter"] = ([PROGRAM, "filter", f"--bbox={box}"], stream)
@@ -180,7 +141,7 @@ def written(count, path):
         if part is None:
             break
         builder.add(entry, part, lines)
-    result = Result("", 0, count + 1, count, 0, 0, 0, 0)
+    result = Result("", cityseq.Status.VALID, count + 1, count, 0, 0, 0, 0)
     builder.end(entry, str(OUT / "records.jsonl"), (0, 0), None, result)
     builder.finish(asked("check"), cityseq.__version__)
     return time.monotonic() - begun - made, time.process_time() - processor - made
@@ -206,15 +167,10 @@ def main():
     words = sys.argv[1:]
     megabytes, rounds = int((words + ["1000"])[0]), int((words + ["", "3"])[1] or 3)
     cases = {"build": build, "cut": cut, "records": records}
-    if not set(words[2:]) <= set(cases):
-        sys.exit(__doc__)
-    OUT.mkdir(exist_ok=True)
-    print(
-        f"{megabytes} MB, {rounds} rounds, {os.cpu_count()} processors,"
-        f" load {os.getloadavg()[0]:.1f}, {sys.executable}"
-    )
-    for name in words[2:] or cases:
-        cases[name](megabytes, rounds)
+    measured = chosen(cases, words[2:])
+    print(f"{megabytes} MB, {rounds} rounds, {machine()}")
+    for measure in measured.values():
+        measure(megabytes, rounds)
 
 
 if __name__ == "__main__":

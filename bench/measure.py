@@ -1,79 +1,131 @@
-#!/usr/bin/env python3
-"""Runs programs on the same inputs and prints MB/s, the ratios to the times of `cityseq check`, of the two twins and of
-the peer, and the greatest resident memory; before that the time of a run on a stream of one feature: measure.py PROGRAM
-TWIN NARROW_TWIN TYPED_TWIN PEER SMALL INPUT.., with an empty word for one that is not there. Times are of the processor,
-so that other work on the machine does not count."""
+"""Times commands, for the scripts of this folder.
+
+A script runs cases in turn, since the speed of a machine changes from second to second. So a ratio
+is of two runs of one round. Processor time hardly depends on what else the machine does.
+
+PROGRAM names the built program, if it is another than the usual one."""
 import os
-import resource
 import subprocess
 import sys
+import time
+from pathlib import Path
+from statistics import median
+from typing import NamedTuple
 
-RUNS = 5
-STARTS = 200
-GNU_TIME = "/usr/bin/time"
-# a box around all that the inputs have
-BOX = "--bbox=84616,447422,100000,500000"
-
-
-def processor_seconds():
-    """The processor's time that all programs have taken that were run so far."""
-    used = resource.getrusage(resource.RUSAGE_CHILDREN)
-    return used.ru_utime + used.ru_stime
-
-
-def seconds_of(words, path):
-    """The time of one run, its output thrown away."""
-    with open(path, "rb") as source:
-        before = processor_seconds()
-        ran = subprocess.run(words, stdin=source, stdout=subprocess.DEVNULL)
-    if ran.returncode:
-        sys.exit(f"{' '.join(words)} on {path}: status {ran.returncode}")
-    return processor_seconds() - before
+BENCH = Path(__file__).resolve().parent
+ROOT = BENCH.parent
+OUT = BENCH / "out"
+OUT.mkdir(exist_ok=True)
+PROGRAM = os.path.realpath(os.environ.get("PROGRAM", ROOT / "crates/cityseq/out/cityseq"))
+PACKAGE = [sys.executable, "-m", "cityseq"]
+# An installed package is compiled already, so this one is compiled before it is timed.
+SETTINGS = {
+    **os.environ,
+    "PYTHONPATH": str(ROOT / "python"),
+    "PYTHONPYCACHEPREFIX": str(OUT / "compiled"),
+}
+SETTINGS.pop("PYTHONDONTWRITEBYTECODE", None)
 
 
-def resident_of(words, path):
-    """The greatest resident kilobytes of one run, by GNU time (a launcher of Python's own would be counted in)."""
-    if not os.path.exists(GNU_TIME):
-        return "-"
-    with open(path, "rb") as source:
-        ran = subprocess.run([GNU_TIME, "-f", "%M", *words], stdin=source, stdout=subprocess.DEVNULL, stderr=subprocess.PIPE)
-    return ran.stderr.split()[-1].decode()
+class Run(NamedTuple):
+    """What a command took, with all that it started: seconds by the clock, seconds of the
+    processor, and MB of resident memory at the peak."""
+
+    clock: float
+    processor: float
+    peak: float
 
 
-def ratio(best, name, peer):
-    """The time of one program to that of another, where that was measured."""
-    return f"{best[name] / best[peer]:.2f}" if peer in best else "-"
+def run(words, source=os.devnull, status=0, **more):
+    """Runs a command over a file as its standard input, without its output. Ends with a message if
+    the command has another status. The peak is not below that of this process."""
+    settings = {"stdout": subprocess.DEVNULL, "env": SETTINGS, **more}
+    with open(source, "rb") as given:
+        begun = time.monotonic()
+        child = subprocess.Popen(words, stdin=given, **settings)
+        _, ended, used = os.wait4(child.pid, 0)
+        taken = time.monotonic() - begun
+    child.returncode = os.WEXITSTATUS(ended) if os.WIFEXITED(ended) else -os.WTERMSIG(ended)
+    if child.returncode != status:
+        sys.exit(f"{' '.join(map(str, words))}: status {child.returncode}")
+    return Run(taken, used.ru_utime + used.ru_stime, used.ru_maxrss / 1024)
 
 
-def main():
-    program, twin, narrow, typed, peer, small, *paths = sys.argv[1:]
-    commands = {f"cityseq {name}": [program, name] for name in ("check", "filter", "info")}
-    commands["filter by a box"] = [program, "filter", BOX]
-    for name, words in {**commands, "true": ["true"]}.items():
-        print(f"{name} on one feature: {1000 * min(seconds_of(words, small) for _ in range(STARTS)):.2f} ms")
-    programs = {**commands, "cat": ["cat"], "wc -l": ["wc", "-l"]}
-    if twin:
-        programs["Rust twin"] = [twin]
-        programs["twin, SSE alone"] = [narrow]
-        programs["twin, no JSON"] = [twin, "copy"]
-    if typed:
-        programs["typed twin"] = [typed]
-    if peer:
-        programs["simdjson peer"] = [peer]
-    titles = f"{'of check':>10}{'of the twin':>13}{'of typed twin':>15}{'of the peer':>13}{'resident KB':>13}"
-    print(f"{'input':<16}{'program':<18}{'MB/s':>8}{titles}")
-    for path in paths:
-        size = os.path.getsize(path) / 1e6
-        best = dict.fromkeys(programs, 1e9)
-        for _ in range(RUNS):
-            for name, words in programs.items():
-                best[name] = min(best[name], seconds_of(words, path))
-        for name, seconds in best.items():
-            peers = (("cityseq check", 10), ("Rust twin", 13), ("typed twin", 15), ("simdjson peer", 13))
-            ratios = "".join(f"{ratio(best, name, other):>{width}}" for other, width in peers)
-            resident = resident_of(programs[name], path)
-            print(f"{os.path.basename(path):<16}{name:<18}{size / seconds:>8.0f}{ratios}{resident:>13}")
+def in_turn(calls, rounds):
+    """Makes each of some calls in each round. Returns the results of each."""
+    found = [[] for _ in calls]
+    for _ in range(rounds):
+        for results, call in zip(found, calls):
+            results.append(call())
+    return found
 
 
-if __name__ == "__main__":
-    main()
+def best(calls, rounds):
+    """Returns the least seconds of the processor that each of some calls took."""
+    return [min(one.processor for one in runs) for runs in in_turn(calls, rounds)]
+
+
+def between(base, calls, rounds):
+    """Makes each call between two calls of the base. Returns the runs of each, and their ratios to
+    the mean of the two beside them."""
+    runs, ratios = [[] for _ in calls], [[] for _ in calls]
+    before = base()
+    for _ in range(rounds):
+        for place, call in enumerate(calls):
+            one, after = call(), base()
+            runs[place].append(one)
+            ratios[place].append(
+                Run(*(2 * each / (left + right) for each, left, right in zip(one, before, after)))
+            )
+            before = after
+    return runs, ratios
+
+
+def least(runs):
+    """Returns the least of each quantity."""
+    return Run(*map(min, zip(*runs)))
+
+
+def middle(runs):
+    """Returns the median of each quantity."""
+    return Run(*map(median, zip(*runs)))
+
+
+def of_each(ours, others):
+    """Returns the ratios of runs to those of the same rounds."""
+    return [Run(*(one / other for one, other in zip(*pair))) for pair in zip(ours, others)]
+
+
+def made(path, write):
+    """Returns the path of a file that is made once."""
+    if not os.path.exists(path):
+        with open(f"{path}.part", "wb") as file:
+            write(file)
+        os.rename(f"{path}.part", path)
+    return str(path)
+
+
+def stream_of(shape, megabytes):
+    """Returns the path of a stream of this shape, made once."""
+    words = [sys.executable, BENCH / "make_stream.py", shape, str(megabytes)]
+    return made(
+        OUT / f"parts-{shape}-{megabytes}.jsonl",
+        lambda file: subprocess.run(words, stdout=file, check=True),
+    )
+
+
+def megabytes_of(path):
+    """Returns the size of a file in MB."""
+    return os.path.getsize(path) / 1e6
+
+
+def machine():
+    """Returns what else a figure depends on."""
+    return f"{os.cpu_count()} processors, load {os.getloadavg()[0]:.1f}, {sys.executable}"
+
+
+def chosen(cases, wanted):
+    """Returns the cases that are named, or all. Ends with their names if there is no such case."""
+    if not set(wanted) <= set(cases):
+        sys.exit(f"the cases are: {'; '.join(cases)}")
+    return {name: case for name, case in cases.items() if not wanted or name in wanted}

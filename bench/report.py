@@ -1,7 +1,7 @@
 #!/usr/bin/env python3
 """Measures the page about a delivery, each time as a ratio within one round.
 
-    bench/report.py [MEGABYTES [ROUNDS [CASE..]]]      (1000, 3, and all)
+    bench/run report [MEGABYTES [ROUNDS [CASE..]]]      (1000, 3, and all)
 
 usual    `report` of usual lines with four jobs, of the time of `index` with as many, and the memory
          of both
@@ -14,72 +14,39 @@ It needs the library python/cityseq/libcityseq.so, and Jinja2 and matplotlib.
 """
 import os
 import random
-import subprocess
 import sys
 import time
-from pathlib import Path
+from functools import partial
 from statistics import median
 
-HERE = Path(__file__).resolve().parent
-OUT = HERE / "out"
-sys.path.insert(0, str(HERE.parent / "python"))
-PYTHON = [sys.executable, "-m", "cityseq"]
-SETTINGS = {
-    **os.environ,
-    "PYTHONPATH": str(HERE.parent / "python"),
-    "PYTHONPYCACHEPREFIX": str(OUT / "compiled"),
-}
-SETTINGS.pop("PYTHONDONTWRITEBYTECODE", None)
+from measure import OUT, PACKAGE, ROOT, chosen, in_turn, least, machine, middle, of_each, run
+from measure import stream_of
+
+sys.path.insert(0, str(ROOT / "python"))
 PAGE = str(OUT / "report.html")
-
-
-def stream_of(shape, megabytes):
-    """A stream of this shape, made once."""
-    path = OUT / f"parts-{shape}-{megabytes}.jsonl"
-    if not path.exists():
-        with open(path, "wb") as file:
-            subprocess.run(
-                [sys.executable, HERE / "make_stream.py", shape, str(megabytes)],
-                stdout=file,
-                check=True,
-            )
-    return str(path)
-
-
-def run(words):
-    """The seconds by the clock of a run, and its peak resident MB."""
-    begun = time.monotonic()
-    child = subprocess.Popen(words, stdout=subprocess.DEVNULL, env=SETTINGS)
-    _, status, used = os.wait4(child.pid, 0)
-    if status:
-        sys.exit(f"{' '.join(words)}: status {status}")
-    return time.monotonic() - begun, used.ru_maxrss / 1024
 
 
 def by_index(shape, megabytes, rounds):
     """Prints the time of a page, and its difference and ratio to an index of the same round."""
     stream, index = stream_of(shape, megabytes), str(OUT / "report.gpkg")
-    page = [*PYTHON, "report", "--jobs", "4", "--output", PAGE, stream]
-    build = [*PYTHON, "index", "--jobs", "4", "--output", index, stream]
-    pairs = [(run(page), run(build)) for _ in range(rounds)]
-    beyond = median(one[0] - 1.5 * other[0] for one, other in pairs)
-    seconds = min(one[0] for one, _ in pairs)
-    peak, other_peak = min(one[1] for one, _ in pairs), min(other[1] for _, other in pairs)
-    ratio = median(one[0] / other[0] for one, other in pairs)
-    print(f"{shape}: {seconds:.2f} s, peak {peak:.0f} MB")
-    print(f"    of index, 4 jobs: {ratio:.2f}, where the peak is {other_peak:.0f} MB")
+    page = [*PACKAGE, "report", "--jobs", "4", "--output", PAGE, stream]
+    build = [*PACKAGE, "index", "--jobs", "4", "--output", index, stream]
+    pages, builds = in_turn([partial(run, page), partial(run, build)], rounds)
+    beyond = median(one.clock - 1.5 * other.clock for one, other in zip(pages, builds))
+    ratio, one = middle(of_each(pages, builds)).clock, least(pages)
+    print(f"{shape}: {one.clock:.2f} s, peak {one.peak:.0f} MB")
+    print(f"    of index, 4 jobs: {ratio:.2f}, where the peak is {least(builds).peak:.0f} MB")
     print(f"    {beyond:+.2f} s beyond 1.5 times its time (the goal: at most 3 s)")
 
 
 def one_feature(_megabytes, rounds):
     stream = OUT / "one.jsonl"
-    town = (HERE.parent / "examples" / "town.city.jsonl").read_bytes().splitlines(keepends=True)
+    town = (ROOT / "examples/town.city.jsonl").read_bytes().splitlines(keepends=True)
     stream.write_bytes(b"".join(town[:2]))
-    times = sorted(
-        run([*PYTHON, "report", "--output", PAGE, str(stream)])[0] for _ in range(max(rounds, 5))
-    )
-    middle = median(times)
-    print(f"one feature: {times[0]:.2f} s, {middle:.2f} s in the middle (the goal: below 1.5 s)")
+    words = [*PACKAGE, "report", "--output", PAGE, str(stream)]
+    (runs,) = in_turn([partial(run, words)], max(rounds, 5))
+    print(f"one feature: {least(runs).clock:.2f} s, {middle(runs).clock:.2f} s in the middle"
+          " (the goal: below 1.5 s)")
 
 
 def size(_megabytes, _rounds):
@@ -118,7 +85,7 @@ def size(_megabytes, _rounds):
         reports.append(report)
     made = File(
         reports[0].file,
-        1,
+        cityseq.Status.INVALID,
         1,
         "0" * 64,
         count,
@@ -126,7 +93,7 @@ def size(_megabytes, _rounds):
         contents=Contents(count, {"Building": count}, {"2": count}, {11: count}),
     )
     run_told = Run(
-        cityseq.__version__, "bench/report.py", "2026-01-01T00:00:00Z", 1.0, 4, 8_388_608, 64, False
+        cityseq.__version__, "bench/report", "2026-01-01T00:00:00Z", 1.0, 4, 8_388_608, 64, False
     )
     begun = time.monotonic()
     text = html(
@@ -147,13 +114,10 @@ CASES = {
 def main():
     words = sys.argv[1:]
     megabytes, rounds = int((words + ["1000"])[0]), int((words + ["", "3"])[1] or 3)
-    if not set(words[2:]) <= set(CASES):
-        sys.exit(__doc__)
-    OUT.mkdir(exist_ok=True)
-    load = f"{os.cpu_count()} processors, load {os.getloadavg()[0]:.1f}"
-    print(f"{megabytes} MB, {rounds} rounds, {load}, {sys.executable}")
-    for name in words[2:] or CASES:
-        CASES[name](megabytes, rounds)
+    measured = chosen(CASES, words[2:])
+    print(f"{megabytes} MB, {rounds} rounds, {machine()}")
+    for measure in measured.values():
+        measure(megabytes, rounds)
 
 
 if __name__ == "__main__":

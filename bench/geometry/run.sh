@@ -18,7 +18,7 @@ for crate in cj_budget cj_decimal cj_spans cj_geometry; do
 done
 cp geometry/program/main.rattle "$work/crates/geometry_times/src/main.rt"
 cat > "$work/crates.txt" <<'CRATES'
-cj_budget: smallvec thiserror
+cj_budget: thiserror
 cj_decimal: thiserror
 cj_spans: cj_budget simdutf8 thiserror
 cj_geometry: cj_budget cj_decimal cj_spans

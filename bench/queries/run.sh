@@ -14,4 +14,4 @@ mkdir -p out
 input=out/spread.jsonl
 [ -s "$input" ] && [ "$(stat -c %s "$input")" -ge $((megabytes * 1000000)) ] ||
   python3 make_stream.py spread "$megabytes" > "$input"
-python3 queries/measure.py ../crates/cityseq/out/cityseq "$input"
+PROGRAM=../crates/cityseq/out/cityseq python3 queries/by_parts.py "$input"

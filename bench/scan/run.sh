@@ -24,7 +24,7 @@ for crate in cj_budget cj_spans; do
   cp -r "../crates/$crate" "$work/crates/$crate"
 done
 cp scan/program/main.rattle "$work/crates/scan_times/src/main.rt"
-printf 'cj_budget: smallvec thiserror\ncj_spans: cj_budget simdutf8 thiserror\nscan_times: cj_budget cj_spans\n' > "$work/crates.txt"
+printf 'cj_budget: thiserror\ncj_spans: cj_budget simdutf8 thiserror\nscan_times: cj_budget cj_spans\n' > "$work/crates.txt"
 (cd "$work/crates/scan_times" && rt run < /dev/null > ../../log 2>&1) || { cat "$work/log"; exit 1; }
 
 echo "shape   scan MB/s   serde_json MB/s, time of scan to it   and a copy MB/s, time of scan to it"

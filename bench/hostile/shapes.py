@@ -1,6 +1,6 @@
 #!/usr/bin/env python3
 """Times `cityseq check`, `cityseq info` and `cityseq filter --lod 2` on lines that are made to cost, and `check --tree` on trees
-that are, each of several lengths, beside a usual line of the same length: measure.py PROGRAM MEETING SECONDS [WORD]. Of several
+that are, each of several lengths, beside a usual line of the same length: shapes.py PROGRAM MEETING SECONDS [WORD]. Of several
 commands the dearest beside its usual line is shown. MEETING is the program of meeting.c. A run that takes more than SECONDS is
 ended, and no longer line of its shape is tried. With a WORD only shapes whose names have it are measured. Times are of the
 processor, so that other work on the machine does not count but for the memory it takes; what the program takes to start is in
