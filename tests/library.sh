@@ -1,11 +1,12 @@
 #!/usr/bin/env bash
-# Tries the library for C. It builds the library, and runs the example and the tests in C and C++
+# Tests the library for C. It builds the library, and runs the example and the tests in C and C++
 # over it. It also runs them under valgrind and sanitizers, if these are installed.
 #
-#     tests/library.sh [PROGRAM [--after-gate]]
+#     tests/library.sh [PROGRAM [--built]]
 #
-# PROGRAM is the built program, crates/cityseq/out/cityseq if none is given. The option is that of
-# c/build.sh. The last line is 'N passed, M failed', and the status is 0 if all passed.
+# PROGRAM is the built program, crates/cityseq/out/cityseq if none is given. With the option, the
+# library in c/out is taken as it is. The last line is 'N passed, M failed', and the status is 0 if
+# all passed.
 set -u
 cd "$(dirname "$0")/.." || exit
 program=$(realpath -e -- "${1:-crates/cityseq/out/cityseq}") || exit
@@ -53,7 +54,11 @@ example_agrees() {
   [ "$(cat "$scratch/example_said")" = "$wanted" ] && { "$program" check < "$1" > "$scratch/unread" 2>&1; [ $? = "$status" ]; }
 }
 
-row 'the library is built' c/build.sh ${2:+"$2"}
+if [ "${2:-}" = --built ]; then
+  row 'the library is built' test -e c/out/libcityseq.a -a -e c/out/libcityseq.so
+else
+  row 'the library is built' c/build.sh
+fi
 row 'the example is compiled' "$compiler" $strict c/example.c c/out/libcityseq.a -o "$scratch/example"
 row 'the tests are compiled' "$compiler" $strict tests/library.c c/out/libcityseq.a -pthread -o "$scratch/library"
 row 'the tests are compiled over the shared library' \
