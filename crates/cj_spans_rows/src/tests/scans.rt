@@ -65,24 +65,45 @@ fn meets_reserved(rt: &impl Abort, alloc: Global, row: &Row) {
     assert_eq!(rt; got, row.want, "{}", row.name);
 }
 
+/// Scans a line into lists. Returns the number of tokens and the peak of the stack, or the fault.
+fn answer(
+    rt: &impl Abort,
+    line: &[u8],
+    tokens: &mut Bounded<Token>,
+    stack: &mut Stack,
+) -> Result<(usize, usize), ScanFault> {
+    assert!(rt; line.len() <= 100_000 && stack.limit() <= 2_000);
+    assert!(rt; (line.len() + stack.limit() + 1) / 2 <= tokens.limit());
+    match scan(line, tokens, stack) {
+        Ok(()) => Ok((tokens.len(), stack.peak())),
+        Err(fault) => Err(fault),
+    }
+}
+
+/// Scans a line into lists, and compares the result.
+fn answers(
+    rt: &impl Abort,
+    line: &[u8],
+    tokens: &mut Bounded<Token>,
+    stack: &mut Stack,
+    want: Result<(usize, usize), ScanFault>,
+) {
+    let got = answer(rt, line, tokens, stack);
+    assert_eq!(rt; got, want);
+}
+
 /// Scans a line into fresh lists, and compares the result, the tokens and the peaks. Then scans it
 /// into lists with reserved memory, and compares the result.
 fn meets(rt: &impl Abort, alloc: Global, row: &Row) {
     let line = row.line;
     let depth = row.depth;
-    assert!(rt; line.len() <= 100_000, "{}", row.name);
-    assert!(rt; depth <= 2_000, "{}", row.name);
+    assert!(rt; line.len() <= 100_000 && depth <= 2_000, "{}", row.name);
     let mut tokens: Bounded<Token> = Bounded::new(alloc, (line.len() + depth + 1) / 2);
     let mut stack = Stack::new(alloc, depth);
-    let got = match scan(line, &mut tokens, &mut stack) {
-        Ok(()) => Ok((tokens.len(), stack.peak())),
-        Err(fault) => Err(fault),
-    };
+    let got = answer(rt, line, &mut tokens, &mut stack);
     assert_eq!(rt; got, row.want, "{}", row.name);
-    assert_eq!(rt; tokens.peak(), tokens.len(), "{}", row.name);
-    if got.is_ok() {
-        assert!(rt; stack.is_empty(), "{}", row.name);
-    }
+    let is_empty = got.is_err() || stack.is_empty();
+    assert!(rt; is_empty && tokens.peak() == tokens.len(), "{}", row.name);
     meets_reserved(rt, alloc, row);
 }
 
@@ -397,27 +418,18 @@ fn members_that_are_texts(rt: HostRuntime) -> Result<(), Fail> {
 #[test]
 fn a_thousand_brackets(rt: HostRuntime) -> Result<(), Fail> {
     let line = [b'['; 1_025];
-    let alloc = rt.alloc();
-    let mut tokens: Bounded<Token> = Bounded::new(alloc, 1_025);
-    let mut deep = Stack::new(alloc, 1_024);
-    assert_eq!(rt;
-        scan(&line, &mut tokens, &mut deep),
-        Err(ScanFault::TooDeep(1_024))
-    );
-    assert_eq!(rt; tokens.len(), 1_024);
-    assert_eq!(rt; deep.len(), 1_024);
-    assert_eq!(rt;
-        scan(&line[..1_024], &mut tokens, &mut deep),
-        Err(ScanFault::Syntax(1_024))
-    );
-    let mut shallow = Stack::new(alloc, 64);
-    assert_eq!(rt;
-        scan(&line, &mut tokens, &mut shallow),
-        Err(ScanFault::TooDeep(64))
-    );
-    assert_eq!(rt; tokens.len(), 64);
-    assert_eq!(rt; tokens.peak(), 1_024);
-    assert_eq!(rt; shallow.peak(), 64);
+    let too_deep = Err(ScanFault::TooDeep(1_024));
+    let mut tokens: Bounded<Token> = Bounded::new(rt.alloc(), 1_025);
+    let mut deep = Stack::new(rt.alloc(), 1_024);
+    answers(&rt, &line, &mut tokens, &mut deep, too_deep);
+    assert_eq!(rt; (tokens.len(), deep.len()), (1_024, 1_024));
+    let cut = Err(ScanFault::Syntax(1_024));
+    answers(&rt, &line[..1_024], &mut tokens, &mut deep, cut);
+    let mut shallow = Stack::new(rt.alloc(), 64);
+    let too_deep = Err(ScanFault::TooDeep(64));
+    answers(&rt, &line, &mut tokens, &mut shallow, too_deep);
+    let peaks = (tokens.len(), tokens.peak(), shallow.peak());
+    assert_eq!(rt; peaks, (64, 1_024, 64));
     Ok(())
 }
 
@@ -522,42 +534,42 @@ fn tokens_link_past_their_parts(rt: HostRuntime) -> Result<(), Fail> {
 fn lists_are_emptied_first(rt: HostRuntime) -> Result<(), Fail> {
     let mut tokens: Bounded<Token> = Bounded::new(rt.alloc(), 100);
     let mut stack = Stack::new(rt.alloc(), 8);
-    assert_eq!(rt;
-        scan(b"[[[", &mut tokens, &mut stack),
-        Err(ScanFault::Syntax(3))
-    );
+    let cut = Err(ScanFault::Syntax(3));
+    answers(&rt, b"[[[", &mut tokens, &mut stack, cut);
     assert_eq!(rt; stack.len(), 3);
-    assert_eq!(rt; scan(b"[1,2,3,4]", &mut tokens, &mut stack), Ok(()));
-    assert_eq!(rt; tokens.len(), 5);
-    assert_eq!(rt; scan(b"7", &mut tokens, &mut stack), Ok(()));
-    assert_eq!(rt; tokens.len(), 1);
+    answers(&rt, b"[1,2,3,4]", &mut tokens, &mut stack, Ok((5, 3)));
+    answers(&rt, b"7", &mut tokens, &mut stack, Ok((1, 3)));
     assert_eq!(rt; tokens.peak(), 5);
-    assert_eq!(rt; stack.peak(), 3);
-    assert_eq!(rt; tokens.limit(), 100);
-    assert_eq!(rt; stack.limit(), 8);
+    assert_eq!(rt; (tokens.limit(), stack.limit()), (100, 8));
     Ok(())
+}
+
+/// Scans 300 brackets into lists that may be refused memory. If they are, both are empty.
+fn is_memory_or_syntax(rt: &impl Abort, tokens: &mut Bounded<Token>, stack: &mut Stack) {
+    let got = answer(rt, &[b'['; 300], tokens, stack);
+    if got == Err(ScanFault::Memory) {
+        assert!(rt; tokens.is_empty() && stack.is_empty() && tokens.peak() == 0);
+    } else {
+        assert_eq!(rt; got, Err(ScanFault::Syntax(300)));
+    }
 }
 
 /// This is also run with each growth refused, one after another: `rt try --test --fail-alloc N`.
 #[test]
 fn a_refused_growth_is_memory(rt: HostRuntime) -> Result<(), Fail> {
-    let line = [b'['; 300];
     let mut tokens: Bounded<Token> = Bounded::new(rt.alloc(), 300);
     let mut stack = Stack::new(rt.alloc(), 300);
-    let got = scan(&line, &mut tokens, &mut stack);
-    if got == Err(ScanFault::Memory) {
-        assert!(rt; tokens.is_empty() && stack.is_empty());
-        assert_eq!(rt; tokens.peak(), 0);
-    } else {
-        assert_eq!(rt; got, Err(ScanFault::Syntax(300)));
-    }
-    assert_eq!(rt;
-        scan(&line, &mut tokens, &mut stack),
-        Err(ScanFault::Syntax(300))
-    );
-    assert_eq!(rt; tokens.len(), 300);
-    assert_eq!(rt; stack.len(), 300);
+    is_memory_or_syntax(&rt, &mut tokens, &mut stack);
+    let cut = Err(ScanFault::Syntax(300));
+    answers(&rt, &[b'['; 300], &mut tokens, &mut stack, cut);
+    assert_eq!(rt; (tokens.len(), stack.len()), (300, 300));
     Ok(())
+}
+
+/// Checks that a reason has this code and this text.
+fn is_told(rt: &impl Abort, reason: Reason, code: u8, text: &str) {
+    assert_eq!(rt; reason.code(), code);
+    assert_eq!(rt; reason.text(), text);
 }
 
 #[test]
@@ -591,8 +603,7 @@ fn reasons_have_their_codes_and_texts(rt: HostRuntime) -> Result<(), Fail> {
         (Reason::TransformNotFixed, 30u8, "transform not fixed"),
     ];
     for (reason, code, text) in &rows {
-        assert_eq!(rt; reason.code(), *code);
-        assert_eq!(rt; reason.text(), *text);
+        is_told(&rt, *reason, *code, *text);
     }
     Ok(())
 }

@@ -34,17 +34,29 @@ fn view<'a>(
     Doc::of(line, tokens.as_slice())
 }
 
+/// Returns whether a node is of this kind, at this place, and has these bytes.
+fn is_at(node: Node, kind: Kind, start: u64, bytes: &[u8]) -> bool {
+    node.kind() == kind && node.start() == start && node.bytes() == bytes
+}
+
+/// Returns whether a node has the parts and the first code point of the row.
+fn has_parts(node: Node, row: &Row) -> bool {
+    node.items().count() == row.items
+        && node.members().count() == row.members
+        && node.first_code() == row.first_code
+}
+
 fn meets(rt: &impl Abort, alloc: Global, row: &Row) {
     let mut tokens: Bounded<Token> = Bounded::new(alloc, 1_000);
     let doc = view(rt, alloc, row.line, &mut tokens);
     let node = doc.root();
     assert_eq!(rt; doc.line(), row.line);
-    assert_eq!(rt; node.kind(), row.kind);
-    assert_eq!(rt; node.start(), row.start);
-    assert_eq!(rt; node.bytes(), row.bytes);
-    assert_eq!(rt; node.items().count(), row.items);
-    assert_eq!(rt; node.members().count(), row.members);
-    assert_eq!(rt; node.first_code(), row.first_code);
+    assert!(rt;
+        is_at(node, row.kind, row.start, row.bytes),
+        "{:?}",
+        row.line
+    );
+    assert!(rt; has_parts(node, row), "{:?}", row.line);
 }
 
 fn all_meet(rt: &impl Abort, alloc: Global, rows: &[Row]) {
@@ -131,6 +143,18 @@ fn containers_show_how_many_they_hold(rt: HostRuntime) -> Result<(), Fail> {
     Ok(())
 }
 
+/// Checks that the items of a list have these kinds, places and bytes, in order.
+fn items_are(rt: &impl Abort, list: Node, want: &[(Kind, u64, &[u8])]) {
+    let mut items = list.items();
+    for (kind, start, bytes) in want {
+        match items.next() {
+            Some(item) => assert!(rt; is_at(item, *kind, *start, *bytes), "{start}"),
+            None => panic!(rt; "an item is missing"),
+        }
+    }
+    assert!(rt; items.next().is_none());
+}
+
 #[test]
 fn items_come_in_order(rt: HostRuntime) -> Result<(), Fail> {
     let line = b"[null, [1,[2],3] ,{\"a\":[4]},\"x\"]";
@@ -142,19 +166,23 @@ fn items_come_in_order(rt: HostRuntime) -> Result<(), Fail> {
         (Kind::Object, 18u64, b"{\"a\":[4]}".as_slice()),
         (Kind::Text, 28u64, b"\"x\"".as_slice()),
     ];
-    let mut items = doc.root().items();
-    for (kind, start, bytes) in &want {
-        match items.next() {
-            Some(item) => {
-                assert_eq!(&rt; item.kind(), *kind);
-                assert_eq!(&rt; item.start(), *start);
-                assert_eq!(&rt; item.bytes(), *bytes);
+    items_are(&rt, doc.root(), want.as_slice());
+    Ok(())
+}
+
+/// Checks that the members of an object have these places, names and values, in order.
+fn members_are(rt: &impl Abort, object: Node, want: &[(u64, &[u8], &[u8])]) {
+    let mut members = object.members();
+    for (start, name, value) in want {
+        match members.next() {
+            Some((key, node)) => {
+                assert!(rt; is_at(key, Kind::Text, *start, *name), "{start}");
+                assert_eq!(rt; node.bytes(), *value);
             }
-            None => panic!(&rt; "an item is missing"),
+            None => panic!(rt; "a member is missing"),
         }
     }
-    assert!(&rt; items.next().is_none());
-    Ok(())
+    assert!(rt; members.next().is_none());
 }
 
 #[test]
@@ -167,19 +195,7 @@ fn members_come_in_order(rt: HostRuntime) -> Result<(), Fail> {
         (20u64, b"\"\"".as_slice(), b"0".as_slice()),
         (25u64, b"\"a\"".as_slice(), b"\"z\"".as_slice()),
     ];
-    let mut members = doc.root().members();
-    for (start, name, value) in &want {
-        match members.next() {
-            Some((key, node)) => {
-                assert_eq!(&rt; key.kind(), Kind::Text);
-                assert_eq!(&rt; key.start(), *start);
-                assert_eq!(&rt; key.bytes(), *name);
-                assert_eq!(&rt; node.bytes(), *value);
-            }
-            None => panic!(&rt; "a member is missing"),
-        }
-    }
-    assert!(&rt; members.next().is_none());
+    members_are(&rt, doc.root(), want.as_slice());
     Ok(())
 }
 
@@ -188,6 +204,13 @@ fn got<'a>(node: Node<'a>, name: &str) -> Option<&'a [u8]> {
     match node.get(name) {
         Some(value) => Some(value.bytes()),
         None => None,
+    }
+}
+
+/// Checks that an object has these values by name.
+fn are_got(rt: &impl Abort, object: Node, rows: &[(&str, Option<&[u8]>)]) {
+    for (name, want) in rows {
+        assert_eq!(rt; got(object, *name), *want, "{name}");
     }
 }
 
@@ -210,15 +233,36 @@ fn members_are_found_by_their_text(rt: HostRuntime) -> Result<(), Fail> {
         ("\\u0062", None),
         ("\u{FFFD}", None),
     ];
-    let root = doc.root();
-    for (name, want) in &rows {
-        assert_eq!(&rt; got(root, *name), *want, "{name}");
-    }
-    match root.get("aa") {
-        Some(array) => assert_eq!(&rt; got(array, "a"), None),
+    are_got(&rt, doc.root(), rows.as_slice());
+    match doc.root().get("aa") {
+        Some(array) => are_got(&rt, array, &[("a", None)]),
         None => panic!(&rt; "no member"),
     }
     Ok(())
+}
+
+/// Returns whether an item has the text of another exactly if both are wanted to have one. What is
+/// no text, and a text that is no `str`, is the same as itself alone.
+fn is_compared(item: Node, text: Option<&str>, other: Node, other_text: Option<&str>) -> bool {
+    match other_text {
+        Some(name) => {
+            let same = text == other_text;
+            item.text_is(name) == same && item.same_text(other) == same
+        }
+        None => {
+            let same = item.start() == other.start() && item.kind() == Kind::Text;
+            item.same_text(other) == same
+        }
+    }
+}
+
+/// Returns whether an item is compared with each item as wanted.
+fn are_compared(item: Node, text: Option<&str>, items: Items, texts: &[Option<&str>]) -> bool {
+    let mut all = true;
+    for (other, other_text) in items.zip(texts.iter()) {
+        all = all && is_compared(item, text, other, *other_text);
+    }
+    all
 }
 
 #[test]
@@ -240,20 +284,12 @@ fn texts_are_compared_by_code_points(rt: HostRuntime) -> Result<(), Fail> {
         None,
         Some("12"),
     ];
-    let root = doc.root();
-    for (item, text) in root.items().zip(texts.iter()) {
-        for (other, other_text) in root.items().zip(texts.iter()) {
-            match *other_text {
-                Some(name) => {
-                    assert_eq!(&rt; item.text_is(name), *text == *other_text, "{name}");
-                    assert_eq!(&rt; item.same_text(other), *text == *other_text, "{name}");
-                }
-                None => {
-                    let same = item.start() == other.start() && item.kind() == Kind::Text;
-                    assert_eq!(&rt; item.same_text(other), same);
-                }
-            }
-        }
+    let items = doc.root().items();
+    for (item, text) in items.zip(texts.iter()) {
+        assert!(&rt;
+            are_compared(item, *text, items, texts.as_slice()),
+            "{text:?}"
+        );
     }
     Ok(())
 }
@@ -373,6 +409,13 @@ fn texts_are_ordered_beside_a_text(rt: HostRuntime) -> Result<(), Fail> {
     Ok(())
 }
 
+/// Returns whether a name and its value have these numbers, and the name is found by its own.
+fn are_numbered(name: Node, value: Node, of_name: u32, of_value: u32) -> bool {
+    name.number() == of_name
+        && value.number() == of_value
+        && name.at(name.number()).bytes() == name.bytes()
+}
+
 #[test]
 fn nodes_are_found_by_their_numbers(rt: HostRuntime) -> Result<(), Fail> {
     let line = b"{\"a\":[1,[2,\"b\"]],\"c\":{\"d\":null}}";
@@ -381,11 +424,18 @@ fn nodes_are_found_by_their_numbers(rt: HostRuntime) -> Result<(), Fail> {
     assert_eq!(&rt; root.number(), 0);
     let numbers = [(1, 2), (7, 8)];
     for ((name, value), (of_name, of_value)) in root.members().zip(numbers.iter()) {
-        assert_eq!(&rt; name.number(), *of_name);
-        assert_eq!(&rt; value.number(), *of_value);
-        assert_eq!(&rt; name.at(name.number()).bytes(), name.bytes());
+        assert!(&rt; are_numbered(name, value, *of_name, *of_value), "{of_name}");
     }
     Ok(())
+}
+
+/// Checks the two members of the line `{"a":[1,2],"b":"\u0061"}`.
+fn shows_two_members(rt: &impl Abort, object: Node) {
+    are_got(rt, object, &[("a", Some(b"[1,2]".as_slice()))]);
+    match object.get("b") {
+        Some(value) => assert!(rt; value.text_is("a")),
+        None => panic!(rt; "no member"),
+    }
 }
 
 #[test]
@@ -402,12 +452,23 @@ fn a_copy_is_viewed_as_the_line_was(rt: HostRuntime) -> Result<(), Fail> {
     tokens.clear();
     let doc = Doc::of(bytes.as_slice(), kept.as_slice());
     assert_eq!(&rt; doc.line(), line.as_slice());
-    assert_eq!(&rt; got(doc.root(), "a"), Some(b"[1,2]".as_slice()));
-    match doc.root().get("b") {
-        Some(value) => assert!(&rt; value.text_is("a")),
-        None => panic!(&rt; "no member"),
-    }
+    shows_two_members(&rt, doc.root());
     Ok(())
+}
+
+/// Returns the bytes of the first item after this number of values and names.
+fn first_behind<'a>(list: Node<'a>, size: u32) -> Option<&'a [u8]> {
+    match list.items_behind(size).next() {
+        Some(item) => Some(item.bytes()),
+        None => None,
+    }
+}
+
+/// Checks the first item after each number of values and names.
+fn are_behind(rt: &impl Abort, list: Node, rows: &[(u32, Option<&[u8]>)]) {
+    for (size, want) in rows {
+        assert_eq!(rt; first_behind(list, *size), *want, "{size}");
+    }
 }
 
 /// The sizes of the items of `[10,[20,{"a":30}],"b",[]]`, and the item after each number of values
@@ -418,17 +479,14 @@ fn items_are_found_behind_others(rt: HostRuntime) -> Result<(), Fail> {
     let mut tokens: Bounded<Token> = Bounded::new(rt.alloc(), 1_000);
     let list = view(&rt, rt.alloc(), line, &mut tokens).root();
     assert_eq!(&rt; list.size(), 9);
-    let rows: [(u32, &[u8]); 4] = [
-        (0, b"10"),
-        (1, b"[20,{\"a\":30}]"),
-        (6, b"\"b\""),
-        (7, b"[]"),
+    let rows = [
+        (0, Some(b"10".as_slice())),
+        (1, Some(b"[20,{\"a\":30}]".as_slice())),
+        (6, Some(b"\"b\"".as_slice())),
+        (7, Some(b"[]".as_slice())),
+        (8, None),
+        (9_000_000, None),
     ];
-    for (size, first) in rows.iter() {
-        let mut left = list.items_behind(*size);
-        assert_eq!(&rt; left.next().map(|item| item.bytes()), Some(*first));
-    }
-    assert!(&rt; list.items_behind(8).next().is_none());
-    assert!(&rt; list.items_behind(9_000_000).next().is_none());
+    are_behind(&rt, list, rows.as_slice());
     Ok(())
 }
