@@ -25,14 +25,10 @@
 //! ```
 #![tactic(auto)]
 
-#[cfg(test)]
-mod examples;
 mod feature;
 mod header;
 mod laws;
 mod member;
-#[cfg(test)]
-mod tests;
 
 pub use feature::{
     CityObject, Coordinates, Feature, Geometries, Objects, Vertices, check_feature, mark_reached,

@@ -1,6 +1,5 @@
 pub mod Answers
 pub mod Entries
-pub mod Examples
 pub mod Form
 pub mod Geometry
 pub mod Given

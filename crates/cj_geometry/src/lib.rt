@@ -20,8 +20,6 @@
 #![tactic(auto)]
 
 mod boundaries;
-#[cfg(test)]
-mod examples;
 mod form;
 mod geometry;
 mod grammar;
@@ -33,8 +31,6 @@ pub mod rule;
 mod semantics;
 mod steps;
 mod templates;
-#[cfg(test)]
-mod tests;
 
 pub use geometry::check_geometry;
 pub use grammar::one_grammar_of_numbers;

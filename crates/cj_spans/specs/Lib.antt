@@ -14,7 +14,6 @@ pub mod Pass
 pub mod Begins
 pub mod Reason
 pub mod Machine
-pub mod Examples
 pub mod Finding
 pub mod Text
 pub mod Decoding

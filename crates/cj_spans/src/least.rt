@@ -3,11 +3,6 @@ ghost use Rattle.std.specs.Prelude.{◌≡◌, ◌∷◌, ◌++◌, List, Option
 ghost use Rattle.cj_spans.specs.declared.finding.Finding.{Finding as FindingOf};
 ghost use Rattle.cj_spans.specs.Finding.{lesser, least, list_found, is_before as is_before_of, IsLeast, HaveSame};
 
-#[cfg(test)]
-mod examples;
-#[cfg(test)]
-mod tests;
-
 use crate::finding::Finding;
 use std::marker::Model;
 

@@ -35,8 +35,6 @@
 mod arrays;
 mod atom;
 mod bytes;
-#[cfg(test)]
-mod examples;
 mod fault;
 mod finding;
 mod lanes;
@@ -51,8 +49,6 @@ mod numbers;
 mod reason;
 mod scanner;
 mod step;
-#[cfg(test)]
-mod tests;
 mod text;
 mod token;
 

@@ -20,13 +20,6 @@ ghost use Rattle.cj_spans.specs.Json.{Json, byte};
 ghost use Rattle.cj_spans.specs.Forest.{kind_by};
 ghost use Rattle.cj_spans.specs.Sound.{items_end as items_end_of, members_end as members_end_of};
 
-#[cfg(test)]
-mod callers;
-#[cfg(test)]
-mod examples;
-#[cfg(test)]
-mod tests;
-
 use crate::mark::{LINKS, has_mark};
 use crate::text::{
     CodePoints, compare_spelling_with, compare_spellings, mix, spell_one_text, spells, tail, word,

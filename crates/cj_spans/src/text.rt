@@ -15,8 +15,6 @@ ghost use Rattle.cj_spans.specs.Order.{compare, digits};
 ghost use Rattle.cj_spans.specs.Text.{char_of, four_digits, escaped as escaped_of, is_escaped, is_unicode, unit};
 ghost use Rattle.cj_spans.specs.Text.{first_code_point, first_width, text, are_same};
 
-#[cfg(test)]
-mod examples;
 mod strings;
 
 use crate::lanes::{FEW_LANES, LANES, find_unlike, find_unlike_of_few};

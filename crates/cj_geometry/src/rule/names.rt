@@ -19,9 +19,6 @@ ghost use Rattle.cj_geometry.specs.Rule.{repeats_of, distinct};
 ghost use Rattle.cj_geometry.specs.Names.{is_above, is_below, Ascend, repeat_of, neighbours, last_of, names_of};
 ghost use Rattle.cj_geometry.specs.Entries.{IsWorded, name_in, names_in, limit_in, TakeOne, HoldNames};
 
-#[cfg(test)]
-mod tests;
-
 use crate::rule::add;
 use crate::rule::order::{Entry, NO_NAME, is_before, sort, take_least};
 use cj_spans::{Least, Members, Node, Reason};

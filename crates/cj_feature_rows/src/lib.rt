@@ -1,0 +1,11 @@
+//! Worked examples of `cj_feature`, by its public contract. They have a crate of their own, since a
+//! crate with tests is proved twice.
+//!
+//! - `tests`: rows that run, of headers, features and what they show.
+//! - `examples`: rows of the definitions. Each contract is a theorem about one of them.
+#![tactic(auto)]
+
+#[cfg(test)]
+mod examples;
+#[cfg(test)]
+mod tests;

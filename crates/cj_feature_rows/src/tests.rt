@@ -1,0 +1,174 @@
+//! Rows of headers and features. What is wrong with each follows from the rules, not from the
+//! program.
+//!
+//! A table has one row per line, with bars between its cells. The cells are a name, the text for
+//! the hole `_` of the table's line, and the result. The result is the code and the text of the
+//! reason, or `none`. The mark `^` shows where the finding is, and is no part of the line. Without
+//! a mark, a row has the byte itself.
+ghost use Rattle.cj_spans.specs.Marks.{AreUnmarked};
+ghost use Rattle.cj_spans.specs.Sound.{AreOf};
+
+mod headers;
+mod links;
+mod many_links;
+mod objects;
+mod pairs;
+mod reached;
+mod shown;
+mod templates;
+mod worked;
+
+use cj_budget::{Bounded, Stack};
+use cj_feature::{check_feature, check_header};
+use cj_spans::{Doc, Finding, Token, scan};
+use std::alloc::{AllocError, Global};
+use std::process::Abort;
+
+/// A header without templates.
+const HEADER: &str =
+    r#"{"type":"CityJSON","version":"2.0","transform":{"scale":[0.001,0.001,0.001],"translate":[1000.0,2000.0,0.0]},"CityObjects":{},"vertices":[]}"#;
+
+/// Returns the tokens of a line that is a JSON text.
+fn tokens_of(rt: &impl Abort, alloc: Global, line: &[u8]) -> Bounded<Token>
+    ensures of { AreOf line.now result.elements }
+    ensures unmarked { AreUnmarked result.elements }
+{
+    assert!(rt; line.len() <= 1_000_000);
+    let mut tokens: Bounded<Token> = Bounded::new(alloc, 1_000_000);
+    let mut stack = Stack::new(alloc, 64);
+    match scan(line, &mut tokens, &mut stack) {
+        Ok(()) => {}
+        Err(fault) => panic!(rt; "{fault:?}"),
+    }
+    tokens
+}
+
+/// Returns the finding of a line that is judged as a header, with or without a box.
+fn header_finding(rt: &impl Abort, alloc: Global, line: &[u8], with_box: bool) -> Option<Finding> {
+    let tokens = tokens_of(rt, alloc, line);
+    match check_header(Doc::of(line, tokens.as_slice()), with_box) {
+        Ok(_) => None,
+        Err(finding) => Some(finding),
+    }
+}
+
+/// Returns the finding of a line that is judged as a feature, with a header.
+fn feature_finding(
+    rt: &impl Abort,
+    alloc: Global,
+    header_line: &[u8],
+    line: &[u8],
+) -> Option<Finding> {
+    let header_tokens = tokens_of(rt, alloc, header_line);
+    let tokens = tokens_of(rt, alloc, line);
+    match check_header(Doc::of(header_line, header_tokens.as_slice()), false) {
+        Ok(header) => match check_feature(Doc::of(line, tokens.as_slice()), &header, false) {
+            Ok(_) => None,
+            Err(finding) => Some(finding),
+        },
+        Err(_) => panic!(rt; "no header"),
+    }
+}
+
+/// Returns a finding as a row has it: its byte, and the code and the text of its reason.
+fn finding_text(alloc: Global, found: Option<Finding>) -> Result<String, AllocError> {
+    match found {
+        Some(Finding { place, reason }) => {
+            format!(in alloc; "{place} {} {}", reason.code(), reason.text())
+        }
+        None => String::from_str(alloc, "none"),
+    }
+}
+
+/// Returns the line with a cell in the hole.
+fn filled(alloc: Global, pattern: &str, cell: &str) -> Result<String, AllocError> {
+    match pattern.split_once('_') {
+        Some((front, back)) => format!(in alloc; "{front}{cell}{back}"),
+        None => String::from_str(alloc, pattern),
+    }
+}
+
+/// Returns the line without its mark, and the expected finding with the byte of the mark.
+fn unmarked(alloc: Global, line: &str, want: &str) -> Result<(String, String), AllocError> {
+    match line.split_once('^') {
+        Some((front, back)) => Ok((
+            format!(in alloc; "{front}{back}")?,
+            format!(in alloc; "{} {want}", front.len())?,
+        )),
+        None => Ok((
+            String::from_str(alloc, line)?,
+            String::from_str(alloc, want)?,
+        )),
+    }
+}
+
+/// Returns the line of a row, and what the row expects.
+fn line_of(
+    rt: &impl Abort,
+    alloc: Global,
+    pattern: &str,
+    row: &str,
+) -> Result<(String, String), AllocError> {
+    let mut cells = row.split('|');
+    let _name = cells.next().expect(rt, "a name");
+    let cell = cells.next().expect(rt, "a cell").trim();
+    let want = cells.next().expect(rt, "what is wanted").trim();
+    let line = filled(alloc, pattern, cell)?;
+    unmarked(alloc, &line, want)
+}
+
+/// Checks that each row of the table, as a header with or without a box, has the finding that it
+/// expects.
+fn headers_judged(
+    rt: &impl Abort,
+    alloc: Global,
+    with_box: bool,
+    pattern: &str,
+    rows: &str,
+) -> Result<(), AllocError> {
+    for row in rows.trim().lines() {
+        let (line, want) = line_of(rt, alloc, pattern, row)?;
+        let found = header_finding(rt, alloc, line.as_bytes(), with_box);
+        let found = finding_text(alloc, found)?;
+        assert_eq!(rt; found.as_str(), want.as_str(), "{row}");
+    }
+    Ok(())
+}
+
+/// Checks that each row of the table, as a header, has the finding that it expects.
+fn headers_meet(
+    rt: &impl Abort,
+    alloc: Global,
+    pattern: &str,
+    rows: &str,
+) -> Result<(), AllocError> {
+    headers_judged(rt, alloc, false, pattern, rows)
+}
+
+/// Checks that each row of the table, as a header for a box, has the finding that it expects.
+fn boxed_headers_meet(
+    rt: &impl Abort,
+    alloc: Global,
+    pattern: &str,
+    rows: &str,
+) -> Result<(), AllocError> {
+    headers_judged(rt, alloc, true, pattern, rows)
+}
+
+/// Checks that each row of the table, as a feature with this header, has the finding that it
+/// expects.
+fn features_meet(
+    rt: &impl Abort,
+    alloc: Global,
+    header: &str,
+    pattern: &str,
+    rows: &str,
+) -> Result<(), AllocError> {
+    for row in rows.trim().lines() {
+        let (line, want) = line_of(rt, alloc, pattern, row)?;
+        let found = feature_finding(rt, alloc, header.as_bytes(), line.as_bytes());
+        let found = finding_text(alloc, found)?;
+        assert_eq!(rt; found.as_str(), want.as_str(), "{row}");
+    }
+    Ok(())
+}

@@ -1,0 +1,171 @@
+//! Rows of geometries. What is wrong with each follows from the rules, not from the program.
+//!
+//! A table has one row per line, with bars between its cells. The cells are a name, the text for
+//! the hole `_` of the table's geometry, and the result. The result is the code and the text of the
+//! reason, or `none`. The mark `^` shows where the finding is, and is no part of the geometry.
+//! Without a mark, a row has the byte itself.
+ghost use Rattle.cj_spans.specs.Sound.{AreOf};
+
+mod boundaries;
+mod indices;
+mod instances;
+mod lod;
+mod names;
+mod object_types;
+mod pairs;
+mod repeated;
+mod surfaces;
+mod templates;
+mod types;
+mod values;
+mod wholes;
+mod worked;
+
+use cj_budget::{Bounded, Stack};
+use cj_geometry::{Templates, check_geometry};
+use cj_spans::{Doc, Finding, Kind, Least, Node, Token, scan};
+use std::alloc::{AllocError, Global};
+use std::process::Abort;
+
+/// The templates that a geometry may name: those of a list, none, or the mark that it is one
+/// itself.
+#[derive(Clone, Copy)]
+enum Given {
+    List(&'static str),
+    Empty,
+    Itself,
+}
+
+/// What a geometry depends on: the number of vertices, if it is known, and the templates.
+#[derive(Clone, Copy)]
+struct Around {
+    vertices: Option<u64>,
+    templates: Given,
+}
+
+/// Returns this number of vertices, and no templates.
+fn with_vertices(vertices: u64) -> Around {
+    Around {
+        vertices: Some(vertices),
+        templates: Given::Empty,
+    }
+}
+
+/// Returns the tokens of a line that is a JSON text.
+fn tokens_of(rt: &impl Abort, alloc: Global, line: &[u8]) -> Bounded<Token>
+    ensures { AreOf line.now result.elements }
+{
+    assert!(rt; line.len() <= 100_000);
+    let mut tokens: Bounded<Token> = Bounded::new(alloc, 100_000);
+    let mut stack = Stack::new(alloc, 64);
+    match scan(line, &mut tokens, &mut stack) {
+        Ok(()) => {}
+        Err(fault) => panic!(rt; "{fault:?}"),
+    }
+    tokens
+}
+
+/// Returns the templates. `list` is their list, if there is one.
+fn templates_of<'a>(rt: &impl Abort, given: Given, list: Node<'a>) -> Templates<'a> {
+    match given {
+        Given::Itself => Templates::template(),
+        Given::Empty => Templates::empty(),
+        Given::List(_) => match list.kind() {
+            Kind::Array => Templates::list(list),
+            _ => panic!(rt; "no list of templates"),
+        },
+    }
+}
+
+/// Returns the line of the list of templates, or of an empty one.
+fn list_line(given: Given) -> &'static [u8] {
+    match given {
+        Given::List(list) => list.as_bytes(),
+        Given::Empty | Given::Itself => b"[]",
+    }
+}
+
+/// Returns the least finding of a line that is a geometry, after an earlier finding.
+fn least_of(
+    rt: &impl Abort,
+    alloc: Global,
+    line: &[u8],
+    around: Around,
+    before: Option<Finding>,
+) -> Option<Finding> {
+    let list_line = list_line(around.templates);
+    let list_tokens = tokens_of(rt, alloc, list_line);
+    let list = Doc::of(list_line, list_tokens.as_slice()).root();
+    let templates = templates_of(rt, around.templates, list);
+    let tokens = tokens_of(rt, alloc, line);
+    let node = Doc::of(line, tokens.as_slice()).root();
+    let mut least = Least::new();
+    if let Some(finding) = before {
+        least.add(finding);
+    }
+    check_geometry(node, around.vertices, templates, &mut least);
+    least.get()
+}
+
+/// Returns a finding as a row has it: its byte, and the code and the text of its reason.
+fn shown(alloc: Global, found: Option<Finding>) -> Result<String, AllocError> {
+    match found {
+        Some(Finding { place, reason }) => {
+            format!(in alloc; "{place} {} {}", reason.code(), reason.text())
+        }
+        None => String::from_str(alloc, "none"),
+    }
+}
+
+/// Returns the line with a cell in the hole.
+fn filled(alloc: Global, geometry: &str, cell: &str) -> Result<String, AllocError> {
+    match geometry.split_once('_') {
+        Some((front, back)) => format!(in alloc; "{front}{cell}{back}"),
+        None => String::from_str(alloc, geometry),
+    }
+}
+
+/// Returns the line without its mark, and the expected finding with the byte of the mark.
+fn unmarked(alloc: Global, line: &str, want: &str) -> Result<(String, String), AllocError> {
+    match line.split_once('^') {
+        Some((front, back)) => Ok((
+            format!(in alloc; "{front}{back}")?,
+            format!(in alloc; "{} {want}", front.len())?,
+        )),
+        None => Ok((
+            String::from_str(alloc, line)?,
+            String::from_str(alloc, want)?,
+        )),
+    }
+}
+
+/// Returns the line of a row, and what the row expects.
+fn line_of(
+    rt: &impl Abort,
+    alloc: Global,
+    geometry: &str,
+    row: &str,
+) -> Result<(String, String), AllocError> {
+    let mut cells = row.split('|');
+    let _name = cells.next().expect(rt, "a name");
+    let cell = cells.next().expect(rt, "a cell").trim();
+    let want = cells.next().expect(rt, "what is wanted").trim();
+    let line = filled(alloc, geometry, cell)?;
+    unmarked(alloc, &line, want)
+}
+
+/// Checks that each row of the table has the finding that it expects.
+fn meets(
+    rt: &impl Abort,
+    alloc: Global,
+    around: Around,
+    geometry: &str,
+    rows: &str,
+) -> Result<(), AllocError> {
+    for row in rows.trim().lines() {
+        let (line, want) = line_of(rt, alloc, geometry, row)?;
+        let found = shown(alloc, least_of(rt, alloc, line.as_bytes(), around, None))?;
+        assert_eq!(rt; found.as_str(), want.as_str(), "{row}");
+    }
+    Ok(())
+}

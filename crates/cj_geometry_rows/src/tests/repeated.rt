@@ -1,0 +1,252 @@
+//! Repeated names that are found in order. The expected result follows from the rule. The mark `^`
+//! of a row is before the first name that has the text of an earlier one. The mark is no part of
+//! the line.
+//!
+//! Many names take several walks, each over the least of those that are left. A row has few names.
+//! So it is tried alone, and with many others that are less or greater than its own. A row also has
+//! how many of its names the first walk then deals with. If the row has a repeated name, the walk
+//! ends between the two, as far as the others let it.
+ghost use Rattle.cj_spans.specs.Sound.{AreOf};
+
+use cj_budget::{Bounded, Stack};
+use cj_geometry::rule::check_names;
+use cj_spans::{Doc, Finding, Least, Reason, Token, scan};
+use std::alloc::{AllocError, Global};
+use std::process::Abort;
+use std::test::Fail;
+
+/// The longest line of these tests.
+const LONGEST: usize = 400_000;
+
+/// How many names the first walk over 4,096 names or more deals with, in an object of at most 64
+/// KiB whose least names come first.
+const WALK: u32 = 2_048;
+
+/// The tokens of a line that is a JSON text.
+fn tokens_of(rt: &impl Abort, alloc: Global, line: &[u8]) -> Bounded<Token>
+    ensures { AreOf line.now result.elements }
+{
+    assert!(rt; line.len() <= LONGEST);
+    let mut tokens: Bounded<Token> = Bounded::new(alloc, LONGEST);
+    let mut stack = Stack::new(alloc, 64);
+    match scan(line, &mut tokens, &mut stack) {
+        Ok(()) => {}
+        Err(fault) => panic!(rt; "{fault:?}"),
+    }
+    tokens
+}
+
+/// Returns what is found in an object.
+fn found_in(rt: &impl Abort, alloc: Global, line: &str) -> Option<Finding> {
+    let tokens = tokens_of(rt, alloc, line.as_bytes());
+    let mut found = Least::new();
+    check_names(
+        Doc::of(line.as_bytes(), tokens.as_slice()).root(),
+        &mut found,
+    );
+    found.get()
+}
+
+/// Returns a line without its mark, and the finding at the mark.
+fn unmarked(alloc: Global, row: &str) -> Result<(String, Option<Finding>), AllocError> {
+    match row.split_once('^') {
+        Some((front, back)) => {
+            let finding = Finding {
+                place: front.len() as u64,
+                reason: Reason::DuplicateName,
+            };
+            Ok((format!(in alloc; "{front}{back}")?, Some(finding)))
+        }
+        None => Ok((String::from_str(alloc, row)?, None)),
+    }
+}
+
+/// Returns `count` members, each with a comma after it. Their names are numbers of four digits after
+/// this front.
+fn others(alloc: Global, front: &str, count: u32) -> Result<String, AllocError> {
+    let mut text = String::new(alloc);
+    for number in 0..count {
+        let member = format!(in alloc; "\"{front}{}\":0,", number.wrapping_add(1_000))?;
+        text.push_str(&member)?;
+    }
+    Ok(text)
+}
+
+/// Returns an object with further members behind its own. Each of these has a comma after it.
+fn longer(alloc: Global, line: &str, members: &str) -> Result<String, AllocError> {
+    match line.split_once('}') {
+        Some((front, _)) => {
+            let comma = if front == "{" { "" } else { "," };
+            format!(in alloc; "{front}{comma}{members}\"last\":0}}")
+        }
+        None => String::from_str(alloc, line),
+    }
+}
+
+/// Checks that an object has the finding of its mark, alone and with other names. The first walk
+/// over these deals with the lesser ones and with the `first` least of the object.
+fn meets_row(
+    rt: &impl Abort,
+    alloc: Global,
+    first: u32,
+    row: &str,
+    greater: &str,
+) -> Result<(), AllocError> {
+    let (line, want) = unmarked(alloc, row)?;
+    assert_eq!(rt; found_in(rt, alloc, &line), want, "{row}");
+    let lesser = others(alloc, "", WALK.wrapping_sub(first))?;
+    let members = format!(in alloc; "{lesser}{greater}")?;
+    let line = longer(alloc, &line, &members)?;
+    assert_eq!(rt; found_in(rt, alloc, &line), want, "{row} with others");
+    Ok(())
+}
+
+/// Checks that each of these objects has the finding of its mark.
+fn meet(rt: &impl Abort, alloc: Global, rows: &[(u32, &str)]) -> Result<(), AllocError> {
+    let greater = others(alloc, "一", 2_100)?;
+    for (first, row) in rows {
+        meets_row(rt, alloc, *first, row, &greater)?;
+    }
+    Ok(())
+}
+
+#[test]
+fn names_in_any_order(rt: HostRuntime) -> Result<(), Fail> {
+    let rows: [(u32, &str); 9] = [
+        (0, r#"{}"#),
+        (0, r#"{"a":1}"#),
+        (
+            5,
+            r#"{"a":1,"b":1,"c":1,"d":1,"e":1,"f":1,"g":1,"h":1,"i":1,"j":1}"#,
+        ),
+        (
+            5,
+            r#"{"j":1,"i":1,"h":1,"g":1,"f":1,"e":1,"d":1,"c":1,"b":1,"a":1}"#,
+        ),
+        (
+            5,
+            r#"{"e":1,"f":1,"d":1,"g":1,"c":1,"h":1,"b":1,"i":1,"a":1,"j":1}"#,
+        ),
+        (
+            1,
+            r#"{"a":1,"b":1,"c":1,"d":1,"e":1,"f":1,"g":1,"h":1,"i":1,"j":1,^"a":1}"#,
+        ),
+        (
+            10,
+            r#"{"a":1,"b":1,"c":1,"d":1,"e":1,"f":1,"g":1,"h":1,"i":1,"j":1,^"j":1}"#,
+        ),
+        (
+            6,
+            r#"{"j":1,"i":1,"h":1,"g":1,"f":1,"e":1,"d":1,"c":1,"b":1,"a":1,^"f":1}"#,
+        ),
+        (
+            9,
+            r#"{"j":1,^"j":1,"h":1,"g":1,"f":1,"e":1,"d":1,"c":1,"b":1,"a":1}"#,
+        ),
+    ];
+    meet(&rt, rt.alloc(), rows.as_slice())?;
+    Ok(())
+}
+
+#[test]
+fn names_that_come_more_than_once(rt: HostRuntime) -> Result<(), Fail> {
+    let rows: [(u32, &str); 5] = [
+        (
+            1,
+            r#"{"a":1,^"a":1,"a":1,"a":1,"a":1,"a":1,"a":1,"a":1,"a":1,"a":1}"#,
+        ),
+        (
+            6,
+            r#"{"e":1,"a":1,"b":1,"c":1,"d":1,^"e":1,"e":1,"f":1,"e":1,"a":1}"#,
+        ),
+        (7, r#"{"d":1,"c":1,"b":1,"a":1,^"d":1,"a":1,"b":1,"c":1}"#),
+        (5, r#"{"a":1,"b":1,"c":1,"d":1,^"c":1,"b":1,"a":1,"d":1}"#),
+        (3, r#"{"b":1,"b1":1,"b2":1,"":1,"b0":1,"b11":1,^"":1}"#),
+    ];
+    meet(&rt, rt.alloc(), rows.as_slice())?;
+    Ok(())
+}
+
+#[test]
+fn names_of_one_word(rt: HostRuntime) -> Result<(), Fail> {
+    let rows: [(u32, &str); 7] = [
+        (
+            2,
+            r#"{"abcdefgh2":1,"abcdefgh1":1,"abcdefgh":1,"abcdefgh3":1,"abcdefgh11":1}"#,
+        ),
+        (
+            2,
+            r#"{"abcdefgh2":1,"abcdefgh1":1,"abcdefgh":1,"abcdefgh3":1,^"abcdefgh1":1}"#,
+        ),
+        (
+            3,
+            r#"{"abcdefgh2":1,"abcdefgh1":1,^"abcdefgh\u0032":1,"abcdefgh3":1,"abcdefgh1":1}"#,
+        ),
+        (4, r#"{"€b":1,"€a":1,"é":1,"₤a":1,"ÿa":1,"a":1}"#),
+        (4, r#"{"€b":1,"€a":1,"é":1,"₤a":1,^"\u20aca":1,"a":1}"#),
+        (1, r#"{"a":1,"b":1,"c":1,"d":1,"e":1,^"\u0061":1}"#),
+        (
+            5,
+            r#"{"\u0062":1,"\u0061":1,"\u0064":1,"\u0063":1,^"d":1,"a":1}"#,
+        ),
+    ];
+    meet(&rt, rt.alloc(), rows.as_slice())?;
+    Ok(())
+}
+
+/// Returns `count` members, each with a comma after it. Their names are numbers that rise or fall.
+fn members(alloc: Global, count: u32, rise: bool) -> Result<String, AllocError> {
+    let mut text = String::new(alloc);
+    for number in 0..count {
+        let name = if rise { number } else { count - number };
+        let member = format!(in alloc; "\"{name}\":0,")?;
+        text.push_str(&member)?;
+    }
+    Ok(text)
+}
+
+/// Returns what is found in an object of `count` names and one more at the end, and the place of
+/// that one.
+fn found_behind(
+    rt: &impl Abort,
+    alloc: Global,
+    count: u32,
+    rise: bool,
+    name: &str,
+) -> Result<(Option<Finding>, u64), AllocError> {
+    let members = members(alloc, count, rise)?;
+    let line = format!(in alloc; "{{{members}\"{name}\":0}}")?;
+    let place = 1u64.wrapping_add(members.len() as u64);
+    Ok((found_in(rt, alloc, &line), place))
+}
+
+/// A name after some thousands of others is reported if it repeats one of them. The arrays are that
+/// of middle size and the large one.
+fn meets_behind(
+    rt: &impl Abort,
+    alloc: Global,
+    rise: bool,
+    name: &str,
+    is_repeated: bool,
+) -> Result<(), AllocError> {
+    for count in [6_000, 30_000] {
+        let (found, place) = found_behind(rt, alloc, count, rise, name)?;
+        let reason = Reason::DuplicateName;
+        let want = if is_repeated {
+            Some(Finding { place, reason })
+        } else {
+            None
+        };
+        assert_eq!(rt; found, want, "{name} behind {count}");
+    }
+    Ok(())
+}
+
+#[test]
+fn more_names_than_the_room_holds(rt: HostRuntime) -> Result<(), Fail> {
+    meets_behind(&rt, rt.alloc(), true, "a", false)?;
+    meets_behind(&rt, rt.alloc(), true, "5999", true)?;
+    meets_behind(&rt, rt.alloc(), false, "a", false)?;
+    meets_behind(&rt, rt.alloc(), false, "\\u0031", true)?;
+    Ok(())
+}

@@ -1,9 +1,0 @@
-use Rattle.std.proofs.Common.{◌≡◌}
-use Rattle.std.specs.Prelude.{flat_map}
-use Rattle.cj_spans.specs.Finding.{least}
-use Rattle.cj_spans.specs.View.{tree, items_left}
-use Rattle.cj_spans.specs.Examples.{not_number, not_numbers}
-use Rattle.cj_spans.proofs.node.callers.are_numbers.Given as goal
-
-abbrev pub invariant-loop-item : goal.invariant-loop-item
-invariant-loop-item l = least l.found (flat_map not_number (items_left l.item-iterator)) ≡ least l.initial.found (not_numbers (tree l.node))
