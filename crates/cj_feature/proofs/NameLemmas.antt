@@ -11,7 +11,7 @@ use Rattle.std.proofs.lemmas.List.Sorted.{Contains-permutation, searchable_from_
 use Rattle.cj_spans.specs.declared.node.Node.{Node}
 use Rattle.cj_spans.specs.Tree.{Tree}
 use Rattle.cj_spans.specs.Parts.{text_of}
-use Rattle.cj_feature.specs.declared.feature.questions.Noted.{Noted}
+use Rattle.cj_feature.specs.declared.feature.search.noted.Noted.{Noted}
 use Rattle.cj_feature.specs.Links.{same_text}
 use Rattle.cj_feature.specs.Questions.{Side, compare_sides, side_of, side_in}
 use Rattle.cj_feature.specs.Unmarked.{AreInNameOrder, IsNoted}

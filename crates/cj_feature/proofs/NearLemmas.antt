@@ -17,7 +17,7 @@ use Rattle.cj_spans.specs.Preorder.{Span, spans_of}
 use Rattle.cj_spans.specs.Tree.{Tree}
 use Rattle.cj_spans.specs.Parts.{members_of, member_of, text_of}
 use Rattle.cj_spans.specs.View.{tree, line_of, source_of, tokens_in, tree_at, document_line, document_source}
-use Rattle.cj_feature.specs.declared.feature.near.Near.{Near}
+use Rattle.cj_feature.specs.declared.feature.search.near.Near.{Near}
 use Rattle.cj_feature.specs.Links.{listed_in}
 use Rattle.cj_feature.specs.Relations.{IsIn, Children}
 use Rattle.cj_feature.specs.Reached.{itself, child, IsReached, IsReachedObject}

@@ -21,7 +21,7 @@ use Rattle.cj_spans.specs.Tree.{Tree, scalar, array, object}
 use Rattle.cj_spans.specs.Order.{compare_texts}
 use Rattle.cj_spans.specs.Parts.{kind_of, members_of, text_of, are_same_texts}
 use Rattle.cj_spans.specs.View.{tree}
-use Rattle.cj_feature.specs.declared.feature.questions.Question.{Question}
+use Rattle.cj_feature.specs.declared.feature.search.questions.order.Question.{Question}
 use Rattle.cj_feature.specs.Links.{same_text, is_known, lists}
 use Rattle.cj_feature.specs.Tag.{tag_of}
 use Rattle.cj_feature.proofs.LinkFaults.{from-texts}

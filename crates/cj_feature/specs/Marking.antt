@@ -12,7 +12,7 @@ use Rattle.cj_spans.specs.Sound.{AreOf}
 use Rattle.cj_spans.specs.Tree.{Tree}
 use Rattle.cj_spans.specs.Parts.{members_of, member_of}
 use Rattle.cj_spans.specs.View.{tree, line_of, source_of, tokens_in, tree_at}
-use Rattle.cj_feature.specs.declared.feature.near.Near.{Near}
+use Rattle.cj_feature.specs.declared.feature.search.near.Near.{Near}
 use Rattle.cj_feature.specs.Links.{same_text, listed_in}
 use Rattle.cj_feature.specs.Reached.{IsReached, IsReachedObject}
 

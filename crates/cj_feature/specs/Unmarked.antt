@@ -7,7 +7,7 @@ use Rattle.cj_spans.specs.declared.node.Node.{Node}
 use Rattle.cj_spans.specs.Parts.{members_of, text_of}
 use Rattle.cj_spans.specs.Tree.{Tree}
 use Rattle.cj_spans.specs.View.{tree}
-use Rattle.cj_feature.specs.declared.feature.questions.Noted.{Noted}
+use Rattle.cj_feature.specs.declared.feature.search.noted.Noted.{Noted}
 use Rattle.cj_feature.specs.Links.{same_text, listed_in}
 use Rattle.cj_feature.specs.Marking.{IsMarkedBy}
 use Rattle.cj_feature.specs.Questions.{compare_sides, side_of, side_in}
