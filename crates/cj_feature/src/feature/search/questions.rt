@@ -33,7 +33,7 @@ use crate::feature::search::tagged::Text;
 use cj_spans::{Kind, Members, Node};
 pub use gathering::Ahead;
 use gathering::{gather, hand_of, note_ahead};
-use order::{Pair, Question, first_on, sort};
+use order::{Pair, Question, first_on};
 use runs::{NO_RUN, Run, find_noted, find_unmarked, keep_run, run_at, run_on};
 use wanted::{is_wanted, mark_wanted};
 
@@ -199,7 +199,6 @@ impl<const ROOM: usize, const KEPT: usize> Questions<ROOM, KEPT> {
             ahead,
         );
         self.count = gather(objects, &mut self.questions[..count]);
-        sort(objects, &mut self.questions[..self.count]);
         clear(&mut self.known);
         clear(&mut self.listed);
         mark_wanted::<KEPT>(objects, &self.questions[..self.count], &mut self.wanted);

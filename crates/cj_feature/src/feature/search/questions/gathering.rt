@@ -2,7 +2,8 @@
 //! removed, and if most were repeated, more are noted.
 //!
 //! This is only a guess from the lists that follow, and no answer depends on the guess.
-ghost use Rattle.std.specs.Prelude.{◌≡◌, ◌≤◌, length};
+ghost use Rattle.std.specs.Prelude.{◌≡◌, ◌≤◌, length, take};
+ghost use Rattle.cj_feature.specs.Questions.{AreInOrder};
 
 use crate::feature::search::noted::Noted;
 use crate::feature::search::questions::order::{Question, compare, sort};
@@ -27,6 +28,7 @@ fn are_same(objects: Node, first: Question, second: Question) -> bool {
 fn take_out_repeated(objects: Node, questions: &mut [Question]) -> usize
     ensures few { result ≤ length questions.new }
     ensures length { length questions.new ≡ length questions.old }
+    ensures order { AreInOrder objects.entry questions.old → AreInOrder objects.entry (take result questions.new) }
 {
     let mut kept = 0;
     for i in 0..questions.len() {
@@ -42,6 +44,7 @@ fn take_out_repeated(objects: Node, questions: &mut [Question]) -> usize
 pub fn gather(objects: Node, questions: &mut [Question]) -> usize
     ensures few { result ≤ length questions.new }
     ensures length { length questions.new ≡ length questions.old }
+    ensures order { AreInOrder objects.entry (take result questions.new) }
 {
     sort(objects, questions);
     take_out_repeated(objects, questions)
@@ -65,11 +68,15 @@ fn make_room(objects: Node, questions: &mut [Question], count: usize) -> usize
     }
 }
 
+/// One of two bytes is multiplied by this prime before they are added. So the 3,844 pairs of letters
+/// and digits have 3,254 different sums.
+const WEIGHT: u64 = 61;
+
 /// Returns where a text is kept, from its tag and the bytes in its middle. So even most texts that
 /// were chosen to have one tag have different places. Another spelling of a text has another place.
 pub fn hand_of<const KEPT: usize>(node: Node, tag: u32) -> usize {
     let bytes = node.bytes();
-    let middle = bytes[bytes.len() / 2] as u64 + 61 * bytes[(bytes.len() - 1) / 2] as u64;
+    let middle = bytes[bytes.len() / 2] as u64 + WEIGHT * bytes[(bytes.len() - 1) / 2] as u64;
     place_among::<KEPT>(tag as u64 + middle)
 }
 

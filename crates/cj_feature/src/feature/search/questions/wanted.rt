@@ -2,6 +2,9 @@
 use crate::feature::search::questions::order::Question;
 use cj_spans::Node;
 
+/// The number of bits at one place.
+const BITS: u64 = 32;
+
 /// Returns the place for a number, less than `PLACES`, or 0 if there is no place.
 pub fn place_among<const PLACES: usize>(number: u64) -> usize {
     if PLACES == 0 {
@@ -16,7 +19,7 @@ fn bit_among<const PLACES: usize>(number: u64) -> u32 {
     if PLACES == 0 {
         0
     } else {
-        1u32 << (number / PLACES as u64 % 32)
+        1u32 << (number / PLACES as u64 % BITS)
     }
 }
 
