@@ -4,13 +4,17 @@ use Rattle.std.specs.Prelude.{codes}
 use Rattle.std.specs.List.{flat_map, list_any}
 use Rattle.std.specs.Str.{chars}
 use Rattle.cj_spans.specs.declared.finding.Finding.{Finding}
-use Rattle.cj_spans.specs.declared.reason.Reason.TheVariants.{ChildNotFound, NoParent}
+use Rattle.cj_spans.specs.declared.reason.Reason.{Reason}
+use Rattle.cj_spans.specs.declared.reason.Reason.TheVariants.{ChildNotFound, LinkNotMutual, NoParent}
 use Rattle.cj_spans.specs.Finding.{least}
 use Rattle.cj_spans.specs.Kinds.{is_text, is_array}
 use Rattle.cj_spans.specs.Tree.{Tree}
 use Rattle.cj_spans.specs.Parts.{kind_of, member_of}
 use Rattle.cj_spans.proofs.Findings.{least-append, least-swap}
 use Rattle.cj_geometry.specs.Rule.{one}
+use Rattle.cj_feature.specs.declared.feature.search.link.Link.{Link}
+use Rattle.cj_feature.specs.declared.feature.search.link.Link.TheVariants.{Child, Parent}
+use Rattle.cj_feature.specs.Kin.{back_of, linked}
 use Rattle.cj_feature.specs.Members.{items_if}
 use Rattle.cj_feature.specs.Links.{same_text, listed_in, is_part, is_known, has_item, lists, answered, child, children, parents, part_of, part, object_links}
 
@@ -30,9 +34,37 @@ listed_child_at true true true t g h = refl
 listed_child_at true false c t g h = cc
 listed_child_at true true false t g h = cc
 
-pub listed_child : (objects : List (Tree × Tree)) (name item : Tree) (o : Option Finding) → lists (chars (codes "parents")) objects item name ≡ true → o ≡ least o (child objects name item)
+listed_child : (objects : List (Tree × Tree)) (name item : Tree) (o : Option Finding) → lists (chars (codes "parents")) objects item name ≡ true → o ≡ least o (child objects name item)
 listed_child objects name item o h =
     ap (least o) (sym (listed_child_at (is_text (kind_of item)) (is_known objects item) (lists (chars (codes "parents")) objects item name) item (lists_known (chars (codes "parents")) objects item name h) h))
+
+listed_parent_at : (b c : Bool) (t : Tree) → c ≡ true → cond b (answered c t) [] ≡ []
+listed_parent_at false c t h = refl
+listed_parent_at true true t h = refl
+listed_parent_at true false t h = absurd (cc h)
+
+-- what is listed back has no finding
+pub listed_linked : (k : Link) (objects : List (Tree × Tree)) (name item : Tree) (o : Option Finding) → lists (back_of k) objects item name ≡ true → o ≡ least o (linked k objects name item)
+listed_linked Child objects name item o h = listed_child objects name item o h
+listed_linked Parent objects name item o h =
+    ap (least o) (sym (listed_parent_at (is_known objects item) (lists (chars (codes "children")) objects item name) item h))
+
+-- and what comes behind a finding has none that counts
+pub told_linked : (k : Link) (objects : List (Tree × Tree)) (name item : Tree) (o : Option Finding) → ((r : Reason) → least o (one r item) ≡ o) → o ≡ least o (linked k objects name item)
+told_linked Child objects name item o told =
+    go (is_text (kind_of item)) (is_known objects item) (lists (chars (codes "parents")) objects item name)
+  where
+    go : (a b c : Bool) → o ≡ least o (cond a (cond b (answered c item) (one ChildNotFound item)) [])
+    go false b c = refl
+    go true false c = sym (told ChildNotFound)
+    go true true true = refl
+    go true true false = sym (told LinkNotMutual)
+told_linked Parent objects name item o told = go (is_known objects item) (lists (chars (codes "children")) objects item name)
+  where
+    go : (b c : Bool) → o ≡ least o (cond b (answered c item) [])
+    go false c = refl
+    go true true = refl
+    go true false = sym (told LinkNotMutual)
 
 -- ---- a part with a parent that is in the feature
 

@@ -2,6 +2,7 @@ pub mod Examples
 pub mod Feature
 pub mod Header
 pub mod HeaderView
+pub mod Kin
 pub mod Links
 pub mod Marking
 pub mod Members

@@ -11,6 +11,7 @@
 //! looked up (`tagged.rt`). docs/ARCHITECTURE.md compares the searches, and docs/DECISIONS.md has
 //! the sizes of their tables.
 
+mod link;
 pub mod many_links;
 mod near;
 mod noted;

@@ -7,12 +7,13 @@ ghost use Rattle.std.specs.Str.{chars};
 ghost use Rattle.cj_spans.specs.Finding.{least};
 ghost use Rattle.cj_spans.specs.Parts.{items_of, members_of};
 ghost use Rattle.cj_spans.specs.View.{tree, source_of, tree_in};
-ghost use Rattle.cj_feature.specs.Links.{is_known as is_known_in, listed_in, child, parent, children, parents, part};
-ghost use Rattle.cj_feature.specs.Links.{object_links};
+ghost use Rattle.cj_feature.specs.Kin.{list_of, back_of, linked, all_linked};
+ghost use Rattle.cj_feature.specs.Links.{is_known as is_known_in, listed_in, children, parents, part, object_links};
 ghost use Rattle.cj_feature.specs.Questions.{noted_in, AreAnswered};
 
 use crate::feature::ids::is_known;
-use crate::feature::links::{self, SHORT, has_as_many, is_group};
+use crate::feature::links::{SHORT, has_as_many, parents_of_part};
+use crate::feature::search::link::Link;
 use crate::feature::search::noted::Noted;
 use crate::feature::search::questions::{Ahead, Answer, Questions};
 use crate::feature::search::tagged::tag_of;
@@ -39,59 +40,86 @@ const MANY_QUESTIONS: usize = 27_000;
 /// The number of first texts that are kept then.
 const MANY_KEPT: usize = 1_024;
 
-/// A child is in the feature, and lists the current city object as a parent.
-fn check_child<'a, const ROOM: usize, const KEPT: usize>(
+/// A city object, by the number of its name in the line, and those after it.
+#[derive(Clone, Copy)]
+struct Current<'a> {
+    number: u32,
+    object: Node<'a>,
+    later: Members<'a>,
+}
+
+/// Checks an item of the list of the current city object. Returns whether it is known to be an id in
+/// the feature.
+fn check_item<'a, const ROOM: usize, const KEPT: usize>(
     objects: Node<'a>,
     item: Node<'a>,
     ahead: Ahead<'a>,
     questions: &mut Questions<ROOM, KEPT>,
     found: &mut Least,
-)
-    requires { AreAnswered (chars (codes "parents")) objects [] questions.old }
+) -> bool
+    requires { AreAnswered (back_of ahead.link) objects [] questions.old }
     ensures found { found.new
-        ≡ least found.old (child (members_of (tree objects.entry)) (noted_in objects.entry ahead.entry.name)
-        (tree item.entry)) }
-    ensures answered { AreAnswered (chars (codes "parents")) objects.entry [] questions.new }
+        ≡ least found.old (linked ahead.entry.link (members_of (tree objects.entry))
+        (noted_in objects.entry ahead.entry.name) (tree item.entry)) }
+    ensures known { result ≡ true → is_known_in (members_of (tree objects.entry)) (tree item.entry) ≡ true }
+    ensures answered { AreAnswered (back_of ahead.entry.link) objects.entry [] questions.new }
 {
     if is_told_before(*found, item) {
-        return;
+        return false;
     }
-    match questions.answer("parents", "children", objects, item, ahead) {
-        Answer::Listed => {}
-        _ => links::check_child(objects, ahead.name.node(objects), item, found),
+    let Ahead { link, name, .. } = ahead;
+    match questions.answer(objects, item, ahead) {
+        Answer::Listed => return true,
+        Answer::Absent => link.check_absent(objects, name.node(objects), item, found),
+        Answer::Untold => link.check(objects, name.node(objects), item, found),
     }
+    false
 }
 
-/// The children of a city object, unless it is a group. The number is that of its name in the line.
-fn check_children<'a, const ROOM: usize, const KEPT: usize>(
+/// Checks the children or the parents of a city object. Returns whether one of them is known to be
+/// an id in the feature.
+fn check_list<'a, const ROOM: usize, const KEPT: usize>(
+    link: Link,
     objects: Node<'a>,
-    number: u32,
-    object: Node<'a>,
-    later: Members<'a>,
+    current: Current<'a>,
     questions: &mut Questions<ROOM, KEPT>,
     found: &mut Least,
-)
-    requires { AreAnswered (chars (codes "parents")) objects [] questions.old }
+) -> bool
+    requires { AreAnswered (back_of link) objects [] questions.old }
     ensures found { found.new
-        ≡ least found.old (children (members_of (tree objects.entry))
-        (tree_in (source_of objects.entry) number, tree object.entry)) }
-    ensures answered { AreAnswered (chars (codes "parents")) objects.entry [] questions.new }
+        ≡ least found.old (all_linked link (members_of (tree objects.entry))
+        (tree_in (source_of objects.entry) current.entry.number, tree current.entry.object)) }
+    ensures known { result ≡ true → list_any (is_known_in (members_of (tree objects.entry)))
+        (listed_in (list_of link) (tree current.entry.object)) ≡ true }
+    ensures answered { AreAnswered (back_of link) objects.entry [] questions.new }
 {
-    let Some(value) = object.get("children") else {
-        return;
-    };
-    if is_group(object) {
-        return;
-    }
-    let name = Noted {
-        tag: tag_of(objects.at(number)),
+    let Current {
         number,
+        object,
+        later,
+    } = current;
+    let Some(value) = object.get(link.list()) else {
+        return false;
     };
+    if link.is_exempt(object) {
+        return false;
+    }
+    let tag = tag_of(objects.at(number));
+    let name = Noted { tag, number };
+    let mut known = false;
     let mut items = value.items();
     while let Some(item) = items.next() {
-        let ahead = Ahead { name, items, later };
-        check_child(objects, item, ahead, questions, found);
+        let ahead = Ahead {
+            link,
+            name,
+            items,
+            later,
+        };
+        if check_item(objects, item, ahead, questions, found) {
+            known = true;
+        }
     }
+    known
 }
 
 /// The children of all city objects.
@@ -105,73 +133,13 @@ fn check_all_children<'a, const ROOM: usize, const KEPT: usize>(
 {
     let mut later = objects.members();
     while let Some((name, object)) = later.next() {
-        check_children(objects, name.number(), object, later, questions, found);
+        let current = Current {
+            number: name.number(),
+            object,
+            later,
+        };
+        check_list(Link::Child, objects, current, questions, found);
     }
-}
-
-/// A parent that is in the feature lists the current city object as a child. Returns whether the
-/// parent is known to be an id in the feature.
-fn check_parent<'a, const ROOM: usize, const KEPT: usize>(
-    objects: Node<'a>,
-    item: Node<'a>,
-    ahead: Ahead<'a>,
-    questions: &mut Questions<ROOM, KEPT>,
-    found: &mut Least,
-) -> bool
-    requires { AreAnswered (chars (codes "children")) objects [] questions.old }
-    ensures found { found.new
-        ≡ least found.old (parent (members_of (tree objects.entry)) (noted_in objects.entry ahead.entry.name)
-        (tree item.entry)) }
-    ensures known { result ≡ true → is_known_in (members_of (tree objects.entry)) (tree item.entry) ≡ true }
-    ensures answered { AreAnswered (chars (codes "children")) objects.entry [] questions.new }
-{
-    if is_told_before(*found, item) {
-        return false;
-    }
-    match questions.answer("children", "parents", objects, item, ahead) {
-        Answer::Listed => true,
-        Answer::Absent => false,
-        Answer::Untold => {
-            links::check_parent(objects, ahead.name.node(objects), item, found);
-            false
-        }
-    }
-}
-
-/// The parents of a city object. The number is that of its name in the line. Returns whether one of
-/// the parents is known to be an id in the feature.
-fn check_parents<'a, const ROOM: usize, const KEPT: usize>(
-    objects: Node<'a>,
-    number: u32,
-    object: Node<'a>,
-    later: Members<'a>,
-    questions: &mut Questions<ROOM, KEPT>,
-    found: &mut Least,
-) -> bool
-    requires { AreAnswered (chars (codes "children")) objects [] questions.old }
-    ensures found { found.new
-        ≡ least found.old (parents (members_of (tree objects.entry))
-        (tree_in (source_of objects.entry) number, tree object.entry)) }
-    ensures known { result ≡ true → list_any (is_known_in (members_of (tree objects.entry)))
-        (listed_in (chars (codes "parents")) (tree object.entry)) ≡ true }
-    ensures answered { AreAnswered (chars (codes "children")) objects.entry [] questions.new }
-{
-    let Some(value) = object.get("parents") else {
-        return false;
-    };
-    let name = Noted {
-        tag: tag_of(objects.at(number)),
-        number,
-    };
-    let mut known = false;
-    let mut items = value.items();
-    while let Some(item) = items.next() {
-        let ahead = Ahead { name, items, later };
-        if check_parent(objects, item, ahead, questions, found) {
-            known = true;
-        }
-    }
-    known
 }
 
 /// Returns whether a parent of the current city object is an id in the feature.
@@ -181,11 +149,11 @@ fn is_known_parent<'a, const ROOM: usize, const KEPT: usize>(
     ahead: Ahead<'a>,
     questions: &mut Questions<ROOM, KEPT>,
 ) -> bool
-    requires { AreAnswered (chars (codes "children")) objects [] questions.old }
+    requires { AreAnswered (back_of ahead.link) objects [] questions.old }
     ensures known { result ≡ is_known_in (members_of (tree objects.entry)) (tree item.entry) }
-    ensures answered { AreAnswered (chars (codes "children")) objects.entry [] questions.new }
+    ensures answered { AreAnswered (back_of ahead.entry.link) objects.entry [] questions.new }
 {
-    match questions.answer("children", "parents", objects, item, ahead) {
+    match questions.answer(objects, item, ahead) {
         Answer::Listed => true,
         Answer::Absent => false,
         Answer::Untold => is_known(objects, item),
@@ -206,7 +174,12 @@ fn has_known_item<'a, const ROOM: usize, const KEPT: usize>(
 {
     let mut items = array.items();
     while let Some(item) = items.next() {
-        let ahead = Ahead { name, items, later };
+        let ahead = Ahead {
+            link: Link::Parent,
+            name,
+            items,
+            later,
+        };
         if is_known_parent(objects, item, ahead, questions) {
             return true;
         }
@@ -214,32 +187,32 @@ fn has_known_item<'a, const ROOM: usize, const KEPT: usize>(
     false
 }
 
-/// At least one parent of a city object of the second level is in the feature. The number is that
-/// of its name in the line.
+/// At least one parent of a city object of the second level is in the feature.
 fn check_part<'a, const ROOM: usize, const KEPT: usize>(
     objects: Node<'a>,
-    number: u32,
-    object: Node<'a>,
-    later: Members<'a>,
+    current: Current<'a>,
     questions: &mut Questions<ROOM, KEPT>,
     found: &mut Least,
 )
     requires { AreAnswered (chars (codes "children")) objects [] questions.old }
     ensures found { found.new
         ≡ least found.old (part (members_of (tree objects.entry))
-        (tree_in (source_of objects.entry) number, tree object.entry)) }
+        (tree_in (source_of objects.entry) current.entry.number, tree current.entry.object)) }
     ensures answered { AreAnswered (chars (codes "children")) objects.entry [] questions.new }
 {
+    let Current {
+        number,
+        object,
+        later,
+    } = current;
     if is_told_before(*found, object) {
         return;
     }
-    let Some(value) = links::parents_of_part(object) else {
+    let Some(value) = parents_of_part(object) else {
         return;
     };
-    let name = Noted {
-        tag: tag_of(objects.at(number)),
-        number,
-    };
+    let tag = tag_of(objects.at(number));
+    let name = Noted { tag, number };
     if !has_known_item(objects, name, value, later, questions) {
         add(object, Reason::NoParent, found);
     }
@@ -257,9 +230,13 @@ fn check_all_parents<'a, const ROOM: usize, const KEPT: usize>(
 {
     let mut later = objects.members();
     while let Some((name, object)) = later.next() {
-        let number = name.number();
-        if !check_parents(objects, number, object, later, questions, found) {
-            check_part(objects, number, object, later, questions, found);
+        let current = Current {
+            number: name.number(),
+            object,
+            later,
+        };
+        if !check_list(Link::Parent, objects, current, questions, found) {
+            check_part(objects, current, questions, found);
         }
     }
 }

@@ -21,6 +21,7 @@ ghost use Rattle.cj_spans.specs.Tree.{Tree};
 ghost use Rattle.cj_spans.specs.Parts.{members_of};
 ghost use Rattle.cj_spans.specs.View.{tree, trees, members_left};
 ghost use Rattle.cj_feature.specs.Links.{same_text, listed_in, has_item as has_item_of, lists as lists_of};
+ghost use Rattle.cj_feature.specs.Kin.{back_of};
 ghost use Rattle.cj_feature.specs.Questions.{noted_in, AreAnswered, IsAnswer};
 
 mod gathering;
@@ -187,17 +188,10 @@ impl<const ROOM: usize, const KEPT: usize> Questions<ROOM, KEPT> {
     }
 
     /// Notes a question and the next ones, and answers them.
-    fn ask(&mut self, list: &str, asked: &str, objects: Node, item: Node, ahead: Ahead)
+    fn ask(&mut self, list: &str, objects: Node, item: Node, ahead: Ahead)
         ensures { AreAnswered (chars list.now) objects.entry [] self.new }
     {
-        let count = note_ahead::<KEPT>(
-            objects,
-            &mut self.questions,
-            &mut self.kept,
-            asked,
-            item,
-            ahead,
-        );
+        let count = note_ahead::<KEPT>(objects, &mut self.questions, &mut self.kept, item, ahead);
         self.count = gather(objects, &mut self.questions[..count]);
         clear(&mut self.known);
         clear(&mut self.listed);
@@ -241,29 +235,22 @@ impl<const ROOM: usize, const KEPT: usize> Questions<ROOM, KEPT> {
         }
     }
 
-    /// Returns whether a city object that an item names lists the current one, in its list of the
-    /// name `list`. If the question is not noted, it is noted and answered. The next ones come from
-    /// lists of the name `asked`.
-    pub fn answer(
-        &mut self,
-        list: &str,
-        asked: &str,
-        objects: Node,
-        item: Node,
-        ahead: Ahead,
-    ) -> Answer
-        requires { AreAnswered (chars list.now) objects [] self.old }
-        ensures answer { IsAnswer (chars list.now) objects.entry (tree item.entry)
+    /// Returns whether a city object that an item names lists the current one. If the question is
+    /// not noted, it is noted with the next ones and answered.
+    pub fn answer(&mut self, objects: Node, item: Node, ahead: Ahead) -> Answer
+        requires { AreAnswered (back_of ahead.link) objects [] self.old }
+        ensures answer { IsAnswer (back_of ahead.entry.link) objects.entry (tree item.entry)
             (noted_in objects.entry ahead.entry.name) result }
-        ensures answered { AreAnswered (chars list.now) objects.entry [] self.new }
+        ensures answered { AreAnswered (back_of ahead.entry.link) objects.entry [] self.new }
     {
+        let list = ahead.link.back();
         match item.kind() {
             Kind::Text => {
                 let from = Text::of(item);
                 if let Some(answer) = self.found(list, objects, from, ahead.name) {
                     return answer;
                 }
-                self.ask(list, asked, objects, item, ahead);
+                self.ask(list, objects, item, ahead);
                 match self.found(list, objects, from, ahead.name) {
                     Some(answer) => answer,
                     None => Answer::Untold,

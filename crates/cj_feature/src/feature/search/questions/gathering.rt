@@ -5,6 +5,7 @@
 ghost use Rattle.std.specs.Prelude.{◌≡◌, ◌≤◌, length, take};
 ghost use Rattle.cj_feature.specs.Questions.{AreInOrder};
 
+use crate::feature::search::link::Link;
 use crate::feature::search::noted::Noted;
 use crate::feature::search::questions::order::{Question, compare, sort};
 use crate::feature::search::questions::wanted::place_among;
@@ -14,6 +15,7 @@ use cj_spans::{Items, Members, Node};
 /// The lists of later city objects follow.
 #[derive(Clone, Copy)]
 pub struct Ahead<'a> {
+    pub link: Link,
     pub name: Noted,
     pub items: Items<'a>,
     pub later: Members<'a>,
@@ -136,18 +138,17 @@ fn note_items<const KEPT: usize>(
     next
 }
 
-/// Notes a question and the next ones, by lists of this name, until the array is full. Returns how
-/// many there are then.
+/// Notes a question and the next ones, until the array is full. Returns how many there are then.
 pub fn note_ahead<const KEPT: usize>(
     objects: Node,
     questions: &mut [Question],
     kept: &mut [Noted],
-    asked: &str,
     item: Node,
     ahead: Ahead,
 ) -> usize
     ensures { result ≤ length questions.new }
 {
+    let asked = ahead.link.list();
     let (from, to) = (Noted::of(item), ahead.name);
     let first = note(questions, 0, Question { from, to });
     let mut count = note_items::<KEPT>(objects, questions, first, kept, ahead.items, to);
