@@ -16,17 +16,17 @@ ghost use Rattle.cj_spans.specs.Tree.{Tree};
 ghost use Rattle.cj_spans.specs.View.{tree, line_of, source_of, tokens_in, document, document_line, document_source};
 ghost use Rattle.cj_feature.specs.Feature.{unreached, reach_rule, reach_if};
 ghost use Rattle.cj_feature.specs.Links.{listed_in};
-ghost use Rattle.cj_feature.specs.Marking.{IsUnmarked, AllMarked, HaveMarks, ItemsHaveMarks, ListMarks};
+ghost use Rattle.cj_feature.specs.Marking.{IsUnmarked, AllMarked, HaveMarks, ListMarks};
 ghost use Rattle.cj_feature.specs.Marking.{IsListedUnmarked, IsNext, IsToMark, MarksFit, IsBeside, AllReached};
 ghost use Rattle.cj_feature.specs.Marking.{OnlyMarks};
 ghost use Rattle.cj_feature.specs.Reached.{AreMarks, IsReachedObject};
-ghost use Rattle.cj_feature.specs.Unmarked.{AreInNameOrder, NotedHaveMarks, ListNotedMarks};
+ghost use Rattle.cj_feature.specs.Unmarked.{AreSearchable, SoughtHaveMarks, ListSoughtMarks};
 
 use crate::feature::ids::is_known;
 use crate::feature::links::{SHORT, has_many};
 use crate::feature::search::near::Near;
 use crate::feature::search::noted::{NOTHING, Noted};
-use crate::feature::search::unmarked::{gather_next, has};
+use crate::feature::search::unmarked::{Names, gather_next};
 use cj_budget::Bounded;
 use cj_geometry::rule::add;
 use cj_spans::{Doc, Least, Node, Reason, Token, set_mark};
@@ -116,24 +116,6 @@ fn find_unmarked(objects: Node, id: Node) -> Option<u32>
     None
 }
 
-/// Returns the number of the first city object without a mark that this one lists as a child.
-fn find_child(objects: Node, object: Node) -> Option<u32>
-    ensures found { IfSome result
-        (IsListedUnmarked objects.entry (listed_in (chars (codes "children")) (tree object.entry))) }
-    ensures none { IfNone result
-        (ItemsHaveMarks objects.entry (listed_in (chars (codes "children")) (tree object.entry))) }
-{
-    let Some(value) = object.get("children") else {
-        return None;
-    };
-    for item in value.items() {
-        if let Some(number) = find_unmarked(objects, item) {
-            return Some(number);
-        }
-    }
-    None
-}
-
 /// Returns whether all city objects have marks.
 fn are_marked(objects: Node) -> bool
     ensures { result ≡ true → AllMarked objects.entry (members_of (tree objects.entry)) }
@@ -148,18 +130,18 @@ fn are_marked(objects: Node) -> bool
 
 /// Returns the number of the first city object without a mark that this one lists as a child by one
 /// of these names.
-fn find_noted_child(objects: Node, object: Node, names: &[Noted]) -> Option<u32>
-    requires { AreInNameOrder objects names.now }
+fn find_child(objects: Node, object: Node, names: Names) -> Option<u32>
+    requires { AreSearchable objects names }
     ensures found { IfSome result
         (IsListedUnmarked objects.entry (listed_in (chars (codes "children")) (tree object.entry))) }
     ensures none { IfNone result
-        (NotedHaveMarks objects.entry names.now (listed_in (chars (codes "children")) (tree object.entry))) }
+        (SoughtHaveMarks objects.entry names.entry (listed_in (chars (codes "children")) (tree object.entry))) }
 {
     let Some(value) = object.get("children") else {
         return None;
     };
     for item in value.items() {
-        if has(objects, names, item) {
+        if names.has(objects, item) {
             if let Some(number) = find_unmarked(objects, item) {
                 return Some(number);
             }
@@ -170,14 +152,14 @@ fn find_noted_child(objects: Node, object: Node, names: &[Noted]) -> Option<u32>
 
 /// Returns the number of the first city object without a mark that one with a mark lists as a
 /// child. The child has one of these names.
-fn find_noted(objects: Node, names: &[Noted]) -> Option<u32>
-    requires { AreInNameOrder objects names.now }
+fn find_among(objects: Node, names: Names) -> Option<u32>
+    requires { AreSearchable objects names }
     ensures found { IfSome result (IsNext objects.entry) }
-    ensures none { IfNone result (ListNotedMarks objects.entry names.now (members_of (tree objects.entry))) }
+    ensures none { IfNone result (ListSoughtMarks objects.entry names.entry (members_of (tree objects.entry))) }
 {
     for (_, object) in objects.members() {
         if object.marked() {
-            if let Some(number) = find_noted_child(objects, object, names) {
+            if let Some(number) = find_child(objects, object, names) {
                 return Some(number);
             }
         }
@@ -185,8 +167,8 @@ fn find_noted(objects: Node, names: &[Noted]) -> Option<u32>
     None
 }
 
-/// Does the same as `find_listed_of_few`. It looks up the names of city objects without marks, as
-/// many at once as `names` can hold.
+/// Does the same as `find_listed`. It looks up the names of city objects without marks, as many at
+/// once as `names` can hold.
 fn find_by_names(objects: Node, names: &mut [Noted]) -> Option<u32>
     requires { 0 < length names.old }
     ensures found { IfSome result (IsNext objects.entry) }
@@ -198,7 +180,7 @@ fn find_by_names(objects: Node, names: &mut [Noted]) -> Option<u32>
         if count == 0 {
             return None;
         }
-        if let Some(number) = find_noted(objects, &names[..count]) {
+        if let Some(number) = find_among(objects, Names::These(&names[..count])) {
             return Some(number);
         }
     }
@@ -217,7 +199,7 @@ fn find_by<const NAMES: usize>(objects: Node) -> Option<u32>
 }
 
 /// Returns the number of the first city object without a mark that one with a mark lists as a
-/// child.
+/// child. If there are few, it searches for each child among all.
 fn find_listed(objects: Node) -> Option<u32>
     ensures found { IfSome result (IsNext objects.entry) }
     ensures none { IfNone result (ListMarks objects.entry (members_of (tree objects.entry))) }
@@ -226,26 +208,11 @@ fn find_listed(objects: Node) -> Option<u32>
         return None;
     }
     match size_of(objects) {
-        Size::Few => find_listed_of_few(objects),
+        Size::Few => find_among(objects, Names::Every),
         Size::Small => find_by::<SOME_OBJECTS>(objects),
         Size::Middle => find_by::<MORE_NAMES>(objects),
         Size::Large => find_by::<MANY_NAMES>(objects),
     }
-}
-
-/// The same, where each child is searched for among all.
-fn find_listed_of_few(objects: Node) -> Option<u32>
-    ensures found { IfSome result (IsNext objects.entry) }
-    ensures none { IfNone result (ListMarks objects.entry (members_of (tree objects.entry))) }
-{
-    for (_, object) in objects.members() {
-        if object.marked() {
-            if let Some(number) = find_child(objects, object) {
-                return Some(number);
-            }
-        }
-    }
-    None
 }
 
 /// Returns the number of a city object without a mark that is reached, if all with marks are.

@@ -3,11 +3,18 @@
 ghost use Rattle.std.specs.Prelude.{◌≡◌, ◌<◌, ◌≤◌, ◌+◌, [], false, length, slice_set, take};
 ghost use Rattle.std.specs.List.Sorted.{IsPermutation};
 ghost use Rattle.cj_spans.specs.View.{tree, line_of, source_of, members_left, members_line, members_source};
-ghost use Rattle.cj_feature.specs.Unmarked.{AreInNameOrder, IsNoted, ArePassed};
+ghost use Rattle.cj_feature.specs.Unmarked.{AreInNameOrder, IsNoted, ArePassed, AreSearchable, IsSought};
 
 use crate::feature::search::noted::Noted;
 use crate::feature::search::tagged::Text;
 use cj_spans::{Members, Node};
+
+/// The names that are looked for: those of all city objects, or these, which are sorted.
+#[derive(Clone, Copy)]
+pub enum Names<'a> {
+    Every,
+    These(&'a [Noted]),
+}
 
 /// Notes a name.
 fn note(names: &mut [Noted], place: usize, name: Noted)
@@ -70,7 +77,7 @@ pub fn gather_next<'a>(objects: Node<'a>, names: &mut [Noted], later: &mut Membe
 }
 
 /// Returns whether a text is one of the names.
-pub fn has(objects: Node, names: &[Noted], text: Node) -> bool
+fn has(objects: Node, names: &[Noted], text: Node) -> bool
     requires { AreInNameOrder objects names.now }
     ensures { result ≡ false → IsNoted objects.entry names.now (tree text.entry) → ⊥ }
 {
@@ -78,4 +85,17 @@ pub fn has(objects: Node, names: &[Noted], text: Node) -> bool
     names
         .binary_search_by(|name| name.compare_with(text, objects))
         .is_ok()
+}
+
+impl<'a> Names<'a> {
+    /// Returns whether a name of this text is looked for.
+    pub fn has(self, objects: Node, text: Node) -> bool
+        requires { AreSearchable objects self }
+        ensures { result ≡ false → IsSought objects.entry self.entry (tree text.entry) → ⊥ }
+    {
+        match self {
+            Names::Every => true,
+            Names::These(names) => has(objects, names, text),
+        }
+    }
 }

@@ -1,5 +1,5 @@
-use Rattle.std.proofs.Common.{◌≡◌, ℕ, List, Option, Some, None, ◌∙◌, sym, ap, subst, option_map}
-use Rattle.std.specs.Prelude.{codes, IfNone}
+use Rattle.std.proofs.Common.{◌≡◌, ℕ, List, Some, ◌∙◌, sym, ap, subst, option_map}
+use Rattle.std.specs.Prelude.{codes}
 use Rattle.std.specs.Str.{chars}
 use Rattle.std.proofs.lemmas.Option.{IfSome_then}
 use Rattle.cj_spans.specs.declared.node.Source.{Source}
@@ -10,15 +10,12 @@ use Rattle.cj_spans.specs.View.{tree, tokens_in}
 use Rattle.cj_feature.specs.Marking.{IsToMark}
 use Rattle.cj_feature.specs.Reached.{IsReachedObject}
 use Rattle.cj_feature.proofs.Fitting.{first-to-mark, next-to-mark, all-are-marked}
+use Rattle.cj_feature.proofs.Walking.{if-none}
 use Rattle.cj_feature.proofs.feature.search.reached.find_next.Goals as goal
 
 -- what is so of a root is so of its document
 of-document : (P : Tree → List ℕ → Source → Type 0) (t u : Tree) (l m : List ℕ) (r s : Source) → t ≡ u → l ≡ m → r ≡ s → P t l r → P u m s
 of-document P t u l m r s e f g h = subst (P u m) g (subst (λ k. P u k r) f (subst (λ v. P v l r) e h))
-
-if-none : {P Q : Type 0} (o : Option ℕ) → (P → Q) → IfNone o P → IfNone o Q
-if-none None f h = f h
-if-none (Some n) f h = tt
 
 pub returns-in-Some-clause-found : goal.returns-in-Some-clause-found
 returns-in-Some-clause-found c =
