@@ -12,6 +12,7 @@ pub mod Questions
 pub mod Relations
 pub mod Reached
 pub mod Shown
+pub mod Slots
 pub mod Typed
 pub mod Unmarked
 pub mod View

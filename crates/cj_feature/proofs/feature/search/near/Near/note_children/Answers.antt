@@ -12,8 +12,8 @@ loop-item-preserved g c =
     let item = tree c.in-Some-item.item in
     record {
       among = λ t h. inv.among t (subst (λ ts. Contains ts t) (sym e) (there item _ t h));
-      hand = more-hand c.args.self.now c.loop-item.self c.note.new.self inv.hand c.note.ensures.hand;
-      known = known-kept c.args.objects c.loop-item.self c.note.new.self c.note.ensures.hand inv.known;
+      hand = more-hand c.args.self.now.lists c.loop-item.self.lists c.note.new.self.lists inv.hand c.note.ensures.hand;
+      known = known-kept c.args.objects c.loop-item.self.lists c.note.new.self.lists c.note.ensures.hand inv.known;
       pending = λ f o r waits.
           c.note.ensures.pending f (lists-reached f (tree c.args.object) item c.args.objects o r (inv.among item (subst (λ ts. Contains ts item) (sym e) (here item _)))) (inv.pending f o r waits);
     }
@@ -25,8 +25,11 @@ loop-item-preserved-then-gone-skip g c =
     let item = tree c.in-Some-item.item in
     record { among = λ t h. inv.among t (subst (λ ts. Contains ts t) (sym e) (there item _ t h)); hand = inv.hand; known = inv.known; pending = inv.pending }
 
-pub returns-then-self-clause-pending : goal.returns-then-self-clause-pending
-returns-then-self-clause-pending g c = λ f o r waits.
+pub returns-then-is_full-clause-hand : goal.returns-then-is_full-clause-hand
+returns-then-is_full-clause-hand g c = more-hand c.args.self.now.lists c.loop-item.self.lists c.note.new.self.lists c.loop-item.invariant.hand c.note.ensures.hand
+
+pub returns-then-is_full-clause-pending : goal.returns-then-is_full-clause-pending
+returns-then-is_full-clause-pending g c = λ f o r waits.
     let inv = c.loop-item.invariant in
     let e = c.in-Some-item.ensures.steps.0 in
     let item = tree c.in-Some-item.item in

@@ -1,12 +1,9 @@
-use Rattle.std.proofs.Common.{◌≡◌}
 use Rattle.cj_feature.specs.Marking.{Knows}
 use Rattle.cj_feature.proofs.Walking.{Among}
-use Rattle.cj_feature.proofs.feature.search.near.Near.fill_lists.Given as goal
+use Rattle.cj_feature.proofs.feature.search.near.lists.Lists.fill_lists.Given as goal
 
 abbrev pub invariant-loop-name : goal.invariant-loop-name
 invariant-loop-name g l = record {
   walk : Among l.objects l.name-iterator;
   known : Knows l.objects l.self;
-  waiting : l.self.waiting ≡ l.fn.self.waiting;
-  pending : l.self.pending ≡ l.fn.self.pending;
 }

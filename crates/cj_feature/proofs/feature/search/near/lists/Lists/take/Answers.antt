@@ -1,4 +1,4 @@
-use Rattle.std.proofs.Common.{◌≡◌, ℕ, ◌-◌, ◌<◌, ◌∙◌, length, sym, subst, ap, arith}
+use Rattle.std.proofs.Common.{◌≡◌, ℕ, ◌-◌, ◌<◌, ◌∙◌, inl, inr, length, sym, subst, ap, arith}
 use Rattle.std.specs.List.{Contains}
 use Rattle.cj_spans.specs.Parts.{members_of}
 use Rattle.cj_spans.specs.View.{tree, line_of, source_of, tokens_in, tree_at}
@@ -6,10 +6,10 @@ use Rattle.cj_spans.proofs.Scanned.{length-spans_of}
 use Rattle.cj_feature.specs.Marking.{spans_by}
 use Rattle.cj_feature.proofs.NearLemmas.{each-set}
 use Rattle.cj_feature.proofs.Walking.{shown-beside}
-use Rattle.cj_feature.proofs.feature.search.near.Near.take.Goals as goal
+use Rattle.cj_feature.proofs.feature.search.near.lists.Lists.take.Goals as goal
 
-pub returns-then-place-clause-known : goal.returns-then-place-clause-known
-returns-then-place-clause-known g c =
+pub returns-then-place : goal.returns-then-place
+returns-then-place g c =
     let o = c.args.objects in
     let all = members_of (tree o) in
     let n = c.number-number.result in
@@ -25,4 +25,6 @@ returns-then-place-clause-known g c =
     let object_shown : tree_at line spans n ≡ tree c.args.object = shown-beside o c.args.object c.requires.object.0 c.requires.object.1 n (tree c.args.object) c.number-number.ensures.token in
     let held : Contains all (tree_at line spans (n - 1), tree_at line spans n) =
     subst (λ u. Contains all (tree_at line spans (n - 1), u)) (sym object_shown) (subst (λ u. Contains all (u, tree c.args.object)) (sym name_before) c.requires.held) in
-    each-set P c.args.self.now.objects _ n c.requires.known (omega arith, held)
+    let here : P n = (omega arith, held) in
+    each-set P c.args.self.now.slots _ c.ready.result c.requires.known
+    (λ k r. elim c.ready.ensures [ inl h ↦ let e : n ≡ k = omega (arith, h.0, r.0) in subst P e here | inr z ↦ absurd (omega (arith, z, r.0, r.1)) ])

@@ -1,0 +1,11 @@
+-- What a slot of the guide's lists holds. Private clauses alone cite it.
+use Rattle.std.specs.Prelude.{◌≡◌, ◌+◌, ◌<◌}
+use Rattle.cj_feature.specs.declared.feature.search.near.slot.Held.{Held}
+use Rattle.cj_feature.specs.declared.feature.search.near.slot.Held.TheVariants.{Nothing, Ready, Finished}
+use Rattle.cj_feature.specs.declared.feature.search.near.slot.Slot.{Slot}
+
+-- 0 is none, and 2^31 is added to the number of a city object that is finished
+abbrev pub IsHeld : Slot → Held → Type 0
+IsHeld s Nothing = s.packed ≡ 0
+IsHeld s (Ready n) = (s.packed ≡ n) × (0 < n) × (n < 2147483648)
+IsHeld s (Finished n) = s.packed ≡ n + 2147483648
