@@ -247,7 +247,8 @@ fn check_all_parents<'a, const ROOM: usize, const KEPT: usize>(
 #[cold]
 #[inline(never)]
 fn check_by<const ROOM: usize, const KEPT: usize>(objects: Node, found: &mut Least)
-    requires { ROOM < 2 ^ 32 × KEPT < 2 ^ 32 }
+    requires room { 0 < ROOM × ROOM < 2 ^ 32 }
+    requires kept { 0 < KEPT × KEPT < 2 ^ 32 }
     ensures { let all = members_of (tree objects.entry) in
         found.new ≡ least found.old (flat_map (object_links all) all) }
 {

@@ -14,15 +14,7 @@
 //!
 //! `Questions` allocates no memory. It uses 18 bytes of the stack for each question, and 28 for
 //! each kept text.
-ghost use Rattle.std.specs.Prelude.{◌≡◌, ◌<◌, ℕ, List, [], ◌∷◌, Some, IfSome, length, true, false};
-ghost use Rattle.std.specs.Prelude.{slice_index_or, slice_set};
-ghost use Rattle.std.specs.Str.{chars};
-ghost use Rattle.cj_spans.specs.Tree.{Tree};
-ghost use Rattle.cj_spans.specs.Parts.{members_of};
-ghost use Rattle.cj_spans.specs.View.{tree, trees, members_left};
-ghost use Rattle.cj_feature.specs.Links.{same_text, listed_in, has_item as has_item_of, lists as lists_of};
-ghost use Rattle.cj_feature.specs.Kin.{back_of};
-ghost use Rattle.cj_feature.specs.Questions.{noted_in, AreAnswered, IsAnswer};
+ghost use Rattle.std.specs.Prelude.{◌≡◌, ◌<◌, ℕ, length, true, false, slice_index_or, slice_set};
 
 mod gathering;
 mod order;
@@ -35,7 +27,7 @@ use cj_spans::{Kind, Members, Node};
 pub use gathering::Ahead;
 use gathering::{gather, hand_of, note_ahead};
 use order::{Pair, Question, first_on};
-use runs::{NO_RUN, Run, find_noted, find_unmarked, keep_run, run_at, run_on};
+use runs::{NO_RUN, Run, find_noted, find_unmarked, run_on};
 use wanted::{is_wanted, mark_wanted};
 
 /// What was found for a question.
@@ -64,6 +56,7 @@ pub struct Questions<const ROOM: usize, const KEPT: usize> {
     kept: [Noted; KEPT],
     runs: [Run; KEPT],
     wanted: [u32; KEPT],
+    ghost places: { 0 < ROOM × 0 < KEPT },
 }
 
 /// Sets a mark.
@@ -84,8 +77,18 @@ fn clear(marks: &mut [bool])
 }
 
 impl<const ROOM: usize, const KEPT: usize> Questions<ROOM, KEPT> {
+    ghost use Rattle.std.specs.Prelude.{List, [], ◌∷◌, Some, IfSome};
+    ghost use Rattle.std.specs.Str.{chars};
+    ghost use Rattle.cj_spans.specs.Tree.{Tree};
+    ghost use Rattle.cj_spans.specs.Parts.{members_of};
+    ghost use Rattle.cj_spans.specs.View.{tree, trees, members_left};
+    ghost use Rattle.cj_feature.specs.Links.{same_text, listed_in, has_item as has_item_of, lists as lists_of};
+    ghost use Rattle.cj_feature.specs.Kin.{back_of};
+    ghost use Rattle.cj_feature.specs.Questions.{noted_in, AreAnswered, IsAnswer};
+
     /// Returns an empty set of questions.
     pub fn new() -> Self
+        requires { 0 < ROOM × 0 < KEPT }
         ensures { (list : List ℕ) (objects : Node) → AreAnswered list objects [] result }
     {
         Questions {
@@ -146,7 +149,7 @@ impl<const ROOM: usize, const KEPT: usize> Questions<ROOM, KEPT> {
         };
         for item in value.items() {
             let mix = item.text_mix();
-            if !is_wanted::<KEPT>(&self.wanted, mix) {
+            if !is_wanted(&self.wanted, mix) {
                 continue;
             }
             let pair = Pair {
@@ -191,11 +194,11 @@ impl<const ROOM: usize, const KEPT: usize> Questions<ROOM, KEPT> {
     fn ask(&mut self, list: &str, objects: Node, item: Node, ahead: Ahead)
         ensures { AreAnswered (chars list.now) objects.entry [] self.new }
     {
-        let count = note_ahead::<KEPT>(objects, &mut self.questions, &mut self.kept, item, ahead);
+        let count = note_ahead(objects, &mut self.questions, &mut self.kept, item, ahead);
         self.count = gather(objects, &mut self.questions[..count]);
         clear(&mut self.known);
         clear(&mut self.listed);
-        mark_wanted::<KEPT>(objects, &self.questions[..self.count], &mut self.wanted);
+        mark_wanted(objects, &self.questions[..self.count], &mut self.wanted);
         self.answer_all(list, objects);
     }
 
@@ -218,7 +221,7 @@ impl<const ROOM: usize, const KEPT: usize> Questions<ROOM, KEPT> {
         ensures answered { AreAnswered (chars list.now) objects.entry [] self.new }
     {
         let hand = hand_of::<KEPT>(from.node, from.tag);
-        let run = run_at(&self.runs, hand);
+        let run = self.runs[hand];
         if let Some(true) = self.is_listed(list, objects, run, from, to) {
             return Some(Answer::Listed);
         }
@@ -228,7 +231,7 @@ impl<const ROOM: usize, const KEPT: usize> Questions<ROOM, KEPT> {
             return Some(Answer::Absent);
         }
         let run = run_on(objects, questions, from, first);
-        keep_run(&mut self.runs, hand, run);
+        self.runs[hand] = run;
         match self.is_listed(list, objects, run, from, to)? {
             true => Some(Answer::Listed),
             false => Some(Answer::Untold),

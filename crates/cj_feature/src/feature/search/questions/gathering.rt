@@ -2,7 +2,7 @@
 //! removed, and if most were repeated, more are noted.
 //!
 //! This is only a guess from the lists that follow, and no answer depends on the guess.
-ghost use Rattle.std.specs.Prelude.{◌≡◌, ◌≤◌, length, take};
+ghost use Rattle.std.specs.Prelude.{◌≡◌, ◌<◌, ◌≤◌, length, take};
 ghost use Rattle.cj_feature.specs.Questions.{AreInOrder};
 
 use crate::feature::search::link::Link;
@@ -76,7 +76,10 @@ const WEIGHT: u64 = 61;
 
 /// Returns where a text is kept, from its tag and the bytes in its middle. So even most texts that
 /// were chosen to have one tag have different places. Another spelling of a text has another place.
-pub fn hand_of<const KEPT: usize>(node: Node, tag: u32) -> usize {
+pub fn hand_of<const KEPT: usize>(node: Node, tag: u32) -> usize
+    requires { 0 < KEPT }
+    ensures { result < KEPT }
+{
     let bytes = node.bytes();
     let middle = bytes[bytes.len() / 2] as u64 + WEIGHT * bytes[(bytes.len() - 1) / 2] as u64;
     place_among::<KEPT>(tag as u64 + middle)
@@ -84,12 +87,11 @@ pub fn hand_of<const KEPT: usize>(node: Node, tag: u32) -> usize {
 
 /// Notes the text of a node, by the kept node with the same text if there is one. So most equal
 /// texts have one number.
-fn noted_at_hand<const KEPT: usize>(objects: Node, kept: &mut [Noted], node: Node) -> Noted {
+fn noted_at_hand<const KEPT: usize>(objects: Node, kept: &mut [Noted; KEPT], node: Node) -> Noted
+    requires { 0 < KEPT }
+{
     let noted = Noted::of(node);
     let place = hand_of::<KEPT>(node, noted.tag);
-    if place >= kept.len() {
-        return noted;
-    }
     let before = kept[place];
     if before.tag == noted.tag && before.node(objects).same_text(node) {
         return before;
@@ -98,16 +100,12 @@ fn noted_at_hand<const KEPT: usize>(objects: Node, kept: &mut [Noted], node: Nod
     noted
 }
 
-/// Notes a question after the first `count`, if the array is not full. Returns how many there are
-/// then.
+/// Notes a question after the first `count`. Returns how many there are then.
 fn note(questions: &mut [Question], count: usize, question: Question) -> usize
-    requires { count ≤ length questions.old }
+    requires { count < length questions.old }
     ensures few { result ≤ length questions.new }
     ensures length { length questions.new ≡ length questions.old }
 {
-    if count == questions.len() {
-        return count;
-    }
     questions[count] = question;
     count + 1
 }
@@ -118,11 +116,12 @@ fn note_items<const KEPT: usize>(
     objects: Node,
     questions: &mut [Question],
     count: usize,
-    kept: &mut [Noted],
+    kept: &mut [Noted; KEPT],
     items: Items,
     to: Noted,
 ) -> usize
-    requires { count ≤ length questions.old }
+    requires count { count ≤ length questions.old }
+    requires kept { 0 < KEPT }
     ensures few { result ≤ length questions.new }
     ensures length { length questions.new ≡ length questions.old }
 {
@@ -132,7 +131,7 @@ fn note_items<const KEPT: usize>(
         if next == questions.len() {
             return next;
         }
-        let from = noted_at_hand::<KEPT>(objects, kept, item);
+        let from = noted_at_hand(objects, kept, item);
         next = note(questions, next, Question { from, to });
     }
     next
@@ -142,16 +141,18 @@ fn note_items<const KEPT: usize>(
 pub fn note_ahead<const KEPT: usize>(
     objects: Node,
     questions: &mut [Question],
-    kept: &mut [Noted],
+    kept: &mut [Noted; KEPT],
     item: Node,
     ahead: Ahead,
 ) -> usize
+    requires questions { 0 < length questions.old }
+    requires kept { 0 < KEPT }
     ensures { result ≤ length questions.new }
 {
     let asked = ahead.link.list();
     let (from, to) = (Noted::of(item), ahead.name);
     let first = note(questions, 0, Question { from, to });
-    let mut count = note_items::<KEPT>(objects, questions, first, kept, ahead.items, to);
+    let mut count = note_items(objects, questions, first, kept, ahead.items, to);
     for (name, object) in ahead.later {
         count = make_room(objects, questions, count);
         if count == questions.len() {
@@ -159,7 +160,7 @@ pub fn note_ahead<const KEPT: usize>(
         }
         if let Some(value) = object.get(asked) {
             let name = Noted::of(name);
-            count = note_items::<KEPT>(objects, questions, count, kept, value.items(), name);
+            count = note_items(objects, questions, count, kept, value.items(), name);
         }
     }
     count

@@ -96,19 +96,3 @@ pub fn find_noted(
         None
     }
 }
-
-/// Returns the run at a place, or an empty one if there is no such place.
-pub fn run_at(runs: &[Run], place: usize) -> Run {
-    if place < runs.len() {
-        runs[place]
-    } else {
-        NO_RUN
-    }
-}
-
-/// Keeps a run at a place, if there is such a place.
-pub fn keep_run(runs: &mut [Run], place: usize, run: Run) {
-    if place < runs.len() {
-        runs[place] = run;
-    }
-}

@@ -1,4 +1,4 @@
-use Rattle.std.proofs.Common.{◌∙◌, arith, rules, refl, sym, subst}
+use Rattle.std.proofs.Common.{arith, rules, refl, sym, subst}
 use Rattle.std.specs.Str.{chars}
 use Rattle.std.proofs.lemmas.Grind.{common_steps}
 use Rattle.std.proofs.lemmas.List.{take-append-le}
