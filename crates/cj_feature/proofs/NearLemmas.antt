@@ -20,12 +20,12 @@ use Rattle.cj_spans.specs.View.{tree, line_of, source_of, tokens_in, tree_at, do
 use Rattle.cj_feature.specs.declared.feature.search.near.Near.{Near}
 use Rattle.cj_feature.specs.declared.feature.search.near.lists.Lists.{Lists}
 use Rattle.cj_feature.specs.declared.feature.search.near.pending.Pending.{Pending}
-use Rattle.cj_feature.specs.declared.feature.search.near.slot.Held.TheVariants.{Nothing, Ready, Finished}
+use Rattle.cj_feature.specs.declared.feature.search.near.slot.Held.TheVariants.{Nothing, Finished}
 use Rattle.cj_feature.specs.declared.feature.search.near.slot.Slot.{Slot}
 use Rattle.cj_feature.specs.Links.{listed_in}
 use Rattle.cj_feature.specs.Relations.{IsIn, Children}
 use Rattle.cj_feature.specs.Reached.{itself, child, IsReached, IsReachedObject}
-use Rattle.cj_feature.specs.Slots.{IsHeld}
+use Rattle.cj_feature.specs.Slots.{IsHeld, IsReady}
 use Rattle.cj_feature.specs.Marking.{OnlyMarks, AreNamed, AreReached, ReachesName, Knows, WaitsFor, AddsNone, IsGuide, spans_by}
 use Rattle.cj_feature.proofs.LinkFaults.{from-texts, from-listed}
 use Rattle.cj_spans.proofs.Marking.{line-of-document}
@@ -52,15 +52,15 @@ set-slot xs i v k s h =
     elim (get-set xs i k v s h) [ inl e ↦ inl (get-set-here xs i v s (subst (λ j. slice_get (slice_set xs i v) j ≡ Some s) e h)) | inr g ↦ inr g ]
 
 -- what holds of each city object at hand, holds with another in one slot
-pub each-set : (P : ℕ → Type 0) (xs : List Slot) (i : ℕ) (v : Slot) → ((k n : ℕ) (s : Slot) → slice_get xs k ≡ Some s → IsHeld s (Ready n) → P n) → ((n : ℕ) → IsHeld v (Ready n) → P n) → (k n : ℕ) (s : Slot) → slice_get (slice_set xs i v) k ≡ Some s → IsHeld s (Ready n) → P n
+pub each-set : (P : ℕ → Type 0) (xs : List Slot) (i : ℕ) (v : Slot) → ((k n : ℕ) (s : Slot) → slice_get xs k ≡ Some s → IsReady s n → P n) → ((n : ℕ) → IsReady v n → P n) → (k n : ℕ) (s : Slot) → slice_get (slice_set xs i v) k ≡ Some s → IsReady s n → P n
 each-set P xs i v all here k n s h r =
-    elim (set-slot xs i v k s h) [ inl e ↦ here n (subst (λ t. IsHeld t (Ready n)) (sym e) r) | inr g ↦ all k n s g r ]
+    elim (set-slot xs i v k s h) [ inl e ↦ here n (subst (λ t. IsReady t n) (sym e) r) | inr g ↦ all k n s g r ]
 
 -- one that is finished adds none
-pub set-finished : (xs : List Slot) (i : ℕ) (v : Slot) (m : ℕ) → IsHeld v (Finished m) → (k n : ℕ) (s : Slot) → slice_get (slice_set xs i v) k ≡ Some s → IsHeld s (Ready n) → (j : ℕ) × (slice_get xs j ≡ Some s)
+pub set-finished : (xs : List Slot) (i : ℕ) (v : Slot) (m : ℕ) → IsHeld v (Finished m) → (k n : ℕ) (s : Slot) → slice_get (slice_set xs i v) k ≡ Some s → IsReady s n → (j : ℕ) × (slice_get xs j ≡ Some s)
 set-finished xs i v m f k n s h r =
     elim (set-slot xs i v k s h) [
-      | inl e ↦ absurd (let same : v.packed ≡ s.packed = ap (λ (t : Slot). t.packed) e in omega (arith, same, f, r.0, r.2))
+      | inl e ↦ absurd (let same : v.packed ≡ s.packed = ap (λ (t : Slot). t.packed) e in omega (arith, same, f, r.packed, r.below))
       | inr g ↦ (k, g)
     ]
 
@@ -76,8 +76,8 @@ same-one (suc n) v zero x h = cc h
 same-one (suc n) v (suc k) x h = same-one n v k x h
 
 -- where each slot holds nothing, none holds a city object
-pub none-held : (n : ℕ) (v : Slot) → IsHeld v Nothing → (k m : ℕ) (s : Slot) → slice_get (replicate n v) k ≡ Some s → IsHeld s (Ready m) → ⊥
-none-held n v empty k m s h r = let same : s.packed ≡ v.packed = ap (λ (t : Slot). t.packed) (same-one n v k s h) in omega (arith, same, empty, r.0, r.1)
+pub none-held : (n : ℕ) (v : Slot) → IsHeld v Nothing → (k m : ℕ) (s : Slot) → slice_get (replicate n v) k ≡ Some s → IsReady s m → ⊥
+none-held n v empty k m s h r = let same : s.packed ≡ v.packed = ap (λ (t : Slot). t.packed) (same-one n v k s h) in omega (arith, same, empty, r.packed, r.above)
 
 -- what holds of each of the first numbers, holds with one more
 pub each-added : (P : ℕ → Type 0) (xs : List ℕ) (count v : ℕ) → ((k n : ℕ) → k < count → slice_get xs k ≡ Some n → P n) → P v → (k n : ℕ) → k < count + 1 → slice_get (slice_set xs count v) k ≡ Some n → P n

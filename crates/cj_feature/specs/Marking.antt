@@ -15,11 +15,10 @@ use Rattle.cj_spans.specs.View.{tree, line_of, source_of, tokens_in, tree_at}
 use Rattle.cj_feature.specs.declared.feature.search.near.Near.{Near}
 use Rattle.cj_feature.specs.declared.feature.search.near.lists.Lists.{Lists}
 use Rattle.cj_feature.specs.declared.feature.search.near.pending.Pending.{Pending}
-use Rattle.cj_feature.specs.declared.feature.search.near.slot.Held.TheVariants.{Ready}
 use Rattle.cj_feature.specs.declared.feature.search.near.slot.Slot.{Slot}
 use Rattle.cj_feature.specs.Links.{same_text, listed_in}
 use Rattle.cj_feature.specs.Reached.{IsReached, IsReachedObject}
-use Rattle.cj_feature.specs.Slots.{IsHeld}
+use Rattle.cj_feature.specs.Slots.{IsReady}
 
 -- a token beside that of the node shows the tree and has a mark
 abbrev pub IsMarkedBy : Node → Tree → Type 0
@@ -99,7 +98,7 @@ pub record OnlyMarks (old new : BoundedList Token) : Type 0 where
 -- what these slots hold and is not finished is one of these city objects, whose name has the number before
 abbrev pub AreNamed : List (Tree × Tree) → List ℕ → List Span → List Slot → Type 0
 AreNamed objects line spans slots =
-    (k n : ℕ) (s : Slot) → slice_get slots k ≡ Some s → IsHeld s (Ready n)
+    (k n : ℕ) (s : Slot) → slice_get slots k ≡ Some s → IsReady s n
     → (n < length spans) × Contains objects (tree_at line spans (n - 1), tree_at line spans n)
 
 -- each of the first numbers is that of a city object that is reached
@@ -127,7 +126,7 @@ WaitsFor feature line spans pending = AreReached feature line spans pending.numb
 
 -- each city object at hand that is not finished was at hand before
 pub record AddsNone {O L : ℕ} (old new : Lists O L) : Type 0 where
-  pub slots : (k n : ℕ) (s : Slot) → slice_get new.slots k ≡ Some s → IsHeld s (Ready n)
+  pub slots : (k n : ℕ) (s : Slot) → slice_get new.slots k ≡ Some s → IsReady s n
       → (j : ℕ) × (slice_get old.slots j ≡ Some s)
 
 -- of a line and its tokens: those at hand are city objects, and what waits and what has marks is reached

@@ -93,15 +93,11 @@ fn check_list<'a, const ROOM: usize, const KEPT: usize>(
         (listed_in (list_of link) (tree current.entry.object)) ≡ true }
     ensures answered { AreAnswered (back_of link) objects.entry [] questions.new }
 {
-    let Current {
-        number,
-        object,
-        later,
-    } = current;
-    let Some(value) = object.get(link.list()) else {
+    let Current { number, later, .. } = current;
+    let Some(value) = current.object.get(link.list()) else {
         return false;
     };
-    if link.is_exempt(object) {
+    if link.is_exempt(current.object) {
         return false;
     }
     let tag = tag_of(objects.at(number));
@@ -200,11 +196,7 @@ fn check_part<'a, const ROOM: usize, const KEPT: usize>(
         (tree_in (source_of objects.entry) current.entry.number, tree current.entry.object)) }
     ensures answered { AreAnswered (chars (codes "children")) objects.entry [] questions.new }
 {
-    let Current {
-        number,
-        object,
-        later,
-    } = current;
+    let (number, object) = (current.number, current.object);
     if is_told_before(*found, object) {
         return;
     }
@@ -213,7 +205,7 @@ fn check_part<'a, const ROOM: usize, const KEPT: usize>(
     };
     let tag = tag_of(objects.at(number));
     let name = Noted { tag, number };
-    if !has_known_item(objects, name, value, later, questions) {
+    if !has_known_item(objects, name, value, current.later, questions) {
         add(object, Reason::NoParent, found);
     }
 }

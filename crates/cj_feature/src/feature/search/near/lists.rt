@@ -90,14 +90,13 @@ impl<const OBJECTS: usize, const LISTS: usize> Lists<OBJECTS, LISTS> {
     ghost use Rattle.cj_spans.specs.Parts.{members_of};
     ghost use Rattle.cj_spans.specs.View.{tree};
     ghost use Rattle.cj_feature.specs.declared.feature.search.near.slot.Slot.{Slot};
-    ghost use Rattle.cj_feature.specs.declared.feature.search.near.slot.Held.TheVariants.{Ready};
-    ghost use Rattle.cj_feature.specs.Slots.{IsHeld};
+    ghost use Rattle.cj_feature.specs.Slots.{IsReady};
     ghost use Rattle.cj_feature.specs.Marking.{Knows, AddsNone, IsBeside};
 
     /// Returns lists that hold no city object.
     pub fn new() -> Self
         requires { 0 < LISTS }
-        ensures { (k n : ℕ) (s : Slot) → slice_get result.slots k ≡ Some s → IsHeld s (Ready n) → ⊥ }
+        ensures { (k n : ℕ) (s : Slot) → slice_get result.slots k ≡ Some s → IsReady s n → ⊥ }
     {
         Lists {
             slots: [EMPTY; OBJECTS],

@@ -27,4 +27,4 @@ returns-then-place g c =
     subst (λ u. Contains all (tree_at line spans (n - 1), u)) (sym object_shown) (subst (λ u. Contains all (u, tree c.args.object)) (sym name_before) c.requires.held) in
     let here : P n = (omega arith, held) in
     each-set P c.args.self.now.slots _ c.ready.result c.requires.known
-    (λ k r. elim c.ready.ensures [ inl h ↦ let e : n ≡ k = omega (arith, h.0, r.0) in subst P e here | inr z ↦ absurd (omega (arith, z, r.0, r.1)) ])
+    (λ k r. elim c.ready.ensures [ inl h ↦ let e : n ≡ k = omega (arith, h.packed, r.packed) in subst P e here | inr z ↦ absurd (omega (arith, z, r.packed, r.above)) ])
