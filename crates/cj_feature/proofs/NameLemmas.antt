@@ -11,10 +11,12 @@ use Rattle.std.proofs.lemmas.List.Sorted.{Contains-permutation, searchable_from_
 use Rattle.cj_spans.specs.declared.node.Node.{Node}
 use Rattle.cj_spans.specs.Tree.{Tree}
 use Rattle.cj_spans.specs.Parts.{text_of}
-use Rattle.cj_feature.specs.declared.feature.questions.Noted.{Noted}
+use Rattle.cj_feature.specs.declared.feature.search.noted.Noted.{Noted}
+use Rattle.cj_feature.specs.declared.feature.search.unmarked.Names.{Names}
+use Rattle.cj_feature.specs.declared.feature.search.unmarked.Names.TheVariants.{Every, These}
 use Rattle.cj_feature.specs.Links.{same_text}
 use Rattle.cj_feature.specs.Questions.{Side, compare_sides, side_of, side_in}
-use Rattle.cj_feature.specs.Unmarked.{AreInNameOrder, IsNoted}
+use Rattle.cj_feature.specs.Unmarked.{AreInNameOrder, IsNoted, IsSought}
 use Rattle.cj_feature.proofs.LinkFaults.{from-texts}
 use Rattle.cj_feature.proofs.Questions.{sides_total}
 
@@ -41,10 +43,14 @@ module _ (objects : Node) where
   noted-moved xs ys t moved n = (n.0, Contains-permutation xs ys n.0 moved n.1, n.2)
 
   -- what has the text of a noted name is noted
-  pub noted-same : (names : List Noted) (t u : Tree) → same_text t u ≡ true → IsNoted objects names t → IsNoted objects names u
+  noted-same : (names : List Noted) (t u : Tree) → same_text t u ≡ true → IsNoted objects names t → IsNoted objects names u
   noted-same names t u same n =
       let both = from-texts (text_of t) (text_of u) same in
       (n.0, n.1, n.2 ∙ ap side_of (both.1 ∙ sym both.2))
+
+  pub sought-same : (names : Names) (t u : Tree) → same_text t u ≡ true → IsSought objects names t → IsSought objects names u
+  sought-same Every t u same n = tt
+  sought-same (These names) t u same n = noted-same names.now t u same n
 
   -- no name is noted where there is none
   pub none-noted : (t : Tree) → IsNoted objects [] t → ⊥

@@ -1,5 +1,5 @@
 -- City objects at hand, and those that wait, told by their numbers.
-use Rattle.std.proofs.Common.{◌≡◌, ◌≢◌, ◌⊎◌, inl, inr, ℕ, zero, suc, ◌+◌, ◌<◌, ◌≤◌, List, [], ◌∷◌, length, slice_get, Some, refl, sym, ap, subst, arith, ◌∙◌}
+use Rattle.std.proofs.Common.{◌≡◌, ◌≢◌, ◌⊎◌, inl, inr, ℕ, zero, suc, ◌+◌, ◌<◌, List, [], ◌∷◌, length, slice_get, Some, refl, sym, ap, subst, arith, ◌∙◌}
 use Rattle.std.specs.Prelude.{slice_set, codes, replicate}
 use Rattle.std.specs.List.{Contains}
 use Rattle.std.specs.Str.{chars}
@@ -17,10 +17,15 @@ use Rattle.cj_spans.specs.Preorder.{Span, spans_of}
 use Rattle.cj_spans.specs.Tree.{Tree}
 use Rattle.cj_spans.specs.Parts.{members_of, member_of, text_of}
 use Rattle.cj_spans.specs.View.{tree, line_of, source_of, tokens_in, tree_at, document_line, document_source}
-use Rattle.cj_feature.specs.declared.feature.near.Near.{Near}
+use Rattle.cj_feature.specs.declared.feature.search.near.Near.{Near}
+use Rattle.cj_feature.specs.declared.feature.search.near.lists.Lists.{Lists}
+use Rattle.cj_feature.specs.declared.feature.search.near.pending.Pending.{Pending}
+use Rattle.cj_feature.specs.declared.feature.search.near.slot.Held.TheVariants.{Nothing, Finished}
+use Rattle.cj_feature.specs.declared.feature.search.near.slot.Slot.{Slot}
 use Rattle.cj_feature.specs.Links.{listed_in}
 use Rattle.cj_feature.specs.Relations.{IsIn, Children}
 use Rattle.cj_feature.specs.Reached.{itself, child, IsReached, IsReachedObject}
+use Rattle.cj_feature.specs.Slots.{IsHeld, IsReady}
 use Rattle.cj_feature.specs.Marking.{OnlyMarks, AreNamed, AreReached, ReachesName, Knows, WaitsFor, AddsNone, IsGuide, spans_by}
 use Rattle.cj_feature.proofs.LinkFaults.{from-texts, from-listed}
 use Rattle.cj_spans.proofs.Marking.{line-of-document}
@@ -36,38 +41,43 @@ get-set (x ∷ xs) zero (suc k) v n h = inr h
 get-set (x ∷ xs) (suc i) zero v n h = inr h
 get-set (x ∷ xs) (suc i) (suc k) v n h = elim (get-set xs i k v n h) [ inl e ↦ inl (ap suc e) | inr g ↦ inr g ]
 
-get-set-here : (xs : List ℕ) (i v n : ℕ) → slice_get (slice_set xs i v) i ≡ Some n → v ≡ n
+get-set-here : {X : Type 0} (xs : List X) (i : ℕ) (v n : X) → slice_get (slice_set xs i v) i ≡ Some n → v ≡ n
 get-set-here [] i v n h = absurd (cc h)
 get-set-here (x ∷ xs) zero v n h = cc h
 get-set-here (x ∷ xs) (suc i) v n h = get-set-here xs i v n h
 
--- what holds of each number at hand, holds with another in the place of one
-pub each-set : (P : ℕ → Type 0) (xs : List ℕ) (i v : ℕ) → ((k n : ℕ) → slice_get xs k ≡ Some n → 0 < n → n < 2147483648 → P n) → P v → (k n : ℕ) → slice_get (slice_set xs i v) k ≡ Some n → 0 < n → n < 2147483648 → P n
-each-set P xs i v all here k n h l m =
-    elim (get-set xs i k v n h) [
-      | inl e ↦ subst P (get-set-here xs i v n (subst (λ j. slice_get (slice_set xs i v) j ≡ Some n) e h)) here
-      | inr g ↦ all k n g l m
-    ]
+-- what one slot holds with another value: that, or what it held
+set-slot : (xs : List Slot) (i : ℕ) (v : Slot) (k : ℕ) (s : Slot) → slice_get (slice_set xs i v) k ≡ Some s → (v ≡ s) ⊎ (slice_get xs k ≡ Some s)
+set-slot xs i v k s h =
+    elim (get-set xs i k v s h) [ inl e ↦ inl (get-set-here xs i v s (subst (λ j. slice_get (slice_set xs i v) j ≡ Some s) e h)) | inr g ↦ inr g ]
 
--- a number that is done with in the place of one adds none
-pub set-done : (xs : List ℕ) (i v k n : ℕ) → 2147483648 ≤ v → slice_get (slice_set xs i v) k ≡ Some n → n < 2147483648 → (j : ℕ) × (slice_get xs j ≡ Some n)
-set-done xs i v k n done h small =
-    elim (get-set xs i k v n h) [
-      | inl e ↦ absurd (let same = get-set-here xs i v n (subst (λ j. slice_get (slice_set xs i v) j ≡ Some n) e h) in omega (arith, same))
+-- what holds of each city object at hand, holds with another in one slot
+pub each-set : (P : ℕ → Type 0) (xs : List Slot) (i : ℕ) (v : Slot) → ((k n : ℕ) (s : Slot) → slice_get xs k ≡ Some s → IsReady s n → P n) → ((n : ℕ) → IsReady v n → P n) → (k n : ℕ) (s : Slot) → slice_get (slice_set xs i v) k ≡ Some s → IsReady s n → P n
+each-set P xs i v all here k n s h r =
+    elim (set-slot xs i v k s h) [ inl e ↦ here n (subst (λ t. IsReady t n) (sym e) r) | inr g ↦ all k n s g r ]
+
+-- one that is finished adds none
+pub set-finished : (xs : List Slot) (i : ℕ) (v : Slot) (m : ℕ) → IsHeld v (Finished m) → (k n : ℕ) (s : Slot) → slice_get (slice_set xs i v) k ≡ Some s → IsReady s n → (j : ℕ) × (slice_get xs j ≡ Some s)
+set-finished xs i v m f k n s h r =
+    elim (set-slot xs i v k s h) [
+      | inl e ↦ absurd (let same : v.packed ≡ s.packed = ap (λ (t : Slot). t.packed) e in omega (arith, same, f, r.packed, r.below))
       | inr g ↦ (k, g)
     ]
 
--- numbers in another order are the same
-pub among-moved : (xs ys : List ℕ) (k n : ℕ) → IsPermutation xs ys → slice_get ys k ≡ Some n → (j : ℕ) × (slice_get xs j ≡ Some n)
+-- slots in another order are the same
+pub among-moved : {X : Type 0} (xs ys : List X) (k : ℕ) (n : X) → IsPermutation xs ys → slice_get ys k ≡ Some n → (j : ℕ) × (slice_get xs j ≡ Some n)
 among-moved xs ys k n moved at =
     let there : Contains xs n = Contains-permutation ys xs n (IsPermutation-sym xs ys moved) (k, slice_get_within ys k n at, get_or_from_slice_get ys k n n at) in
     (there.0, slice_get_read xs (length xs) there.0 n refl there.1 (sym there.2))
 
--- of zeros alone none is above 0
-pub none-above : (n k x : ℕ) → slice_get (replicate n 0) k ≡ Some x → x ≡ 0
-none-above zero k x h = absurd (cc h)
-none-above (suc n) zero x h = cc h
-none-above (suc n) (suc k) x h = none-above n k x h
+same-one : {X : Type 0} (n : ℕ) (v : X) (k : ℕ) (x : X) → slice_get (replicate n v) k ≡ Some x → x ≡ v
+same-one zero v k x h = absurd (cc h)
+same-one (suc n) v zero x h = cc h
+same-one (suc n) v (suc k) x h = same-one n v k x h
+
+-- where each slot holds nothing, none holds a city object
+pub none-held : (n : ℕ) (v : Slot) → IsHeld v Nothing → (k m : ℕ) (s : Slot) → slice_get (replicate n v) k ≡ Some s → IsReady s m → ⊥
+none-held n v empty k m s h r = let same : s.packed ≡ v.packed = ap (λ (t : Slot). t.packed) (same-one n v k s h) in omega (arith, same, empty, r.packed, r.above)
 
 -- what holds of each of the first numbers, holds with one more
 pub each-added : (P : ℕ → Type 0) (xs : List ℕ) (count v : ℕ) → ((k n : ℕ) → k < count → slice_get xs k ≡ Some n → P n) → P v → (k n : ℕ) → k < count + 1 → slice_get (slice_set xs count v) k ≡ Some n → P n
@@ -102,16 +112,16 @@ id-reached feature id objects i o = λ name t at same.
 
 -- ---- steps of the guide
 
-pub same-hand : {O L P : ℕ} (a : Near O L P) → AddsNone a a
-same-hand a = record { objects = λ k n at small. (k, at) }
+pub same-hand : {O L : ℕ} (a : Lists O L) → AddsNone a a
+same-hand a = record { slots = λ k n s at ready. (k, at) }
 
-pub more-hand : {O L P : ℕ} (a b c : Near O L P) → AddsNone a b → AddsNone b c → AddsNone a c
-more-hand a b c h k = record { objects = λ i n at small. let from = k.objects i n at small in h.objects from.0 n from.1 small }
+pub more-hand : {O L : ℕ} (a b c : Lists O L) → AddsNone a b → AddsNone b c → AddsNone a c
+more-hand a b c h k = record { slots = λ i n s at ready. let from = k.slots i n s at ready in h.slots from.0 n s from.1 ready }
 
-pub named-kept : {O L P : ℕ} (objects : List (Tree × Tree)) (line : List ℕ) (spans : List Span) (a b : Near O L P) → AddsNone a b → AreNamed objects line spans a.objects → AreNamed objects line spans b.objects
-named-kept objects line spans a b h named = λ k n at above small. let from = h.objects k n at small in named from.0 n from.1 above small
+pub named-kept : {O L : ℕ} (objects : List (Tree × Tree)) (line : List ℕ) (spans : List Span) (a b : Lists O L) → AddsNone a b → AreNamed objects line spans a.slots → AreNamed objects line spans b.slots
+named-kept objects line spans a b h named = λ k n s at ready. let from = h.slots k n s at ready in named from.0 n s from.1 ready
 
-pub known-kept : {O L P : ℕ} (n : Node) (a b : Near O L P) → AddsNone a b → Knows n a → Knows n b
+pub known-kept : {O L : ℕ} (n : Node) (a b : Lists O L) → AddsNone a b → Knows n a → Knows n b
 known-kept n a b h k = named-kept (members_of (tree n)) (line_of n) (spans_by n) a b h k
 
 pub same-marks : (a : BoundedList Token) → OnlyMarks a a
@@ -121,16 +131,16 @@ pub more-marks : (a b c : BoundedList Token) → OnlyMarks a b → OnlyMarks b c
 more-marks a b c h k = record { tokens = k.tokens ∙ h.tokens; list = k.list ∙ ap (λ (x : BoundedList Token). record x { elements = c.elements }) h.list }
 
 -- the guide stands, with none come to hand and others that wait
-pub guide-on : {O L P : ℕ} (line : List ℕ) (tokens : List Token) (a b : Near O L P) → IsGuide line tokens a → AddsNone a b → ((f : Tree) → Json line f → WaitsFor f line (spans_of tokens) a → WaitsFor f line (spans_of tokens) b) → IsGuide line tokens b
+pub guide-on : {O L P : ℕ} (line : List ℕ) (tokens : List Token) (a b : Near O L P) → IsGuide line tokens a → AddsNone a.lists b.lists → ((f : Tree) → Json line f → WaitsFor f line (spans_of tokens) a.pending → WaitsFor f line (spans_of tokens) b.pending) → IsGuide line tokens b
 guide-on line tokens a b g h w = record {
   of = g.of;
-  known = λ f o j e. named-kept (members_of o) line (spans_of tokens) a b h (g.known f o j e);
+  known = λ f o j e. named-kept (members_of o) line (spans_of tokens) a.lists b.lists h (g.known f o j e);
   waiting = λ f j. w f j (g.waiting f j);
   sound = g.sound;
 }
 
 -- what waits beside a node, told by its document
-module _ {O L P : ℕ} (n : Node) (d : Doc) (source : source_of n ≡ document_source d) (f : Tree) (near : Near O L P) where
+module _ {P : ℕ} (n : Node) (d : Doc) (source : source_of n ≡ document_source d) (f : Tree) (near : Pending P) where
   pub waits-there : WaitsFor f (line_of n) (spans_by n) near → WaitsFor f (document_line d) (spans_of (tokens_in (document_source d))) near
   waits-there h = subst (λ s. WaitsFor f (document_line d) (spans_of (tokens_in s)) near) source (subst (λ l. WaitsFor f l (spans_by n) near) (line-of-document n d source) h)
 
@@ -138,20 +148,20 @@ module _ {O L P : ℕ} (n : Node) (d : Doc) (source : source_of n ≡ document_s
   waits-here h = subst (λ l. WaitsFor f l (spans_by n) near) (sym (line-of-document n d source)) (subst (λ s. WaitsFor f (document_line d) (spans_of (tokens_in s)) near) (sym source) h)
 
 -- those at hand beside a node, told by its document
-module _ {O L P : ℕ} (n : Node) (d : Doc) (source : source_of n ≡ document_source d) (near : Near O L P) where
-  pub known-there : Knows n near → AreNamed (members_of (tree n)) (document_line d) (spans_of (tokens_in (document_source d))) near.objects
-  known-there h = subst (λ s. AreNamed (members_of (tree n)) (document_line d) (spans_of (tokens_in s)) near.objects) source (subst (λ l. AreNamed (members_of (tree n)) l (spans_by n) near.objects) (line-of-document n d source) h)
+module _ {O L : ℕ} (n : Node) (d : Doc) (source : source_of n ≡ document_source d) (near : Lists O L) where
+  pub known-there : Knows n near → AreNamed (members_of (tree n)) (document_line d) (spans_of (tokens_in (document_source d))) near.slots
+  known-there h = subst (λ s. AreNamed (members_of (tree n)) (document_line d) (spans_of (tokens_in s)) near.slots) source (subst (λ l. AreNamed (members_of (tree n)) l (spans_by n) near.slots) (line-of-document n d source) h)
 
-  pub known-here : AreNamed (members_of (tree n)) (document_line d) (spans_of (tokens_in (document_source d))) near.objects → Knows n near
-  known-here h = subst (λ l. AreNamed (members_of (tree n)) l (spans_by n) near.objects) (sym (line-of-document n d source)) (subst (λ s. AreNamed (members_of (tree n)) (document_line d) (spans_of (tokens_in s)) near.objects) (sym source) h)
+  pub known-here : AreNamed (members_of (tree n)) (document_line d) (spans_of (tokens_in (document_source d))) near.slots → Knows n near
+  known-here h = subst (λ l. AreNamed (members_of (tree n)) l (spans_by n) near.slots) (sym (line-of-document n d source)) (subst (λ s. AreNamed (members_of (tree n)) (document_line d) (spans_of (tokens_in s)) near.slots) (sym source) h)
 
 -- one more mark
 pub guide-marked : {O L P : ℕ} (line : List ℕ) (old new : BoundedList Token) (near : Near O L P) (n : ℕ) → IsGuide line old.elements near → KeepsTokens old new → ((k : ℕ) → k ≢ n → is_marked_at new.elements k ≡ is_marked_at old.elements k)
     → ((f : Tree) → Json line f → IsReachedObject f (tree_at line (spans_of old.elements) n)) → IsGuide line new.elements near
 guide-marked line old new near n g kept others reached = record {
   of = kept.of line g.of;
-  known = λ f o j e. subst (λ ss. AreNamed (members_of o) line ss near.objects) (sym kept.spans) (g.known f o j e);
-  waiting = λ f j. subst (λ ss. WaitsFor f line ss near) (sym kept.spans) (g.waiting f j);
+  known = λ f o j e. subst (λ ss. AreNamed (members_of o) line ss near.lists.slots) (sym kept.spans) (g.known f o j e);
+  waiting = λ f j. subst (λ ss. WaitsFor f line ss near.pending) (sym kept.spans) (g.waiting f j);
   sound = λ f j t h.
       elim (marked-more line old.elements new.elements n t kept.spans others h) [
         | inl e ↦ subst (IsReachedObject f) e (reached f j)
@@ -160,7 +170,7 @@ guide-marked line old new near n g kept others reached = record {
 }
 
 -- the same guide, told of a document of the line, with none come to hand and the same that wait
-pub guide-at : {O L P : ℕ} (line l : List ℕ) (ts us : List Token) (a b : Near O L P) → l ≡ line → us ≡ ts → AddsNone a b → b.pending ≡ a.pending → b.waiting ≡ a.waiting → IsGuide line ts a → IsGuide l us b
+pub guide-at : {O L P : ℕ} (line l : List ℕ) (ts us : List Token) (a b : Near O L P) → l ≡ line → us ≡ ts → AddsNone a.lists b.lists → b.pending.numbers ≡ a.pending.numbers → b.pending.count ≡ a.pending.count → IsGuide line ts a → IsGuide l us b
 guide-at line l ts us a b e q h p w g =
-    let same = guide-on line ts a b g h (λ f j waits. subst (λ k. AreReached f line (spans_of ts) b.pending k) (sym w) (subst (λ ns. AreReached f line (spans_of ts) ns a.waiting) (sym p) waits)) in
+    let same = guide-on line ts a b g h (λ f j waits. subst (λ k. AreReached f line (spans_of ts) b.pending.numbers k) (sym w) (subst (λ ns. AreReached f line (spans_of ts) ns a.pending.count) (sym p) waits)) in
     subst (λ vs. IsGuide l vs b) (sym q) (subst (λ m. IsGuide m ts b) (sym e) same)

@@ -4,15 +4,19 @@ use Rattle.std.specs.Prelude.{codes}
 use Rattle.std.specs.List.{flat_map, list_any}
 use Rattle.std.specs.Str.{chars}
 use Rattle.cj_spans.specs.declared.finding.Finding.{Finding}
-use Rattle.cj_spans.specs.declared.reason.Reason.TheVariants.{ChildNotFound, NoParent}
+use Rattle.cj_spans.specs.declared.reason.Reason.{Reason}
+use Rattle.cj_spans.specs.declared.reason.Reason.TheVariants.{ChildNotFound, LinkNotMutual, NoParent}
 use Rattle.cj_spans.specs.Finding.{least}
 use Rattle.cj_spans.specs.Kinds.{is_text, is_array}
 use Rattle.cj_spans.specs.Tree.{Tree}
 use Rattle.cj_spans.specs.Parts.{kind_of, member_of}
 use Rattle.cj_spans.proofs.Findings.{least-append, least-swap}
 use Rattle.cj_geometry.specs.Rule.{one}
+use Rattle.cj_feature.specs.declared.feature.search.link.Link.{Link}
+use Rattle.cj_feature.specs.declared.feature.search.link.Link.TheVariants.{Child, Parent}
+use Rattle.cj_feature.specs.Kin.{back_of, linked}
 use Rattle.cj_feature.specs.Members.{items_if}
-use Rattle.cj_feature.specs.Links.{same_text, listed_in, is_part, is_known, has_item, lists, answered, child, children, parents, part_of, part, object_links}
+use Rattle.cj_feature.specs.Links.{same_text, listed_in, is_part, is_known, has_item, lists, answered, children, parents, part_of, part, object_links}
 
 -- ---- who lists is in the feature
 
@@ -24,15 +28,35 @@ lists_known list (m ∷ ms) from to h = go (same_text m.0 from) (has_item (liste
     go true b later h = refl
     go false b later h = later h
 
-listed_child_at : (a b c : Bool) (t : Tree) → b ≡ true → c ≡ true → cond a (cond b (answered c t) (one ChildNotFound t)) [] ≡ []
-listed_child_at false b c t g h = refl
-listed_child_at true true true t g h = refl
-listed_child_at true false c t g h = cc
-listed_child_at true true false t g h = cc
+-- what is found on one that is listed, where it is none or an id, and where it is listed back
+abbrev found_on : Bool → Bool → Bool → Tree → List Finding → List Finding
+found_on a b c t missing = cond a (cond b (answered c t) missing) []
 
-pub listed_child : (objects : List (Tree × Tree)) (name item : Tree) (o : Option Finding) → lists (chars (codes "parents")) objects item name ≡ true → o ≡ least o (child objects name item)
-listed_child objects name item o h =
-    ap (least o) (sym (listed_child_at (is_text (kind_of item)) (is_known objects item) (lists (chars (codes "parents")) objects item name) item (lists_known (chars (codes "parents")) objects item name h) h))
+nothing_on : (a b c : Bool) (t : Tree) (missing : List Finding) → b ≡ true → c ≡ true → found_on a b c t missing ≡ []
+nothing_on false b c t missing g h = refl
+nothing_on true true true t missing g h = refl
+nothing_on true false c t missing g h = cc
+nothing_on true true false t missing g h = cc
+
+told_on : (a b c : Bool) (t : Tree) (missing : List Finding) (o : Option Finding) → least o (one LinkNotMutual t) ≡ o → o ≡ least o missing → o ≡ least o (found_on a b c t missing)
+told_on false b c t missing o told none = refl
+told_on true false c t missing o told none = none
+told_on true true true t missing o told none = refl
+told_on true true false t missing o told none = sym told
+
+-- what is listed back has no finding
+pub listed_linked : (k : Link) (objects : List (Tree × Tree)) (name item : Tree) (o : Option Finding) → lists (back_of k) objects item name ≡ true → o ≡ least o (linked k objects name item)
+listed_linked k objects name item o h = ap (least o) (sym (go k h))
+  where
+    go : (k : Link) → lists (back_of k) objects item name ≡ true → linked k objects name item ≡ []
+    go Child h = nothing_on (is_text (kind_of item)) _ _ item _ (lists_known (back_of Child) objects item name h) h
+    go Parent h = nothing_on true _ _ item [] (lists_known (back_of Parent) objects item name h) h
+
+-- and what comes behind a finding has none that counts
+pub told_linked : (k : Link) (objects : List (Tree × Tree)) (name item : Tree) (o : Option Finding) → ((r : Reason) → least o (one r item) ≡ o) → o ≡ least o (linked k objects name item)
+told_linked Child objects name item o told =
+    told_on (is_text (kind_of item)) (is_known objects item) (lists (chars (codes "parents")) objects item name) item (one ChildNotFound item) o (told LinkNotMutual) (sym (told ChildNotFound))
+told_linked Parent objects name item o told = told_on true (is_known objects item) (lists (chars (codes "children")) objects item name) item [] o (told LinkNotMutual) refl
 
 -- ---- a part with a parent that is in the feature
 

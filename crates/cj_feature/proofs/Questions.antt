@@ -1,5 +1,5 @@
 -- Questions on links, in order.
-use Rattle.std.proofs.Common.{◌≡◌, ◌⊎◌, inl, inr, ℕ, ◌<◌, ◌≤◌, Bool, true, false, ◌||◌, List, [], ◌∷◌, Option, Some, None, length, get_or, arith, refl, sym, ap, ◌∙◌, subst}
+use Rattle.std.proofs.Common.{◌≡◌, ◌⊎◌, inl, inr, ℕ, suc, ◌+◌, ◌-◌, ◌<◌, ◌≤◌, Bool, true, false, ◌||◌, List, [], ◌∷◌, ◌++◌, take, drop, Option, Some, None, length, get_or, arith, refl, sym, ap, ◌∙◌, subst}
 use Rattle.std.specs.Prelude.{slice_get, slice_set, slice_index_or}
 use Rattle.std.specs.Cmp.{IsStrictWeakOrder, IsTotalOrder, nat_cmp_total, on_total, then_total, tied_itself}
 use Rattle.std.specs.Cmp.Lexicographic.{nat_list_cmp_total, options_total}
@@ -8,10 +8,10 @@ use Rattle.std.specs.List.Sorted.{IsPartitionedBy, IsPartitionPoint, IsSortedBy}
 use Rattle.std.specs.Ordering.{is_lt, ordering_index}
 use Rattle.std.specs.declared.cmp.Ordering.{Ordering}
 use Rattle.std.specs.declared.cmp.Ordering.TheVariants.{Less, Equal, Greater}
-use Rattle.std.proofs.lemmas.Bool.{cases_eq}
+use Rattle.std.proofs.lemmas.Bool.{cases_eq, cases_lt}
 use Rattle.std.proofs.lemmas.Fn.{always_returns_same}
-use Rattle.std.proofs.lemmas.List.{get_or-set_same, get_or-set_other}
-use Rattle.std.proofs.lemmas.List.Sorted.{ranks_by, searchable_from_sorted}
+use Rattle.std.proofs.lemmas.List.{append_assoc, drop-set-lt, drop_more, length-append, take_more_set, get_or_append_left, get_or-append_right, get_or-set_same, get_or-set_other}
+use Rattle.std.proofs.lemmas.List.Sorted.{ranks_by, sorted_far, searchable_from_sorted}
 use Rattle.std.proofs.lemmas.Option.{slice_get_within}
 use denote.Param.Members.{Mut}
 use denote.Ref.{Bor}
@@ -21,11 +21,50 @@ use Rattle.cj_spans.specs.Tree.{Tree, scalar, array, object}
 use Rattle.cj_spans.specs.Order.{compare_texts}
 use Rattle.cj_spans.specs.Parts.{kind_of, members_of, text_of, are_same_texts}
 use Rattle.cj_spans.specs.View.{tree}
-use Rattle.cj_feature.specs.declared.feature.questions.Question.{Question}
+use Rattle.cj_feature.specs.declared.feature.search.questions.order.Question.{Question}
 use Rattle.cj_feature.specs.Links.{same_text, is_known, lists}
 use Rattle.cj_feature.specs.Tag.{tag_of}
 use Rattle.cj_feature.proofs.LinkFaults.{from-texts}
 use Rattle.cj_feature.specs.Questions.{Key, Side, compare_sides, side_of, compare_keys, key_of, from_in, to_in, key_in, AreInOrder, IsPlaceOf, IsFirstOn, IsQuestion, AreListed, AreLeft}
+
+-- ---- a list in order
+
+module _ {X : Type 0} (lt : X → X → Bool) (o : IsStrictWeakOrder lt) where
+  -- with one less it has each element that stays at its place, or at the one before
+  beside : (a : List X) (x : X) (b : List X) (d : X) (k : ℕ) → (j : ℕ) × (k ≤ j) × (j ≤ k + 1) × (get_or (a ++ x ∷ b) j d ≡ get_or (a ++ b) k d)
+  beside a x b d k =
+      elim (cases_lt k (length a)) [
+        | inl l ↦ (k, omega arith, omega arith, get_or_append_left a (x ∷ b) d k l ∙ sym (get_or_append_left a b d k l))
+        | inr ge ↦
+            let later : k + 1 - length a ≡ suc (k - length a) = omega arith in (
+              k + 1,
+              omega arith,
+              omega arith,
+              get_or-append_right a (x ∷ b) (length a) (k + 1) d refl (omega arith) ∙ ap (λ n. get_or (x ∷ b) n d) later ∙ sym (get_or-append_right a b (length a) k d refl ge),
+            )
+      ]
+
+  -- and is in order
+  pub one_less : (a : List X) (x : X) (b : List X) → IsSortedBy lt (a ++ x ∷ b) → IsSortedBy lt (a ++ b)
+  one_less a x b up = λ k d low below.
+      let i = beside a x b d k in
+      let j = beside a x b d (k + 1) in
+      let long : j.0 < length (a ++ x ∷ b) = omega (arith, below, j.2, length-append a (x ∷ b), length-append a b) in
+      let far = sorted_far lt o (a ++ x ∷ b) up i.0 j.0 d (omega (arith, i.2, j.1)) long in
+      subst (λ v. lt v (get_or (a ++ b) k d) ≡ false) j.3 (subst (λ v. lt (get_or (a ++ x ∷ b) j.0 d) v ≡ false) i.3 far)
+
+pub next_one : {X : Type 0} (xs : List X) (i : ℕ) → i < length xs → (x : X) × (drop i xs ≡ x ∷ drop (i + 1) xs)
+next_one [] i below = absurd (omega (arith, below))
+next_one (x ∷ xs) i below = (get_or (x ∷ xs) i x, drop_more (x ∷ xs) i x below)
+
+-- the one at i moves to the end of the first ones
+pub one_more : {X : Type 0} (xs : List X) (kept i : ℕ) (d : X) → kept ≤ i → i < length xs → take (kept + 1) (slice_set xs kept (get_or xs i d)) ++ drop (i + 1) (slice_set xs kept (get_or xs i d)) ≡ take kept xs ++ drop i xs
+one_more xs kept i d le below =
+    let y = get_or xs i d in
+    ap (λ l. l ++ drop (i + 1) (slice_set xs kept y)) (take_more_set xs kept y (omega arith))
+    ∙ ap (λ l. (take kept xs ++ y ∷ []) ++ l) (drop-set-lt (i + 1) xs kept y (omega arith))
+    ∙ append_assoc (take kept xs) (y ∷ []) (drop (i + 1) xs)
+    ∙ ap (λ l. take kept xs ++ l) (sym (drop_more xs i d below))
 
 -- ---- marks
 

@@ -1,5 +1,5 @@
 -- A walk over the city objects of a feature: what is left of it.
-use Rattle.std.proofs.Common.{◌≡◌, ◌⊎◌, inl, inr, ℕ, List, ◌∷◌, ◌∙◌, sym, subst}
+use Rattle.std.proofs.Common.{◌≡◌, ◌⊎◌, inl, inr, ℕ, List, ◌∷◌, Option, Some, None, IfNone, ◌∙◌, sym, subst}
 use Rattle.std.specs.List.{Contains}
 use Rattle.cj_spans.specs.declared.node.Members.{Members}
 use Rattle.cj_spans.specs.declared.node.Node.{Node}
@@ -45,3 +45,7 @@ module _ (m n : Node) (line : line_of n ≡ line_of m) (source : source_of n ≡
 -- one of a list is its first or one of the rest
 pub next-or : {X : Type 0} (xs : List X) (x : X) (ys : List X) (y : X) → xs ≡ x ∷ ys → Contains xs y → (x ≡ y) ⊎ Contains ys y
 next-or xs x ys y e h = first-or x ys y (subst (λ zs. Contains zs y) e h)
+
+pub if-none : {P Q : Type 0} (o : Option ℕ) → (P → Q) → IfNone o P → IfNone o Q
+if-none None f h = f h
+if-none (Some n) f h = tt

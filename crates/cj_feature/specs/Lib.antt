@@ -2,6 +2,7 @@ pub mod Examples
 pub mod Feature
 pub mod Header
 pub mod HeaderView
+pub mod Kin
 pub mod Links
 pub mod Marking
 pub mod Members
@@ -11,6 +12,7 @@ pub mod Questions
 pub mod Relations
 pub mod Reached
 pub mod Shown
+pub mod Slots
 pub mod Typed
 pub mod Unmarked
 pub mod View

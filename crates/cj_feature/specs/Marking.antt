@@ -12,9 +12,13 @@ use Rattle.cj_spans.specs.Sound.{AreOf}
 use Rattle.cj_spans.specs.Tree.{Tree}
 use Rattle.cj_spans.specs.Parts.{members_of, member_of}
 use Rattle.cj_spans.specs.View.{tree, line_of, source_of, tokens_in, tree_at}
-use Rattle.cj_feature.specs.declared.feature.near.Near.{Near}
+use Rattle.cj_feature.specs.declared.feature.search.near.Near.{Near}
+use Rattle.cj_feature.specs.declared.feature.search.near.lists.Lists.{Lists}
+use Rattle.cj_feature.specs.declared.feature.search.near.pending.Pending.{Pending}
+use Rattle.cj_feature.specs.declared.feature.search.near.slot.Slot.{Slot}
 use Rattle.cj_feature.specs.Links.{same_text, listed_in}
 use Rattle.cj_feature.specs.Reached.{IsReached, IsReachedObject}
+use Rattle.cj_feature.specs.Slots.{IsReady}
 
 -- a token beside that of the node shows the tree and has a mark
 abbrev pub IsMarkedBy : Node → Tree → Type 0
@@ -91,11 +95,10 @@ pub record OnlyMarks (old new : BoundedList Token) : Type 0 where
   pub tokens : bare new.elements ≡ bare old.elements
   pub list : new ≡ record old { elements = new.elements }
 
--- each of these numbers is that of one of these city objects, whose name has the number before; but 0 is none, and one
--- from 2^31 on stands for one that is done with
-abbrev pub AreNamed : List (Tree × Tree) → List ℕ → List Span → List ℕ → Type 0
-AreNamed objects line spans numbers =
-    (k n : ℕ) → slice_get numbers k ≡ Some n → 0 < n → n < 2147483648
+-- what these slots hold and is not finished is one of these city objects, whose name has the number before
+abbrev pub AreNamed : List (Tree × Tree) → List ℕ → List Span → List Slot → Type 0
+AreNamed objects line spans slots =
+    (k n : ℕ) (s : Slot) → slice_get slots k ≡ Some s → IsReady s n
     → (n < length spans) × Contains objects (tree_at line spans (n - 1), tree_at line spans n)
 
 -- each of the first numbers is that of a city object that is reached
@@ -114,23 +117,23 @@ abbrev pub spans_by : Node → List Span
 spans_by n = spans_of (tokens_in (source_of n))
 
 -- those at hand are city objects beside this node
-abbrev pub Knows : {O L P : ℕ} → Node → Near O L P → Type 0
-Knows objects near = AreNamed (members_of (tree objects)) (line_of objects) (spans_by objects) near.objects
+abbrev pub Knows : {O L : ℕ} → Node → Lists O L → Type 0
+Knows objects lists = AreNamed (members_of (tree objects)) (line_of objects) (spans_by objects) lists.slots
 
 -- those that wait to be marked are reached, in the feature of this tree
-abbrev pub WaitsFor : {O L P : ℕ} → Tree → List ℕ → List Span → Near O L P → Type 0
-WaitsFor feature line spans near = AreReached feature line spans near.pending near.waiting
+abbrev pub WaitsFor : {P : ℕ} → Tree → List ℕ → List Span → Pending P → Type 0
+WaitsFor feature line spans pending = AreReached feature line spans pending.numbers pending.count
 
--- each city object at hand that is not done with was at hand before
-pub record AddsNone {O L P : ℕ} (old new : Near O L P) : Type 0 where
-  pub objects : (k n : ℕ) → slice_get new.objects k ≡ Some n → n < 2147483648
-      → (j : ℕ) × (slice_get old.objects j ≡ Some n)
+-- each city object at hand that is not finished was at hand before
+pub record AddsNone {O L : ℕ} (old new : Lists O L) : Type 0 where
+  pub slots : (k n : ℕ) (s : Slot) → slice_get new.slots k ≡ Some s → IsReady s n
+      → (j : ℕ) × (slice_get old.slots j ≡ Some s)
 
 -- of a line and its tokens: those at hand are city objects, and what waits and what has marks is reached
 pub record IsGuide {O L P : ℕ} (line : List ℕ) (tokens : List Token) (near : Near O L P) : Type 0 where
   pub of : AreOf line tokens
   pub known : (feature objects : Tree) → Json line feature
       → member_of (chars (codes "CityObjects")) feature ≡ Some objects
-      → AreNamed (members_of objects) line (spans_of tokens) near.objects
-  pub waiting : (feature : Tree) → Json line feature → WaitsFor feature line (spans_of tokens) near
+      → AreNamed (members_of objects) line (spans_of tokens) near.lists.slots
+  pub waiting : (feature : Tree) → Json line feature → WaitsFor feature line (spans_of tokens) near.pending
   pub sound : (feature : Tree) → Json line feature → AllReached feature line tokens

@@ -10,13 +10,13 @@ use Rattle.cj_spans.specs.Order.{compare_texts}
 use Rattle.cj_spans.specs.Tree.{Tree}
 use Rattle.cj_spans.specs.Parts.{members_of, text_of}
 use Rattle.cj_spans.specs.View.{tree, source_of, tree_in}
-use Rattle.cj_feature.specs.declared.feature.questions.Noted.{Noted}
-use Rattle.cj_feature.specs.declared.feature.tagged.Text.{Text}
-use Rattle.cj_feature.specs.declared.feature.questions.Pair.{Pair}
-use Rattle.cj_feature.specs.declared.feature.questions.Question.{Question}
-use Rattle.cj_feature.specs.declared.feature.questions.Questions.{Questions}
-use Rattle.cj_feature.specs.declared.feature.questions.Answer.{Answer}
-use Rattle.cj_feature.specs.declared.feature.questions.Answer.TheVariants.{Listed, Absent, Untold}
+use Rattle.cj_feature.specs.declared.feature.search.noted.Noted.{Noted}
+use Rattle.cj_feature.specs.declared.feature.search.tagged.Text.{Text}
+use Rattle.cj_feature.specs.declared.feature.search.questions.order.Pair.{Pair}
+use Rattle.cj_feature.specs.declared.feature.search.questions.order.Question.{Question}
+use Rattle.cj_feature.specs.declared.feature.search.questions.Questions.{Questions}
+use Rattle.cj_feature.specs.declared.feature.search.questions.Answer.{Answer}
+use Rattle.cj_feature.specs.declared.feature.search.questions.Answer.TheVariants.{Listed, Absent, Untold}
 use Rattle.cj_feature.specs.Tag.{tag_of}
 use Rattle.cj_feature.specs.Links.{same_text, is_known, lists}
 

@@ -7,7 +7,9 @@ use Rattle.cj_spans.specs.declared.node.Node.{Node}
 use Rattle.cj_spans.specs.Parts.{members_of, text_of}
 use Rattle.cj_spans.specs.Tree.{Tree}
 use Rattle.cj_spans.specs.View.{tree}
-use Rattle.cj_feature.specs.declared.feature.questions.Noted.{Noted}
+use Rattle.cj_feature.specs.declared.feature.search.noted.Noted.{Noted}
+use Rattle.cj_feature.specs.declared.feature.search.unmarked.Names.{Names}
+use Rattle.cj_feature.specs.declared.feature.search.unmarked.Names.TheVariants.{Every, These}
 use Rattle.cj_feature.specs.Links.{same_text, listed_in}
 use Rattle.cj_feature.specs.Marking.{IsMarkedBy}
 use Rattle.cj_feature.specs.Questions.{compare_sides, side_of, side_in}
@@ -25,13 +27,23 @@ abbrev pub ArePassed : Node → List (Tree × Tree) → List (Tree × Tree) → 
 ArePassed objects these later names = (m : Tree × Tree) → Contains these m
     → Contains later m ⊎ (IsMarkedBy objects m.1 ⊎ IsNoted objects names m.0)
 
--- the city objects whose names are noted and are these items, have marks
-abbrev pub NotedHaveMarks : Node → List Noted → List Tree → Type 0
-NotedHaveMarks objects names items =
+-- some names are in order
+abbrev pub AreSearchable : Node → Names → Type 0
+AreSearchable objects Every = Unit {0}
+AreSearchable objects (These names) = AreInNameOrder objects names.now
+
+-- a name of the text is looked for
+abbrev pub IsSought : Node → Names → Tree → Type 0
+IsSought objects Every t = Unit {0}
+IsSought objects (These names) t = IsNoted objects names.now t
+
+-- the city objects whose names are looked for and are these items, have marks
+abbrev pub SoughtHaveMarks : Node → Names → List Tree → Type 0
+SoughtHaveMarks objects names items =
     (item : Tree) → Contains items item → (m : Tree × Tree) → Contains (members_of (tree objects)) m
-    → same_text m.0 item ≡ true → IsNoted objects names m.0 → IsMarkedBy objects m.1
+    → same_text m.0 item ≡ true → IsSought objects names m.0 → IsMarkedBy objects m.1
 
 -- the same of what those among these city objects list that have marks
-abbrev pub ListNotedMarks : Node → List Noted → List (Tree × Tree) → Type 0
-ListNotedMarks objects names ms = (m : Tree × Tree) → Contains ms m → IsMarkedBy objects m.1
-    → NotedHaveMarks objects names (listed_in (chars (codes "children")) m.1)
+abbrev pub ListSoughtMarks : Node → Names → List (Tree × Tree) → Type 0
+ListSoughtMarks objects names ms = (m : Tree × Tree) → Contains ms m → IsMarkedBy objects m.1
+    → SoughtHaveMarks objects names (listed_in (chars (codes "children")) m.1)

@@ -12,14 +12,9 @@ mod coordinates;
 mod geometries;
 mod ids;
 mod links;
-mod many_links;
-mod near;
 mod objects;
-mod questions;
-mod reached;
 mod rules;
-mod tagged;
-mod unmarked;
+mod search;
 mod vertices;
 
 pub use city_object::{CityObject, Objects};
@@ -27,8 +22,9 @@ use cj_geometry::Templates;
 use cj_spans::{Doc, Node};
 pub use coordinates::Coordinates;
 pub use geometries::Geometries;
-pub use reached::mark_reached;
 pub use rules::check_feature;
+use search::reached;
+pub use search::reached::mark_reached;
 pub use vertices::Vertices;
 
 /// A valid feature, with its header. The nodes where its walks begin are looked up once, when it is

@@ -12,8 +12,8 @@ ghost use Rattle.cj_feature.specs.Links.{listed_in, is_group as is_group_of, chi
 ghost use Rattle.cj_feature.specs.Links.{object_links, links};
 
 use crate::feature::ids::is_known;
-use crate::feature::many_links::check_many_links;
 use crate::feature::objects::is_part;
+use crate::feature::search::many_links::check_many_links;
 use cj_geometry::ObjectType;
 use cj_geometry::rule::add;
 use cj_spans::{Kind, Least, Node, Reason};

@@ -1,8 +1,0 @@
-use Rattle.cj_feature.specs.Marking.{OnlyMarks, IsGuide}
-use Rattle.cj_feature.proofs.feature.near.Near.mark_round.Given as goal
-
-abbrev pub invariant-loop-block : goal.invariant-loop-block
-invariant-loop-block g l = record {
-  guide : IsGuide l.line l.tokens.elements l.self;
-  marks : OnlyMarks l.fn.tokens l.tokens;
-}

@@ -1,6 +1,0 @@
-use Rattle.std.proofs.Common.{◌≡◌, ℕ, ◌<◌, false}
-use Rattle.std.specs.Prelude.{slice_index_or}
-use Rattle.cj_feature.proofs.feature.questions.clear.Given as goal
-
-abbrev pub invariant-loop-one : goal.invariant-loop-one
-invariant-loop-one l = (i : ℕ) → i < l.one-index → slice_index_or l.marks i false ≡ false

@@ -1,0 +1,8 @@
+use Rattle.cj_feature.specs.Marking.{OnlyMarks, IsGuide}
+use Rattle.cj_feature.proofs.feature.search.near.Near.mark_block.Given as goal
+
+abbrev pub invariant-loop-number : goal.invariant-loop-number
+invariant-loop-number g l = record {
+  guide : IsGuide l.line l.tokens.elements l.self;
+  marks : OnlyMarks l.fn.tokens l.tokens;
+}

@@ -1,0 +1,14 @@
+use Rattle.std.proofs.Common.{sym, subst}
+use Rattle.cj_feature.specs.Marking.{AddsNone}
+use Rattle.cj_feature.proofs.NearLemmas.{among-moved, more-hand}
+use Rattle.cj_feature.proofs.feature.search.near.lists.Lists.sort_lists.Goals as goal
+use Rattle.cj_feature.proofs.feature.search.near.lists.Lists.sort_lists.Goals.{then-end-start-gt-LONG, else-end-start-gt-LONG}
+
+pub loop-list-preserved : goal.loop-list-preserved
+loop-list-preserved g c =
+    let a = c.args.self.now in
+    let b = c.loop-list.self in
+    elim c.if-end-start-gt-LONG.branch [
+      | then-end-start-gt-LONG w ↦ subst (AddsNone a) (sym w.self-is) (more-hand a b _ c.loop-list.invariant (record { slots = λ k n s at ready. among-moved b.slots _ k s w.sort.ensures at }))
+      | else-end-start-gt-LONG w ↦ subst (AddsNone a) (sym w.self-is) c.loop-list.invariant
+    ]

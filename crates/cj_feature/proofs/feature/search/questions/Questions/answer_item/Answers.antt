@@ -1,0 +1,18 @@
+use Rattle.std.proofs.Common.{sym, subst}
+use Rattle.std.specs.Str.{chars}
+use Rattle.cj_spans.specs.View.{tree}
+use Rattle.cj_feature.specs.Questions.{AreListed, noted}
+use Rattle.cj_feature.proofs.Questions.{listed_on}
+use Rattle.cj_feature.proofs.feature.search.questions.Questions.answer_item.Goals as goal
+
+pub returns-in-Some : goal.returns-in-Some
+returns-in-Some g c =
+    let a = c.args.self.now in
+    let list = chars c.args.list.now in
+    let pair = c.args.pair in
+    record {
+      few = c.requires.answered.few;
+      order = c.requires.answered.order;
+      listed = subst (AreListed list c.args.objects (noted a)) (sym c.mark.ensures) (listed_on c.args.objects (noted a) list a.listed (tree pair.from.node) (tree pair.to.node) c.in-Some.place c.requires.answered.listed c.in-Some.ensures c.requires.listed);
+      known = c.requires.answered.known;
+    }

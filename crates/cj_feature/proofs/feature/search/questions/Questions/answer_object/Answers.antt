@@ -1,0 +1,35 @@
+use Rattle.std.proofs.Common.{◌≡◌, ◌<◌, true, length, arith, rules, sym, subst, ◌∙◌}
+use Rattle.std.proofs.lemmas.Grind.{common_steps}
+use Rattle.std.proofs.lemmas.Option.{slice_get_within}
+use Rattle.cj_spans.specs.View.{trees, members_left}
+use Rattle.cj_feature.specs.Links.{same_text}
+use Rattle.cj_feature.specs.Questions.{AreLeft, IsFirstOn, noted}
+use Rattle.cj_feature.proofs.Questions.{left_unasked, left_marked}
+use Rattle.cj_feature.proofs.feature.search.questions.Questions.answer_object.Goals as goal
+
+pub returns-in_default : goal.returns-in_default
+returns-in_default g c =
+    let a = c.args.self.now in
+    record {
+      few = c.requires.answered.few;
+      order = c.requires.answered.order;
+      listed = c.requires.answered.listed;
+      known = left_unasked c.args.objects (noted a) a.known (trees (c.args.name, c.args.object)) (members_left c.args.later) c.requires.answered.known (λ i f. sym c.in_default.is ∙ c.first_on.ensures.only i (subst (λ t. IsFirstOn c.args.objects (noted a) t i) (sym c.of-from.ensures) f));
+    }
+
+pub answer_items-requires : goal.answer_items-requires
+answer_items-requires g c =
+    let a = c.args.self.now in
+    let rest = members_left c.args.later in
+    let below : c.in-Some.place < length (noted a) = slice_get_within (noted a) c.in-Some.place c.in-Some.ensures.first.question c.in-Some.ensures.first.stands in (
+      search rules,
+      (
+        record {
+          few = c.requires.answered.few;
+          order = c.requires.answered.order;
+          listed = c.requires.answered.listed;
+          known = subst (λ marks. AreLeft c.args.objects (noted a) marks rest) (sym c.mark.ensures) (left_marked c.args.objects (noted a) a.known (trees (c.args.name, c.args.object)) rest c.requires.answered.known c.in-Some.place (grind (arith, common_steps)) (λ i f. sym c.in-Some.is ∙ c.first_on.ensures.only i (subst (λ t. IsFirstOn c.args.objects (noted a) t i) (sym c.of-from.ensures) f)));
+        },
+        λ f t h k. c.requires.listed f t (subst (λ u. same_text u f ≡ true) c.of-from.ensures h) k,
+      ),
+    )

@@ -1,0 +1,11 @@
+use Rattle.cj_spans.specs.Parts.{members_of}
+use Rattle.cj_spans.specs.View.{tree, members_left}
+use Rattle.cj_feature.specs.Unmarked.{ListSoughtMarks}
+use Rattle.cj_feature.proofs.Walking.{Among}
+use Rattle.cj_feature.proofs.feature.search.reached.find_among.Given as goal
+
+abbrev pub invariant-loop-object : goal.invariant-loop-object
+invariant-loop-object l = record {
+  walk : Among l.objects l.object-iterator;
+  left : ListSoughtMarks l.objects l.names (members_left l.object-iterator) → ListSoughtMarks l.objects l.names (members_of (tree l.objects));
+}

@@ -1,0 +1,11 @@
+use Rattle.cj_spans.specs.Parts.{members_of}
+use Rattle.cj_spans.specs.View.{tree, members_left}
+use Rattle.cj_feature.specs.Marking.{HaveMarks}
+use Rattle.cj_feature.proofs.Walking.{Among}
+use Rattle.cj_feature.proofs.feature.search.reached.find_unmarked.Given as goal
+
+abbrev pub invariant-loop-name : goal.invariant-loop-name
+invariant-loop-name l = record {
+  walk : Among l.objects l.name-iterator;
+  left : HaveMarks l.objects (members_left l.name-iterator) (tree l.id) → HaveMarks l.objects (members_of (tree l.objects)) (tree l.id);
+}

@@ -1,0 +1,15 @@
+use Rattle.std.proofs.Common.{◌≡◌, sym, ap, ◌∙◌, rules}
+use Rattle.std.proofs.lemmas.Fn.{always_returns_same}
+use Rattle.cj_spans.specs.Parts.{text_of}
+use Rattle.cj_spans.specs.View.{tree}
+use Rattle.cj_feature.specs.Questions.{compare_sides, side_in, side_of, text_side}
+use Rattle.cj_feature.proofs.NameLemmas.{not-found}
+use Rattle.cj_feature.proofs.feature.search.unmarked.has.Goals as goal
+
+pub returns : goal.returns
+returns c = λ none.
+    let objects = c.args.objects in
+    let t = c.of-text.result in
+    let side : text_side t ≡ side_of (text_of (tree c.args.text)) = ap (λ n. (n, text_of (tree t.node))) t.tagged ∙ ap (λ u. side_of (text_of u)) c.of-text.ensures in
+    let found = c.binary_search_by.ensures.position (λ n. compare_sides (side_in objects n) (text_side t)) (always_returns_same _ _ _ (λ a r g h. search rules)) in
+    not-found objects c.args.names.now (tree c.args.text) (text_side t) c.binary_search_by.result c.requires side (sym c.is_ok.ensures.value ∙ none) found

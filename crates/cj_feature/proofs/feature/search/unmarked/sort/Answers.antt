@@ -1,0 +1,12 @@
+use Rattle.std.proofs.Common.{rules}
+use Rattle.std.specs.Ordering.{is_lt}
+use Rattle.std.proofs.lemmas.Fn.{always_returns_same}
+use Rattle.std.proofs.lemmas.List.Sorted.{ranks_by}
+use Rattle.cj_feature.specs.Questions.{compare_sides, side_in}
+use Rattle.cj_feature.proofs.Questions.{sides_total}
+use Rattle.cj_feature.proofs.feature.search.unmarked.sort.Goals as goal
+
+pub returns-clause-order : goal.returns-clause-order
+returns-clause-order c =
+    let side = side_in c.args.objects in
+    c.sort_unstable_by.ensures.sorted (λ a b. is_lt (compare_sides (side a) (side b))) (ranks_by sides_total side) (always_returns_same _ _ _ (λ a r g h. search rules))

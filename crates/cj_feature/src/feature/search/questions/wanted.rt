@@ -1,0 +1,48 @@
+//! Bits that show which second texts may be asked about.
+ghost use Rattle.std.specs.Prelude.{◌<◌};
+
+use crate::feature::search::questions::order::Question;
+use cj_spans::Node;
+
+/// The number of bits at one place.
+const BITS: u64 = 32;
+
+/// Returns the place for a number.
+pub fn place_among<const PLACES: usize>(number: u64) -> usize
+    requires { 0 < PLACES }
+    ensures { result < PLACES }
+{
+    (number % PLACES as u64) as usize
+}
+
+/// Returns the bit for a number, among those at its place.
+fn bit_among<const PLACES: usize>(number: u64) -> u32
+    requires { 0 < PLACES }
+{
+    1u32 << (number / PLACES as u64 % BITS)
+}
+
+/// Marks the second texts of questions as asked about. The place of a mark depends on the number
+/// that the text is mixed to, not on its tag. So texts of one tag have different bits.
+pub fn mark_wanted<const KEPT: usize>(
+    objects: Node,
+    questions: &[Question],
+    wanted: &mut [u32; KEPT],
+)
+    requires { 0 < KEPT }
+{
+    for one in wanted.iter_mut() {
+        *one = 0;
+    }
+    for question in questions {
+        let mix = question.to.node(objects).text_mix();
+        wanted[place_among::<KEPT>(mix)] |= bit_among::<KEPT>(mix);
+    }
+}
+
+/// Returns whether a text that is mixed to this number may be asked about as a second one.
+pub fn is_wanted<const KEPT: usize>(wanted: &[u32; KEPT], mix: u64) -> bool
+    requires { 0 < KEPT }
+{
+    wanted[place_among::<KEPT>(mix)] & bit_among::<KEPT>(mix) != 0
+}
