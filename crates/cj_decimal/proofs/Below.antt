@@ -1,6 +1,6 @@
 -- Words of eight digits, from the first one on, have the order of their numbers.
-use Rattle.std.proofs.Common.{◌≡◌, ℕ, zero, suc, ◌+◌, ◌-◌, ◌*◌, ◌/◌, ◌%◌, ◌^◌, ◌<◌, ◌≤◌, List, [], ◌∷◌, length, map, get_or, refl, sym, ap, subst, arith, ◌∙◌, inl, inr, w64}
-use Rattle.std.specs.Int.{swap_bytes, to_le_bytes, from_le_bytes, from_be_bytes}
+use Rattle.std.proofs.Common.{◌≡◌, ℕ, zero, suc, ◌+◌, ◌*◌, ◌/◌, ◌%◌, ◌^◌, ◌<◌, ◌≤◌, List, [], ◌∷◌, length, map, get_or, refl, sym, ap, subst, arith, ◌∙◌, inl, inr, w64}
+use Rattle.std.specs.Int.{swap_bytes, from_le_bytes, from_be_bytes}
 use Rattle.std.proofs.lemmas.Nat.{le_bytes_8, pow-add}
 use Rattle.std.proofs.lemmas.Bool.{cases_lt}
 use Rattle.std.proofs.Math.Nat.{mul-le-mul_left}

@@ -1,11 +1,11 @@
 -- Numbers of at most eight digits, read by one word of eight bytes.
 use Rattle.std.proofs.Common.{◌≡◌, ℕ, zero, suc, ◌+◌, ◌-◌, ◌*◌, ◌/◌, ◌%◌, ◌^◌, ◌<◌, ◌≤◌, List, [], ◌∷◌, length, take, drop, map, Bool, true, false, ◌&&◌, ◌||◌, nat_le, nat_eq, refl, sym, ap, subst, arith, ◌∙◌, inl, inr, not}
-use Rattle.std.specs.Int.Bits.{bit_and, bit_xor, and_block, xor_block}
-use Rattle.std.proofs.lemmas.Nat.{xor_lt, pow-add, pow_pos, shr-shr, shr_le, and_mask, and_shr, and_le_r}
+use Rattle.std.specs.Int.Bits.{bit_and, bit_or, bit_xor, and_block, xor_block}
+use Rattle.std.proofs.lemmas.Nat.{xor_lt, pow-add, pow_pos, shr-shr, shr_le, and_mask, and_shr, and_le_r, le_or_l, le_or_r}
 use Rattle.std.proofs.lemmas.Nat.Bits.{and_high_mask}
 use Rattle.std.proofs.lemmas.Bool.Decides.{nat_tests}
 use Rattle.std.proofs.lemmas.Bool.{cases_lt}
-use Rattle.std.specs.Prelude.{slice_range, Option, Some, None, IfSome}
+use Rattle.std.specs.Prelude.{slice_range, Option, Some, None, IfSome, IsTrue}
 use Rattle.std.proofs.Common.{get_or}
 use Rattle.std.proofs.lemmas.List.{drop-take, drop-drop, get_or-take, get_or-drop, length-drop, length-take-le}
 use Rattle.cj_decimal.specs.Reading.{IsShort, digits_front, begins, begins_digit, body}
@@ -76,7 +76,7 @@ length_map f [] = refl
 length_map f (b ∷ s) = ap suc (length_map f s)
 
 -- both tests of a word hold: each byte is below 10
-pub all_small : (s : List ℕ) → length s ≡ 8 → AllBelow 256 s → bit_and (word_of s) 0xf0f0f0f0f0f0f0f0 ≡ 0 → bit_and (word_of s + 0x0606060606060606) 0xf0f0f0f0f0f0f0f0 ≡ 0 → AllBelow 10 s
+all_small : (s : List ℕ) → length s ≡ 8 → AllBelow 256 s → bit_and (word_of s) 0xf0f0f0f0f0f0f0f0 ≡ 0 → bit_and (word_of s + 0x0606060606060606) 0xf0f0f0f0f0f0f0f0 ≡ 0 → AllBelow 10 s
 unfolding copies
 all_small s e h z y =
     let low = nibbles s e h z in
@@ -263,7 +263,7 @@ cleared zero s h z = let e = spelled s h z in (e.0, ap digits_value e.1)
 cleared (suc j) [] h z = (tt, refl)
 cleared (suc j) (b ∷ s) h z = cleared j s h.1 z.1
 
--- ---- and back: of digits both tests hold
+-- ---- and back: digits pass the test
 
 is_small : ℕ → Bool
 is_small b = not (nat_le 48 b && nat_le b 57) || nat_le (bit_xor b 48) 9
@@ -322,34 +322,32 @@ module _ (j : ℕ) (s : List ℕ) (w m : ℕ) (lj : j ≤ 8) (ls : length s ≡ 
       let same : bit_xor (word_of s) 0x3030303030303030 ≡ word_of xs = ap (bit_xor (word_of s)) (sym zeros ∙ ap (λ k. word_of (copies k 48)) (sym ls)) ∙ xor_same 48 (omega arith) s h in
       word ∙ ap (λ v. bit_and (bit_xor v 0x3030303030303030) (2 ^ 64 - 2 ^ (8 * j))) is ∙ ap (λ v. bit_and v (2 ^ 64 - 2 ^ (8 * j))) same ∙ masked j xs lj (length_map (λ b. bit_xor b 48) s ∙ ls) (xor_below s h)
 
-  -- the digits that stand at the end of eight bytes, where both tests hold
-  pub digits_at_end : bit_and m 0xf0f0f0f0f0f0f0f0 ≡ 0 → bit_and (m + 0x0606060606060606) 0xf0f0f0f0f0f0f0f0 ≡ 0
-      → (n : ℕ) → ((t : List ℕ) → length t ≡ 8 → AllBelow 10 t → m ≡ word_of t → n ≡ digits_value (map (λ d. d + 48) t)) → AllDigits (drop j s) × (n ≡ digits_value (drop j s))
-  digits_at_end low high n value =
+  -- the digits that stand at the end of eight bytes, where each byte of the word is below 10
+  pub digits_at_end : ((t : List ℕ) → length t ≡ 8 → AllBelow 256 t → m ≡ word_of t → AllBelow 10 t)
+      → (n : ℕ) → ((t : List ℕ) → length t ≡ 8 → AllBelow 10 t → m ≡ word_of t → n ≡ digits_value (map (λ d. d + 48) t))
+      → AllDigits (drop j s) × (n ≡ digits_value (drop j s))
+  digits_at_end each n value =
       let t = clear j (without_zeros s) in
-      let small = all_small t tested_length (clear_below j (without_zeros s) (xor_below s h)) (ap (λ v. bit_and v 0xf0f0f0f0f0f0f0f0) (sym tested) ∙ low) (ap (λ v. bit_and (v + 0x0606060606060606) 0xf0f0f0f0f0f0f0f0) (sym tested) ∙ high) in
+      let small = each t tested_length (clear_below j (without_zeros s) (xor_below s h)) tested in
       let end = cleared j s h small in
       (end.0, value t tested_length small tested ∙ end.1)
 
   -- the same, where a number is known to be above theirs
-  pub digits_below : bit_and m 0xf0f0f0f0f0f0f0f0 ≡ 0 → bit_and (m + 0x0606060606060606) 0xf0f0f0f0f0f0f0f0 ≡ 0
-      → (n : ℕ) → ((t : List ℕ) → length t ≡ 8 → AllBelow 10 t → m ≡ word_of t → digits_value (map (λ d. d + 48) t) < n) → AllDigits (drop j s) × (digits_value (drop j s) < n)
-  digits_below low high n value =
+  pub digits_below : ((t : List ℕ) → length t ≡ 8 → AllBelow 256 t → m ≡ word_of t → AllBelow 10 t)
+      → (n : ℕ) → ((t : List ℕ) → length t ≡ 8 → AllBelow 10 t → m ≡ word_of t → digits_value (map (λ d. d + 48) t) < n)
+      → AllDigits (drop j s) × (digits_value (drop j s) < n)
+  digits_below each n value =
       let t = clear j (without_zeros s) in
-      let small = all_small t tested_length (clear_below j (without_zeros s) (xor_below s h)) (ap (λ v. bit_and v 0xf0f0f0f0f0f0f0f0) (sym tested) ∙ low) (ap (λ v. bit_and (v + 0x0606060606060606) 0xf0f0f0f0f0f0f0f0) (sym tested) ∙ high) in
+      let small = each t tested_length (clear_below j (without_zeros s) (xor_below s h)) tested in
       let end = cleared j s h small in
       (end.0, subst (λ v. v < n) end.1 (value t tested_length small tested))
 
-  pub tests_hold : AllDigits (drop j s) → (bit_and m 0xf0f0f0f0f0f0f0f0 ≡ 0) × (bit_and (m + 0x0606060606060606) 0xf0f0f0f0f0f0f0f0 ≡ 0)
-  unfolding copies
-  tests_hold d =
+  -- and digits pass the test
+  pub digits_pass : (b : Bool) → ((t : List ℕ) → length t ≡ 8 → AllBelow 256 t → m ≡ word_of t → AllBelow 10 t → IsTrue b)
+      → AllDigits (drop j s) → IsTrue b
+  digits_pass b each d =
       let t = clear j (without_zeros s) in
-      let small = digits_small j s d in
-      let six : word_of (copies 8 6) ≡ 0x0606060606060606 = refl in
-      let sum : word_of t + 0x0606060606060606 ≡ word_of (map (λ b. b + 6) t) = ap (λ n. word_of t + n) (sym six ∙ ap (λ n. word_of (copies n 6)) (sym tested_length)) ∙ add_same 6 t in (
-        ap (λ v. bit_and v 0xf0f0f0f0f0f0f0f0) tested ∙ no_nibbles t tested_length (below_more 10 16 (omega arith) t small),
-        ap (λ v. bit_and (v + 0x0606060606060606) 0xf0f0f0f0f0f0f0f0) tested ∙ ap (λ v. bit_and v 0xf0f0f0f0f0f0f0f0) sum ∙ no_nibbles (map (λ b. b + 6) t) (length_map (λ b. b + 6) t ∙ tested_length) (sixes_below t small),
-      )
+      each t tested_length (clear_below j (without_zeros s) (xor_below s h)) tested (digits_small j s d)
 
 -- ---- in a line
 
@@ -390,6 +388,42 @@ below_top m l h =
     let top : bit_and m 0xf0f0f0f0f0f0f0f0 / 2 ^ 60 ≡ bit_and (m / 2 ^ 60) (2 ^ 4 - 1) = and_shr m 0xf0f0f0f0f0f0f0f0 60 in
     let mask = and_mask (m / 2 ^ 60) 4 in
     omega (arith, top, mask, h)
+
+both_zero : (a b : ℕ) → bit_or a b ≡ 0 → (a ≡ 0) × (b ≡ 0)
+both_zero a b h = let l = le_or_l a b in let r = le_or_r a b in (omega (arith, l, h), omega (arith, r, h))
+
+zero_is : (n : ℕ) → IsTrue (nat_eq n 0) → n ≡ 0
+zero_is n h = grind (arith, nat_tests)
+
+is_zero : (n : ℕ) → n ≡ 0 → IsTrue (nat_eq n 0)
+is_zero n h = grind (arith, nat_tests)
+
+-- the test of a word: no bit is set in a high half, nor when 6 is added to each byte
+pub passed_room : (w : ℕ) → w < 2 ^ 64 → IsTrue (nat_eq (bit_or (bit_and w 0xf0f0f0f0f0f0f0f0) (bit_and ((w + 0x0606060606060606) % 2 ^ 64) 0xf0f0f0f0f0f0f0f0)) 0) → w < 2 ^ 60
+passed_room w l h = below_top w l (both_zero _ _ (zero_is _ h)).0
+
+pub passed_each : (w : ℕ) (s : List ℕ) → length s ≡ 8 → AllBelow 256 s → w ≡ word_of s
+    → IsTrue (nat_eq (bit_or (bit_and w 0xf0f0f0f0f0f0f0f0) (bit_and ((w + 0x0606060606060606) % 2 ^ 64) 0xf0f0f0f0f0f0f0f0)) 0) → AllBelow 10 s
+passed_each w s e h is test =
+    let z = both_zero _ _ (zero_is _ test) in
+    let l : w < 2 ^ 64 = subst (λ v. v < 2 ^ 64) (sym is) (word_below s e h) in
+    let room = below_top w l z.0 in
+    let sum : (w + 0x0606060606060606) % 2 ^ 64 ≡ w + 0x0606060606060606 = omega arith in
+    all_small s e h (ap (λ v. bit_and v 0xf0f0f0f0f0f0f0f0) (sym is) ∙ z.0)
+    (ap (λ v. bit_and (v + 0x0606060606060606) 0xf0f0f0f0f0f0f0f0) (sym is) ∙ ap (λ v. bit_and v 0xf0f0f0f0f0f0f0f0) (sym sum) ∙ z.1)
+
+pub passes_each : (w : ℕ) (s : List ℕ) → length s ≡ 8 → AllBelow 256 s → w ≡ word_of s → AllBelow 10 s
+    → IsTrue (nat_eq (bit_or (bit_and w 0xf0f0f0f0f0f0f0f0) (bit_and ((w + 0x0606060606060606) % 2 ^ 64) 0xf0f0f0f0f0f0f0f0)) 0)
+unfolding copies
+passes_each w s e h is small =
+    let six : word_of (copies 8 6) ≡ 0x0606060606060606 = refl in
+    let added : word_of s + 0x0606060606060606 ≡ word_of (map (λ b. b + 6) s) = ap (λ n. word_of s + n) (sym six ∙ ap (λ n. word_of (copies n 6)) (sym e)) ∙ add_same 6 s in
+    let low : bit_and w 0xf0f0f0f0f0f0f0f0 ≡ 0 = ap (λ v. bit_and v 0xf0f0f0f0f0f0f0f0) is ∙ no_nibbles s e (below_more 10 16 (omega arith) s small) in
+    let l : w < 2 ^ 64 = subst (λ v. v < 2 ^ 64) (sym is) (word_below s e h) in
+    let room = below_top w l low in
+    let sum : (w + 0x0606060606060606) % 2 ^ 64 ≡ word_of (map (λ b. b + 6) s) = omega (arith, is, added, room) in
+    let high : bit_and ((w + 0x0606060606060606) % 2 ^ 64) 0xf0f0f0f0f0f0f0f0 ≡ 0 = ap (λ v. bit_and v 0xf0f0f0f0f0f0f0f0) sum ∙ no_nibbles (map (λ b. b + 6) s) (length_map (λ b. b + 6) s ∙ e) (sixes_below s small) in
+    is_zero _ (ap (λ v. bit_or v (bit_and ((w + 0x0606060606060606) % 2 ^ 64) 0xf0f0f0f0f0f0f0f0)) low ∙ ap (bit_or 0) high)
 
 pub masked_below : (x k : ℕ) → bit_and x (2 ^ 64 - 2 ^ k) < 2 ^ 64
 masked_below x k = let h = and_le_r x (2 ^ 64 - 2 ^ k) in let p = pow_pos k in omega (arith, h, p)

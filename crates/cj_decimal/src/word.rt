@@ -73,6 +73,20 @@ fn value_of(word: u64) -> u64
     first.wrapping_add(second) >> 32
 }
 
+/// Returns whether each byte of a word is below 10.
+///
+/// One test is enough. A byte of 16 or more has a bit in its high half. A byte from 10 to 15 gets
+/// one when 6 is added.
+#[inline(always)]
+fn are_below_ten(word: u64) -> bool
+    ensures room { IsTrue result → word < 2 ^ 60 }
+    ensures each { (s : List ℕ) → length s ≡ 8 → AllBelow 256 s → word ≡ word_of s
+        → IsTrue result ↔ AllBelow 10 s }
+{
+    let raised = word.wrapping_add(SIXES);
+    ((word & HIGH) | (raised & HIGH)) == 0
+}
+
 /// Returns the number that the last `count` bytes before `stop` spell. None unless all are digits.
 #[inline(always)]
 fn read_digits_before(line: &[u8], count: usize, stop: usize) -> Option<u64>
@@ -85,10 +99,11 @@ fn read_digits_before(line: &[u8], count: usize, stop: usize) -> Option<u64>
         × (n ≡ digits_value (slice_range line.now (stop - count) stop))) }
 {
     let word = (word_before(line, stop) ^ ZEROS) & last_bytes(count);
-    if word & HIGH != 0 || word.wrapping_add(SIXES) & HIGH != 0 {
-        return None;
+    if are_below_ten(word) {
+        Some(value_of(word))
+    } else {
+        None
     }
-    Some(value_of(word))
 }
 
 /// Returns the number that the bytes from `start` to `stop` spell. None unless they are at most
@@ -150,10 +165,7 @@ fn are_digits_below(line: &[u8], count: usize, stop: usize, word: u64) -> bool
         × (digits_value (slice_range line.now (stop - count) stop) < n) }
 {
     let digits = (word_before(line, stop) ^ ZEROS) & last_bytes(count);
-    if digits & HIGH != 0 || digits.wrapping_add(SIXES) & HIGH != 0 {
-        return false;
-    }
-    digits.swap_bytes() < word
+    are_below_ten(digits) && digits.swap_bytes() < word
 }
 
 /// Returns whether the bytes from `start` to `stop` are at most eight digits, with no 0 before

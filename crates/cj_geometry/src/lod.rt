@@ -40,6 +40,7 @@ fn choose<'a>(index: Node, templates: Templates<'a>) -> Option<Node<'a>>
 }
 
 /// Returns whether the geometry is an instance of a template.
+#[inline(always)]
 pub(crate) fn is_an_instance(node: Node) -> bool
     ensures { result ≡ is_instance (tree node.entry) }
 {
@@ -50,6 +51,7 @@ pub(crate) fn is_an_instance(node: Node) -> bool
 }
 
 /// Returns the level of detail of an instance's template.
+#[inline(never)]
 fn lod_of_template<'a>(node: Node, templates: Templates<'a>) -> Option<Node<'a>>
     ensures { option_map tree result ≡ template_lod (given templates.entry) (tree node.entry) }
 {
@@ -64,6 +66,7 @@ fn lod_of_template<'a>(node: Node, templates: Templates<'a>) -> Option<Node<'a>>
 
 /// Returns the level of detail of a geometry: its `lod`, or for an instance the one of its
 /// template. None if there is none. [`crate::Lods`] finds those of many instances faster.
+#[inline(always)]
 pub fn lod_of<'a>(node: Node<'a>, templates: Templates<'a>) -> Option<Node<'a>>
     ensures { option_map tree result ≡ lod (given templates.entry) (tree node.entry) }
 {

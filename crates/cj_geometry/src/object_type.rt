@@ -92,9 +92,17 @@ impl ObjectType {
 
     /// Returns the type whose name is the text of this node. None for any other node. Texts are
     /// compared by code points, with escapes undone (RFC 8259, sections 7 and 8.3).
+    ///
+    /// Most city objects are buildings and their parts, so it compares these names first.
     pub fn of(node: Node) -> Option<ObjectType>
         ensures { option_map row_at result ≡ row_of (tree node.entry) }
     {
+        if node.text_is(ObjectType::Building.name()) {
+            return Some(ObjectType::Building);
+        }
+        if node.text_is(ObjectType::BuildingPart.name()) {
+            return Some(ObjectType::BuildingPart);
+        }
         for object_type in ObjectType::all() {
             if node.text_is(object_type.name()) {
                 return Some(object_type);

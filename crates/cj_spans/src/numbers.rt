@@ -85,7 +85,7 @@ pub fn number_stop(line: &[u8], place: usize) -> Option<usize>
     if !is_digit(line[place]) && line[place] != b'-' {
         return None;
     }
-    if is_digit(line[place]) && place + LANES + 1 < line.len() {
+    if is_digit(line[place]) && place < line.len().saturating_sub(LANES + 1) {
         if let Some(stop) = few_digits_stop(line, place) {
             return Some(stop);
         }

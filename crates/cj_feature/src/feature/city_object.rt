@@ -25,6 +25,7 @@ pub struct Objects<'a> {
 }
 
 /// Returns the type of a city object, which is known.
+#[inline(always)]
 fn type_of(node: Node) -> ObjectType
     requires { is_row (type_row (tree node)) ≡ true }
     ensures { type_row (tree node.entry) ≡ Some (row_at result) }
@@ -63,6 +64,7 @@ impl<'a> Iterator for Objects<'a> {
 
     ghost remaining = { item_count objects_left };
 
+    #[inline(always)]
     #[tactic(auto, unfolding(crate::specs::Walks::objects_left, crate::specs::Walks::objects_line))]
     fn next(&mut self) -> Option<CityObject<'a>> {
         let mut members = self.members;

@@ -18,6 +18,7 @@ pub struct Geometries<'a> {
 }
 
 /// Returns a walk over the geometries of a city object, if it has any.
+#[inline(always)]
 fn geometries_of(object: Node) -> Option<Items>
     ensures left { left_of result ≡ items_if (member_of (chars (codes "geometry")) (tree object.entry)) }
     ensures line { IfSome result (λ w. items_line w ≡ line_of object.entry) }
@@ -55,6 +56,7 @@ impl<'a> Iterator for Geometries<'a> {
 
     ghost remaining = { item_count geometries_left };
 
+    #[inline(always)]
     #[tactic(auto, unfolding(crate::specs::Walks::geometries_left, crate::specs::Walks::geometries_line))]
     fn next(&mut self) -> Option<Node<'a>> {
         let mut items = self.items;

@@ -1,6 +1,6 @@
-use Rattle.std.proofs.Common.{◌≡◌, ◌-◌, ◌<◌, ℕ, List, Some, get_or, ap, subst, sym, arith}
+use Rattle.std.proofs.Common.{◌≡◌, ◌-◌, ◌<◌, ℕ, Some, get_or, ap, subst, sym, arith}
 use Rattle.std.specs.Prelude.{slice_range}
-use Rattle.cj_decimal.specs.Spelling.{AllDigits, digits_value}
+use Rattle.cj_decimal.specs.Spelling.{digits_value}
 use Rattle.cj_decimal.proofs.Below.{all_below}
 use Rattle.cj_decimal.proofs.Eights.{word_short}
 use Rattle.cj_decimal.proofs.word.is_below.Goals.{else-line-start-eq48-via-then-line-start-eq48+else-count-ne1, else-line-start-eq48-via-else-line-start-eq48}
