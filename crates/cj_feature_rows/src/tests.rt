@@ -19,7 +19,7 @@ mod templates;
 mod worked;
 
 use cj_budget::{Bounded, Stack};
-use cj_feature::{check_feature, check_header};
+use cj_feature::{Header, check_feature, check_header};
 use cj_spans::{Doc, Finding, Token, scan};
 use std::alloc::{AllocError, Global};
 use std::process::Abort;
@@ -52,6 +52,14 @@ fn header_finding(rt: &impl Abort, alloc: Global, line: &[u8], with_box: bool) -
     }
 }
 
+/// Returns the finding of a feature with a header.
+fn finding_with(header: &Header, feature: Doc) -> Option<Finding> {
+    match check_feature(feature, header, false) {
+        Ok(_) => None,
+        Err(finding) => Some(finding),
+    }
+}
+
 /// Returns the finding of a line that is judged as a feature, with a header.
 fn feature_finding(
     rt: &impl Abort,
@@ -62,10 +70,7 @@ fn feature_finding(
     let header_tokens = tokens_of(rt, alloc, header_line);
     let tokens = tokens_of(rt, alloc, line);
     match check_header(Doc::of(header_line, header_tokens.as_slice()), false) {
-        Ok(header) => match check_feature(Doc::of(line, tokens.as_slice()), &header, false) {
-            Ok(_) => None,
-            Err(finding) => Some(finding),
-        },
+        Ok(header) => finding_with(&header, Doc::of(line, tokens.as_slice())),
         Err(_) => panic!(rt; "no header"),
     }
 }
@@ -117,6 +122,22 @@ fn line_of(
     unmarked(alloc, &line, want)
 }
 
+/// Checks that a row of the table, as a header with or without a box, has the finding that it
+/// expects.
+fn header_judged(
+    rt: &impl Abort,
+    alloc: Global,
+    with_box: bool,
+    pattern: &str,
+    row: &str,
+) -> Result<(), AllocError> {
+    let (line, want) = line_of(rt, alloc, pattern, row)?;
+    let found = header_finding(rt, alloc, line.as_bytes(), with_box);
+    let found = finding_text(alloc, found)?;
+    assert_eq!(rt; found.as_str(), want.as_str(), "{row}");
+    Ok(())
+}
+
 /// Checks that each row of the table, as a header with or without a box, has the finding that it
 /// expects.
 fn headers_judged(
@@ -127,10 +148,7 @@ fn headers_judged(
     rows: &str,
 ) -> Result<(), AllocError> {
     for row in rows.trim().lines() {
-        let (line, want) = line_of(rt, alloc, pattern, row)?;
-        let found = header_finding(rt, alloc, line.as_bytes(), with_box);
-        let found = finding_text(alloc, found)?;
-        assert_eq!(rt; found.as_str(), want.as_str(), "{row}");
+        header_judged(rt, alloc, with_box, pattern, row)?;
     }
     Ok(())
 }
@@ -155,6 +173,21 @@ fn boxed_headers_meet(
     headers_judged(rt, alloc, true, pattern, rows)
 }
 
+/// Checks that a row of the table, as a feature with this header, has the finding that it expects.
+fn feature_meets(
+    rt: &impl Abort,
+    alloc: Global,
+    header: &str,
+    pattern: &str,
+    row: &str,
+) -> Result<(), AllocError> {
+    let (line, want) = line_of(rt, alloc, pattern, row)?;
+    let found = feature_finding(rt, alloc, header.as_bytes(), line.as_bytes());
+    let found = finding_text(alloc, found)?;
+    assert_eq!(rt; found.as_str(), want.as_str(), "{row}");
+    Ok(())
+}
+
 /// Checks that each row of the table, as a feature with this header, has the finding that it
 /// expects.
 fn features_meet(
@@ -165,10 +198,7 @@ fn features_meet(
     rows: &str,
 ) -> Result<(), AllocError> {
     for row in rows.trim().lines() {
-        let (line, want) = line_of(rt, alloc, pattern, row)?;
-        let found = feature_finding(rt, alloc, header.as_bytes(), line.as_bytes());
-        let found = finding_text(alloc, found)?;
-        assert_eq!(rt; found.as_str(), want.as_str(), "{row}");
+        feature_meets(rt, alloc, header, pattern, row)?;
     }
     Ok(())
 }

@@ -85,6 +85,21 @@ fn list_line(given: Given) -> &'static [u8] {
     }
 }
 
+/// Returns the least finding of a geometry, after an earlier finding.
+fn least_after(
+    node: Node,
+    vertices: Option<u64>,
+    templates: Templates,
+    before: Option<Finding>,
+) -> Option<Finding> {
+    let mut least = Least::new();
+    if let Some(finding) = before {
+        least.add(finding);
+    }
+    check_geometry(node, vertices, templates, &mut least);
+    least.get()
+}
+
 /// Returns the least finding of a line that is a geometry, after an earlier finding.
 fn least_of(
     rt: &impl Abort,
@@ -99,12 +114,7 @@ fn least_of(
     let templates = templates_of(rt, around.templates, list);
     let tokens = tokens_of(rt, alloc, line);
     let node = Doc::of(line, tokens.as_slice()).root();
-    let mut least = Least::new();
-    if let Some(finding) = before {
-        least.add(finding);
-    }
-    check_geometry(node, around.vertices, templates, &mut least);
-    least.get()
+    least_after(node, around.vertices, templates, before)
 }
 
 /// Returns a finding as a row has it: its byte, and the code and the text of its reason.
@@ -154,6 +164,20 @@ fn line_of(
     unmarked(alloc, &line, want)
 }
 
+/// Checks that a row of the table has the finding that it expects.
+fn meets_row(
+    rt: &impl Abort,
+    alloc: Global,
+    around: Around,
+    geometry: &str,
+    row: &str,
+) -> Result<(), AllocError> {
+    let (line, want) = line_of(rt, alloc, geometry, row)?;
+    let found = shown(alloc, least_of(rt, alloc, line.as_bytes(), around, None))?;
+    assert_eq!(rt; found.as_str(), want.as_str(), "{row}");
+    Ok(())
+}
+
 /// Checks that each row of the table has the finding that it expects.
 fn meets(
     rt: &impl Abort,
@@ -163,9 +187,7 @@ fn meets(
     rows: &str,
 ) -> Result<(), AllocError> {
     for row in rows.trim().lines() {
-        let (line, want) = line_of(rt, alloc, geometry, row)?;
-        let found = shown(alloc, least_of(rt, alloc, line.as_bytes(), around, None))?;
-        assert_eq!(rt; found.as_str(), want.as_str(), "{row}");
+        meets_row(rt, alloc, around, geometry, row)?;
     }
     Ok(())
 }

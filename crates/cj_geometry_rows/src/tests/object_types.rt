@@ -22,14 +22,21 @@ fn shown(alloc: Global, found: Option<ObjectType>) -> Result<String, AllocError>
     }
 }
 
+/// Returns the type that a line names, as a row has it.
+fn type_in(rt: &impl Abort, alloc: Global, line: &[u8]) -> Result<String, AllocError> {
+    let tokens = tokens_of(rt, alloc, line);
+    shown(
+        alloc,
+        ObjectType::of(Doc::of(line, tokens.as_slice()).root()),
+    )
+}
+
 /// Checks that each row of the table has the type that it expects.
 fn meets(rt: &impl Abort, alloc: Global, rows: &str) -> Result<(), AllocError> {
     for row in rows.trim().lines() {
         let (value, want) = row.split_once('|').expect(rt, "two cells");
-        let line = value.trim().as_bytes();
-        let tokens = tokens_of(rt, alloc, line);
-        let found = ObjectType::of(Doc::of(line, tokens.as_slice()).root());
-        assert_eq!(rt; shown(alloc, found)?.as_str(), want.trim(), "{row}");
+        let found = type_in(rt, alloc, value.trim().as_bytes())?;
+        assert_eq!(rt; found.as_str(), want.trim(), "{row}");
     }
     Ok(())
 }
