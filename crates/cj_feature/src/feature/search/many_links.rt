@@ -6,7 +6,7 @@ ghost use Rattle.std.specs.List.{flat_map, list_any};
 ghost use Rattle.std.specs.Str.{chars};
 ghost use Rattle.cj_spans.specs.Finding.{least};
 ghost use Rattle.cj_spans.specs.Parts.{items_of, members_of};
-ghost use Rattle.cj_spans.specs.View.{tree, source_of, tree_in};
+ghost use Rattle.cj_spans.specs.View.{tree, items_left, source_of, tree_in};
 ghost use Rattle.cj_feature.specs.Kin.{list_of, back_of, linked, all_linked};
 ghost use Rattle.cj_feature.specs.Links.{is_known as is_known_in, listed_in, children, parents, part, object_links};
 ghost use Rattle.cj_feature.specs.Questions.{noted_in, AreAnswered};
@@ -76,8 +76,44 @@ fn check_item<'a, const ROOM: usize, const KEPT: usize>(
     false
 }
 
+/// Checks the items of a list, which are ahead. Returns whether one of them is known to be an id in
+/// the feature.
+fn check_items<'a, const ROOM: usize, const KEPT: usize>(
+    objects: Node<'a>,
+    list: Ahead<'a>,
+    questions: &mut Questions<ROOM, KEPT>,
+    found: &mut Least,
+) -> bool
+    requires { AreAnswered (back_of list.link) objects [] questions.old }
+    ensures found { found.new
+        ≡ least found.old (flat_map (linked list.entry.link (members_of (tree objects.entry))
+        (noted_in objects.entry list.entry.name)) (items_left list.entry.items)) }
+    ensures known { result ≡ true
+        → list_any (is_known_in (members_of (tree objects.entry))) (items_left list.entry.items) ≡ true }
+    ensures answered { AreAnswered (back_of list.entry.link) objects.entry [] questions.new }
+{
+    let Ahead { link, name, .. } = list;
+    let (mut items, later) = (list.items, list.later);
+    let mut known = false;
+    while let Some(item) = items.next() {
+        let ahead = Ahead {
+            link,
+            name,
+            items,
+            later,
+        };
+        if check_item(objects, item, ahead, questions, found) {
+            known = true;
+        }
+    }
+    known
+}
+
 /// Checks the children or the parents of a city object. Returns whether one of them is known to be
 /// an id in the feature.
+///
+/// It is inlined, since most city objects have no such list.
+#[inline(always)]
 fn check_list<'a, const ROOM: usize, const KEPT: usize>(
     link: Link,
     objects: Node<'a>,
@@ -101,21 +137,13 @@ fn check_list<'a, const ROOM: usize, const KEPT: usize>(
         return false;
     }
     let tag = tag_of(objects.at(number));
-    let name = Noted { tag, number };
-    let mut known = false;
-    let mut items = value.items();
-    while let Some(item) = items.next() {
-        let ahead = Ahead {
-            link,
-            name,
-            items,
-            later,
-        };
-        if check_item(objects, item, ahead, questions, found) {
-            known = true;
-        }
-    }
-    known
+    let list = Ahead {
+        link,
+        name: Noted { tag, number },
+        items: value.items(),
+        later,
+    };
+    check_items(objects, list, questions, found)
 }
 
 /// The children of all city objects.

@@ -1,0 +1,20 @@
+use Rattle.std.proofs.Common.{◌≡◌, [], length, true}
+use Rattle.std.specs.List.{flat_map, list_any}
+use Rattle.cj_spans.specs.Finding.{least}
+use Rattle.cj_spans.specs.Parts.{members_of}
+use Rattle.cj_spans.specs.View.{tree, items_left}
+use Rattle.cj_feature.specs.Kin.{back_of, linked}
+use Rattle.cj_feature.specs.Links.{is_known}
+use Rattle.cj_feature.specs.Questions.{noted_in, AreAnswered}
+use Rattle.cj_feature.proofs.feature.search.many_links.check_items.Given as goal
+
+abbrev pub invariant-loop-item : goal.invariant-loop-item
+invariant-loop-item g l = record {
+  found : least l.found (flat_map (linked l.link (members_of (tree l.objects)) (noted_in l.objects l.name)) (items_left l.items)) ≡ least l.initial.found (flat_map (linked l.link (members_of (tree l.objects)) (noted_in l.objects l.name)) (items_left l.list.items));
+  known : l.known ≡ true → list_any (is_known (members_of (tree l.objects))) (items_left l.list.items) ≡ true;
+  later : list_any (is_known (members_of (tree l.objects))) (items_left l.items) ≡ true → list_any (is_known (members_of (tree l.objects))) (items_left l.list.items) ≡ true;
+  answered : AreAnswered (back_of l.link) l.objects [] l.questions;
+}
+
+abbrev pub decreases-loop-item : goal.decreases-loop-item
+decreases-loop-item g l = length (items_left l.items)
