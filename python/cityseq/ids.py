@@ -12,8 +12,8 @@ import json
 import re
 import threading
 from functools import lru_cache
-from operator import le
-from typing import Callable, FrozenSet, Iterable, Iterator, List, Optional, TypeVar
+from operator import itemgetter, le
+from typing import Callable, FrozenSet, Iterable, Iterator, List, Optional, Tuple, TypeVar
 
 from ._library import Text, sort_texts
 
@@ -42,13 +42,26 @@ def part_size_for(ids: bytes) -> int:
     return size if len(ids) >= MANY and size <= MOST else 0
 
 
+def _even(ids: bytes) -> int:
+    """Returns the length of each id of a query with its LF. 0 if the lengths differ."""
+    width, count = ids.find(b"\n") + 1, ids.count(b"\n") + 1
+    is_even = len(ids) + 1 == count * width and ids[width - 1 :: width] == b"\n" * (count - 1)
+    return width if is_even else 0
+
+
+@lru_cache(maxsize=2)
+def _lengths(ids: bytes) -> Tuple[int, bool]:
+    """Returns the length of the longest id of a query, and whether all have that length."""
+    width = _even(ids)
+    return (width or max(map(len, io.BytesIO(ids + b"\n")))) - 1, width > 0
+
+
 @lru_cache(maxsize=2)
 def _sorted(ids: bytes) -> bytes:
     """Returns the ids of a query in the order of their bytes, with an LF after each. They are given
     one a line."""
-    width, count = ids.find(b"\n") + 1, ids.count(b"\n") + 1
-    is_even = len(ids) + 1 == count * width and ids[width - 1 :: width] == b"\n" * (count - 1)
-    if is_even and b"\0" not in ids:  # C sorts texts of one length in half the time
+    width = _even(ids)
+    if width and b"\0" not in ids:  # C sorts texts of one length in half the time
         texts = bytearray(ids.replace(b"\n", b"\0") + b"\0")
         if sort_texts(texts, width):
             return bytes(texts.replace(b"\0", b"\n"))
@@ -124,17 +137,18 @@ def _between(ids: bytes, lines: List[bytes], begin: int) -> Optional[bytes]:
     return found[:-1] if found and found != b"\n" else found
 
 
-def _usual(lines: List[bytes], begin: bytes) -> Optional[List[bytes]]:
-    """Returns the id of each line. None if not all have this beginning up to the id, or if an id
-    has an escape."""
-    place = len(begin)
-    # no call for each line, because there are very many
-    ids = [line[place : line.find(b'"', place)] for line in lines if line.startswith(begin)]
-    return ids if len(ids) == len(lines) and b"\\" not in b"".join(ids) else None
+def _usual(ids: bytes, heads: List[bytes], begin: int) -> List[bytes]:
+    """Returns the id of each line as it is spelled. Of an id that is longer than all ids of a query
+    it returns some bytes, which may be one of these."""
+    if _for_all(_lengths, ids)[1]:
+        # no step of the interpreter for each line, because there are very many
+        return list(map(itemgetter(slice(begin, None)), heads))
+    return [head[begin:].partition(b'"')[0] for head in heads]
 
 
 def _chosen(ids: bytes, found: Iterable[bytes]) -> bytes:
-    """Returns the ids of a query that are among some texts."""
+    """Returns the ids of a query that are among some texts, sorted: to prepare them takes the
+    library a fourth of the time then, and to sort them takes less than that saves."""
     texts = sorted(_for_all(_listed, ids).intersection(found))
     return b"\n" * (texts[:1] == [b""]) + b"\n".join(texts)
 
@@ -144,19 +158,32 @@ def _ids_in(ids: bytes, text: bytes) -> bytes:
     first = BEGINNING.match(text)
     if first is None:
         return _chosen(ids, _thorough(text))
-    lines = io.BytesIO(text).readlines()  # this finds LFs faster than `splitlines`
     begin, chosen = first.group(), None
-    if b"\\" not in text and lines[-1].startswith(begin) and all(map(le, lines, lines[1:])):
-        chosen = _between(ids, lines, len(begin))
+    found: Optional[Iterable[bytes]] = None
+    most = len(begin) + _for_all(_lengths, ids)[0]  # each id of the query ends before this byte
+    heads = list(map(itemgetter(slice(most)), io.BytesIO(text)))
+    together = b"\n".join([b"", *heads])
+    may_escape = b"\\" in together
+    is_sorted = heads[-1].startswith(begin) and all(map(le, heads, heads[1:]))
+    if is_sorted and not may_escape:
+        chosen = _between(ids, heads, len(begin))
     if chosen is None:
-        found = _usual(lines, begin)
-        chosen = _chosen(ids, _thorough(text) if found is None else found)
+        if is_sorted or together.count(b"\n" + begin) == len(heads):
+            found = _usual(ids, heads, len(begin))
+        if found is None or (may_escape and b"\\" in b"".join(found)):
+            found = _thorough(text)
+        chosen = _chosen(ids, found)
     return chosen
+
+
+def are_read(ids: bytes) -> bool:
+    """Returns whether Python reads the ids of usual parts for a query with these ids."""
+    return len(ids) >= MANY and not part_size_for(ids)
 
 
 def ids_for(ids: bytes, part: Text) -> bytes:
     """Returns the ids of a query that may be in a part. Returns all if they are few, or few
-    compared with the part."""
+    compared with the part. A part that is no `bytes` is copied."""
     if len(ids) < MANY or len(part) >= LONGER * len(ids):
         return ids
     return _ids_in(ids, bytes(part)) if part else b""

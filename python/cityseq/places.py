@@ -9,7 +9,7 @@ import sys
 import threading
 from contextlib import suppress
 from functools import partial
-from typing import Any, Callable, Iterator, Optional, Tuple
+from typing import Any, Callable, Iterator, List, Optional, Tuple
 
 from ._library import CallStatus, RawAnswer, Text, library
 from .faults import read_fault
@@ -87,6 +87,25 @@ class Placed:
         room = _room.of(end - begin)
         count, fault = self.fill(room, begin)
         return room[:count], fault
+
+    def text(self, begin: int, end: int) -> Tuple[bytes, Optional[OSError]]:
+        """Does the same as `read`, but the bytes are an object of their own, and do not change."""
+        pieces: List[bytes] = []
+        try:
+            while begin < end:
+                piece = self.look(begin, end)
+                if not piece:
+                    break
+                pieces.append(piece)
+                begin += len(piece)
+        except OSError as error:
+            return b"".join(pieces), error
+        return b"".join(pieces), None
+
+    def reading(self, work: Work, begin: int, end: int) -> Read:
+        """Returns a call that reads the bytes between two places for a piece of work. If Python
+        reads ids in them, it needs `bytes`, and would copy all others."""
+        return partial(self.text if work.reads_ids else self.read, begin, end)
 
     def whole(self, begin: int, end: int) -> bytearray:
         """Returns the bytes between two places, or those that there are, in memory of their own."""
@@ -224,4 +243,4 @@ def judge_placed(
         answer = places.counted(work, header, end - begin)
         if answer is not None and places.begin == end:
             return answer
-    return judge_read(work, file, header, partial(source.read, begin, end), first)
+    return judge_read(work, file, header, source.reading(work, begin, end), first)

@@ -18,7 +18,7 @@ from ._library import (
     library,
 )
 from .faults import RequestError
-from .ids import ids_for, in_order
+from .ids import are_read, ids_for, in_order
 
 if TYPE_CHECKING:
     from decimal import Decimal
@@ -89,6 +89,11 @@ class Work:
     def counts_alone(self) -> bool:
         """Whether the answer for a valid part has only counts."""
         return self.kind == "check" and not self.keep_going
+
+    @property
+    def reads_ids(self) -> bool:
+        """Whether Python reads the ids of the lines, to find those of the query."""
+        return self.ids is not None and are_read(self.ids)
 
     def request(self, header: bytes, part: Text) -> RawRequest:
         """Returns the request for a header and a part. The line limit is lowered to less than twice

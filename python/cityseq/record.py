@@ -44,7 +44,8 @@ def time_now() -> str:
 
 
 class Record:
-    """The lines of a record. It reads the existing lines and appends others, each by one write."""
+    """The lines of a record. It reads the existing lines and appends others, each by one write if
+    the system takes all of it."""
 
     def __init__(self, path: str) -> None:
         self.path = path
@@ -58,7 +59,7 @@ class Record:
             if text and not text.endswith(
                 b"\n"
             ):  # a run that was killed may have left an incomplete line
-                self._file.write(b"\n")
+                self._write(b"\n")
         except OSError as fault:
             raise write_fault(fault, path) from fault
 
@@ -98,9 +99,15 @@ class Record:
     def append(self, told: Object) -> None:
         """Appends a line."""
         try:
-            self._file.write(json.dumps(told).encode("utf-8") + b"\n")
+            self._write(json.dumps(told).encode("utf-8") + b"\n")
         except OSError as fault:
             raise write_fault(fault, self.path) from fault
+
+    def _write(self, text: bytes) -> None:
+        """Writes all of a text. If the disk becomes full, the system takes some of it, and refuses
+        the next write."""
+        while text:
+            text = text[self._file.write(text) :]
 
     def close(self) -> None:
         """Closes the file."""

@@ -276,7 +276,8 @@ class Stream:
             yield partial(_told, answer)
             answer = places.counted(self.work, header, AT_ONCE)
         for ends in places.parts():
-            yield partial(judge_read, self.work, self.file, header, partial(file.read, *ends))
+            read = file.reading(self.work, *ends)
+            yield partial(judge_read, self.work, self.file, header, read)
         return places.begin
 
     def _part_size(self, usual: int, header: bytes) -> int:

@@ -1,5 +1,6 @@
 """Queries for very many ids: the same is kept as by a query for all of them."""
 import io
+import json
 import random
 import unittest
 from unittest import mock
@@ -10,7 +11,7 @@ from .support import HEADER, PLAIN, feature
 import cityseq
 from cityseq import ids as ids_of
 from cityseq.ids import MANY, MOST, _ids_in, _sorted, ids_for, in_order, part_size_for
-from cityseq.query import asked
+from cityseq.query import asked, lines_of
 
 FEW = [f"other-{number:05}" for number in range(MANY // 8)]  # that are in no stream here
 LINES = (  # each with the text of its id
@@ -158,6 +159,14 @@ class Filters(support.InFolder):
         few = self.asked_for(200, 100_000, part_size=3_000)
         self.assertTrue(10 < len(few) and max(ids for _, ids in few) < 200, few)
 
+    def test_parts_of_a_file_are_not_copied(self):
+        """Those whose ids Python reads are `bytes`, and others are not."""
+        with mock.patch("cityseq.places.Placed.read", side_effect=AssertionError):
+            for jobs in (1, 3):
+                self.asked_for(20_000, 100_000, jobs=jobs)
+            with self.assertRaises(AssertionError):
+                self.asked_for(20_000, 10, jobs=1)
+
     def test_streams_that_are_in_order(self):
         """Ids whose order differs from that of their lines, since a quote follows each there."""
         names = sorted(
@@ -173,6 +182,42 @@ class Filters(support.InFolder):
                 {name.encode() for name in wanted if feature(name) in lines[begin:end]} <= found,
                 (lines[begin:end], wanted, found),
             )
+
+    def test_ids_by_chance(self):
+        """Ids of one length or of several, in any order and spelling, cut short or not."""
+        for seed in range(400):
+            chance = random.Random(seed)
+            lengths = chance.choice([(2, 2), (0, 4), (3, 3), (1, 2)])
+
+            def text(least, most):
+                return "".join(chance.choices('ab"\\é ', k=chance.randint(least, most)))
+
+            names = [text(0, 4) for _ in range(chance.randrange(1, 9))]
+            lines = [feature(self.spelled(name, chance)) for name in names]
+            if chance.randrange(2):
+                lines.sort()
+            part = b"".join(lines)
+            if chance.randrange(4) == 0:
+                part = part[: -chance.randrange(1, len(lines[-1]))]
+            given = [json.loads(line)["id"] for line in part.split(b"\n")[: part.count(b"\n")]]
+            wanted = [text(*lengths) for _ in range(9)] + chance.sample(names, len(names) // 2)
+            if chance.randrange(2):  # of one length in bytes
+                wanted = [name for name in wanted if len(name.encode()) == 2] or ["ab"]
+            found = _ids_in(lines_of(wanted), part).split(b"\n")
+            found = [name.decode() for name in found]
+            with self.subTest(seed=seed, part=part, wanted=wanted, found=found):
+                self.assertLessEqual(set(given) & set(wanted), set(found))
+                self.assertLessEqual(set(found) - {""}, set(wanted))
+
+    @staticmethod
+    def spelled(name, chance):
+        """Returns an id as a line has it, with more escapes than there need be."""
+        odd = chance.randrange(3) == 0
+        return "".join(
+            f"\\u{ord(sign):04x}" if odd and chance.randrange(3) == 0
+            else json.dumps(sign, ensure_ascii=False)[1:-1]
+            for sign in name
+        )
 
     def test_lines_that_are_cut_short(self):
         wanted = "\n".join(("ab", "abb", "abc", "abcd", "z"))

@@ -1,4 +1,5 @@
 """What is told as JSON, and the record: by the document, docs/json.md."""
+import errno
 import hashlib
 import json
 import os
@@ -13,6 +14,7 @@ from .test_told import example
 
 import cityseq
 from cityseq.objects import exact
+from cityseq.record import Record
 
 TYPES = {
     "string": str,
@@ -304,6 +306,21 @@ class Records(Documented):
         self.assertEqual(output.count(b"as recorded"), 2)
         lines = self.record.read_bytes().splitlines()
         self.assertEqual((len(lines), json.loads(lines[-1])["file"]), (4, str(self.paths[2])))
+
+    def test_a_record_on_a_full_disk(self):
+        """The system takes some bytes of a line, and then no more."""
+        record, taken = Record(str(self.record)), [9]
+
+        class Full:
+            def write(self, text):
+                if not taken:
+                    raise OSError(errno.ENOSPC, "No space left on device")
+                return taken.pop()
+
+        record._file.close()
+        record._file = Full()
+        with self.assertRaisesRegex(cityseq.WriteFault, "No space left on device"):
+            record.append({"kind": "record"})
 
     def test_a_record_that_is_read(self):
         self.assertEqual(command("check", "--record", self.paths[0], self.paths[0])[2], 2)

@@ -86,6 +86,26 @@ class Cuts(InFolder):
                 parts = [bytes(source.read(*ends)[0]) for ends in places.parts()]
                 self.assertEqual((parts, places.begin), (wanted, end))
 
+    def test_a_text_of_its_own(self):
+        """It has the same bytes, also by short reads, and those before a fault."""
+        path, look = self.file(bytes(range(256)) * 4), os.pread
+        fault = OSError(5, "Input/output error")
+
+        def short(descriptor, count, begin):
+            if begin >= 900:
+                raise fault
+            return look(descriptor, min(count, 7, 900 - begin), begin)
+
+        with open(path, "rb") as file:
+            source = placed(file)
+            for begin, end in ((0, 0), (0, 1_024), (3, 700), (1_000, 2_000), (2_000, 3_000)):
+                part, none = source.text(begin, end)
+                self.assertEqual((type(part), none), (bytes, None))
+                self.assertEqual(part, bytes(source.read(begin, end)[0]))
+            with mock.patch("os.pread", short):
+                self.assertEqual(source.text(0, 800), (bytes(source.read(0, 800)[0]), None))
+                self.assertEqual(source.text(0, 901), (bytes(source.read(0, 900)[0]), fault))
+
     def test_ends_far_from_where_they_are_looked_for(self):
         lines = [
             bytes([97 + number % 26]) * (length - 1) + b"\n"
