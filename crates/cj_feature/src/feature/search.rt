@@ -2,8 +2,8 @@
 //! time by the square of their number.
 //!
 //! - `many_links.rt` checks links, children and parents alike (`link.rt`). It asks whether the city
-//!   object that an item names lists the current one, and `questions.rt` answers many such questions
-//!   in one walk.
+//!   object that an item names lists the current one. `questions.rt` answers many such questions in
+//!   one walk.
 //! - `reached.rt` marks the city objects that are reached, until no marked one lists one without a
 //!   mark. Before that, `near.rt` marks most of them, each only once. With many city objects,
 //!   `unmarked.rt` looks up the names of those that are left.

@@ -48,8 +48,8 @@ struct Current<'a> {
     later: Members<'a>,
 }
 
-/// Checks an item of the list of the current city object. Returns whether it is known to be an id in
-/// the feature.
+/// Checks an item of the list of the current city object. Returns whether it is known to be an id
+/// in the feature.
 fn check_item<'a, const ROOM: usize, const KEPT: usize>(
     objects: Node<'a>,
     item: Node<'a>,

@@ -2,8 +2,8 @@
 //! each only once.
 //!
 //! The guide holds many city objects at once, in lists (`near/lists.rt`). A city object that is
-//! found is finished, and waits to be marked (`near/pending.rt`). So it is found once, however often
-//! it is listed. When it is marked, the guide searches for what it lists.
+//! found is finished, and waits to be marked (`near/pending.rt`). So it is found once, however
+//! often it is listed. When it is marked, the guide searches for what it lists.
 //!
 //! If the guide has capacity for all, and for all that wait, that is the whole search. Otherwise
 //! those with children come first, since only they lead to others. Then the guide takes those
@@ -48,8 +48,8 @@ impl<const OBJECTS: usize, const LISTS: usize, const PENDING: usize> Near<OBJECT
     ghost use Rattle.cj_feature.specs.Marking.{spans_by};
     ghost use Rattle.cj_feature.specs.Reached.{IsReachedObject};
 
-    /// Finishes the city object at this place, if it has this name and is not finished. Then it waits
-    /// if it has no mark. Returns whether it was finished here.
+    /// Finishes the city object at this place, if it has this name and is not finished. Then it
+    /// waits if it has no mark. Returns whether it was finished here.
     fn note_one(&mut self, objects: Node, place: usize, text: Node) -> bool
         requires known { Knows objects self.old.lists }
         requires room { self.old.pending.count < PENDING }

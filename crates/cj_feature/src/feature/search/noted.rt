@@ -1,5 +1,5 @@
-//! Texts that are noted by the numbers of nodes. They are ordered by their tags, and texts of one tag
-//! by code points. So most comparisons compare two numbers.
+//! Texts that are noted by the numbers of nodes. They are ordered by their tags, and texts of one
+//! tag by code points. So most comparisons compare two numbers.
 ghost use Rattle.std.specs.Prelude.{◌≡◌, true, false};
 ghost use Rattle.cj_spans.specs.Order.{compare_texts};
 ghost use Rattle.cj_spans.specs.Parts.{text_of};

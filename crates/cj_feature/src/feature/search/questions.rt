@@ -1,10 +1,10 @@
 //! Questions on links. Is a text the name of a city object, and does one of that name list another
 //! text? One walk over the city objects answers many questions.
 //!
-//! The next questions are noted and sorted (`gathering.rt`). Then a walk looks up each name among the
-//! questions by binary search. It looks up each item of the name's list among the questions on that
-//! name. So n links take at most n / `ROOM` walks. A walk has one search for each name, and one for
-//! each item of the lists that are asked about. This holds for any texts in any order.
+//! The next questions are noted and sorted (`gathering.rt`). Then a walk looks up each name among
+//! the questions by binary search. It looks up each item of the name's list among the questions on
+//! that name. So n links take at most n / `ROOM` walks. A walk has one search for each name, and
+//! one for each item of the lists that are asked about. This holds for any texts in any order.
 //!
 //! A long name is read seldom, although it may list many. Questions on one name have the number of
 //! one node.

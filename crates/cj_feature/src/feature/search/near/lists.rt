@@ -1,5 +1,5 @@
-//! The lists of the guide. The remainder of a number of its name selects the list of a city object. A
-//! long list is sorted by name, so that no names make a search long.
+//! The lists of the guide. The remainder of a number of its name selects the list of a city object.
+//! A long list is sorted by name, so that no names make a search long.
 ghost use Rattle.std.specs.Prelude.{◌≡◌, ◌<◌, ◌≤◌, Some, length, slice_get};
 ghost use Rattle.std.specs.List.Sorted.{IsPermutation};
 

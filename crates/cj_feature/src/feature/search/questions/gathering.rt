@@ -70,8 +70,8 @@ fn make_room(objects: Node, questions: &mut [Question], count: usize) -> usize
     }
 }
 
-/// One of two bytes is multiplied by this prime before they are added. So the 3,844 pairs of letters
-/// and digits have 3,254 different sums.
+/// One of two bytes is multiplied by this prime before they are added. So the 3,844 pairs of
+/// letters and digits have 3,254 different sums.
 const WEIGHT: u64 = 61;
 
 /// Returns where a text is kept, from its tag and the bytes in its middle. So even most texts that
