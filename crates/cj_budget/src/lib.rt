@@ -24,8 +24,6 @@ mod growth;
 mod items;
 mod limits;
 mod stack;
-#[cfg(test)]
-mod tests;
 
 pub use bounded::{Bounded, ExtendFault, Refused};
 pub use growth::{NoMemory, Refusals};

@@ -29,8 +29,6 @@ mod fixed;
 pub mod laws;
 mod powers;
 mod spelling;
-#[cfg(test)]
-mod tests;
 mod trimming;
 mod whole;
 mod word;

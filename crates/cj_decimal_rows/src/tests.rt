@@ -1,20 +1,15 @@
 //! Rows of spellings and comparisons. The expected results come from exact arithmetic outside the
 //! program.
-ghost use Rattle.cj_decimal.specs.Rows.{WorkedRows};
-
 mod vectors;
 
-use crate::{Affine, Decimal, DecimalFault, Fixed18};
+use cj_decimal::laws::worked_rows;
+use cj_decimal::{Affine, Decimal, DecimalFault, Fixed18};
 use std::alloc::{AllocError, Global};
 use std::fmt::Display;
 use std::process::Abort;
+use std::str::Split;
 use std::test::Fail;
 use vectors::{COMPARISONS, SPELLINGS};
-
-/// The worked rows are true of the definitions: a theorem, in which nothing runs.
-fn worked_rows()
-    ensures { WorkedRows }
-{}
 
 #[test]
 fn worked_rows_hold() {
@@ -150,40 +145,74 @@ fn whole_of(alloc: Global, text: &str) -> Result<String, AllocError> {
     }
 }
 
+/// Compares texts. The asserts have functions of their own, because they make the proof of a
+/// function slower.
+fn check_text(rt: &impl Abort, got: &str, wanted: &str, row: &str) {
+    assert_eq!(rt; got, wanted, "{row}");
+}
+
+/// Compares answers.
+fn check_answer(rt: &impl Abort, got: bool, wanted: bool, row: &str) {
+    assert_eq!(rt; got, wanted, "{row}");
+}
+
+/// Returns the first field of a line.
+fn first_field(line: &str) -> &str {
+    match line.split_once('|') {
+        Some((text, _)) => text,
+        None => line,
+    }
+}
+
+/// Returns the next field of a line, or an empty text if it has no more.
+fn next_field<'a>(fields: &mut Split<'a, char>) -> &'a str {
+    fields.next().unwrap_or_default()
+}
+
+/// Checks a line with a spelling, and its result as a whole number.
+fn check_whole(rt: &impl Abort, alloc: Global, text: &str, wanted: &str) -> Result<(), Fail> {
+    let answer = whole_of(alloc, text)?;
+    check_text(rt, &answer, wanted, text);
+    Ok(())
+}
+
 #[test]
 fn whole_numbers_are_read(rt: HostRuntime) -> Result<(), Fail> {
     for line in WHOLES.lines() {
         let (text, wanted) = line.split_once('|').expect(&rt, "two fields");
-        let answer = whole_of(rt.alloc(), text)?;
-        assert_eq!(rt; answer.as_str(), wanted, "{text}");
+        check_whole(&rt, rt.alloc(), text, wanted)?;
     }
     Ok(())
+}
+
+/// Returns the line of the table for a spelling of few digits, with the program's results.
+fn few_of(alloc: Global, text: &str) -> Result<String, AllocError> {
+    let few = shown(alloc, Decimal::read_few(text.as_bytes()))?;
+    let signed = shown(alloc, Decimal::read_few_signed(text.as_bytes()))?;
+    format!(in alloc; "{text}|{few}|{signed}")
 }
 
 #[test]
 fn few_digits_are_read(rt: HostRuntime) -> Result<(), Fail> {
     for line in FEW.lines() {
-        let text = match line.split_once('|') {
-            Some((text, _)) => text,
-            None => line,
-        };
-        let few = shown(rt.alloc(), Decimal::read_few(text.as_bytes()))?;
-        let signed = shown(rt.alloc(), Decimal::read_few_signed(text.as_bytes()))?;
-        let answer = format!(in rt.alloc(); "{text}|{few}|{signed}")?;
-        assert_eq!(rt; answer.as_str(), line);
+        let answer = few_of(rt.alloc(), first_field(line))?;
+        check_text(&rt, &answer, line, line);
     }
     Ok(())
+}
+
+/// Returns the whole value of a line of spellings, or its fault.
+fn whole_field<'a>(line: &'a str) -> &'a str {
+    let mut fields = line.split('|');
+    fields.next();
+    let fault = next_field(&mut fields);
+    fields.nth(1).unwrap_or(fault)
 }
 
 #[test]
 fn spellings_are_read_as_whole_numbers(rt: HostRuntime) -> Result<(), Fail> {
     for line in SPELLINGS.lines() {
-        let mut fields = line.split('|');
-        let text = fields.next().expect(&rt, "a spelling");
-        let fault = fields.next();
-        let whole = fields.nth(1);
-        let answer = whole_of(rt.alloc(), text)?;
-        assert_eq!(rt; Some(answer.as_str()), whole.or(fault), "{text}");
+        check_whole(&rt, rt.alloc(), first_field(line), whole_field(line))?;
     }
     Ok(())
 }
@@ -191,30 +220,50 @@ fn spellings_are_read_as_whole_numbers(rt: HostRuntime) -> Result<(), Fail> {
 #[test]
 fn spellings_have_their_values(rt: HostRuntime) -> Result<(), Fail> {
     for line in SPELLINGS.lines() {
-        let text = match line.split_once('|') {
-            Some((text, _)) => text,
-            None => line,
-        };
-        let answer = line_of(rt.alloc(), text)?;
-        assert_eq!(rt; answer.as_str(), line);
+        let answer = line_of(rt.alloc(), first_field(line))?;
+        check_text(&rt, &answer, line, line);
     }
+    Ok(())
+}
+
+/// Returns how an image compares with a number: the image of `v` by a scale and a shift.
+fn compared(
+    rt: &impl Abort,
+    alloc: Global,
+    image: Affine,
+    v: i64,
+    q: &str,
+) -> Result<String, Fail> {
+    assert!(rt; v > -1_000_000_000_000_000_000);
+    assert!(rt; v < 1_000_000_000_000_000_000);
+    let order = image.compare(v, fixed(rt, q));
+    Ok(format!(in alloc; "{order:?}")?)
+}
+
+/// Checks a line with a scale, a shift, a number, another, and how they compare.
+fn check_comparison(rt: &impl Abort, alloc: Global, line: &str) -> Result<(), Fail> {
+    let mut fields = line.split('|');
+    let scale = fixed(rt, next_field(&mut fields));
+    let shift = fixed(rt, next_field(&mut fields));
+    let v: i64 = next_field(&mut fields).parse()?;
+    let q = next_field(&mut fields);
+    let order = compared(rt, alloc, Affine::new(scale, shift), v, q)?;
+    check_text(rt, &order, next_field(&mut fields), line);
     Ok(())
 }
 
 #[test]
 fn images_compare_exactly(rt: HostRuntime) -> Result<(), Fail> {
     for line in COMPARISONS.lines() {
-        let mut fields = line.split('|');
-        let scale = fixed(&rt, fields.next().expect(&rt, "a scale"));
-        let shift = fixed(&rt, fields.next().expect(&rt, "a shift"));
-        let v: i64 = fields.next().expect(&rt, "a number").parse()?;
-        let q = fixed(&rt, fields.next().expect(&rt, "another"));
-        assert!(rt; v > -1_000_000_000_000_000_000);
-        assert!(rt; v < 1_000_000_000_000_000_000);
-        let order = Affine::new(scale, shift).compare(v, q);
-        let shown = format!(in rt.alloc(); "{order:?}")?;
-        assert_eq!(rt; Some(shown.as_str()), fields.next(), "{line}");
+        check_comparison(&rt, rt.alloc(), line)?;
     }
+    Ok(())
+}
+
+/// Compares two numbers, and then whether they are the same as expected.
+fn check_same(rt: &impl Abort, left: &str, right: &str, wanted: bool) -> Result<(), Fail> {
+    let same = Decimal::read(left.as_bytes())? == Decimal::read(right.as_bytes())?;
+    check_answer(rt, same, wanted, left);
     Ok(())
 }
 
@@ -231,31 +280,34 @@ fn equality_is_that_of_values(rt: HostRuntime) -> Result<(), Fail> {
         ("1e1000000", "1e-1000000", false),
     ];
     for (left, right, equal) in rows.iter() {
-        let same = Decimal::read(left.as_bytes())? == Decimal::read(right.as_bytes())?;
-        assert_eq!(rt; same, *equal, "{left} and {right}");
+        check_same(&rt, left, right, *equal)?;
     }
+    Ok(())
+}
+
+/// Reads a long spelling: `front`, many zeros, and `back`.
+fn check_padded(
+    rt: &impl Abort,
+    alloc: Global,
+    front: &str,
+    back: &str,
+    wanted: Result<(i128, i32), DecimalFault>,
+) -> Result<(), Fail> {
+    let spelling = padded(alloc, front.as_bytes(), 2_000_000, back.as_bytes())?;
+    assert_eq!(rt; parts(&spelling), wanted, "{front}..{back}");
     Ok(())
 }
 
 #[test]
 fn long_spellings_are_read_in_one_pass(rt: HostRuntime) -> Result<(), Fail> {
-    let fraction = padded(rt.alloc(), b"0.", 2_000_000, b"1e2000001")?;
-    assert_eq!(rt; parts(&fraction), Ok((1, 0)), "zeros after the point");
-    let whole = padded(rt.alloc(), b"1", 2_000_000, b"e-2000000")?;
-    assert_eq!(rt; parts(&whole), Ok((1, 0)), "zeros at the end");
-    let exponent = padded(rt.alloc(), b"-2.5e-", 2_000_000, b"3")?;
-    assert_eq!(rt; parts(&exponent), Ok((-25, -4)), "zeros in the exponent");
-    let large = padded(rt.alloc(), b"1", 2_000_000, b"")?;
-    assert_eq!(rt;
-        parts(&large),
-        Err(DecimalFault::NumberRange),
-        "a large number"
+    let (alloc, range, none) = (
+        rt.alloc(),
+        DecimalFault::NumberRange,
+        DecimalFault::NotANumber,
     );
-    let open = padded(rt.alloc(), b"1", 2_000_000, b".")?;
-    assert_eq!(rt;
-        parts(&open),
-        Err(DecimalFault::NotANumber),
-        "no digit after the point"
-    );
-    Ok(())
+    check_padded(&rt, alloc, "0.", "1e2000001", Ok((1, 0)))?;
+    check_padded(&rt, alloc, "1", "e-2000000", Ok((1, 0)))?;
+    check_padded(&rt, alloc, "-2.5e-", "3", Ok((-25, -4)))?;
+    check_padded(&rt, alloc, "1", "", Err(range))?;
+    check_padded(&rt, alloc, "1", ".", Err(none))
 }

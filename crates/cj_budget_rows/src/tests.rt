@@ -1,0 +1,8 @@
+//! Rows of limits, lists and stacks: `limits`, `lists` and `stacks`. `growth`: whether growths were
+//! refused.
+//!
+//! Each comparison has a function of its own, because asserts make the proof of a function slower.
+mod growth;
+mod limits;
+mod lists;
+mod stacks;
