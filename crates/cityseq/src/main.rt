@@ -1,48 +1,15 @@
-//! The program `cityseq`: it reads a CityJSONSeq stream from standard input, once and in bounded
-//! memory. It checks whether the stream is valid (`check`), copies the header and the selected
-//! features, byte for byte (`filter`), or writes a summary (`info`).
-//!
-//! A command line goes one way down, and each file calls those below it:
-//!
-//! - `command` does what the words ask for, or declines it.
-//! - `asking` makes an `Ask` from the words, with its limits and its query.
-//! - `words` lets `clap` read the words, and returns the limits and texts of the options.
-//! - `ask` does what is asked, with the engine of `cj_stream`, over standard input and output.
-//! - `summary` writes what `check` and `info` print about a stream.
-//! - `decline` writes why nothing is done: help, wrong words, or an invalid query.
-//! - `reporting` has the sink that writes reports of invalid lines to standard error as they come.
-//! - `report` has the lines for standard error, and the exit statuses.
-//!
-//! `option_laws`, `word_laws`, `summary_laws` and `end_laws` are worked examples of the
-//! definitions, as theorems.
+//! The program `cityseq`: it takes its words from the process, and does what they ask for, over
+//! standard input, output and error. The crate `cityseq_command` has the commands.
 #![tactic(auto)]
 
-mod ask;
-mod asking;
-mod command;
-mod decline;
-mod end_laws;
-mod option_laws;
-mod report;
-mod reporting;
-mod summary;
-mod summary_laws;
-#[cfg(test)]
-mod tests;
-mod word_laws;
-mod words;
-
-use crate::command::command;
-use crate::decline::tell_no_memory;
-use crate::report::WRONG_WORDS;
+use cityseq_command::command::{OUTPUT_BUFFER, command};
+use cityseq_command::decline::tell_no_memory;
+use cityseq_command::report::WRONG_WORDS;
 use cj_stream::Output;
 use std::alloc::{AllocError, Global};
 use std::env;
 use std::io::{BufWriter, ErrorKind};
 use std::process::ExitCode;
-
-/// How many bytes are collected before a write to standard output: 64 KiB.
-const OUTPUT_BUFFER: usize = 65_536;
 
 /// Why the words of the command line are not available.
 enum WordsFault {

@@ -1,4 +1,0 @@
-use Rattle.cityseq.proofs.decline.tell_refused_query.Goals as goal
-
-pub returns : goal.returns
-returns g c = record { written = c.write_query_fault.result; wrote = c.write_query_fault.ensures; status = c.query_status.ensures }

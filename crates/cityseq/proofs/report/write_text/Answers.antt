@@ -1,8 +1,0 @@
-use Rattle.cityseq.proofs.report.write_text.Goals as goal
-
-pub returns : goal.returns
-returns g c = record {
-  whole = rw c.as_bytes.ensures.value at c.write_whole.ensures.ok;
-  front = rw c.as_bytes.ensures.value at c.write_whole.ensures.fault;
-  failures = c.write_whole.ensures.failures;
-}

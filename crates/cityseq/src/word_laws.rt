@@ -1,9 +1,0 @@
-//! Laws of what the words of a command line name and give, each proved once.
-ghost use Rattle.cityseq.specs.WordRows.{UsualRow, GivenRow, FaultRow};
-
-/// What `clap` promises to find, on small command lines with known results.
-pub fn words_compute()
-    ensures usual { UsualRow }
-    ensures given { GivenRow }
-    ensures faults { FaultRow }
-{}

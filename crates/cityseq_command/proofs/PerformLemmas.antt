@@ -1,0 +1,213 @@
+-- What is told of texts that the program writes.
+use Rattle.std.proofs.Common.{◌≡◌, inl, inr, arith, ℕ, ◌<◌, ◌≤◌, List, [], Option, Some, None, Result, Ok, Err, length, refl, ap, sym, subst, ◌∙◌}
+use Rattle.std.specs.List.{filter}
+use Rattle.std.specs.Io.KnownBytes.{Appends, Keeps}
+use Rattle.cj_budget.specs.declared.limits.Peaks.{Peaks}
+use Rattle.cj_stream.specs.declared.ending.End.{End}
+use Rattle.cj_stream.specs.declared.ending.End.TheVariants.{Complete, Refused, ReadFault, ReadLimit, WriteFault, Memory}
+use Rattle.cj_stream.specs.declared.output.WriteFault.{WriteFault as Unwritten}
+use Rattle.cj_stream.specs.declared.reporting.Report.{Report}
+use Rattle.cj_stream.specs.declared.running.Outcome.{Outcome}
+use Rattle.cj_stream.specs.Engine.{Counts}
+use Rattle.cj_stream.specs.Headline.{Headline}
+use Rattle.cj_stream.specs.Item.{is_feature}
+use Rattle.cj_stream.specs.Output.{Channel}
+use Rattle.cj_stream.specs.Reporting.{Collects}
+use Rattle.cj_stream.specs.Run.{Run, Gave, IsReadWithin, RunsNoting, Writes, WritesLines}
+use Rattle.cj_stream.specs.Sink.{HasRisen, RisesOnErr, AppendsPart, Took}
+use Rattle.cj_stream.specs.Verdict.{Rules, good, kept, kept_first, reported, reported_first}
+use Rattle.cj_stream.specs.Bound.{exact_peaks}
+use Rattle.cj_stream.specs.TallySink.{Tally, IsTallyOf, no_tally}
+use Rattle.cj_stream.specs.Query.{rules_for}
+use Rattle.cityseq_command.specs.Performed.{end_of_writing, Says, SaysCheck, SaysReport, Answers}
+use Rattle.cityseq_command.specs.Report.{Wrote}
+use Rattle.cityseq_command.specs.Reporting.{AreReported}
+use Rattle.cityseq_command.specs.declared.ask.Ask.{Ask}
+use Rattle.cityseq_command.specs.declared.ask.Ask.TheVariants.{Check, Filter, Info}
+use Rattle.cityseq_command.specs.Summary.{check_text, report}
+
+pub Keeps-refl : (a : Option (List ℕ)) → Keeps a a
+Keeps-refl None = tt
+Keeps-refl (Some xs) = refl
+
+pub Keeps-then : (a b c : Option (List ℕ)) → Keeps a b → Keeps b c → Keeps a c
+Keeps-then None b c p q = tt
+Keeps-then (Some xs) None c p q = elim p [ ]
+Keeps-then (Some xs) (Some ys) None p q = elim q [ ]
+Keeps-then (Some xs) (Some ys) (Some zs) p q = q ∙ p
+
+-- what was written stays where the writer keeps its bytes
+Appends-kept : (a b c : Option (List ℕ)) (x : List ℕ) → Appends a b x → Keeps b c → Appends a c x
+Appends-kept None b c x p q = tt
+Appends-kept (Some a) None c x p q = absurd p
+Appends-kept (Some a) (Some b) None x p q = absurd q
+Appends-kept (Some a) (Some b) (Some c) x p q = q ∙ p
+
+AppendsPart-kept : (a b c : Option (List ℕ)) (x : List ℕ) → AppendsPart a b x → Keeps b c → AppendsPart a c x
+AppendsPart-kept a b c x p q = record { front = p.front; rest = p.rest; whole = p.whole; grows = Appends-kept a b c p.front p.grows q }
+
+Writes-kept : (rules : Rules) (r : List ℕ) (e : End) (a b c : Option (List ℕ)) → Writes rules r e a b → Keeps b c → Writes rules r e a c
+Writes-kept rules r Complete a b c h k = Appends-kept a b c _ h k
+Writes-kept rules r (Refused line place reason) a b c h k = Appends-kept a b c _ h k
+Writes-kept rules r ReadFault a b c h k = Appends-kept a b c _ h k
+Writes-kept rules r ReadLimit a b c h k = Appends-kept a b c _ h k
+Writes-kept rules r WriteFault a b c h k = AppendsPart-kept a b c _ h k
+Writes-kept rules r Memory a b c h k = AppendsPart-kept a b c _ h k
+
+WritesLines-kept : (rules : Rules) (r : List ℕ) (n : ℕ) (e : End) (a b c : Option (List ℕ)) → WritesLines rules r n e a b → Keeps b c → WritesLines rules r n e a c
+WritesLines-kept rules r n Complete a b c h k = Appends-kept a b c _ h k
+WritesLines-kept rules r n (Refused line place reason) a b c h k = Appends-kept a b c _ h k
+WritesLines-kept rules r n ReadFault a b c h k = Appends-kept a b c _ h k
+WritesLines-kept rules r n ReadLimit a b c h k = Appends-kept a b c _ h k
+WritesLines-kept rules r n WriteFault a b c h k = record {
+  line = h.line;
+  next = h.next;
+  kept = h.kept;
+  front = h.front;
+  rest = h.rest;
+  cut = h.cut;
+  grows = Appends-kept a b c _ h.grows k;
+}
+WritesLines-kept rules r n Memory a b c h k = (h.0, Keeps-then a b c h.1 k)
+
+Wrote-kept : (text : List ℕ) (answer : Result (Unit {0}) Unwritten) (a b c : Channel) → Wrote text answer a b → Keeps b.bytes c.bytes → c.failures ≡ b.failures → Wrote text answer a c
+Wrote-kept text (Ok x) a b c w k f = record { whole = Appends-kept a.bytes b.bytes c.bytes text w.whole k; front = tt; failures = f ∙ w.failures }
+Wrote-kept text (Err e) a b c w k f = record {
+  whole = tt;
+  front = AppendsPart-kept a.bytes b.bytes c.bytes text w.front k;
+  failures = subst (λ n. HasRisen a.failures n) (sym f) w.failures;
+}
+
+-- a write fault that is told of a text has its cause
+pub cause-text : (written : Result (Unit {0}) Unwritten) (told : End) (a b : ℕ) → told ≡ end_of_writing written → RisesOnErr written a b → told ≡ WriteFault → HasRisen a b
+cause-text (Ok x) told a b tells rises is = let other : Complete ≡ WriteFault = sym tells ∙ is in cc
+cause-text (Err e) told a b tells rises is = rises
+
+-- a sink without a device never makes a write fault
+unrisen : HasRisen 0 0 → ⊥
+unrisen (inl h) = omega (arith, h)
+unrisen (inr h) = omega (arith, h.0)
+
+pub no_fault : (e : End) → (e ≡ WriteFault → HasRisen 0 0) → e ≡ WriteFault → ⊥
+no_fault e cause is = unrisen (cause is)
+
+-- nothing was written after a run that is not complete
+pub Says-nothing : (text : List ℕ) (e : End) (a : Channel) → (e ≡ Complete → ⊥) → (e ≡ WriteFault → ⊥) → Says text e e a a
+Says-nothing text Complete a other well = absurd (other refl)
+Says-nothing text (Refused line place reason) a other well = (refl, Keeps-refl a.bytes)
+Says-nothing text ReadFault a other well = (refl, Keeps-refl a.bytes)
+Says-nothing text ReadLimit a other well = (refl, Keeps-refl a.bytes)
+Says-nothing text WriteFault a other well = well refl
+Says-nothing text Memory a other well = (refl, Keeps-refl a.bytes)
+
+-- what was said stays where the writer keeps its bytes
+pub Says-kept : (text : List ℕ) (e told : End) (a b c : Channel) → Says text e told a b → Keeps b.bytes c.bytes → c.failures ≡ b.failures → Says text e told a c
+Says-kept text Complete told a b c p k f = (p.0, p.1, Wrote-kept text p.0 a b c p.2 k f)
+Says-kept text (Refused line place reason) told a b c p k f = (p.0, Keeps-then a.bytes b.bytes c.bytes p.1 k)
+Says-kept text ReadFault told a b c p k f = (p.0, Keeps-then a.bytes b.bytes c.bytes p.1 k)
+Says-kept text ReadLimit told a b c p k f = (p.0, Keeps-then a.bytes b.bytes c.bytes p.1 k)
+Says-kept text WriteFault told a b c p k f = p
+Says-kept text Memory told a b c p k f = (p.0, Keeps-then a.bytes b.bytes c.bytes p.1 k)
+
+-- the features that a complete run kept are those among what is kept, and the lines that it refused those that are reported
+pub features-kept : (rules : Rules) (r : List ℕ) (n features refused : ℕ) → (n ≡ length (good rules r) → kept_first rules n r ≡ kept rules r)
+    → Counts rules r n features refused → n ≡ length (good rules r) → features ≡ length (filter is_feature (kept rules r))
+features-kept rules r n features refused all counts lines = counts.kept ∙ ap (λ is. length (filter is_feature is)) (all lines)
+
+pub lines-refused : (rules : Rules) (r : List ℕ) (n features refused : ℕ) → (n ≡ length (good rules r) → reported_first rules n r ≡ reported rules r)
+    → Counts rules r n features refused → n ≡ length (good rules r) → refused ≡ length (reported rules r)
+lines-refused rules r n features refused all counts lines = counts.refused ∙ ap (λ rs. length rs) (all lines)
+
+-- the reports of a run, which a sink has taken
+pub Reported-told : {N : Type 0} (notes : N → Report → N → Type 0) (run : Run) (n m : N) → RunsNoting notes run n m
+    → RunsNoting Collects run [] (reported_first run.rules run.outcome.lines run.read) → AreReported notes run (reported_first run.rules run.outcome.lines run.read) n m
+Reported-told notes run n m told collected = record { collected = collected; took = subst (λ rs. Took notes n rs m) (sym told.reports.told) told.reports.noted }
+
+-- a check or a report after a complete run, of what that counted
+pub Says-check : (rules : Rules) (r : List ℕ) (n m k : ℕ) (written : Result (Unit {0}) Unwritten) (told : End) (old new : Channel)
+    → n ≡ length (good rules r) → m ≡ length (filter is_feature (kept rules r)) → k ≡ length (reported rules r) → told ≡ end_of_writing written
+    → Wrote (check_text n m k) written old new → SaysCheck rules r Complete told old new
+Says-check rules r n m k written told old new lines features refused tells wrote =
+    let now : Wrote (check_text (length (good rules r)) (length (filter is_feature (kept rules r))) (length (reported rules r))) written old new = rw (← lines, ← features, ← refused) wrote in
+    (written, tells, now)
+
+pub Says-report : (rules : Rules) (r : List ℕ) (n : ℕ) (t : Tally) (peaks : Peaks) (written : Result (Unit {0}) Unwritten) (told : End) (old new : Channel)
+    → n ≡ length (good rules r) → IsTallyOf (kept rules r) t → peaks ≡ exact_peaks rules.limits r → told ≡ end_of_writing written
+    → Wrote (report n t peaks) written old new → SaysReport rules r Complete told old new
+Says-report rules r n t peaks written told old new lines tally held tells wrote = record {
+  tally = t;
+  counted = λ e. tally;
+  says = subst (λ p. Says (report (length (good rules r)) t p) Complete told old new) held
+      (subst (λ x. Says (report x t peaks) Complete told old new) lines (written, tells, wrote));
+}
+
+-- nothing was reported after a run that is not complete
+pub Says-no_report : (rules : Rules) (r : List ℕ) (e : End) (a : Channel) → (e ≡ Complete → ⊥) → (e ≡ WriteFault → ⊥) → SaysReport rules r e e a a
+Says-no_report rules r e a other well = record {
+  tally = no_tally;
+  counted = λ is. absurd (other is);
+  says = Says-nothing _ e a other well;
+}
+
+SaysReport-kept : (rules : Rules) (r : List ℕ) (e told : End) (a b c : Channel) → SaysReport rules r e told a b → Keeps b.bytes c.bytes → c.failures ≡ b.failures → SaysReport rules r e told a c
+SaysReport-kept rules r e told a b c says k f = record {
+  tally = says.tally;
+  counted = says.counted;
+  says = Says-kept _ e told a b c says.says k f;
+}
+
+Headline-kept : {N : Type 0} (notes : N → Report → N → Type 0) (rules : Rules) (text given : List ℕ) (e : End) (peaks : Peaks) (a b c : Channel) (n m : N) → Headline notes rules text given e peaks a b n m
+    → Keeps b.bytes c.bytes → c.failures ≡ b.failures → Headline notes rules text given e peaks a c n m
+Headline-kept notes rules text given e peaks a b c n m h k f = record {
+  writes = λ u. Appends-kept a.bytes b.bytes c.bytes _ (h.writes u) k;
+  gives = h.gives;
+  ends = h.ends;
+  cause = λ is. subst (λ n. HasRisen a.failures n) (sym f) (h.cause is);
+  held = h.held;
+  exact = h.exact;
+}
+
+-- an answer stays where the writer keeps its bytes
+pub Answers-kept : (ask : Ask) (r : List ℕ) (at_end : Type 0) (outcome : Outcome) (reports : List Report) (told : End) (a b c : Channel) → Answers ask r at_end outcome reports told a b
+    → Keeps b.bytes c.bytes → c.failures ≡ b.failures → Answers ask r at_end outcome reports told a c
+Answers-kept (Check limits options) r at_end outcome reports told a b c says k f = Says-kept _ outcome.ended told a b c says k f
+Answers-kept (Filter limits query options) r at_end outcome reports told a b c says k f = (
+  says.0,
+  Writes-kept (rules_for limits query options) r outcome.ended a.bytes b.bytes c.bytes says.1 k,
+  λ rest all u. Headline-kept Collects (rules_for limits query options) _ r outcome.ended outcome.peaks a b c [] reports (says.2 rest all u) k f,
+  WritesLines-kept (rules_for limits query options) r outcome.lines outcome.ended a.bytes b.bytes c.bytes says.3 k,
+)
+Answers-kept (Info limits options) r at_end outcome reports told a b c says k f = SaysReport-kept _ r outcome.ended told a b c says k f
+
+-- ---- the reads of a run
+
+-- a text of our own is never told as reads that ran out
+text-limit : (written : Result (Unit {0}) Unwritten) → end_of_writing written ≡ ReadLimit → ⊥
+text-limit (Ok x) h = cc
+text-limit (Err e) h = cc
+
+Says-limit : (text : List ℕ) (e told : End) (old new : Channel) → Says text e told old new → told ≡ ReadLimit → e ≡ ReadLimit
+Says-limit text Complete told old new says is = absurd (text-limit says.0 (sym says.1 ∙ is))
+Says-limit text (Refused line place reason) told old new says is = sym says.0 ∙ is
+Says-limit text ReadFault told old new says is = sym says.0 ∙ is
+Says-limit text ReadLimit told old new says is = refl
+Says-limit text WriteFault told old new says is = absurd says
+Says-limit text Memory told old new says is = sym says.0 ∙ is
+
+Answers-limit : (ask : Ask) (r : List ℕ) (at_end : Type 0) (outcome : Outcome) (reports : List Report) (told : End) (old new : Channel) → Answers ask r at_end outcome reports told old new
+    → told ≡ ReadLimit → outcome.ended ≡ ReadLimit
+Answers-limit (Check limits options) r at_end outcome reports told old new says is = Says-limit _ outcome.ended told old new says is
+Answers-limit (Filter limits query options) r at_end outcome reports told old new says is = sym says.0 ∙ is
+Answers-limit (Info limits options) r at_end outcome reports told old new says is = Says-limit _ outcome.ended told old new says.says is
+
+-- where the reads ran out, each of them gave a byte
+limit-reads : (reads : ℕ) (r : List ℕ) (e : End) → e ≡ ReadLimit → IsReadWithin reads r e → reads ≤ length r
+limit-reads reads r e is w =
+    let all : w.giving ≡ reads = subst (λ z. Gave reads w.giving z) is w.gave in
+    omega (arith, all, w.least)
+
+-- of too few bytes it is never told that the reads ran out
+pub enough-told : (ask : Ask) (r : List ℕ) (at_end : Type 0) (outcome : Outcome) (reports : List Report) (told : End) (old new : Channel) (reads : ℕ)
+    → Answers ask r at_end outcome reports told old new → IsReadWithin reads r outcome.ended → length r < reads → told ≡ ReadLimit → ⊥
+enough-told ask r at_end outcome reports told old new reads says within few is =
+    omega (arith, few, limit-reads reads r outcome.ended (Answers-limit ask r at_end outcome reports told old new says is) within)

@@ -1,0 +1,15 @@
+use Rattle.std.proofs.Common.{refl}
+use Rattle.cj_geometry.specs.ObjectTypes.{object_types}
+use Rattle.cityseq_command.proofs.option_laws.options_compute.Goals as goal
+
+pub returns : goal.returns
+unfolding object_types
+returns c = record {
+  nothing = refl;
+  ids = (refl, refl);
+  lods = refl;
+  types = (refl, refl, refl);
+  a_box = rw c.boxes_compute.ensures.empty refl;
+  order = (refl, refl);
+  all = rw c.boxes_compute.ensures.a_box refl;
+}

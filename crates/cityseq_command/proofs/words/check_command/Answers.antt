@@ -1,0 +1,11 @@
+use Rattle.std.proofs.Common.{codes}
+use Rattle.std.proofs.lemmas.Result.{IfOk-weaker}
+use Rattle.clap.specs.Words.{new_app}
+use Rattle.cityseq_command.proofs.CommandLemmas.{with_option}
+use Rattle.cityseq_command.proofs.words.check_command.Goals as goal
+
+pub returns : goal.returns
+returns c =
+    let limited = c.in_ok-with_limits.ensures (new_app (codes "check")) c.described-command.ensures in
+    let going = with_option limited c.keep_going.ensures c.in_ok-arg.ensures in
+    IfOk-weaker c.arg-2.result _ _ (λ m adds. with_option going c.tree.ensures adds) c.arg-2.ensures

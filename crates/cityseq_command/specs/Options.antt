@@ -1,0 +1,69 @@
+-- The criteria that the options of `filter` make.
+use Rattle.std.specs.Prelude.{◌≡◌, ◌⊎◌, ℕ, List, Bool, Option, Some, None, Result, Ok, Err, IsSome, IsOk, option_copied}
+use Rattle.std.specs.Prelude.{option_map}
+use Rattle.cj_stream.specs.Criteria.{Criteria, Box}
+use Rattle.cj_stream.specs.Adding.{flags_with, no_types}
+use Rattle.cj_stream.specs.BoxText.{fields, box_text}
+use Rattle.cj_stream.specs.declared.query.fault.QueryFault.{QueryFault}
+use Rattle.cj_stream.specs.declared.query.fault.QueryFault.TheVariants.{Memory, UnknownTypeName, BadBox, BoxRange}
+use Rattle.cj_stream.specs.declared.query.fault.QueryFault.TheVariants.{EmptyBox}
+use Rattle.cityseq_command.specs.declared.words.QueryTexts.{QueryTexts}
+
+-- the texts of the options of a query that were given
+pub record Texts : Type 0 where
+  pub ids : Option (List ℕ)
+  pub types : Option (List ℕ)
+  pub lods : Option (List ℕ)
+  pub box : Option (List ℕ)
+
+-- the same, as the program has them
+abbrev pub texts_of : QueryTexts → Texts
+texts_of t = record {
+  ids = option_copied t.ids;
+  types = option_copied t.types;
+  lods = option_copied t.lods;
+  box = option_copied t.bbox;
+}
+
+-- the types that an option names, between its commas; or its refusal
+abbrev pub types_or_fault : Option (List Bool) → Result (Option (List Bool)) QueryFault
+types_or_fault None = Err UnknownTypeName
+types_or_fault (Some flags) = Ok (Some flags)
+
+abbrev pub types_wanted : Option (List ℕ) → Result (Option (List Bool)) QueryFault
+types_wanted None = Ok None
+types_wanted (Some text) = types_or_fault (flags_with (fields text) no_types)
+
+-- the box that an option gives, or its refusal
+abbrev pub box_or_fault : Result Box QueryFault → Result (Option Box) QueryFault
+box_or_fault (Ok box) = Ok (Some box)
+box_or_fault (Err fault) = Err fault
+
+abbrev pub box_wanted : Option (List ℕ) → Result (Option Box) QueryFault
+box_wanted None = Ok None
+box_wanted (Some text) = box_or_fault (box_text text)
+
+-- the criteria of these ids and LoDs, types and a box; the first refusal of the last two, if there is one
+abbrev pub criteria_with : Option (List (List ℕ)) → Option (List (List ℕ)) → Result (Option (List Bool)) QueryFault
+    → Result (Option Box) QueryFault → Result Criteria QueryFault
+criteria_with ids lods (Err fault) box = Err fault
+criteria_with ids lods (Ok types) (Err fault) = Err fault
+criteria_with ids lods (Ok types) (Ok box) = Ok (record { ids = ids; types = types; lods = lods; box = box })
+
+-- the criteria that texts make: ids, types and LoDs are what stands between the commas, be it nothing
+abbrev pub criteria_by : Texts → Result Criteria QueryFault
+criteria_by t = criteria_with (option_map fields t.ids) (option_map fields t.lods) (types_wanted t.types)
+    (box_wanted t.box)
+
+-- memory is wanted for ids, or for LoDs, which come after types that are not refused
+abbrev pub WantsMemory : Texts → Type 0
+WantsMemory t = IsSome t.ids ⊎ (IsSome t.lods × IsOk (types_wanted t.types))
+
+-- A fault is the first refusal of the texts, set in the order ids, types, LoDs and box: where memory was refused they
+-- want some, and else it is what is wrong with the types or the box.
+abbrev pub RefusesBy : Texts → QueryFault → Type 0
+RefusesBy t Memory = WantsMemory t
+RefusesBy t UnknownTypeName = criteria_by t ≡ Err UnknownTypeName
+RefusesBy t BadBox = criteria_by t ≡ Err BadBox
+RefusesBy t BoxRange = criteria_by t ≡ Err BoxRange
+RefusesBy t EmptyBox = criteria_by t ≡ Err EmptyBox

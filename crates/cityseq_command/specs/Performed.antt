@@ -1,0 +1,187 @@
+-- What the program does of what it is asked.
+use Rattle.std.specs.Prelude.{◌≡◌, ◌≢◌, ◌⊎◌, ℕ, ◌<◌, ◌^◌, List, [], false, Result, Ok, Err, length}
+use Rattle.std.specs.List.{filter}
+use Rattle.std.specs.Io.KnownBytes.{Keeps}
+use Rattle.clap.specs.Words.{kind_of}
+use Rattle.clap.specs.declared.error.kind.ErrorKind.{ErrorKind}
+use Rattle.clap.specs.declared.error.kind.ErrorKind.TheVariants.{OutOfMemory, DisplayHelp, DisplayVersion}
+use Rattle.cj_budget.specs.Limits.{LimitPair}
+use Rattle.cj_stream.specs.Criteria.{everything}
+use Rattle.cj_stream.specs.Bound.{exact_peaks}
+use Rattle.cj_stream.specs.Headline.{HeadlineOfRun}
+use Rattle.cj_stream.specs.Item.{is_feature}
+use Rattle.cj_stream.specs.Options.{OptionSet}
+use Rattle.cj_stream.specs.Query.{rules_for}
+use Rattle.cj_stream.specs.Reporting.{Collects}
+use Rattle.cj_stream.specs.Run.{Run, Account, IsReadWithin, RunsNoting, StopsInTime, Writes, WritesLines}
+use Rattle.cj_stream.specs.Output.{Channel}
+use Rattle.cj_stream.specs.Sink.{HasRisen}
+use Rattle.cj_stream.specs.TallySink.{Tally, IsTallyOf}
+use Rattle.cj_stream.specs.Verdict.{Rules, good, kept, reported}
+use Rattle.cj_stream.specs.declared.ending.End.{End}
+use Rattle.cj_stream.specs.declared.ending.End.TheVariants.{Complete, Refused, ReadFault, ReadLimit, WriteFault, Memory}
+use Rattle.cj_stream.specs.declared.output.WriteFault.{WriteFault as Unwritten}
+use Rattle.cj_stream.specs.declared.reporting.Report.{Report}
+use Rattle.cj_stream.specs.declared.running.Outcome.{Outcome}
+use Rattle.cityseq_command.specs.Report.{Reports, Wrote, fault_line, limit_line, no_command_line, query_line, status_of}
+use Rattle.cityseq_command.specs.Report.{status_after, status_of_query}
+use Rattle.cityseq_command.specs.Reporting.{AreReported, report_lines}
+use Rattle.cityseq_command.specs.Summary.{check_text, report}
+use Rattle.cityseq_command.specs.declared.ask.Ask.{Ask}
+use Rattle.cityseq_command.specs.declared.ask.Ask.TheVariants.{Check, Filter, Info}
+use Rattle.cityseq_command.specs.declared.ask.Told.{Told}
+use Rattle.cityseq_command.specs.declared.asking.NoAsk.{NoAsk}
+use Rattle.cityseq_command.specs.declared.asking.NoAsk.TheVariants.{Words, NoCommand, Limits, Query}
+use Rattle.cityseq_command.specs.declared.report.Shown.{Shown}
+
+-- ---- texts of our own
+
+-- the end that is told after a complete run, by what came of writing a text
+abbrev pub end_of_writing : Result (Unit {0}) Unwritten → End
+end_of_writing (Ok x) = Complete
+end_of_writing (Err fault) = WriteFault
+
+-- After a run that wrote nothing and ended so a text is written where the run is complete, and nothing otherwise. What
+-- is told is the run's end; or a write fault where a write of the text failed, and then a prefix of it was written.
+abbrev pub Says : List ℕ → End → End → Channel → Channel → Type 0
+Says text Complete told old new = (written : Result (Unit {0}) Unwritten) × (told ≡ end_of_writing written)
+    × Wrote text written old new
+Says text (Refused line place reason) told old new = (told ≡ Refused line place reason) × Keeps old.bytes new.bytes
+Says text ReadFault told old new = (told ≡ ReadFault) × Keeps old.bytes new.bytes
+Says text ReadLimit told old new = (told ≡ ReadLimit) × Keeps old.bytes new.bytes
+Says text WriteFault told old new = ⊥
+Says text Memory told old new = (told ≡ Memory) × Keeps old.bytes new.bytes
+
+-- of the bytes r: how many good lines they have, how many features, and how many lines are reported as refused
+abbrev pub SaysCheck : Rules → List ℕ → End → End → Channel → Channel → Type 0
+SaysCheck rules r e told old new =
+    Says (check_text (length (good rules r)) (length (filter is_feature (kept rules r))) (length (reported rules r))) e
+    told old new
+
+-- of the bytes r: how many good lines they have, their tally, and what was held at most
+pub record SaysReport (rules : Rules) (r : List ℕ) (e told : End) (old new : Channel) : Type 0 where
+  pub tally : Tally
+  pub counted : e ≡ Complete → IsTallyOf (kept rules r) tally
+  pub says : Says (report (length (good rules r)) tally (exact_peaks rules.limits r)) e told old new
+
+-- ---- what is asked
+
+-- standard output and standard error
+pub record Channels : Type 0 where
+  pub out : Channel
+  pub err : Channel
+
+-- the rules that lines are judged by
+abbrev pub all_under : LimitPair → OptionSet → Rules
+all_under limits options = record { limits = limits; criteria = everything; options = options }
+
+abbrev pub rules_of_ask : Ask → Rules
+rules_of_ask (Check limits options) = all_under limits options
+rules_of_ask (Filter limits query options) = rules_for limits query options
+rules_of_ask (Info limits options) = all_under limits options
+
+-- a command takes the options that are set: `filter` alone leaves out what is asked for, and a report of `info` is of
+-- valid streams alone, so it does not go on
+abbrev pub TakesOptions : Ask → Type 0
+TakesOptions (Check limits options) = options.exclude ≡ false
+TakesOptions (Filter limits query options) = Unit {0}
+TakesOptions (Info limits options) = (options.keep_going ≡ false) × (options.exclude ≡ false)
+
+-- the run over these bytes that what is asked comes to
+abbrev pub run_of : Ask → List ℕ → Outcome → Run
+run_of ask r outcome = record { rules = rules_of_ask ask; read = r; outcome = outcome }
+
+-- What is written of the bytes r, over which a run went so, with these reports, and the end that is told of it. Of what
+-- is copied the headline holds.
+abbrev pub Answers : Ask → List ℕ → Type 0 → Outcome → List Report → End → Channel → Channel → Type 0
+Answers (Check limits options) r at_end outcome reports told old new =
+    SaysCheck (all_under limits options) r outcome.ended told old new
+Answers (Filter limits query options) r at_end outcome reports told old new =
+    (told ≡ outcome.ended) × Writes (rules_for limits query options) r outcome.ended old.bytes new.bytes
+    × HeadlineOfRun Collects (run_of (Filter limits query options) r outcome) at_end old new [] reports
+    × WritesLines (rules_for limits query options) r outcome.lines outcome.ended old.bytes new.bytes
+Answers (Info limits options) r at_end outcome reports told old new =
+    SaysReport (all_under limits options) r outcome.ended told old new
+
+-- What is asked was done with bytes r that were read, but for what is said at its end: the account of the run over
+-- them, which stopped in time; its reports, which a sink of reports has taken; what standard output has got, and that a
+-- write to it failed where that is told; and how many lines were refused that reading went on after.
+pub record Does {N : Type 0} (notes : N → Report → N → Type 0) (ask : Ask) (r : List ℕ) (at_end : Type 0) (told : Told)
+    (old new : Channel) (n m : N) : Type 0 where
+  pub outcome : Outcome
+  pub refused : List Report
+  pub account : Account (run_of ask r outcome) at_end
+  pub stops : StopsInTime (run_of ask r outcome)
+  pub within : IsReadWithin (2 ^ 40) r outcome.ended
+  pub reported : AreReported notes (run_of ask r outcome) refused n m
+  pub answers : Answers ask r at_end outcome refused told.end old new
+  pub cause : told.end ≡ WriteFault → HasRisen old.failures new.failures
+  pub count : told.refused ≡ length refused
+
+-- What is asked was done with bytes r that were read: the account of the run over them, which stopped in time; that its
+-- reads ran out is never told of fewer than 2^40 bytes; its reports, of which there are none unless it goes on;
+-- what standard output has got, and that a write to it failed where that is told; what the flush answered, and standard
+-- error has got: the lines of the reports, and then that of the end; and the status.
+pub record Performs (ask : Ask) (r : List ℕ) (at_end : Type 0) (answer : ℕ) (old new : Channels) : Type 0 where
+  pub outcome : Outcome
+  pub refused : List Report
+  pub told : End
+  pub shown : Shown
+  pub account : Account (run_of ask r outcome) at_end
+  pub stops : StopsInTime (run_of ask r outcome)
+  pub within : IsReadWithin (2 ^ 40) r outcome.ended
+  pub enough : length r < 2 ^ 40 → told ≢ ReadLimit
+  pub reported : RunsNoting Collects (run_of ask r outcome) [] refused
+  pub usual : (rules_of_ask ask).options.keep_going ≡ false → refused ≡ []
+  pub answers : Answers ask r at_end outcome refused told old.out new.out
+  pub cause : told ≡ WriteFault → HasRisen old.out.failures new.out.failures
+  pub reports : Reports told (report_lines refused) new.out.flushed shown old.err new.err
+  pub status : answer ≡ status_after (length refused) shown.end
+
+-- ---- other words
+
+-- A text was written that the words ask for, as help: what standard output has got; what the flush answered, and
+-- standard error has got; and the status.
+pub record TellsHelp (answer : ℕ) (old new : Channels) : Type 0 where
+  pub text : List ℕ
+  pub told : End
+  pub shown : Shown
+  pub says : Says text Complete told old.out new.out
+  pub reports : Reports told [] new.out.flushed shown old.err new.err
+  pub status : answer ≡ status_of shown.end
+
+-- standard error has got all of this line, or a prefix of it where it failed; and the answer is the status that is due
+pub record TellsFault (line : List ℕ) (due answer : ℕ) (old_err new_err : Channel) : Type 0 where
+  pub written : Result (Unit {0}) Unwritten
+  pub wrote : Wrote line written old_err new_err
+  pub status : answer ≡ due
+
+-- no memory was granted
+abbrev pub TellsMemory : ℕ → Channel → Channel → Type 0
+TellsMemory answer old_err new_err = TellsFault (fault_line Memory) (status_of Memory) answer old_err new_err
+
+-- the words are wrong, as some text says
+abbrev pub TellsWrongWords : ℕ → Channel → Channel → Type 0
+TellsWrongWords answer old_err new_err = (text : List ℕ) × TellsFault text 2 answer old_err new_err
+
+-- an error of the words asks for no help
+abbrev pub IsNoHelp : ErrorKind → Type 0
+IsNoHelp kind = (kind ≢ DisplayHelp) × (kind ≢ DisplayVersion)
+
+-- an error of the words is told by its kind; memory may be refused to its text. But for help nothing is written to
+-- standard output, and it is not flushed.
+abbrev pub TellsError : ErrorKind → ℕ → Channels → Channels → Type 0
+TellsError kind answer old new =
+    ((new.out ≡ old.out) × TellsMemory answer old.err new.err)
+    ⊎ ((kind ≢ OutOfMemory) × IsNoHelp kind × (new.out ≡ old.out) × TellsWrongWords answer old.err new.err)
+    ⊎ (¬ IsNoHelp kind × TellsHelp answer old new)
+
+-- Nothing is done with the stream, for this reason: an error of the words is told by its kind; and that no command is
+-- named, the fault of a limit and that of a query each by a line of its own. But for help nothing is written to
+-- standard output, and it is not flushed.
+abbrev pub Declines : NoAsk → ℕ → Channels → Channels → Type 0
+Declines (Words error) answer old new = TellsError (kind_of error) answer old new
+Declines NoCommand answer old new = (new.out ≡ old.out) × TellsFault no_command_line 2 answer old.err new.err
+Declines (Limits fault) answer old new = (new.out ≡ old.out) × TellsFault (limit_line fault) 2 answer old.err new.err
+Declines (Query fault) answer old new =
+    (new.out ≡ old.out) × TellsFault (query_line fault) (status_of_query fault) answer old.err new.err

@@ -1,0 +1,107 @@
+-- What the words of a command line say, as `clap` found it.
+use Rattle.std.specs.Prelude.{◌≡◌, ◌≢◌, ℕ, ◌<◌, ◌^◌, List, Bool, true, false, Some, None, Ok, codes, decimal}
+use Rattle.std.specs.Prelude.{option_map}
+use Rattle.clap.specs.Words.{HasKind, Text, fault_of, found_of, first_value, one_text, subcommand_of}
+use Rattle.clap.specs.declared.parser.matches.ArgMatches.{ArgMatches}
+use Rattle.cj_budget.specs.Limits.{LimitPair, InLine, InDepth}
+use Rattle.cj_budget.specs.declared.limits.LimitFault.{LimitFault}
+use Rattle.cj_budget.specs.declared.limits.LimitFault.TheVariants.{LineLimit, DepthLimit}
+use Rattle.cj_stream.specs.Options.{OptionSet}
+use Rattle.cj_stream.specs.Query.{criteria}
+use Rattle.cj_stream.specs.declared.query.fault.QueryFault.{QueryFault}
+use Rattle.cityseq_command.specs.Commands.{IsCalled, program_app}
+use Rattle.cityseq_command.specs.Options.{Texts, criteria_by, RefusesBy}
+use Rattle.cityseq_command.specs.declared.ask.Ask.{Ask}
+use Rattle.cityseq_command.specs.declared.ask.Ask.TheVariants.{Check, Filter, Info}
+use Rattle.cityseq_command.specs.declared.asking.NoAsk.{NoAsk}
+use Rattle.cityseq_command.specs.declared.asking.NoAsk.TheVariants.{Words, NoCommand, Limits, Query}
+
+-- the texts of the options of a query that a command was given
+abbrev pub texts_in : ArgMatches → Texts
+texts_in m = record {
+  ids = first_value (found_of m) (codes "id");
+  types = first_value (found_of m) (codes "type");
+  lods = first_value (found_of m) (codes "lod");
+  box = first_value (found_of m) (codes "bbox");
+}
+
+-- an option that takes a number has this one: the usual one where it has no text, and else what its digits say
+pub record HasNumber (m : ArgMatches) (option : List ℕ) (usual number : ℕ) : Type 0 where
+  pub none : one_text (found_of m) option ≡ None → number ≡ usual
+  pub some : (n : ℕ) → n < 2 ^ 64 → one_text (found_of m) option ≡ Some (decimal n) → number ≡ n
+
+-- the limits that a command was given
+pub record HasLimits (m : ArgMatches) (limits : LimitPair) : Type 0 where
+  pub line : HasNumber m (codes "line-limit") 8388608 limits.line
+  pub depth : HasNumber m (codes "depth") 64 limits.depth
+
+-- of these limits this one is the first that is out of its range
+abbrev pub IsOutOfRange : LimitFault → LimitPair → Type 0
+IsOutOfRange LineLimit limits = ¬ InLine limits.line
+IsOutOfRange DepthLimit limits = InLine limits.line × ¬ InDepth limits.depth
+
+-- a command was given limits of which this is the first that is out of its range
+pub record RefusesLimits (m : ArgMatches) (fault : LimitFault) : Type 0 where
+  pub limits : LimitPair
+  pub given : HasLimits m limits
+  pub refused : IsOutOfRange fault limits
+
+-- an option without a text is given, or not
+pub record HasFlag (m : ArgMatches) (option : List ℕ) (given : Bool) : Type 0 where
+  pub none : one_text (found_of m) option ≡ None → given ≡ false
+  pub yes : one_text (found_of m) option ≡ Some (codes "true") → given ≡ true
+  pub no : one_text (found_of m) option ≡ Some (codes "false") → given ≡ false
+
+-- the options of each command that it was given, and none that it does not take
+pub record HasCheckOptions (m : ArgMatches) (options : OptionSet) : Type 0 where
+  pub keep_going : HasFlag m (codes "keep-going") options.keep_going
+  pub tree : HasFlag m (codes "tree") options.tree
+  pub exclude : options.exclude ≡ false
+
+pub record HasFilterOptions (m : ArgMatches) (options : OptionSet) : Type 0 where
+  pub keep_going : HasFlag m (codes "keep-going") options.keep_going
+  pub tree : HasFlag m (codes "tree") options.tree
+  pub exclude : HasFlag m (codes "exclude") options.exclude
+
+pub record HasInfoOptions (m : ArgMatches) (options : OptionSet) : Type 0 where
+  pub tree : HasFlag m (codes "tree") options.tree
+  pub keep_going : options.keep_going ≡ false
+  pub exclude : options.exclude ≡ false
+
+-- a command of this name with these options asks for this
+abbrev pub AsksBy : List ℕ → ArgMatches → Ask → Type 0
+AsksBy name m (Check limits options) = (name ≡ codes "check") × HasLimits m limits × HasCheckOptions m options
+AsksBy name m (Filter limits query options) = (name ≡ codes "filter") × HasLimits m limits
+    × (criteria_by (texts_in m) ≡ Ok (criteria query)) × HasFilterOptions m options
+AsksBy name m (Info limits options) = (name ≡ codes "info") × HasLimits m limits × HasInfoOptions m options
+
+-- a command of this name with these options cannot be asked: it is `filter`, and this is the first refusal of its texts
+abbrev pub CannotAsk : List ℕ → ArgMatches → QueryFault → Type 0
+CannotAsk name m fault = (name ≡ codes "filter") × RefusesBy (texts_in m) fault
+
+-- a name is that of no command of the program
+abbrev pub IsNoCommand : List ℕ → Type 0
+IsNoCommand name = (name ≢ codes "check") × (name ≢ codes "filter") × (name ≢ codes "info")
+
+-- the words ask for this, the program's name first: they name a command and give it options that ask for it
+abbrev pub AsksFor : List Text → Ask → Type 0
+AsksFor words ask = (name : List ℕ) × (options : ArgMatches) × IsCalled words name options × AsksBy name options ask
+
+-- what a command of this name asks for with these options cannot be done: it is none of the program's; this is the
+-- first limit that is out of its range; or this is the first refusal of its texts
+abbrev pub Refuses : List ℕ → ArgMatches → NoAsk → Type 0
+Refuses name m (Words error) = ⊥
+Refuses name m NoCommand = IsNoCommand name
+Refuses name m (Limits fault) = RefusesLimits m fault
+Refuses name m (Query fault) = CannotAsk name m fault
+
+-- what these words ask for cannot be done: by the rules of `clap` they have a fault or ask for help, or memory was
+-- refused to it; they name no command of the program; or a command that they name refuses its limits or its query
+abbrev pub MayDecline : List Text → NoAsk → Type 0
+MayDecline words (Words error) = HasKind (fault_of program_app words) error
+MayDecline words NoCommand = (name : List ℕ) → option_map (λ p. p.0) (subcommand_of program_app words) ≡ Some name
+    → IsNoCommand name
+MayDecline words (Limits fault) = (name : List ℕ) × (options : ArgMatches) × IsCalled words name options
+    × Refuses name options (Limits fault)
+MayDecline words (Query fault) = (name : List ℕ) × (options : ArgMatches) × IsCalled words name options
+    × Refuses name options (Query fault)

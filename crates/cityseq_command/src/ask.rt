@@ -1,0 +1,183 @@
+//! What the program can be asked to do, and how it does it.
+ghost use Rattle.std.specs.Prelude.{◌≡◌, ℕ, List};
+ghost use Rattle.std.specs.Io.KnownBytes.{Consumes, IsAtEnd};
+ghost use Rattle.cj_stream.specs.Output.{channel};
+ghost use Rattle.cityseq_command.specs.Performed.{end_of_writing as told_after, Does, Performs, TakesOptions};
+
+use crate::report::{show_after, status_after};
+use crate::reporting::WriteReports;
+use crate::summary::{write_check, write_report};
+use cj_stream::{
+    End, IgnoreSink, Limits, Options, Output, Query, ReportSink, TallySink, WriteFault, laws, run,
+};
+use std::alloc::Global;
+use std::io::{Read, Write};
+
+/// What to do with the stream on standard input.
+#[derive(Drop)]
+pub enum Ask {
+    /// Check whether it is valid under these limits, and count its lines and features.
+    Check(Limits, Options),
+    /// Copy the header and the features that the query and the options keep.
+    Filter(Limits, Query, Options),
+    /// Write a summary of it. There is no summary of an invalid stream, so `info` cannot go on
+    /// after an invalid line.
+    Info(Limits, Options),
+}
+
+/// The outcome to report: the end, and the number of invalid lines after which reading went on.
+#[derive(Clone, Copy)]
+struct Told {
+    end: End,
+    refused: u64,
+}
+
+/// Returns the end of a complete run after which a text of the program was written with this
+/// result.
+pub fn end_of_writing(written: Result<(), WriteFault>) -> End
+    ensures { result ≡ told_after written }
+{
+    match written {
+        Ok(()) => End::Complete,
+        Err(WriteFault) => End::WriteFault,
+    }
+}
+
+/// Judges the stream. Unless a line or a fault ends it, writes how many lines and features it has.
+fn check<R: Read, W: Write + Drop, N: ReportSink>(
+    alloc: Global,
+    limits: Limits,
+    options: Options,
+    reader: &mut R,
+    out: &mut Output<W>,
+    reports: &mut N,
+) -> Told
+    ensures { (r : List ℕ) × Consumes (R.remaining reader.old) (R.remaining reader.new) r
+        × Does N.notes (Ask.Check limits options) r (IsAtEnd (R.remaining reader.new)) result
+        (channel W.contents out.old) (channel W.contents out.new) reports.old reports.new }
+{
+    let query = Query::all(alloc);
+    let outcome = run(
+        alloc,
+        reader,
+        &mut IgnoreSink,
+        reports,
+        limits,
+        &query,
+        options,
+    );
+    laws::good_lines_are_kept();
+    laws::reports_are_collected::<W>();
+    match outcome.ended {
+        End::Complete => Told {
+            end: end_of_writing(write_check(out, outcome.lines, outcome.kept, outcome.refused)),
+            refused: outcome.refused,
+        },
+        ended => Told {
+            end: ended,
+            refused: outcome.refused,
+        },
+    }
+}
+
+/// Tallies the stream, and writes its summary if it is valid.
+fn info<R: Read, W: Write + Drop, N: ReportSink>(
+    alloc: Global,
+    limits: Limits,
+    options: Options,
+    reader: &mut R,
+    out: &mut Output<W>,
+    reports: &mut N,
+) -> Told
+    requires { TakesOptions (Ask.Info limits options) }
+    ensures { (r : List ℕ) × Consumes (R.remaining reader.old) (R.remaining reader.new) r
+        × Does N.notes (Ask.Info limits options) r (IsAtEnd (R.remaining reader.new)) result
+        (channel W.contents out.old) (channel W.contents out.new) reports.old reports.new }
+{
+    let query = Query::all(alloc);
+    let mut tally = TallySink::new();
+    let outcome = run(alloc, reader, &mut tally, reports, limits, &query, options);
+    laws::puts_are_tallied();
+    laws::first_invalid_line_is_the_end();
+    laws::reports_are_collected::<W>();
+    match outcome.ended {
+        End::Complete => Told {
+            end: end_of_writing(write_report(out, outcome.lines, &tally, outcome.peaks)),
+            refused: outcome.refused,
+        },
+        ended => Told {
+            end: ended,
+            refused: outcome.refused,
+        },
+    }
+}
+
+/// Copies the header and the features that the query and the options keep.
+fn filter<R: Read, W: Write + Drop, N: ReportSink>(
+    alloc: Global,
+    limits: Limits,
+    query: &Query,
+    options: Options,
+    reader: &mut R,
+    out: &mut Output<W>,
+    reports: &mut N,
+) -> Told
+    ensures { (r : List ℕ) × Consumes (R.remaining reader.old) (R.remaining reader.new) r
+        × Does N.notes (Ask.Filter limits query.now options) r (IsAtEnd (R.remaining reader.new)) result
+        (channel W.contents out.old) (channel W.contents out.new) reports.old reports.new }
+{
+    laws::puts_are_written::<W, N>();
+    laws::reports_are_collected::<W>();
+    let outcome = run(alloc, reader, out, reports, limits, query, options);
+    Told {
+        end: outcome.ended,
+        refused: outcome.refused,
+    }
+}
+
+/// Does what is asked with the bytes of the reader, and returns the outcome.
+fn answer<R: Read, W: Write + Drop, N: ReportSink>(
+    alloc: Global,
+    ask: &Ask,
+    reader: &mut R,
+    out: &mut Output<W>,
+    reports: &mut N,
+) -> Told
+    requires { TakesOptions ask.now }
+    ensures { (r : List ℕ) × Consumes (R.remaining reader.old) (R.remaining reader.new) r
+        × Does N.notes ask.now r (IsAtEnd (R.remaining reader.new)) result
+        (channel W.contents out.old) (channel W.contents out.new) reports.old reports.new }
+{
+    match ask {
+        Ask::Check(limits, options) => check(alloc, *limits, *options, reader, out, reports),
+        Ask::Filter(limits, query, options) => {
+            filter(alloc, *limits, query, *options, reader, out, reports)
+        }
+        Ask::Info(limits, options) => info(alloc, *limits, *options, reader, out, reports),
+    }
+}
+
+/// Does what is asked with the bytes of the reader, flushes `out`, and returns the exit status.
+///
+/// It reports on `err` each invalid line after which reading went on, and how the run ended. It
+/// ignores a failed write to `err`, but then writes nothing more to it.
+pub fn perform<R: Read, W: Write + Drop, E: Write + Drop>(
+    alloc: Global,
+    ask: &Ask,
+    reader: &mut R,
+    out: &mut Output<W>,
+    err: &mut Output<E>,
+) -> u8
+    requires { TakesOptions ask.now }
+    ensures { (r : List ℕ) × Consumes (R.remaining reader.old) (R.remaining reader.new) r
+        × Performs ask.now r (IsAtEnd (R.remaining reader.new)) result
+        (record { out = channel W.contents out.old; err = channel E.contents err.old })
+        (record { out = channel W.contents out.new; err = channel E.contents err.new }) }
+{
+    laws::first_invalid_line_is_the_end();
+    let mut reports = WriteReports::new(err);
+    let told = answer(alloc, ask, reader, out, &mut reports);
+    let reported = reports.written();
+    let shown = show_after(reported, out.flush(), told.end, err);
+    status_after(told.refused, shown.end)
+}

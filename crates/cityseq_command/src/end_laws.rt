@@ -1,0 +1,19 @@
+//! Laws of two definitions: what is written of an end, and which refusal a query has. Each is
+//! proved once.
+ghost use Rattle.cityseq_command.specs.EndRows.{FailedRow, GoodRow, LineRows, RefusedRows};
+ghost use Rattle.cityseq_command.specs.RefusalRows.{MemoryRows, NoMemoryRows, OtherRows};
+
+/// The end that is written, given the flush before it, and the line and the status of each end.
+pub fn ends_compute()
+    ensures failed { FailedRow }
+    ensures good { GoodRow }
+    ensures lines { LineRows }
+    ensures refused { RefusedRows }
+{}
+
+/// The first refusal of options, on small texts with known results.
+pub fn refusals_compute()
+    ensures memory { MemoryRows }
+    ensures no_memory { NoMemoryRows }
+    ensures others { OtherRows }
+{}

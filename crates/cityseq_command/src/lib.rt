@@ -1,0 +1,31 @@
+//! The commands of the program `cityseq`. It reads a CityJSONSeq stream from standard input, once
+//! and in bounded memory. It checks whether the stream is valid (`check`), copies the header and the
+//! selected features, byte for byte (`filter`), or writes a summary (`info`).
+//!
+//! A command line goes one way down, and each file calls those below it:
+//!
+//! - `command` does what the words ask for, or declines it.
+//! - `asking` makes an `Ask` from the words, with its limits and its query.
+//! - `words` lets `clap` read the words, and returns the limits and texts of the options.
+//! - `ask` does what is asked, with the engine of `cj_stream`, over standard input and output.
+//! - `summary` writes what `check` and `info` print about a stream.
+//! - `decline` writes why nothing is done: help, wrong words, or an invalid query.
+//! - `reporting` has the sink that writes reports of invalid lines to standard error as they come.
+//! - `report` has the lines for standard error, and the exit statuses.
+//!
+//! `option_laws`, `word_laws`, `summary_laws` and `end_laws` are worked examples of the
+//! definitions, as theorems. The rows that run are in the crate `cityseq_rows`.
+#![tactic(auto)]
+
+pub mod ask;
+mod asking;
+pub mod command;
+pub mod decline;
+mod end_laws;
+mod option_laws;
+pub mod report;
+mod reporting;
+mod summary;
+mod summary_laws;
+mod word_laws;
+mod words;

@@ -1,0 +1,17 @@
+//! Laws of the definition of the criteria that options make, each proved once.
+ghost use Rattle.cityseq_command.specs.OptionRows.{NothingRow, IdRows, LodRow, TypeRows, BoxRow, OrderRows, AllRow};
+
+use cj_stream::row_laws::boxes_compute;
+
+/// The definition, on small texts with known criteria or refusals.
+pub fn options_compute()
+    ensures nothing { NothingRow }
+    ensures ids { IdRows }
+    ensures lods { LodRow }
+    ensures types { TypeRows }
+    ensures a_box { BoxRow }
+    ensures order { OrderRows }
+    ensures all { AllRow }
+{
+    boxes_compute();
+}
