@@ -6,11 +6,10 @@
 #
 # The gate leaves the libraries of the crates as it has proved them. `rt lib` would prove them all
 # again. With the option, the script takes these libraries as they are, and proves only the crate of
-# the library for C over them.
+# the library for C over them. It writes nothing below crates/, because the gate may still run.
 set -eu
 cd "$(dirname "$0")/.."
 kit=$(dirname "$(rt doc)")
-built=crates/cityseq_c/out/libcityseq_c.a
 below="cj_budget cj_decimal cj_spans cj_geometry cj_feature cj_stream"
 
 # Returns whether the libraries are those that the gate left. Those of another command have a stamp.
@@ -29,16 +28,17 @@ build_over_them() {
     words+=(--extern "$crate=../$crate/out/rlib/$crate.rlib" -L "dependency=../$crate/out/rlib")
   done
   words+=(-L "dependency=$kit/rlibs" --antt-project "$kit/rattle/logic/antt-project.json" --logic-built "$kit/logic_built")
-  (cd crates/cityseq_c && "$kit/bin/rattle" build "${words[@]}" --toolchain "$kit/toolchain" --backend llvm -o out/libcityseq_c.a)
+  (cd crates/cityseq_c && "$kit/bin/rattle" build "${words[@]}" --toolchain "$kit/toolchain" --backend llvm -o "../../$built")
 }
 
+mkdir -p c/out
 if [ "${1:-}" = --after-gate ] && are_of_gate; then
-  mkdir -p crates/cityseq_c/out
+  built=c/out/libcityseq_c.a
   build_over_them >&2
 else
+  built=crates/cityseq_c/out/libcityseq_c.a
   (cd crates/cityseq_c && rt lib >&2)
 fi
-mkdir -p c/out
 system=$kit/c/liblibc_c.a
 printf 'CREATE c/out/libcityseq.a\nADDLIB %s\nADDLIB %s\nSAVE\nEND\n' "$built" "$system" | ar -M
 # The name has the number of the interface, so a program never runs over an interface other than the
