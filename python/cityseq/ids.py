@@ -32,7 +32,7 @@ BEGINNING = re.compile(
 )
 UP_TO_QUOTE = re.compile(b"[\x00-!]")  # the signs that are less than a quote
 MORE = 4  # times as many ids as lines are not too many for a part
-FIRST = 20  # of so many lines the order is looked at first
+FIRST = 20  # lines whose order is looked at before that of all
 Made = TypeVar("Made")
 _making = threading.Lock()
 
