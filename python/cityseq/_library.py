@@ -8,7 +8,7 @@ import os
 import resource
 import threading
 from ctypes import POINTER, c_bool, c_char_p, c_int32, c_int64, c_size_t, c_uint32, c_uint64
-from typing import Any, Iterable, Optional, Sequence, Tuple, Union
+from typing import Any, FrozenSet, Iterable, Optional, Sequence, Tuple, Union
 
 from .faults import LibraryMissing
 
@@ -334,16 +334,28 @@ def keep_room(jobs: Optional[int] = None) -> None:
 
 
 def sort_texts(texts: bytearray, size: int) -> bool:
-    """Sorts texts of this size by their bytes. A NUL ends each, and no other byte is one. Returns
-    False if the C library is not there."""
+    """Sorts texts of this size by their bytes. Returns False if the C library has no call for
+    that."""
     try:
         libc = ctypes.CDLL(None)
-        sort, order = libc.qsort, libc.strcmp
+        sort, order = libc.qsort_r, libc.memcmp
     except (OSError, AttributeError, TypeError):
         return False
-    first = (ctypes.c_char * len(texts)).from_buffer(texts)
-    sort(first, c_size_t(len(texts) // size), c_size_t(size), order)
+    length = c_size_t(size)
+    # `memcmp` gets the last argument as its third one: how many bytes it compares
+    sort(_pointed(texts), c_size_t(len(texts) // size), length, order, length)
     return True
+
+
+def leave_untracked(texts: FrozenSet[bytes]) -> None:
+    """Takes a set of bytes from the garbage collector, which else looks at each of them. The set
+    is in no cycle."""
+    try:
+        leave = ctypes.pythonapi.PyObject_GC_UnTrack
+    except AttributeError:  # another Python than CPython
+        return
+    leave.restype, leave.argtypes = None, [ctypes.py_object]
+    leave(texts)
 
 
 def library() -> Library:

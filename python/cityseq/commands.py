@@ -66,7 +66,10 @@ def _listed(path: str, what: str) -> bytes:
     except OSError as fault:
         raise RequestError(f"{path}: {what}: {fault.strerror or fault}") from fault
     text = text[3:] if text.startswith(b"\xef\xbb\xbf") else text
-    text = text.replace(b"\0", b"\n") if b"\0" in text else text.replace(b"\r\n", b"\n")
+    if b"\0" in text:
+        text = text.replace(b"\0", b"\n")
+    elif b"\r" in text:
+        text = text.replace(b"\r\n", b"\n")
     return text.strip(b"\n") if b"\n\n" not in text else b"\n".join(filter(None, text.split(b"\n")))
 
 

@@ -15,7 +15,7 @@ from functools import lru_cache
 from operator import itemgetter, le
 from typing import Callable, FrozenSet, Iterable, Iterator, List, Optional, Tuple, TypeVar
 
-from ._library import Text, sort_texts
+from ._library import Text, leave_untracked, sort_texts
 
 MANY = 2_000  # bytes of ids for which this is worthwhile
 LONGER = 32  # if a part is this many times as long as the ids, they take little of the time
@@ -32,6 +32,7 @@ BEGINNING = re.compile(
 )
 UP_TO_QUOTE = re.compile(b"[\x00-!]")  # the signs that are less than a quote
 MORE = 4  # times as many ids as lines are not too many for a part
+FIRST = 20  # lines whose order is looked at before that of all
 Made = TypeVar("Made")
 _making = threading.Lock()
 
@@ -42,6 +43,7 @@ def part_size_for(ids: bytes) -> int:
     return size if len(ids) >= MANY and size <= MOST else 0
 
 
+@lru_cache(maxsize=2)
 def _even(ids: bytes) -> int:
     """Returns the length of each id of a query with its LF. 0 if the lengths differ."""
     width, count = ids.find(b"\n") + 1, ids.count(b"\n") + 1
@@ -61,10 +63,10 @@ def _sorted(ids: bytes) -> bytes:
     """Returns the ids of a query in the order of their bytes, with an LF after each. They are given
     one a line."""
     width = _even(ids)
-    if width and b"\0" not in ids:  # C sorts texts of one length in half the time
-        texts = bytearray(ids.replace(b"\n", b"\0") + b"\0")
+    if width:  # C sorts texts of one length in half the time
+        texts = bytearray(ids + b"\n")
         if sort_texts(texts, width):
-            return bytes(texts.replace(b"\0", b"\n"))
+            return bytes(texts)
     # a character for each byte: Python sorts such texts faster than bytes
     listed = sorted(ids.decode("latin-1").split("\n"))
     return ("\n".join(listed) + "\n").encode("latin-1")
@@ -73,7 +75,9 @@ def _sorted(ids: bytes) -> bytes:
 @lru_cache(maxsize=2)
 def _listed(ids: bytes) -> FrozenSet[bytes]:
     """Returns the ids of a query as a set. They are given one a line."""
-    return frozenset(ids.split(b"\n"))
+    listed = frozenset(ids.split(b"\n"))
+    leave_untracked(listed)
+    return listed
 
 
 def _for_all(make: Callable[[bytes], Made], ids: bytes) -> Made:
@@ -137,6 +141,12 @@ def _between(ids: bytes, lines: List[bytes], begin: int) -> Optional[bytes]:
     return found[:-1] if found and found != b"\n" else found
 
 
+def _are_sorted(texts: List[bytes]) -> bool:
+    """Returns whether texts are sorted. To sort them again is the fastest test if they are. If not,
+    the first ones mostly tell."""
+    return all(map(le, texts[:FIRST], texts[1:FIRST])) and texts == sorted(texts)
+
+
 def _usual(ids: bytes, heads: List[bytes], begin: int) -> List[bytes]:
     """Returns the id of each line as it is spelled. Of an id that is longer than all ids of a query
     it returns some bytes, which may be one of these."""
@@ -164,7 +174,7 @@ def _ids_in(ids: bytes, text: bytes) -> bytes:
     heads = list(map(itemgetter(slice(most)), io.BytesIO(text)))
     together = b"\n".join([b"", *heads])
     may_escape = b"\\" in together
-    is_sorted = heads[-1].startswith(begin) and all(map(le, heads, heads[1:]))
+    is_sorted = heads[-1].startswith(begin) and _are_sorted(heads)
     if is_sorted and not may_escape:
         chosen = _between(ids, heads, len(begin))
     if chosen is None:

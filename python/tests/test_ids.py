@@ -1,4 +1,5 @@
 """Queries for very many ids: the same is kept as by a query for all of them."""
+import gc
 import io
 import json
 import random
@@ -83,6 +84,22 @@ class Order(unittest.TestCase):
             with mock.patch("cityseq.ids.sort_texts", lambda *_: False):
                 _sorted.cache_clear()
                 self.assertTrue(in_order("\n".join(mixed).encode()) == found)
+
+    def test_any_bytes_by_chance(self):
+        """Ids of one length, which C sorts, and of several: some of them twice."""
+        for seed in range(300):
+            chance = random.Random(seed)
+            least = chance.choice([0, 1, 7, 8, 16, 40])
+            most = least + chance.choice([0, 0, 3])
+            signs = chance.choice([b"ab", b"0123456789", bytes({*range(256)} - {10})])
+            wanted = [
+                bytes(chance.choices(signs, k=chance.randint(least, most)))
+                for _ in range(chance.randrange(1, 200))
+            ]
+            wanted += chance.sample(wanted, len(wanted) // 3)
+            with self.subTest(seed=seed):
+                in_order_of_bytes = b"".join(each + b"\n" for each in sorted(wanted))
+                self.assertEqual(_sorted(b"\n".join(wanted)), in_order_of_bytes)
 
     def test_few_are_left_as_they_are(self):
         for ids in (b"", b"b\na", b"\n"):
@@ -218,6 +235,22 @@ class Filters(support.InFolder):
             else json.dumps(sign, ensure_ascii=False)[1:-1]
             for sign in name
         )
+
+    def test_lines_that_are_sorted_but_for_one(self):
+        """Wherever that line is, no id of the others is missed."""
+        names = [f"b{number:03}" for number in range(60)]
+        wanted = "\n".join(names[::2]).encode()
+        for place in range(len(names)):
+            moved = [*names[:place], *names[place + 1 :], names[place]]
+            for listed in (moved, moved[::-1]):
+                part = b"".join(map(feature, listed))
+                self.assertEqual(set(_ids_in(wanted, part).split(b"\n")), set(wanted.split(b"\n")))
+
+    def test_the_garbage_collector_passes_by_the_set_of_ids(self):
+        listed = ids_of._listed(b"b\na\nb")
+        self.assertEqual((listed, gc.is_tracked(listed)), ({b"a", b"b"}, False))
+        with mock.patch("cityseq._library.ctypes.pythonapi", None):  # as of another Python
+            self.assertEqual(ids_of._listed(b"c\na"), {b"a", b"c"})
 
     def test_lines_that_are_cut_short(self):
         wanted = "\n".join(("ab", "abb", "abc", "abcd", "z"))
