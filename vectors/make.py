@@ -155,12 +155,21 @@ def spelled(text):
     return "".join(parts)
 
 
+def asked(words):
+    """The options of a vector as a row of the tests spells them: a word for each text."""
+    told = []
+    for word in re.sub("--(id|type|lod) ", r"--\1=", " ".join(words)).split():
+        option, _, value = word[2:].partition("=")
+        texts = [value] if option == "bbox" else value.split(",")
+        told += [f"{option}={text}" if text else option for text in texts]
+    return " ".join(told) or "-"
+
+
 def test_row(name, text, limits, words, refused, lines, kept, good):
     """The row of a vector in the tests of the engine."""
     stream = text.split(b"\n")
     written = b"".join(stream[number - 1] + (b"\n" if number < len(stream) else b"") for number in kept)
-    asked = " ".join(words).replace("--", "").replace("id ", "id=").replace("type ", "type=").replace("lod ", "lod=") or "-"
-    return "|".join([name, *map(str, limits), asked, spelled(text), "all" if written == text else spelled(written),
+    return "|".join([name, *map(str, limits), asked(words), spelled(text), "all" if written == text else spelled(written),
                      answer_of(refused), str(lines), str(len(kept) - (1 in kept)), peaks_of(refused, good)])
 
 
@@ -192,8 +201,7 @@ TESTS_HEAD = """\
 //! - how many features are written
 //! - the peaks of a complete stream, or `-`
 //!
-//! In a stream `&H;` is the usual header, `&F;` the usual feature, `&lf;` an LF, and `&255;` the
-//! byte with this number.
+//! The module `rows` says how a query and a stream are spelled.
 use super::vectors::check_rows;
 use std::test::Fail;
 """

@@ -9,6 +9,7 @@ use crate::{
     cityseq_interface, cityseq_line_begin, cityseq_memory, cityseq_part_end, cityseq_reason_text,
     cityseq_stack, cityseq_tally_then, cityseq_type_name, cityseq_version,
 };
+use std::alloc::Global;
 use std::process::Abort;
 use std::test::Fail;
 
@@ -32,24 +33,46 @@ const NO_REPORT: Told = Told {
     code: 0,
 };
 
-/// Returns a request for all features, at the usual limits.
-fn usual<'a>() -> Request<'a> {
-    Request {
-        line_limit: 8_388_608,
-        depth_limit: 64,
-        keep_going: false,
-        tree: false,
-        exclude: false,
-        asks_ids: false,
-        asks_types: false,
-        asks_lods: false,
-        asks_box: false,
-        ids: b"",
-        types: b"",
-        lods: b"",
-        bbox: b"",
-    }
+/// A request for all features, at the usual limits.
+const USUAL: Request<'_> = Request {
+    line_limit: 8_388_608,
+    depth_limit: 64,
+    keep_going: false,
+    tree: false,
+    exclude: false,
+    asks_ids: false,
+    asks_types: false,
+    asks_lods: false,
+    asks_box: false,
+    ids: b"",
+    types: b"",
+    lods: b"",
+    bbox: b"",
+};
+
+// ---- calls without their contracts
+
+/// Checks a stream. It has no room for reports.
+fn checked(alloc: Global, header: &[u8], part: &[u8], request: &Request) -> Answer {
+    cityseq_check(alloc, header, part, request, &mut [])
 }
+
+/// Writes the feature to an output, by the usual request.
+fn filtered(alloc: Global, output: &mut [u8]) -> Answer {
+    cityseq_filter(alloc, HEADER, FEATURE, &USUAL, output, &mut [])
+}
+
+/// Tallies the feature, by the usual request.
+fn tallied(alloc: Global, tally: &mut Tally) -> Answer {
+    cityseq_info(alloc, HEADER, FEATURE, &USUAL, tally, &mut [])
+}
+
+/// Lists the feature, by the usual request.
+fn listed(alloc: Global, records: &mut [FeatureRecord]) -> Answer {
+    cityseq_features(alloc, HEADER, FEATURE, &USUAL, records, &mut [])
+}
+
+// ---- comparisons
 
 /// Checks how a call ended: status, code, line and place.
 fn check_ended(rt: &impl Abort, answer: Answer, wanted: (u32, u32, u64, u64)) {
@@ -63,75 +86,121 @@ fn check_counts(rt: &impl Abort, answer: Answer, wanted: (u64, u64, u64, u64)) {
     assert_eq!(rt; counts, wanted);
 }
 
+/// Checks the peaks of an answer: bytes, tokens and depth.
+fn check_peaks(rt: &impl Abort, answer: Answer, wanted: (u64, u64, u64)) {
+    let peaks = (answer.peak_bytes, answer.peak_tokens, answer.peak_depth);
+    assert_eq!(rt; peaks, wanted);
+}
+
+/// Checks a report: the line, where it begins, the place and the code.
+fn check_report(rt: &impl Abort, told: Told, wanted: (u64, u64, u64, u64)) {
+    let report = (told.line, told.begin, told.place, told.code);
+    assert_eq!(rt; report, wanted);
+}
+
+/// Checks a number of bytes.
+fn check_length(rt: &impl Abort, got: usize, wanted: usize) {
+    assert_eq!(rt; got, wanted);
+}
+
+/// Checks bytes.
+fn check_text(rt: &impl Abort, got: &[u8], wanted: &[u8]) {
+    assert_eq!(rt; got, wanted);
+}
+
+/// Checks a range: whether there is one, its least and its greatest.
+fn check_range(rt: &impl Abort, range: Range, wanted: (u64, i64, i64)) {
+    assert_eq!(rt; (range.some, range.least, range.greatest), wanted);
+}
+
+/// Checks how many features, buildings and geometries of LoD 2 a tally has.
+fn check_tally(rt: &impl Abort, tally: &Tally, wanted: (u64, u64, u64)) {
+    assert_eq!(rt; (tally.features, tally.types[1], tally.lods[2]), wanted);
+}
+
+/// Checks whether a tally has a transform, and one of its numbers.
+fn check_transform(rt: &impl Abort, tally: &Tally, got: Number, wanted: (u64, Number)) {
+    assert_eq!(rt; (tally.transformed, got), wanted);
+}
+
+// ---- checks and filters
+
 #[test]
 fn a_feature_is_checked(rt: HostRuntime) -> Result<(), Fail> {
-    let answer = cityseq_check(rt.alloc(), HEADER, FEATURE, &usual(), &mut []);
+    let answer = checked(rt.alloc(), HEADER, FEATURE, &USUAL);
     check_ended(&rt, answer, (0, 0, 0, 0));
     check_counts(&rt, answer, (2, 1, 0, 0));
-    let peaks = (answer.peak_bytes, answer.peak_tokens, answer.peak_depth);
-    assert_eq!(rt; peaks, (350, 65, 8));
+    check_peaks(&rt, answer, (350, 65, 8));
     Ok(())
 }
 
 #[test]
 fn an_invalid_line_is_told(rt: HostRuntime) -> Result<(), Fail> {
-    let answer = cityseq_check(rt.alloc(), HEADER, BROKEN, &usual(), &mut []);
+    let answer = checked(rt.alloc(), HEADER, BROKEN, &USUAL);
     check_ended(&rt, answer, (1, 25, 2, 144));
     check_counts(&rt, answer, (1, 0, 0, 0));
     Ok(())
 }
 
-#[test]
-fn invalid_lines_are_reported(rt: HostRuntime) -> Result<(), Fail> {
+/// Goes on after invalid lines.
+fn reported(alloc: Global, reports: &mut [Told]) -> Answer {
     let request = Request {
         keep_going: true,
-        ..usual()
+        ..USUAL
     };
+    cityseq_check(alloc, HEADER, BROKEN, &request, reports)
+}
+
+#[test]
+fn invalid_lines_are_reported(rt: HostRuntime) -> Result<(), Fail> {
     let mut reports = [NO_REPORT; 2];
-    let answer = cityseq_check(rt.alloc(), HEADER, BROKEN, &request, &mut reports);
+    let answer = reported(rt.alloc(), &mut reports);
     check_ended(&rt, answer, (0, 0, 0, 0));
     check_counts(&rt, answer, (3, 0, 2, 0));
-    let told = reports[0];
-    assert_eq!(rt;
-        (told.line, told.begin, told.place, told.code),
-        (2, 141, 144, 25)
-    );
-    let told = reports[1];
-    assert_eq!(rt;
-        (told.line, told.begin, told.place, told.code),
-        (3, 352, 1, 4)
-    );
+    check_report(&rt, reports[0], (2, 141, 144, 25));
+    check_report(&rt, reports[1], (3, 352, 1, 4));
     Ok(())
+}
+
+/// Checks where a line of a header and a part begins.
+fn check_begin(rt: &impl Abort, header: &[u8], part: &[u8], line: u64, wanted: u64) {
+    assert_eq!(rt; cityseq_line_begin(header, part, line), wanted);
 }
 
 #[test]
 fn lines_begin_where_they_stand(rt: HostRuntime) -> Result<(), Fail> {
-    assert_eq!(rt; cityseq_line_begin(HEADER, b"ab\nc", 1), 0);
-    assert_eq!(rt; cityseq_line_begin(HEADER, b"ab\nc", 2), 141);
-    assert_eq!(rt; cityseq_line_begin(HEADER, b"ab\nc", 3), 144);
-    assert_eq!(rt; cityseq_line_begin(HEADER, b"ab\nc", 4), 145);
-    assert_eq!(rt; cityseq_line_begin(b"{}", b"ab", 2), 0);
+    for (line, begin) in [(1, 0), (2, 141), (3, 144), (4, 145)] {
+        check_begin(&rt, HEADER, b"ab\nc", line, begin);
+    }
+    check_begin(&rt, b"{}", b"ab", 2, 0);
     Ok(())
+}
+
+/// Checks that an output is the header and the feature.
+fn check_output(rt: &impl Abort, output: &[u8]) {
+    assert!(rt; output.starts_with(HEADER));
+    assert!(rt; output.ends_with(FEATURE));
 }
 
 #[test]
 fn a_feature_is_filtered(rt: HostRuntime) -> Result<(), Fail> {
     let mut output = [0u8; 352];
-    let answer = cityseq_filter(rt.alloc(), HEADER, FEATURE, &usual(), &mut output, &mut []);
+    let answer = filtered(rt.alloc(), &mut output);
     check_counts(&rt, answer, (2, 1, 0, 352));
-    assert!(rt; output.starts_with(HEADER));
-    assert!(rt; output.ends_with(FEATURE));
+    check_output(&rt, &output);
     Ok(())
 }
 
 #[test]
 fn an_output_that_does_not_fit_is_cut(rt: HostRuntime) -> Result<(), Fail> {
     let mut output = [0u8; 351];
-    let answer = cityseq_filter(rt.alloc(), HEADER, FEATURE, &usual(), &mut output, &mut []);
+    let answer = filtered(rt.alloc(), &mut output);
     check_ended(&rt, answer, (4, 0, 0, 0));
     check_counts(&rt, answer, (1, 0, 0, 141));
     Ok(())
 }
+
+// ---- tallies and lists
 
 /// Returns the number `low * 10^power`.
 fn number(low: u64, power: i32) -> Number {
@@ -163,16 +232,13 @@ fn no_tally() -> Tally {
 #[test]
 fn a_feature_is_tallied(rt: HostRuntime) -> Result<(), Fail> {
     let mut tally = no_tally();
-    let answer = cityseq_info(rt.alloc(), HEADER, FEATURE, &usual(), &mut tally, &mut []);
+    let answer = tallied(rt.alloc(), &mut tally);
     check_ended(&rt, answer, (0, 0, 0, 0));
-    assert_eq!(rt; (tally.features, tally.types[1], tally.lods[2]), (1, 1, 1));
-    let x = tally.ranges[0];
-    assert_eq!(rt; (x.some, x.least, x.greatest), (1, 0, 1000));
-    assert_eq!(rt; (tally.transformed, tally.scale[2]), (1, number(1, -3)));
-    assert_eq!(rt;
-        (tally.translate[1], tally.translate[2]),
-        (number(2, 3), number(0, 0))
-    );
+    check_tally(&rt, &tally, (1, 1, 1));
+    check_range(&rt, tally.ranges[0], (1, 0, 1000));
+    check_transform(&rt, &tally, tally.scale[2], (1, number(1, -3)));
+    check_transform(&rt, &tally, tally.translate[1], (1, number(2, 3)));
+    check_transform(&rt, &tally, tally.translate[2], (1, number(0, 0)));
     Ok(())
 }
 
@@ -194,12 +260,9 @@ const NO_RECORD: FeatureRecord = FeatureRecord {
     }; 3],
 };
 
-#[test]
-fn a_feature_is_listed(rt: HostRuntime) -> Result<(), Fail> {
-    let mut records = [NO_RECORD; 2];
-    let answer = cityseq_features(rt.alloc(), HEADER, FEATURE, &usual(), &mut records, &mut []);
-    check_ended(&rt, answer, (0, 0, 0, 0));
-    let record = records[0];
+/// Checks a record: the line, where it begins and its length, and where the id begins and its
+/// length.
+fn check_place(rt: &impl Abort, record: &FeatureRecord, wanted: (u64, u64, u64, u64, u64)) {
     let place = (
         record.line,
         record.begin,
@@ -207,14 +270,33 @@ fn a_feature_is_listed(rt: HostRuntime) -> Result<(), Fail> {
         record.id_begin,
         record.id_length,
     );
-    assert_eq!(rt; place, (2, 0, 210, 31, 4));
+    assert_eq!(rt; place, wanted);
+}
+
+/// Checks a record: the city objects, the geometries, the types and the LoDs.
+fn check_objects(rt: &impl Abort, record: &FeatureRecord, wanted: (u64, u64, u64, u64)) {
     let counts = (record.objects, record.geometries, record.types, record.lods);
-    assert_eq!(rt; counts, (1, 1, 2, 4));
-    let x = record.ranges[0];
-    assert_eq!(rt; (x.some, x.least, x.greatest), (1, 0, 1000));
-    assert_eq!(rt; records[1].line, 0);
+    assert_eq!(rt; counts, wanted);
+}
+
+/// Checks the number of the line of a record.
+fn check_line(rt: &impl Abort, record: &FeatureRecord, wanted: u64) {
+    assert_eq!(rt; record.line, wanted);
+}
+
+#[test]
+fn a_feature_is_listed(rt: HostRuntime) -> Result<(), Fail> {
+    let mut records = [NO_RECORD; 2];
+    let answer = listed(rt.alloc(), &mut records);
+    check_ended(&rt, answer, (0, 0, 0, 0));
+    check_place(&rt, &records[0], (2, 0, 210, 31, 4));
+    check_objects(&rt, &records[0], (1, 1, 2, 4));
+    check_range(&rt, records[0].ranges[0], (1, 0, 1000));
+    check_line(&rt, &records[1], 0);
     Ok(())
 }
+
+// ---- requests
 
 #[test]
 fn a_feature_is_asked_for(rt: HostRuntime) -> Result<(), Fail> {
@@ -227,9 +309,9 @@ fn a_feature_is_asked_for(rt: HostRuntime) -> Result<(), Fail> {
         lods: b"2.2",
         asks_box: true,
         bbox: b"1000.5,2000,1001,2001",
-        ..usual()
+        ..USUAL
     };
-    let answer = cityseq_check(rt.alloc(), HEADER, FEATURE, &request, &mut []);
+    let answer = checked(rt.alloc(), HEADER, FEATURE, &request);
     check_counts(&rt, answer, (2, 1, 0, 0));
     Ok(())
 }
@@ -238,11 +320,11 @@ fn a_feature_is_asked_for(rt: HostRuntime) -> Result<(), Fail> {
 fn wrong_requests_are_told(rt: HostRuntime) -> Result<(), Fail> {
     let limit = Request {
         line_limit: 0,
-        ..usual()
+        ..USUAL
     };
-    let answer = cityseq_check(rt.alloc(), HEADER, FEATURE, &limit, &mut []);
+    let answer = checked(rt.alloc(), HEADER, FEATURE, &limit);
     check_ended(&rt, answer, (2, 1, 0, 0));
-    let answer = cityseq_check(rt.alloc(), b"{}", FEATURE, &usual(), &mut []);
+    let answer = checked(rt.alloc(), b"{}", FEATURE, &USUAL);
     check_ended(&rt, answer, (2, 3, 0, 0));
     Ok(())
 }
@@ -252,100 +334,143 @@ fn an_unknown_type_is_told(rt: HostRuntime) -> Result<(), Fail> {
     let request = Request {
         asks_types: true,
         types: b"Building\nHouse",
-        ..usual()
+        ..USUAL
     };
-    let answer = cityseq_check(rt.alloc(), HEADER, FEATURE, &request, &mut []);
+    let answer = checked(rt.alloc(), HEADER, FEATURE, &request);
     check_ended(&rt, answer, (2, 5, 0, 0));
     Ok(())
+}
+
+// ---- parts
+
+/// Joins two answers for parts of a stream.
+fn joined(first: &Answer, next: &Answer) -> Answer {
+    cityseq_answer_then(first, next, HEADER.len())
 }
 
 #[test]
 fn two_parts_are_told_as_one(rt: HostRuntime) -> Result<(), Fail> {
     let mut output = [0u8; 352];
-    let first = cityseq_filter(rt.alloc(), HEADER, FEATURE, &usual(), &mut output, &mut []);
-    let next = cityseq_check(rt.alloc(), HEADER, BROKEN, &usual(), &mut []);
-    let both = cityseq_answer_then(&first, &first, HEADER.len());
-    check_counts(&rt, both, (3, 2, 0, 563));
-    let broken = cityseq_answer_then(&first, &next, HEADER.len());
+    let first = filtered(rt.alloc(), &mut output);
+    let next = checked(rt.alloc(), HEADER, BROKEN, &USUAL);
+    check_counts(&rt, joined(&first, &first), (3, 2, 0, 563));
+    let broken = joined(&first, &next);
     check_ended(&rt, broken, (1, 25, 3, 144));
     check_counts(&rt, broken, (2, 1, 0, 352));
     Ok(())
 }
 
+/// Checks that two ranges are the same.
+fn check_same_range(rt: &impl Abort, got: Range, wanted: Range) {
+    assert_eq!(rt; got, wanted);
+}
+
+/// Joins a tally with itself.
+fn doubled(tally: &Tally) -> Tally {
+    cityseq_tally_then(tally, tally)
+}
+
 #[test]
 fn two_tallies_are_joined(rt: HostRuntime) -> Result<(), Fail> {
     let mut tally = no_tally();
-    let _ = cityseq_info(rt.alloc(), HEADER, FEATURE, &usual(), &mut tally, &mut []);
-    let both = cityseq_tally_then(&tally, &tally);
-    assert_eq!(rt; (both.features, both.types[1], both.lods[2]), (2, 2, 2));
-    assert_eq!(rt; both.ranges[0], tally.ranges[0]);
-    assert_eq!(rt; (both.transformed, both.translate[0]), (1, number(1, 3)));
+    let _ = tallied(rt.alloc(), &mut tally);
+    let both = doubled(&tally);
+    check_tally(&rt, &both, (2, 2, 2));
+    check_same_range(&rt, both.ranges[0], tally.ranges[0]);
+    check_transform(&rt, &both, both.translate[0], (1, number(1, 3)));
     Ok(())
+}
+
+/// Checks where a part of about so many bytes is cut.
+fn check_part_end(rt: &impl Abort, part: &[u8], asked: usize, wanted: usize) {
+    assert_eq!(rt; cityseq_part_end(part, asked), wanted);
 }
 
 #[test]
 fn a_part_is_cut(rt: HostRuntime) -> Result<(), Fail> {
-    assert_eq!(rt; cityseq_part_end(b"ab\nc\nd", 6), 5);
-    assert_eq!(rt; cityseq_part_end(b"ab\nc\nd", 2), 3);
-    assert_eq!(rt; cityseq_part_end(b"ab", 2), 0);
+    check_part_end(&rt, b"ab\nc\nd", 6, 5);
+    check_part_end(&rt, b"ab\nc\nd", 2, 3);
+    check_part_end(&rt, b"ab", 2, 0);
     Ok(())
 }
 
-/// Checks bytes.
-fn check_text(rt: &impl Abort, got: &[u8], wanted: &[u8]) {
-    assert_eq!(rt; got, wanted);
+// ---- words
+
+/// Checks the words of a reason, and how long they are.
+fn check_reason(rt: &impl Abort, text: &mut [u8], length: usize, wanted: &[u8]) {
+    check_length(rt, cityseq_reason_text(4, text), length);
+    check_text(rt, text, wanted);
+}
+
+/// Checks the name of a type, and how long it is.
+fn check_type(rt: &impl Abort, text: &mut [u8], length: usize, wanted: &[u8]) {
+    check_length(rt, cityseq_type_name(1, text), length);
+    check_text(rt, text, wanted);
+}
+
+/// Checks the version, and how long it is.
+fn check_version(rt: &impl Abort, text: &mut [u8], length: usize, wanted: &[u8]) {
+    check_length(rt, cityseq_version(text), length);
+    check_text(rt, text, wanted);
 }
 
 #[test]
 fn words_are_copied(rt: HostRuntime) -> Result<(), Fail> {
     let mut text = [b'.'; 10];
-    assert_eq!(rt; cityseq_reason_text(4, &mut text), 6);
-    check_text(&rt, &text, b"syntax....");
-    assert_eq!(rt; cityseq_type_name(1, &mut text), 8);
-    check_text(&rt, &text, b"Building..");
-    assert_eq!(rt; cityseq_version(&mut text), 5);
-    check_text(&rt, &text, b"0.2.0ing..");
+    check_reason(&rt, &mut text, 6, b"syntax....");
+    check_type(&rt, &mut text, 8, b"Building..");
+    check_version(&rt, &mut text, 5, b"0.2.0ing..");
     Ok(())
+}
+
+// ---- memory
+
+/// Checks the bytes of the stack for this line limit.
+fn check_stack(rt: &impl Abort, line_limit: u64, wanted: usize) {
+    let request = Request {
+        line_limit,
+        ..USUAL
+    };
+    assert_eq!(rt; cityseq_stack(&request), wanted);
 }
 
 #[test]
 fn a_longer_line_needs_more_of_the_stack(rt: HostRuntime) -> Result<(), Fail> {
-    let short = Request {
-        line_limit: 65_536,
-        ..usual()
-    };
-    assert_eq!(rt; cityseq_stack(&short), 131_072);
-    let long = Request {
-        line_limit: 65_537,
-        ..usual()
-    };
-    assert_eq!(rt; cityseq_stack(&long), 2_097_152);
+    check_stack(&rt, 65_536, 131_072);
+    check_stack(&rt, 65_537, 2_097_152);
     Ok(())
+}
+
+/// Checks the bytes of memory for a header of 100 bytes and a part of 90.
+fn check_memory(rt: &impl Abort, request: &Request, wanted: usize) {
+    assert_eq!(rt; cityseq_memory(request, 100, 90), wanted);
 }
 
 #[test]
 fn a_call_takes_so_much_memory(rt: HostRuntime) -> Result<(), Fail> {
-    assert_eq!(rt; cityseq_memory(&usual(), 100, 90), 200 + 24 * 82);
     let asked = Request {
         depth_limit: 65,
         asks_ids: true,
         ids: b"a\nb",
-        ..usual()
+        ..USUAL
     };
-    assert_eq!(rt;
-        cityseq_memory(&asked, 100, 90),
-        200 + 24 * 83 + 4 + 9 + 192 + 1_024
-    );
     let wrong = Request {
         line_limit: 0,
         ..asked
     };
-    assert_eq!(rt; cityseq_memory(&wrong, 100, 90), 0);
+    check_memory(&rt, &USUAL, 200 + 24 * 82);
+    check_memory(&rt, &asked, 200 + 24 * 83 + 4 + 9 + 192 + 1_024);
+    check_memory(&rt, &wrong, 0);
     Ok(())
+}
+
+/// Checks the number of the interface.
+fn check_interface(rt: &impl Abort, wanted: u32) {
+    assert_eq!(rt; cityseq_interface(), wanted);
 }
 
 #[test]
 fn the_interface_has_its_number(rt: HostRuntime) -> Result<(), Fail> {
-    assert_eq!(rt; cityseq_interface(), 2);
+    check_interface(&rt, 2);
     Ok(())
 }

@@ -6,6 +6,8 @@
 //! - `choosing`: features with city objects that are not reached, and features that are left out.
 //! - `pairs`: two options with two parts of a query.
 //! - `parts`: streams that are read in parts.
+//!
+//! `rows` reads the rows of their tables.
 mod calls;
 mod choosing;
 mod ids;
@@ -13,6 +15,7 @@ mod pairs;
 mod parts;
 mod plain;
 mod queries;
+mod rows;
 mod streams;
 mod table;
 mod vectors;

@@ -18,6 +18,16 @@ pub fn check_number(rt: &impl Abort, got: u64, wanted: u64, row: &str, at: u64) 
     assert_eq!(rt; got, wanted, "{row}, at {at}");
 }
 
+/// Compares texts.
+pub fn check_text(rt: &impl Abort, got: &str, wanted: &str, row: &str, at: u64) {
+    assert_eq!(rt; got, wanted, "{row}, at {at}");
+}
+
+/// Compares answers.
+pub fn check_flag(rt: &impl Abort, got: bool, wanted: bool, row: &str) {
+    assert_eq!(rt; got, wanted, "{row}");
+}
+
 /// Compares ends.
 pub fn check_ended(rt: &impl Abort, got: End, wanted: End, row: &str, at: u64) {
     assert_eq!(rt; got, wanted, "{row}, at {at}");
@@ -42,9 +52,9 @@ pub fn check_joined(
 }
 
 /// Compares what was noted.
-pub fn check_notes(rt: &impl Abort, reports: &NoteReports, wanted: &str, row: &str, at: u64) {
+pub fn check_notes(rt: &impl Abort, reports: &NoteReports, wanted: &[u8], row: &str, at: u64) {
     assert!(rt; !reports.lost);
-    check_bytes(rt, reports.notes.as_bytes(), wanted.as_bytes(), row, at);
+    check_bytes(rt, reports.notes.as_bytes(), wanted, row, at);
 }
 
 /// Checks that the peaks of a text are within the bound that its first line and the limits give.

@@ -2,29 +2,28 @@
 //! left out.
 //!
 //! The rows with a whole outcome are run whole, by single bytes, and cut in two at every place.
-use super::calls::{check_bytes, check_ended, check_notes, check_number, check_outcome};
-use cj_budget::Limits;
-use cj_spans::Reason;
-use cj_stream::{End, Options, Outcome, Query, WriteSink};
-use cj_stream_samples::{
-    ALL, FEATURE, FIRST, HEADER, NoteReports, Parts, Reading, SEVERAL, SMALL, STREAM, SlowReader,
-    by_box, by_ids, by_lods, by_types, complete, given, going, held, joined, outcome, query_of,
-    ran, refused,
+use super::calls::{check_bytes, check_flag, check_notes, check_number, check_outcome, check_text};
+use super::rows::{
+    bytes_of, cell, end_told, has_word, options_of, outcome_told, push_side, query_of,
 };
+use cj_budget::Limits;
+use cj_stream::{Options, Outcome, Query, WriteSink};
+use cj_stream_samples::{FIRST, NoteReports, Reading, SlowReader, given, joined, ran};
 use std::alloc::Global;
 use std::process::Abort;
 use std::test::Fail;
 
-/// A stream, how it is read, and the expected result. The stream and its expected output are given
-/// in parts.
+/// A stream, how it is read, and the expected result.
 #[derive(Clone, Copy)]
 struct Row<'a> {
     name: &'a str,
-    text: &'a [&'a [u8]],
+    text: &'a [u8],
+    query: &'a Query,
     options: Options,
-    written: &'a [&'a [u8]],
-    reports: &'a str,
-    outcome: Outcome,
+    written: &'a [u8],
+    reports: &'a [u8],
+    /// The expected outcome, as a text.
+    told: &'a str,
 }
 
 /// The result of a stream: the outcome, what was written, and what was reported.
@@ -60,23 +59,16 @@ pub fn came_of(
     })
 }
 
-/// Gives a stream to an engine, cut in two at this place.
-fn came_of_cut(
-    rt: &impl Abort,
-    alloc: Global,
-    text: &[u8],
-    at: usize,
-    query: &Query,
-    options: Options,
-) -> Result<Came, Fail> {
+/// Gives the stream of a row to an engine, cut in two at this place.
+fn came_of_cut(alloc: Global, row: &Row, at: usize) -> Result<Came, Fail> {
     let mut sink = WriteSink::new(Vec::new(alloc));
     let mut reports = NoteReports::new(alloc);
     let reading = Reading {
         limits: Limits::new(1_000, 64)?,
-        query,
-        options,
+        query: row.query,
+        options: row.options,
     };
-    let outcome = given(alloc, text, at, &mut sink, &mut reports, &reading)?;
+    let outcome = given(alloc, row.text, at, &mut sink, &mut reports, &reading)?;
     let written = sink.into_inner();
     Ok(Came {
         outcome,
@@ -85,37 +77,65 @@ fn came_of_cut(
     })
 }
 
-/// Compares the result of a stream with the row and the expected output.
-fn check_came(rt: &impl Abort, row: &Row, came: &Came, written: &[u8], at: u64) {
+/// Compares the result of a stream with the row.
+fn check_came(rt: &impl Abort, alloc: Global, row: &Row, came: &Came, at: u64) -> Result<(), Fail> {
+    let told = outcome_told(alloc, came.outcome)?;
     check_notes(rt, &came.reports, row.reports, row.name, at);
-    check_outcome(rt, came.outcome, row.outcome, row.name, at);
-    check_bytes(rt, &came.written, written, row.name, at);
-}
-
-/// Checks a stream whole and by single bytes.
-fn check_runs(
-    rt: &impl Abort,
-    alloc: Global,
-    row: &Row,
-    text: &[u8],
-    written: &[u8],
-    query: &Query,
-) -> Result<(), Fail> {
-    let whole = came_of(alloc, text, 8_192, query, row.options)?;
-    check_came(rt, row, &whole, written, 8_192);
-    let bytes = came_of(alloc, text, 1, query, row.options)?;
-    check_came(rt, row, &bytes, written, 1);
+    check_text(rt, &told, row.told, row.name, at);
+    check_bytes(rt, &came.written, row.written, row.name, at);
     Ok(())
 }
 
+/// Checks a stream that comes by reads of `step` bytes.
+fn check_run(rt: &impl Abort, alloc: Global, row: &Row, step: usize) -> Result<(), Fail> {
+    let came = came_of(alloc, row.text, step, row.query, row.options)?;
+    check_came(rt, alloc, row, &came, step as u64)
+}
+
+/// Checks a stream that is cut in two at this place.
+fn check_cut(rt: &impl Abort, alloc: Global, row: &Row, at: usize) -> Result<(), Fail> {
+    let came = came_of_cut(alloc, row, at)?;
+    check_came(rt, alloc, row, &came, at as u64)
+}
+
 /// Checks a stream in every way.
-fn check(rt: &impl Abort, alloc: Global, row: &Row, query: &Query) -> Result<(), Fail> {
-    let text = joined(alloc, row.text)?;
-    let written = joined(alloc, row.written)?;
-    check_runs(rt, alloc, row, &text, &written, query)?;
-    for at in 0..=text.len() {
-        let came = came_of_cut(rt, alloc, &text, at, query, row.options)?;
-        check_came(rt, row, &came, &written, at as u64);
+fn check(rt: &impl Abort, alloc: Global, row: &Row) -> Result<(), Fail> {
+    check_run(rt, alloc, row, 8_192)?;
+    check_run(rt, alloc, row, 1)?;
+    for at in 0..=row.text.len() {
+        check_cut(rt, alloc, row, at)?;
+    }
+    Ok(())
+}
+
+/// Checks the stream of a row in every way. Its cells are the name, the query with the options, the
+/// stream, what is written, what is reported, and the outcome.
+fn check_row(rt: &impl Abort, alloc: Global, row: &str) -> Result<(), Fail> {
+    let (name, row) = cell(rt, row);
+    let (asked, row) = cell(rt, row);
+    let (stream, row) = cell(rt, row);
+    let (written, row) = cell(rt, row);
+    let (reports, told) = cell(rt, row);
+    let text = bytes_of(rt, alloc, stream)?;
+    let query = query_of(rt, alloc, asked)?;
+    let written = bytes_of(rt, alloc, written)?;
+    let reports = bytes_of(rt, alloc, reports)?;
+    let row = Row {
+        name,
+        text: &text,
+        query: &query,
+        options: options_of(asked),
+        written: &written,
+        reports: &reports,
+        told,
+    };
+    check(rt, alloc, &row)
+}
+
+/// Checks the stream of each row in every way.
+fn check_rows(rt: &impl Abort, alloc: Global, rows: &str) -> Result<(), Fail> {
+    for row in rows.trim().lines() {
+        check_row(rt, alloc, row)?;
     }
     Ok(())
 }
@@ -123,28 +143,52 @@ fn check(rt: &impl Abort, alloc: Global, row: &Row, query: &Query) -> Result<(),
 // ---- options
 
 /// Compares what options return.
-fn check_options(rt: &impl Abort, options: Options, going: bool, trees: bool, excludes: bool) {
-    assert_eq!(rt; options.keeps_going(), going);
-    assert_eq!(rt; options.asks_for_trees(), trees);
-    assert_eq!(rt; options.excludes(), excludes);
+fn check_options(rt: &impl Abort, options: Options, wanted: &str, row: &str) {
+    check_flag(rt, options.keeps_going(), has_word(wanted, "going"), row);
+    check_flag(rt, options.asks_for_trees(), has_word(wanted, "tree"), row);
+    check_flag(rt, options.excludes(), has_word(wanted, "exclude"), row);
 }
 
-/// A method that sets an option leaves the others as they are, and can reset it.
+/// A method that sets an option leaves the others as they are, and can reset it. A row has what is
+/// called, and which options are set then.
 #[test]
-fn each_option_is_set_by_its_name(rt: HostRuntime) {
-    let usual = Options::new();
-    check_options(&rt, usual, false, false, false);
-    check_options(&rt, usual.keep_going(true), true, false, false);
-    check_options(&rt, usual.tree(true), false, true, false);
-    check_options(&rt, usual.exclude(true), false, false, true);
-    let all = usual.keep_going(true).tree(true).exclude(true);
-    check_options(&rt, all, true, true, true);
-    check_options(&rt, all.keep_going(false), false, true, true);
-    check_options(&rt, all.tree(false), true, false, true);
-    check_options(&rt, all.exclude(false), true, true, false);
+fn each_option_is_set_by_its_name(rt: HostRuntime) -> Result<(), Fail> {
+    let rows = "
+-|-
+going|going
+tree|tree
+exclude|exclude
+going tree exclude|going tree exclude
+going tree exclude no-going|tree exclude
+going tree exclude no-tree|going exclude
+going tree exclude no-exclude|going tree
+";
+    for row in rows.trim().lines() {
+        let (words, wanted) = cell(&rt, row);
+        check_options(&rt, options_of(words), wanted, words);
+    }
+    Ok(())
 }
 
 // ---- trees
+
+/// A feature that is left out is judged like one that is kept. Nothing of one line is remembered in
+/// the next: each is judged by its own marks.
+const APART: &str = "
+one apart|-|&H;&lf;&A;&lf;&S;&lf;|&H;&lf;&A;&lf;&S;&lf;||complete|3|2|0|253 38 3
+one apart, trees reset|tree no-tree|&H;&lf;&A;&lf;&S;&lf;|&H;&lf;&A;&lf;&S;&lf;||complete|3|2|0|253 38 3
+one apart, going on|going|&H;&lf;&A;&lf;&S;&lf;|&H;&lf;&A;&lf;&S;&lf;||complete|3|2|0|253 38 3
+one apart is the end|tree|&H;&lf;&A;&lf;&S;&lf;|&H;&lf;||line 2, byte 78: 31 not reached from the main object|1|0|0|253 38 3
+one apart is reported|tree going|&H;&lf;&A;&lf;&S;&lf;|&H;&lf;&S;&lf;|2 78 31&lf;|complete|3|1|1|253 38 3
+one apart is reported where all is left out|tree going exclude|&H;&lf;&A;&lf;&S;&lf;|&H;&lf;|2 78 31&lf;|complete|3|0|1|253 38 3
+one apart is left out|going exclude|&H;&lf;&A;&lf;&S;&lf;|&H;&lf;||complete|3|0|0|253 38 3
+a chain between two apart|tree going|&H;&lf;&A;&lf;&C;&lf;&A;&lf;&S;|&H;&lf;&C;&lf;&S;|2 78 31&lf;4 78 31&lf;|complete|5|2|2|351 54 4
+";
+
+#[test]
+fn one_apart(rt: HostRuntime) -> Result<(), Fail> {
+    check_rows(&rt, rt.alloc(), APART)
+}
 
 /// The text before the city objects of a feature with the id `b`, and the text after them. The
 /// first city object begins at byte 50.
@@ -152,454 +196,228 @@ const FRONT: &[u8] = b"{\"type\":\"CityJSONFeature\",\"id\":\"b\",\"CityObjects\
 
 const BACK: &[u8] = b"},\"vertices\":[]}";
 
-/// Its main city object, and one that is not reached: 113 bytes, with 17 values and names, and
-/// depth 3. The one that is not reached is at byte 78.
-pub const APART: &[u8] =
-    b"{\"type\":\"CityJSONFeature\",\"id\":\"b\",\"CityObjects\":{\"b\":{\"type\":\"Building\"},\"c\":{\"type\":\"Building\"}},\"vertices\":[]}";
-
-/// A chain that begins at its last city object: 211 bytes, with 33 values and names, and depth 4.
-const CHAIN: &[u8] =
-    b"{\"type\":\"CityJSONFeature\",\"id\":\"b\",\"CityObjects\":{\"q\":{\"type\":\"BuildingPart\",\"parents\":[\"p\"]},\"p\":{\"type\":\"BuildingPart\",\"parents\":[\"b\"],\"children\":[\"q\"]},\"b\":{\"type\":\"Building\",\"children\":[\"p\"]}},\"vertices\":[]}";
-
-/// Returns the options that require each city object to be reached.
-fn trees() -> Options {
-    Options::new().tree(true)
-}
-
-/// Checks a header, the feature with one city object that is not reached, and a valid feature,
-/// under these options.
-fn check_apart(
-    rt: &impl Abort,
-    alloc: Global,
-    options: Options,
-    written: &[&[u8]],
-    reports: &str,
-    outcome: Outcome,
-) -> Result<(), Fail> {
-    let row = Row {
-        name: "one apart",
-        text: &[FIRST, APART, b"\n", SMALL, b"\n"],
-        options,
-        written,
-        reports,
-        outcome,
-    };
-    check(rt, alloc, &row, &Query::all(alloc))
-}
-
-#[test]
-fn one_apart_is_kept_as_usual(rt: HostRuntime) -> Result<(), Fail> {
-    let written = [FIRST, APART, b"\n", SMALL, b"\n"];
-    let all = complete(3, 2, 0, held(253, 38, 3));
-    check_apart(&rt, rt.alloc(), Options::new(), &written, "", all)?;
-    check_apart(&rt, rt.alloc(), trees().tree(false), &written, "", all)?;
-    check_apart(&rt, rt.alloc(), going(), &written, "", all)
-}
-
-#[test]
-fn one_apart_is_the_end(rt: HostRuntime) -> Result<(), Fail> {
-    let end = refused(2, 78, Reason::NotReached);
-    let first = outcome(1, 0, held(253, 38, 3), end);
-    check_apart(&rt, rt.alloc(), trees(), &[FIRST], "", first)
-}
-
-#[test]
-fn one_apart_is_reported(rt: HostRuntime) -> Result<(), Fail> {
-    let options = trees().keep_going(true);
-    let written = [FIRST, SMALL, b"\n"];
-    let good = complete(3, 1, 1, held(253, 38, 3));
-    check_apart(&rt, rt.alloc(), options, &written, "2 78 31\n", good)
-}
-
-/// A feature that is left out is judged like one that is kept.
-#[test]
-fn one_apart_is_reported_where_all_is_left_out(rt: HostRuntime) -> Result<(), Fail> {
-    let options = trees().keep_going(true).exclude(true);
-    let none = complete(3, 0, 1, held(253, 38, 3));
-    check_apart(&rt, rt.alloc(), options, &[FIRST], "2 78 31\n", none)?;
-    let options = going().exclude(true);
-    let none = complete(3, 0, 0, held(253, 38, 3));
-    check_apart(&rt, rt.alloc(), options, &[FIRST], "", none)
-}
-
-/// Nothing of one line is remembered in the next: each is judged by its own marks.
-#[test]
-fn a_chain_between_two_apart(rt: HostRuntime) -> Result<(), Fail> {
-    let row = Row {
-        name: "a chain between two apart",
-        text: &[FIRST, APART, b"\n", CHAIN, b"\n", APART, b"\n", SMALL],
-        options: trees().keep_going(true),
-        written: &[FIRST, CHAIN, b"\n", SMALL],
-        reports: "2 78 31\n4 78 31\n",
-        outcome: complete(5, 2, 2, held(351, 54, 4)),
-    };
-    check(&rt, rt.alloc(), &row, &Query::all(rt.alloc()))
+/// How far a run goes, and what is written.
+#[derive(Clone, Copy)]
+pub struct Went<'a> {
+    pub kept: u64,
+    pub ended: &'a str,
+    pub written: &'a [u8],
 }
 
 /// Compares how far a run went, and what was written.
-pub fn check_went(rt: &impl Abort, came: &Came, kept: u64, ended: End, written: &[u8], row: &str) {
-    check_ended(rt, came.outcome.ended, ended, row, 0);
-    check_number(rt, came.outcome.kept, kept, row, 1);
-    check_bytes(rt, &came.written, written, row, 2);
+pub fn check_went(
+    rt: &impl Abort,
+    alloc: Global,
+    came: &Came,
+    wanted: &Went,
+    row: &str,
+) -> Result<(), Fail> {
+    let ended = end_told(alloc, came.outcome.ended)?;
+    check_text(rt, &ended, wanted.ended, row, 0);
+    check_number(rt, came.outcome.kept, wanted.kept, row, 1);
+    check_bytes(rt, &came.written, wanted.written, row, 2);
+    Ok(())
 }
 
-/// Checks a feature with these city objects. It is valid, and invalid at this place if each must be
-/// reached. That is also true if all features are left out.
-fn check_refused(rt: &impl Abort, alloc: Global, objects: &str, place: u64) -> Result<(), Fail> {
-    let text = joined(alloc, &[FIRST, FRONT, objects.as_bytes(), BACK, b"\n"])?;
+/// Checks how a stream of one feature ends with these options, and whether the feature is kept.
+fn check_one(
+    rt: &impl Abort,
+    alloc: Global,
+    text: &[u8],
+    options: &str,
+    wanted: &Went,
+    row: &str,
+) -> Result<(), Fail> {
     let query = Query::all(alloc);
-    let usual = came_of(alloc, &text, 100, &query, Options::new())?;
-    check_went(rt, &usual, 1, End::Complete, &text, objects);
-    let tree = came_of(alloc, &text, 100, &query, trees())?;
-    let end = refused(2, place, Reason::NotReached);
-    check_went(rt, &tree, 0, end, FIRST, objects);
-    let others = came_of(alloc, &text, 100, &query, trees().exclude(true))?;
-    check_went(rt, &others, 0, end, FIRST, objects);
-    Ok(())
+    let came = came_of(alloc, text, 100, &query, options_of(options))?;
+    check_went(rt, alloc, &came, wanted, row)
+}
+
+/// Returns that a feature is kept, or that it is not, in this way.
+fn one_of<'a>(text: &'a [u8], ended: &'a str, keeps: bool) -> Went<'a> {
+    Went {
+        kept: keeps.into(),
+        ended,
+        written: if keeps { text } else { FIRST },
+    }
+}
+
+/// Checks a feature with these city objects. It is kept as usual. If each city object must be
+/// reached, it ends like this, also if all features are left out.
+fn check_reached(rt: &impl Abort, alloc: Global, objects: &str, ended: &str) -> Result<(), Fail> {
+    let text = joined(alloc, &[FIRST, FRONT, objects.as_bytes(), BACK, b"\n"])?;
+    let usual = one_of(&text, "complete", true);
+    check_one(rt, alloc, &text, "-", &usual, objects)?;
+    let tree = one_of(&text, ended, ended == "complete");
+    check_one(rt, alloc, &text, "tree", &tree, objects)?;
+    let others = one_of(&text, ended, false);
+    check_one(rt, alloc, &text, "tree exclude", &others, objects)
 }
 
 /// Rows of what is reached. A group reaches what it lists. It is not reached because it lists a
 /// city object that is. `parents` reach nothing.
+const REACHED: &str = r#"
+"b":{"type":"Building"},"c":{"type":"Building"}|line 2, byte 78: 31 not reached from the main object
+"c":{"type":"Building"},"b":{"type":"Building"}|line 2, byte 54: 31 not reached from the main object
+"b":{"type":"Building"},"c":{"type":"Building","children":["d"],"parents":["d"]},"d":{"type":"Building","children":["c"],"parents":["c"]}|line 2, byte 78: 31 not reached from the main object
+"b":{"type":"Building"},"g":{"type":"CityObjectGroup","children":["b"]}|line 2, byte 78: 31 not reached from the main object
+"b":{"type":"Building"},"c":{"type":"Building","parents":["g"]}|line 2, byte 78: 31 not reached from the main object
+"b":{"type":"Building","children":["p"]},"p":{"type":"BuildingPart","parents":["b"]},"c":{"type":"Building"}|line 2, byte 139: 31 not reached from the main object
+"b":{"type":"Building"},"c":{"type":"Building"},"d":{"type":"Building"}|line 2, byte 78: 31 not reached from the main object
+"b":{"type":"Building"},"p":{"type":"BuildingPart","parents":["c"]},"c":{"type":"Building","children":["p"]}|line 2, byte 78: 31 not reached from the main object
+"b":{"type":"BuildingPart","parents":["c"]},"c":{"type":"Building","children":["b"]}|line 2, byte 98: 31 not reached from the main object
+"b":{"type":"Building"}|complete
+"b":{"type":"Building","children":["b"],"parents":["b"]}|complete
+"q":{"type":"BuildingPart","parents":["p"]},"p":{"type":"BuildingPart","parents":["b"],"children":["q"]},"b":{"type":"Building","children":["p"]}|complete
+"b":{"type":"BuildingPart","parents":["c"],"children":["c"]},"c":{"type":"Building","children":["b"],"parents":["b"]}|complete
+"b":{"type":"Building","children":["c"],"parents":["c"]},"c":{"type":"Building","children":["b"],"parents":["b"]}|complete
+"b":{"type":"CityObjectGroup","children":["g"]},"c":{"type":"Building"},"g":{"type":"CityObjectGroup","children":["c","x"]}|complete
+"b":{"type":"Building","children":["\u0070"]},"\u0070":{"type":"BuildingPart","parents":["\u0062"]}|complete
+"#;
+
 #[test]
-fn features_with_one_that_is_not_reached(rt: HostRuntime) -> Result<(), Fail> {
-    for (objects, place) in [
-        (r#""b":{"type":"Building"},"c":{"type":"Building"}"#, 78),
-        (r#""c":{"type":"Building"},"b":{"type":"Building"}"#, 54),
-        (
-            r#""b":{"type":"Building"},"c":{"type":"Building","children":["d"],"parents":["d"]},"d":{"type":"Building","children":["c"],"parents":["c"]}"#,
-            78,
-        ),
-        (
-            r#""b":{"type":"Building"},"g":{"type":"CityObjectGroup","children":["b"]}"#,
-            78,
-        ),
-        (
-            r#""b":{"type":"Building"},"c":{"type":"Building","parents":["g"]}"#,
-            78,
-        ),
-        (
-            r#""b":{"type":"Building","children":["p"]},"p":{"type":"BuildingPart","parents":["b"]},"c":{"type":"Building"}"#,
-            139,
-        ),
-        (
-            r#""b":{"type":"Building"},"c":{"type":"Building"},"d":{"type":"Building"}"#,
-            78,
-        ),
-        (
-            r#""b":{"type":"Building"},"p":{"type":"BuildingPart","parents":["c"]},"c":{"type":"Building","children":["p"]}"#,
-            78,
-        ),
-        (
-            r#""b":{"type":"BuildingPart","parents":["c"]},"c":{"type":"Building","children":["b"]}"#,
-            98,
-        ),
-    ] {
-        check_refused(&rt, rt.alloc(), objects, place)?;
+fn features_with_all_reached_or_not(rt: HostRuntime) -> Result<(), Fail> {
+    for row in REACHED.trim().lines() {
+        let (objects, ended) = cell(&rt, row);
+        check_reached(&rt, rt.alloc(), objects, ended)?;
     }
     Ok(())
 }
 
-/// Checks that a feature with these city objects is kept in either way, and left out if all are.
-fn check_kept(rt: &impl Abort, alloc: Global, objects: &str) -> Result<(), Fail> {
-    let text = joined(alloc, &[FIRST, FRONT, objects.as_bytes(), BACK, b"\n"])?;
-    let query = Query::all(alloc);
-    let usual = came_of(alloc, &text, 100, &query, Options::new())?;
-    check_went(rt, &usual, 1, End::Complete, &text, objects);
-    let tree = came_of(alloc, &text, 100, &query, trees())?;
-    check_went(rt, &tree, 1, End::Complete, &text, objects);
-    let others = came_of(alloc, &text, 100, &query, trees().exclude(true))?;
-    check_went(rt, &others, 0, End::Complete, FIRST, objects);
-    Ok(())
-}
-
-#[test]
-fn features_of_which_all_is_reached(rt: HostRuntime) -> Result<(), Fail> {
-    for objects in [
-        r#""b":{"type":"Building"}"#,
-        r#""b":{"type":"Building","children":["b"],"parents":["b"]}"#,
-        r#""q":{"type":"BuildingPart","parents":["p"]},"p":{"type":"BuildingPart","parents":["b"],"children":["q"]},"b":{"type":"Building","children":["p"]}"#,
-        r#""b":{"type":"BuildingPart","parents":["c"],"children":["c"]},"c":{"type":"Building","children":["b"],"parents":["b"]}"#,
-        r#""b":{"type":"Building","children":["c"],"parents":["c"]},"c":{"type":"Building","children":["b"],"parents":["b"]}"#,
-        r#""b":{"type":"CityObjectGroup","children":["g"]},"c":{"type":"Building"},"g":{"type":"CityObjectGroup","children":["c","x"]}"#,
-        r#""b":{"type":"Building","children":["\u0070"]},"\u0070":{"type":"BuildingPart","parents":["\u0062"]}"#,
-    ] {
-        check_kept(&rt, rt.alloc(), objects)?;
-    }
-    Ok(())
-}
-
-/// Checks that a feature with these city objects is invalid at this place, for this reason, if each
-/// must be reached.
-fn check_fault(
-    rt: &impl Abort,
-    alloc: Global,
-    objects: &str,
-    place: u64,
-    reason: Reason,
-) -> Result<(), Fail> {
+/// Checks that a feature with these city objects is invalid in this way, if each must be reached.
+fn check_fault(rt: &impl Abort, alloc: Global, objects: &str, ended: &str) -> Result<(), Fail> {
     let text = joined(alloc, &[FIRST, FRONT, objects.as_bytes(), BACK])?;
-    let came = came_of(alloc, &text, 100, &Query::all(alloc), trees())?;
-    check_went(rt, &came, 0, refused(2, place, reason), FIRST, objects);
-    Ok(())
+    let wanted = one_of(&text, ended, false);
+    check_one(rt, alloc, &text, "tree", &wanted, objects)
 }
 
 /// Of several faults the first one in the line is reported. At one place, another fault comes
 /// before a city object that is not reached.
 #[test]
 fn not_reached_beside_other_faults(rt: HostRuntime) -> Result<(), Fail> {
-    for (objects, place, reason) in [
-        (
-            r#""b":{"type":"Shed"},"c":{"type":"Building"}"#,
-            62,
-            Reason::UnknownObjectType,
-        ),
-        (
-            r#""b":{"type":"Building"},"c":{"type":"Shed"}"#,
-            78,
-            Reason::NotReached,
-        ),
-        (r#""b":{"type":"Building"},"c":3"#, 78, Reason::WrongKind),
-    ] {
-        check_fault(&rt, rt.alloc(), objects, place, reason)?;
+    let rows = r#"
+"b":{"type":"Shed"},"c":{"type":"Building"}|line 2, byte 62: 19 unknown object type
+"b":{"type":"Building"},"c":{"type":"Shed"}|line 2, byte 78: 31 not reached from the main object
+"b":{"type":"Building"},"c":3|line 2, byte 78: 12 wrong kind
+"#;
+    for row in rows.trim().lines() {
+        let (objects, ended) = cell(&rt, row);
+        check_fault(&rt, rt.alloc(), objects, ended)?;
     }
     Ok(())
 }
 
 // ---- exclusion
 
-/// A road of LoD 1 with only the vertex 1005, 2005. It has fewer bytes, values and names than the
-/// usual feature.
-pub const ROAD: &[u8] =
-    b"{\"type\":\"CityJSONFeature\",\"id\":\"r1\",\"CityObjects\":{\"r1\":{\"type\":\"Road\",\"geometry\":[{\"type\":\"MultiPoint\",\"lod\":\"1\",\"boundaries\":[0]}]}},\"vertices\":[[5000,5000,0]]}";
-
 /// The usual feature, a road away from it, the small one without vertices, and one of several city
 /// objects.
-const FEATURES: [&[u8]; 4] = [FEATURE, ROAD, SMALL, SEVERAL];
+const FEATURES: &str = "F R S V";
 
-/// Adds the features whose entry in `holds` is `side`, each with its LF. Returns how many there
-/// are.
-fn add_side(
-    text: &mut Vec<u8>,
-    features: &[&[u8]],
-    holds: &[bool],
-    side: bool,
-) -> Result<u64, Fail> {
-    let mut count = 0_u64;
-    for (feature, told) in features.iter().zip(holds.iter()) {
-        if *told == side {
-            text.extend_from_slice(feature)?;
-            text.push(b'\n')?;
-            count = count.saturating_add(1);
-        }
-    }
-    Ok(count)
+/// All features, a query, and the letters of the features that it selects.
+#[derive(Clone, Copy)]
+struct Sides<'a> {
+    name: &'a str,
+    text: &'a [u8],
+    query: &'a Query,
+    chosen: &'a str,
 }
 
-/// Returns the header with the features whose entry in `holds` is `side`, and how many there are.
-fn side_of(alloc: Global, holds: [bool; 4], side: bool) -> Result<(Vec<u8>, u64), Fail> {
-    let mut text = FIRST.to_vec(alloc)?;
-    let count = add_side(&mut text, &FEATURES, &holds, side)?;
-    Ok((text, count))
-}
-
-/// Runs over all features with a query. `holds` says which ones it selects. Either these are kept,
-/// or the others.
-fn check_sides(
+/// Runs over all features. Either those that the query selects are kept, or the others.
+fn check_side(
     rt: &impl Abort,
     alloc: Global,
-    parts: &Parts,
-    holds: [bool; 4],
-    row: &str,
-) -> Result<(), Fail> {
-    let (text, _) = side_of(alloc, [true; 4], true)?;
-    let (inside, inside_count) = side_of(alloc, holds, true)?;
-    let (outside, outside_count) = side_of(alloc, holds, false)?;
-    let query = query_of(alloc, parts)?;
-    let kept = came_of(alloc, &text, 100, &query, Options::new())?;
-    check_went(rt, &kept, inside_count, End::Complete, &inside, row);
-    let others = came_of(alloc, &text, 100, &query, Options::new().exclude(true))?;
-    check_went(rt, &others, outside_count, End::Complete, &outside, row);
-    check_number(rt, kept.outcome.lines, 5, row, 3);
-    check_number(
-        rt,
-        kept.outcome.kept.saturating_add(others.outcome.kept),
-        4,
-        row,
-        4,
-    );
+    sides: &Sides,
+    others: bool,
+) -> Result<Outcome, Fail> {
+    let mut written = FIRST.to_vec(alloc)?;
+    let kept = push_side(rt, &mut written, FEATURES, sides.chosen, others)?;
+    let options = Options::new().exclude(others);
+    let came = came_of(alloc, sides.text, 100, sides.query, options)?;
+    let wanted = Went {
+        kept,
+        ended: "complete",
+        written: &written,
+    };
+    check_went(rt, alloc, &came, &wanted, sides.name)?;
+    Ok(came.outcome)
+}
+
+/// Compares the outcomes of both sides. They differ only in the features that are kept, and these
+/// are all together.
+fn check_together(rt: &impl Abort, inside: Outcome, outside: Outcome, row: &str) {
+    let kept = inside.kept.saturating_add(outside.kept);
     let same = Outcome {
-        kept: kept.outcome.kept,
-        ..others.outcome
+        kept: inside.kept,
+        ..outside
     };
-    check_outcome(rt, same, kept.outcome, row, 5);
+    check_number(rt, inside.lines, 5, row, 3);
+    check_number(rt, kept, 4, row, 4);
+    check_outcome(rt, same, inside, row, 5);
+}
+
+/// Checks both sides of a row. Its cells are the name, the query, and the features that it selects.
+fn check_sides(rt: &impl Abort, alloc: Global, row: &str) -> Result<(), Fail> {
+    let (name, row) = cell(rt, row);
+    let (asked, chosen) = cell(rt, row);
+    let text = bytes_of(rt, alloc, "&H;&lf;&F;&lf;&R;&lf;&S;&lf;&V;&lf;")?;
+    let query = query_of(rt, alloc, asked)?;
+    let sides = Sides {
+        name,
+        text: &text,
+        query: &query,
+        chosen,
+    };
+    let inside = check_side(rt, alloc, &sides, false)?;
+    let outside = check_side(rt, alloc, &sides, true)?;
+    check_together(rt, inside, outside, name);
     Ok(())
 }
 
+/// A feature without vertices is in no box, so it is kept if those of a box are left out. One that
+/// satisfies only one of two parts is kept, as is one that satisfies none.
+const SIDES: &str = "
+an id of two features|id=b1|F V
+two ids|id=r1 id=b|R S
+an id of none|id=w1|
+no id|id|
+buildings|type=Building|F S V
+roads|type=Road|R V
+two types|type=Road type=Building|F R S V
+a type of none|type=Tunnel|
+an LoD of two features|lod=2.2|F V
+another LoD|lod=1|R V
+two LoDs|lod=1 lod=2.2|F R V
+an LoD of none|lod=2|
+a box at the usual feature|bbox=1000,2000,1001,2001|F V
+a box that touches the road|bbox=1001,2001,1005,2005|F R V
+a box just beside the usual feature|bbox=1001.000000000000000001,2000,1005,2005|R
+a box of none|bbox=0,0,1,1|
+a box of all|bbox=-1e17,-1e17,1e17,1e17|F R V
+an id and an LoD|id=b1 lod=1|V
+a type and a box|type=Building bbox=1005,2005,1005,2005|
+nothing asked|-|F R S V
+";
+
 #[test]
-fn left_out_by_id(rt: HostRuntime) -> Result<(), Fail> {
-    for (parts, holds, row) in [
-        (
-            by_ids(&["b1"]),
-            [true, false, false, true],
-            "an id of two features",
-        ),
-        (by_ids(&["r1", "b"]), [false, true, true, false], "two ids"),
-        (by_ids(&["w1"]), [false; 4], "an id of none"),
-        (by_ids(&[]), [false; 4], "no id"),
-    ] {
-        check_sides(&rt, rt.alloc(), &parts, holds, row)?;
+fn left_out_or_kept(rt: HostRuntime) -> Result<(), Fail> {
+    for row in SIDES.trim().lines() {
+        check_sides(&rt, rt.alloc(), row)?;
     }
     Ok(())
 }
 
-#[test]
-fn left_out_by_type(rt: HostRuntime) -> Result<(), Fail> {
-    for (parts, holds, row) in [
-        (
-            by_types(&["Building"]),
-            [true, false, true, true],
-            "buildings",
-        ),
-        (by_types(&["Road"]), [false, true, false, true], "roads"),
-        (by_types(&["Road", "Building"]), [true; 4], "two types"),
-        (by_types(&["Tunnel"]), [false; 4], "a type of none"),
-    ] {
-        check_sides(&rt, rt.alloc(), &parts, holds, row)?;
-    }
-    Ok(())
-}
+/// With a query that selects every feature, only the header is kept. A header without features is
+/// kept as it is, also without its LF. An invalid line is kept in neither way: it is not a feature
+/// that the query does not select.
+const LEFT_OUT: &str = "
+all left out|exclude|&H;&lf;&S;&lf;&F;|&H;&lf;||complete|3|0|0|350 65 8
+a header alone|exclude|&H;|&H;||complete|1|0|0|140 21 3
+others among refused lines|going exclude id=b1|&H;&lf;&F;&lf;{}&lf;&R;&lf;3&lf;&lf;&S;|&H;&lf;&R;&lf;&S;|3 0 10&lf;5 0 12&lf;|complete|7|2|2|350 65 8
+one among refused lines|going id=b1|&H;&lf;&F;&lf;{}&lf;&R;&lf;3&lf;&lf;&S;|&H;&lf;&F;&lf;|3 0 10&lf;5 0 12&lf;|complete|7|1|2|350 65 8
+a refused line is the end|exclude id=b1|&H;&lf;&F;&lf;{}&lf;&R;&lf;3&lf;&lf;&S;|&H;&lf;||line 3, byte 0: 10 member missing|2|0|0|350 65 8
+";
 
 #[test]
-fn left_out_by_lod(rt: HostRuntime) -> Result<(), Fail> {
-    for (parts, holds, row) in [
-        (
-            by_lods(&["2.2"]),
-            [true, false, false, true],
-            "an LoD of two features",
-        ),
-        (by_lods(&["1"]), [false, true, false, true], "another"),
-        (
-            by_lods(&["1", "2.2"]),
-            [true, true, false, true],
-            "two LoDs",
-        ),
-        (by_lods(&["2"]), [false; 4], "an LoD of none"),
-    ] {
-        check_sides(&rt, rt.alloc(), &parts, holds, row)?;
-    }
-    Ok(())
-}
-
-/// A feature without vertices is in no box, so it is kept if those of a box are left out.
-#[test]
-fn left_out_by_box(rt: HostRuntime) -> Result<(), Fail> {
-    for (bounds, holds) in [
-        ("1000,2000,1001,2001", [true, false, false, true]),
-        ("1001,2001,1005,2005", [true, true, false, true]),
-        (
-            "1001.000000000000000001,2000,1005,2005",
-            [false, true, false, false],
-        ),
-        ("0,0,1,1", [false; 4]),
-        ("-1e17,-1e17,1e17,1e17", [true, true, false, true]),
-    ] {
-        check_sides(&rt, rt.alloc(), &by_box(bounds), holds, bounds)?;
-    }
-    Ok(())
-}
-
-/// A feature that satisfies only one of two parts is kept, as is one that satisfies none.
-#[test]
-fn left_out_by_two_parts(rt: HostRuntime) -> Result<(), Fail> {
-    let parts = Parts {
-        lods: Some(&["1"]),
-        ..by_ids(&["b1"])
-    };
-    check_sides(
-        &rt,
-        rt.alloc(),
-        &parts,
-        [false, false, false, true],
-        "an id and an LoD",
-    )?;
-    let parts = Parts {
-        bounds: Some("1005,2005,1005,2005"),
-        ..by_types(&["Building"])
-    };
-    check_sides(&rt, rt.alloc(), &parts, [false; 4], "a type and a box")
-}
-
-/// With a query that selects every feature, only the header is kept.
-#[test]
-fn all_is_left_out(rt: HostRuntime) -> Result<(), Fail> {
-    check_sides(&rt, rt.alloc(), &ALL, [true; 4], "nothing asked")?;
-    let row = Row {
-        name: "all left out",
-        text: &[FIRST, SMALL, b"\n", FEATURE],
-        options: Options::new().exclude(true),
-        written: &[FIRST],
-        reports: "",
-        outcome: complete(3, 0, 0, held(350, 65, 8)),
-    };
-    check(&rt, rt.alloc(), &row, &Query::all(rt.alloc()))
-}
-
-/// A header without features is kept as it is, also without its LF.
-#[test]
-fn a_header_alone_is_not_left_out(rt: HostRuntime) -> Result<(), Fail> {
-    let row = Row {
-        name: "a header alone",
-        text: &[HEADER],
-        options: Options::new().exclude(true),
-        written: &[HEADER],
-        reports: "",
-        outcome: complete(1, 0, 0, held(140, 21, 3)),
-    };
-    check(&rt, rt.alloc(), &row, &Query::all(rt.alloc()))
-}
-
-/// Checks some lines while features with this id are left out. Two of the lines are invalid.
-fn check_faulty(
-    rt: &impl Abort,
-    alloc: Global,
-    options: Options,
-    written: &[&[u8]],
-    reports: &str,
-    outcome: Outcome,
-) -> Result<(), Fail> {
-    let row = Row {
-        name: "left out among refused lines",
-        text: &[STREAM, b"{}\n", ROAD, b"\n3\n\n", SMALL],
-        options,
-        written,
-        reports,
-        outcome,
-    };
-    check(rt, alloc, &row, &query_of(alloc, &by_ids(&["b1"]))?)
-}
-
-/// An invalid line is kept in neither way: it is not a feature that the query does not select.
-#[test]
-fn left_out_among_refused_lines(rt: HostRuntime) -> Result<(), Fail> {
-    let reports = "3 0 10\n5 0 12\n";
-    let written = [FIRST, ROAD, b"\n", SMALL];
-    let others = complete(7, 2, 2, held(350, 65, 8));
-    check_faulty(
-        &rt,
-        rt.alloc(),
-        going().exclude(true),
-        &written,
-        reports,
-        others,
-    )?;
-    let asked = complete(7, 1, 2, held(350, 65, 8));
-    check_faulty(&rt, rt.alloc(), going(), &[STREAM], reports, asked)
-}
-
-#[test]
-fn a_refused_line_is_the_end_where_others_are_left_out(rt: HostRuntime) -> Result<(), Fail> {
-    let options = Options::new().exclude(true);
-    let end = refused(3, 0, Reason::MissingMember);
-    let first = outcome(2, 0, held(350, 65, 8), end);
-    check_faulty(&rt, rt.alloc(), options, &[FIRST], "", first)
+fn left_out_in_whole_streams(rt: HostRuntime) -> Result<(), Fail> {
+    check_rows(&rt, rt.alloc(), LEFT_OUT)
 }

@@ -1,5 +1,6 @@
 //! Queries of many ids: each id that was added is found, and no other.
 use super::calls::{check_ended, check_number};
+use super::rows::cell;
 use cj_budget::Limits;
 use cj_stream::{CountSink, End, NoReports, Query};
 use cj_stream_samples::{FIRST, Reading, SlowReader, joined, ran};
@@ -195,24 +196,6 @@ fn ids_that_end_alike(rt: HostRuntime) -> Result<(), Fail> {
     Ok(())
 }
 
-/// Selects these ids, of one feature.
-fn check_one(
-    rt: &impl Abort,
-    alloc: Global,
-    ids: &[&str],
-    spelled: &[u8],
-    keeps: bool,
-    row: &str,
-) -> Result<(), Fail> {
-    let mut query = Query::all(alloc);
-    for id in ids {
-        query.add_id(id)?;
-    }
-    let feature = named(alloc, spelled)?;
-    let text = joined(alloc, &[FIRST, &feature])?;
-    check_kept(rt, alloc, &text, &query, keeps.into(), row)
-}
-
 /// Ids with letters of one, two, three and four bytes, prefixes of others, and the empty one.
 const IDS: [&str; 12] = [
     "a",
@@ -229,29 +212,52 @@ const IDS: [&str; 12] = [
     "\u{ffff}",
 ];
 
+/// Returns a query for these ids.
+fn query_of_all(alloc: Global, ids: &[&str]) -> Result<Query, Fail> {
+    let mut query = Query::all(alloc);
+    for id in ids {
+        query.add_id(id)?;
+    }
+    Ok(query)
+}
+
+/// Selects the ids of `IDS`, of one feature. A row has a name, the id as it is spelled, and `kept`
+/// or `left out`.
+fn check_spelled(rt: &impl Abort, alloc: Global, row: &str) -> Result<(), Fail> {
+    let (name, row) = cell(rt, row);
+    let (spelled, answer) = cell(rt, row);
+    let query = query_of_all(alloc, &IDS)?;
+    let feature = named(alloc, spelled.as_bytes())?;
+    let text = joined(alloc, &[FIRST, &feature])?;
+    let kept = (answer == "kept").into();
+    check_kept(rt, alloc, &text, &query, kept, name)
+}
+
+const SPELLED: &str = r#"
+a letter|a|kept
+an escaped letter|\u0061|kept
+another letter|b|left out
+no letter||kept
+the ninth letter|aaaaaaaab|kept
+the ninth letter, escaped|aaaaaaaa\u0062|kept
+another ninth letter|aaaaaaaac|left out
+seven letters|aaaaaaa|left out
+ten letters|aaaaaaaaaa|left out
+two bytes|é|kept
+two bytes, escaped|\u00e9|kept
+another form of it|e\u0301|left out
+three bytes, escaped|\u20AC|kept
+four bytes|😀|kept
+a pair of surrogates|\ud83d\ude00|kept
+half of a pair|\ud83d|left out
+a backslash|\\u0062|kept
+below a pair by code units alone|\uffff|kept
+"#;
+
 #[test]
 fn ids_however_they_are_spelled(rt: HostRuntime) -> Result<(), Fail> {
-    for (spelled, keeps, row) in [
-        (b"a".as_slice(), true, "a letter"),
-        (b"\\u0061", true, "an escaped letter"),
-        (b"b", false, "another letter"),
-        (b"", true, "no letter"),
-        (b"aaaaaaaab", true, "the ninth letter"),
-        (b"aaaaaaaa\\u0062", true, "the ninth letter, escaped"),
-        (b"aaaaaaaac", false, "another ninth letter"),
-        (b"aaaaaaa", false, "seven letters"),
-        (b"aaaaaaaaaa", false, "ten letters"),
-        (b"\xc3\xa9", true, "two bytes"),
-        (b"\\u00e9", true, "two bytes, escaped"),
-        (b"e\\u0301", false, "another form of it"),
-        (b"\\u20AC", true, "three bytes, escaped"),
-        (b"\xf0\x9f\x98\x80", true, "four bytes"),
-        (b"\\ud83d\\ude00", true, "a pair of surrogates"),
-        (b"\\ud83d", false, "half of a pair"),
-        (b"\\\\u0062", true, "a backslash"),
-        (b"\\uffff", true, "below a pair by code units alone"),
-    ] {
-        check_one(&rt, rt.alloc(), &IDS, spelled, keeps, row)?;
+    for row in SPELLED.trim().lines() {
+        check_spelled(&rt, rt.alloc(), row)?;
     }
     Ok(())
 }

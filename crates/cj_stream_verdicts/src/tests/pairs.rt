@@ -2,199 +2,142 @@
 //!
 //! Which features satisfy two parts follows from the rows for one part each, in `choosing`.
 use super::calls::{check_notes, check_number};
-use super::choosing::{APART, Came, ROAD, came_of, check_went};
-use cj_spans::Reason;
-use cj_stream::{End, Options};
-use cj_stream_samples::{
-    FEATURE, FIRST, Parts, SEVERAL, SMALL, STREAM, by_ids, by_lods, by_types, going, joined,
-    query_of, refused,
-};
+use super::choosing::{Came, Went, came_of, check_went};
+use super::rows::{bytes_of, cell, has_word, options_of, push_side, query_of};
+use cj_stream::Query;
+use cj_stream_samples::FIRST;
 use std::alloc::Global;
 use std::process::Abort;
 use std::test::Fail;
 
-/// The usual feature, one that does not reach a city object, a road, one that does not reach two,
-/// and a small one.
-const FEATURES: [&[u8]; 5] = [FEATURE, APART, ROAD, SEVERAL, SMALL];
+/// The usual feature, one that does not reach a city object, a road, a line that is no feature, one
+/// that does not reach two, and a small one.
+const STREAM: &str = "&H;&lf;&F;&lf;&A;&lf;&R;&lf;{}&lf;&V;&lf;&S;&lf;";
 
-/// The features with all city objects reached.
-const TREES: [bool; 5] = [true, false, true, false, true];
+/// All pairs of options, and all three. A row has the options, the features that are valid and come
+/// before the end, the reports, the lines, and the end.
+///
+/// The second feature has a city object at byte 78 that is not reached. The line after the third is
+/// no feature. The fourth feature has a city object at byte 194 that is not reached.
+const CASES: &str = "
+going tree|F R S|3 78 31&lf;5 0 10&lf;6 194 31&lf;|7|complete
+going exclude|F A R V S|5 0 10&lf;|7|complete
+tree exclude|F||2|line 3, byte 78: 31 not reached from the main object
+going tree exclude|F R S|3 78 31&lf;5 0 10&lf;6 194 31&lf;|7|complete
+";
 
 /// Some options, and the result of the features with them.
 #[derive(Clone, Copy)]
 struct Case<'a> {
-    options: Options,
-    /// Which features are valid, and come before the end.
-    valid: [bool; 5],
-    /// Whether the features that satisfy the query are kept, or the others.
-    side: bool,
+    options: &'a str,
+    valid: &'a str,
     reports: &'a str,
-    lines: u64,
-    ended: End,
+    lines: &'a str,
+    ended: &'a str,
 }
 
-/// The reports if reading goes on, and each city object must be reached. The second feature has one
-/// at byte 78 that is not. The line after the third is no feature. The fourth has one at byte 194.
-const APART_REPORTS: &str = "3 78 31\n5 0 10\n6 194 31\n";
-
-/// Returns all pairs of options, and all three.
-fn cases() -> [Case<'static>; 4] {
-    [
-        Case {
-            options: going().tree(true),
-            valid: TREES,
-            side: true,
-            reports: APART_REPORTS,
-            lines: 7,
-            ended: End::Complete,
-        },
-        Case {
-            options: going().exclude(true),
-            valid: [true; 5],
-            side: false,
-            reports: "5 0 10\n",
-            lines: 7,
-            ended: End::Complete,
-        },
-        Case {
-            options: Options::new().tree(true).exclude(true),
-            valid: [true, false, false, false, false],
-            side: false,
-            reports: "",
-            lines: 2,
-            ended: refused(3, 78, Reason::NotReached),
-        },
-        Case {
-            options: going().tree(true).exclude(true),
-            valid: TREES,
-            side: false,
-            reports: APART_REPORTS,
-            lines: 7,
-            ended: End::Complete,
-        },
-    ]
-}
-
-/// Adds the features that are valid and on the case's side, each with its LF. Returns how many
-/// there are.
-fn add_kept(
-    text: &mut Vec<u8>,
-    features: &[&[u8]],
-    holds: &[bool],
-    case: &Case,
-) -> Result<u64, Fail> {
-    let mut count = 0_u64;
-    let told = holds.iter().zip(case.valid.iter());
-    for (feature, (holds, valid)) in features.iter().zip(told) {
-        if *valid && *holds == case.side {
-            text.extend_from_slice(feature)?;
-            text.push(b'\n')?;
-            count = count.saturating_add(1);
-        }
+/// Returns the case of a row.
+fn case_of<'a>(rt: &impl Abort, row: &'a str) -> Case<'a> {
+    let (options, row) = cell(rt, row);
+    let (valid, row) = cell(rt, row);
+    let (reports, row) = cell(rt, row);
+    let (lines, ended) = cell(rt, row);
+    Case {
+        options,
+        valid,
+        reports,
+        lines,
+        ended,
     }
-    Ok(count)
 }
 
-/// Returns what is written if these features satisfy the query, and how many features that are.
-fn kept_of(alloc: Global, holds: [bool; 5], case: &Case) -> Result<(Vec<u8>, u64), Fail> {
-    let mut text = FIRST.to_vec(alloc)?;
-    let count = add_kept(&mut text, &FEATURES, &holds, case)?;
-    Ok((text, count))
+/// A stream, a query of two parts, and the features that it selects.
+#[derive(Clone, Copy)]
+struct Pair<'a> {
+    name: &'a str,
+    text: &'a [u8],
+    query: &'a Query,
+    chosen: &'a str,
 }
 
-/// Compares the result with some options.
-fn check_case(
+/// Compares what is reported, and how many lines there are.
+fn check_reported(
     rt: &impl Abort,
     alloc: Global,
     came: &Came,
-    holds: [bool; 5],
     case: &Case,
     row: &str,
 ) -> Result<(), Fail> {
-    let (written, count) = kept_of(alloc, holds, case)?;
-    check_went(rt, came, count, case.ended, &written, row);
-    check_notes(rt, &came.reports, case.reports, row, 3);
-    check_number(rt, came.outcome.lines, case.lines, row, 4);
+    check_notes(
+        rt,
+        &came.reports,
+        &bytes_of(rt, alloc, case.reports)?,
+        row,
+        3,
+    );
+    check_number(rt, came.outcome.lines, case.lines.parse()?, row, 4);
     Ok(())
 }
 
-/// Checks the features and a line that is none, with a query of two parts and all pairs of options.
-/// `holds` says which features satisfy the query.
-fn check_pair(
+/// Compares what is kept: the valid features that the query selects, or the others.
+fn check_kept(
     rt: &impl Abort,
     alloc: Global,
-    parts: &Parts,
-    holds: [bool; 5],
-    row: &str,
+    came: &Came,
+    case: &Case,
+    pair: &Pair,
 ) -> Result<(), Fail> {
-    let lines = [
-        STREAM, APART, b"\n", ROAD, b"\n{}\n", SEVERAL, b"\n", SMALL, b"\n",
-    ];
-    let text = joined(alloc, &lines)?;
-    let query = query_of(alloc, parts)?;
-    for case in cases().iter() {
-        let came = came_of(alloc, &text, 100, &query, case.options)?;
-        check_case(rt, alloc, &came, holds, case, row)?;
+    let mut written = FIRST.to_vec(alloc)?;
+    let excludes = has_word(case.options, "exclude");
+    let kept = push_side(rt, &mut written, case.valid, pair.chosen, excludes)?;
+    let wanted = Went {
+        kept,
+        ended: case.ended,
+        written: &written,
+    };
+    check_went(rt, alloc, came, &wanted, pair.name)
+}
+
+/// Checks a stream and a query with some options.
+fn check_case(rt: &impl Abort, alloc: Global, pair: &Pair, case: &Case) -> Result<(), Fail> {
+    let options = options_of(case.options);
+    let came = came_of(alloc, pair.text, 100, pair.query, options)?;
+    check_kept(rt, alloc, &came, case, pair)?;
+    check_reported(rt, alloc, &came, case, pair.name)
+}
+
+/// Checks the query of a row with all pairs of options. The cells are the name, the query, and the
+/// features that it selects.
+fn check_pair(rt: &impl Abort, alloc: Global, row: &str) -> Result<(), Fail> {
+    let (name, row) = cell(rt, row);
+    let (asked, chosen) = cell(rt, row);
+    let text = bytes_of(rt, alloc, STREAM)?;
+    let query = query_of(rt, alloc, asked)?;
+    let pair = Pair {
+        name,
+        text: &text,
+        query: &query,
+        chosen,
+    };
+    for case in CASES.trim().lines() {
+        check_case(rt, alloc, &pair, &case_of(rt, case))?;
     }
     Ok(())
 }
 
-#[test]
-fn an_id_and_a_type(rt: HostRuntime) -> Result<(), Fail> {
-    let parts = Parts {
-        types: Some(&["Road"]),
-        ..by_ids(&["b1", "r1"])
-    };
-    let holds = [false, false, true, true, false];
-    check_pair(&rt, rt.alloc(), &parts, holds, "an id and a type")
-}
+const PAIRS: &str = "
+an id and a type|id=b1 id=r1 type=Road|R V
+an id and an LoD|id=b1 id=b lod=2.2|F V
+an id and a box|id=r1 id=b bbox=1001,2001,1005,2005|R
+a type and an LoD|type=Road lod=1|R V
+a type and a box|type=Building bbox=1001,2001,1005,2005|F V
+an LoD and a box|lod=1 lod=2.2 bbox=1001.000000000000000001,2000,1005,2005|R
+";
 
 #[test]
-fn an_id_and_a_level(rt: HostRuntime) -> Result<(), Fail> {
-    let parts = Parts {
-        lods: Some(&["2.2"]),
-        ..by_ids(&["b1", "b"])
-    };
-    let holds = [true, false, false, true, false];
-    check_pair(&rt, rt.alloc(), &parts, holds, "an id and a level")
-}
-
-#[test]
-fn an_id_and_a_box(rt: HostRuntime) -> Result<(), Fail> {
-    let parts = Parts {
-        bounds: Some("1001,2001,1005,2005"),
-        ..by_ids(&["r1", "b"])
-    };
-    let holds = [false, false, true, false, false];
-    check_pair(&rt, rt.alloc(), &parts, holds, "an id and a box")
-}
-
-#[test]
-fn a_type_and_a_level(rt: HostRuntime) -> Result<(), Fail> {
-    let parts = Parts {
-        lods: Some(&["1"]),
-        ..by_types(&["Road"])
-    };
-    let holds = [false, false, true, true, false];
-    check_pair(&rt, rt.alloc(), &parts, holds, "a type and a level")
-}
-
-#[test]
-fn a_type_and_a_box(rt: HostRuntime) -> Result<(), Fail> {
-    let parts = Parts {
-        bounds: Some("1001,2001,1005,2005"),
-        ..by_types(&["Building"])
-    };
-    let holds = [true, false, false, true, false];
-    check_pair(&rt, rt.alloc(), &parts, holds, "a type and a box")
-}
-
-#[test]
-fn a_level_and_a_box(rt: HostRuntime) -> Result<(), Fail> {
-    let parts = Parts {
-        bounds: Some("1001.000000000000000001,2000,1005,2005"),
-        ..by_lods(&["1", "2.2"])
-    };
-    let holds = [false, false, true, false, false];
-    check_pair(&rt, rt.alloc(), &parts, holds, "a level and a box")
+fn two_parts_with_each_pair_of_options(rt: HostRuntime) -> Result<(), Fail> {
+    for row in PAIRS.trim().lines() {
+        check_pair(&rt, rt.alloc(), row)?;
+    }
+    Ok(())
 }

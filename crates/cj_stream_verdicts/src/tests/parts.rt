@@ -1,167 +1,128 @@
 //! Streams that are read in parts. Runs over a header with some of the later lines give one joint
 //! outcome, and reports.
-use super::calls::{check_notes, check_outcome};
+use super::calls::{check_notes, check_text};
+use super::rows::{bytes_of, cell, options_of, outcome_told};
 use cj_budget::Limits;
-use cj_spans::Reason;
 use cj_stream::{IgnoreSink, Options, Outcome, Query};
-use cj_stream_samples::{
-    BEYOND, FEATURE, HEADER, NoteReports, Reading, SMALL, SlowReader, complete, going, held,
-    joined, outcome, ran, refused,
-};
+use cj_stream_samples::{NoteReports, Reading, SlowReader, joined, ran};
 use std::alloc::Global;
 use std::process::Abort;
 use std::test::Fail;
 
-/// A header, and what comes after it in two parts, each by its texts.
+/// A header, the reading's options, and the expected outcome, as a text.
 #[derive(Clone, Copy)]
-struct Parts<'a> {
+struct Stream<'a> {
     name: &'a str,
-    header: &'a [&'a [u8]],
-    first: &'a [&'a [u8]],
-    second: &'a [&'a [u8]],
+    header: &'a [u8],
     options: Options,
+    told: &'a str,
 }
 
-/// Runs over a header and these bytes, and compares the reports.
+/// Runs over a header and what comes after it, and compares the reports.
 fn over(
     rt: &impl Abort,
     alloc: Global,
-    parts: &Parts,
+    stream: &Stream,
     behind: &[u8],
     notes: &str,
 ) -> Result<Outcome, Fail> {
-    let header = joined(alloc, parts.header)?;
-    let text = joined(alloc, &[&header, b"\n", behind])?;
+    let text = joined(alloc, &[stream.header, b"\n", behind])?;
     let mut reader = SlowReader::new(&text, 100);
     let mut reports = NoteReports::new(alloc);
     let reading = Reading {
         limits: Limits::new(1_000, 64)?,
         query: &Query::all(alloc),
-        options: parts.options,
+        options: stream.options,
     };
     let outcome = ran(alloc, &mut reader, &mut IgnoreSink, &mut reports, &reading);
-    check_notes(rt, &reports, notes, parts.name, behind.len() as u64);
+    let wanted = bytes_of(rt, alloc, notes)?;
+    check_notes(rt, &reports, &wanted, stream.name, behind.len() as u64);
     Ok(outcome)
 }
 
-/// Compares the outcome of both parts together, and of the whole stream. Also compares the reports
-/// of the parts and of the stream.
-fn check(
+/// Compares an outcome with the expected one.
+fn check_told(
     rt: &impl Abort,
     alloc: Global,
-    parts: &Parts,
-    notes: [&str; 3],
-    wanted: Outcome,
+    stream: &Stream,
+    outcome: Outcome,
+    at: u64,
 ) -> Result<(), Fail> {
-    let [of_first, of_second, of_all] = notes;
-    let front = joined(alloc, parts.first)?;
-    let rest = joined(alloc, parts.second)?;
-    let first = over(rt, alloc, parts, &front, of_first)?;
-    let second = over(rt, alloc, parts, &rest, of_second)?;
-    check_outcome(rt, first.then(second), wanted, parts.name, 1);
-    let behind = joined(alloc, &[&front, &rest])?;
-    let all = over(rt, alloc, parts, &behind, of_all)?;
-    check_outcome(rt, all, wanted, parts.name, 2);
+    let told = outcome_told(alloc, outcome)?;
+    check_text(rt, &told, stream.told, stream.name, at);
     Ok(())
 }
 
-/// Checks a feature and a blank line, and then three lines, under these options. The second of the
-/// three is invalid.
-fn check_lines(
+/// Compares the outcome of both parts together, and their reports.
+fn check_both(
     rt: &impl Abort,
     alloc: Global,
-    options: Options,
-    notes: [&str; 3],
-    wanted: Outcome,
+    stream: &Stream,
+    parts: [&[u8]; 2],
+    notes: [&str; 2],
 ) -> Result<(), Fail> {
-    let parts = Parts {
-        name: "a line of the second part",
-        header: &[HEADER],
-        first: &[FEATURE, b"\n\n"],
-        second: &[SMALL, b"\n", BEYOND, b"\n", FEATURE],
-        options,
+    let first = over(rt, alloc, stream, parts[0], notes[0])?;
+    let second = over(rt, alloc, stream, parts[1], notes[1])?;
+    check_told(rt, alloc, stream, first.then(second), 1)
+}
+
+/// Compares the outcome of the whole stream, and its reports.
+fn check_whole(
+    rt: &impl Abort,
+    alloc: Global,
+    stream: &Stream,
+    parts: [&[u8]; 2],
+    notes: &str,
+) -> Result<(), Fail> {
+    let all = over(rt, alloc, stream, &joined(alloc, &parts)?, notes)?;
+    check_told(rt, alloc, stream, all, 2)
+}
+
+/// Checks a header with what the cells say of both parts: the first, the second, the reports of
+/// each, and the reports of the whole stream.
+fn check(rt: &impl Abort, alloc: Global, stream: &Stream, cells: &str) -> Result<(), Fail> {
+    let (first, cells) = cell(rt, cells);
+    let (second, cells) = cell(rt, cells);
+    let (of_first, cells) = cell(rt, cells);
+    let (of_second, of_all) = cell(rt, cells);
+    let front = bytes_of(rt, alloc, first)?;
+    let rest = bytes_of(rt, alloc, second)?;
+    check_both(rt, alloc, stream, [&front, &rest], [of_first, of_second])?;
+    check_whole(rt, alloc, stream, [&front, &rest], of_all)
+}
+
+/// Checks a row. It has a name, the options, the header, the cells of `check`, and after ` = ` the
+/// outcome.
+fn check_row(rt: &impl Abort, alloc: Global, row: &str) -> Result<(), Fail> {
+    let (name, row) = cell(rt, row);
+    let (options, row) = cell(rt, row);
+    let (header, row) = cell(rt, row);
+    let (cells, told) = row.split_once(" = ").expect(rt, "an outcome");
+    let header = bytes_of(rt, alloc, header)?;
+    let stream = Stream {
+        name,
+        header: &header,
+        options: options_of(options),
+        told,
     };
-    check(rt, alloc, &parts, notes, wanted)
+    check(rt, alloc, &stream, cells)
 }
 
-#[test]
-fn two_features_in_two_parts(rt: HostRuntime) -> Result<(), Fail> {
-    let parts = Parts {
-        name: "two features",
-        header: &[HEADER],
-        first: &[SMALL, b"\n"],
-        second: &[FEATURE],
-        options: Options::new(),
-    };
-    let wanted = complete(3, 2, 0, held(350, 65, 8));
-    check(&rt, rt.alloc(), &parts, [""; 3], wanted)
-}
-
-/// The part with the greater peaks may come first.
-#[test]
-fn the_longer_part_first(rt: HostRuntime) -> Result<(), Fail> {
-    let parts = Parts {
-        name: "the longer part first",
-        header: &[HEADER],
-        first: &[FEATURE, b"\n"],
-        second: &[SMALL],
-        options: Options::new(),
-    };
-    let wanted = complete(3, 2, 0, held(350, 65, 8));
-    check(&rt, rt.alloc(), &parts, [""; 3], wanted)
-}
+/// The part with the greater peaks may come first. A part may be empty.
+const ROWS: &str = r#"
+two features|-|&H;|&S;&lf;|&F;||| = complete|3|2|0|350 65 8
+the longer part first|-|&H;|&F;&lf;|&S;||| = complete|3|2|0|350 65 8
+nothing|-|&H;||||| = complete|1|0|0|140 21 3
+a refused line of the second part|-|&H;|&F;&lf;&lf;|&S;&lf;&B;&lf;&F;||| = line 5, byte 144: 25 vertex index out of range|4|2|0|350 65 8
+a reported line of the second part|going|&H;|&F;&lf;&lf;|&S;&lf;&B;&lf;&F;||3 144 25&lf;|5 144 25&lf; = complete|6|3|1|350 65 8
+a refused line of the first part|-|&H;|&B;&lf;|&S;||| = line 2, byte 144: 25 vertex index out of range|1|0|0|350 65 8
+a refused header|going|{"type":"CityJSON","version":"1.1","transform":{"scale":[0.001,0.001,0.001],"translate":[1000.0,2000.0,0.0]},"CityObjects":{},"vertices":[]}|&F;&lf;|&S;||| = line 1, byte 29: 15 wrong version|0|0|0|140 21 3
+"#;
 
 #[test]
-fn parts_of_nothing(rt: HostRuntime) -> Result<(), Fail> {
-    let parts = Parts {
-        name: "nothing",
-        header: &[HEADER],
-        first: &[],
-        second: &[],
-        options: Options::new(),
-    };
-    let wanted = complete(1, 0, 0, held(140, 21, 3));
-    check(&rt, rt.alloc(), &parts, [""; 3], wanted)
-}
-
-#[test]
-fn a_refused_line_of_the_second_part(rt: HostRuntime) -> Result<(), Fail> {
-    let ended = refused(5, 144, Reason::VertexIndex);
-    let wanted = outcome(4, 2, held(350, 65, 8), ended);
-    check_lines(&rt, rt.alloc(), Options::new(), [""; 3], wanted)
-}
-
-#[test]
-fn a_reported_line_of_the_second_part(rt: HostRuntime) -> Result<(), Fail> {
-    let notes = ["", "3 144 25\n", "5 144 25\n"];
-    let wanted = complete(6, 3, 1, held(350, 65, 8));
-    check_lines(&rt, rt.alloc(), going(), notes, wanted)
-}
-
-#[test]
-fn a_refused_line_of_the_first_part(rt: HostRuntime) -> Result<(), Fail> {
-    let parts = Parts {
-        name: "a line of the first part",
-        header: &[HEADER],
-        first: &[BEYOND, b"\n"],
-        second: &[SMALL],
-        options: Options::new(),
-    };
-    let ended = refused(2, 144, Reason::VertexIndex);
-    let wanted = outcome(1, 0, held(350, 65, 8), ended);
-    check(&rt, rt.alloc(), &parts, [""; 3], wanted)
-}
-
-#[test]
-fn parts_of_a_refused_header(rt: HostRuntime) -> Result<(), Fail> {
-    let parts = Parts {
-        name: "a header",
-        header: &[&HEADER[..29], b"\"1.1\"", &HEADER[34..]],
-        first: &[FEATURE, b"\n"],
-        second: &[SMALL],
-        options: going(),
-    };
-    let ended = refused(1, 29, Reason::WrongVersion);
-    let wanted = outcome(0, 0, held(140, 21, 3), ended);
-    check(&rt, rt.alloc(), &parts, [""; 3], wanted)
+fn streams_in_two_parts(rt: HostRuntime) -> Result<(), Fail> {
+    for row in ROWS.trim().lines() {
+        check_row(&rt, rt.alloc(), row)?;
+    }
+    Ok(())
 }

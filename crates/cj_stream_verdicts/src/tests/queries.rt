@@ -1,11 +1,11 @@
 //! Rows of queries: which features of a stream are kept.
-use super::calls::{check_ended, check_joined, check_number};
+use super::calls::{check_ended, check_joined, check_number, check_text};
+use super::rows::{ask, bytes_of, cell, end_told, query_of};
 use cj_budget::Limits;
-use cj_spans::Reason;
 use cj_stream::{End, Outcome, Query, QueryFault};
 use cj_stream_samples::{
-    ALL, FEATURE, HEADER, Parts, Reading, SEVERAL, STREAM, SlowReader, by_box, by_ids, by_lods,
-    by_types, joined, outcome, query_of, refused, written_by,
+    FEATURE, HEADER, Parts, Reading, SEVERAL, STREAM, SlowReader, joined,
+    query_of as query_of_parts, written_by,
 };
 use std::alloc::Global;
 use std::process::Abort;
@@ -39,14 +39,13 @@ fn check_keeps(
     rt: &impl Abort,
     alloc: Global,
     pair: Pair,
-    parts: &Parts,
+    query: &Query,
     keeps: bool,
     row: &str,
 ) -> Result<(), Fail> {
     let lines = [pair.header, b"\n", pair.feature, b"\n"];
     let text = joined(alloc, &lines)?;
-    let query = query_of(alloc, parts)?;
-    let (outcome, written) = kept_of(alloc, &text, Limits::usual(), &query);
+    let (outcome, written) = kept_of(alloc, &text, Limits::usual(), query);
     check_ended(rt, outcome.ended, End::Complete, row, 0);
     check_number(rt, outcome.lines, 2, row, 1);
     check_number(rt, outcome.kept, keeps.into(), row, 2);
@@ -59,239 +58,224 @@ fn check_refused(
     rt: &impl Abort,
     alloc: Global,
     pair: Pair,
-    parts: &Parts,
-    end: End,
+    query: &Query,
+    ended: &str,
+    row: &str,
 ) -> Result<(), Fail> {
     let text = joined(alloc, &[pair.header, b"\n", pair.feature, b"\n"])?;
-    let query = query_of(alloc, parts)?;
-    let (outcome, _) = kept_of(alloc, &text, Limits::usual(), &query);
-    check_ended(rt, outcome.ended, end, "refused", 0);
+    let (outcome, _) = kept_of(alloc, &text, Limits::usual(), query);
+    check_text(rt, &end_told(alloc, outcome.ended)?, ended, row, 0);
     Ok(())
+}
+
+/// Checks a row: its name, the query, and `kept`, `left out`, or how the stream ends.
+fn check_row(rt: &impl Abort, alloc: Global, pair: Pair, row: &str) -> Result<(), Fail> {
+    let (name, row) = cell(rt, row);
+    let (asked, answer) = cell(rt, row);
+    let query = query_of(rt, alloc, asked)?;
+    match answer {
+        "kept" => check_keeps(rt, alloc, pair, &query, true, name),
+        "left out" => check_keeps(rt, alloc, pair, &query, false, name),
+        _ => check_refused(rt, alloc, pair, &query, answer, name),
+    }
+}
+
+/// Checks the rows of a header and a feature.
+fn check_rows(rt: &impl Abort, alloc: Global, pair: Pair, rows: &str) -> Result<(), Fail> {
+    for row in rows.lines() {
+        check_row(rt, alloc, pair, row)?;
+    }
+    Ok(())
+}
+
+/// Checks a table. Its first line has the header and the feature, and the others are rows.
+fn check_table(rt: &impl Abort, alloc: Global, table: &str) -> Result<(), Fail> {
+    let (first, rows) = table.trim().split_once('\n').expect(rt, "a line, and rows");
+    let (header, feature) = cell(rt, first);
+    let header = bytes_of(rt, alloc, header)?;
+    let feature = bytes_of(rt, alloc, feature)?;
+    let pair = Pair {
+        header: &header,
+        feature: &feature,
+    };
+    check_rows(rt, alloc, pair, rows)
 }
 
 #[test]
 fn by_id_type_and_lod(rt: HostRuntime) -> Result<(), Fail> {
-    for (parts, keeps, row) in [
-        (by_ids(&["b1"]), true, "its id"),
-        (by_ids(&["b2"]), false, "another id"),
-        (by_ids(&["b2", "b1"]), true, "one of two ids"),
-        (by_ids(&[]), false, "no id"),
-        (by_ids(&["b"]), false, "a front of its id"),
-        (by_lods(&["2.2"]), true, "its LoD"),
-        (by_lods(&["2"]), false, "a front of its LoD"),
-        (by_lods(&["2.20"]), false, "an equal number"),
-        (by_lods(&[]), false, "no LoD"),
-        (by_types(&["Building"]), true, "its type"),
-        (by_types(&["Bridge", "Building"]), true, "one of two types"),
-        (by_types(&["BuildingPart"]), false, "another type"),
-        (by_types(&[]), false, "no type"),
-    ] {
-        check_keeps(&rt, rt.alloc(), USUAL, &parts, keeps, row)?;
-    }
-    Ok(())
+    let usual = "
+&H;|&F;
+its id|id=b1|kept
+another id|id=b2|left out
+one of two ids|id=b2 id=b1|kept
+no id|id|left out
+a front of its id|id=b|left out
+its LoD|lod=2.2|kept
+a front of its LoD|lod=2|left out
+an equal number|lod=2.20|left out
+no LoD|lod|left out
+its type|type=Building|kept
+one of two types|type=Bridge type=Building|kept
+another type|type=BuildingPart|left out
+no type|type|left out
+";
+    check_table(&rt, rt.alloc(), usual)
 }
 
 #[test]
 fn by_id_type_and_lod_of_one_among_several(rt: HostRuntime) -> Result<(), Fail> {
-    for (parts, keeps, row) in [
-        (by_ids(&["b1"]), true, "its id"),
-        (by_ids(&["r1"]), false, "the name of another city object"),
-        (by_ids(&["r1", "w1", "b1"]), true, "one of three ids"),
-        (by_types(&["Building"]), true, "the first type"),
-        (by_types(&["Road"]), true, "the second type"),
-        (by_types(&["WaterBody"]), true, "the last type"),
-        (by_types(&["Tunnel", "WaterBody"]), true, "one of two types"),
-        (by_types(&["Tunnel", "Bridge"]), false, "two other types"),
-        (by_lods(&["1"]), true, "the first LoD"),
-        (by_lods(&["1.2"]), true, "the LoD between"),
-        (by_lods(&["2.2"]), true, "the last LoD"),
-        (by_lods(&["3", "2.2"]), true, "one of two LoDs"),
-        (by_lods(&["2"]), false, "a front of the last LoD"),
-        (by_lods(&["1.1", "3"]), false, "two other LoDs"),
-    ] {
-        check_keeps(&rt, rt.alloc(), MIXED, &parts, keeps, row)?;
-    }
-    Ok(())
+    let several = "
+&H;|&V;
+its id|id=b1|kept
+the name of another city object|id=r1|left out
+one of three ids|id=r1 id=w1 id=b1|kept
+the first type|type=Building|kept
+the second type|type=Road|kept
+the last type|type=WaterBody|kept
+one of two types|type=Tunnel type=WaterBody|kept
+two other types|type=Tunnel type=Bridge|left out
+the first LoD|lod=1|kept
+the LoD between|lod=1.2|kept
+the last LoD|lod=2.2|kept
+one of two LoDs|lod=3 lod=2.2|kept
+a front of the last LoD|lod=2|left out
+two other LoDs|lod=1.1 lod=3|left out
+";
+    check_table(&rt, rt.alloc(), several)
 }
 
-#[test]
-fn by_box_of_one_among_several(rt: HostRuntime) -> Result<(), Fail> {
-    for (bounds, keeps) in [
-        ("1001,2000,1005,2005", true),
-        ("1000,2001,1005,2005", true),
-        ("1001,2001,1005,2005", true),
-        ("1001.000000000000000001,2000,1005,2005", false),
-        ("1000,2001.000000000000000001,1005,2005", false),
-        ("0,0,1000,2000", true),
-        ("0,0,999.999999999999999999,2000", false),
-        ("0,0,1000,1999.999999999999999999", false),
-        ("1000.25,2000.25,1000.25,2000.25", true),
-    ] {
-        check_keeps(&rt, rt.alloc(), MIXED, &by_box(bounds), keeps, bounds)?;
-    }
-    Ok(())
-}
+const BOXES_OF_SEVERAL: &str = "
+&H;|&V;
+from its greatest x|bbox=1001,2000,1005,2005|kept
+from its greatest y|bbox=1000,2001,1005,2005|kept
+from both|bbox=1001,2001,1005,2005|kept
+just after its greatest x|bbox=1001.000000000000000001,2000,1005,2005|left out
+just after its greatest y|bbox=1000,2001.000000000000000001,1005,2005|left out
+up to its least x and y|bbox=0,0,1000,2000|kept
+up to just before its least x|bbox=0,0,999.999999999999999999,2000|left out
+up to just before its least y|bbox=0,0,1000,1999.999999999999999999|left out
+a point inside|bbox=1000.25,2000.25,1000.25,2000.25|kept
+";
+
+const BOXES_OF_THE_USUAL: &str = "
+&H;|&F;
+from its greatest x and y|bbox=1001,2001,1005,2005|kept
+just after its greatest x|bbox=1001.000000000000000001,2001,1005,2005|left out
+just after its greatest y|bbox=1001,2001.000000000000000001,1005,2005|left out
+up to its least x and y|bbox=0,0,1000,2000|kept
+up to just before its least x|bbox=0,0,999.999999999999999999,2000|left out
+up to just before its least y|bbox=0,0,1000,1999.999999999999999999|left out
+a point inside|bbox=1000.5,2000.5,1000.5,2000.5|kept
+a point at its least x|bbox=1000,2000.5,1000,2000.5|kept
+a point at its least y|bbox=1000.5,2000,1000.5,2000|kept
+around it|bbox=-5,0,5000,5000|kept
+inside, with exponents|bbox=1.0005e3,2000.5,1.0006e3,2000.6|kept
+";
 
 #[test]
-fn by_box_of_the_usual_feature(rt: HostRuntime) -> Result<(), Fail> {
-    for (bounds, keeps) in [
-        ("1001,2001,1005,2005", true),
-        ("1001.000000000000000001,2001,1005,2005", false),
-        ("1001,2001.000000000000000001,1005,2005", false),
-        ("0,0,1000,2000", true),
-        ("0,0,999.999999999999999999,2000", false),
-        ("0,0,1000,1999.999999999999999999", false),
-        ("1000.5,2000.5,1000.5,2000.5", true),
-        ("1000,2000.5,1000,2000.5", true),
-        ("1000.5,2000,1000.5,2000", true),
-        ("-5,0,5000,5000", true),
-        ("1.0005e3,2000.5,1.0006e3,2000.6", true),
-    ] {
-        check_keeps(&rt, rt.alloc(), USUAL, &by_box(bounds), keeps, bounds)?;
-    }
-    Ok(())
+fn by_box(rt: HostRuntime) -> Result<(), Fail> {
+    check_table(&rt, rt.alloc(), BOXES_OF_SEVERAL)?;
+    check_table(&rt, rt.alloc(), BOXES_OF_THE_USUAL)
 }
 
-/// The first scale is negative, so x runs from 999 to 1000. Then it is 0, so x is always 1000.
-#[test]
-fn by_box_under_other_scales(rt: HostRuntime) -> Result<(), Fail> {
-    let turned = Pair {
-        header: b"{\"type\":\"CityJSON\",\"version\":\"2.0\",\"transform\":{\"scale\":[-0.001,0.001,0.001],\"translate\":[1000.0,2000.0,0.0]},\"CityObjects\":{},\"vertices\":[]}",
-        feature: FEATURE,
-    };
-    let flat = Pair {
-        header: b"{\"type\":\"CityJSON\",\"version\":\"2.0\",\"transform\":{\"scale\":[0,0.001,0.001],\"translate\":[1000.0,2000.0,0.0]},\"CityObjects\":{},\"vertices\":[]}",
-        feature: FEATURE,
-    };
-    for (pair, bounds, keeps) in [
-        (turned, "999,2000,999,2000", true),
-        (turned, "1000.5,2000,1001,2001", false),
-        (turned, "998,2000,998.999999999999999999,2001", false),
-        (flat, "1000,2000,1000,2000", true),
-        (flat, "1000.000000000000000001,2000,1001,2001", false),
-    ] {
-        check_keeps(&rt, rt.alloc(), pair, &by_box(bounds), keeps, bounds)?;
-    }
-    Ok(())
-}
+/// The first scale is negative, so x runs from 999 to 1000.
+const TURNED: &str = r#"
+{"type":"CityJSON","version":"2.0","transform":{"scale":[-0.001,0.001,0.001],"translate":[1000.0,2000.0,0.0]},"CityObjects":{},"vertices":[]}|&F;
+at its least x|bbox=999,2000,999,2000|kept
+after its greatest x|bbox=1000.5,2000,1001,2001|left out
+up to just before its least x|bbox=998,2000,998.999999999999999999,2001|left out
+"#;
+
+/// The first scale is 0, so x is always 1000.
+const FLAT: &str = r#"
+{"type":"CityJSON","version":"2.0","transform":{"scale":[0,0.001,0.001],"translate":[1000.0,2000.0,0.0]},"CityObjects":{},"vertices":[]}|&F;
+at its x|bbox=1000,2000,1000,2000|kept
+just after its x|bbox=1000.000000000000000001,2000,1001,2001|left out
+"#;
 
 /// The greatest scale and the greatest coordinates: the numbers have 36 digits.
-#[test]
-fn by_box_of_great_numbers(rt: HostRuntime) -> Result<(), Fail> {
-    let header =
-        b"{\"type\":\"CityJSON\",\"version\":\"2.0\",\"transform\":{\"scale\":[999999999999999999,999999999999999999,1],\"translate\":[0,0,0]},\"CityObjects\":{},\"vertices\":[]}";
-    let far = Pair {
-        header,
-        feature: b"{\"type\":\"CityJSONFeature\",\"id\":\"b\",\"CityObjects\":{\"b\":{\"type\":\"Building\"}},\"vertices\":[[999999999999999999,0,0]]}",
-    };
-    let wide = Pair {
-        header,
-        feature: b"{\"type\":\"CityJSONFeature\",\"id\":\"b\",\"CityObjects\":{\"b\":{\"type\":\"Building\"}},\"vertices\":[[-999999999999999999,0,0],[999999999999999999,0,0]]}",
-    };
-    let parts = by_box("0,0,999999999999999999,0");
-    check_keeps(&rt, rt.alloc(), far, &parts, false, "far")?;
-    check_keeps(&rt, rt.alloc(), wide, &parts, true, "wide")
-}
+const FAR: &str = r#"
+{"type":"CityJSON","version":"2.0","transform":{"scale":[999999999999999999,999999999999999999,1],"translate":[0,0,0]},"CityObjects":{},"vertices":[]}|{"type":"CityJSONFeature","id":"b","CityObjects":{"b":{"type":"Building"}},"vertices":[[999999999999999999,0,0]]}
+far|bbox=0,0,999999999999999999,0|left out
+"#;
+
+const WIDE: &str = r#"
+{"type":"CityJSON","version":"2.0","transform":{"scale":[999999999999999999,999999999999999999,1],"translate":[0,0,0]},"CityObjects":{},"vertices":[]}|{"type":"CityJSONFeature","id":"b","CityObjects":{"b":{"type":"Building"}},"vertices":[[-999999999999999999,0,0],[999999999999999999,0,0]]}
+wide|bbox=0,0,999999999999999999,0|kept
+"#;
 
 /// A translation that is no multiple of 10^-18 is invalid only with a box.
-#[test]
-fn a_box_needs_fixed_numbers(rt: HostRuntime) -> Result<(), Fail> {
-    let fine = Pair {
-        header: b"{\"type\":\"CityJSON\",\"version\":\"2.0\",\"transform\":{\"scale\":[0.001,0.001,0.001],\"translate\":[1e-19,2000.0,0.0]},\"CityObjects\":{},\"vertices\":[]}",
-        feature: FEATURE,
-    };
-    let end = refused(1, 89, Reason::TransformNotFixed);
-    check_refused(&rt, rt.alloc(), fine, &by_box("0,0,1,1"), end)?;
-    check_keeps(&rt, rt.alloc(), fine, &ALL, true, "no box")
-}
+const FINE: &str = r#"
+{"type":"CityJSON","version":"2.0","transform":{"scale":[0.001,0.001,0.001],"translate":[1e-19,2000.0,0.0]},"CityObjects":{},"vertices":[]}|&F;
+a box|bbox=0,0,1,1|line 1, byte 89: 30 transform not fixed
+no box|-|kept
+"#;
 
 /// A feature without vertices is in no box.
+const BARE: &str = r#"
+&H;|{"type":"CityJSONFeature","id":"b","CityObjects":{"b":{"type":"Building"}},"vertices":[]}
+no vertices|bbox=-1e17,-1e17,1e17,1e17|left out
+no LoD|lod=2.2|left out
+its id|id=b|kept
+"#;
+
 #[test]
-fn by_box_without_vertices(rt: HostRuntime) -> Result<(), Fail> {
-    let bare = Pair {
-        header: HEADER,
-        feature: b"{\"type\":\"CityJSONFeature\",\"id\":\"b\",\"CityObjects\":{\"b\":{\"type\":\"Building\"}},\"vertices\":[]}",
-    };
-    let all = by_box("-1e17,-1e17,1e17,1e17");
-    check_keeps(&rt, rt.alloc(), bare, &all, false, "no vertices")?;
-    check_keeps(&rt, rt.alloc(), bare, &by_lods(&["2.2"]), false, "no LoD")?;
-    check_keeps(&rt, rt.alloc(), bare, &by_ids(&["b"]), true, "its id")
+fn by_box_under_other_headers(rt: HostRuntime) -> Result<(), Fail> {
+    for table in [TURNED, FLAT, FAR, WIDE, FINE, BARE] {
+        check_table(&rt, rt.alloc(), table)?;
+    }
+    Ok(())
 }
 
 /// Texts are compared with their escapes undone, and a comma in one is a letter like any other.
+const ESCAPED: &str = r#"
+&H;|{"type":"CityJSONFeature","id":"\u0061,\u20ac","CityObjects":{"a,€":{"type":"\u0042uilding","geometry":[{"type":"MultiPoint","lod":"\u0032.2","boundaries":[]}]}},"vertices":[]}
+its id|id=a,€|kept
+parts of its id|id=a id=€|left out
+its spelling|id=\u0061,\u20ac|left out
+its LoD|lod=2.2|kept
+the LoD's spelling|lod=\u0032.2|left out
+its type|type=Building|kept
+"#;
+
 #[test]
 fn by_texts_with_escapes(rt: HostRuntime) -> Result<(), Fail> {
-    let escaped = Pair {
-        header: HEADER,
-        feature: b"{\"type\":\"CityJSONFeature\",\"id\":\"\\u0061,\\u20ac\",\"CityObjects\":{\"a,\xe2\x82\xac\":{\"type\":\"\\u0042uilding\",\"geometry\":[{\"type\":\"MultiPoint\",\"lod\":\"\\u0032.2\",\"boundaries\":[]}]}},\"vertices\":[]}",
-    };
-    for (parts, keeps, row) in [
-        (by_ids(&["a,€"]), true, "its id"),
-        (by_ids(&["a", "€"]), false, "parts of its id"),
-        (by_ids(&["\\u0061,\\u20ac"]), false, "its spelling"),
-        (by_lods(&["2.2"]), true, "its LoD"),
-        (by_lods(&["\\u0032.2"]), false, "the LoD's spelling"),
-        (by_types(&["Building"]), true, "its type"),
-    ] {
-        check_keeps(&rt, rt.alloc(), escaped, &parts, keeps, row)?;
-    }
-    Ok(())
+    check_table(&rt, rt.alloc(), ESCAPED)
 }
 
-/// A header with one template, of LoD 1.
-const TEMPLATES: &[u8] =
-    b"{\"type\":\"CityJSON\",\"version\":\"2.0\",\"transform\":{\"scale\":[0.001,0.001,0.001],\"translate\":[1000.0,2000.0,0.0]},\"CityObjects\":{},\"vertices\":[],\"geometry-templates\":{\"templates\":[{\"type\":\"MultiSurface\",\"lod\":\"1\",\"boundaries\":[[[0,1,2]]]}],\"vertices-templates\":[[0.0,0.0,0.0],[1.0,0.0,0.0],[0.0,1.0,0.0]]}}";
+/// A header with one template, of LoD 1. A plant is an instance of it.
+const TEMPLATE: &str = r#"
+{"type":"CityJSON","version":"2.0","transform":{"scale":[0.001,0.001,0.001],"translate":[1000.0,2000.0,0.0]},"CityObjects":{},"vertices":[],"geometry-templates":{"templates":[{"type":"MultiSurface","lod":"1","boundaries":[[[0,1,2]]]}],"vertices-templates":[[0.0,0.0,0.0],[1.0,0.0,0.0],[0.0,1.0,0.0]]}}|{"type":"CityJSONFeature","id":"b","CityObjects":{"b":{"type":"SolitaryVegetationObject","geometry":[{"type":"GeometryInstance","template":0,"boundaries":[0],"transformationMatrix":[1,0,0,0,0,1,0,0,0,0,1,0,0,0,0,1]}]}},"vertices":[[0,0,0]]}
+its LoD|lod=1|kept
+another|lod=2|left out
+"#;
 
-/// A plant that is an instance of the first template, and one of the second.
-const TREE: &[u8] =
-    b"{\"type\":\"CityJSONFeature\",\"id\":\"b\",\"CityObjects\":{\"b\":{\"type\":\"SolitaryVegetationObject\",\"geometry\":[{\"type\":\"GeometryInstance\",\"template\":0,\"boundaries\":[0],\"transformationMatrix\":[1,0,0,0,0,1,0,0,0,0,1,0,0,0,0,1]}]}},\"vertices\":[[0,0,0]]}";
+/// A plant is an instance of a second template, which the header lacks.
+const SECOND: &str = r#"
+{"type":"CityJSON","version":"2.0","transform":{"scale":[0.001,0.001,0.001],"translate":[1000.0,2000.0,0.0]},"CityObjects":{},"vertices":[],"geometry-templates":{"templates":[{"type":"MultiSurface","lod":"1","boundaries":[[[0,1,2]]]}],"vertices-templates":[[0.0,0.0,0.0],[1.0,0.0,0.0],[0.0,1.0,0.0]]}}|{"type":"CityJSONFeature","id":"b","CityObjects":{"b":{"type":"SolitaryVegetationObject","geometry":[{"type":"GeometryInstance","template":1,"boundaries":[0],"transformationMatrix":[1,0,0,0,0,1,0,0,0,0,1,0,0,0,0,1]}]}},"vertices":[[0,0,0]]}
+the second|lod=1|line 2, byte 139: 28 template index out of range
+"#;
 
-const SECOND: &[u8] =
-    b"{\"type\":\"CityJSONFeature\",\"id\":\"b\",\"CityObjects\":{\"b\":{\"type\":\"SolitaryVegetationObject\",\"geometry\":[{\"type\":\"GeometryInstance\",\"template\":1,\"boundaries\":[0],\"transformationMatrix\":[1,0,0,0,0,1,0,0,0,0,1,0,0,0,0,1]}]}},\"vertices\":[[0,0,0]]}";
+/// A plant is an instance of the first template, and the header has none.
+const LOST: &str = r#"
+&H;|{"type":"CityJSONFeature","id":"b","CityObjects":{"b":{"type":"SolitaryVegetationObject","geometry":[{"type":"GeometryInstance","template":0,"boundaries":[0],"transformationMatrix":[1,0,0,0,0,1,0,0,0,0,1,0,0,0,0,1]}]}},"vertices":[[0,0,0]]}
+the first of none|lod=1|line 2, byte 139: 28 template index out of range
+"#;
+
+/// A building with a geometry of LoD 3, and a plant that is an instance of the first template.
+const TEMPLATE_AMONG_SEVERAL: &str = r#"
+{"type":"CityJSON","version":"2.0","transform":{"scale":[0.001,0.001,0.001],"translate":[1000.0,2000.0,0.0]},"CityObjects":{},"vertices":[],"geometry-templates":{"templates":[{"type":"MultiSurface","lod":"1","boundaries":[[[0,1,2]]]}],"vertices-templates":[[0.0,0.0,0.0],[1.0,0.0,0.0],[0.0,1.0,0.0]]}}|{"type":"CityJSONFeature","id":"b","CityObjects":{"b":{"type":"Building","geometry":[{"type":"MultiPoint","lod":"3","boundaries":[0]}]},"t":{"type":"SolitaryVegetationObject","geometry":[{"type":"GeometryInstance","template":0,"boundaries":[0],"transformationMatrix":[1,0,0,0,0,1,0,0,0,0,1,0,0,0,0,1]}]}},"vertices":[[0,0,0]]}
+the template's LoD|lod=1|kept
+the LoD before it|lod=3|kept
+another|lod=2|left out
+the second type|type=SolitaryVegetationObject|kept
+"#;
 
 /// An instance has the LoD of its template, and no other.
 #[test]
 fn by_the_lod_of_a_template(rt: HostRuntime) -> Result<(), Fail> {
-    let tree = Pair {
-        header: TEMPLATES,
-        feature: TREE,
-    };
-    let second = Pair {
-        header: TEMPLATES,
-        feature: SECOND,
-    };
-    let lost = Pair {
-        header: HEADER,
-        feature: TREE,
-    };
-    let end = refused(2, 139, Reason::TemplateIndex);
-    check_keeps(&rt, rt.alloc(), tree, &by_lods(&["1"]), true, "its LoD")?;
-    check_keeps(&rt, rt.alloc(), tree, &by_lods(&["2"]), false, "another")?;
-    check_refused(&rt, rt.alloc(), second, &by_lods(&["1"]), end)?;
-    check_refused(&rt, rt.alloc(), lost, &by_lods(&["1"]), end)
-}
-
-/// A building with a geometry of LoD 3, and a plant that is an instance of the first template.
-const SECOND_OBJECT: &[u8] =
-    b"{\"type\":\"CityJSONFeature\",\"id\":\"b\",\"CityObjects\":{\"b\":{\"type\":\"Building\",\"geometry\":[{\"type\":\"MultiPoint\",\"lod\":\"3\",\"boundaries\":[0]}]},\"t\":{\"type\":\"SolitaryVegetationObject\",\"geometry\":[{\"type\":\"GeometryInstance\",\"template\":0,\"boundaries\":[0],\"transformationMatrix\":[1,0,0,0,0,1,0,0,0,0,1,0,0,0,0,1]}]}},\"vertices\":[[0,0,0]]}";
-
-#[test]
-fn by_the_lod_of_a_template_among_several(rt: HostRuntime) -> Result<(), Fail> {
-    let both = Pair {
-        header: TEMPLATES,
-        feature: SECOND_OBJECT,
-    };
-    for (parts, keeps, row) in [
-        (by_lods(&["1"]), true, "the template's LoD"),
-        (by_lods(&["3"]), true, "the LoD before it"),
-        (by_lods(&["2"]), false, "another"),
-        (
-            by_types(&["SolitaryVegetationObject"]),
-            true,
-            "the second type",
-        ),
-    ] {
-        check_keeps(&rt, rt.alloc(), both, &parts, keeps, row)?;
+    for table in [TEMPLATE, SECOND, LOST, TEMPLATE_AMONG_SEVERAL] {
+        check_table(&rt, rt.alloc(), table)?;
     }
     Ok(())
 }
@@ -337,7 +321,14 @@ fn check_each_part<'a>(
             bounds: bounds(place),
         };
         let keeps = is_kept(id) && is_kept(kind) && is_kept(lod) && is_kept(place);
-        check_keeps(rt, alloc, pair, &parts, keeps, "parts")?;
+        check_keeps(
+            rt,
+            alloc,
+            pair,
+            &query_of_parts(alloc, &parts)?,
+            keeps,
+            "parts",
+        )?;
     }
     Ok(())
 }
@@ -365,17 +356,23 @@ fn check_query(rt: &impl Abort, alloc: Global, query: &Query, keeps: bool, row: 
     check_number(rt, outcome.kept, keeps.into(), row, 0);
 }
 
+/// Does to a query what the words say, and checks whether the usual feature is kept then.
+fn check_step(rt: &impl Abort, alloc: Global, query: &mut Query, words: &str, keeps: bool) {
+    for word in words.split(' ') {
+        check_fault(rt, ask(rt, query, word), Ok(()), word);
+    }
+    check_query(rt, alloc, query, keeps, words);
+}
+
 /// An unknown type is an error, and changes nothing.
 #[test]
 fn an_unknown_type(rt: HostRuntime) {
     let mut query = Query::all(rt.alloc());
-    check_fault(&rt, query.add_type("Building"), Ok(()), "Building");
-    check_query(&rt, rt.alloc(), &query, true, "Building");
+    check_step(&rt, rt.alloc(), &mut query, "type=Building", true);
     let unknown = Err(QueryFault::UnknownTypeName);
     check_fault(&rt, query.add_type("+Shed"), unknown, "+Shed");
     check_query(&rt, rt.alloc(), &query, true, "after +Shed");
-    query.start_types();
-    check_query(&rt, rt.alloc(), &query, false, "no type");
+    check_step(&rt, rt.alloc(), &mut query, "type", false);
 }
 
 /// Checks that an invalid box leaves the one before it.
@@ -411,20 +408,15 @@ fn boxes_that_are_refused(rt: HostRuntime) {
 #[test]
 fn parts_are_set_anew(rt: HostRuntime) {
     let mut query = Query::all(rt.alloc());
-    check_fault(&rt, query.add_id("b2"), Ok(()), "b2");
-    check_query(&rt, rt.alloc(), &query, false, "b2");
-    check_fault(&rt, query.add_id("b1"), Ok(()), "b1");
-    check_query(&rt, rt.alloc(), &query, true, "b2 and b1");
-    query.start_ids();
-    check_query(&rt, rt.alloc(), &query, false, "no id");
-    check_fault(&rt, query.add_id("b1"), Ok(()), "b1");
-    check_fault(&rt, query.add_lod("2"), Ok(()), "2");
-    check_query(&rt, rt.alloc(), &query, false, "b1 and 2");
-    query.start_lods();
-    check_fault(&rt, query.add_lod("2.2"), Ok(()), "2.2");
-    check_query(&rt, rt.alloc(), &query, true, "b1 and 2.2");
-    check_fault(&rt, query.bbox("0,0,1,1"), Ok(()), "away");
-    check_query(&rt, rt.alloc(), &query, false, "away");
-    check_fault(&rt, query.bbox("0,0,1e4,1e4"), Ok(()), "around");
-    check_query(&rt, rt.alloc(), &query, true, "around");
+    for (words, keeps) in [
+        ("id=b2", false),
+        ("id=b1", true),
+        ("id", false),
+        ("id=b1 lod=2", false),
+        ("lod lod=2.2", true),
+        ("bbox=0,0,1,1", false),
+        ("bbox=0,0,1e4,1e4", true),
+    ] {
+        check_step(&rt, rt.alloc(), &mut query, words, keeps);
+    }
 }

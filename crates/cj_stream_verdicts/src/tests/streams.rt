@@ -289,7 +289,7 @@ fn check_came(
         ..case.plain.outcome
     };
     check_outcome(rt, got, wanted, row, case.stream);
-    check_notes(rt, reports, case.plain.reports.as_str(), row, case.stream);
+    check_notes(rt, reports, case.plain.reports.as_bytes(), row, case.stream);
     check_bytes(rt, written, &case.plain.written, row, at);
 }
 

@@ -14,8 +14,7 @@
 //! - how many features are written
 //! - the peaks of a complete stream, or `-`
 //!
-//! In a stream `&H;` is the usual header, `&F;` the usual feature, `&lf;` an LF, and `&255;` the
-//! byte with this number.
+//! The module `rows` says how a query and a stream are spelled.
 use super::vectors::check_rows;
 use std::test::Fail;
 
@@ -415,7 +414,7 @@ fn city_objects_apart(rt: HostRuntime) -> Result<(), Fail> {
 const IDS_TYPES_AND_LODS: &str = r#"
 asked-for-by-its-id|1000|64|id=b1|&H;&lf;&F;&lf;|all|complete|2|1|350 65 8
 asked-for-by-another-id|1000|64|id=b2|&H;&lf;&F;&lf;|&H;&lf;|complete|2|0|350 65 8
-asked-for-by-one-of-two-ids|1000|64|id=b2,b1|&H;&lf;&F;&lf;|all|complete|2|1|350 65 8
+asked-for-by-one-of-two-ids|1000|64|id=b2 id=b1|&H;&lf;&F;&lf;|all|complete|2|1|350 65 8
 asked-for-by-its-type|1000|64|type=Building|&H;&lf;&F;&lf;|all|complete|2|1|350 65 8
 asked-for-by-its-lod|1000|64|lod=2.2|&H;&lf;&F;&lf;|all|complete|2|1|350 65 8
 asked-for-by-a-front-of-its-lod|1000|64|lod=2|&H;&lf;&F;&lf;|&H;&lf;|complete|2|0|350 65 8

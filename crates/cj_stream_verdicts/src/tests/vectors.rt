@@ -4,8 +4,9 @@
 //! There are two families. One is a feature that is cut short at each place. The other is a feature
 //! with a byte that is not UTF-8 at each place. All other vectors are in `table`.
 use super::calls::{check_bound, check_bytes, check_ended, check_outcome};
+use super::rows::{bytes_of, cell, end_told, options_of, peaks_told, query_of};
 use cj_budget::Limits;
-use cj_stream::{End, IgnoreSink, Options, Outcome, Query, Report, ReportSink};
+use cj_stream::{End, IgnoreSink, Outcome, Query, Report, ReportSink};
 use cj_stream_samples::{CutReader, FEATURE, HEADER, Reading, SlowReader, ran, written_by};
 use std::alloc::{AllocError, Global};
 use std::io::Read;
@@ -29,23 +30,13 @@ const SINGLE_BYTES: u64 = 1_000_000;
 /// Returns an outcome as a text. It has the end, the number of lines before the invalid one or in
 /// all, and the number of kept features. For a complete stream it has the peaks too.
 fn told(alloc: Global, outcome: Outcome) -> Result<String, AllocError> {
-    let (lines, kept, held) = (outcome.lines, outcome.kept, outcome.peaks);
-    match outcome.ended {
-        End::Complete => format!(in alloc;
-            "complete|{lines}|{kept}|{} {} {}",
-            held.bytes, held.tokens, held.depth
-        ),
-        End::Refused {
-            line,
-            place,
-            reason,
-        } => format!(in alloc;
-            "line {line}, byte {place}: {} {}|{lines}|{kept}|-",
-            reason.code(),
-            reason.text()
-        ),
-        end => format!(in alloc; "{end:?}"),
-    }
+    let (lines, kept) = (outcome.lines, outcome.kept);
+    let ended = end_told(alloc, outcome.ended)?;
+    let held = match outcome.ended {
+        End::Complete => peaks_told(alloc, outcome.peaks)?,
+        _ => format!(in alloc; "-")?,
+    };
+    format!(in alloc; "{ended}|{lines}|{kept}|{held}")
 }
 
 /// Runs over a vector that a reader gives, cut at this place.
@@ -189,81 +180,6 @@ fn a_feature_with_one_byte_that_is_no_text(rt: HostRuntime) -> Result<(), Fail> 
 }
 
 // ---- the rows of the table
-
-/// Adds what comes after a `&`: a name, `;`, and bytes.
-fn push_part(rt: &impl Abort, text: &mut Vec<u8>, part: &str) -> Result<(), Fail> {
-    let (name, rest) = part.split_once(';').expect(rt, "the end of a name");
-    match name {
-        "H" => text.extend_from_slice(HEADER)?,
-        "F" => text.extend_from_slice(FEATURE)?,
-        "lf" => text.push(b'\n')?,
-        _ => text.push(name.parse()?)?,
-    }
-    text.extend_from_slice(rest.as_bytes())?;
-    Ok(())
-}
-
-/// Returns the bytes that a cell spells.
-fn bytes_of(rt: &impl Abort, alloc: Global, cell: &str) -> Result<Vec<u8>, Fail> {
-    let mut text = Vec::new(alloc);
-    for (at, part) in cell.split('&').enumerate() {
-        match at {
-            0 => text.extend_from_slice(part.as_bytes())?,
-            _ => push_part(rt, &mut text, part)?,
-        }
-    }
-    Ok(text)
-}
-
-/// Adds what a word says to a query.
-fn ask(rt: &impl Abort, query: &mut Query, word: &str) -> Result<(), Fail> {
-    let (option, value) = word.split_once('=').expect(rt, "an option with its value");
-    if option == "bbox" {
-        query.bbox(value)?;
-        return Ok(());
-    }
-    for text in value.split(',') {
-        match option {
-            "id" => query.add_id(text)?,
-            "type" => query.add_type(text)?,
-            "lod" => query.add_lod(text)?,
-            _ => panic!(rt; "no option {option}"),
-        }
-    }
-    Ok(())
-}
-
-/// The word of a cell for the option that each city object must be reached.
-const TREE: &str = "tree";
-
-/// Returns the query of a cell.
-fn query_of(rt: &impl Abort, alloc: Global, cell: &str) -> Result<Query, Fail> {
-    let mut query = Query::all(alloc);
-    if cell != "-" {
-        for word in cell.split(' ') {
-            if word != TREE {
-                ask(rt, &mut query, word)?;
-            }
-        }
-    }
-    Ok(query)
-}
-
-/// Returns the options that a cell sets.
-fn options_of(cell: &str) -> Options {
-    let mut options = Options::new();
-    for word in cell.split(' ') {
-        if word == TREE {
-            options = options.tree(true);
-        }
-    }
-    options
-}
-
-/// Returns the first cell of a row, and the others.
-fn cell<'a>(rt: &impl Abort, row: &'a str) -> (&'a str, &'a str) {
-    row.split_once('|').expect(rt, "a cell, and others")
-}
 
 /// Returns the limits in two cells.
 fn limits_of(line: &str, depth: &str) -> Result<Limits, Fail> {
