@@ -25,6 +25,7 @@
 //! calls does not. So a row is one call of a function that checks it.
 mod blank_lines;
 mod calls;
+mod cuts;
 mod dropped;
 mod engine_rows;
 mod faults;
@@ -41,4 +42,5 @@ mod rows;
 mod states;
 mod steps;
 mod tally;
+mod turn_steps;
 mod turns;

@@ -1,96 +1,15 @@
-//! Streams with invalid lines that reading goes on after. Each is run whole, by single bytes, and
-//! cut in two at every place. A run, an engine and a reader of lines read it.
-use super::calls::{check_bytes, check_joined, check_notes, check_outcome};
-use super::line_pieces::given_behind;
+//! Streams with invalid lines that reading goes on after, with every cut.
+use super::cuts::{Row, check, check_lines, check_query};
 use super::rows::attributed;
-use cj_budget::{Limits, Peaks};
+use cj_budget::Peaks;
 use cj_spans::Reason;
-use cj_stream::{End, Outcome, Query, WriteSink};
+use cj_stream::Query;
 use cj_stream_samples::{
-    BEYOND, FEATURE, FIRST, HEADER, NoteReports, Reading, SMALL, STREAM, SlowReader, complete,
-    given, going, held, joined, outcome, ran, refused,
+    BEYOND, FEATURE, FIRST, HEADER, SMALL, STREAM, complete, held, outcome, refused,
 };
 use std::alloc::Global;
 use std::process::Abort;
 use std::test::Fail;
-
-/// A stream, and the expected result if reading goes on. The stream and its expected output are
-/// given in parts.
-#[derive(Clone, Copy)]
-struct Row<'a> {
-    name: &'a str,
-    text: &'a [&'a [u8]],
-    line_limit: u64,
-    written: &'a [&'a [u8]],
-    reports: &'a str,
-    outcome: Outcome,
-}
-
-/// Compares the outcome and the reports of a stream that was cut here.
-fn check_told(rt: &impl Abort, row: &Row, got: Outcome, reports: &NoteReports, at: u64) {
-    check_notes(rt, reports, row.reports, row.name, at);
-    check_outcome(rt, got, row.outcome, row.name, at);
-}
-
-/// Returns the way to read that goes on after invalid lines.
-fn going_within(limits: Limits, query: &Query) -> Reading<'_> {
-    Reading {
-        limits,
-        query,
-        options: going(),
-    }
-}
-
-/// Runs over a reader that gives `step` bytes per read.
-fn check_run(
-    rt: &impl Abort,
-    alloc: Global,
-    text: &[u8],
-    step: usize,
-    written: &[u8],
-    row: &Row,
-) -> Result<(), Fail> {
-    let mut reader = SlowReader::new(text, step);
-    let mut sink = WriteSink::new(Vec::new(alloc));
-    let mut reports = NoteReports::new(alloc);
-    let query = Query::all(alloc);
-    let reading = going_within(Limits::new(row.line_limit, 64)?, &query);
-    let got = ran(alloc, &mut reader, &mut sink, &mut reports, &reading);
-    check_told(rt, row, got, &reports, step as u64);
-    check_bytes(rt, &sink.into_inner(), written, row.name, step as u64);
-    Ok(())
-}
-
-/// Gives the stream to an engine, cut in two at this place.
-fn check_cut(
-    rt: &impl Abort,
-    alloc: Global,
-    text: &[u8],
-    at: usize,
-    written: &[u8],
-    row: &Row,
-) -> Result<(), Fail> {
-    let query = Query::all(alloc);
-    let mut sink = WriteSink::new(Vec::new(alloc));
-    let mut reports = NoteReports::new(alloc);
-    let reading = going_within(Limits::new(row.line_limit, 64)?, &query);
-    let got = given(alloc, text, at, &mut sink, &mut reports, &reading)?;
-    check_told(rt, row, got, &reports, at as u64);
-    check_bytes(rt, &sink.into_inner(), written, row.name, at as u64);
-    Ok(())
-}
-
-/// Checks a stream in every way.
-fn check(rt: &impl Abort, alloc: Global, row: &Row) -> Result<(), Fail> {
-    let text = joined(alloc, row.text)?;
-    let written = joined(alloc, row.written)?;
-    check_run(rt, alloc, &text, 8_192, &written, row)?;
-    check_run(rt, alloc, &text, 1, &written, row)?;
-    for at in 0..=text.len() {
-        check_cut(rt, alloc, &text, at, &written, row)?;
-    }
-    Ok(())
-}
 
 // ---- rows
 
@@ -100,6 +19,7 @@ fn after_a_finding(rt: HostRuntime) -> Result<(), Fail> {
         name: "after a finding",
         text: &[STREAM, BEYOND, b"\n", FEATURE, b"\n"],
         line_limit: 1_000,
+        goes_on: true,
         written: &[STREAM, FEATURE, b"\n"],
         reports: "3 144 25\n",
         outcome: complete(4, 2, 1, held(350, 65, 8)),
@@ -113,6 +33,7 @@ fn after_a_line_one_byte_too_long(rt: HostRuntime) -> Result<(), Fail> {
         name: "after a line one byte too long",
         text: &[STREAM, FEATURE, b" \n", FEATURE, b"\n"],
         line_limit: 210,
+        goes_on: true,
         written: &[STREAM, FEATURE, b"\n"],
         reports: "3 210 2\n",
         outcome: complete(4, 2, 1, held(350, 65, 8)),
@@ -126,6 +47,7 @@ fn a_first_line_of_an_older_version(rt: HostRuntime) -> Result<(), Fail> {
         name: "an older version",
         text: &[&HEADER[..29], b"\"1.1\"", &HEADER[34..], b"\n", FEATURE],
         line_limit: 1_000,
+        goes_on: true,
         written: &[],
         reports: "",
         outcome: outcome(0, 0, held(140, 21, 3), refused(1, 29, Reason::WrongVersion)),
@@ -146,6 +68,7 @@ fn check_refused(
         name: reports,
         text,
         line_limit: 210,
+        goes_on: true,
         written: &[FIRST],
         reports,
         outcome: complete(counts.0, 0, counts.1, peaks),
@@ -239,6 +162,7 @@ fn every_second_line_is_refused(rt: HostRuntime) -> Result<(), Fail> {
         name: "every second line",
         text: &[STREAM, BEYOND, b"\n", SMALL, b"\n", FIRST, FEATURE, b"\n{}"],
         line_limit: 1_000,
+        goes_on: true,
         written: &[STREAM, SMALL, b"\n", FEATURE, b"\n"],
         reports: "3 144 25\n5 0 10\n7 0 10\n",
         outcome: complete(7, 3, 3, held(350, 65, 8)),
@@ -260,6 +184,7 @@ fn lines_that_are_no_json(rt: HostRuntime) -> Result<(), Fail> {
             FEATURE,
         ],
         line_limit: 1_000,
+        goes_on: true,
         written: &[STREAM, FEATURE],
         reports: "2 26 4\n4 3 4\n5 1 3\n",
         outcome: complete(6, 2, 3, held(350, 65, 8)),
@@ -269,18 +194,11 @@ fn lines_that_are_no_json(rt: HostRuntime) -> Result<(), Fail> {
 
 // ---- any query
 
-/// Runs over a stream, with a query for the small feature.
+/// Checks a row, with a query for the small feature.
 fn check_asked(rt: &impl Abort, alloc: Global, row: &Row) -> Result<(), Fail> {
-    let text = joined(alloc, row.text)?;
     let mut query = Query::all(alloc);
     query.add_id("b")?;
-    let reading = going_within(Limits::new(row.line_limit, 64)?, &query);
-    let mut reader = SlowReader::new(&text, 50);
-    let mut sink = WriteSink::new(Vec::new(alloc));
-    let mut reports = NoteReports::new(alloc);
-    let got = ran(alloc, &mut reader, &mut sink, &mut reports, &reading);
-    check_told(rt, row, got, &reports, 50);
-    check_joined(rt, alloc, &sink.into_inner(), row.written, row.name, 50)
+    check_query(rt, alloc, row, &query)
 }
 
 /// An invalid line is reported for any query. A feature that the query does not select is not.
@@ -290,6 +208,7 @@ fn refused_lines_of_any_query(rt: HostRuntime) -> Result<(), Fail> {
         name: "asked for",
         text: &[FIRST, b"{}\n", FEATURE, b"\n", SMALL, b"\n3\n"],
         line_limit: 1_000,
+        goes_on: true,
         written: &[FIRST, SMALL, b"\n"],
         reports: "2 0 10\n5 0 12\n",
         outcome: complete(5, 1, 2, held(350, 65, 8)),
@@ -299,41 +218,13 @@ fn refused_lines_of_any_query(rt: HostRuntime) -> Result<(), Fail> {
 
 // ---- after a header
 
-/// Gives what comes after the header to a reader of lines, cut in two at this place.
-fn check_lines_cut(
-    rt: &impl Abort,
-    alloc: Global,
-    rest: &[u8],
-    at: usize,
-    written: &[u8],
-    row: &Row,
-) -> Result<(), Fail> {
-    let query = Query::all(alloc);
-    let mut sink = WriteSink::new(Vec::new(alloc));
-    let mut reports = NoteReports::new(alloc);
-    let reading = going_within(Limits::new(row.line_limit, 64)?, &query);
-    let got = given_behind(rt, alloc, rest, at, &mut sink, &mut reports, &reading)?;
-    check_told(rt, row, got, &reports, at as u64);
-    check_bytes(rt, &sink.into_inner(), written, row.name, at as u64);
-    Ok(())
-}
-
-/// Gives a row's text, which has no header, to a reader of lines, cut in two at each place.
-fn check_lines(rt: &impl Abort, alloc: Global, row: &Row) -> Result<(), Fail> {
-    let rest = joined(alloc, row.text)?;
-    let written = joined(alloc, row.written)?;
-    for at in 0..=rest.len() {
-        check_lines_cut(rt, alloc, &rest, at, &written, row)?;
-    }
-    Ok(())
-}
-
 #[test]
 fn refused_lines_behind_a_header(rt: HostRuntime) -> Result<(), Fail> {
     let row = Row {
         name: "behind a header",
         text: &[FEATURE, b" \n", FEATURE, b"\n", BEYOND],
         line_limit: 210,
+        goes_on: true,
         written: &[STREAM],
         reports: "2 210 2\n4 144 25\n",
         outcome: complete(4, 1, 2, held(350, 65, 8)),
