@@ -54,12 +54,12 @@ impl Way {
 }
 
 /// Returns how a row is read.
-fn reading_of<'q>(row: &Row, query: &'q Query) -> Result<Reading<'q>, Fail> {
-    Ok(Reading {
-        limits: Limits::new(row.line_limit, 64)?,
+fn reading_of<'q>(row: &Row, limits: Limits, query: &'q Query) -> Reading<'q> {
+    Reading {
+        limits,
         query,
         options: Options::new().keep_going(row.goes_on),
-    })
+    }
 }
 
 /// Reads a stream in one way.
@@ -71,7 +71,8 @@ fn told(
     sink: &mut WriteSink<Vec<u8>>,
     reports: &mut NoteReports,
 ) -> Result<Outcome, Fail> {
-    let reading = reading_of(case.row, case.query)?;
+    let limits = Limits::new(case.row.line_limit, 64)?;
+    let reading = reading_of(case.row, limits, case.query);
     match way {
         Way::Run(step) => {
             let mut reader = SlowReader::new(case.text, step);
@@ -94,8 +95,20 @@ fn check_way(rt: &impl Abort, alloc: Global, case: &Case, way: Way) -> Result<()
     Ok(())
 }
 
-/// Reads a stream by runs, and by an engine that gets it cut in two at each place.
-fn check_ways(rt: &impl Abort, alloc: Global, case: &Case) -> Result<(), Fail> {
+/// What a stream is, and so in which ways it is read.
+#[derive(Clone, Copy)]
+pub enum Kind {
+    /// A whole stream: by runs, and by an engine that gets it cut in two at each place.
+    Stream,
+    /// What comes after the usual header: by a reader of lines that gets it cut in two at each
+    /// place.
+    Rest,
+    /// A whole stream for a query: by a run.
+    Query,
+}
+
+/// Reads a whole stream.
+fn check_stream(rt: &impl Abort, alloc: Global, case: &Case) -> Result<(), Fail> {
     for step in &[8_192, 1] {
         check_way(rt, alloc, case, Way::Run(*step))?;
     }
@@ -105,42 +118,30 @@ fn check_ways(rt: &impl Abort, alloc: Global, case: &Case) -> Result<(), Fail> {
     Ok(())
 }
 
-/// Reads what comes after a header by a reader of lines that gets it cut in two at each place.
-fn check_line_cuts(rt: &impl Abort, alloc: Global, case: &Case) -> Result<(), Fail> {
+/// Reads what comes after a header.
+fn check_rest(rt: &impl Abort, alloc: Global, case: &Case) -> Result<(), Fail> {
     for at in 0..=case.text.len() {
         check_way(rt, alloc, case, Way::Lines(at))?;
     }
     Ok(())
 }
 
-/// Checks a stream in every way.
-pub fn check(rt: &impl Abort, alloc: Global, row: &Row) -> Result<(), Fail> {
-    let text = joined(alloc, row.text)?;
-    let written = joined(alloc, row.written)?;
-    let case = Case {
-        row,
-        text: &text,
-        written: &written,
-        query: &Query::all(alloc),
-    };
-    check_ways(rt, alloc, &case)
+fn check_case(rt: &impl Abort, alloc: Global, case: &Case, kind: Kind) -> Result<(), Fail> {
+    match kind {
+        Kind::Stream => check_stream(rt, alloc, case),
+        Kind::Rest => check_rest(rt, alloc, case),
+        Kind::Query => check_way(rt, alloc, case, Way::Run(50)),
+    }
 }
 
-/// Checks what comes after a header, in every way.
-pub fn check_lines(rt: &impl Abort, alloc: Global, row: &Row) -> Result<(), Fail> {
-    let text = joined(alloc, row.text)?;
-    let written = joined(alloc, row.written)?;
-    let case = Case {
-        row,
-        text: &text,
-        written: &written,
-        query: &Query::all(alloc),
-    };
-    check_line_cuts(rt, alloc, &case)
-}
-
-/// Runs over a stream, with this query.
-pub fn check_query(rt: &impl Abort, alloc: Global, row: &Row, query: &Query) -> Result<(), Fail> {
+/// Checks a row with this query.
+pub fn check_with(
+    rt: &impl Abort,
+    alloc: Global,
+    row: &Row,
+    query: &Query,
+    kind: Kind,
+) -> Result<(), Fail> {
     let text = joined(alloc, row.text)?;
     let written = joined(alloc, row.written)?;
     let case = Case {
@@ -149,5 +150,10 @@ pub fn check_query(rt: &impl Abort, alloc: Global, row: &Row, query: &Query) -> 
         written: &written,
         query,
     };
-    check_way(rt, alloc, &case, Way::Run(50))
+    check_case(rt, alloc, &case, kind)
+}
+
+/// Checks a whole stream.
+pub fn check(rt: &impl Abort, alloc: Global, row: &Row) -> Result<(), Fail> {
+    check_with(rt, alloc, row, &Query::all(alloc), Kind::Stream)
 }

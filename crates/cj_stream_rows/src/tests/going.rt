@@ -1,5 +1,6 @@
 //! Streams with invalid lines that reading goes on after, with every cut.
-use super::cuts::{Row, check, check_lines, check_query};
+use super::cuts::{Kind, Row, check, check_with};
+use super::line_pieces::check_rest;
 use super::rows::attributed;
 use cj_budget::Peaks;
 use cj_spans::Reason;
@@ -55,25 +56,37 @@ fn a_first_line_of_an_older_version(rt: HostRuntime) -> Result<(), Fail> {
     check(&rt, rt.alloc(), &row)
 }
 
-/// Checks a stream in every way, if only its header is kept.
-fn check_refused(
-    rt: &impl Abort,
-    alloc: Global,
-    text: &[&[u8]],
-    reports: &str,
-    counts: (u64, u64),
+/// A stream of which only the header is kept, in parts, with the expected reports, numbers of lines
+/// and of invalid lines, and peaks. The line limit is 210.
+#[derive(Clone, Copy)]
+struct Refused<'a> {
+    text: &'a [&'a [u8]],
+    reports: &'a str,
+    lines: u64,
+    refused: u64,
     peaks: Peaks,
-) -> Result<(), Fail> {
+}
+
+/// Checks a stream in every way, if only its header is kept.
+fn check_refused(rt: &impl Abort, alloc: Global, stream: &Refused) -> Result<(), Fail> {
     let row = Row {
-        name: reports,
-        text,
+        name: stream.reports,
+        text: stream.text,
         line_limit: 210,
         goes_on: true,
         written: &[FIRST],
-        reports,
-        outcome: complete(counts.0, 0, counts.1, peaks),
+        reports: stream.reports,
+        outcome: complete(stream.lines, 0, stream.refused, stream.peaks),
     };
     check(rt, alloc, &row)
+}
+
+/// Checks one stream after another.
+fn check_each(rt: &impl Abort, alloc: Global, streams: &[Refused]) -> Result<(), Fail> {
+    for stream in streams {
+        check_refused(rt, alloc, stream)?;
+    }
+    Ok(())
 }
 
 /// Five bytes more than the line limit of 210: all blank, and all a letter that begins no JSON
@@ -82,6 +95,11 @@ const SPACES: [u8; 215] = [b' '; 215];
 
 const LETTERS: [u8; 215] = [b'x'; 215];
 
+/// As many spaces as the line limit, and one more.
+const AT_MOST: [u8; 210] = [b' '; 210];
+
+const ONE_MORE: [u8; 211] = [b' '; 211];
+
 /// The peaks of a header and of a line without tokens that has at least 210 bytes.
 const FULL: Peaks = Peaks {
     bytes: 350,
@@ -89,50 +107,97 @@ const FULL: Peaks = Peaks {
     depth: 3,
 };
 
+/// Returns a stream whose second line is too long, and is the last one.
+fn too_long<'a>(text: &'a [&'a [u8]]) -> Refused<'a> {
+    Refused {
+        text,
+        reports: "2 210 2\n",
+        lines: 2,
+        refused: 1,
+        peaks: FULL,
+    }
+}
+
 /// The bytes of the line that fit are held at most, in addition to the header.
 #[test]
 fn a_line_five_bytes_too_long(rt: HostRuntime) -> Result<(), Fail> {
-    let report = "2 210 2\n";
-    let text = [FIRST, FEATURE, b"     ", b"\n"];
-    check_refused(&rt, rt.alloc(), &text, report, (2, 1), FULL)?;
-    check_refused(&rt, rt.alloc(), &text[..3], report, (2, 1), FULL)?;
-    let text = [FIRST, &LETTERS, b"\n"];
-    check_refused(&rt, rt.alloc(), &text, report, (2, 1), FULL)?;
-    check_refused(&rt, rt.alloc(), &text[..2], report, (2, 1), FULL)
+    let streams = [
+        too_long(&[FIRST, FEATURE, b"     ", b"\n"]),
+        too_long(&[FIRST, FEATURE, b"     "]),
+        too_long(&[FIRST, &LETTERS, b"\n"]),
+        too_long(&[FIRST, &LETTERS]),
+    ];
+    check_each(&rt, rt.alloc(), &streams)
 }
 
 #[test]
 fn a_blank_line_too_long(rt: HostRuntime) -> Result<(), Fail> {
-    let report = "2 210 2\n";
-    let text = [FIRST, &SPACES, b"\n"];
-    check_refused(&rt, rt.alloc(), &text, report, (2, 1), FULL)?;
-    check_refused(&rt, rt.alloc(), &text[..2], report, (2, 1), FULL)?;
-    let text = [FIRST, &SPACES[..211], b"\n\n"];
-    check_refused(&rt, rt.alloc(), &text, report, (3, 1), FULL)?;
-    let text = [FIRST, &SPACES[..210], b"\n\n"];
-    check_refused(&rt, rt.alloc(), &text, "", (3, 0), FULL)
+    let streams = [
+        too_long(&[FIRST, &SPACES, b"\n"]),
+        too_long(&[FIRST, &SPACES]),
+        Refused {
+            lines: 3,
+            ..too_long(&[FIRST, &ONE_MORE, b"\n\n"])
+        },
+    ];
+    check_each(&rt, rt.alloc(), &streams)
 }
 
 #[test]
+fn a_blank_line_that_is_not_too_long(rt: HostRuntime) -> Result<(), Fail> {
+    let stream = Refused {
+        text: &[FIRST, &AT_MOST, b"\n\n"],
+        reports: "",
+        lines: 3,
+        refused: 0,
+        peaks: FULL,
+    };
+    check_refused(&rt, rt.alloc(), &stream)
+}
+
+/// Streams with two lines that are too long.
+const TWO_TOO_LONG: [Refused; 3] = [
+    Refused {
+        text: &[FIRST, &LETTERS, b"\n", &SPACES, b"\n"],
+        reports: "2 210 2\n3 210 2\n",
+        lines: 3,
+        refused: 2,
+        peaks: FULL,
+    },
+    Refused {
+        text: &[FIRST, &LETTERS, b"\n", &SPACES],
+        reports: "2 210 2\n3 210 2\n",
+        lines: 3,
+        refused: 2,
+        peaks: FULL,
+    },
+    Refused {
+        text: &[FIRST, &LETTERS, b"\n\n", &LETTERS, b"\n \n{}\n"],
+        reports: "2 210 2\n4 210 2\n6 0 10\n",
+        lines: 6,
+        refused: 3,
+        peaks: Peaks {
+            bytes: 350,
+            tokens: 22,
+            depth: 3,
+        },
+    },
+];
+
+#[test]
 fn two_lines_too_long_in_a_row(rt: HostRuntime) -> Result<(), Fail> {
-    let reports = "2 210 2\n3 210 2\n";
-    let text = [FIRST, &LETTERS, b"\n", &SPACES, b"\n"];
-    check_refused(&rt, rt.alloc(), &text, reports, (3, 2), FULL)?;
-    check_refused(&rt, rt.alloc(), &text[..4], reports, (3, 2), FULL)?;
-    let text = [FIRST, &LETTERS, b"\n\n", &LETTERS, b"\n \n{}\n"];
-    let reports = "2 210 2\n4 210 2\n6 0 10\n";
-    check_refused(&rt, rt.alloc(), &text, reports, (6, 3), held(350, 22, 3))
+    check_each(&rt, rt.alloc(), &TWO_TOO_LONG)
 }
 
 /// The rest of a line that is too long is no line of its own. That is also true if it would be a
 /// valid or an invalid line.
 #[test]
 fn the_rest_of_a_line_too_long(rt: HostRuntime) -> Result<(), Fail> {
-    let report = "2 210 2\n";
-    let text = [FIRST, &SPACES[..210], SMALL, b"\n"];
-    check_refused(&rt, rt.alloc(), &text, report, (2, 1), FULL)?;
-    let text = [FIRST, &SPACES[..210], b"{}\n"];
-    check_refused(&rt, rt.alloc(), &text, report, (2, 1), FULL)
+    let streams = [
+        too_long(&[FIRST, &AT_MOST, SMALL, b"\n"]),
+        too_long(&[FIRST, &AT_MOST, b"{}\n"]),
+    ];
+    check_each(&rt, rt.alloc(), &streams)
 }
 
 /// A line that is not UTF-8 has no tokens, even if it would be a JSON text with more of them than
@@ -140,19 +205,30 @@ fn the_rest_of_a_line_too_long(rt: HostRuntime) -> Result<(), Fail> {
 #[test]
 fn lines_that_are_not_looked_at(rt: HostRuntime) -> Result<(), Fail> {
     let end = b"3]]]}]}},\"a\":\"\xff\",\"vertices\":[[0,0,0]]}\n";
-    let text = [FIRST, &FEATURE[..141], end];
-    let peaks = held(319, 21, 3);
-    check_refused(&rt, rt.alloc(), &text, "2 155 3\n", (2, 1), peaks)?;
-    let [front, name, value, end, back] = attributed(b"a");
-    let text = [FIRST, front, name, value, end, back, b"\n"];
-    check_refused(&rt, rt.alloc(), &text, "2 210 2\n", (2, 1), FULL)
+    let [front, name, value, close, back] = attributed(b"a");
+    let not_text = [FIRST, &FEATURE[..141], end];
+    let long = [FIRST, front, name, value, close, back, b"\n"];
+    let streams = [
+        Refused {
+            reports: "2 155 3\n",
+            peaks: held(319, 21, 3),
+            ..too_long(&not_text)
+        },
+        too_long(&long),
+    ];
+    check_each(&rt, rt.alloc(), &streams)
 }
 
 #[test]
 fn blank_lines_are_not_reported(rt: HostRuntime) -> Result<(), Fail> {
-    let text = [FIRST, b"\n \t\r\n3\n\n\n[]\n "];
-    let reports = "4 0 12\n7 0 12\n";
-    check_refused(&rt, rt.alloc(), &text, reports, (8, 2), held(143, 22, 3))
+    let stream = Refused {
+        text: &[FIRST, b"\n \t\r\n3\n\n\n[]\n "],
+        reports: "4 0 12\n7 0 12\n",
+        lines: 8,
+        refused: 2,
+        peaks: held(143, 22, 3),
+    };
+    check_refused(&rt, rt.alloc(), &stream)
 }
 
 /// A header as a later line is invalid too, and has the most tokens of these lines.
@@ -198,7 +274,7 @@ fn lines_that_are_no_json(rt: HostRuntime) -> Result<(), Fail> {
 fn check_asked(rt: &impl Abort, alloc: Global, row: &Row) -> Result<(), Fail> {
     let mut query = Query::all(alloc);
     query.add_id("b")?;
-    check_query(rt, alloc, row, &query)
+    check_with(rt, alloc, row, &query, Kind::Query)
 }
 
 /// An invalid line is reported for any query. A feature that the query does not select is not.
@@ -229,5 +305,5 @@ fn refused_lines_behind_a_header(rt: HostRuntime) -> Result<(), Fail> {
         reports: "2 210 2\n4 144 25\n",
         outcome: complete(4, 1, 2, held(350, 65, 8)),
     };
-    check_lines(&rt, rt.alloc(), &row)
+    check_rest(&rt, rt.alloc(), &row)
 }

@@ -1,9 +1,11 @@
 //! What comes after a header, in pieces given to its reader of lines.
-use super::cuts::{Row, USUAL_LINE, check_lines};
+use super::cuts::{Kind, Row, USUAL_LINE, check_with};
 use super::states::{check_progress, feed_header, header_opened};
 use cj_budget::Peaks;
 use cj_spans::Reason;
-use cj_stream::{End, HeaderReader, LineReader, Outcome, ReportSink, WriteSink, headline_of_lines};
+use cj_stream::{
+    End, HeaderReader, LineReader, Outcome, Query, ReportSink, WriteSink, headline_of_lines,
+};
 use cj_stream_samples::{FEATURE, HEADER, Reading, STREAM, THIRD_REFUSED, held, outcome, refused};
 use std::alloc::Global;
 use std::process::Abort;
@@ -55,6 +57,11 @@ pub fn given_behind<N: ReportSink>(
     Ok(given_lines(rt, header, rest, at, sink, reports))
 }
 
+/// Checks what comes after a header.
+pub fn check_rest(rt: &impl Abort, alloc: Global, row: &Row) -> Result<(), Fail> {
+    check_with(rt, alloc, row, &Query::all(alloc), Kind::Rest)
+}
+
 #[test]
 fn a_feature_behind_a_header(rt: HostRuntime) -> Result<(), Fail> {
     let row = Row {
@@ -66,7 +73,7 @@ fn a_feature_behind_a_header(rt: HostRuntime) -> Result<(), Fail> {
         reports: "",
         outcome: outcome(2, 1, held(350, 65, 8), End::Complete),
     };
-    check_lines(&rt, rt.alloc(), &row)
+    check_rest(&rt, rt.alloc(), &row)
 }
 
 #[test]
@@ -80,5 +87,5 @@ fn a_refused_line_behind_a_header(rt: HostRuntime) -> Result<(), Fail> {
         reports: "",
         outcome: outcome(2, 1, held(350, 65, 8), refused(3, 144, Reason::VertexIndex)),
     };
-    check_lines(&rt, rt.alloc(), &row)
+    check_rest(&rt, rt.alloc(), &row)
 }

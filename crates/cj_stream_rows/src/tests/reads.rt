@@ -62,13 +62,17 @@ fn ran_by<R: Read>(
     Ok(ran_within(rt, alloc, reader, &mut NoReports, &reading, row.reads))
 }
 
+/// Compares the lines that were dealt with, the features that were kept, and the reads.
+fn check_counts(rt: &impl Abort, got: (u64, u64, u64), wanted: (u64, u64, u64), row: &Row) {
+    assert_eq!(rt; got, wanted, "{}, within {} reads", row.name, row.reads);
+}
+
 /// Compares a run with its row: its end, its counts, how often its reader was read, and what was
 /// written.
 fn check_went(rt: &impl Abort, outcome: &Outcome, written: &[u8], made: u64, row: &Row) {
+    let counts = (outcome.lines, outcome.kept, made);
     check_ended(rt, outcome.ended, row.ended, row.name, row.reads);
-    check_number(rt, outcome.lines, row.lines, row.name, row.reads);
-    check_number(rt, outcome.kept, row.kept, row.name, row.reads);
-    check_number(rt, made, row.made, row.name, row.reads);
+    check_counts(rt, counts, (row.lines, row.kept, row.made), row);
     check_bytes(rt, written, row.written, row.name, row.reads);
 }
 

@@ -16,6 +16,15 @@ use std::test::Fail;
 
 // ---- counts
 
+/// Returns how a stream is read that goes on after invalid lines.
+fn going_within(limits: Limits, query: &Query) -> Reading<'_> {
+    Reading {
+        limits,
+        query,
+        options: going(),
+    }
+}
+
 /// Runs over a text, going on. Returns the outcome, and how many reports were counted, from this
 /// number on.
 fn counted(alloc: Global, text: &[u8], from: u64) -> Result<(Outcome, u64), Fail> {
@@ -23,7 +32,7 @@ fn counted(alloc: Global, text: &[u8], from: u64) -> Result<(Outcome, u64), Fail
     let mut sink = WriteSink::new(Vec::new(alloc));
     let mut reader = SlowReader::new(text, 100);
     let query = Query::all(alloc);
-    let reading = going_within(1_000, &query)?;
+    let reading = going_within(Limits::new(1_000, 64)?, &query);
     let outcome = ran(alloc, &mut reader, &mut sink, &mut reports, &reading);
     Ok((outcome, reports.reports))
 }
@@ -78,15 +87,6 @@ fn check_unreported(
     check_notes(rt, reports, "2 0 10\n", row, 3);
 }
 
-/// Returns how a stream is read that goes on after invalid lines, within this line limit.
-fn going_within(line: u64, query: &Query) -> Result<Reading<'_>, Fail> {
-    Ok(Reading {
-        limits: Limits::new(line, 64)?,
-        query,
-        options: going(),
-    })
-}
-
 /// Runs over a text that one read gives whole. The read after it fails.
 fn check_read_fault(rt: &impl Abort, alloc: Global, text: &[u8], reading: &Reading) {
     let mut reader = SlowReader::new(text, 1_000);
@@ -110,7 +110,7 @@ fn check_read_limit(rt: &impl Abort, alloc: Global, text: &[u8], reading: &Readi
 fn check_begun(rt: &impl Abort, alloc: Global, line: &[u8]) -> Result<(), Fail> {
     let text = joined(alloc, &[FIRST, b"{}\n", line])?;
     let query = Query::all(alloc);
-    let reading = going_within(210, &query)?;
+    let reading = going_within(Limits::new(210, 64)?, &query);
     check_read_fault(rt, alloc, &text, &reading);
     check_read_limit(rt, alloc, &text, &reading);
     Ok(())
@@ -287,7 +287,7 @@ fn the_first_refused_line_is_the_usual_end(rt: HostRuntime) -> Result<(), Fail> 
 /// Runs over a text with two invalid lines, and ignores reports. Returns what is written.
 fn written_unread(rt: &impl Abort, alloc: Global, text: &[u8]) -> Result<Vec<u8>, Fail> {
     let query = Query::all(alloc);
-    let reading = going_within(1_000, &query)?;
+    let reading = going_within(Limits::new(1_000, 64)?, &query);
     let (outcome, written) = written_by(alloc, &mut SlowReader::new(text, 100), &reading);
     check_ended(rt, outcome.ended, End::Complete, "no one reads", 0);
     check_number(rt, outcome.refused, 2, "refused", 0);
