@@ -1,14 +1,14 @@
 //! Tests of what no clause says: worked examples, and devices that fail.
 //!
 //! Inputs with their expected results: `rows`, `engine_rows`, `blank_lines`, `long_lines`, `large`
-//! and `order`.
+//! and `order`. `cuts` reads a stream with every cut.
 //!
 //! What sinks get: `lent` and `tally`.
 //!
 //! States and calls:
 //!
-//! - `states`: rows through the two states of a stream. `turns`: what the states return, call by
-//!   call.
+//! - `states`: rows through the two states of a stream.
+//! - `turns`: what the states return, call by call. `turn_steps` takes lists of their calls.
 //! - `line_pieces`: what comes after a header, in pieces.
 //! - `steps`: lists of calls of an engine.
 //! - `reads`: runs with a limit on the number of reads.
@@ -21,10 +21,11 @@
 //! - `dropped`: lines that are too long, step by step.
 //! - `reports`: what is reported, and when.
 //!
-//! All tests share `calls`. A function with many asserts takes long to prove, and one with many
-//! calls does not. So a row is one call of a function that checks it.
+//! All tests share `calls`. A function with many asserts takes long to prove, and so does one that
+//! owns an engine. So a row is data, or one call of a function that checks it.
 mod blank_lines;
 mod calls;
+mod cuts;
 mod dropped;
 mod engine_rows;
 mod faults;
@@ -41,4 +42,5 @@ mod rows;
 mod states;
 mod steps;
 mod tally;
+mod turn_steps;
 mod turns;

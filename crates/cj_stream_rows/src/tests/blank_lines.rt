@@ -22,15 +22,22 @@ fn check_dropped(rt: &impl Abort, alloc: Global, line: &[u8], bytes: u64) -> Res
     Ok(())
 }
 
+const BLANK: [&[u8]; 7] = [
+    b"",
+    b" ",
+    b"     ",
+    b"\t",
+    b"\t\t\t",
+    b"\r\r",
+    b" \t\r\t \r",
+];
+
 #[test]
 fn spaces_and_tabs_and_cr(rt: HostRuntime) -> Result<(), Fail> {
-    check_dropped(&rt, rt.alloc(), b"", 350)?;
-    check_dropped(&rt, rt.alloc(), b" ", 350)?;
-    check_dropped(&rt, rt.alloc(), b"     ", 350)?;
-    check_dropped(&rt, rt.alloc(), b"\t", 350)?;
-    check_dropped(&rt, rt.alloc(), b"\t\t\t", 350)?;
-    check_dropped(&rt, rt.alloc(), b"\r\r", 350)?;
-    check_dropped(&rt, rt.alloc(), b" \t\r\t \r", 350)
+    for line in &BLANK {
+        check_dropped(&rt, rt.alloc(), line, 350)?;
+    }
+    Ok(())
 }
 
 /// A blank line longer than one read.
@@ -65,13 +72,21 @@ fn a_first_line_of_spaces_and_tabs(rt: HostRuntime) {
     check_run(&rt, rt.alloc(), text, 1, Limits::usual(), &wanted);
 }
 
+/// Lines that only look blank, and which byte no JSON text has there.
+const LOOK_BLANK: [(&[u8], u64); 7] = [
+    (b"\x0c", 0),
+    (b"\x0c\x0c\x0c", 0),
+    (b" \x0c", 1),
+    (b" \t\r\x0c \n", 3),
+    (b"\x0b", 0),
+    (b"\x00", 0),
+    (b"  \xc2\xa0", 2),
+];
+
 #[test]
 fn form_feeds_and_other_spaces(rt: HostRuntime) -> Result<(), Fail> {
-    check_place(&rt, rt.alloc(), b"\x0c", 0)?;
-    check_place(&rt, rt.alloc(), b"\x0c\x0c\x0c", 0)?;
-    check_place(&rt, rt.alloc(), b" \x0c", 1)?;
-    check_place(&rt, rt.alloc(), b" \t\r\x0c \n", 3)?;
-    check_place(&rt, rt.alloc(), b"\x0b", 0)?;
-    check_place(&rt, rt.alloc(), b"\x00", 0)?;
-    check_place(&rt, rt.alloc(), b"  \xc2\xa0", 2)
+    for (line, place) in &LOOK_BLANK {
+        check_place(&rt, rt.alloc(), line, *place)?;
+    }
+    Ok(())
 }

@@ -1,6 +1,8 @@
 //! What the tests share: comparisons, and calls of an engine.
 use cj_budget::{Limits, Peaks};
-use cj_stream::{End, Engine, LineSink, Options, Outcome, Query, ReportSink};
+use cj_stream::{
+    End, Engine, LineSink, NoReports, Options, Outcome, Query, ReportSink, put_pieces,
+};
 use cj_stream_samples::{NoteReports, joined};
 use std::alloc::Global;
 use std::process::Abort;
@@ -57,6 +59,22 @@ pub fn opened<'q>(
 ) -> Result<Engine<'q>, Fail> {
     let limits = Limits::new(line, depth)?;
     Ok(Engine::open(alloc, limits, query, options)?)
+}
+
+/// Gives a text to an engine, cut in two at this place. Returns the bytes that it has taken.
+pub fn taken_of_cut<S: LineSink>(
+    rt: &impl Abort,
+    alloc: Global,
+    text: &[u8],
+    at: usize,
+    sink: &mut S,
+) -> Result<u64, Fail> {
+    assert!(rt; at <= text.len() && text.len() <= 10_000);
+    let query = Query::all(alloc);
+    let pieces = [&text[..at], &text[at..]];
+    let mut engine = Engine::open(alloc, Limits::usual(), &query, Options::new())?;
+    put_pieces(&mut engine, &pieces, sink, &mut NoReports);
+    Ok(engine.taken())
 }
 
 /// Gives a piece to an engine, and compares the result. What the engine reports goes to a sink of

@@ -8,48 +8,36 @@ use std::alloc::Global;
 use std::process::Abort;
 use std::test::Fail;
 
-/// Returns what is held with the header's tokens, and what was held at most, before a second line
-/// is dealt with.
-const fn beside_header<'a>(bytes: u64, most: u64) -> Step<'a> {
-    Step::Held(held(bytes, 21, 0), held(most, 21, 3))
-}
-
 /// Nothing is reported yet.
-const fn silent<'a>() -> Step<'a> {
-    Step::Reported(0, "")
-}
+const SILENT: Step = Step::Reported(0, "");
 
 /// The second line was reported, and no other.
-const fn reported<'a>() -> Step<'a> {
-    Step::Reported(1, "2 210 2\n")
-}
+const REPORTED: Step = Step::Reported(1, "2 210 2\n");
 
-/// Returns the steps of the header, and of a line of 210 bytes and five more. The line is held
-/// until a byte comes that does not fit. After that nothing of it is held.
-fn long_line() -> [Step<'static>; 15] {
-    [
-        Step::Feed(HEADER, Ok(())),
-        Step::Feed(b"\n", Ok(())),
-        beside_header(140, 140),
-        Step::Feed(FEATURE, Ok(())),
-        beside_header(350, 350),
-        Step::Feed(b"", Ok(())),
-        beside_header(350, 350),
-        Step::Feed(b" ", Ok(())),
-        beside_header(140, 350),
-        silent(),
-        Step::Feed(b"", Ok(())),
-        Step::Feed(b"    ", Ok(())),
-        beside_header(140, 350),
-        silent(),
-        Step::Counts(356, 1, 0),
-    ]
-}
+/// The steps of the header, and of a line of 210 bytes and five more. The line is held until a byte
+/// comes that does not fit. After that nothing of it is held.
+const LONG_LINE: [Step; 15] = [
+    Step::Feed(HEADER, Ok(())),
+    Step::Feed(b"\n", Ok(())),
+    Step::HeldWithHeader(140, 140),
+    Step::Feed(FEATURE, Ok(())),
+    Step::HeldWithHeader(350, 350),
+    Step::Feed(b"", Ok(())),
+    Step::HeldWithHeader(350, 350),
+    Step::Feed(b" ", Ok(())),
+    Step::HeldWithHeader(140, 350),
+    SILENT,
+    Step::Feed(b"", Ok(())),
+    Step::Feed(b"    ", Ok(())),
+    Step::HeldWithHeader(140, 350),
+    SILENT,
+    Step::Counts(356, 1, 0),
+];
 
 /// Gives the line that is too long, and takes these steps after it. Returns what is written.
 fn behind_long_line(rt: &impl Abort, alloc: Global, more: &[Step]) -> Result<Vec<u8>, Fail> {
     let mut steps = Vec::new(alloc);
-    for step in long_line().iter().chain(more) {
+    for step in LONG_LINE.iter().chain(more) {
         steps.push(*step)?;
     }
     written_within(rt, alloc, 64, &steps)
@@ -70,32 +58,35 @@ fn written_within(
     written_by_steps(rt, alloc, &opening, steps)
 }
 
+/// The LF of the line, and the end.
+const LF_AND_END: [Step; 7] = [
+    Step::Feed(b"\n", Ok(())),
+    Step::HeldWithHeader(140, 350),
+    REPORTED,
+    Step::Counts(357, 2, 0),
+    Step::Finish(End::Complete),
+    Step::HeldWithHeader(140, 350),
+    REPORTED,
+];
+
 #[test]
 fn a_line_too_long_by_steps(rt: HostRuntime) -> Result<(), Fail> {
-    let steps = [
-        Step::Feed(b"\n", Ok(())),
-        beside_header(140, 350),
-        reported(),
-        Step::Counts(357, 2, 0),
-        Step::Finish(End::Complete),
-        beside_header(140, 350),
-        reported(),
-    ];
-    let written = behind_long_line(&rt, rt.alloc(), &steps)?;
+    let written = behind_long_line(&rt, rt.alloc(), &LF_AND_END)?;
     check_bytes(&rt, &written, FIRST, "too long", 0);
     Ok(())
 }
 
 /// The end of the line is that of the stream, and it is reported then.
+const END: [Step; 4] = [
+    Step::Finish(End::Complete),
+    Step::HeldWithHeader(140, 350),
+    REPORTED,
+    Step::Counts(356, 2, 0),
+];
+
 #[test]
 fn a_last_line_too_long_by_steps(rt: HostRuntime) -> Result<(), Fail> {
-    let steps = [
-        Step::Finish(End::Complete),
-        beside_header(140, 350),
-        reported(),
-        Step::Counts(356, 2, 0),
-    ];
-    let written = behind_long_line(&rt, rt.alloc(), &steps)?;
+    let written = behind_long_line(&rt, rt.alloc(), &END)?;
     check_bytes(&rt, &written, FIRST, "too long at last", 0);
     Ok(())
 }
@@ -109,14 +100,14 @@ fn check_cut_line<'a>(
 ) -> Result<(), Fail> {
     let steps = [
         Step::Feed(header, Ok(())),
-        beside_header(240, 240),
-        silent(),
+        Step::HeldWithHeader(240, 240),
+        SILENT,
         Step::Feed(long, Ok(())),
-        beside_header(140, 350),
-        silent(),
+        Step::HeldWithHeader(140, 350),
+        SILENT,
         Step::Feed(b"\n", Ok(())),
-        beside_header(140, 350),
-        reported(),
+        Step::HeldWithHeader(140, 350),
+        REPORTED,
     ];
     let _ = written_within(rt, alloc, 64, &steps)?;
     Ok(())
@@ -140,12 +131,12 @@ fn after_long_line<'a>(
 ) -> Result<Vec<u8>, Fail> {
     let steps = [
         Step::Feed(front, Ok(())),
-        beside_header(340, 350),
-        reported(),
+        Step::HeldWithHeader(340, 350),
+        REPORTED,
         Step::Feed(rest, Ok(())),
         Step::Finish(End::Complete),
         Step::Held(held(140, 21, 0), held(350, 65, 8)),
-        reported(),
+        REPORTED,
     ];
     behind_long_line(rt, alloc, &steps)
 }

@@ -1,23 +1,15 @@
 //! What comes after a header, in pieces given to its reader of lines.
-use super::calls::{check_bytes, check_outcome};
+use super::cuts::{Kind, Row, USUAL_LINE, check_with};
 use super::states::{check_progress, feed_header, header_opened};
-use cj_budget::{Limits, Peaks};
+use cj_budget::Peaks;
 use cj_spans::Reason;
 use cj_stream::{
-    End, HeaderReader, LineReader, NoReports, Outcome, Query, ReportSink, WriteSink,
-    headline_of_lines,
+    End, HeaderReader, LineReader, Outcome, Query, ReportSink, WriteSink, headline_of_lines,
 };
-use cj_stream_samples::{HEADER, Reading, STREAM, THIRD_REFUSED, held, outcome, refused};
+use cj_stream_samples::{FEATURE, HEADER, Reading, STREAM, THIRD_REFUSED, held, outcome, refused};
 use std::alloc::Global;
 use std::process::Abort;
 use std::test::Fail;
-
-/// The expected result of the pieces after a header.
-#[derive(Clone, Copy)]
-struct Behind<'a> {
-    written: &'a [u8],
-    outcome: Outcome,
-}
 
 /// Returns what a reader of lines counted of a stream that ended like this.
 fn told(lines: &LineReader, peaks: Peaks, ended: End) -> Outcome {
@@ -65,45 +57,35 @@ pub fn given_behind<N: ReportSink>(
     Ok(given_lines(rt, header, rest, at, sink, reports))
 }
 
-/// Copies what comes after the header, cut in two at this place.
-fn check_cut(
-    rt: &impl Abort,
-    alloc: Global,
-    rest: &[u8],
-    at: usize,
-    wanted: &Behind,
-) -> Result<(), Fail> {
-    let query = Query::all(alloc);
-    let mut sink = WriteSink::new(Vec::new(alloc));
-    let reading = Reading::usual(Limits::usual(), &query);
-    let told = given_behind(rt, alloc, rest, at, &mut sink, &mut NoReports, &reading)?;
-    check_outcome(rt, told, wanted.outcome, "behind", at as u64);
-    check_bytes(rt, &sink.into_inner(), wanted.written, "behind", at as u64);
-    Ok(())
-}
-
-/// Cuts it at each place.
-fn check_cuts(rt: &impl Abort, alloc: Global, rest: &[u8], wanted: &Behind) -> Result<(), Fail> {
-    for at in 0..rest.len() {
-        check_cut(rt, alloc, rest, at, wanted)?;
-    }
-    Ok(())
+/// Checks what comes after a header.
+pub fn check_rest(rt: &impl Abort, alloc: Global, row: &Row) -> Result<(), Fail> {
+    check_with(rt, alloc, row, &Query::all(alloc), Kind::Rest)
 }
 
 #[test]
 fn a_feature_behind_a_header(rt: HostRuntime) -> Result<(), Fail> {
-    let wanted = Behind {
-        written: STREAM,
+    let row = Row {
+        name: "a feature behind a header",
+        text: &[FEATURE, b"\n"],
+        line_limit: USUAL_LINE,
+        goes_on: false,
+        written: &[STREAM],
+        reports: "",
         outcome: outcome(2, 1, held(350, 65, 8), End::Complete),
     };
-    check_cuts(&rt, rt.alloc(), &STREAM[141..], &wanted)
+    check_rest(&rt, rt.alloc(), &row)
 }
 
 #[test]
 fn a_refused_line_behind_a_header(rt: HostRuntime) -> Result<(), Fail> {
-    let wanted = Behind {
-        written: STREAM,
+    let row = Row {
+        name: "a refused line behind a header",
+        text: &[&THIRD_REFUSED[141..]],
+        line_limit: USUAL_LINE,
+        goes_on: false,
+        written: &[STREAM],
+        reports: "",
         outcome: outcome(2, 1, held(350, 65, 8), refused(3, 144, Reason::VertexIndex)),
     };
-    check_cuts(&rt, rt.alloc(), &THIRD_REFUSED[141..], &wanted)
+    check_rest(&rt, rt.alloc(), &row)
 }

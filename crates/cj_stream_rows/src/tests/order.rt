@@ -7,19 +7,29 @@ use std::alloc::Global;
 use std::process::Abort;
 use std::test::Fail;
 
-/// Runs over a header and a line that is invalid in this way, by single bytes.
-fn check_fault(
-    rt: &impl Abort,
-    alloc: Global,
-    line: &[u8],
-    limits: Limits,
+/// A line with several faults, its limits, and the byte and the reason of the fault that counts.
+#[derive(Clone, Copy)]
+struct Row<'a> {
+    line: &'a [u8],
+    limits: (u64, u64),
     place: u64,
     reason: Reason,
-) -> Result<(), Fail> {
-    let text = joined(alloc, &[FIRST, line, b"\n"])?;
+}
+
+/// Runs over a header and the line of a row, by single bytes.
+fn check_row(rt: &impl Abort, alloc: Global, row: &Row) -> Result<(), Fail> {
+    let text = joined(alloc, &[FIRST, row.line, b"\n"])?;
+    let limits = Limits::new(row.limits.0, row.limits.1)?;
     let (outcome, _) = copied(alloc, &mut SlowReader::new(&text, 1), limits);
-    let wanted = refused(2, place, reason);
-    check_ended(rt, outcome.ended, wanted, "first fault", place);
+    let wanted = refused(2, row.place, row.reason);
+    check_ended(rt, outcome.ended, wanted, "first fault", row.place);
+    Ok(())
+}
+
+fn check_rows(rt: &impl Abort, alloc: Global, rows: &[Row]) -> Result<(), Fail> {
+    for row in rows {
+        check_row(rt, alloc, row)?;
+    }
     Ok(())
 }
 
@@ -31,27 +41,69 @@ const SPACES: [u8; 141] = [b' '; 141];
 
 #[test]
 fn the_length_comes_first(rt: HostRuntime) -> Result<(), Fail> {
-    let limits = Limits::new(140, 64)?;
-    check_fault(&rt, rt.alloc(), &NO_TEXT, limits, 140, Reason::LineTooLong)?;
-    check_fault(&rt, rt.alloc(), &SPACES, limits, 140, Reason::LineTooLong)?;
-    check_fault(&rt, rt.alloc(), &NO_TEXT[..140], limits, 0, Reason::NotUtf8)
+    let row = Row {
+        line: &NO_TEXT,
+        limits: (140, 64),
+        place: 140,
+        reason: Reason::LineTooLong,
+    };
+    let spaces = Row {
+        line: &SPACES,
+        ..row
+    };
+    let that_fits = Row {
+        line: &NO_TEXT[..140],
+        place: 0,
+        reason: Reason::NotUtf8,
+        ..row
+    };
+    check_rows(&rt, rt.alloc(), &[row, spaces, that_fits])
 }
+
+/// Bytes that are not UTF-8, in lines that are not what a feature has to be.
+const BYTES: [Row; 2] = [
+    Row {
+        line: b"[]\xff",
+        limits: (8_388_608, 64),
+        place: 2,
+        reason: Reason::NotUtf8,
+    },
+    Row {
+        line: b" \xff",
+        limits: (8_388_608, 64),
+        place: 1,
+        reason: Reason::NotUtf8,
+    },
+];
 
 #[test]
 fn bytes_come_before_the_text(rt: HostRuntime) -> Result<(), Fail> {
-    let limits = Limits::usual();
-    check_fault(&rt, rt.alloc(), b"[]\xff", limits, 2, Reason::NotUtf8)?;
-    check_fault(&rt, rt.alloc(), b" \xff", limits, 1, Reason::NotUtf8)
+    check_rows(&rt, rt.alloc(), &BYTES)
 }
 
 /// The type, a number, is before both faults of the text.
+const TEXTS: [Row; 3] = [
+    Row {
+        line: b"{\"type\":3,}",
+        limits: (8_388_608, 3),
+        place: 10,
+        reason: Reason::Syntax,
+    },
+    Row {
+        line: b"{\"type\":3,\"a\":[[[",
+        limits: (8_388_608, 3),
+        place: 16,
+        reason: Reason::TooDeep,
+    },
+    Row {
+        line: b"{\"type\":3,\"a\":[[]]}",
+        limits: (8_388_608, 3),
+        place: 0,
+        reason: Reason::MissingMember,
+    },
+];
+
 #[test]
 fn the_text_comes_before_what_it_says(rt: HostRuntime) -> Result<(), Fail> {
-    let limits = Limits::new(8_388_608, 3)?;
-    let line = b"{\"type\":3,}";
-    check_fault(&rt, rt.alloc(), line, limits, 10, Reason::Syntax)?;
-    let line = b"{\"type\":3,\"a\":[[[";
-    check_fault(&rt, rt.alloc(), line, limits, 16, Reason::TooDeep)?;
-    let line = b"{\"type\":3,\"a\":[[]]}";
-    check_fault(&rt, rt.alloc(), line, limits, 0, Reason::MissingMember)
+    check_rows(&rt, rt.alloc(), &TEXTS)
 }

@@ -1,32 +1,38 @@
 //! What is reported of invalid lines if reading goes on after them. It has a sink that notes each
 //! report, the sink that counts, and cases without any report.
 use super::calls::{check_bytes, check_ended, check_notes, check_number};
+use super::reads::ran_within;
 use super::steps::{Opening, Step, check_steps, written_by_steps};
 use cj_budget::Limits;
 use cj_spans::Reason;
-use cj_stream::{
-    CountReports, End, Options, Outcome, Output, Query, Report, ReportSink, WriteSink, run_within,
-};
+use cj_stream::{CountReports, End, Options, Outcome, Output, Query, WriteSink};
 use cj_stream_samples::{
     BEYOND, FEATURE, FIRST, NoteReports, Reading, SlowReader, SlowWriter, going, joined, outcome,
     ran, refused, written_by,
 };
-use std::alloc::{AllocError, Global};
+use std::alloc::Global;
 use std::process::Abort;
 use std::test::Fail;
 
 // ---- counts
 
-/// Runs over a text, going on. Returns how many reports were counted, from this number on.
+/// Returns how a stream is read that goes on after invalid lines.
+fn going_within(limits: Limits, query: &Query) -> Reading<'_> {
+    Reading {
+        limits,
+        query,
+        options: going(),
+    }
+}
+
+/// Runs over a text, going on. Returns the outcome, and how many reports were counted, from this
+/// number on.
 fn counted(alloc: Global, text: &[u8], from: u64) -> Result<(Outcome, u64), Fail> {
     let mut reports = CountReports { reports: from };
     let mut sink = WriteSink::new(Vec::new(alloc));
     let mut reader = SlowReader::new(text, 100);
-    let reading = Reading {
-        limits: Limits::new(1_000, 64)?,
-        query: &Query::all(alloc),
-        options: going(),
-    };
+    let query = Query::all(alloc);
+    let reading = going_within(Limits::new(1_000, 64)?, &query);
     let outcome = ran(alloc, &mut reader, &mut sink, &mut reports, &reading);
     Ok((outcome, reports.reports))
 }
@@ -41,13 +47,21 @@ fn check_counted(rt: &impl Abort, alloc: Global, from: u64, wanted: u64) -> Resu
     Ok(())
 }
 
-/// The count stops at the greatest number.
+/// From which number on two reports are counted, and up to which. The count stops at the greatest
+/// number.
+const COUNTS: [(u64, u64); 4] = [
+    (0, 2),
+    (18_446_744_073_709_551_613, u64::MAX),
+    (18_446_744_073_709_551_614, u64::MAX),
+    (u64::MAX, u64::MAX),
+];
+
 #[test]
 fn a_sink_counts_reports(rt: HostRuntime) -> Result<(), Fail> {
-    check_counted(&rt, rt.alloc(), 0, 2)?;
-    check_counted(&rt, rt.alloc(), 18_446_744_073_709_551_613, u64::MAX)?;
-    check_counted(&rt, rt.alloc(), 18_446_744_073_709_551_614, u64::MAX)?;
-    check_counted(&rt, rt.alloc(), u64::MAX, u64::MAX)
+    for (from, wanted) in &COUNTS {
+        check_counted(&rt, rt.alloc(), *from, *wanted)?;
+    }
+    Ok(())
 }
 
 #[test]
@@ -59,16 +73,10 @@ fn options_are_set_by_name(rt: HostRuntime) {
 
 // ---- a read fails, or there are no reads left
 
-/// Returns a stream whose third line has begun. It is too long already, or would be invalid at its
-/// end.
-fn begun(alloc: Global, line: &[u8]) -> Result<Vec<u8>, Fail> {
-    Ok(joined(alloc, &[FIRST, b"{}\n", line])?)
-}
-
 /// Compares a run up to the third line, which is not reported.
 fn check_unreported(
     rt: &impl Abort,
-    outcome: Outcome,
+    outcome: &Outcome,
     reports: &NoteReports,
     wanted: End,
     row: &str,
@@ -80,39 +88,31 @@ fn check_unreported(
 }
 
 /// Runs over a text that one read gives whole. The read after it fails.
-fn check_read_fault(rt: &impl Abort, alloc: Global, line: &[u8]) -> Result<(), Fail> {
-    let text = begun(alloc, line)?;
-    let mut reader = SlowReader::new(&text, 1_000);
+fn check_read_fault(rt: &impl Abort, alloc: Global, text: &[u8], reading: &Reading) {
+    let mut reader = SlowReader::new(text, 1_000);
     reader.fails_at = 2;
     let mut sink = WriteSink::new(Vec::new(alloc));
     let mut reports = NoteReports::new(alloc);
-    let reading = Reading {
-        limits: Limits::new(210, 64)?,
-        query: &Query::all(alloc),
-        options: going(),
-    };
-    let outcome = ran(alloc, &mut reader, &mut sink, &mut reports, &reading);
-    check_unreported(rt, outcome, &reports, End::ReadFault, "read fault");
-    Ok(())
+    let outcome = ran(alloc, &mut reader, &mut sink, &mut reports, reading);
+    check_unreported(rt, &outcome, &reports, End::ReadFault, "read fault");
 }
 
 /// Runs over a text with one read, which is the last.
-fn check_read_limit(rt: &impl Abort, alloc: Global, line: &[u8]) -> Result<(), Fail> {
-    let text = begun(alloc, line)?;
-    let mut reader = SlowReader::new(&text, 1_000);
-    let mut sink = WriteSink::new(Vec::new(alloc));
+fn check_read_limit(rt: &impl Abort, alloc: Global, text: &[u8], reading: &Reading) {
+    let mut reader = SlowReader::new(text, 1_000);
     let mut reports = NoteReports::new(alloc);
-    let outcome = run_within(
-        alloc,
-        &mut reader,
-        &mut sink,
-        &mut reports,
-        Limits::new(210, 64)?,
-        &Query::all(alloc),
-        going(),
-        1,
-    );
-    check_unreported(rt, outcome, &reports, End::ReadLimit, "read limit");
+    let (outcome, _) = ran_within(rt, alloc, &mut reader, &mut reports, reading, 1);
+    check_unreported(rt, &outcome, &reports, End::ReadLimit, "read limit");
+}
+
+/// Runs over a stream whose third line has begun. It is too long already, or would be invalid at
+/// its end.
+fn check_begun(rt: &impl Abort, alloc: Global, line: &[u8]) -> Result<(), Fail> {
+    let text = joined(alloc, &[FIRST, b"{}\n", line])?;
+    let query = Query::all(alloc);
+    let reading = going_within(Limits::new(210, 64)?, &query);
+    check_read_fault(rt, alloc, &text, &reading);
+    check_read_limit(rt, alloc, &text, &reading);
     Ok(())
 }
 
@@ -121,9 +121,8 @@ const LONG: [u8; 215] = [b'x'; 215];
 
 #[test]
 fn a_begun_line_is_not_reported(rt: HostRuntime) -> Result<(), Fail> {
-    for line in [b"".as_slice(), b"3", b"x", b"\xff", &LONG] {
-        check_read_fault(&rt, rt.alloc(), line)?;
-        check_read_limit(&rt, rt.alloc(), line)?;
+    for line in &[b"".as_slice(), b"3", b"x", b"\xff", &LONG] {
+        check_begun(&rt, rt.alloc(), line)?;
     }
     Ok(())
 }
@@ -189,38 +188,68 @@ fn a_write_fault_after_reports(rt: HostRuntime) -> Result<(), Fail> {
 
 // ---- the first line
 
+/// A text with an invalid first line, in parts, the line limit, and the byte and the reason of the end.
+#[derive(Clone, Copy)]
+struct First<'a> {
+    text: &'a [&'a [u8]],
+    line_limit: u64,
+    place: u64,
+    reason: Reason,
+}
+
 /// Gives a text with an invalid first line to an engine that goes on.
-fn check_first(
-    rt: &impl Abort,
-    alloc: Global,
-    text: &[u8],
-    line: u64,
-    end: End,
-) -> Result<(), Fail> {
+fn check_first(rt: &impl Abort, alloc: Global, row: &First) -> Result<(), Fail> {
+    let text = joined(alloc, row.text)?;
+    let end = refused(1, row.place, row.reason);
     let steps = [
-        Step::Feed(text, Err(end)),
+        Step::Feed(&text, Err(end)),
         Step::Again(b"{}\n3\n", end),
         Step::Again(b"\n", end),
         Step::Reported(0, ""),
         Step::Counts(0, 0, 0),
     ];
-    let opening = Opening { line, ..opening() };
+    let opening = Opening {
+        line: row.line_limit,
+        ..opening()
+    };
     let written = written_by_steps(rt, alloc, &opening, &steps)?;
-    check_bytes(rt, &written, b"", "a first line", line);
+    check_bytes(rt, &written, b"", "a first line", row.place);
     Ok(())
 }
 
+const INVALID_FIRST_LINES: [First; 4] = [
+    First {
+        text: &[FIRST, b"{}\n"],
+        line_limit: 139,
+        place: 139,
+        reason: Reason::LineTooLong,
+    },
+    First {
+        text: &[b"3\n{}\n"],
+        line_limit: 1_000,
+        place: 0,
+        reason: Reason::WrongKind,
+    },
+    First {
+        text: &[b"\n{}\n"],
+        line_limit: 1_000,
+        place: 0,
+        reason: Reason::Syntax,
+    },
+    First {
+        text: &[b"3\xff\n{}\n"],
+        line_limit: 1_000,
+        place: 1,
+        reason: Reason::NotUtf8,
+    },
+];
+
 #[test]
 fn a_refused_first_line_is_not_reported(rt: HostRuntime) -> Result<(), Fail> {
-    let text = joined(rt.alloc(), &[FIRST, b"{}\n"])?;
-    let end = refused(1, 139, Reason::LineTooLong);
-    check_first(&rt, rt.alloc(), &text, 139, end)?;
-    let end = refused(1, 0, Reason::WrongKind);
-    check_first(&rt, rt.alloc(), b"3\n{}\n", 1_000, end)?;
-    let end = refused(1, 0, Reason::Syntax);
-    check_first(&rt, rt.alloc(), b"\n{}\n", 1_000, end)?;
-    let end = refused(1, 1, Reason::NotUtf8);
-    check_first(&rt, rt.alloc(), b"3\xff\n{}\n", 1_000, end)
+    for row in &INVALID_FIRST_LINES {
+        check_first(&rt, rt.alloc(), row)?;
+    }
+    Ok(())
 }
 
 #[test]
@@ -257,11 +286,8 @@ fn the_first_refused_line_is_the_usual_end(rt: HostRuntime) -> Result<(), Fail> 
 
 /// Runs over a text with two invalid lines, and ignores reports. Returns what is written.
 fn written_unread(rt: &impl Abort, alloc: Global, text: &[u8]) -> Result<Vec<u8>, Fail> {
-    let reading = Reading {
-        limits: Limits::new(1_000, 64)?,
-        query: &Query::all(alloc),
-        options: going(),
-    };
+    let query = Query::all(alloc);
+    let reading = going_within(Limits::new(1_000, 64)?, &query);
     let (outcome, written) = written_by(alloc, &mut SlowReader::new(text, 100), &reading);
     check_ended(rt, outcome.ended, End::Complete, "no one reads", 0);
     check_number(rt, outcome.refused, 2, "refused", 0);

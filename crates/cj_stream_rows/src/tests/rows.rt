@@ -1,11 +1,12 @@
 //! Worked examples: inputs, what is written of them, and how they end.
-use super::calls::{check_bytes, check_ended, check_number, check_outcome};
+use super::calls::{check_bytes, check_ended, check_joined, check_number, check_outcome};
+use super::cuts::{Row, USUAL_LINE, check};
 use cj_budget::{Limits, Peaks};
 use cj_spans::Reason;
-use cj_stream::{CountReports, End, NoReports, Outcome, Query, WriteSink, laws, row_laws};
+use cj_stream::{End, NoReports, Outcome, laws, row_laws};
 use cj_stream_samples::{
-    BEYOND, FEATURE, FIRST, HEADER, Reading, SMALL, STREAM, SlowReader, THIRD_REFUSED, copied,
-    given, held, joined, outcome, refused,
+    BEYOND, FEATURE, FIRST, HEADER, SMALL, STREAM, SlowReader, THIRD_REFUSED, copied, held, joined,
+    outcome, refused,
 };
 use std::alloc::Global;
 use std::process::Abort;
@@ -38,109 +39,41 @@ pub fn check_run(
     check_bytes(rt, &written, wanted.written, wanted.name, step as u64);
 }
 
-/// Copies the stream, cut in two at this place.
-fn check_cut(
-    rt: &impl Abort,
-    alloc: Global,
-    text: &[u8],
-    at: usize,
-    limits: Limits,
-    wanted: &Wanted,
-) -> Result<(), Fail> {
-    let query = Query::all(alloc);
-    let mut sink = WriteSink::new(Vec::new(alloc));
-    let mut reports = CountReports { reports: 0 };
-    let reading = Reading::usual(limits, &query);
-    let told = given(alloc, text, at, &mut sink, &mut reports, &reading)?;
-    check_number(rt, reports.reports, 0, wanted.name, at as u64);
-    check_outcome(rt, told, wanted.outcome, wanted.name, at as u64);
-    let written = sink.into_inner();
-    check_bytes(rt, &written, wanted.written, wanted.name, at as u64);
-    Ok(())
-}
-
-/// Copies the stream, cut in two at each place.
-fn check_cuts(
-    rt: &impl Abort,
-    alloc: Global,
-    text: &[u8],
-    limits: Limits,
-    wanted: &Wanted,
-) -> Result<(), Fail> {
-    for at in 0..text.len() {
-        check_cut(rt, alloc, text, at, limits, wanted)?;
-    }
-    Ok(())
-}
-
-fn check_every_cut(
-    rt: &impl Abort,
-    alloc: Global,
-    text: &[u8],
-    limits: Limits,
-    wanted: &Wanted,
-) -> Result<(), Fail> {
-    check_run(rt, alloc, text, 8_192, limits, wanted);
-    check_run(rt, alloc, text, 1, limits, wanted);
-    check_cuts(rt, alloc, text, limits, wanted)
-}
-
-/// A stream and what is written of it, each in parts, and how it is read and goes.
-#[derive(Clone, Copy)]
-struct Row<'a> {
-    name: &'a str,
-    text: &'a [&'a [u8]],
-    limits: Limits,
-    written: &'a [&'a [u8]],
-    outcome: Outcome,
-}
-
-/// Checks a row in every way.
-fn check_row(rt: &impl Abort, alloc: Global, row: &Row) -> Result<(), Fail> {
-    let text = joined(alloc, row.text)?;
-    let written = joined(alloc, row.written)?;
-    let wanted = Wanted {
-        name: row.name,
-        written: &written,
-        outcome: row.outcome,
-    };
-    check_every_cut(rt, alloc, &text, row.limits, &wanted)
-}
-
 /// Compares a text with its parts.
 fn check_text(rt: &impl Abort, alloc: Global, text: &[u8], parts: &[&[u8]]) -> Result<(), Fail> {
-    check_bytes(
-        rt,
-        text,
-        &joined(alloc, parts)?,
-        "a text",
-        text.len() as u64,
-    );
-    Ok(())
+    let length = text.len() as u64;
+    check_joined(rt, alloc, text, parts, "a text", length)
 }
+
+/// Texts with their parts.
+const TEXTS: [(&[u8], &[&[u8]]); 3] = [
+    (FIRST, &[HEADER, b"\n"]),
+    (STREAM, &[FIRST, FEATURE, b"\n"]),
+    (THIRD_REFUSED, &[STREAM, BEYOND, b"\n", FEATURE, b"\n"]),
+];
 
 #[test]
 fn texts_have_their_parts(rt: HostRuntime) -> Result<(), Fail> {
-    let beyond = [&FEATURE[..144], b"4", &FEATURE[145..]];
-    check_text(&rt, rt.alloc(), BEYOND, &beyond)?;
-    check_text(&rt, rt.alloc(), FIRST, &[HEADER, b"\n"])?;
-    check_text(&rt, rt.alloc(), STREAM, &[FIRST, FEATURE, b"\n"])?;
-    let third = [STREAM, BEYOND, b"\n", FEATURE, b"\n"];
-    check_text(&rt, rt.alloc(), THIRD_REFUSED, &third)?;
-    for (text, length) in [(HEADER, 140), (FEATURE, 210), (SMALL, 89)] {
-        check_number(&rt, text.len() as u64, length, "bytes", length);
+    for (text, parts) in &TEXTS {
+        check_text(&rt, rt.alloc(), text, parts)?;
     }
-    Ok(())
+    let beyond = [&FEATURE[..144], b"4", &FEATURE[145..]];
+    check_text(&rt, rt.alloc(), BEYOND, &beyond)
 }
 
+/// Texts with their lengths.
+const LENGTHS: [(&[u8], u64); 3] = [(HEADER, 140), (FEATURE, 210), (SMALL, 89)];
+
 #[test]
-fn no_line_at_all(rt: HostRuntime) -> Result<(), Fail> {
-    let wanted = Wanted {
-        name: "empty",
-        written: b"",
-        outcome: outcome(0, 0, held(0, 0, 0), refused(1, 0, Reason::NoHeader)),
-    };
-    check_every_cut(&rt, rt.alloc(), b"", Limits::usual(), &wanted)?;
+fn texts_have_their_lengths(rt: HostRuntime) {
+    for (text, length) in &LENGTHS {
+        check_number(&rt, text.len() as u64, *length, "bytes", *length);
+    }
+}
+
+/// Calls the functions whose clauses are laws of lines and of sinks.
+#[test]
+fn laws_are_called() {
     laws::lines_are_the_lines(b"");
     laws::good_lines_are_the_longest(b"");
     laws::good_lines_are_all_or_none();
@@ -149,6 +82,11 @@ fn no_line_at_all(rt: HostRuntime) -> Result<(), Fail> {
     laws::puts_are_counted();
     laws::puts_are_tallied();
     laws::puts_are_written::<Vec<u8>, NoReports>();
+}
+
+/// Calls the functions whose clauses are worked rows.
+#[test]
+fn laws_of_rows_are_called() {
     row_laws::rows_compute();
     row_laws::boxes_compute();
     row_laws::bounds_compute();
@@ -156,98 +94,101 @@ fn no_line_at_all(rt: HostRuntime) -> Result<(), Fail> {
     row_laws::ends_compute();
     row_laws::lines_compute();
     row_laws::queries_compute();
-    Ok(())
+}
+
+/// Checks a row that is read by the usual limits, up to the first invalid line.
+fn check_usual(
+    rt: &impl Abort,
+    alloc: Global,
+    text: &[&[u8]],
+    written: &[&[u8]],
+    outcome: Outcome,
+) -> Result<(), Fail> {
+    let row = Row {
+        name: "by the usual limits",
+        text,
+        line_limit: USUAL_LINE,
+        goes_on: false,
+        written,
+        reports: "",
+        outcome,
+    };
+    check(rt, alloc, &row)
+}
+
+#[test]
+fn no_line_at_all(rt: HostRuntime) -> Result<(), Fail> {
+    let wanted = outcome(0, 0, held(0, 0, 0), refused(1, 0, Reason::NoHeader));
+    check_usual(&rt, rt.alloc(), &[], &[], wanted)
 }
 
 #[test]
 fn a_header_and_a_feature(rt: HostRuntime) -> Result<(), Fail> {
-    let wanted = Wanted {
-        name: "header and feature",
-        written: STREAM,
-        outcome: outcome(2, 1, held(350, 65, 8), End::Complete),
-    };
-    check_every_cut(&rt, rt.alloc(), STREAM, Limits::usual(), &wanted)
+    let wanted = outcome(2, 1, held(350, 65, 8), End::Complete);
+    check_usual(&rt, rt.alloc(), &[STREAM], &[STREAM], wanted)
 }
 
 #[test]
 fn a_blank_line_and_no_last_lf(rt: HostRuntime) -> Result<(), Fail> {
-    let row = Row {
-        name: "blank line",
-        text: &[HEADER, b"\n\r\n", SPACED],
-        limits: Limits::usual(),
-        written: &[HEADER, b"\n", SPACED],
-        outcome: outcome(3, 1, held(351, 65, 8), End::Complete),
-    };
-    check_row(&rt, rt.alloc(), &row)
+    let text = [HEADER, b"\n\r\n", SPACED];
+    let written = [HEADER, b"\n", SPACED];
+    let wanted = outcome(3, 1, held(351, 65, 8), End::Complete);
+    check_usual(&rt, rt.alloc(), &text, &written, wanted)
 }
 
 #[test]
 fn a_line_one_byte_too_long(rt: HostRuntime) -> Result<(), Fail> {
+    let text = [STREAM, FEATURE, b" ", b"\n"];
     let with_lf = Row {
         name: "too long",
-        text: &[STREAM, FEATURE, b" \n"],
-        limits: Limits::new(210, 64)?,
+        text: &text,
+        line_limit: 210,
+        goes_on: false,
         written: &[STREAM],
+        reports: "",
         outcome: outcome(2, 1, held(350, 65, 8), refused(3, 210, Reason::LineTooLong)),
     };
-    check_row(&rt, rt.alloc(), &with_lf)?;
+    check(&rt, rt.alloc(), &with_lf)?;
     let without = Row {
-        text: &[STREAM, FEATURE, b" "],
+        text: &text[..3],
         ..with_lf
     };
-    check_row(&rt, rt.alloc(), &without)
+    check(&rt, rt.alloc(), &without)
 }
 
 #[test]
 fn the_greatest_of_later_lines_counts(rt: HostRuntime) -> Result<(), Fail> {
     let text = [FIRST, SMALL, b"\n", FEATURE, b"\n"];
-    let row = Row {
-        name: "two features",
-        text: &text,
-        limits: Limits::usual(),
-        written: &text,
-        outcome: outcome(3, 2, held(350, 65, 8), End::Complete),
-    };
-    check_row(&rt, rt.alloc(), &row)
+    let wanted = outcome(3, 2, held(350, 65, 8), End::Complete);
+    check_usual(&rt, rt.alloc(), &text, &text, wanted)
 }
 
 #[test]
 fn a_header_alone_without_lf(rt: HostRuntime) -> Result<(), Fail> {
-    let wanted = Wanted {
-        name: "a header alone",
-        written: HEADER,
-        outcome: outcome(1, 0, held(140, 21, 3), End::Complete),
-    };
-    check_every_cut(&rt, rt.alloc(), HEADER, Limits::usual(), &wanted)
+    let wanted = outcome(1, 0, held(140, 21, 3), End::Complete);
+    check_usual(&rt, rt.alloc(), &[HEADER], &[HEADER], wanted)
 }
 
-/// Where and why a line after the header is invalid, and the peaks of both lines.
+/// How a line after the header is invalid: where and why, and the peaks of both lines.
 #[derive(Clone, Copy)]
-struct Refusal {
+struct Refusal<'a> {
+    line: &'a [u8],
+    depth: u64,
     place: u64,
     reason: Reason,
     peaks: Peaks,
 }
 
 /// Runs over a header and an invalid line.
-fn check_refused(
-    rt: &impl Abort,
-    alloc: Global,
-    line: &[u8],
-    limits: Limits,
-    refusal: Refusal,
-) -> Result<(), Fail> {
-    let text = joined(alloc, &[FIRST, line, b"\n"])?;
+fn check_refused(rt: &impl Abort, alloc: Global, refusal: &Refusal) -> Result<(), Fail> {
+    let text = joined(alloc, &[FIRST, refusal.line, b"\n"])?;
+    let ended = refused(2, refusal.place, refusal.reason);
     let wanted = Wanted {
         name: "refused",
         written: FIRST,
-        outcome: outcome(
-            1,
-            0,
-            refusal.peaks,
-            refused(2, refusal.place, refusal.reason),
-        ),
+        outcome: outcome(1, 0, refusal.peaks, ended),
     };
+    let limits = Limits::new(USUAL_LINE, refusal.depth)?;
     check_run(rt, alloc, &text, 8_192, limits, &wanted);
     check_run(rt, alloc, &text, 1, limits, &wanted);
     Ok(())
@@ -255,35 +196,39 @@ fn check_refused(
 
 #[test]
 fn a_comma_before_a_brace(rt: HostRuntime) -> Result<(), Fail> {
-    let line = b"{\"type\":\"CityJSONFeature\",}";
     let refusal = Refusal {
+        line: b"{\"type\":\"CityJSONFeature\",}",
+        depth: 64,
         place: 26,
         reason: Reason::Syntax,
         peaks: held(167, 24, 3),
     };
-    check_refused(&rt, rt.alloc(), line, Limits::usual(), refusal)
+    check_refused(&rt, rt.alloc(), &refusal)
 }
 
 /// The line is cut within the value of the geometry's type. 15 values and names come before it.
 #[test]
 fn a_feature_cut_short(rt: HostRuntime) -> Result<(), Fail> {
     let refusal = Refusal {
+        line: &FEATURE[..100],
+        depth: 64,
         place: 100,
         reason: Reason::Syntax,
         peaks: held(240, 36, 5),
     };
-    let limits = Limits::usual();
-    check_refused(&rt, rt.alloc(), &FEATURE[..100], limits, refusal)
+    check_refused(&rt, rt.alloc(), &refusal)
 }
 
 #[test]
 fn bytes_before_syntax(rt: HostRuntime) -> Result<(), Fail> {
     let refusal = Refusal {
+        line: b"}\xff",
+        depth: 64,
         place: 1,
         reason: Reason::NotUtf8,
         peaks: held(142, 21, 3),
     };
-    check_refused(&rt, rt.alloc(), b"}\xff", Limits::usual(), refusal)
+    check_refused(&rt, rt.alloc(), &refusal)
 }
 
 /// Runs by single bytes over a header and a line that is no JSON text from a place on.
@@ -296,15 +241,23 @@ pub fn check_place(rt: &impl Abort, alloc: Global, line: &[u8], place: u64) -> R
     Ok(())
 }
 
+/// Lines, and from which byte on they are no JSON text.
+const PLACES: [(&[u8], u64); 7] = [
+    (b"01", 1),
+    (b"-", 1),
+    (b"[1,]", 3),
+    (b"\"\\q\"", 2),
+    (b"tru}", 3),
+    (b"{} x", 3),
+    (b"[1", 2),
+];
+
 #[test]
 fn places_of_syntax(rt: HostRuntime) -> Result<(), Fail> {
-    check_place(&rt, rt.alloc(), b"01", 1)?;
-    check_place(&rt, rt.alloc(), b"-", 1)?;
-    check_place(&rt, rt.alloc(), b"[1,]", 3)?;
-    check_place(&rt, rt.alloc(), b"\"\\q\"", 2)?;
-    check_place(&rt, rt.alloc(), b"tru}", 3)?;
-    check_place(&rt, rt.alloc(), b"{} x", 3)?;
-    check_place(&rt, rt.alloc(), b"[1", 2)
+    for (line, place) in &PLACES {
+        check_place(&rt, rt.alloc(), line, *place)?;
+    }
+    Ok(())
 }
 
 /// Runs over a text whose first line is no JSON text from its first byte on.
@@ -336,33 +289,37 @@ const BRACKETS: [u8; 1_025] = [b'['; 1_025];
 #[test]
 fn brackets_past_the_greatest_depth_limit(rt: HostRuntime) -> Result<(), Fail> {
     let refusal = Refusal {
+        line: &BRACKETS,
+        depth: 1_024,
         place: 1_024,
         reason: Reason::TooDeep,
         peaks: held(1_165, 1_045, 1_024),
     };
-    let limits = Limits::new(8_388_608, 1_024)?;
-    check_refused(&rt, rt.alloc(), &BRACKETS, limits, refusal)
+    check_refused(&rt, rt.alloc(), &refusal)
 }
 
 #[test]
 fn brackets_up_to_the_greatest_depth_limit(rt: HostRuntime) -> Result<(), Fail> {
     let refusal = Refusal {
+        line: &BRACKETS[..1_024],
+        depth: 1_024,
         place: 1_024,
         reason: Reason::Syntax,
         peaks: held(1_164, 1_045, 1_024),
     };
-    let limits = Limits::new(8_388_608, 1_024)?;
-    check_refused(&rt, rt.alloc(), &BRACKETS[..1_024], limits, refusal)
+    check_refused(&rt, rt.alloc(), &refusal)
 }
 
 #[test]
 fn brackets_past_the_usual_depth_limit(rt: HostRuntime) -> Result<(), Fail> {
     let refusal = Refusal {
+        line: &BRACKETS,
+        depth: 64,
         place: 64,
         reason: Reason::TooDeep,
         peaks: held(1_165, 85, 64),
     };
-    check_refused(&rt, rt.alloc(), &BRACKETS, Limits::usual(), refusal)
+    check_refused(&rt, rt.alloc(), &refusal)
 }
 
 /// Returns the feature with an attribute of this text, in parts. The text begins at byte 170, and
@@ -376,14 +333,8 @@ pub fn attributed(text: &[u8]) -> [&[u8]; 5] {
 fn a_character_of_three_bytes(rt: HostRuntime) -> Result<(), Fail> {
     let [front, name, value, end, back] = attributed(b"\xe2\x82\xac");
     let text = [FIRST, front, name, value, end, back, b"\n"];
-    let row = Row {
-        name: "three bytes",
-        text: &text,
-        limits: Limits::usual(),
-        written: &text,
-        outcome: outcome(2, 1, held(375, 69, 8), End::Complete),
-    };
-    check_row(&rt, rt.alloc(), &row)
+    let wanted = outcome(2, 1, held(375, 69, 8), End::Complete);
+    check_usual(&rt, rt.alloc(), &text, &text, wanted)
 }
 
 /// Runs over a header and a line whose character at byte 170 is cut short.
@@ -393,14 +344,9 @@ fn check_cut_character(
     text: &[&[u8]],
     bytes: u64,
 ) -> Result<(), Fail> {
-    let row = Row {
-        name: "two of three bytes",
-        text,
-        limits: Limits::usual(),
-        written: &[FIRST],
-        outcome: outcome(1, 0, held(bytes, 21, 3), refused(2, 170, Reason::NotUtf8)),
-    };
-    check_row(rt, alloc, &row)
+    let ended = refused(2, 170, Reason::NotUtf8);
+    let wanted = outcome(1, 0, held(bytes, 21, 3), ended);
+    check_usual(rt, alloc, text, &[FIRST], wanted)
 }
 
 #[test]
@@ -414,15 +360,12 @@ fn two_bytes_of_a_character(rt: HostRuntime) -> Result<(), Fail> {
 
 #[test]
 fn nothing_is_judged_after_a_refused_line(rt: HostRuntime) -> Result<(), Fail> {
-    let wanted = Wanted {
-        name: "after a refused line",
-        written: STREAM,
-        outcome: outcome(2, 1, held(350, 65, 8), refused(3, 144, Reason::VertexIndex)),
-    };
-    check_every_cut(&rt, rt.alloc(), THIRD_REFUSED, Limits::usual(), &wanted)
+    let ended = refused(3, 144, Reason::VertexIndex);
+    let wanted = outcome(2, 1, held(350, 65, 8), ended);
+    check_usual(&rt, rt.alloc(), &[THIRD_REFUSED], &[STREAM], wanted)
 }
 
-/// Checks that an invalid first line is not in the output, also without its LF.
+/// Checks that an invalid first line is not in the output, without its LF and with more after it.
 fn check_refused_first(
     rt: &impl Abort,
     alloc: Global,
@@ -430,15 +373,15 @@ fn check_refused_first(
     peaks: Peaks,
     ended: End,
 ) -> Result<(), Fail> {
+    let outcome = outcome(0, 0, peaks, ended);
+    check_usual(rt, alloc, &[text], &[], outcome)?;
+    let more = joined(alloc, &[text, b"\n", FIRST])?;
     let wanted = Wanted {
         name: "a first line",
         written: b"",
-        outcome: outcome(0, 0, peaks, ended),
+        outcome,
     };
-    let limits = Limits::usual();
-    check_every_cut(rt, alloc, text, limits, &wanted)?;
-    let ended = joined(alloc, &[text, b"\n", FIRST])?;
-    check_run(rt, alloc, &ended, 8_192, limits, &wanted);
+    check_run(rt, alloc, &more, 8_192, Limits::usual(), &wanted);
     Ok(())
 }
 
@@ -457,12 +400,7 @@ fn a_feature_as_first_line(rt: HostRuntime) -> Result<(), Fail> {
 
 #[test]
 fn a_header_as_later_line(rt: HostRuntime) -> Result<(), Fail> {
-    let row = Row {
-        name: "a second header",
-        text: &[FIRST, FIRST],
-        limits: Limits::usual(),
-        written: &[FIRST],
-        outcome: outcome(1, 0, held(280, 42, 3), refused(2, 0, Reason::MissingMember)),
-    };
-    check_row(&rt, rt.alloc(), &row)
+    let ended = refused(2, 0, Reason::MissingMember);
+    let wanted = outcome(1, 0, held(280, 42, 3), ended);
+    check_usual(&rt, rt.alloc(), &[FIRST, FIRST], &[FIRST], wanted)
 }

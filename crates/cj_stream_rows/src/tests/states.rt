@@ -1,7 +1,8 @@
 //! Rows through the two states, with every cut, and what both return where one becomes the other.
-use super::calls::{check_bytes, check_ended, check_number, check_outcome};
+use super::calls::{check_bytes, check_ended, check_outcome};
 use super::rows::Wanted;
 use super::steps::{Opening, Step, written_by_steps};
+use super::turn_steps::{HeaderStep, LineStep, written_by_turns};
 use cj_budget::Limits;
 use cj_spans::Reason;
 use cj_stream::{
@@ -234,17 +235,12 @@ fn a_first_line_that_is_no_header_by_states(rt: HostRuntime) -> Result<(), Fail>
 fn a_line_too_long_by_states(rt: HostRuntime) -> Result<(), Fail> {
     let text = joined(rt.alloc(), &[FIRST, FEATURE, b" \n"])?;
     let query = Query::all(rt.alloc());
+    let reading = Reading::usual(Limits::new(210, 64)?, &query);
     let mut sink = WriteSink::new(Vec::new(rt.alloc()));
-    let limits = Limits::new(210, 64)?;
-    let header = header_opened(rt.alloc(), &Reading::usual(limits, &query))?;
+    let header = header_opened(rt.alloc(), &reading)?;
     let told = by_states(&rt, header, &[&text], &mut sink);
-    check_ended(
-        &rt,
-        told.ended,
-        refused(2, 210, Reason::LineTooLong),
-        "too long",
-        0,
-    );
+    let wanted = refused(2, 210, Reason::LineTooLong);
+    check_ended(&rt, told.ended, wanted, "too long", 0);
     check_bytes(&rt, &sink.into_inner(), FIRST, "too long", 0);
     Ok(())
 }
@@ -259,46 +255,20 @@ pub fn check_progress(
     assert_eq!(rt; got, Ok(Progress { used, accepted }));
 }
 
-#[test]
-fn a_piece_that_begins_with_lf(rt: HostRuntime) -> Result<(), Fail> {
-    let query = Query::all(rt.alloc());
-    let mut sink = WriteSink::new(Vec::new(rt.alloc()));
-    let mut header = usual_header(rt.alloc(), &query)?;
-    check_progress(
-        &rt,
-        feed_header(&rt, &mut header, HEADER, &mut sink),
-        140,
-        false,
-    );
-    check_progress(
-        &rt,
-        feed_header(&rt, &mut header, b"\n{}\n", &mut sink),
-        1,
-        true,
-    );
-    check_number(&rt, header.taken(), 141, "taken", 1);
-    let lines = turned(&rt, header);
-    check_number(&rt, lines.taken(), 141, "taken", 2);
-    check_number(&rt, lines.peaks().bytes, 140, "peak of bytes", 2);
-    Ok(())
-}
-
 /// Gives a header and an invalid line to the reader of a header, which uses 141 bytes. The rest
 /// goes to the reader of lines.
 fn check_rest_by_states(
     rt: &impl Abort,
     alloc: Global,
     text: &[u8],
-    wanted: End,
+    end: LineEnd,
 ) -> Result<(), Fail> {
-    let query = Query::all(alloc);
-    let mut sink = WriteSink::new(Vec::new(alloc));
-    let mut header = usual_header(alloc, &query)?;
-    check_progress(rt, feed_header(rt, &mut header, text, &mut sink), 141, true);
-    let mut lines = turned(rt, header);
-    let end = to_the_end(rt, &mut lines, &[b"{}\n"], &mut sink);
-    check_ended(rt, End::from(end), wanted, "the rest", 0);
-    check_number(rt, lines.taken(), 141, "taken by lines", 0);
+    let header = [HeaderStep::Feed(text, 141, true)];
+    let lines = [
+        LineStep::Feed(b"{}\n", Err(end)),
+        LineStep::Counts(141, 1, 0),
+    ];
+    let _ = written_by_turns(rt, alloc, &header, &lines)?;
     Ok(())
 }
 
@@ -312,7 +282,11 @@ fn check_rest(rt: &impl Abort, alloc: Global, text: &[u8], wanted: End) -> Resul
 #[test]
 fn a_piece_whose_rest_is_refused(rt: HostRuntime) -> Result<(), Fail> {
     let text = joined(rt.alloc(), &[FIRST, b"{}\n"])?;
-    let wanted = refused(2, 0, Reason::MissingMember);
-    check_rest_by_states(&rt, rt.alloc(), &text, wanted)?;
-    check_rest(&rt, rt.alloc(), &text, wanted)
+    let end = LineEnd::Refused {
+        line: 2,
+        place: 0,
+        reason: Reason::MissingMember,
+    };
+    check_rest_by_states(&rt, rt.alloc(), &text, end)?;
+    check_rest(&rt, rt.alloc(), &text, End::from(end))
 }

@@ -6,7 +6,7 @@ use super::calls::{
 };
 use cj_budget::Peaks;
 use cj_stream::{End, Engine, LineSink, Options, Query, WriteSink};
-use cj_stream_samples::NoteReports;
+use cj_stream_samples::{NoteReports, held};
 use std::alloc::Global;
 use std::process::Abort;
 use std::test::Fail;
@@ -23,6 +23,9 @@ pub enum Step<'a> {
     Again(&'a [u8], End),
     /// What is held, and what was held at most.
     Held(Peaks, Peaks),
+    /// The bytes that are held, and that were held at most, before a line after the usual header
+    /// is dealt with. The tokens are the header's.
+    HeldWithHeader(u64, u64),
     /// The bytes that were held at most.
     PeakOfBytes(u64),
     /// The bytes that were taken, the lines that were dealt with, and the features that were kept.
@@ -72,6 +75,9 @@ fn check_step<S: LineSink>(
         Step::Finish(end) => check_finish(rt, engine, sink, reports, end),
         Step::Again(piece, end) => check_again(rt, engine, piece, sink, reports, end),
         Step::Held(held, peaks) => check_held(rt, engine, held, peaks),
+        Step::HeldWithHeader(bytes, most) => {
+            check_held(rt, engine, held(bytes, 21, 0), held(most, 21, 3))
+        }
         Step::PeakOfBytes(most) => check_number(rt, engine.peaks().bytes, most, "peak", 0),
         Step::Counts(taken, lines, kept) => check_counts(rt, engine, taken, lines, kept),
         Step::Reported(refused, notes) => check_reported(rt, engine, reports, refused, notes),

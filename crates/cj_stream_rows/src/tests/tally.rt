@@ -1,8 +1,7 @@
 //! What is tallied of a stream.
-use super::calls::check_bytes;
-use cj_budget::Limits;
+use super::calls::{check_bytes, taken_of_cut};
 use cj_feature::{Feature, Header};
-use cj_stream::{Engine, LineSink, NoReports, Options, Query, TallySink, WriteFault, put_pieces};
+use cj_stream::{LineSink, TallySink, WriteFault};
 use cj_stream_samples::{FEATURE, joined, ran_to};
 use std::alloc::{AllocError, Global};
 use std::process::Abort;
@@ -141,21 +140,10 @@ impl LineSink for TypesSink {
     }
 }
 
-/// Returns the tally of a stream cut in two at this place.
-fn tally_of_cut(rt: &impl Abort, alloc: Global, text: &[u8], at: usize) -> Result<TallySink, Fail> {
-    assert!(rt; at <= text.len());
-    assert!(rt; text.len() <= 10_000);
-    let query = Query::all(alloc);
-    let pieces = [&text[..at], &text[at..]];
-    let mut engine = Engine::open(alloc, Limits::usual(), &query, Options::new())?;
-    let mut tally = TallySink::new();
-    let _ = put_pieces(&mut engine, &pieces, &mut tally, &mut NoReports);
-    Ok(tally)
-}
-
 /// Tallies the stream cut in two at this place.
 fn check_cut(rt: &impl Abort, alloc: Global, text: &[u8], at: usize) -> Result<(), Fail> {
-    let tally = tally_of_cut(rt, alloc, text, at)?;
+    let mut tally = TallySink::new();
+    let _ = taken_of_cut(rt, alloc, text, at, &mut tally)?;
     let told = report(alloc, &tally)?;
     check_bytes(rt, told.as_bytes(), TALLY.as_bytes(), "pieces", at as u64);
     Ok(())
