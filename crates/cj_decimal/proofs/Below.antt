@@ -4,9 +4,12 @@ use Rattle.std.specs.Int.{swap_bytes, from_le_bytes, from_be_bytes}
 use Rattle.std.proofs.lemmas.Nat.{le_bytes_8, pow-add}
 use Rattle.std.proofs.lemmas.Bool.{cases_lt}
 use Rattle.std.proofs.Math.Nat.{mul-le-mul_left}
-use Rattle.cj_decimal.specs.Spelling.{digits_value}
-use Rattle.cj_decimal.specs.Word.{word_of, AllBelow, TellsBelow, weighed}
-use Rattle.cj_decimal.proofs.Eights.{eight, horner, spelled_value}
+use Rattle.std.specs.Prelude.{Option, None, Some, IfSome, IsSome, Ok, pos}
+use Rattle.cj_decimal.specs.Class.{Class, whole_answer}
+use Rattle.cj_decimal.specs.Spelling.{AllDigits, IsNumber, digits_value}
+use Rattle.cj_decimal.specs.Word.{word_of, AllBelow, IsWordOf, TellsBelow, weighed}
+use Rattle.cj_decimal.proofs.Wholes.{answer_digits}
+use Rattle.cj_decimal.proofs.Eights.{eight, horner, number_short, spelled_value}
 
 -- a digit more in front
 below_next : (p d x n : ℕ) → suc d ≤ n → x < p → p * d + x < p * n
@@ -26,8 +29,8 @@ weighed_below n h one self (d ∷ s) z =
     subst (λ p. n ^ length s * d + weighed n s < p) (sym power) (below_next (n ^ length s) d (weighed n s) n (omega arith) rest)
 
 -- one digit decides, or the rest does
-step : (p q a b x y u v : ℕ) → x < q → y < q → u < p → (x < y → u < v) → q * a + x < q * b + y → p * a + u < p * b + v
-step p q a b x y u v lx ly lu f h =
+step : (k : ℕ) → k ≤ 1 → (p q a b x y u v : ℕ) → x < q → y < q → u < p → (x + k ≤ y → u + k ≤ v) → q * a + x + k ≤ q * b + y → p * a + u + k ≤ p * b + v
+step k one p q a b x y u v lx ly lu f h =
     elim (cases_lt a b) [
       | inl less ↦ let m = mul-le-mul_left p less in omega (arith, m, lu)
       | inr more ↦ elim (cases_lt b a) [
@@ -36,21 +39,22 @@ step p q a b x y u v lx ly lu f h =
       ]
     ]
   where
-    same : a ≡ b → p * a + u < p * b + v
-    same e = let g : q * a + x < q * a + y = subst (λ k. q * a + x < q * k + y) (sym e) h in let l = f (omega (arith, g)) in subst (λ k. p * a + u < p * k + v) e (omega (arith, l))
+    same : a ≡ b → p * a + u + k ≤ p * b + v
+    same e = let g : q * a + x + k ≤ q * a + y = subst (λ n. q * a + x + k ≤ q * n + y) (sym e) h in let l = f (omega (arith, g)) in subst (λ n. p * a + u + k ≤ p * n + v) e (omega (arith, l))
 
-order : (s t : List ℕ) → length s ≡ length t → AllBelow 10 s → AllBelow 10 t → weighed 256 s < weighed 256 t → weighed 10 s < weighed 10 t
+-- with 1 for k it is "less", and with 0 "at most"
+order : (k : ℕ) → k ≤ 1 → (s t : List ℕ) → length s ≡ length t → AllBelow 10 s → AllBelow 10 t → weighed 256 s + k ≤ weighed 256 t → weighed 10 s + k ≤ weighed 10 t
 unfolding weighed
-order [] [] e hs ht l = l
-order [] (b ∷ t) e hs ht l = absurd (omega (arith, e))
-order (a ∷ s) [] e hs ht l = absurd (omega (arith, e))
-order (a ∷ s) (b ∷ t) e hs ht l =
+order k one [] [] e hs ht l = l
+order k one [] (b ∷ t) e hs ht l = absurd (omega (arith, e))
+order k one (a ∷ s) [] e hs ht l = absurd (omega (arith, e))
+order k one (a ∷ s) (b ∷ t) e hs ht l =
     let n : length t ≡ length s = omega (arith, e) in
     let small = weighed_below 256 (omega arith) refl refl s hs.1 in
-    let other : weighed 256 t < 256 ^ length s = subst (λ k. weighed 256 t < 256 ^ k) n (weighed_below 256 (omega arith) refl refl t ht.1) in
-    let g : 256 ^ length s * a + weighed 256 s < 256 ^ length s * b + weighed 256 t = subst (λ k. 256 ^ length s * a + weighed 256 s < 256 ^ k * b + weighed 256 t) n l in
-    subst (λ k. 10 ^ length s * a + weighed 10 s < 10 ^ k * b + weighed 10 t) (sym n)
-    (step (10 ^ length s) (256 ^ length s) a b (weighed 256 s) (weighed 256 t) (weighed 10 s) (weighed 10 t) small other (weighed_below 10 (omega arith) refl refl s hs.1) (order s t (sym n) hs.1 ht.1) g)
+    let other : weighed 256 t < 256 ^ length s = subst (λ i. weighed 256 t < 256 ^ i) n (weighed_below 256 (omega arith) refl refl t ht.1) in
+    let g : 256 ^ length s * a + weighed 256 s + k ≤ 256 ^ length s * b + weighed 256 t = subst (λ i. 256 ^ length s * a + weighed 256 s + k ≤ 256 ^ i * b + weighed 256 t) n l in
+    subst (λ i. 10 ^ length s * a + weighed 10 s + k ≤ 10 ^ i * b + weighed 10 t) (sym n)
+    (step k one (10 ^ length s) (256 ^ length s) a b (weighed 256 s) (weighed 256 t) (weighed 10 s) (weighed 10 t) small other (weighed_below 10 (omega arith) refl refl s hs.1) (order k one s t (sym n) hs.1 ht.1) g)
 
 -- ---- eight digits
 
@@ -73,6 +77,53 @@ swapped s l = eight (λ s. AllBelow 10 s → swap_bytes w64 (word_of s) ≡ weig
         let same : word_of s ≡ from_le_bytes w64 s = omega arith in
         ap (from_be_bytes w64) (le_bytes_8 s (word_of s) refl (bytes_of s z) same) ∙ omega arith
 
+unswapped : (s : List ℕ) → length s ≡ 8 → AllBelow 10 s → swap_bytes w64 (weighed 256 s) ≡ word_of s
+unfolding weighed
+unswapped s l = eight (λ s. AllBelow 10 s → swap_bytes w64 (weighed 256 s) ≡ word_of s) each s l
+  where
+    each : (a b c d e f g h : ℕ) → AllBelow 10 (a ∷ b ∷ c ∷ d ∷ e ∷ f ∷ g ∷ h ∷ []) → swap_bytes w64 (weighed 256 (a ∷ b ∷ c ∷ d ∷ e ∷ f ∷ g ∷ h ∷ [])) ≡ word_of (a ∷ b ∷ c ∷ d ∷ e ∷ f ∷ g ∷ h ∷ [])
+    each a b c d e f g h z =
+        let s = a ∷ b ∷ c ∷ d ∷ e ∷ f ∷ g ∷ h ∷ [] in
+        let r = h ∷ g ∷ f ∷ e ∷ d ∷ c ∷ b ∷ a ∷ [] in
+        let other : AllBelow 10 r = (z.1.1.1.1.1.1.1.0, (z.1.1.1.1.1.1.0, (z.1.1.1.1.1.0, (z.1.1.1.1.0, (z.1.1.1.0, (z.1.1.0, (z.1.0, (z.0, tt)))))))) in
+        let turned : weighed 256 s ≡ word_of r = omega arith in
+        let back : weighed 256 r ≡ word_of s = omega arith in
+        ap (swap_bytes w64) turned ∙ swapped r refl other ∙ back
+
+-- ---- words and their numbers
+
+-- words have the order of their numbers
+pub words_in_order : (v w a b : ℕ) → IsWordOf v a → IsWordOf w b → v ≤ w → a ≤ b
+words_in_order v w a b x y h =
+    let s = x.0 in let t = y.0 in
+    let p = x.3 in let q = y.3 in
+    let below : weighed 256 s + 0 ≤ weighed 256 t = omega (arith, p, q, h) in
+    let o = order 0 (omega arith) s t (x.1 ∙ sym y.1) x.2 y.2 below in
+    let m = x.4 ∙ value_weighed s x.1 in let n = y.4 ∙ value_weighed t y.1 in
+    omega (arith, o, m, n)
+
+-- eight digits as a word
+pub word_of_eight : (s : List ℕ) (m n : ℕ) → length s ≡ 8 → AllBelow 10 s → m ≡ word_of s → digits_value (map (λ d. d + 48) s) ≡ n → IsWordOf (swap_bytes w64 m) n
+word_of_eight s m n l small is value = (s, l, small, ap (swap_bytes w64) is ∙ swapped s l small, sym value)
+
+pub eight_of_word : (w n : ℕ) → IsWordOf w n → (s : List ℕ) × (length s ≡ 8) × AllBelow 10 s × (swap_bytes w64 w ≡ word_of s) × (n ≡ digits_value (map (λ d. d + 48) s))
+eight_of_word w n h = (h.0, h.1, h.2, ap (swap_bytes w64) h.3 ∙ unswapped h.0 h.1 h.2, h.4)
+
+pub eight_room : (s : List ℕ) (m : ℕ) → length s ≡ 8 → AllBelow 10 s → m ≡ word_of s → m < 2 ^ 60
+eight_room s m l = eight (λ s. AllBelow 10 s → m ≡ word_of s → m < 2 ^ 60) (λ a b c d e f g h z is. omega (arith, is, z.0, z.1.0, z.1.1.0, z.1.1.1.0, z.1.1.1.1.0, z.1.1.1.1.1.0, z.1.1.1.1.1.1.0, z.1.1.1.1.1.1.1.0)) s l
+
+word_small : (w n : ℕ) → IsWordOf w n → n < 2 ^ 32
+word_small w n h =
+    let m = h.4 ∙ value_weighed h.0 h.1 in
+    let b = weighed_below 10 (omega arith) refl refl h.0 h.2 in
+    let p : 10 ^ length h.0 ≡ 100000000 = ap (λ k. 10 ^ k) h.1 in
+    omega (arith, m, b, p)
+
+-- the word of a number's digits has the number that reading it answers
+pub word_answer : (o : Option ℕ) (s : List ℕ) → IsNumber s → (IsSome o → AllDigits s) → IfSome o (λ w. IsWordOf w (digits_value s)) → IfSome o (λ w. (n : ℕ) × IsWordOf w n × ((c : Class s) → whole_answer c ≡ Ok (Some (pos n))))
+word_answer None s number digits word = word
+word_answer (Some w) s number digits word = (digits_value s, word, λ c. answer_digits s (digits_value s) c (number_short s number (digits refl) (word_small w (digits_value s) word)))
+
 -- ---- what a word of a count tells
 
 pub all_below : (n word : ℕ) → 100000000 ≤ n → TellsBelow word n
@@ -89,5 +140,6 @@ told n a b c d e f g word small ia ib ic id ie if ig is = λ s l z w.
     let digits : AllBelow 10 t = (first, (omega arith, (omega arith, (omega arith, (omega arith, (omega arith, (omega arith, (omega arith, tt)))))))) in
     let as_word : word ≡ weighed 256 t = omega (arith, is) in
     let value : weighed 10 t ≡ n = omega arith in
-    let o = order s t l z digits (subst (λ x. weighed 256 s < x) as_word w) in
-    subst (λ x. x < n) (sym (value_weighed s l)) (subst (λ x. weighed 10 s < x) value o)
+    let above = subst (λ x. weighed 256 s < x) as_word w in
+    let o = order 1 (omega arith) s t l z digits (omega (arith, above)) in
+    subst (λ x. x < n) (sym (value_weighed s l)) (subst (λ x. weighed 10 s < x) value (omega (arith, o)))

@@ -8,11 +8,11 @@ use Rattle.std.proofs.lemmas.Bool.{cases_lt}
 use Rattle.std.specs.Prelude.{slice_range, Option, Some, None, IfSome, IsTrue}
 use Rattle.std.proofs.Common.{get_or}
 use Rattle.std.proofs.lemmas.List.{drop-take, drop-drop, get_or-take, get_or-drop, length-drop, length-take-le}
-use Rattle.cj_decimal.specs.Reading.{IsShort, digits_front, begins, begins_digit, body}
-use Rattle.cj_decimal.proofs.Grammar.{append_nil, front_append}
-use Rattle.cj_decimal.proofs.Parts.{minus_there, no_minus}
+use Rattle.cj_decimal.specs.Reading.{IsShort, digits_front, begins, begins_digit, body, is_int}
+use Rattle.cj_decimal.proofs.Grammar.{append_nil, digit_begins, front_append, int_from_test}
+use Rattle.cj_decimal.proofs.Parts.{minus_there, no_minus, not_int}
 use Rattle.cj_decimal.proofs.Wholes.{int_alone_reads}
-use Rattle.cj_decimal.specs.Spelling.{AllDigits, IsInt, IsFewDigits, digits_value, value_after}
+use Rattle.cj_decimal.specs.Spelling.{AllDigits, IsInt, IsFewDigits, IsNumber, digits_value, value_after}
 use Rattle.cj_decimal.specs.Word.{word_of, AllBelow}
 
 copies : ℕ → ℕ → List ℕ
@@ -322,6 +322,15 @@ module _ (j : ℕ) (s : List ℕ) (w m : ℕ) (lj : j ≤ 8) (ls : length s ≡ 
       let same : bit_xor (word_of s) 0x3030303030303030 ≡ word_of xs = ap (bit_xor (word_of s)) (sym zeros ∙ ap (λ k. word_of (copies k 48)) (sym ls)) ∙ xor_same 48 (omega arith) s h in
       word ∙ ap (λ v. bit_and (bit_xor v 0x3030303030303030) (2 ^ 64 - 2 ^ (8 * j))) is ∙ ap (λ v. bit_and v (2 ^ 64 - 2 ^ (8 * j))) same ∙ masked j xs lj (length_map (λ b. bit_xor b 48) s ∙ ls) (xor_below s h)
 
+  -- the eight digits of the word, where each of its bytes is below 10, and those that stand at the end of eight bytes
+  pub eight_at_end : ((t : List ℕ) → length t ≡ 8 → AllBelow 256 t → m ≡ word_of t → AllBelow 10 t)
+      → (t : List ℕ) × (length t ≡ 8) × AllBelow 10 t × (m ≡ word_of t) × AllDigits (drop j s) × (digits_value (map (λ d. d + 48) t) ≡ digits_value (drop j s))
+  eight_at_end each =
+      let t = clear j (without_zeros s) in
+      let small = each t tested_length (clear_below j (without_zeros s) (xor_below s h)) tested in
+      let end = cleared j s h small in
+      (t, tested_length, small, tested, end.0, end.1)
+
   -- the digits that stand at the end of eight bytes, where each byte of the word is below 10
   pub digits_at_end : ((t : List ℕ) → length t ≡ 8 → AllBelow 256 t → m ≡ word_of t → AllBelow 10 t)
       → (n : ℕ) → ((t : List ℕ) → length t ≡ 8 → AllBelow 10 t → m ≡ word_of t → n ≡ digits_value (map (λ d. d + 48) t))
@@ -533,3 +542,32 @@ no_int line start stop h int =
 
 pub all_from_eight : (line : List ℕ) (count stop : ℕ) → count ≤ 8 → 8 ≤ stop → AllDigits (slice_range line (stop - count) stop) → AllDigits (drop (8 - count) (slice_range line (stop - 8) stop))
 all_from_eight line count stop few room all = let P : List ℕ → Type 0 = λ t. AllDigits t in subst P (sym (end_of_eight line count stop few room)) all
+
+-- ---- digits that are a number of JSON
+
+digits_unsigned : (s : List ℕ) → AllDigits s → begins 45 s ≡ false
+unfolding begins
+digits_unsigned [] all = refl
+digits_unsigned (b ∷ t) all = ap (begins 45) (sym (append_nil (b ∷ t))) ∙ digit_begins 45 (b ∷ t) [] all (omega arith)
+
+-- they are an int
+number_int : (s : List ℕ) → IsNumber s → AllDigits s → IsInt s
+unfolding begins_digit
+number_int s number all = go (is_int (digits_front (body s))) refl
+  where
+    same : digits_front (body s) ≡ s
+    same = ap digits_front (no_minus s (digits_unsigned s all) ∙ sym (append_nil s)) ∙ front_append s [] all refl
+
+    go : (b : Bool) → is_int (digits_front (body s)) ≡ b → IsInt s
+    go true e = int_from_test s all (ap is_int (sym same) ∙ e)
+    go false e = absurd (not_int s e number)
+
+int_filled : (s : List ℕ) → IsInt s → 0 < length s
+int_filled [] int = absurd int
+int_filled (b ∷ t) int = omega arith
+
+-- and they spell a short number
+pub number_short : (s : List ℕ) → IsNumber s → AllDigits s → digits_value s < 2 ^ 32 → IsShort s (digits_value s)
+number_short s number all small =
+    let int = number_int s number all in
+    short_of s (digits_value s) (int_filled s int) all refl small (one_zero s int)

@@ -22,3 +22,8 @@ weighed n (d ∷ s) = n ^ length s * d + weighed n s
 abbrev pub TellsBelow : ℕ → ℕ → Type 0
 TellsBelow word n = (s : List ℕ) → length s ≡ 8 → AllBelow 10 s → weighed 256 s < word
     → digits_value (map (λ d. d + digit_0) s) < n
+
+-- the word has eight digits as bytes, the first one greatest, and they spell the number
+abbrev pub IsWordOf : ℕ → ℕ → Type 0
+IsWordOf word n = (s : List ℕ) × (length s ≡ 8) × AllBelow 10 s × (word ≡ weighed 256 s)
+    × (n ≡ digits_value (map (λ d. d + digit_0) s))

@@ -14,14 +14,14 @@ ghost use Rattle.cj_decimal.specs.Number.{number, signed, same_parts, SameValue,
 ghost use Rattle.cj_decimal.specs.Number.{IsWhole, IsFixed};
 ghost use Rattle.cj_decimal.specs.Digits.{StandsFor};
 ghost use Rattle.cj_decimal.specs.Reading.{Saturates};
-ghost use Rattle.cj_decimal.specs.Word.{TellsBelow};
+ghost use Rattle.cj_decimal.specs.Word.{IsWordOf, TellsBelow};
 
 use crate::fixed::Fixed18;
 use crate::powers::wide_ten_to;
 use crate::spelling::{Parts, after_minus, has_byte, read_parts};
 use crate::trimming::without_zeros;
 use crate::whole::{read_any, read_few_digits};
-use crate::word::{is_below, read_word};
+use crate::word::{is_below, read_digits_word, read_word};
 use std::marker::Model;
 use thiserror::Error;
 
@@ -263,6 +263,23 @@ impl Decimal {
             return None;
         };
         Some(-(size as i64))
+    }
+
+    /// Returns the digits of a number of JSON in a line from `start` to `stop` as a word, as
+    /// [`crate::digits_word`] has those of a count. None unless it is at most eight digits. None
+    /// also if `stop` is below 8.
+    ///
+    /// Words have the order of their numbers. So the least of many numbers is found without
+    /// computing the others, and [`crate::word_value`] returns it.
+    #[inline(always)]
+    pub fn read_word_in(line: &[u8], start: usize, stop: usize) -> Option<u64>
+        requires order { start < stop }
+        requires within { stop ≤ length line.now }
+        requires number { IsNumber (slice_range line.now start stop) }
+        ensures { IfSome result (λ w. (n : ℕ) × IsWordOf w n
+            × ((c : Class (slice_range line.now start stop)) → whole_answer c ≡ Ok (Some (pos n)))) }
+    {
+        read_digits_word(line, start, stop)
     }
 
     /// Reads the spelling of a number of JSON (RFC 8259, section 6) as a whole number. Returns its

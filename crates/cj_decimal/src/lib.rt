@@ -36,4 +36,4 @@ mod word;
 pub use affine::Affine;
 pub use decimal::{Decimal, DecimalFault};
 pub use fixed::Fixed18;
-pub use word::digits_word;
+pub use word::{digits_word, word_value};

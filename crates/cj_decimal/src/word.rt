@@ -4,7 +4,7 @@ ghost use Rattle.std.specs.Prelude.{◌≡◌, ℕ, ◌+◌, ◌-◌, ◌*◌, �
 ghost use Rattle.std.specs.Prelude.{IsSome, IsTrue, ◌↔◌};
 ghost use Rattle.cj_decimal.specs.Reading.{IsShort};
 ghost use Rattle.cj_decimal.specs.Spelling.{AllDigits, IsInt, digits_value};
-ghost use Rattle.cj_decimal.specs.Word.{word_of, AllBelow, TellsBelow};
+ghost use Rattle.cj_decimal.specs.Word.{word_of, AllBelow, IsWordOf, TellsBelow};
 
 /// The number of bytes in a word.
 const BYTES: usize = 8;
@@ -186,4 +186,37 @@ pub fn is_below(line: &[u8], start: usize, stop: usize, word: u64) -> bool
         return false;
     }
     are_digits_below(line, count, stop, word)
+}
+
+/// Returns the digits from `start` to `stop` as a word, as [`digits_word`] has those of a count.
+/// None unless they are at most eight digits. None also if `stop` is below 8.
+#[inline(always)]
+pub fn read_digits_word(line: &[u8], start: usize, stop: usize) -> Option<u64>
+    requires order { start < stop }
+    requires within { stop ≤ length line.now }
+    ensures digits { IsSome result → AllDigits (slice_range line.now start stop) }
+    ensures word { IfSome result (λ w. IsWordOf w (digits_value (slice_range line.now start stop))) }
+{
+    let count = stop - start;
+    if stop < BYTES {
+        return None;
+    }
+    if count > BYTES {
+        return None;
+    }
+    let digits = (word_before(line, stop) ^ ZEROS) & last_bytes(count);
+    if are_below_ten(digits) {
+        Some(digits.swap_bytes())
+    } else {
+        None
+    }
+}
+
+/// Returns the number that the digits of a word spell.
+pub fn word_value(word: u64) -> u64
+    requires { (n : ℕ) × IsWordOf word n }
+    ensures small { result < 2 ^ 32 }
+    ensures value { (n : ℕ) → IsWordOf word n → result ≡ n }
+{
+    value_of(word.swap_bytes())
 }

@@ -1,19 +1,23 @@
 -- Where the rules on city objects and vertices find nothing, types are known and vertices have three whole numbers.
-use Rattle.std.proofs.Common.{◌≡◌, ℕ, zero, suc, ◌<◌, drop, List, [], ◌∷◌, ◌++◌, length, map, Bool, true, false, nat_eq, cond, Option, Some, None, ℤ, codes, refl, arith}
+use Rattle.std.proofs.Common.{◌≡◌, ◌∙◌, sym, ap, ℕ, zero, suc, ◌<◌, ◌≤◌, drop, take, pos, List, [], ◌∷◌, ◌++◌, length, map, Bool, true, false, nat_eq, cond, Option, Some, None, ℤ, codes, refl, arith}
 use Rattle.std.specs.List.{flat_map, list_all}
+use Rattle.std.specs.Prelude.{IfSome}
+use Rattle.std.proofs.lemmas.List.{drop-map}
 use Rattle.std.proofs.lemmas.Bool.{eqb-true}
 use Rattle.std.specs.Str.{chars}
 use Rattle.cj_spans.specs.declared.reason.Reason.TheVariants.{NotThree}
-use Rattle.cj_spans.specs.Tree.{Tree}
+use Rattle.cj_spans.specs.Tree.{Tree, total_size}
 use Rattle.cj_spans.specs.Kinds.{is_text, is_number, is_array, is_object}
 use Rattle.cj_spans.specs.Parts.{items_of, members_of, member_of}
+use Rattle.cj_decimal.specs.Word.{IsWordOf}
 use Rattle.cj_decimal.specs.Class.{Class, no_number, out_of_range, not_whole, whole}
 use Rattle.cj_decimal.proofs.Classes.{class}
+use Rattle.cj_geometry.proofs.Lone.{whole-size}
 use Rattle.cj_geometry.specs.ObjectTypes.{ObjectRow, row_of}
 use Rattle.cj_geometry.specs.Geometry.{Given}
 use Rattle.cj_geometry.specs.Rule.{one, needs, may_have, spelling, whole_findings, whole_by, whole_of, whole_number, distinct, has_length, of_length}
 use Rattle.cj_feature.specs.Feature.{known_type, object_type, geometries, texts, second_level, city_object, city_objects, vertex_list}
-use Rattle.cj_feature.specs.Typed.{is_row, is_typed, are_one, are_two, are_three, is_vertex, begins_whole, number_on}
+use Rattle.cj_feature.specs.Typed.{is_row, is_typed, are_one, are_two, are_three, is_vertex, begins_whole, number_on, vertex_of}
 use Rattle.cj_feature.proofs.None.{none-both, of_kind-none, by-member, none-each}
 
 -- ---- city objects
@@ -103,3 +107,38 @@ pub number-begins : (axis : ℕ) (ws rest : List (Option ℤ)) (n : ℤ) → dro
 number-begins zero ws rest n e = rw e refl
 number-begins (suc axis) [] rest n e = absurd (cc e)
 number-begins (suc axis) (w ∷ ws) rest n e = number-begins axis ws rest n e
+
+-- ---- the items of a vertex
+
+begins-there : (x : Tree) (ws : List (Option ℤ)) → begins_whole (whole_of x ∷ ws) ≡ true → (w : ℤ) × (whole_of x ≡ Some w)
+begins-there x ws h = go (whole_of x) refl
+  where
+    go : (o : Option ℤ) → whole_of x ≡ o → (w : ℤ) × (whole_of x ≡ Some w)
+    go None e = absurd (cc (rw e at h))
+    go (Some w) e = (w, e)
+
+lone : (axis : ℕ) (ts : List Tree) → ((k : ℕ) → k < axis → begins_whole (drop k (map whole_of ts)) ≡ true) → (axis ≤ length ts) × (total_size (take axis ts) ≡ axis)
+lone zero ts h = (omega arith, refl)
+lone (suc axis) [] h = absurd (cc (h 0 (omega arith)))
+lone (suc axis) (x ∷ ts) h =
+    let first = begins-there x (map whole_of ts) (h 0 (omega arith)) in
+    let one = whole-size x first.0 first.1 in
+    let rest = lone axis ts (λ k l. h (suc k) (omega arith)) in
+    let count = rest.0 in let sizes = rest.1 in
+    (omega (arith, count), omega (arith, one, sizes))
+
+module _ (axis : ℕ) (t : Tree) (is : is_vertex t ≡ true) (within : axis < 3) where
+  -- those before one are of one token each
+  pub lone-before : (axis ≤ length (items_of t)) × (total_size (take axis (items_of t)) ≡ axis)
+  lone-before = lone axis (items_of t) (λ k l. three-begin k (map whole_of (items_of t)) is (omega arith))
+
+  pub not-past : drop axis (items_of t) ≡ [] → ⊥
+  not-past none = absurd (cc (ap begins_whole (sym (ap (map whole_of) none) ∙ sym (drop-map whole_of axis (items_of t))) ∙ three-begin axis (map whole_of (items_of t)) is within))
+
+  module _ (x : Tree) (rest : List Tree) (e : drop axis (items_of t) ≡ x ∷ rest) where
+    pub whole-on : (w : ℤ) × (whole_of x ≡ Some w)
+    whole-on = begins-there x (map whole_of rest) (ap begins_whole (sym (ap (map whole_of) e) ∙ sym (drop-map whole_of axis (items_of t))) ∙ three-begin axis (map whole_of (items_of t)) is within)
+
+    pub word-on-if : (o : Option ℕ) → IfSome o (λ w. (n : ℕ) × IsWordOf w n × (whole_of x ≡ Some (pos n))) → IfSome o (λ w. (n : ℕ) × IsWordOf w n × (number_on axis (vertex_of t) ≡ pos n))
+    word-on-if None read = read
+    word-on-if (Some w) read = (read.0, read.1, number-begins axis (map whole_of (items_of t)) (map whole_of rest) (pos read.0) (drop-map whole_of axis (items_of t) ∙ ap (map whole_of) e ∙ ap (λ o. o ∷ map whole_of rest) read.2))

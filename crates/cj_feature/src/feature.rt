@@ -23,7 +23,6 @@ use cj_spans::{Doc, Node};
 pub use coordinates::Coordinates;
 pub use geometries::Geometries;
 pub use rules::check_feature;
-use search::reached;
 pub use search::reached::mark_reached;
 pub use vertices::Vertices;
 

@@ -3,7 +3,7 @@ use Rattle.std.proofs.Common.{◌≡◌, ℕ, ◌<◌, ◌^◌, List, [], Bool, 
 use Rattle.std.specs.Prelude.{unsigned_abs, pos, IfSome, IsSome, slice_range}
 use Rattle.std.proofs.lemmas.Bool.Decides.{nat_tests}
 use Rattle.std.proofs.lemmas.Int.{to_z-of_z, fits_signed_from_abs}
-use Rattle.cj_spans.specs.declared.token.Kind.TheVariants.{Number}
+use Rattle.cj_spans.specs.declared.token.Kind.TheVariants.{Null, Truth, Number, Text, Array, Object}
 use Rattle.cj_spans.specs.declared.reason.Reason.{Reason}
 use Rattle.cj_spans.specs.declared.reason.Reason.TheVariants.{NotWhole, WrongKind, NumberRange}
 use Rattle.cj_spans.specs.declared.finding.Finding.{Finding}
@@ -17,6 +17,7 @@ use Rattle.cj_decimal.specs.declared.decimal.DecimalFault.{DecimalFault}
 use Rattle.cj_decimal.specs.declared.decimal.DecimalFault.TheVariants.{NotANumber, NumberRange as OutOfRange}
 use Rattle.cj_decimal.proofs.Eights.{first_is}
 use Rattle.cj_decimal.specs.Spelling.{IsInt, IsFewDigits, IsFewSigned, IsNumber, IsNumberInRange, IsNumberOutOfRange}
+use Rattle.cj_decimal.specs.Word.{IsWordOf}
 use Rattle.cj_decimal.specs.Class.{Class, no_number, out_of_range, not_whole, whole, whole_answer}
 use Rattle.cj_decimal.proofs.Classes.{class}
 use Rattle.cj_decimal.proofs.Law.{not_both, value_is_number}
@@ -82,6 +83,23 @@ index-of-whole t w is reason count = go (is_number (kind_of t)) refl
     go true e = rw e (by-whole (spelling t) t (class (spelling t)) w (rw e at is) reason count)
     go false e = absurd (cc (rw e at is))
 
+-- it is spelled as a number
+whole-by-number : (s : List ℕ) (c : Class s) (w : ℤ) → whole_by c ≡ Some w → IsNumber s
+whole-by-number s (no_number n) w is = absurd (cc is)
+whole-by-number s (out_of_range n) w is = absurd (cc is)
+whole-by-number s (not_whole v value range n) w is = absurd (cc is)
+whole-by-number s (whole v x value range are) w is = value_is_number s v value
+
+pub whole-kind : (t : Tree) (w : ℤ) → whole_of t ≡ Some w → kind_of t ≡ Number
+whole-kind (scalar Null a) w is = absurd (cc is)
+whole-kind (scalar Truth a) w is = absurd (cc is)
+whole-kind (scalar Number a) w is = refl
+whole-kind (scalar Text a) w is = absurd (cc is)
+whole-kind (scalar Array a) w is = absurd (cc is)
+whole-kind (scalar Object a) w is = absurd (cc is)
+whole-kind (array i j ts) w is = absurd (cc is)
+whole-kind (object i j ms) w is = absurd (cc is)
+
 -- an index has no finding but at itself
 pub index-told : (found : Option Finding) (t : Tree) → ((r : Reason) → least found (one r t) ≡ found) → (reason : Reason) (count : Option ℕ) → least found (index reason count t) ≡ found
 index-told found t same reason count = go (is_number (kind_of t)) refl
@@ -110,6 +128,9 @@ module _ (line : List ℕ) (t : Tree) (kind : kind_of t ≡ Number) where
       go (scalar k a) e = refl
       go (array i j ts) e = cc
       go (object i j ms) e = cc
+
+  spelled-number : (w : ℤ) → whole_of t ≡ Some w → IsNumber (spelling_of line t)
+  spelled-number w is = let P : List ℕ → Type 0 = IsNumber in subst P (sym spelled) (whole-by-number (spelling t) (class (spelling t)) w (rw kind at is))
 
   pub number-in : IsNumberInRange (spelling_of line t) → number t ≡ []
   number-in o = rw kind (in-range (spelling t) t (class (spelling t)) (rw spelled at o))
@@ -184,3 +205,14 @@ module _ (line b : List ℕ) (t : Tree) (start stop : ℕ) (e : b ≡ line) (ord
   pub signed-there-if : (o : Option ℤ) → (IsSome o → IsFewSigned (slice_range b start stop)) → IfSome o (λ w. (c : Class (slice_range b start stop)) → whole_answer c ≡ Ok (Some w)) → IfSome o (λ w. whole_of t ≡ Some w)
   signed-there-if None few answer = answer
   signed-there-if (Some w) few answer = signed-there w (few refl) answer
+
+  -- a whole number, and the word of its digits
+  pub number-there : (w : ℤ) → whole_of t ≡ Some w → IsNumber (slice_range b start stop)
+  number-there w is =
+      let P : List ℕ → Type 0 = λ s. IsNumber (slice_range s start stop) in
+      let Q : List ℕ → Type 0 = IsNumber in
+      subst P (sym e) (subst Q (sym same) (spelled-number line t (whole-kind t w is) w is))
+
+  pub word-there-if : (o : Option ℕ) → kind_of t ≡ Number → IfSome o (λ d. (n : ℕ) × IsWordOf d n × ((c : Class (slice_range b start stop)) → whole_answer c ≡ Ok (Some (pos n)))) → IfSome o (λ d. (n : ℕ) × IsWordOf d n × (whole_of t ≡ Some (pos n)))
+  word-there-if None number read = read
+  word-there-if (Some d) number read = (read.0, read.1, read-there (pos read.0) (kind ∙ number) read.2)

@@ -5,7 +5,6 @@ use Rattle.std.specs.List.{list_all}
 use Rattle.std.specs.Str.{is_utf8, chars}
 use Rattle.std.proofs.lemmas.Str.{IsUtf8-from_is_utf8}
 use lib.Utf8.{encode}
-use Rattle.cj_spans.specs.declared.reason.Reason.{Reason}
 use Rattle.cj_spans.specs.declared.reason.Reason.TheVariants.{NotReached}
 use Rattle.cj_spans.specs.Finding.{least, found_at}
 use Rattle.cj_spans.specs.Forest.{forest}
@@ -16,11 +15,11 @@ use Rattle.cj_feature.specs.Examples.{plain_header, chain, part_apart, main_part
 use Rattle.cj_feature.specs.Feature.{feature}
 use Rattle.cj_feature.proofs.Worked.{plain_feature, plain_header-valid, plain_feature-valid, chain-valid, part_apart-valid, part_apart-refused, main_part-refused}
 use Rattle.cj_stream.specs.declared.ending.End.TheVariants.{Complete, Refused}
-use Rattle.cj_stream.specs.ChoiceRows.{choosing, behind_header, ApartRow, ChainRow, ExcludeRow}
+use Rattle.cj_stream.specs.ChoiceRows.{choosing, ApartRow, ChainRow, ExcludeRow}
 use Rattle.cj_stream.specs.Item.{tree_of}
-use Rattle.cj_stream.specs.Lines.{Line, raw, ended_line}
+use Rattle.cj_stream.specs.Lines.{raw, ended_line}
 use Rattle.cj_stream.specs.Rows.{small_header, small_feature}
-use Rattle.cj_stream.specs.Verdict.{Rules, Refuse, Unwanted, Valid, is_blank_byte, is_wanted, by_least, verdict, verdict_at, tree_verdict, ending_of}
+use Rattle.cj_stream.specs.Verdict.{Rules, Unwanted, Valid, is_blank_byte, is_wanted, by_least, verdict, verdict_at, tree_verdict, ending_of}
 use Rattle.cj_stream.proofs.RowLemmas.{spelled-tree, by-tree, header_json, feature_json, header_text, feature_text, header_tree, holds-everything, written, second-refused, two-good, open_line}
 use Rattle.cj_stream.proofs.VerdictLemmas.{verdict-json, tree-valid, tree-unasked}
 

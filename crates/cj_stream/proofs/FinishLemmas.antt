@@ -5,7 +5,6 @@ use Rattle.std.proofs.lemmas.List.{append-nil}
 use Rattle.std.proofs.lemmas.Bool.Decides.{nat_tests}
 use Rattle.cj_budget.specs.Limits.{LimitPair}
 use Rattle.cj_budget.specs.Bounded.{IsWithin}
-use Rattle.cj_budget.specs.declared.limits.Peaks.{Peaks}
 use Rattle.cj_spans.specs.declared.reason.Reason.{Reason}
 use Rattle.cj_spans.specs.declared.reason.Reason.TheVariants.{NoHeader}
 use Rattle.cj_stream.specs.declared.ending.End.{End}

@@ -1,5 +1,5 @@
 -- Small streams in which reading goes on after invalid lines, computed.
-use Rattle.std.proofs.Common.{◌≡◌, ℕ, List, [], ◌∷◌, ◌++◌, Bool, true, cond, ltb, length, refl, ◌∙◌, lit<}
+use Rattle.std.proofs.Common.{◌≡◌, ℕ, List, [], ◌∷◌, ◌++◌, true, cond, ltb, length, refl, ◌∙◌, lit<}
 use Rattle.std.specs.Prelude.{not, ◌&&◌, nat_lt}
 use Rattle.std.specs.List.{list_all}
 use Rattle.std.specs.Str.{is_utf8}
@@ -11,7 +11,6 @@ use Rattle.cj_spans.specs.Tree.{Tree}
 use Rattle.cj_spans.proofs.Judgements.{judgement}
 use Rattle.cj_stream.specs.declared.ending.End.TheVariants.{Complete, Refused}
 use Rattle.cj_stream.specs.GoingRows.{going, BetweenRow, FirstRow, LastRow}
-use Rattle.cj_stream.specs.Item.{tree_of}
 use Rattle.cj_stream.specs.Lines.{Line, raw, ended_line}
 use Rattle.cj_stream.specs.Rows.{small_header, small_feature, wide_rules, tight_rules}
 use Rattle.cj_stream.specs.Verdict.{Rules, Refuse, Blank, Valid, is_blank_byte, verdict, verdict_at, text_verdict, ending_of, good_from, reported_from}

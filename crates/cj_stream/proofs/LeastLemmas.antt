@@ -3,19 +3,17 @@ use Rattle.std.proofs.Common.{◌≡◌, ℕ, ◌+◌, ◌≤◌, List, [], ◌�
 use Rattle.std.specs.List.{flat_map}
 use Rattle.std.proofs.lemmas.List.{append-nil, take_all}
 use Rattle.cj_budget.specs.Limits.{LimitPair}
-use Rattle.cj_budget.specs.declared.limits.Peaks.{Peaks}
-use Rattle.cj_stream.specs.Bound.{IsBelow, contents, exact_peaks, first_lines, greatest, held_length, of_first, tree_nest, tree_size}
+use Rattle.cj_stream.specs.Bound.{IsBelow, contents, exact_peaks, first_lines, greatest, held_length}
 use Rattle.cj_stream.specs.declared.ending.End.{End}
 use Rattle.cj_stream.specs.Engine.{EngineState, limits_of, lines_of, peaks_of}
 use Rattle.cj_stream.specs.Item.{Item}
-use Rattle.cj_stream.specs.Lines.{begun, begun_after, begun_later, closed, ended_line, first_content, first_of, last_line, later_of, lines, raw, whole}
+use Rattle.cj_stream.specs.Lines.{begun, begun_after, closed, ended_line, first_content, first_of, last_line, later_of, lines, raw, whole}
 use Rattle.cj_stream.specs.Reading.{Reading, Reads, Stays, Finishes, FinishesWith, is_lenient}
 use Rattle.cj_stream.specs.Scanning.{Scanning, Scanned, HeldAll, HeldUntil, Rises}
 use Rattle.cj_stream.proofs.EngineLemmas.{lines-front}
 use Rattle.cj_stream.proofs.FinishLemmas.{Finishes-concludes, contents-closed, contents-last, peaks-finished}
 use Rattle.cj_stream.proofs.GoodLemmas.{good-complete}
 use Rattle.cj_stream.proofs.IsLinesLemmas.{lines-are_lines, lines-whole}
-use Rattle.cj_stream.proofs.LineLemmas.{begun_after-empty}
 use Rattle.cj_stream.proofs.ReadingLemmas.{greatest-later, held-nothing}
 use Rattle.cj_stream.proofs.ScanningLemmas.{first-closed}
 use Rattle.cj_stream.proofs.StaysLemmas.{settled-err}

@@ -1,5 +1,5 @@
 -- What the good lines are where reading goes on after invalid ones, and where it does not.
-use Rattle.std.proofs.Common.{◌≡◌, ℕ, ◌+◌, ◌<◌, zero, suc, List, [], ◌∷◌, ◌++◌, Bool, true, false, cond, ltb, length, map, take, Option, Some, None, arith, refl, sym, ap, ◌∙◌, length-append}
+use Rattle.std.proofs.Common.{◌≡◌, ℕ, ◌+◌, ◌<◌, List, [], ◌∷◌, ◌++◌, Bool, true, false, cond, ltb, length, map, take, Option, Some, None, arith, refl, ap, length-append}
 use Rattle.std.specs.Prelude.{◌&&◌, ◌||◌, not, nat_lt, is_some, unwrap_or}
 use Rattle.std.specs.List.{list_all}
 use Rattle.std.proofs.lemmas.Bool.Decides.{nat_tests}
@@ -12,7 +12,7 @@ use Rattle.cj_spans.proofs.Judgements.{judgement}
 use Rattle.cj_spans.specs.declared.reason.Reason.TheVariants.{LineTooLong, NotUtf8}
 use Rattle.cj_stream.specs.declared.ending.End.{End}
 use Rattle.cj_stream.specs.declared.ending.End.TheVariants.{Complete, Refused}
-use Rattle.cj_stream.specs.Bound.{is_text, is_spelled, is_readable, is_legible, exact_peaks, IsExact}
+use Rattle.cj_stream.specs.Bound.{is_spelled, is_readable, exact_peaks, IsExact}
 use Rattle.cj_stream.specs.Lines.{Line, later_of, lines}
 use Rattle.cj_stream.specs.Verdict.{Rules, Verdict, Refuse, Blank, Unwanted, Valid, is_blank_byte, verdict_at, text_verdict, verdict, header_of, goes_on, refusal_of, refusal_from, refusal_in, report_of, good_from, good, reported_from, reported, ending, ending_of}
 use Rattle.cj_stream.proofs.Apart.{none-some, some-none}

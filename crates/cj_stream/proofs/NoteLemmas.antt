@@ -1,9 +1,8 @@
 -- What a sink of reports has noted of a text, line by line and call by call.
-use Rattle.std.proofs.Common.{◌≡◌, ℕ, ◌+◌, ◌<◌, ◌≤◌, ◌⊎◌, inl, inr, zero, suc, List, [], ◌∷◌, ◌++◌, Bool, true, false, cond, length, take, drop, map, Option, Some, None, arith, refl, sym, ap, ◌∙◌, append_assoc, length-append}
-use Rattle.std.specs.Prelude.{is_some, Result, Ok, Err, OnOk, OnErr}
+use Rattle.std.proofs.Common.{◌≡◌, ℕ, ◌+◌, ◌<◌, ◌≤◌, ◌⊎◌, inl, inr, zero, suc, List, [], ◌∷◌, ◌++◌, Bool, false, length, take, drop, map, Some, None, arith, refl, sym, ap, ◌∙◌, append_assoc, length-append}
+use Rattle.std.specs.Prelude.{Result, Ok, Err, OnOk, OnErr}
 use Rattle.std.proofs.lemmas.List.{append-nil, take-append-drop}
 use Rattle.std.proofs.Math.Seq.{drop-append_seam}
-use Rattle.cj_spans.specs.declared.reason.Reason.{Reason}
 use Rattle.cj_stream.specs.declared.ending.End.{End}
 use Rattle.cj_stream.specs.declared.ending.End.TheVariants.{Complete, Refused, ReadFault, ReadLimit, WriteFault, Memory}
 use Rattle.cj_stream.specs.declared.ending.LineEnd.{LineEnd}
@@ -14,12 +13,12 @@ use Rattle.cj_stream.specs.Cut.{joined}
 use Rattle.cj_stream.specs.Ending.{line_end}
 use Rattle.cj_stream.specs.Item.{Item}
 use Rattle.cj_stream.specs.LinePieces.{reported_after, NotesLines}
-use Rattle.cj_stream.specs.Lines.{Line, NoLf, closed, begun, ended_line, last_line, lines, whole}
-use Rattle.cj_stream.specs.Reading.{Reading, told_verdict, next_verdict, Stores, Settles, Reads}
+use Rattle.cj_stream.specs.Lines.{Line, NoLf, closed, begun, ended_line, lines, whole}
+use Rattle.cj_stream.specs.Reading.{Reading, told_verdict, Stores, Settles, Reads}
 use Rattle.cj_stream.specs.Reporting.{Collects, Notes, NotesRun, NotesPieces}
 use Rattle.cj_stream.specs.Run.{Run, Ends, RunsNoting}
-use Rattle.cj_stream.specs.Sink.{Took, TookFront}
-use Rattle.cj_stream.specs.Verdict.{Rules, Verdict, Refuse, Blank, Unwanted, Valid, verdict, refusal_of, refusal_from, refusal_in, judged, good, good_from, report_of, reported_from, reported, reported_first, ending}
+use Rattle.cj_stream.specs.Sink.{Took}
+use Rattle.cj_stream.specs.Verdict.{Rules, Verdict, Refuse, Blank, Unwanted, Valid, verdict, refusal_in, judged, good, good_from, report_of, reported_from, reported, reported_first}
 use Rattle.cj_stream.proofs.Apart.{some-none}
 use Rattle.cj_stream.proofs.CutLemmas.{refused-more}
 use Rattle.cj_stream.proofs.EngineLemmas.{lines-front, take-front}

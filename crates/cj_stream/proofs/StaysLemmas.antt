@@ -1,6 +1,5 @@
 -- What stays of a reading, whatever comes of some bytes.
-use Rattle.std.proofs.Common.{◌≡◌, ℕ, ◌+◌, ◌<◌, ◌≤◌, ◌⊎◌, inl, inr, List, Bool, true, false, cond, length, Option, Some, None, Result, Ok, Err, OnErr, arith, refl, sym, ap, ◌∙◌}
-use Rattle.cj_budget.specs.Bounded.{IsWithin}
+use Rattle.std.proofs.Common.{◌≡◌, ℕ, ◌+◌, ◌<◌, ◌≤◌, ◌⊎◌, inl, inr, List, Bool, true, false, cond, Some, None, Result, Ok, Err, OnErr, arith, refl, sym, ap, ◌∙◌}
 use Rattle.cj_spans.specs.declared.reason.Reason.{Reason}
 use Rattle.cj_stream.specs.declared.ending.End.{End}
 use Rattle.cj_stream.specs.declared.ending.End.TheVariants.{Refused, WriteFault, Memory}

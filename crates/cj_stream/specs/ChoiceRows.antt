@@ -1,5 +1,5 @@
 -- Worked rows of streams of which each city object has to be reached, or of which what is asked for is left out.
-use Rattle.std.specs.Prelude.{◌≡◌, ℕ, List, [], ◌∷◌, ◌++◌, Bool, true, false}
+use Rattle.std.specs.Prelude.{ℕ, List, [], ◌∷◌, ◌++◌, Bool, true, false}
 use Rattle.cj_spans.specs.declared.reason.Reason.TheVariants.{NotReached}
 use Rattle.cj_feature.specs.Examples.{chain, part_apart, main_part}
 use Rattle.cj_stream.specs.declared.ending.End.TheVariants.{Complete, Refused}

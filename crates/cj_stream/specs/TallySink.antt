@@ -1,10 +1,11 @@
 -- What contracts see of a tally, what an item makes of it, and which tally some items have.
 use Rattle.std.specs.Prelude.{◌≡◌, ℕ, ◌+◌, ◌<◌, ◌≤◌, List, [], ◌++◌, Option, Some, None, ℤ, get_or, map, option_map}
-use Rattle.std.specs.Prelude.{codes, replicate, take}
+use Rattle.std.specs.Prelude.{codes, pos, replicate, take}
 use Rattle.std.specs.List.{filter, last_or}
 use Rattle.std.specs.Str.{chars}
 use Rattle.cj_spans.specs.Tree.{Tree}
 use Rattle.cj_decimal.specs.Number.{Number}
+use Rattle.cj_decimal.specs.Word.{IsWordOf}
 use Rattle.cj_feature.specs.Shown.{transform_values}
 use Rattle.cj_stream.specs.declared.ending.End.{End}
 use Rattle.cj_stream.specs.declared.ending.End.TheVariants.{Complete, Refused, ReadFault, ReadLimit, WriteFault, Memory}
@@ -45,6 +46,21 @@ RisesBy size old ns new = (n : ℕ) → n < size → get_or new n 0 ≡ capped (
 -- a range of some numbers becomes the range of them and these
 abbrev pub Widens : Option (ℤ × ℤ) → List ℤ → Option (ℤ × ℤ) → Type 0
 Widens old ns new = (before : List ℤ) → IsRange before old → IsRange (before ++ ns) new
+
+-- words have the ends of a range
+abbrev pub AreWordsOf : ℕ × ℕ → ℤ × ℤ → Type 0
+AreWordsOf words range = (a b : ℕ) × IsWordOf words.0 a × IsWordOf words.1 b × (range ≡ (pos a, pos b))
+
+-- the range is that of the numbers before those that are left
+pub record RangesFront (all : List ℤ) (range : Option (ℤ × ℤ)) (left : List ℤ) : Type 0 where
+  pub front : List ℤ
+  pub joined : all ≡ front ++ left
+  pub range_is : IsRange front range
+
+-- words that have the ends of a range are widened on the way to the numbers `rest`
+abbrev pub WidensWords : ℕ × ℕ → List ℤ → ℕ × ℕ → List ℤ → Type 0
+WidensWords old left new rest = (all : List ℤ) (r : ℤ × ℤ) → AreWordsOf old r → RangesFront all (Some r) left
+    → (s : ℤ × ℤ) × AreWordsOf new s × RangesFront all (Some s) rest
 
 -- numbers of the transform are those that a header of this tree shows
 abbrev pub Shows : List ℕ → Tree → Option (List Number) → Type 0

@@ -197,11 +197,11 @@ impl<'q> Desk<'q> {
             (record { content = content.now; lf = lf })) sink.old result sink.new }
         ensures end { IfErr result IsLaterEnd }
     {
-        let Some(parts) = self.parts else {
+        let Some(parts) = &self.parts else {
             unreachable!()
         };
         let header_doc = Doc::of(first, self.header_tokens.as_slice());
-        let header = Header::of(header_doc, parts);
+        let header = Header::of(header_doc, *parts);
         let doc = Doc::of(content, self.line_tokens.as_slice());
         let feature = match check_feature(doc, &header, self.options.asks_for_trees()) {
             Ok(feature) => feature,

@@ -21,7 +21,7 @@ use crate::feature::Feature;
 use crate::feature::ids::check_id_member;
 use crate::feature::links::check_links;
 use crate::feature::objects::check_city_objects_member;
-use crate::feature::reached::check_reached;
+use crate::feature::search::reached::check_reached;
 use crate::header::Header;
 use crate::member::{check_name_member, check_there};
 use cj_geometry::Templates;

@@ -1,9 +1,9 @@
 //! Numbers that rules read.
-ghost use Rattle.std.specs.Prelude.{◌≡◌, ℕ, ◌<◌, ◌^◌, nat_lt, not, pos, Some, IfSome, IsTrue, length, take, []};
+ghost use Rattle.std.specs.Prelude.{◌≡◌, ℕ, ℤ, ◌<◌, ◌^◌, nat_lt, not, pos, Some, IfSome, IsTrue, length, take, []};
 ghost use Rattle.std.specs.List.{flat_map};
 ghost use Rattle.cj_spans.specs.declared.reason.Reason.{Reason as ReasonOf};
 ghost use Rattle.cj_spans.specs.Parts.{items_of};
-ghost use Rattle.cj_decimal.specs.Word.{TellsBelow};
+ghost use Rattle.cj_decimal.specs.Word.{IsWordOf, TellsBelow};
 ghost use Rattle.cj_geometry.specs.Lone.{AreLone};
 ghost use Rattle.cj_spans.specs.Finding.{least};
 ghost use Rattle.cj_spans.specs.View.{tree};
@@ -148,6 +148,17 @@ pub fn read_whole(node: Node) -> Option<i64>
         Some(whole) => Some(whole),
         None => read_any_whole(node),
     }
+}
+
+/// Returns the digits of a whole number as a word ([`Decimal::read_word_in`]), if they are at most
+/// eight. None for any other whole number, and near the start of the line.
+#[inline(always)]
+pub fn read_whole_word(node: Node) -> Option<u64>
+    requires { (w : ℤ) × (whole_of (tree node) ≡ Some w) }
+    ensures { IfSome result (λ d. (n : ℕ) × IsWordOf d n × (whole_of (tree node.entry) ≡ Some (pos n))) }
+{
+    let (start, stop) = node.span();
+    Decimal::read_word_in(node.line(), start, stop)
 }
 
 /// Returns the least number of few digits that is outside: the count if it is known, otherwise more

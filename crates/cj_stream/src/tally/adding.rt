@@ -1,13 +1,16 @@
 //! What a feature adds to a tally.
-ghost use Rattle.std.specs.Prelude.{◌≡◌, ◌∷◌, [], ◌<◌, ℕ, get_or, map, None, option_map, pos, Some};
+ghost use Rattle.std.specs.Prelude.{◌≡◌, ◌∷◌, [], ◌<◌, ℕ, ℤ, get_or, map, None, option_map, pos, Some};
+ghost use Rattle.cj_decimal.specs.Word.{IsWordOf};
 ghost use Rattle.cj_spans.specs.View.{tree};
 ghost use Rattle.cj_feature.specs.Typed.{number_on};
 ghost use Rattle.cj_feature.specs.View.{feature_tree, feature_header};
 ghost use Rattle.cj_feature.specs.Walks.{vertices_left};
 ghost use Rattle.cj_stream.specs.Tallied.{class_of as lod_class, type_numbers, lod_classes, numbers_on};
-ghost use Rattle.cj_stream.specs.TallySink.{RisesBy, Widens};
+ghost use Rattle.cj_stream.specs.TallySink.{AreWordsOf, RangesFront, RisesBy, Widens, WidensWords};
 
 use super::CLASSES;
+use super::joining::join_ranges;
+use cj_decimal::word_value;
 use cj_feature::{Feature, Vertices};
 use cj_geometry::{Lods, lod_of};
 use cj_spans::Node;
@@ -116,12 +119,12 @@ fn widen_by(ranges: [(i64, i64); 3], vertices: Vertices) -> [(i64, i64); 3]
     [on_x, on_y, on_z]
 }
 
-/// Returns the ranges on the axes, widened by the vertices of a feature.
-pub fn widen_all(ranges: [Option<(i64, i64)>; 3], feature: &Feature) -> [Option<(i64, i64)>; 3]
-    ensures { (axis : ℕ) → axis < 3
-        → Widens (get_or ranges axis None) (numbers_on axis (feature_tree feature.now)) (get_or result axis None) }
+/// Returns the ranges on the axes, widened by the vertices that are left.
+fn widen_rest(ranges: [Option<(i64, i64)>; 3], rest: Vertices) -> [Option<(i64, i64)>; 3]
+    ensures { (axis : ℕ) → axis < 3 → Widens (get_or ranges axis None)
+        (map (number_on axis) (vertices_left rest.entry)) (get_or result axis None) }
 {
-    let mut vertices = feature.vertices();
+    let mut vertices = rest;
     match vertices.next() {
         Some(vertex) => {
             let [x, y, z] = vertex;
@@ -132,4 +135,77 @@ pub fn widen_all(ranges: [Option<(i64, i64)>; 3], feature: &Feature) -> [Option<
         }
         None => ranges,
     }
+}
+
+/// Returns a range of words with one word more. Words have the order of their numbers.
+#[inline(always)]
+fn widened_words(range: (u64, u64), word: u64) -> (u64, u64)
+    ensures { (r : ℤ × ℤ) (n : ℕ) → AreWordsOf range r → IsWordOf word n
+        → (s : ℤ × ℤ) × AreWordsOf result s × Widens (Some r) (pos n ∷ []) (Some s) }
+{
+    let (least, greatest) = range;
+    (least.min(word), greatest.max(word))
+}
+
+/// Returns the range of the numbers that these words have.
+fn range_of_words(words: (u64, u64)) -> (i64, i64)
+    requires { (r : ℤ × ℤ) × AreWordsOf words r }
+    ensures { (r : ℤ × ℤ) → AreWordsOf words r → result ≡ r }
+{
+    (word_value(words.0) as i64, word_value(words.1) as i64)
+}
+
+/// Returns ranges of words, widened by the vertices at the front whose numbers all have few digits.
+/// It goes past these vertices.
+///
+/// It is never inlined, so that its loop has the registers.
+#[inline(never)]
+fn widen_words(words: [(u64, u64); 3], vertices: &mut Vertices) -> [(u64, u64); 3]
+    ensures { (axis : ℕ) → axis < 3 → WidensWords (get_or words axis (0, 0))
+        (map (number_on axis) (vertices_left vertices.old)) (get_or result axis (0, 0))
+        (map (number_on axis) (vertices_left vertices.new)) }
+{
+    let [mut on_x, mut on_y, mut on_z] = words;
+    let mut left = *vertices;
+    while let Some(vertex) = left.next_words() {
+        let [x, y, z] = vertex;
+        on_x = widened_words(on_x, x);
+        on_y = widened_words(on_y, y);
+        on_z = widened_words(on_z, z);
+    }
+    *vertices = left;
+    [on_x, on_y, on_z]
+}
+
+/// Returns the ranges of those vertices on the axes, and goes past them. It computes each end once,
+/// and not a number for each vertex.
+fn range_front(vertices: &mut Vertices) -> [Option<(i64, i64)>; 3]
+    ensures { (axis : ℕ) → axis < 3 → RangesFront (map (number_on axis) (vertices_left vertices.old))
+        (get_or result axis None) (map (number_on axis) (vertices_left vertices.new)) }
+{
+    match vertices.next_words() {
+        Some(first) => {
+            let [x, y, z] = first;
+            let [on_x, on_y, on_z] = widen_words([(x, x), (y, y), (z, z)], vertices);
+            [
+                Some(range_of_words(on_x)),
+                Some(range_of_words(on_y)),
+                Some(range_of_words(on_z)),
+            ]
+        }
+        None => [None; 3],
+    }
+}
+
+/// Returns the ranges on the axes, widened by the vertices of a feature.
+///
+/// It looks at digits alone while it can. From the first vertex on that has a minus, more than
+/// eight digits, or another spelling, it computes each number.
+pub fn widen_all(ranges: [Option<(i64, i64)>; 3], feature: &Feature) -> [Option<(i64, i64)>; 3]
+    ensures { (axis : ℕ) → axis < 3
+        → Widens (get_or ranges axis None) (numbers_on axis (feature_tree feature.now)) (get_or result axis None) }
+{
+    let mut vertices = feature.vertices();
+    let front = range_front(&mut vertices);
+    widen_rest(join_ranges(ranges, front), vertices)
 }

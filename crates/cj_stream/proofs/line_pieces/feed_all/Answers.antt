@@ -1,4 +1,4 @@
-use Rattle.std.proofs.Common.{[], Some, ◌≡◌, ◌+◌, ◌++◌, ◌∙◌, length, take, map, get_or, sym, ap, arith, append_assoc, length-append, Err}
+use Rattle.std.proofs.Common.{[], ◌≡◌, ◌+◌, ◌++◌, ◌∙◌, length, take, map, get_or, sym, ap, arith, append_assoc, length-append, Err}
 use Rattle.std.proofs.lemmas.List.{length-map}
 use Rattle.cj_stream.specs.Cut.{joined}
 use Rattle.cj_stream.specs.Ending.{line_end}

@@ -1,4 +1,4 @@
-use Rattle.std.proofs.Common.{◌≡◌, ◌∙◌, false, sym}
+use Rattle.std.proofs.Common.{◌∙◌, false, sym}
 use Rattle.cj_stream.specs.Lines.{begun}
 use Rattle.cj_stream.specs.Reading.{is_lenient}
 use Rattle.cj_stream.proofs.FinishLemmas.{ok-then, finishes-with, scanned-last, scanned-closed}

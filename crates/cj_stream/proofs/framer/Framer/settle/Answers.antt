@@ -1,13 +1,13 @@
 use Rattle.std.proofs.Common.{rules, inl, true, false, ◌≡◌, ◌+◌, ◌<◌, ◌∙◌, ap, refl, sym, subst, arith}
 use Rattle.cj_stream.specs.declared.judge.Content.TheVariants.{BlankLine, Sound}
 use Rattle.cj_stream.specs.Item.{tree_of}
-use Rattle.cj_stream.specs.Reading.{Reading, begun_of, held_header, next_item, next_verdict, Settles}
+use Rattle.cj_stream.specs.Reading.{Reading, begun_of, held_header, next_item, Settles}
 use Rattle.cj_stream.specs.Scanning.{Forgets, IsStill}
 use Rattle.cj_stream.specs.Verdict.{verdict_at, tree_verdict, Blank}
 use Rattle.cj_stream.proofs.BlankLemmas.{blank-tree}
 use Rattle.cj_stream.proofs.FinishLemmas.{ok-then, err-then}
 use Rattle.cj_stream.proofs.ReadingLemmas.{dropped-long}
-use Rattle.cj_stream.proofs.ScanningLemmas.{forgets-still, judges-at, ready-passed, next-held, scanned-valid, scanned-blank, scanned-unread, scanned-faulty, unread-long}
+use Rattle.cj_stream.proofs.ScanningLemmas.{forgets-still, judges-at, next-held, scanned-valid, scanned-blank, scanned-unread, scanned-faulty, unread-long}
 use Rattle.cj_stream.proofs.StaysLemmas.{Stays-settled, Stays-passed}
 use Rattle.cj_stream.proofs.VerdictLemmas.{blank-is}
 use Rattle.cj_stream.proofs.framer.Framer.settle.Goals as goal

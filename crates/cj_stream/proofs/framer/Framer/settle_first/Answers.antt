@@ -1,7 +1,7 @@
-use Rattle.std.proofs.Common.{rules, false, ◌≡◌, ◌+◌, ◌<◌, ◌∙◌, ap, refl, sym, subst, arith}
-use Rattle.cj_stream.specs.declared.judge.Content.TheVariants.{BlankLine, Sound}
+use Rattle.std.proofs.Common.{rules, false, ◌≡◌, ◌+◌, refl, subst, arith}
+use Rattle.cj_stream.specs.declared.judge.Content.TheVariants.{Sound}
 use Rattle.cj_stream.specs.Item.{tree_of}
-use Rattle.cj_stream.specs.Reading.{Reading, begun_of, held_header, next_item, next_verdict, Settles}
+use Rattle.cj_stream.specs.Reading.{Reading, begun_of, held_header, next_item, Settles}
 use Rattle.cj_stream.specs.Scanning.{Forgets}
 use Rattle.cj_stream.specs.Verdict.{verdict_at, tree_verdict, Blank}
 use Rattle.cj_stream.proofs.FinishLemmas.{ok-then}

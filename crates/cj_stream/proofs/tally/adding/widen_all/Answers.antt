@@ -1,39 +1,12 @@
-use Rattle.std.proofs.Common.{rules, to_z, of_z, w64, pos, ◌≡◌, ℕ, ◌<◌, ◌∷◌, [], List, map, get_or, None, Some, Option, ℤ, ap, ◌∙◌, suc, zero, arith, refl, subst, sym}
+use Rattle.std.proofs.Common.{◌≡◌, sym, ap, map}
 use Rattle.cj_feature.specs.Typed.{number_on}
 use Rattle.cj_feature.specs.View.{feature_tree}
 use Rattle.cj_feature.specs.Walks.{vertices_left}
 use Rattle.cj_stream.specs.Tallied.{numbers_on}
-use Rattle.cj_stream.specs.TallySink.{Widens}
-use Rattle.cj_stream.proofs.Ranges.{Widens-no, Widens-two, numbers-first}
+use Rattle.cj_stream.proofs.Ranges.{front-widened}
 use Rattle.cj_stream.proofs.tally.adding.widen_all.Goals as goal
 
--- by the first number, and then by the others
-first-widened : (range : Option (ℤ × ℤ)) (all rest : List ℤ) (n : ℤ) (mid end : ℤ × ℤ) → all ≡ n ∷ rest → Widens range (n ∷ []) (Some mid) → Widens (Some mid) rest (Some end) → Widens range all (Some end)
-first-widened range all rest n mid end e first later = subst (λ (ns : List ℤ). Widens range ns (Some end)) (sym e) (Widens-two (n ∷ []) rest range (Some mid) (Some end) first later)
-
-on_axis : (ranges : List (Option (ℤ × ℤ))) (numbers : ℕ → List ℤ) (x y z : Option (ℤ × ℤ))
-    → Widens (get_or ranges 0 None) (numbers 0) x → Widens (get_or ranges 1 None) (numbers 1) y → Widens (get_or ranges 2 None) (numbers 2) z
-    → (axis : ℕ) → axis < 3 → Widens (get_or ranges axis None) (numbers axis) (get_or (x ∷ y ∷ z ∷ []) axis None)
-on_axis ranges numbers x y z on_x on_y on_z zero b = on_x
-on_axis ranges numbers x y z on_x on_y on_z (suc zero) b = on_y
-on_axis ranges numbers x y z on_x on_y on_z (suc (suc zero)) b = on_z
-on_axis ranges numbers x y z on_x on_y on_z (suc (suc (suc n))) b = absurd (omega arith)
-
-pub returns-in-Some : goal.returns-in-Some
-returns-in-Some c =
-    let v = c.in-Some.vertex in
-    let x : to_z w64 (of_z w64 (get_or c.in-Some.vertex 0 (pos 0))) ≡ get_or c.in-Some.vertex 0 (pos 0) = search rules in
-    let y : to_z w64 (of_z w64 (get_or c.in-Some.vertex 1 (pos 0))) ≡ get_or c.in-Some.vertex 1 (pos 0) = search rules in
-    let z : to_z w64 (of_z w64 (get_or c.in-Some.vertex 2 (pos 0))) ≡ get_or c.in-Some.vertex 2 (pos 0) = search rules in
-    let t = feature_tree c.args.feature.now in
-    let left = vertices_left c.next.new.self in
-    let whole : (axis : ℕ) → numbers_on axis t ≡ map (number_on axis) (vertices_left c.vertices-vertices.result) = λ axis. sym (ap (map (number_on axis)) c.vertices-vertices.ensures) in
-    on_axis c.args.ranges (λ axis. numbers_on axis t) _ _ _
-    (first-widened _ _ (map (number_on 0) left) _ c.begun.result _ (whole 0 ∙ numbers-first 0 _ _ _ v x c.in-Some.ensures.steps) c.begun.ensures (c.widen_by.ensures 0 (omega arith)))
-    (first-widened _ _ (map (number_on 1) left) _ c.begun-in-Some.result _ (whole 1 ∙ numbers-first 1 _ _ _ v y c.in-Some.ensures.steps) c.begun-in-Some.ensures (c.widen_by.ensures 1 (omega arith)))
-    (first-widened _ _ (map (number_on 2) left) _ c.begun-in-Some-2.result _ (whole 2 ∙ numbers-first 2 _ _ _ v z c.in-Some.ensures.steps) c.begun-in-Some-2.ensures (c.widen_by.ensures 2 (omega arith)))
-
-pub returns-in-None : goal.returns-in-None
-returns-in-None c axis low =
-    let none : numbers_on axis (feature_tree c.args.feature.now) ≡ [] = sym (ap (map (number_on axis)) c.vertices-vertices.ensures) ∙ ap (map (number_on axis)) c.in-None.ensures.steps.0 in
-    subst (λ (ns : List ℤ). Widens (get_or c.args.ranges axis None) ns (get_or c.args.ranges axis None)) (sym none) (Widens-no (get_or c.args.ranges axis None))
+pub returns : goal.returns
+returns c axis low =
+    let whole : numbers_on axis (feature_tree c.args.feature.now) ≡ map (number_on axis) (vertices_left c.vertices-vertices.result) = sym (ap (map (number_on axis)) c.vertices-vertices.ensures) in
+    front-widened _ _ _ _ _ _ _ whole (c.range_front-front.ensures axis low) (c.join_ranges.ensures axis low) (c.widen_rest.ensures axis low)
