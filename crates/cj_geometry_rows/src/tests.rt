@@ -2,8 +2,8 @@
 //!
 //! A table has a name, a geometry with the hole `_`, and one row per line, with bars between its
 //! cells. The cells are a name, the text for the hole, and the result. The result is the code and
-//! the text of the reason, or `none`. The mark `^` shows where the finding is, and is no part of the
-//! geometry. Without a mark, a row has the byte itself.
+//! the text of the reason, or `none`. The mark `^` shows where the finding is, and is no part of
+//! the geometry. Without a mark, a row has the byte itself.
 ghost use Rattle.cj_spans.specs.Sound.{AreOf};
 
 mod boundaries;
@@ -226,7 +226,8 @@ fn all_meet(rt: &impl Abort, alloc: Global, tables: &[Table]) -> Result<(), Allo
     Ok(())
 }
 
-/// Checks the least finding of a line that is a geometry beside one vertex, after an earlier finding.
+/// Checks the least finding of a line that is a geometry beside one vertex, after an earlier
+/// finding.
 fn meets_after(
     rt: &impl Abort,
     alloc: Global,

@@ -61,8 +61,8 @@ fn unmarked(alloc: Global, row: &str) -> Result<(String, Option<Finding>), Alloc
     }
 }
 
-/// Returns `count` members, each with a comma after it. Their names are numbers of four digits after
-/// this front.
+/// Returns `count` members, each with a comma after it. Their names are numbers of four digits
+/// after this front.
 fn others(alloc: Global, front: &str, count: u32) -> Result<String, AllocError> {
     let mut text = String::new(alloc);
     for number in 0..count {
@@ -239,8 +239,8 @@ fn meets_behind_count(
     Ok(())
 }
 
-/// A name after some thousands of others has the mark if it repeats one of them. The arrays are that
-/// of middle size and the large one.
+/// A name after some thousands of others has the mark if it repeats one of them. The arrays are
+/// that of middle size and the large one.
 fn meets_behind(rt: &impl Abort, alloc: Global, rise: bool, name: &str) -> Result<(), AllocError> {
     meets_behind_count(rt, alloc, 6_000, rise, name)?;
     meets_behind_count(rt, alloc, 30_000, rise, name)
