@@ -1,10 +1,10 @@
 //! Rows of headers and features. What is wrong with each follows from the rules, not from the
 //! program.
 //!
-//! A table has one row per line, with bars between its cells. The cells are a name, the text for
-//! the hole `_` of the table's line, and the result. The result is the code and the text of the
-//! reason, or `none`. The mark `^` shows where the finding is, and is no part of the line. Without
-//! a mark, a row has the byte itself.
+//! A table has a name, a line with the hole `_`, and one row per line, with bars between its cells.
+//! The cells are a name, the text for the hole, and the result. The result is the code and the text
+//! of the reason, or `none`. The mark `^` shows where the finding is, and is no part of the line.
+//! Without a mark, a row has the byte itself.
 ghost use Rattle.cj_spans.specs.Marks.{AreUnmarked};
 ghost use Rattle.cj_spans.specs.Sound.{AreOf};
 
@@ -27,6 +27,26 @@ use std::process::Abort;
 /// A header without templates.
 const HEADER: &str =
     r#"{"type":"CityJSON","version":"2.0","transform":{"scale":[0.001,0.001,0.001],"translate":[1000.0,2000.0,0.0]},"CityObjects":{},"vertices":[]}"#;
+
+/// What a line is judged as.
+#[derive(Clone, Copy)]
+enum Judged {
+    Header,
+    /// A header whose transform must suit a box.
+    HeaderForBox,
+    /// A feature after this header.
+    Feature(&'static str),
+    /// A feature whose city objects must all be reached.
+    Tree,
+}
+
+/// Rows of one form, with the line in whose hole their cells stand.
+#[derive(Clone, Copy)]
+struct Table<'a> {
+    name: &'a str,
+    pattern: &'a str,
+    rows: &'a str,
+}
 
 /// Returns the tokens of a line that is a JSON text.
 fn tokens_of(rt: &impl Abort, alloc: Global, line: &[u8]) -> Bounded<Token>
@@ -122,83 +142,53 @@ fn line_of(
     unmarked(alloc, &line, want)
 }
 
-/// Checks that a row of the table, as a header with or without a box, has the finding that it
-/// expects.
-fn header_judged(
+/// Returns the finding of a line that is judged so.
+fn finding_of(rt: &impl Abort, alloc: Global, judged: Judged, line: &[u8]) -> Option<Finding> {
+    match judged {
+        Judged::Header => header_finding(rt, alloc, line, false),
+        Judged::HeaderForBox => header_finding(rt, alloc, line, true),
+        Judged::Feature(header) => feature_finding(rt, alloc, header.as_bytes(), line),
+        Judged::Tree => reached::tree_finding(rt, alloc, line),
+    }
+}
+
+/// Checks the text that a row of a table has.
+fn is_text(rt: &impl Abort, found: &str, want: &str, table: &str, row: &str) {
+    assert_eq!(rt; found, want, "{table}: {row}");
+}
+
+/// Checks that a row of the table has the finding that it expects.
+fn meets_row(
     rt: &impl Abort,
     alloc: Global,
-    with_box: bool,
-    pattern: &str,
+    judged: Judged,
+    table: &Table,
     row: &str,
 ) -> Result<(), AllocError> {
-    let (line, want) = line_of(rt, alloc, pattern, row)?;
-    let found = header_finding(rt, alloc, line.as_bytes(), with_box);
+    let (line, want) = line_of(rt, alloc, table.pattern, row)?;
+    let found = finding_of(rt, alloc, judged, line.as_bytes());
     let found = finding_text(alloc, found)?;
-    assert_eq!(rt; found.as_str(), want.as_str(), "{row}");
+    is_text(rt, &found, &want, table.name, row);
     Ok(())
 }
 
-/// Checks that each row of the table, as a header with or without a box, has the finding that it
-/// expects.
-fn headers_judged(
-    rt: &impl Abort,
-    alloc: Global,
-    with_box: bool,
-    pattern: &str,
-    rows: &str,
-) -> Result<(), AllocError> {
-    for row in rows.trim().lines() {
-        header_judged(rt, alloc, with_box, pattern, row)?;
+/// Checks that each row of the table has the finding that it expects.
+fn meets(rt: &impl Abort, alloc: Global, judged: Judged, table: &Table) -> Result<(), AllocError> {
+    for row in table.rows.trim().lines() {
+        meets_row(rt, alloc, judged, table, row)?;
     }
     Ok(())
 }
 
-/// Checks that each row of the table, as a header, has the finding that it expects.
-fn headers_meet(
+/// Checks that each row of each table has the finding that it expects.
+fn all_meet(
     rt: &impl Abort,
     alloc: Global,
-    pattern: &str,
-    rows: &str,
+    judged: Judged,
+    tables: &[Table],
 ) -> Result<(), AllocError> {
-    headers_judged(rt, alloc, false, pattern, rows)
-}
-
-/// Checks that each row of the table, as a header for a box, has the finding that it expects.
-fn boxed_headers_meet(
-    rt: &impl Abort,
-    alloc: Global,
-    pattern: &str,
-    rows: &str,
-) -> Result<(), AllocError> {
-    headers_judged(rt, alloc, true, pattern, rows)
-}
-
-/// Checks that a row of the table, as a feature with this header, has the finding that it expects.
-fn feature_meets(
-    rt: &impl Abort,
-    alloc: Global,
-    header: &str,
-    pattern: &str,
-    row: &str,
-) -> Result<(), AllocError> {
-    let (line, want) = line_of(rt, alloc, pattern, row)?;
-    let found = feature_finding(rt, alloc, header.as_bytes(), line.as_bytes());
-    let found = finding_text(alloc, found)?;
-    assert_eq!(rt; found.as_str(), want.as_str(), "{row}");
-    Ok(())
-}
-
-/// Checks that each row of the table, as a feature with this header, has the finding that it
-/// expects.
-fn features_meet(
-    rt: &impl Abort,
-    alloc: Global,
-    header: &str,
-    pattern: &str,
-    rows: &str,
-) -> Result<(), AllocError> {
-    for row in rows.trim().lines() {
-        feature_meets(rt, alloc, header, pattern, row)?;
+    for table in tables {
+        meets(rt, alloc, judged, table)?;
     }
     Ok(())
 }

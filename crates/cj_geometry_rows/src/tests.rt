@@ -1,9 +1,9 @@
 //! Rows of geometries. What is wrong with each follows from the rules, not from the program.
 //!
-//! A table has one row per line, with bars between its cells. The cells are a name, the text for
-//! the hole `_` of the table's geometry, and the result. The result is the code and the text of the
-//! reason, or `none`. The mark `^` shows where the finding is, and is no part of the geometry.
-//! Without a mark, a row has the byte itself.
+//! A table has a name, a geometry with the hole `_`, and one row per line, with bars between its
+//! cells. The cells are a name, the text for the hole, and the result. The result is the code and
+//! the text of the reason, or `none`. The mark `^` shows where the finding is, and is no part of
+//! the geometry. Without a mark, a row has the byte itself.
 ghost use Rattle.cj_spans.specs.Sound.{AreOf};
 
 mod boundaries;
@@ -43,12 +43,49 @@ struct Around {
     templates: Given,
 }
 
-/// Returns this number of vertices, and no templates.
-fn with_vertices(vertices: u64) -> Around {
-    Around {
-        vertices: Some(vertices),
-        templates: Given::Empty,
-    }
+const UNKNOWN_VERTICES: Around = Around {
+    vertices: None,
+    templates: Given::Empty,
+};
+
+const NO_VERTICES: Around = Around {
+    vertices: Some(0),
+    templates: Given::Empty,
+};
+
+const ONE_VERTEX: Around = Around {
+    vertices: Some(1),
+    templates: Given::Empty,
+};
+
+const TWO_VERTICES: Around = Around {
+    vertices: Some(2),
+    templates: Given::Empty,
+};
+
+const THREE_VERTICES: Around = Around {
+    vertices: Some(3),
+    templates: Given::Empty,
+};
+
+const FOUR_VERTICES: Around = Around {
+    vertices: Some(4),
+    templates: Given::Empty,
+};
+
+/// A geometry that is itself a template, of one vertex.
+const A_TEMPLATE: Around = Around {
+    vertices: Some(1),
+    templates: Given::Itself,
+};
+
+/// Rows of one form, with the geometry in whose hole their cells stand.
+#[derive(Clone, Copy)]
+struct Table<'a> {
+    name: &'a str,
+    around: Around,
+    geometry: &'a str,
+    rows: &'a str,
 }
 
 /// Returns the tokens of a line that is a JSON text.
@@ -165,29 +202,41 @@ fn line_of(
 }
 
 /// Checks that a row of the table has the finding that it expects.
-fn meets_row(
-    rt: &impl Abort,
-    alloc: Global,
-    around: Around,
-    geometry: &str,
-    row: &str,
-) -> Result<(), AllocError> {
-    let (line, want) = line_of(rt, alloc, geometry, row)?;
-    let found = shown(alloc, least_of(rt, alloc, line.as_bytes(), around, None))?;
-    assert_eq!(rt; found.as_str(), want.as_str(), "{row}");
+fn meets_row(rt: &impl Abort, alloc: Global, table: &Table, row: &str) -> Result<(), AllocError> {
+    let (line, want) = line_of(rt, alloc, table.geometry, row)?;
+    let found = least_of(rt, alloc, line.as_bytes(), table.around, None);
+    let found = shown(alloc, found)?;
+    assert_eq!(rt; found.as_str(), want.as_str(), "{}: {row}", table.name);
     Ok(())
 }
 
 /// Checks that each row of the table has the finding that it expects.
-fn meets(
+fn meets(rt: &impl Abort, alloc: Global, table: &Table) -> Result<(), AllocError> {
+    for row in table.rows.trim().lines() {
+        meets_row(rt, alloc, table, row)?;
+    }
+    Ok(())
+}
+
+/// Checks that each row of each table has the finding that it expects.
+fn all_meet(rt: &impl Abort, alloc: Global, tables: &[Table]) -> Result<(), AllocError> {
+    for table in tables {
+        meets(rt, alloc, table)?;
+    }
+    Ok(())
+}
+
+/// Checks the least finding of a line that is a geometry beside one vertex, after an earlier
+/// finding.
+fn meets_after(
     rt: &impl Abort,
     alloc: Global,
-    around: Around,
-    geometry: &str,
-    rows: &str,
+    line: &str,
+    before: Finding,
+    want: &str,
 ) -> Result<(), AllocError> {
-    for row in rows.trim().lines() {
-        meets_row(rt, alloc, around, geometry, row)?;
-    }
+    let found = least_of(rt, alloc, line.as_bytes(), ONE_VERTEX, Some(before));
+    let found = shown(alloc, found)?;
+    assert_eq!(rt; found.as_str(), want, "{line} after {before:?}");
     Ok(())
 }

@@ -85,7 +85,7 @@ impl<'a> Vertices<'a> {
         Vertices { items }
     }
 
-    /// Goes past the next vertex if all its numbers are at most eight digits, with no minus. Returns
+    /// Goes past the next vertex if all its numbers have at most eight digits and no minus. Returns
     /// their digits as words ([`cj_decimal::Decimal::read_word_in`]), which have the order of their
     /// numbers. None for any other vertex, and at the end. Then it stays where it is.
     #[inline(always)]

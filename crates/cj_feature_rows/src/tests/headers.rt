@@ -1,14 +1,12 @@
 //! Headers, rule by rule.
-use super::{boxed_headers_meet, headers_meet};
+use super::{Judged, Table, all_meet};
 use std::test::Fail;
 
-#[test]
-fn roots(rt: HostRuntime) -> Result<(), Fail> {
-    headers_meet(
-        &rt,
-        rt.alloc(),
-        r#"_"#,
-        r#"
+const HEADERS: [Table; 9] = [
+    Table {
+        name: "roots of headers",
+        pattern: r#"_"#,
+        rows: r#"
         an object of all members | {"type":"CityJSON","version":"2.0","transform":{"scale":[1,1,1],"translate":[0,0,0]},"CityObjects":{},"vertices":[]} | none
         white space round it |   {"type":"CityJSON","version":"2.0","transform":{"scale":[1,1,1],"translate":[0,0,0]},"CityObjects":{},"vertices":[]}  | none
         a number | ^3 | 12 wrong kind
@@ -17,17 +15,11 @@ fn roots(rt: HostRuntime) -> Result<(), Fail> {
         an array of a header | ^[{"type":"CityJSON","version":"2.0","transform":{"scale":[1,1,1],"translate":[0,0,0]},"CityObjects":{},"vertices":[]}] | 12 wrong kind
         no members | ^{} | 10 member missing
         "#,
-    )?;
-    Ok(())
-}
-
-#[test]
-fn members_that_are_missing(rt: HostRuntime) -> Result<(), Fail> {
-    headers_meet(
-        &rt,
-        rt.alloc(),
-        r#"_"#,
-        r#"
+    },
+    Table {
+        name: "members that are missing",
+        pattern: r#"_"#,
+        rows: r#"
         a type | ^{"version":"2.0","transform":{"scale":[1,1,1],"translate":[0,0,0]},"CityObjects":{},"vertices":[]} | 10 member missing
         a version | ^{"type":"CityJSON","transform":{"scale":[1,1,1],"translate":[0,0,0]},"CityObjects":{},"vertices":[]} | 10 member missing
         a transform | ^{"type":"CityJSON","version":"2.0","CityObjects":{},"vertices":[]} | 10 member missing
@@ -36,17 +28,11 @@ fn members_that_are_missing(rt: HostRuntime) -> Result<(), Fail> {
         a name of another case | ^{"Type":"CityJSON","version":"2.0","transform":{"scale":[1,1,1],"translate":[0,0,0]},"CityObjects":{},"vertices":[]} | 10 member missing
         a name by an escape is not | {"\u0074ype":"CityJSON","version":"2.0","transform":{"scale":[1,1,1],"translate":[0,0,0]},"CityObjects":{},"vertices":[]} | none
         "#,
-    )?;
-    Ok(())
-}
-
-#[test]
-fn types(rt: HostRuntime) -> Result<(), Fail> {
-    headers_meet(
-        &rt,
-        rt.alloc(),
-        r#"{"type":_,"version":"2.0","transform":{"scale":[1,1,1],"translate":[0,0,0]},"CityObjects":{},"vertices":[]}"#,
-        r#"
+    },
+    Table {
+        name: "types of headers",
+        pattern: r#"{"type":_,"version":"2.0","transform":{"scale":[1,1,1],"translate":[0,0,0]},"CityObjects":{},"vertices":[]}"#,
+        rows: r#"
         the type | "CityJSON" | none
         by an escape | "\u0043ityJSON" | none
         that of a feature | ^"CityJSONFeature" | 14 wrong type
@@ -57,17 +43,11 @@ fn types(rt: HostRuntime) -> Result<(), Fail> {
         null | ^null | 12 wrong kind
         an array of it | ^["CityJSON"] | 12 wrong kind
         "#,
-    )?;
-    Ok(())
-}
-
-#[test]
-fn versions(rt: HostRuntime) -> Result<(), Fail> {
-    headers_meet(
-        &rt,
-        rt.alloc(),
-        r#"{"type":"CityJSON","version":_,"transform":{"scale":[1,1,1],"translate":[0,0,0]},"CityObjects":{},"vertices":[]}"#,
-        r#"
+    },
+    Table {
+        name: "versions",
+        pattern: r#"{"type":"CityJSON","version":_,"transform":{"scale":[1,1,1],"translate":[0,0,0]},"CityObjects":{},"vertices":[]}"#,
+        rows: r#"
         the version | "2.0" | none
         by an escape | "2\u002e0" | none
         an older one | ^"1.1" | 15 wrong version
@@ -78,17 +58,11 @@ fn versions(rt: HostRuntime) -> Result<(), Fail> {
         a number | ^2.0 | 12 wrong kind
         null | ^null | 12 wrong kind
         "#,
-    )?;
-    Ok(())
-}
-
-#[test]
-fn transforms(rt: HostRuntime) -> Result<(), Fail> {
-    headers_meet(
-        &rt,
-        rt.alloc(),
-        r#"{"type":"CityJSON","version":"2.0","transform":_,"CityObjects":{},"vertices":[]}"#,
-        r#"
+    },
+    Table {
+        name: "transforms",
+        pattern: r#"{"type":"CityJSON","version":"2.0","transform":_,"CityObjects":{},"vertices":[]}"#,
+        rows: r#"
         members in the other order | {"translate":[0,0,0],"scale":[1,1,1]} | none
         a member more | {"scale":[1,1,1],"translate":[0,0,0],"rotate":0} | none
         an array | ^[] | 12 wrong kind
@@ -101,17 +75,11 @@ fn transforms(rt: HostRuntime) -> Result<(), Fail> {
         two scales | {"scale":[1,1,1],"translate":[0,0,0],^"scale":[1,1,1]} | 11 duplicate name
         two unread members | {"scale":[1,1,1],"a":0,"translate":[0,0,0],^"\u0061":0} | 11 duplicate name
         "#,
-    )?;
-    Ok(())
-}
-
-#[test]
-fn scales(rt: HostRuntime) -> Result<(), Fail> {
-    headers_meet(
-        &rt,
-        rt.alloc(),
-        r#"{"type":"CityJSON","version":"2.0","transform":{"scale":_,"translate":[0,0,0]},"CityObjects":{},"vertices":[]}"#,
-        r#"
+    },
+    Table {
+        name: "scales",
+        pattern: r#"{"type":"CityJSON","version":"2.0","transform":{"scale":_,"translate":[0,0,0]},"CityObjects":{},"vertices":[]}"#,
+        rows: r#"
         three numbers | [0.001,-1e3,0] | none
         two numbers | ^[1,1] | 17 not three items
         four numbers | ^[1,1,1,1] | 17 not three items
@@ -125,34 +93,49 @@ fn scales(rt: HostRuntime) -> Result<(), Fail> {
         a small power, where there is no box | [1e-19,1e18,1] | none
         two numbers, of which the second is a text | ^[1,"1"] | 17 not three items
         "#,
-    )?;
-    Ok(())
-}
-
-#[test]
-fn translations(rt: HostRuntime) -> Result<(), Fail> {
-    headers_meet(
-        &rt,
-        rt.alloc(),
-        r#"{"type":"CityJSON","version":"2.0","transform":{"scale":[1,1,1],"translate":_},"CityObjects":{},"vertices":[]}"#,
-        r#"
+    },
+    Table {
+        name: "translations",
+        pattern: r#"{"type":"CityJSON","version":"2.0","transform":{"scale":[1,1,1],"translate":_},"CityObjects":{},"vertices":[]}"#,
+        rows: r#"
         three numbers | [1000.0,2000.0,0.0] | none
         two numbers | ^[1,1] | 17 not three items
         four numbers | ^[1,1,1,1] | 17 not three items
         a truth | [^true,1,1] | 12 wrong kind
         a power too small | [1,^1e-1000001,1] | 13 number out of range
         "#,
-    )?;
-    Ok(())
-}
+    },
+    Table {
+        name: "city objects and vertices",
+        pattern: r#"_"#,
+        rows: r#"
+        a city object | {"type":"CityJSON","version":"2.0","transform":{"scale":[1,1,1],"translate":[0,0,0]},"CityObjects":^{"b":{"type":"Building"}},"vertices":[]} | 16 not empty
+        two of one name, which stand later | {"type":"CityJSON","version":"2.0","transform":{"scale":[1,1,1],"translate":[0,0,0]},"CityObjects":^{"b":0,"b":0},"vertices":[]} | 16 not empty
+        an array of city objects | {"type":"CityJSON","version":"2.0","transform":{"scale":[1,1,1],"translate":[0,0,0]},"CityObjects":^[],"vertices":[]} | 12 wrong kind
+        null for city objects | {"type":"CityJSON","version":"2.0","transform":{"scale":[1,1,1],"translate":[0,0,0]},"CityObjects":^null,"vertices":[]} | 12 wrong kind
+        a vertex | {"type":"CityJSON","version":"2.0","transform":{"scale":[1,1,1],"translate":[0,0,0]},"CityObjects":{},"vertices":^[[0,0,0]]} | 16 not empty
+        an object of vertices | {"type":"CityJSON","version":"2.0","transform":{"scale":[1,1,1],"translate":[0,0,0]},"CityObjects":{},"vertices":^{}} | 12 wrong kind
+        null for vertices | {"type":"CityJSON","version":"2.0","transform":{"scale":[1,1,1],"translate":[0,0,0]},"CityObjects":{},"vertices":^null} | 12 wrong kind
+        "#,
+    },
+    Table {
+        name: "names of a header are distinct",
+        pattern: r#"{"type":"CityJSON","version":"2.0","transform":{"scale":[1,1,1],"translate":[0,0,0]},"CityObjects":{},"vertices":[],_}"#,
+        rows: r#"
+        another member | "metadata":{"a":1,"a":2} | none
+        a member of an extension | "+a":1 | none
+        a type | ^"type":"CityJSON" | 11 duplicate name
+        vertices by an escape | ^"vertice\u0073":[] | 11 duplicate name
+        two that are not read | "a":1,^"a":1 | 11 duplicate name
+        "#,
+    },
+];
 
-#[test]
-fn scales_beside_a_box(rt: HostRuntime) -> Result<(), Fail> {
-    boxed_headers_meet(
-        &rt,
-        rt.alloc(),
-        r#"{"type":"CityJSON","version":"2.0","transform":{"scale":_,"translate":[0,0,0]},"CityObjects":{},"vertices":[]}"#,
-        r#"
+const HEADERS_FOR_BOXES: [Table; 2] = [
+    Table {
+        name: "scales beside a box",
+        pattern: r#"{"type":"CityJSON","version":"2.0","transform":{"scale":_,"translate":[0,0,0]},"CityObjects":{},"vertices":[]}"#,
+        rows: r#"
         numbers of either sign | [0.001,-0.001,0] | none
         the greatest and the least | [999999999999999999.999999999999999999,1e-18,1] | none
         zero of any power | [0e1000000,-0.0,1] | none
@@ -166,58 +149,22 @@ fn scales_beside_a_box(rt: HostRuntime) -> Result<(), Fail> {
         a number too great, and a text | [^1e18,"1",1] | 30 transform not fixed
         one number alone | ^[1e-19] | 17 not three items
         "#,
-    )?;
-    Ok(())
-}
-
-#[test]
-fn translations_beside_a_box(rt: HostRuntime) -> Result<(), Fail> {
-    boxed_headers_meet(
-        &rt,
-        rt.alloc(),
-        r#"{"type":"CityJSON","version":"2.0","transform":{"scale":[0.001,0.001,0.001],"translate":_},"CityObjects":{},"vertices":[]}"#,
-        r#"
+    },
+    Table {
+        name: "translations beside a box",
+        pattern: r#"{"type":"CityJSON","version":"2.0","transform":{"scale":[0.001,0.001,0.001],"translate":_},"CityObjects":{},"vertices":[]}"#,
+        rows: r#"
         three numbers | [1000.0,2000.0,0.0] | none
         a power too small | [1e-19,2000.0,0.0] | 89 30 transform not fixed
         the second | [1000.0,^1e-19,0.0] | 30 transform not fixed
         the third is free | [1000.0,2000.0,1e-19] | none
         "#,
-    )?;
-    Ok(())
-}
+    },
+];
 
 #[test]
-fn city_objects_and_vertices(rt: HostRuntime) -> Result<(), Fail> {
-    headers_meet(
-        &rt,
-        rt.alloc(),
-        r#"_"#,
-        r#"
-        a city object | {"type":"CityJSON","version":"2.0","transform":{"scale":[1,1,1],"translate":[0,0,0]},"CityObjects":^{"b":{"type":"Building"}},"vertices":[]} | 16 not empty
-        two of one name, which stand later | {"type":"CityJSON","version":"2.0","transform":{"scale":[1,1,1],"translate":[0,0,0]},"CityObjects":^{"b":0,"b":0},"vertices":[]} | 16 not empty
-        an array of city objects | {"type":"CityJSON","version":"2.0","transform":{"scale":[1,1,1],"translate":[0,0,0]},"CityObjects":^[],"vertices":[]} | 12 wrong kind
-        null for city objects | {"type":"CityJSON","version":"2.0","transform":{"scale":[1,1,1],"translate":[0,0,0]},"CityObjects":^null,"vertices":[]} | 12 wrong kind
-        a vertex | {"type":"CityJSON","version":"2.0","transform":{"scale":[1,1,1],"translate":[0,0,0]},"CityObjects":{},"vertices":^[[0,0,0]]} | 16 not empty
-        an object of vertices | {"type":"CityJSON","version":"2.0","transform":{"scale":[1,1,1],"translate":[0,0,0]},"CityObjects":{},"vertices":^{}} | 12 wrong kind
-        null for vertices | {"type":"CityJSON","version":"2.0","transform":{"scale":[1,1,1],"translate":[0,0,0]},"CityObjects":{},"vertices":^null} | 12 wrong kind
-        "#,
-    )?;
-    Ok(())
-}
-
-#[test]
-fn names_of_a_header_are_distinct(rt: HostRuntime) -> Result<(), Fail> {
-    headers_meet(
-        &rt,
-        rt.alloc(),
-        r#"{"type":"CityJSON","version":"2.0","transform":{"scale":[1,1,1],"translate":[0,0,0]},"CityObjects":{},"vertices":[],_}"#,
-        r#"
-        another member | "metadata":{"a":1,"a":2} | none
-        a member of an extension | "+a":1 | none
-        a type | ^"type":"CityJSON" | 11 duplicate name
-        vertices by an escape | ^"vertice\u0073":[] | 11 duplicate name
-        two that are not read | "a":1,^"a":1 | 11 duplicate name
-        "#,
-    )?;
+fn headers_rule_by_rule(rt: HostRuntime) -> Result<(), Fail> {
+    all_meet(&rt, rt.alloc(), Judged::Header, &HEADERS)?;
+    all_meet(&rt, rt.alloc(), Judged::HeaderForBox, &HEADERS_FOR_BOXES)?;
     Ok(())
 }

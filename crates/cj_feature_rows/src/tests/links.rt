@@ -1,15 +1,12 @@
 //! Links between city objects.
-use super::{HEADER, features_meet};
+use super::{HEADER, Judged, Table, all_meet};
 use std::test::Fail;
 
-#[test]
-fn children(rt: HostRuntime) -> Result<(), Fail> {
-    features_meet(
-        &rt,
-        rt.alloc(),
-        HEADER,
-        r#"{"type":"CityJSONFeature","id":"b","CityObjects":{_},"vertices":[]}"#,
-        r#"
+const FEATURES: [Table; 5] = [
+    Table {
+        name: "children",
+        pattern: r#"{"type":"CityJSONFeature","id":"b","CityObjects":{_},"vertices":[]}"#,
+        rows: r#"
         itself, as a child and a parent | "b":{"type":"Building","children":["b"],"parents":["b"]} | none
         a part that lists it | "b":{"type":"Building","children":["p"]},"p":{"type":"BuildingPart","parents":["b"]} | none
         the part before it | "p":{"type":"BuildingPart","parents":["b"]},"b":{"type":"Building","children":["p"]} | none
@@ -24,18 +21,11 @@ fn children(rt: HostRuntime) -> Result<(), Fail> {
         one that is no city object | "b":{"type":"Building","children":[^"c"]},"c":3 | 22 link not mutual
         a number | "b":{"type":"Building","children":[^3]} | 12 wrong kind
         "#,
-    )?;
-    Ok(())
-}
-
-#[test]
-fn parents(rt: HostRuntime) -> Result<(), Fail> {
-    features_meet(
-        &rt,
-        rt.alloc(),
-        HEADER,
-        r#"{"type":"CityJSONFeature","id":"b","CityObjects":{_},"vertices":[]}"#,
-        r#"
+    },
+    Table {
+        name: "parents",
+        pattern: r#"{"type":"CityJSONFeature","id":"b","CityObjects":{_},"vertices":[]}"#,
+        rows: r#"
         one that is not there | "b":{"type":"Building","parents":["g"]} | none
         one that does not list it | "b":{"type":"Building"},"p":{"type":"Building","parents":[^"b"]} | 22 link not mutual
         one that lists another | "b":{"type":"Building","children":["b"],"parents":["b"]},"p":{"type":"Building","parents":[^"b"]} | 22 link not mutual
@@ -44,18 +34,11 @@ fn parents(rt: HostRuntime) -> Result<(), Fail> {
         the second of two | "b":{"type":"Building","parents":["g",^"c"]},"c":{"type":"Building"} | 22 link not mutual
         two parents | "b":{"type":"Building","children":["p"]},"c":{"type":"Building","children":["p"]},"p":{"type":"BuildingPart","parents":["b","c"]} | none
         "#,
-    )?;
-    Ok(())
-}
-
-#[test]
-fn city_objects_of_the_second_level(rt: HostRuntime) -> Result<(), Fail> {
-    features_meet(
-        &rt,
-        rt.alloc(),
-        HEADER,
-        r#"{"type":"CityJSONFeature","id":"b","CityObjects":{_},"vertices":[]}"#,
-        r#"
+    },
+    Table {
+        name: "city objects of the second level",
+        pattern: r#"{"type":"CityJSONFeature","id":"b","CityObjects":{_},"vertices":[]}"#,
+        rows: r#"
         no parents | "b":^{"type":"BuildingPart"} | 10 member missing
         null for parents | "b":{"type":"BuildingPart","parents":^null} | 12 wrong kind
         none | "b":^{"type":"BuildingPart","parents":[]} | 23 no parent in the feature
@@ -71,18 +54,11 @@ fn city_objects_of_the_second_level(rt: HostRuntime) -> Result<(), Fail> {
         an installation | "b":^{"type":"TunnelInstallation"} | 10 member missing
         a storey | "b":^{"type":"BuildingStorey","parents":["g"]} | 23 no parent in the feature
         "#,
-    )?;
-    Ok(())
-}
-
-#[test]
-fn groups(rt: HostRuntime) -> Result<(), Fail> {
-    features_meet(
-        &rt,
-        rt.alloc(),
-        HEADER,
-        r#"{"type":"CityJSONFeature","id":"b","CityObjects":{_},"vertices":[]}"#,
-        r#"
+    },
+    Table {
+        name: "groups",
+        pattern: r#"{"type":"CityJSONFeature","id":"b","CityObjects":{_},"vertices":[]}"#,
+        rows: r#"
         children that are not there | "b":{"type":"CityObjectGroup","children":["q"]} | none
         children that do not list it | "b":{"type":"CityObjectGroup","children":["c"]},"c":{"type":"Building"} | none
         a member that it does not list | "b":{"type":"CityObjectGroup"},"m":{"type":"Building","parents":[^"b"]} | 22 link not mutual
@@ -94,24 +70,22 @@ fn groups(rt: HostRuntime) -> Result<(), Fail> {
         a type by an escape | "b":{"type":"CityObject\u0047roup","children":["q"]} | none
         a group in a building | "b":{"type":"Building","children":[^"g"]},"g":{"type":"CityObjectGroup"} | 22 link not mutual
         "#,
-    )?;
-    Ok(())
-}
-
-#[test]
-fn city_objects_of_one_name(rt: HostRuntime) -> Result<(), Fail> {
-    features_meet(
-        &rt,
-        rt.alloc(),
-        HEADER,
-        r#"{"type":"CityJSONFeature","id":"b","CityObjects":{_},"vertices":[]}"#,
-        r#"
+    },
+    Table {
+        name: "city objects of one name",
+        pattern: r#"{"type":"CityJSONFeature","id":"b","CityObjects":{_},"vertices":[]}"#,
+        rows: r#"
         the second lists the part | "b":{"type":"Building"},^"b":{"type":"Building","children":["p"]},"p":{"type":"BuildingPart","parents":["b"]} | 11 duplicate name
         the part is told twice | "b":{"type":"Building","children":["p"]},"p":{"type":"Building"},^"p":{"type":"BuildingPart","parents":["b"]} | 11 duplicate name
         neither lists the part | "p":{"type":"BuildingPart","parents":[^"b"]},"b":{"type":"Building"},"b":{"type":"Building"} | 22 link not mutual
         one of them a group | "b":{"type":"Building","children":[^"q"]},"b":{"type":"CityObjectGroup","children":["r"]} | 21 child not found
         the group first | "b":{"type":"CityObjectGroup","children":["r"]},^"b":{"type":"Building","children":["q"]} | 11 duplicate name
         "#,
-    )?;
+    },
+];
+
+#[test]
+fn links_between_city_objects(rt: HostRuntime) -> Result<(), Fail> {
+    all_meet(&rt, rt.alloc(), Judged::Feature(HEADER), &FEATURES)?;
     Ok(())
 }

@@ -1,6 +1,6 @@
 //! Links between many city objects, more than one set of questions can hold, with each capacity.
 //! The expected result follows from how a line is built.
-use super::{HEADER, features_meet};
+use super::{HEADER, Judged, Table, meets};
 use std::alloc::{AllocError, Global};
 use std::process::Abort;
 use std::test::Fail;
@@ -22,13 +22,12 @@ fn objects_meet(
     want: &str,
 ) -> Result<(), AllocError> {
     let row = format!(in alloc; "many | {objects} | {want}")?;
-    features_meet(
-        rt,
-        alloc,
-        HEADER,
-        r#"{"type":"CityJSONFeature","id":"p0","CityObjects":{_},"vertices":[]}"#,
-        &row,
-    )
+    let table = Table {
+        name: "many links",
+        pattern: r#"{"type":"CityJSONFeature","id":"p0","CityObjects":{_},"vertices":[]}"#,
+        rows: &row,
+    };
+    meets(rt, alloc, Judged::Feature(HEADER), &table)
 }
 
 /// Returns what comes before the i-th of some things in a row.
@@ -63,22 +62,43 @@ fn ring(alloc: Global, count: u32, broken: u32) -> Result<String, AllocError> {
     Ok(objects)
 }
 
+/// Checks a ring whose city object of the number `broken` has itself as a parent.
+fn ring_meets(
+    rt: &impl Abort,
+    alloc: Global,
+    count: u32,
+    broken: u32,
+    want: &str,
+) -> Result<(), AllocError> {
+    let objects = ring(alloc, count, broken)?;
+    objects_meet(rt, alloc, &objects, want)
+}
+
 /// Rings of `count` city objects are valid. If one link is broken, they are not.
 fn rings_meet(rt: &impl Abort, alloc: Global, count: u32) -> Result<(), AllocError> {
-    let whole = ring(alloc, count, count)?;
-    objects_meet(rt, alloc, &whole, "none")?;
-    let broken = ring(alloc, count, count / 3 * 2)?;
-    objects_meet(rt, alloc, &broken, "22 link not mutual")?;
-    let last = ring(alloc, count, count.saturating_sub(1))?;
-    objects_meet(rt, alloc, &last, "22 link not mutual")
+    ring_meets(rt, alloc, count, count, "none")?;
+    ring_meets(rt, alloc, count, count / 3 * 2, "22 link not mutual")?;
+    ring_meets(
+        rt,
+        alloc,
+        count,
+        count.saturating_sub(1),
+        "22 link not mutual",
+    )
 }
 
 #[test]
 fn rings(rt: HostRuntime) -> Result<(), Fail> {
-    rings_meet(&rt, rt.alloc(), 256)?;
-    rings_meet(&rt, rt.alloc(), 1_000)?;
-    rings_meet(&rt, rt.alloc(), MANY)?;
+    for count in [256, 1_000, MANY] {
+        rings_meet(&rt, rt.alloc(), count)?;
+    }
     Ok(())
+}
+
+/// Adds a name to a list, with the mark if it has one.
+fn push_name(alloc: Global, names: &mut String, mark: &str, number: u32) -> Result<(), AllocError> {
+    let comma = if names.is_empty() { "" } else { "," };
+    names.push_str(&format!(in alloc; r#"{comma}{mark}"p{number}""#)?)
 }
 
 /// Children of `p0`, the last first. The one of the number `marked` has the mark.
@@ -87,10 +107,21 @@ fn backwards(alloc: Global, marked: u32) -> Result<String, AllocError> {
     for i in 0..MANY {
         let child = MANY - i;
         let mark = if child == marked { "^" } else { "" };
-        let comma = comma(i);
-        children.push_str(&format!(in alloc; r#"{comma}{mark}"p{child}""#)?)?;
+        push_name(alloc, &mut children, mark, child)?;
     }
     Ok(children)
+}
+
+/// Adds a part of this parent.
+fn push_part(
+    alloc: Global,
+    parts: &mut String,
+    name: &str,
+    parent: &str,
+) -> Result<(), AllocError> {
+    parts.push_str(&format!(in alloc;
+        r#","{name}":{{"type":"BuildingPart","parents":["{parent}"]}}"#
+    )?)
 }
 
 /// Parts of `p0`. The one of the number `alone` has another text as a parent. The first letter of
@@ -98,80 +129,107 @@ fn backwards(alloc: Global, marked: u32) -> Result<String, AllocError> {
 fn parts(alloc: Global, letter: &str, alone: u32, other: &str) -> Result<String, AllocError> {
     let mut parts = String::new(alloc);
     for i in 0..MANY {
-        let part = i as u64 + 1;
-        let parent = if part == alone as u64 { other } else { "p0" };
-        parts.push_str(&format!(in alloc;
-            r#","{letter}{part}":{{"type":"BuildingPart","parents":["{parent}"]}}"#
-        )?)?;
+        let part = i + 1;
+        let name = format!(in alloc; "{letter}{part}")?;
+        let parent = if part == alone { other } else { "p0" };
+        push_part(alloc, &mut parts, &name, parent)?;
     }
     Ok(parts)
 }
 
-/// A building `p0` with these children, and its parts.
-fn building(alloc: Global, children: &str, parts: &str) -> Result<String, AllocError> {
+/// How the first letter of the parts is spelled, which part has another parent, that parent, and
+/// what is wanted.
+type PartsRow = (&'static str, u32, &'static str, &'static str);
+
+const LISTED_BACKWARDS: [PartsRow; 2] = [
+    ("p", 0, "p0", "none"),
+    ("p", 7, "p8", "22 link not mutual"),
+];
+
+const BY_ESCAPES: [PartsRow; 2] = [
+    (r"\u0070", 0, "p0", "none"),
+    (r"\u0070", 7, r"\u00708", "22 link not mutual"),
+];
+
+/// A building `p0`, whose children are listed backwards, and its parts.
+fn building(alloc: Global, letter: &str, alone: u32, other: &str) -> Result<String, AllocError> {
+    let children = backwards(alloc, alone)?;
+    let parts = parts(alloc, letter, alone, other)?;
     format!(in alloc; r#""p0":{{"type":"Building","children":[{children}]}}{parts}"#)
+}
+
+fn buildings_meet(rt: &impl Abort, alloc: Global, rows: &[PartsRow]) -> Result<(), AllocError> {
+    for (letter, alone, other, want) in rows {
+        let objects = building(alloc, *letter, *alone, *other)?;
+        objects_meet(rt, alloc, &objects, *want)?;
+    }
+    Ok(())
 }
 
 #[test]
 fn children_listed_backwards(rt: HostRuntime) -> Result<(), Fail> {
-    let alloc = rt.alloc();
-    let whole = building(alloc, &backwards(alloc, 0)?, &parts(alloc, "p", 0, "p0")?)?;
-    objects_meet(&rt, alloc, &whole, "none")?;
-    let of_another = building(alloc, &backwards(alloc, 7)?, &parts(alloc, "p", 7, "p8")?)?;
-    objects_meet(&rt, alloc, &of_another, "22 link not mutual")?;
+    buildings_meet(&rt, rt.alloc(), LISTED_BACKWARDS.as_slice())?;
     Ok(())
 }
 
 #[test]
 fn names_by_escapes(rt: HostRuntime) -> Result<(), Fail> {
-    let alloc = rt.alloc();
-    let letter = r"\u0070";
-    let whole = building(
-        alloc,
-        &backwards(alloc, 0)?,
-        &parts(alloc, letter, 0, "p0")?,
-    )?;
-    objects_meet(&rt, alloc, &whole, "none")?;
-    let of_another = building(
-        alloc,
-        &backwards(alloc, 7)?,
-        &parts(alloc, letter, 7, r"\u00708")?,
-    )?;
-    objects_meet(&rt, alloc, &of_another, "22 link not mutual")?;
+    buildings_meet(&rt, rt.alloc(), BY_ESCAPES.as_slice())?;
     Ok(())
+}
+
+fn push_building(alloc: Global, objects: &mut String, number: u32) -> Result<(), AllocError> {
+    objects.push_str(&format!(in alloc; r#","p{number}":{{"type":"Building"}}"#)?)
 }
 
 /// Buildings without links.
 fn buildings(alloc: Global) -> Result<String, AllocError> {
     let mut objects = String::from_str(alloc, r#""p0":{"type":"Building"}"#)?;
     for i in 0..MANY {
-        let number = i as u64 + 1;
-        objects.push_str(&format!(in alloc; r#","p{number}":{{"type":"Building"}}"#)?)?;
+        push_building(alloc, &mut objects, i + 1)?;
     }
     Ok(objects)
 }
 
-#[test]
-fn a_part_whose_parent_is_not_there(rt: HostRuntime) -> Result<(), Fail> {
-    let alloc = rt.alloc();
-    let others = buildings(alloc)?;
-    let part = format!(in alloc; r#"{others},"p":^{{"type":"BuildingPart","parents":["q"]}}"#)?;
-    objects_meet(&rt, alloc, &part, "23 no parent in the feature")?;
-    Ok(())
-}
-
-/// Checks these city objects before many buildings without links, and after them.
-fn meet_among_many(
+/// Checks these city objects after many buildings without links.
+fn meet_behind_many(
     rt: &impl Abort,
     alloc: Global,
     objects: &str,
     want: &str,
 ) -> Result<(), AllocError> {
     let others = buildings(alloc)?;
-    let before = format!(in alloc; "{objects},{others}")?;
-    objects_meet(rt, alloc, &before, want)?;
-    let behind = format!(in alloc; "{others},{objects}")?;
-    objects_meet(rt, alloc, &behind, want)
+    let all = format!(in alloc; "{others},{objects}")?;
+    objects_meet(rt, alloc, &all, want)
+}
+
+/// Checks these city objects before many buildings without links.
+fn meet_before_many(
+    rt: &impl Abort,
+    alloc: Global,
+    objects: &str,
+    want: &str,
+) -> Result<(), AllocError> {
+    let others = buildings(alloc)?;
+    let all = format!(in alloc; "{objects},{others}")?;
+    objects_meet(rt, alloc, &all, want)
+}
+
+fn meet_among_many(
+    rt: &impl Abort,
+    alloc: Global,
+    objects: &str,
+    want: &str,
+) -> Result<(), AllocError> {
+    meet_before_many(rt, alloc, objects, want)?;
+    meet_behind_many(rt, alloc, objects, want)
+}
+
+#[test]
+fn a_part_whose_parent_is_not_there(rt: HostRuntime) -> Result<(), Fail> {
+    let part = r#""p":^{"type":"BuildingPart","parents":["q"]}"#;
+    meet_behind_many(&rt, rt.alloc(), part, "23 no parent in the feature")?;
+    Ok(())
 }
 
 #[test]
@@ -212,14 +270,28 @@ fn ring_behind_a_group(alloc: Global, broken: u32) -> Result<String, AllocError>
     )
 }
 
+/// The number of the ring's broken link, and what is wanted.
+const BEHIND_A_GROUP: [(u32, &str); 3] = [
+    (MANY, "none"),
+    (1_000, "22 link not mutual"),
+    (3_000, "22 link not mutual"),
+];
+
+fn ring_behind_a_group_meets(
+    rt: &impl Abort,
+    alloc: Global,
+    broken: u32,
+    want: &str,
+) -> Result<(), AllocError> {
+    let objects = ring_behind_a_group(alloc, broken)?;
+    objects_meet(rt, alloc, &objects, want)
+}
+
 #[test]
 fn rings_behind_a_group(rt: HostRuntime) -> Result<(), Fail> {
-    let whole = ring_behind_a_group(rt.alloc(), MANY)?;
-    objects_meet(&rt, rt.alloc(), &whole, "none")?;
-    let broken = ring_behind_a_group(rt.alloc(), 1000)?;
-    objects_meet(&rt, rt.alloc(), &broken, "22 link not mutual")?;
-    let later = ring_behind_a_group(rt.alloc(), 3000)?;
-    objects_meet(&rt, rt.alloc(), &later, "22 link not mutual")?;
+    for (broken, want) in &BEHIND_A_GROUP {
+        ring_behind_a_group_meets(&rt, rt.alloc(), *broken, *want)?;
+    }
     Ok(())
 }
 
@@ -230,30 +302,45 @@ fn two_parts(alloc: Global, children: &str, parents: &str) -> Result<String, All
     )
 }
 
+/// Checks two parts of `p0`. The child `q` and the parent `p0` are listed again and again, the one
+/// before other children and the other after other parents.
+fn pair_meets(
+    rt: &impl Abort,
+    alloc: Global,
+    children: &str,
+    parents: &str,
+    want: &str,
+) -> Result<(), AllocError> {
+    let listed = again(alloc, r#""q""#, LONG)?;
+    let children = format!(in alloc; "{listed}{children}")?;
+    let listing = again(alloc, r#""p0""#, LONG)?;
+    let parents = format!(in alloc; "{parents}{listing}")?;
+    let objects = two_parts(alloc, &children, &parents)?;
+    objects_meet(rt, alloc, &objects, want)
+}
+
 #[test]
 fn a_pair_listed_again_and_again(rt: HostRuntime) -> Result<(), Fail> {
-    let alloc = rt.alloc();
-    let children = format!(in alloc; r#"{},"p""#, again(alloc, r#""q""#, LONG)?.as_str())?;
-    let whole = two_parts(alloc, &children, &again(alloc, r#""p0""#, LONG)?)?;
-    objects_meet(&rt, alloc, &whole, "none")?;
+    pair_meets(&rt, rt.alloc(), r#","p""#, "", "none")?;
     Ok(())
 }
 
 #[test]
 fn a_pair_listed_again_by_one_alone(rt: HostRuntime) -> Result<(), Fail> {
-    let alloc = rt.alloc();
-    let parents = format!(in alloc; r#"^"p0",{}"#, again(alloc, r#""p0""#, LONG)?.as_str())?;
-    let whole = two_parts(alloc, &again(alloc, r#""q""#, LONG)?, &parents)?;
-    objects_meet(&rt, alloc, &whole, "22 link not mutual")?;
+    pair_meets(&rt, rt.alloc(), "", r#"^"p0","#, "22 link not mutual")?;
     Ok(())
+}
+
+fn push_absent(alloc: Global, texts: &mut String, number: u32) -> Result<(), AllocError> {
+    let comma = comma(number);
+    texts.push_str(&format!(in alloc; r#"{comma}"q{number}""#)?)
 }
 
 /// The texts `q0`, `q1` and so on, `count` of them.
 fn absent(alloc: Global, count: u32) -> Result<String, AllocError> {
     let mut texts = String::new(alloc);
     for i in 0..count {
-        let comma = comma(i);
-        texts.push_str(&format!(in alloc; r#"{comma}"q{i}""#)?)?;
+        push_absent(alloc, &mut texts, i)?;
     }
     Ok(texts)
 }
@@ -265,56 +352,84 @@ fn with_absent(alloc: Global, another: &str) -> Result<String, AllocError> {
     format!(in alloc; r#"{others},"p":{{"type":"Building","parents":[{parents}{another}]}}"#)
 }
 
+/// Checks many parents that are not there, and another.
+fn absent_meet(
+    rt: &impl Abort,
+    alloc: Global,
+    another: &str,
+    want: &str,
+) -> Result<(), AllocError> {
+    let objects = with_absent(alloc, another)?;
+    objects_meet(rt, alloc, &objects, want)
+}
+
 #[test]
 fn parents_that_are_not_there(rt: HostRuntime) -> Result<(), Fail> {
-    let alone = with_absent(rt.alloc(), "")?;
-    objects_meet(&rt, rt.alloc(), &alone, "none")?;
+    absent_meet(&rt, rt.alloc(), "", "none")?;
     Ok(())
 }
 
 #[test]
 fn a_parent_among_those_that_are_not_there(rt: HostRuntime) -> Result<(), Fail> {
-    let beside_one = with_absent(rt.alloc(), r#",^"p3000""#)?;
-    objects_meet(&rt, rt.alloc(), &beside_one, "22 link not mutual")?;
+    absent_meet(&rt, rt.alloc(), r#",^"p3000""#, "22 link not mutual")?;
     Ok(())
 }
 
-/// A part lists its parent after `count` others that are not there.
-fn last_meets(rt: &impl Abort, alloc: Global, count: u32) -> Result<(), AllocError> {
+/// A part that lists its parent after `count` others that are not there. It is listed by its parent
+/// if it is one of these children.
+fn last_of_many(
+    alloc: Global,
+    count: u32,
+    children: &str,
+    mark: &str,
+) -> Result<String, AllocError> {
     let others = absent(alloc, count)?;
-    let parents = format!(in alloc; r#"{others},"p0""#)?;
-    let listed = two_parts(alloc, r#""p","q""#, &parents)?;
+    let parents = format!(in alloc; r#"{others},{mark}"p0""#)?;
+    two_parts(alloc, children, &parents)
+}
+
+fn last_meets(rt: &impl Abort, alloc: Global, count: u32) -> Result<(), AllocError> {
+    let listed = last_of_many(alloc, count, r#""p","q""#, "")?;
     objects_meet(rt, alloc, &listed, "none")?;
-    let unlisted = format!(in alloc; r#"{others},^"p0""#)?;
-    let not_listed = two_parts(alloc, r#""q""#, &unlisted)?;
-    objects_meet(rt, alloc, &not_listed, "22 link not mutual")
+    let unlisted = last_of_many(alloc, count, r#""q""#, "^")?;
+    objects_meet(rt, alloc, &unlisted, "22 link not mutual")
 }
 
 #[test]
 fn the_last_of_many_parents_is_there(rt: HostRuntime) -> Result<(), Fail> {
-    last_meets(&rt, rt.alloc(), 900)?;
-    last_meets(&rt, rt.alloc(), SHORT)?;
-    last_meets(&rt, rt.alloc(), LONG)?;
+    for count in [900, SHORT, LONG] {
+        last_meets(&rt, rt.alloc(), count)?;
+    }
     Ok(())
+}
+
+/// A part with numbers for parents.
+fn part_of_numbers(alloc: Global) -> Result<String, AllocError> {
+    let parents = again(alloc, "3", LONG)?;
+    format!(in alloc; r#""p":^{{"type":"BuildingPart","parents":[{parents}]}}"#)
 }
 
 #[test]
 fn parents_that_are_no_texts(rt: HostRuntime) -> Result<(), Fail> {
-    let parents = again(rt.alloc(), "3", LONG)?;
-    let part = format!(in rt.alloc(); r#""p":^{{"type":"BuildingPart","parents":[{parents}]}}"#)?;
+    let part = part_of_numbers(rt.alloc())?;
     meet_among_many(&rt, rt.alloc(), &part, "23 no parent in the feature")?;
     Ok(())
 }
 
+/// Checks a group of children that are not there, and what comes after it.
+fn group_meets(rt: &impl Abort, alloc: Global, behind: &str, want: &str) -> Result<(), AllocError> {
+    let children = absent(alloc, LONG)?;
+    let objects = format!(in alloc;
+        r#""g":{{"type":"CityObjectGroup","children":[{children}]}}{behind}"#
+    )?;
+    meet_among_many(rt, alloc, &objects, want)
+}
+
 #[test]
 fn children_of_a_group(rt: HostRuntime) -> Result<(), Fail> {
-    let children = absent(rt.alloc(), LONG)?;
-    let group = format!(in rt.alloc();
-        r#""g":{{"type":"CityObjectGroup","children":[{children}]}}"#
-    )?;
-    meet_among_many(&rt, rt.alloc(), &group, "none")?;
-    let beside = format!(in rt.alloc(); r#"{group},"b":{{"type":"Building","children":[^"q0"]}}"#)?;
-    meet_among_many(&rt, rt.alloc(), &beside, "21 child not found")?;
+    group_meets(&rt, rt.alloc(), "", "none")?;
+    let beside = r#","b":{"type":"Building","children":[^"q0"]}"#;
+    group_meets(&rt, rt.alloc(), beside, "21 child not found")?;
     Ok(())
 }
 
@@ -330,13 +445,23 @@ fn of_one_name(alloc: Global, mark: &str, second: &str) -> Result<String, AllocE
     Ok(objects)
 }
 
+/// Checks many buildings of the name of a child, and what comes after them.
+fn of_one_name_meet(
+    rt: &impl Abort,
+    alloc: Global,
+    marks: [&str; 2],
+    behind: &str,
+    want: &str,
+) -> Result<(), AllocError> {
+    let others = of_one_name(alloc, marks[0], marks[1])?;
+    let objects = format!(in alloc; "{others}{behind}")?;
+    objects_meet(rt, alloc, &objects, want)
+}
+
 #[test]
 fn city_objects_of_one_name(rt: HostRuntime) -> Result<(), Fail> {
-    let alloc = rt.alloc();
-    let not_listed = of_one_name(alloc, "^", "")?;
-    objects_meet(&rt, alloc, &not_listed, "22 link not mutual")?;
-    let others = of_one_name(alloc, "", "^")?;
-    let by_the_last = format!(in alloc; r#"{others},"q":{{"type":"Building","parents":["p0"]}}"#)?;
-    objects_meet(&rt, alloc, &by_the_last, "11 duplicate name")?;
+    of_one_name_meet(&rt, rt.alloc(), ["^", ""], "", "22 link not mutual")?;
+    let last = r#","q":{"type":"Building","parents":["p0"]}"#;
+    of_one_name_meet(&rt, rt.alloc(), ["", "^"], last, "11 duplicate name")?;
     Ok(())
 }

@@ -1,15 +1,12 @@
 //! Features, rule by rule, except for links.
-use super::{HEADER, features_meet};
+use super::{HEADER, Judged, Table, all_meet};
 use std::test::Fail;
 
-#[test]
-fn roots(rt: HostRuntime) -> Result<(), Fail> {
-    features_meet(
-        &rt,
-        rt.alloc(),
-        HEADER,
-        r#"_"#,
-        r#"
+const FEATURES: [Table; 10] = [
+    Table {
+        name: "roots of features",
+        pattern: r#"_"#,
+        rows: r#"
         an object of all members | {"type":"CityJSONFeature","id":"b","CityObjects":{"b":{"type":"Building"}},"vertices":[]} | none
         a number | ^3 | 12 wrong kind
         no city object at all | {"type":"CityJSONFeature","id":^"b","CityObjects":{},"vertices":[]} | 20 id not among the city objects
@@ -21,36 +18,22 @@ fn roots(rt: HostRuntime) -> Result<(), Fail> {
         no city objects | ^{"type":"CityJSONFeature","id":"b","vertices":[]} | 10 member missing
         no vertices | ^{"type":"CityJSONFeature","id":"b","CityObjects":{"b":{"type":"Building"}}} | 10 member missing
         "#,
-    )?;
-    Ok(())
-}
-
-#[test]
-fn types(rt: HostRuntime) -> Result<(), Fail> {
-    features_meet(
-        &rt,
-        rt.alloc(),
-        HEADER,
-        r#"{"type":_,"id":"b","CityObjects":{"b":{"type":"Building"}},"vertices":[]}"#,
-        r#"
+    },
+    Table {
+        name: "types of features",
+        pattern: r#"{"type":_,"id":"b","CityObjects":{"b":{"type":"Building"}},"vertices":[]}"#,
+        rows: r#"
         the type | "CityJSONFeature" | none
         by an escape | "CityJSON\u0046eature" | none
         that of a header | ^"CityJSON" | 14 wrong type
         a letter more | ^"CityJSONFeatures" | 14 wrong type
         a number | ^1 | 12 wrong kind
         "#,
-    )?;
-    Ok(())
-}
-
-#[test]
-fn ids(rt: HostRuntime) -> Result<(), Fail> {
-    features_meet(
-        &rt,
-        rt.alloc(),
-        HEADER,
-        r#"{"type":"CityJSONFeature","id":_,"CityObjects":{"b":{"type":"Building"}},"vertices":[]}"#,
-        r#"
+    },
+    Table {
+        name: "ids",
+        pattern: r#"{"type":"CityJSONFeature","id":_,"CityObjects":{"b":{"type":"Building"}},"vertices":[]}"#,
+        rows: r#"
         the name of a city object | "b" | none
         the same by an escape | "\u0062" | none
         another name | ^"c" | 20 id not among the city objects
@@ -59,36 +42,22 @@ fn ids(rt: HostRuntime) -> Result<(), Fail> {
         a number | ^3 | 12 wrong kind
         null | ^null | 12 wrong kind
         "#,
-    )?;
-    Ok(())
-}
-
-#[test]
-fn ids_beside_other_names(rt: HostRuntime) -> Result<(), Fail> {
-    features_meet(
-        &rt,
-        rt.alloc(),
-        HEADER,
-        r#"{"type":"CityJSONFeature","id":"b",_,"vertices":[]}"#,
-        r#"
+    },
+    Table {
+        name: "ids beside other names",
+        pattern: r#"{"type":"CityJSONFeature","id":"b",_,"vertices":[]}"#,
+        rows: r#"
         the second of two | "CityObjects":{"a":{"type":"Road"},"b":{"type":"Road"}} | none
         a name by an escape | "CityObjects":{"\u0062":{"type":"Road"}} | none
         a name whose value is no object | "CityObjects":{"b":^3} | 12 wrong kind
         city objects that are no object | "CityObjects":^[] | 12 wrong kind
         null for city objects | "CityObjects":^null | 12 wrong kind
         "#,
-    )?;
-    Ok(())
-}
-
-#[test]
-fn values_of_city_objects(rt: HostRuntime) -> Result<(), Fail> {
-    features_meet(
-        &rt,
-        rt.alloc(),
-        HEADER,
-        r#"{"type":"CityJSONFeature","id":"b","CityObjects":{"b":_},"vertices":[]}"#,
-        r#"
+    },
+    Table {
+        name: "values of city objects",
+        pattern: r#"{"type":"CityJSONFeature","id":"b","CityObjects":{"b":_},"vertices":[]}"#,
+        rows: r#"
         a city object | {"type":"Road"} | none
         a number | ^3 | 12 wrong kind
         null | ^null | 12 wrong kind
@@ -103,18 +72,11 @@ fn values_of_city_objects(rt: HostRuntime) -> Result<(), Fail> {
         doubled names | {"type":"Road",^"type":"Road"} | 11 duplicate name
         doubled names of a member that is not read | {"type":"Road","attributes":{"a":1,"a":2}} | none
         "#,
-    )?;
-    Ok(())
-}
-
-#[test]
-fn members_of_city_objects(rt: HostRuntime) -> Result<(), Fail> {
-    features_meet(
-        &rt,
-        rt.alloc(),
-        HEADER,
-        r#"{"type":"CityJSONFeature","id":"b","CityObjects":{"b":{"type":"Building",_}},"vertices":[]}"#,
-        r#"
+    },
+    Table {
+        name: "members of city objects",
+        pattern: r#"{"type":"CityJSONFeature","id":"b","CityObjects":{"b":{"type":"Building",_}},"vertices":[]}"#,
+        rows: r#"
         no geometries | "geometry":[] | none
         an object of geometries | "geometry":^{} | 12 wrong kind
         null for geometries | "geometry":^null | 12 wrong kind
@@ -132,18 +94,11 @@ fn members_of_city_objects(rt: HostRuntime) -> Result<(), Fail> {
         a parent that is a number | "parents":["q",^3] | 12 wrong kind
         roles of children that are not read | "children_roles":3 | none
         "#,
-    )?;
-    Ok(())
-}
-
-#[test]
-fn vertices(rt: HostRuntime) -> Result<(), Fail> {
-    features_meet(
-        &rt,
-        rt.alloc(),
-        HEADER,
-        r#"{"type":"CityJSONFeature","id":"b","CityObjects":{"b":{"type":"Building"}},"vertices":_}"#,
-        r#"
+    },
+    Table {
+        name: "vertices",
+        pattern: r#"{"type":"CityJSONFeature","id":"b","CityObjects":{"b":{"type":"Building"}},"vertices":_}"#,
+        rows: r#"
         whole numbers | [[0,-1,999999999999999999],[3.0,3e0,-0]] | none
         an object | ^{} | 12 wrong kind
         null | ^null | 12 wrong kind
@@ -156,53 +111,37 @@ fn vertices(rt: HostRuntime) -> Result<(), Fail> {
         37 digits | [[0,^1111111111111111111111111111111111111,0]] | 13 number out of range
         two numbers, of which one is a text | [^["0",0]] | 17 not three items
         "#,
-    )?;
-    Ok(())
-}
-
-#[test]
-fn indices_of_vertices(rt: HostRuntime) -> Result<(), Fail> {
-    features_meet(
-        &rt,
-        rt.alloc(),
-        HEADER,
-        r#"{"type":"CityJSONFeature","id":"b","CityObjects":{"b":{"type":"Building","geometry":[{"type":"MultiPoint","lod":"1","boundaries":[_]}]}},"vertices":[[0,0,0],[1,1,1]]}"#,
-        r#"
+    },
+    Table {
+        name: "indices of vertices",
+        pattern: r#"{"type":"CityJSONFeature","id":"b","CityObjects":{"b":{"type":"Building","geometry":[{"type":"MultiPoint","lod":"1","boundaries":[_]}]}},"vertices":[[0,0,0],[1,1,1]]}"#,
+        rows: r#"
         the last vertex | 0,1 | none
         past the last | 0,^2 | 25 vertex index out of range
         below 0 | ^-1 | 25 vertex index out of range
         "#,
-    )?;
-    Ok(())
-}
-
-#[test]
-fn indices_beside_vertices_that_are_no_array(rt: HostRuntime) -> Result<(), Fail> {
-    features_meet(
-        &rt,
-        rt.alloc(),
-        HEADER,
-        r#"{"type":"CityJSONFeature","id":"b","CityObjects":{"b":{"type":"Building","geometry":[{"type":"MultiPoint","lod":"1","boundaries":[_]}]}},"vertices":{}}"#,
-        r#"
+    },
+    Table {
+        name: "indices beside vertices that are no array",
+        pattern: r#"{"type":"CityJSONFeature","id":"b","CityObjects":{"b":{"type":"Building","geometry":[{"type":"MultiPoint","lod":"1","boundaries":[_]}]}},"vertices":{}}"#,
+        rows: r#"
         any index | 9 | 148 12 wrong kind
         a half | ^0.5 | 18 not a whole number
         "#,
-    )?;
-    Ok(())
-}
-
-#[test]
-fn names_of_a_feature_are_distinct(rt: HostRuntime) -> Result<(), Fail> {
-    features_meet(
-        &rt,
-        rt.alloc(),
-        HEADER,
-        r#"{"type":"CityJSONFeature","id":"b","CityObjects":{"b":{"type":"Building"}},"vertices":[],_}"#,
-        r#"
+    },
+    Table {
+        name: "names of a feature are distinct",
+        pattern: r#"{"type":"CityJSONFeature","id":"b","CityObjects":{"b":{"type":"Building"}},"vertices":[],_}"#,
+        rows: r#"
         another member | "a":{"b":1,"b":2} | none
         a type | ^"type":"CityJSONFeature" | 11 duplicate name
         an id by an escape | ^"\u0069d":"b" | 11 duplicate name
         "#,
-    )?;
+    },
+];
+
+#[test]
+fn features_rule_by_rule(rt: HostRuntime) -> Result<(), Fail> {
+    all_meet(&rt, rt.alloc(), Judged::Feature(HEADER), &FEATURES)?;
     Ok(())
 }

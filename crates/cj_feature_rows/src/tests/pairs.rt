@@ -1,14 +1,11 @@
 //! Two rules broken at once. The least finding by byte is reported, in any order of the checks.
-use super::{HEADER, features_meet, headers_meet};
+use super::{HEADER, Judged, Table, all_meet};
 use std::test::Fail;
 
-#[test]
-fn members_of_a_header_in_either_order(rt: HostRuntime) -> Result<(), Fail> {
-    headers_meet(
-        &rt,
-        rt.alloc(),
-        r#"_"#,
-        r#"
+const HEADERS: [Table; 1] = [Table {
+    name: "members of a header in either order",
+    pattern: r#"_"#,
+    rows: r#"
         a type, then a version | {"type":^"a","version":"a","transform":{"scale":[1,1,1],"translate":[0,0,0]},"CityObjects":{},"vertices":[]} | 14 wrong type
         a version, then a type | {"version":^"a","type":"a","transform":{"scale":[1,1,1],"translate":[0,0,0]},"CityObjects":{},"vertices":[]} | 15 wrong version
         vertices, then city objects | {"type":"CityJSON","version":"2.0","transform":{"scale":[1,1,1],"translate":[0,0,0]},"vertices":^[0],"CityObjects":{"b":0}} | 16 not empty
@@ -18,18 +15,12 @@ fn members_of_a_header_in_either_order(rt: HostRuntime) -> Result<(), Fail> {
         a member missing, then a wrong one | ^{"type":"a","transform":{"scale":[1,1,1],"translate":[0,0,0]},"CityObjects":{},"vertices":[]} | 10 member missing
         vertices of templates, then templates | {"type":"CityJSON","version":"2.0","transform":{"scale":[1,1,1],"translate":[0,0,0]},"CityObjects":{},"vertices":[],"geometry-templates":{"vertices-templates":[^0],"templates":[0]}} | 12 wrong kind
         "#,
-    )?;
-    Ok(())
-}
+}];
 
-#[test]
-fn members_of_a_feature_in_either_order(rt: HostRuntime) -> Result<(), Fail> {
-    features_meet(
-        &rt,
-        rt.alloc(),
-        HEADER,
-        r#"_"#,
-        r#"
+const FEATURES: [Table; 1] = [Table {
+    name: "members of a feature in either order",
+    pattern: r#"_"#,
+    rows: r#"
         a type, then an id | {"type":^"a","id":"a","CityObjects":{"b":{"type":"Building"}},"vertices":[]} | 14 wrong type
         an id, then a type | {"id":^"a","type":"a","CityObjects":{"b":{"type":"Building"}},"vertices":[]} | 20 id not among the city objects
         vertices, then a city object | {"type":"CityJSONFeature","id":"b","vertices":[^0],"CityObjects":{"b":0}} | 12 wrong kind
@@ -45,6 +36,11 @@ fn members_of_a_feature_in_either_order(rt: HostRuntime) -> Result<(), Fail> {
         a doubled name, then a geometry | {"type":"CityJSONFeature","id":"b","CityObjects":{"b":{"type":"Building",^"type":"Building","geometry":0}},"vertices":[]} | 11 duplicate name
         a geometry, then a doubled name | {"type":"CityJSONFeature","id":"b","CityObjects":{"b":{"type":"Building","geometry":^0,"type":"Building"}},"vertices":[]} | 12 wrong kind
         "#,
-    )?;
+}];
+
+#[test]
+fn two_rules_at_once(rt: HostRuntime) -> Result<(), Fail> {
+    all_meet(&rt, rt.alloc(), Judged::Header, &HEADERS)?;
+    all_meet(&rt, rt.alloc(), Judged::Feature(HEADER), &FEATURES)?;
     Ok(())
 }

@@ -2,7 +2,7 @@
 ghost use Rattle.cj_spans.specs.Marks.{AreUnmarked};
 ghost use Rattle.cj_spans.specs.Sound.{AreOf};
 
-use super::{HEADER, features_meet, finding_text, line_of, tokens_of};
+use super::{HEADER, Judged, Table, all_meet, finding_text, is_text, line_of, tokens_of};
 use cj_budget::Bounded;
 use cj_feature::{check_feature, check_header, mark_reached};
 use cj_spans::{Doc, Finding, Token};
@@ -11,7 +11,7 @@ use std::process::Abort;
 use std::test::Fail;
 
 /// Returns the finding of a line as a feature whose city objects must all be reached.
-fn tree_finding(rt: &impl Abort, alloc: Global, line: &[u8]) -> Option<Finding> {
+pub fn tree_finding(rt: &impl Abort, alloc: Global, line: &[u8]) -> Option<Finding> {
     let header_tokens = tokens_of(rt, alloc, HEADER.as_bytes());
     let mut tokens = tokens_of(rt, alloc, line);
     mark_reached(line, &mut tokens);
@@ -22,18 +22,6 @@ fn tree_finding(rt: &impl Abort, alloc: Global, line: &[u8]) -> Option<Finding> 
         },
         Err(_) => panic!(rt; "no header"),
     }
-}
-
-/// Each row of the table has the finding that it wants, as a feature whose city objects must all be
-/// reached.
-fn trees_meet(rt: &impl Abort, alloc: Global, pattern: &str, rows: &str) -> Result<(), AllocError> {
-    for row in rows.trim().lines() {
-        let (line, want) = line_of(rt, alloc, pattern, row)?;
-        let found = tree_finding(rt, alloc, line.as_bytes());
-        let found = finding_text(alloc, found)?;
-        assert_eq!(rt; found.as_str(), want.as_str(), "{row}");
-    }
-    Ok(())
 }
 
 /// Returns the places of the nodes that have marks, in order.
@@ -62,14 +50,19 @@ fn count_marks(line: &[u8], tokens: &Bounded<Token>) -> usize
         .count()
 }
 
-/// Each row of the table has marks at these places, and nowhere else.
+/// The row has marks at these places, and nowhere else.
+fn marks_row(rt: &impl Abort, alloc: Global, pattern: &str, row: &str) -> Result<(), AllocError> {
+    let (line, want) = line_of(rt, alloc, pattern, row)?;
+    let mut tokens = tokens_of(rt, alloc, line.as_bytes());
+    mark_reached(line.as_bytes(), &mut tokens);
+    let places = marked_places(alloc, line.as_bytes(), &tokens)?;
+    is_text(rt, places.trim(), &want, "marks", row);
+    Ok(())
+}
+
 fn marks_meet(rt: &impl Abort, alloc: Global, pattern: &str, rows: &str) -> Result<(), AllocError> {
     for row in rows.trim().lines() {
-        let (line, want) = line_of(rt, alloc, pattern, row)?;
-        let mut tokens = tokens_of(rt, alloc, line.as_bytes());
-        mark_reached(line.as_bytes(), &mut tokens);
-        let places = marked_places(alloc, line.as_bytes(), &tokens)?;
-        assert_eq!(rt; places.as_str().trim(), want.as_str(), "{row}");
+        marks_row(rt, alloc, pattern, row)?;
     }
     Ok(())
 }
@@ -77,52 +70,42 @@ fn marks_meet(rt: &impl Abort, alloc: Global, pattern: &str, rows: &str) -> Resu
 /// City objects of a feature.
 const OBJECTS: &str = r#"{"type":"CityJSONFeature","id":"b","CityObjects":{_},"vertices":[]}"#;
 
-#[test]
-fn marks(rt: HostRuntime) -> Result<(), Fail> {
-    marks_meet(
-        &rt,
-        rt.alloc(),
-        OBJECTS,
-        r#"
-        the main one alone | "b":{} | 54
-        one apart | "b":{},"c":{} | 54
-        one that it lists | "b":{"children":["c"]},"c":{} | 54 77
-        one that lists it as a parent | "b":{},"c":{"parents":["b"]} | 54
-        one that it lists as a parent | "b":{"parents":["c"]},"c":{} | 54
-        a chain from the end | "q":{},"p":{"children":["q"]},"b":{"children":["p"]} | 54 61 84
-        a circle apart | "b":{},"c":{"children":["d"]},"d":{"children":["c"]} | 54
-        two of one name | "b":{},"c":{},"b":{"children":["c"]} | 54 61 68
-        two of one name that are listed | "b":{"children":["c"]},"c":{},"c":{"children":["d"]},"d":{} | 54 77 84 107
-        three of one name that list it | "b":{"children":["b"]},"b":{"children":["b"]},"b":{"children":["b"]} | 54 77 100
-        three of one name that list it behind one apart | "c":{},"b":{"children":["b"]},"b":{"children":["b"]},"b":{"children":["b"]} | 61 84 107
-        three of one name that are not side by side | "b":{"children":["b"]},"c":{},"b":{},"d":{"children":["b"]},"b":{"children":["c"]} | 54 77 84 114
-        by escapes | "\u0062":{"children":["\u0063"]},"c":{} | 59 87
-        a child that is nested | "b":{"children":[["c"]]},"c":{} | 54
-        children that are no array | "b":{"children":"c"},"c":{} | 54
-        the first children of two | "b":{"children":["c"],"children":["d"]},"c":{},"d":{} | 54 94
-        values that are no objects | "b":[],"b":{"children":["c"]},"c":3 | 54 61 84
-        one that is not there | "b":{"children":["x","c"]},"c":{} | 54 81
-        "#,
-    )?;
-    Ok(())
-}
+const MARKS: &str = r#"
+    the main one alone | "b":{} | 54
+    one apart | "b":{},"c":{} | 54
+    one that it lists | "b":{"children":["c"]},"c":{} | 54 77
+    one that lists it as a parent | "b":{},"c":{"parents":["b"]} | 54
+    one that it lists as a parent | "b":{"parents":["c"]},"c":{} | 54
+    a chain from the end | "q":{},"p":{"children":["q"]},"b":{"children":["p"]} | 54 61 84
+    a circle apart | "b":{},"c":{"children":["d"]},"d":{"children":["c"]} | 54
+    two of one name | "b":{},"c":{},"b":{"children":["c"]} | 54 61 68
+    two of one name that are listed | "b":{"children":["c"]},"c":{},"c":{"children":["d"]},"d":{} | 54 77 84 107
+    three of one name that list it | "b":{"children":["b"]},"b":{"children":["b"]},"b":{"children":["b"]} | 54 77 100
+    three of one name that list it behind one apart | "c":{},"b":{"children":["b"]},"b":{"children":["b"]},"b":{"children":["b"]} | 61 84 107
+    three of one name that are not side by side | "b":{"children":["b"]},"c":{},"b":{},"d":{"children":["b"]},"b":{"children":["c"]} | 54 77 84 114
+    by escapes | "\u0062":{"children":["\u0063"]},"c":{} | 59 87
+    a child that is nested | "b":{"children":[["c"]]},"c":{} | 54
+    children that are no array | "b":{"children":"c"},"c":{} | 54
+    the first children of two | "b":{"children":["c"],"children":["d"]},"c":{},"d":{} | 54 94
+    values that are no objects | "b":[],"b":{"children":["c"]},"c":3 | 54 61 84
+    one that is not there | "b":{"children":["x","c"]},"c":{} | 54 81
+    "#;
+
+const NO_MARKS: &str = r#"
+    no id | "CityObjects":{"b":{}} |
+    no city objects | "id":"b" |
+    an id that is no text | "id":3,"CityObjects":{"3":{}} |
+    an id of none | "id":"c","CityObjects":{"b":{}} |
+    city objects that are no object | "id":"b","CityObjects":["b"] |
+    the first id of two | "id":"c","id":"b","CityObjects":{"b":{}} |
+    the first city objects of two | "id":"b","CityObjects":{},"CityObjects":{"b":{}} |
+    "#;
 
 #[test]
-fn marks_where_nothing_is_reached(rt: HostRuntime) -> Result<(), Fail> {
-    marks_meet(
-        &rt,
-        rt.alloc(),
-        r#"{"type":"CityJSONFeature",_,"vertices":[]}"#,
-        r#"
-        no id | "CityObjects":{"b":{}} |
-        no city objects | "id":"b" |
-        an id that is no text | "id":3,"CityObjects":{"3":{}} |
-        an id of none | "id":"c","CityObjects":{"b":{}} |
-        city objects that are no object | "id":"b","CityObjects":["b"] |
-        the first id of two | "id":"c","id":"b","CityObjects":{"b":{}} |
-        the first city objects of two | "id":"b","CityObjects":{},"CityObjects":{"b":{}} |
-        "#,
-    )?;
+fn marks(rt: HostRuntime) -> Result<(), Fail> {
+    let nothing_is_reached = r#"{"type":"CityJSONFeature",_,"vertices":[]}"#;
+    marks_meet(&rt, rt.alloc(), OBJECTS, MARKS)?;
+    marks_meet(&rt, rt.alloc(), nothing_is_reached, NO_MARKS)?;
     Ok(())
 }
 
@@ -148,13 +131,6 @@ const TOGETHER: &str = r#"
         a part beside a main one of the second level | "b":{"type":"BuildingPart","parents":["c"],"children":["c"]},"p":{"type":"BuildingPart","parents":["d"]},"c":{"type":"Building","children":["b"],"parents":["b"]},"d":{"type":"Building","children":["p"]} | none
         "#;
 
-#[test]
-fn city_objects_apart(rt: HostRuntime) -> Result<(), Fail> {
-    features_meet(&rt, rt.alloc(), HEADER, OBJECTS, TOGETHER)?;
-    trees_meet(&rt, rt.alloc(), OBJECTS, APART)?;
-    Ok(())
-}
-
 /// Features whose findings are the same with the rule and without it.
 const SAME: &str = r#"
         the main one alone | "b":{"type":"Building"} | none
@@ -172,36 +148,44 @@ const SAME: &str = r#"
         one apart of no parent in the feature | "b":{"type":"Building"},"c":^{"type":"BuildingPart","parents":["g"]} | 23 no parent in the feature
         "#;
 
-#[test]
-fn the_same_with_the_rule(rt: HostRuntime) -> Result<(), Fail> {
-    features_meet(&rt, rt.alloc(), HEADER, OBJECTS, SAME)?;
-    trees_meet(&rt, rt.alloc(), OBJECTS, SAME)?;
-    Ok(())
-}
+const FEATURES: [Table; 2] = [
+    Table {
+        name: "city objects apart, without the rule",
+        pattern: OBJECTS,
+        rows: TOGETHER,
+    },
+    Table {
+        name: "the same without the rule",
+        pattern: OBJECTS,
+        rows: SAME,
+    },
+];
 
-#[test]
-fn not_reached_before_other_faults(rt: HostRuntime) -> Result<(), Fail> {
-    trees_meet(
-        &rt,
-        rt.alloc(),
-        OBJECTS,
-        r#"
+const TREES: [Table; 4] = [
+    Table {
+        name: "city objects apart",
+        pattern: OBJECTS,
+        rows: APART,
+    },
+    Table {
+        name: "the same with the rule",
+        pattern: OBJECTS,
+        rows: SAME,
+    },
+    Table {
+        name: "not reached before other faults",
+        pattern: OBJECTS,
+        rows: r#"
         of an unknown type | "b":{"type":"Building"},"c":^{"type":"Shed"} | 31 not reached from the main object
         that lists the main one as a parent | "b":{"type":"Building"},"c":^{"type":"Building","parents":["b"]} | 31 not reached from the main object
         before children that are no array | "c":^{"type":"Building"},"b":{"type":"Building","children":"c"} | 31 not reached from the main object
         before a child that is no text | "c":^{"type":"Building"},"b":{"type":"Building","children":[["c"]]} | 31 not reached from the main object
         "#,
-    )?;
-    Ok(())
-}
-
-#[test]
-fn the_rule_where_it_does_not_apply(rt: HostRuntime) -> Result<(), Fail> {
-    trees_meet(
-        &rt,
-        rt.alloc(),
-        r#"_"#,
-        r#"
+    },
+    Table {
+        name: "the rule where it does not apply",
+        pattern: r#"_"#,
+        rows: r#"
         no id | ^{"type":"CityJSONFeature","CityObjects":{"b":{"type":"Building"}},"vertices":[]} | 10 member missing
         an id that is no text | {"type":"CityJSONFeature","CityObjects":{"3":{"type":"Building"}},"id":^3,"vertices":[]} | 12 wrong kind
         an id of none | {"type":"CityJSONFeature","CityObjects":{"b":{"type":"Building"}},"id":^"c","vertices":[]} | 20 id not among the city objects
@@ -209,8 +193,35 @@ fn the_rule_where_it_does_not_apply(rt: HostRuntime) -> Result<(), Fail> {
         city objects that are no object | {"type":"CityJSONFeature","id":"b","CityObjects":^["b"],"vertices":[]} | 12 wrong kind
         a text that has no mark | ^[] | 12 wrong kind
         "#,
-    )?;
+    },
+];
+
+#[test]
+fn what_is_not_reached(rt: HostRuntime) -> Result<(), Fail> {
+    all_meet(&rt, rt.alloc(), Judged::Feature(HEADER), &FEATURES)?;
+    all_meet(&rt, rt.alloc(), Judged::Tree, &TREES)?;
     Ok(())
+}
+
+/// Adds a group of this number, which lists this child.
+fn push_group(
+    alloc: Global,
+    objects: &mut String,
+    number: u32,
+    child: &str,
+) -> Result<(), AllocError> {
+    let comma = if number == 0 { "" } else { "," };
+    objects.push_str(&format!(in alloc;
+        r#"{comma}"o{number}":{{"type":"CityObjectGroup","children":[{child}]}}"#
+    )?)
+}
+
+/// Returns the child of a group in a chain.
+fn child_of(alloc: Global, number: u32, cut: u32) -> Result<String, AllocError> {
+    match number.checked_sub(1) {
+        Some(before) if number != cut => format!(in alloc; "\"o{before}\""),
+        _ => Ok(String::new(alloc)),
+    }
 }
 
 /// A feature of `count` groups. Each lists the one before it, but the one at `cut` lists none. The
@@ -218,15 +229,8 @@ fn the_rule_where_it_does_not_apply(rt: HostRuntime) -> Result<(), Fail> {
 fn chain(alloc: Global, count: u32, cut: u32) -> Result<String, AllocError> {
     let mut objects = String::new(alloc);
     for number in 0..count {
-        let child = match number.checked_sub(1) {
-            Some(before) if number != cut => format!(in alloc; "\"o{before}\"")?,
-            _ => String::new(alloc),
-        };
-        let comma = if number == 0 { "" } else { "," };
-        let object = format!(in alloc;
-            "{comma}\"o{number}\":{{\"type\":\"CityObjectGroup\",\"children\":[{child}]}}"
-        )?;
-        objects.push_str(object.as_str())?;
+        let child = child_of(alloc, number, cut)?;
+        push_group(alloc, &mut objects, number, &child)?;
     }
     let last = count.saturating_sub(1);
     format!(in alloc;
@@ -234,68 +238,80 @@ fn chain(alloc: Global, count: u32, cut: u32) -> Result<String, AllocError> {
     )
 }
 
-/// The line has this number of marks and this finding.
-fn line_meets(
-    rt: &impl Abort,
-    alloc: Global,
-    line: &[u8],
-    marks: usize,
-    want: &str,
-) -> Result<(), AllocError> {
+/// The line has this number of marks.
+fn has_marks(rt: &impl Abort, alloc: Global, line: &[u8], marks: usize) {
     let mut tokens = tokens_of(rt, alloc, line);
     mark_reached(line, &mut tokens);
     assert_eq!(rt; count_marks(line, &tokens), marks);
+}
+
+/// The line has this finding, as a feature whose city objects must all be reached.
+fn has_finding(rt: &impl Abort, alloc: Global, line: &[u8], want: &str) -> Result<(), AllocError> {
     let found = finding_text(alloc, tree_finding(rt, alloc, line))?;
-    assert_eq!(rt; found.as_str(), want);
+    is_text(rt, &found, want, "what is reached", "many");
     Ok(())
 }
 
-/// The chain has this number of marks and this finding.
-fn chain_meets(
+/// A line has this number of marks and this finding.
+fn line_meets(
     rt: &impl Abort,
     alloc: Global,
-    count: u32,
-    cut: u32,
+    line: &str,
     marks: usize,
     want: &str,
 ) -> Result<(), AllocError> {
-    let line = chain(alloc, count, cut)?;
-    line_meets(rt, alloc, line.as_bytes(), marks, want)
+    has_marks(rt, alloc, line.as_bytes(), marks);
+    has_finding(rt, alloc, line.as_bytes(), want)
 }
+
+/// How many city objects a chain has, where it is cut, and its marks and its finding.
+type ChainRow = (u32, u32, usize, &'static str);
 
 /// The first city object of a chain whose last number has three digits is at byte 58.
-#[test]
-fn chains_from_the_end(rt: HostRuntime) -> Result<(), Fail> {
-    let apart = "not reached from the main object";
-    chain_meets(&rt, rt.alloc(), 9, 0, 9, "none")?;
-    chain_meets(&rt, rt.alloc(), 1_000, 0, 1_000, "none")?;
-    let want = format!(in rt.alloc(); "58 31 {apart}")?;
-    chain_meets(&rt, rt.alloc(), 1_000, 400, 600, want.as_str())?;
-    Ok(())
-}
+const CHAINS: [ChainRow; 3] = [
+    (9, 0, 9, "none"),
+    (1_000, 0, 1_000, "none"),
+    (1_000, 400, 600, "58 31 not reached from the main object"),
+];
 
 /// Chains for the large guide.
-#[test]
-fn long_chains_from_the_end(rt: HostRuntime) -> Result<(), Fail> {
-    let want = "59 31 not reached from the main object";
-    chain_meets(&rt, rt.alloc(), 5_000, 0, 5_000, "none")?;
-    chain_meets(&rt, rt.alloc(), 5_000, 400, 4_600, want)?;
+const LONG_CHAINS: [ChainRow; 2] = [
+    (5_000, 0, 5_000, "none"),
+    (5_000, 400, 4_600, "59 31 not reached from the main object"),
+];
+
+fn chains_meet(rt: &impl Abort, alloc: Global, rows: &[ChainRow]) -> Result<(), AllocError> {
+    for (count, cut, marks, want) in rows {
+        let line = chain(alloc, *count, *cut)?;
+        line_meets(rt, alloc, &line, *marks, *want)?;
+    }
     Ok(())
 }
 
-/// A group of 5,000 short city objects of one name, and one that is not reached. They need the
-/// guide of middle size.
 #[test]
-fn many_short_ones(rt: HostRuntime) -> Result<(), Fail> {
-    let mut objects = String::new(rt.alloc());
-    for _ in 0..5_000 {
+fn chains_from_the_end(rt: HostRuntime) -> Result<(), Fail> {
+    chains_meet(&rt, rt.alloc(), CHAINS.as_slice())?;
+    chains_meet(&rt, rt.alloc(), LONG_CHAINS.as_slice())?;
+    Ok(())
+}
+
+/// A group of `count` short city objects of one name, and one that is not reached.
+fn short_ones(alloc: Global, count: u32) -> Result<String, AllocError> {
+    let mut objects = String::new(alloc);
+    for _ in 0..count {
         objects.push_str(r#","c":0"#)?;
     }
     let group = r#""b":{"type":"CityObjectGroup","children":["c"]}"#;
-    let line = format!(in rt.alloc();
+    format!(in alloc;
         "{{\"type\":\"CityJSONFeature\",\"id\":\"b\",\"CityObjects\":{{{group}{objects},\"d\":0}},\"vertices\":[]}}"
-    )?;
-    line_meets(&rt, rt.alloc(), line.as_bytes(), 5_001, "102 12 wrong kind")?;
+    )
+}
+
+/// They need the guide of middle size.
+#[test]
+fn many_short_ones(rt: HostRuntime) -> Result<(), Fail> {
+    let line = short_ones(rt.alloc(), 5_000)?;
+    line_meets(&rt, rt.alloc(), &line, 5_001, "102 12 wrong kind")?;
     Ok(())
 }
 
@@ -315,6 +331,6 @@ fn namesakes(alloc: Global, count: u32) -> Result<String, AllocError> {
 fn many_of_one_name(rt: HostRuntime) -> Result<(), Fail> {
     let line = namesakes(rt.alloc(), 1_000)?;
     let want = "54 31 not reached from the main object";
-    line_meets(&rt, rt.alloc(), line.as_bytes(), 1_000, want)?;
+    line_meets(&rt, rt.alloc(), &line, 1_000, want)?;
     Ok(())
 }

@@ -4,7 +4,7 @@ ghost use Rattle.cj_spans.specs.View.{document};
 ghost use Rattle.cj_feature.specs.HeaderView.{header_tree};
 
 use super::templates::TEMPLATES;
-use super::{HEADER, tokens_of};
+use super::{HEADER, is_text, tokens_of};
 use cj_decimal::{Decimal, Fixed18};
 use cj_feature::{Feature, Header, check_feature, check_header};
 use cj_geometry::lod_of;
@@ -74,8 +74,8 @@ fn header_texts(
 fn a_header_of_its_parts_shows_the_same(rt: HostRuntime) -> Result<(), Fail> {
     let want = "1e-3 1e-3 1e-3, 1e3 2e3 0e0, 140 bytes, box false";
     let (text, second) = header_texts(&rt, rt.alloc(), HEADER.as_bytes())?;
-    assert_eq!(&rt; text.as_str(), want);
-    assert_eq!(&rt; second.as_str(), want);
+    is_text(&rt, &text, want, "a header", "itself");
+    is_text(&rt, &second, want, "a header", "of its parts");
     Ok(())
 }
 
@@ -117,17 +117,23 @@ fn vertex_text(
     }
 }
 
+fn compares(
+    rt: &impl Abort,
+    alloc: Global,
+    vertex: [i64; 2],
+    point: [&str; 2],
+    want: &str,
+) -> Result<(), AllocError> {
+    let text = vertex_text(rt, alloc, vertex, point)?;
+    is_text(rt, &text, want, "a vertex and a point", point[0]);
+    Ok(())
+}
+
 #[test]
 fn a_header_for_a_box_maps_vertices(rt: HostRuntime) -> Result<(), Fail> {
-    let same = vertex_text(&rt, rt.alloc(), [1_000, 0], ["1001", "2000"])?;
-    assert_eq!(&rt; same.as_str(), "Equal Equal");
-    let apart = vertex_text(
-        &rt,
-        rt.alloc(),
-        [1_000, 1],
-        ["1001.000000000000000001", "2000"],
-    )?;
-    assert_eq!(&rt; apart.as_str(), "Less Greater");
+    compares(&rt, rt.alloc(), [1_000, 0], ["1001", "2000"], "Equal Equal")?;
+    let apart = ["1001.000000000000000001", "2000"];
+    compares(&rt, rt.alloc(), [1_000, 1], apart, "Less Greater")?;
     Ok(())
 }
 
@@ -215,22 +221,30 @@ fn line_text(
     }
 }
 
+fn shows(
+    rt: &impl Abort,
+    alloc: Global,
+    header: &str,
+    line: &str,
+    want: &str,
+) -> Result<(), AllocError> {
+    let text = line_text(rt, alloc, header.as_bytes(), line.as_bytes())?;
+    is_text(rt, &text, want, "shown", line);
+    Ok(())
+}
+
 #[test]
 fn a_building_shows_its_parts(rt: HostRuntime) -> Result<(), Fail> {
-    let text = line_text(&rt, rt.alloc(), HEADER.as_bytes(), BUILDING.as_bytes())?;
-    assert_eq!(&rt;
-        text.as_str(),
-        "id 31, objects 51 Building 56, geometries 87 116, vertices 0,0,0 1000,0,0 1000,1000,0 0,1000,0, x 0 1000 1000 0, y 0 0 1000 1000, z 0 0 0 0, 210 bytes"
-    );
+    let want =
+        "id 31, objects 51 Building 56, geometries 87 116, vertices 0,0,0 1000,0,0 1000,1000,0 0,1000,0, x 0 1000 1000 0, y 0 0 1000 1000, z 0 0 0 0, 210 bytes";
+    shows(&rt, rt.alloc(), HEADER, BUILDING, want)?;
     Ok(())
 }
 
 #[test]
 fn an_instance_shows_the_level_of_its_template(rt: HostRuntime) -> Result<(), Fail> {
-    let text = line_text(&rt, rt.alloc(), TEMPLATES.as_bytes(), TREE.as_bytes())?;
-    assert_eq!(&rt;
-        text.as_str(),
-        "id 31, objects 50 SolitaryVegetationObject 54 218 BuildingPart 222 262 Building 266, geometries 101 204, vertices -1,20,3, x -1, y 20, z 3, 330 bytes"
-    );
+    let want =
+        "id 31, objects 50 SolitaryVegetationObject 54 218 BuildingPart 222 262 Building 266, geometries 101 204, vertices -1,20,3, x -1, y 20, z 3, 330 bytes";
+    shows(&rt, rt.alloc(), TEMPLATES, TREE, want)?;
     Ok(())
 }

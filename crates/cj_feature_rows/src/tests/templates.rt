@@ -1,18 +1,16 @@
 //! Templates of a header, rule by rule, and instances that name them.
-use super::{HEADER, features_meet, headers_meet};
+use super::{HEADER, Judged, Table, all_meet};
 use std::test::Fail;
 
 /// A header with one template.
 pub const TEMPLATES: &str =
     r#"{"type":"CityJSON","version":"2.0","transform":{"scale":[0.001,0.001,0.001],"translate":[1000.0,2000.0,0.0]},"CityObjects":{},"vertices":[],"geometry-templates":{"templates":[{"type":"MultiSurface","lod":"1","boundaries":[[[0,1,2]]]}],"vertices-templates":[[0.0,0.0,0.0],[1.0,0.0,0.0],[0.0,1.0,0.0]]}}"#;
 
-#[test]
-fn objects_of_templates(rt: HostRuntime) -> Result<(), Fail> {
-    headers_meet(
-        &rt,
-        rt.alloc(),
-        r#"{"type":"CityJSON","version":"2.0","transform":{"scale":[1,1,1],"translate":[0,0,0]},"CityObjects":{},"vertices":[],"geometry-templates":_}"#,
-        r#"
+const HEADERS: [Table; 4] = [
+    Table {
+        name: "objects of templates",
+        pattern: r#"{"type":"CityJSON","version":"2.0","transform":{"scale":[1,1,1],"translate":[0,0,0]},"CityObjects":{},"vertices":[],"geometry-templates":_}"#,
+        rows: r#"
         no templates | {"templates":[],"vertices-templates":[]} | none
         a template | {"templates":[{"type":"MultiPoint","lod":"1","boundaries":[0]}],"vertices-templates":[[0,0.5,-1e3]]} | none
         members in the other order | {"vertices-templates":[[0,0,0]],"templates":[{"type":"MultiPoint","lod":"1","boundaries":[0]}]} | none
@@ -27,34 +25,22 @@ fn objects_of_templates(rt: HostRuntime) -> Result<(), Fail> {
         null for vertices | {"templates":[],"vertices-templates":^null} | 12 wrong kind
         two of one name | {"templates":[],"vertices-templates":[],^"templates":[]} | 11 duplicate name
         "#,
-    )?;
-    Ok(())
-}
-
-#[test]
-fn vertices_of_templates(rt: HostRuntime) -> Result<(), Fail> {
-    headers_meet(
-        &rt,
-        rt.alloc(),
-        r#"{"type":"CityJSON","version":"2.0","transform":{"scale":[1,1,1],"translate":[0,0,0]},"CityObjects":{},"vertices":[],"geometry-templates":{"templates":[],"vertices-templates":_}}"#,
-        r#"
+    },
+    Table {
+        name: "vertices of templates",
+        pattern: r#"{"type":"CityJSON","version":"2.0","transform":{"scale":[1,1,1],"translate":[0,0,0]},"CityObjects":{},"vertices":[],"geometry-templates":{"templates":[],"vertices-templates":_}}"#,
+        rows: r#"
         numbers that are not whole | [[0.5,1e-3,-2]] | none
         a number | [^3] | 12 wrong kind
         two numbers | [[0,0,0],^[0,0]] | 17 not three items
         a text | [[0,^"0",0]] | 12 wrong kind
         37 digits | [[0,0,^1111111111111111111111111111111111111]] | 13 number out of range
         "#,
-    )?;
-    Ok(())
-}
-
-#[test]
-fn lists_of_templates(rt: HostRuntime) -> Result<(), Fail> {
-    headers_meet(
-        &rt,
-        rt.alloc(),
-        r#"{"type":"CityJSON","version":"2.0","transform":{"scale":[1,1,1],"translate":[0,0,0]},"CityObjects":{},"vertices":[],"geometry-templates":{"templates":_,"vertices-templates":[[0,0,0]]}}"#,
-        r#"
+    },
+    Table {
+        name: "lists of templates",
+        pattern: r#"{"type":"CityJSON","version":"2.0","transform":{"scale":[1,1,1],"translate":[0,0,0]},"CityObjects":{},"vertices":[],"geometry-templates":{"templates":_,"vertices-templates":[[0,0,0]]}}"#,
+        rows: r#"
         a point | [{"type":"MultiPoint","lod":"1","boundaries":[0]}] | none
         a number | [^3] | 12 wrong kind
         an index past the vertices | [{"type":"MultiPoint","lod":"1","boundaries":[^1]}] | 25 vertex index out of range
@@ -64,51 +50,45 @@ fn lists_of_templates(rt: HostRuntime) -> Result<(), Fail> {
         an instance of doubled names | [{"a":1,^"a":1,"type":"GeometryInstance"}] | 11 duplicate name
         the second of two | [{"type":"MultiPoint","lod":"1","boundaries":[0]},^{}] | 10 member missing
         "#,
-    )?;
-    Ok(())
-}
-
-#[test]
-fn indices_beside_vertices_that_are_no_array(rt: HostRuntime) -> Result<(), Fail> {
-    headers_meet(
-        &rt,
-        rt.alloc(),
-        r#"_"#,
-        r#"
+    },
+    Table {
+        name: "indices beside vertices that are no array",
+        pattern: r#"_"#,
+        rows: r#"
         the vertices alone | {"type":"CityJSON","version":"2.0","transform":{"scale":[1,1,1],"translate":[0,0,0]},"CityObjects":{},"vertices":[],"geometry-templates":{"vertices-templates":^{},"templates":[{"type":"MultiPoint","lod":"1","boundaries":[9]}]}} | 12 wrong kind
         "#,
-    )?;
-    Ok(())
-}
+    },
+];
 
-#[test]
-fn instances(rt: HostRuntime) -> Result<(), Fail> {
-    features_meet(
-        &rt,
-        rt.alloc(),
-        TEMPLATES,
-        r#"{"type":"CityJSONFeature","id":"b","CityObjects":{"b":{"type":"SolitaryVegetationObject","geometry":[{"type":"GeometryInstance","template":_,"boundaries":[0],"transformationMatrix":[1,0,0,0,0,1,0,0,0,0,1,0,0,0,0,1]}]}},"vertices":[[0,0,0]]}"#,
-        r#"
+const FEATURES_WITH_TEMPLATES: [Table; 1] = [Table {
+    name: "instances",
+    pattern: r#"{"type":"CityJSONFeature","id":"b","CityObjects":{"b":{"type":"SolitaryVegetationObject","geometry":[{"type":"GeometryInstance","template":_,"boundaries":[0],"transformationMatrix":[1,0,0,0,0,1,0,0,0,0,1,0,0,0,0,1]}]}},"vertices":[[0,0,0]]}"#,
+    rows: r#"
         the first template | 0 | none
         past the templates | ^1 | 28 template index out of range
         below 0 | ^-1 | 28 template index out of range
         a half | ^0.5 | 18 not a whole number
         a text | ^"0" | 12 wrong kind
         "#,
-    )?;
-    Ok(())
-}
+}];
 
-#[test]
-fn instances_of_no_templates(rt: HostRuntime) -> Result<(), Fail> {
-    features_meet(
-        &rt,
-        rt.alloc(),
-        HEADER,
-        r#"{"type":"CityJSONFeature","id":"b","CityObjects":{"b":{"type":"SolitaryVegetationObject","geometry":[{"type":"GeometryInstance","template":_,"boundaries":[0],"transformationMatrix":[1,0,0,0,0,1,0,0,0,0,1,0,0,0,0,1]}]}},"vertices":[[0,0,0]]}"#,
-        r#"
+const FEATURES: [Table; 1] = [Table {
+    name: "instances of no templates",
+    pattern: r#"{"type":"CityJSONFeature","id":"b","CityObjects":{"b":{"type":"SolitaryVegetationObject","geometry":[{"type":"GeometryInstance","template":_,"boundaries":[0],"transformationMatrix":[1,0,0,0,0,1,0,0,0,0,1,0,0,0,0,1]}]}},"vertices":[[0,0,0]]}"#,
+    rows: r#"
         the first template | ^0 | 28 template index out of range
         "#,
+}];
+
+#[test]
+fn templates_and_their_instances(rt: HostRuntime) -> Result<(), Fail> {
+    all_meet(&rt, rt.alloc(), Judged::Header, &HEADERS)?;
+    all_meet(
+        &rt,
+        rt.alloc(),
+        Judged::Feature(TEMPLATES),
+        &FEATURES_WITH_TEMPLATES,
     )?;
+    all_meet(&rt, rt.alloc(), Judged::Feature(HEADER), &FEATURES)?;
     Ok(())
 }

@@ -1,17 +1,15 @@
 //! Indices of vertices, and how they may be spelled.
-use super::{Around, Given, meets, with_vertices};
+use super::{Around, FOUR_VERTICES, Given, NO_VERTICES, Table, UNKNOWN_VERTICES, all_meet};
 use std::test::Fail;
 
 const INDEX: &str = r#"{"type":"MultiSurface","lod":"2.2","boundaries":[[[0,1,2,_]]]}"#;
 
-#[test]
-fn indices_name_a_vertex(rt: HostRuntime) -> Result<(), Fail> {
-    meets(
-        &rt,
-        rt.alloc(),
-        with_vertices(4),
-        INDEX,
-        r#"
+const TABLES: [Table; 9] = [
+    Table {
+        name: "indices name a vertex",
+        around: FOUR_VERTICES,
+        geometry: INDEX,
+        rows: r#"
         the first | 0 | none
         the last | 3 | none
         equal to the count | ^4 | 25 vertex index out of range
@@ -20,56 +18,37 @@ fn indices_name_a_vertex(rt: HostRuntime) -> Result<(), Fail> {
         below 0 | ^-1 | 25 vertex index out of range
         the least whole number | ^-999999999999999999 | 25 vertex index out of range
         "#,
-    )?;
-    Ok(())
-}
-
-#[test]
-fn indices_of_no_vertices(rt: HostRuntime) -> Result<(), Fail> {
-    let template = Around {
-        vertices: Some(0),
-        templates: Given::Itself,
-    };
-    meets(
-        &rt,
-        rt.alloc(),
-        template,
-        r#"{"type":"MultiPoint","lod":"1","boundaries":_}"#,
-        r#"
+    },
+    Table {
+        name: "indices of no vertices",
+        around: Around {
+            vertices: Some(0),
+            templates: Given::Itself,
+        },
+        geometry: r#"{"type":"MultiPoint","lod":"1","boundaries":_}"#,
+        rows: r#"
         no index | [] | none
         the first | [^0] | 25 vertex index out of range
         minus 0 | [^-0] | 25 vertex index out of range
         "#,
-    )?;
-    Ok(())
-}
-
-#[test]
-fn indices_are_numbers(rt: HostRuntime) -> Result<(), Fail> {
-    meets(
-        &rt,
-        rt.alloc(),
-        with_vertices(4),
-        INDEX,
-        r#"
+    },
+    Table {
+        name: "indices are numbers",
+        around: FOUR_VERTICES,
+        geometry: INDEX,
+        rows: r#"
         null | ^null | 12 wrong kind
         a truth | ^true | 12 wrong kind
         a text | ^"3" | 12 wrong kind
         an array | ^[3] | 12 wrong kind
         an object | ^{} | 12 wrong kind
         "#,
-    )?;
-    Ok(())
-}
-
-#[test]
-fn spellings_of_an_index(rt: HostRuntime) -> Result<(), Fail> {
-    meets(
-        &rt,
-        rt.alloc(),
-        with_vertices(4),
-        INDEX,
-        r#"
+    },
+    Table {
+        name: "spellings of an index",
+        around: FOUR_VERTICES,
+        geometry: INDEX,
+        rows: r#"
         minus 0 | -0 | none
         minus 0 with a fraction | -0.0 | none
         a fraction of 0 | 3.0 | none
@@ -82,18 +61,12 @@ fn spellings_of_an_index(rt: HostRuntime) -> Result<(), Fail> {
         4 with an exponent | ^0.04e2 | 25 vertex index out of range
         minus 1 with an exponent | ^-1e0 | 25 vertex index out of range
         "#,
-    )?;
-    Ok(())
-}
-
-#[test]
-fn indices_are_whole(rt: HostRuntime) -> Result<(), Fail> {
-    meets(
-        &rt,
-        rt.alloc(),
-        with_vertices(4),
-        INDEX,
-        r#"
+    },
+    Table {
+        name: "indices are whole",
+        around: FOUR_VERTICES,
+        geometry: INDEX,
+        rows: r#"
         a half more | ^1.5 | 18 not a whole number
         a half | ^0.5 | 18 not a whole number
         minus a half | ^-0.5 | 18 not a whole number
@@ -105,63 +78,43 @@ fn indices_are_whole(rt: HostRuntime) -> Result<(), Fail> {
         37 digits of which the last is 0 | ^1111111111111111111111111111111111110 | 18 not a whole number
         the greatest power | ^1e1000000 | 18 not a whole number
         "#,
-    )?;
-    Ok(())
-}
-
-#[test]
-fn indices_are_in_range(rt: HostRuntime) -> Result<(), Fail> {
-    meets(
-        &rt,
-        rt.alloc(),
-        with_vertices(4),
-        INDEX,
-        r#"
+    },
+    Table {
+        name: "indices are in range",
+        around: FOUR_VERTICES,
+        geometry: INDEX,
+        rows: r#"
         37 digits | ^1111111111111111111111111111111111111 | 13 number out of range
         37 digits below 0 | ^-1111111111111111111111111111111111111 | 13 number out of range
         37 digits after the point | ^0.1111111111111111111111111111111111111 | 13 number out of range
         a greater power than the greatest | ^1e1000001 | 13 number out of range
         a lesser power than the least | ^1e-1000001 | 13 number out of range
         "#,
-    )?;
-    Ok(())
-}
-
-#[test]
-fn no_index_names_a_vertex_of_none(rt: HostRuntime) -> Result<(), Fail> {
-    meets(
-        &rt,
-        rt.alloc(),
-        with_vertices(0),
-        r#"{"type":"MultiPoint","lod":"1","boundaries":_}"#,
-        r#"
+    },
+    Table {
+        name: "no index names a vertex of none",
+        around: NO_VERTICES,
+        geometry: r#"{"type":"MultiPoint","lod":"1","boundaries":_}"#,
+        rows: r#"
         no index | [] | none
         0 | [^0] | 25 vertex index out of range
         minus 0 | [^-0] | 25 vertex index out of range
         "#,
-    )?;
-    meets(
-        &rt,
-        rt.alloc(),
-        with_vertices(1_000_000_000_000_000_000),
-        r#"{"type":"MultiPoint","lod":"1","boundaries":_}"#,
-        "the greatest whole number|[999999999999999999]|none",
-    )?;
-    Ok(())
-}
-
-#[test]
-fn indices_beside_unknown_vertices(rt: HostRuntime) -> Result<(), Fail> {
-    let around = Around {
-        vertices: None,
-        templates: Given::Empty,
-    };
-    meets(
-        &rt,
-        rt.alloc(),
-        around,
-        INDEX,
-        r#"
+    },
+    Table {
+        name: "the greatest index names the last vertex of many",
+        around: Around {
+            vertices: Some(1_000_000_000_000_000_000),
+            templates: Given::Empty,
+        },
+        geometry: r#"{"type":"MultiPoint","lod":"1","boundaries":_}"#,
+        rows: "the greatest whole number|[999999999999999999]|none",
+    },
+    Table {
+        name: "indices beside unknown vertices",
+        around: UNKNOWN_VERTICES,
+        geometry: INDEX,
+        rows: r#"
         any index | 4 | none
         the greatest whole number | 999999999999999999 | none
         below 0 | -1 | none
@@ -170,6 +123,11 @@ fn indices_beside_unknown_vertices(rt: HostRuntime) -> Result<(), Fail> {
         a half | ^0.5 | 18 not a whole number
         10^18 | ^1e18 | 18 not a whole number
         "#,
-    )?;
+    },
+];
+
+#[test]
+fn indices_of_vertices(rt: HostRuntime) -> Result<(), Fail> {
+    all_meet(&rt, rt.alloc(), TABLES.as_slice())?;
     Ok(())
 }

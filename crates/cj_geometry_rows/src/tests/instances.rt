@@ -1,23 +1,27 @@
 //! Instances of templates.
-use super::{Around, Given, meets, with_vertices};
+use super::{A_TEMPLATE, Around, Given, ONE_VERTEX, Table, all_meet};
 use std::test::Fail;
 
-/// One vertex, and two templates.
-fn with_templates() -> Around {
-    Around {
-        vertices: Some(1),
-        templates: Given::List("[{},null]"),
-    }
-}
+const TWO_TEMPLATES: Given = Given::List("[{},null]");
 
-#[test]
-fn instances_need_three_members(rt: HostRuntime) -> Result<(), Fail> {
-    meets(
-        &rt,
-        rt.alloc(),
-        with_templates(),
-        "_",
-        r#"
+/// One vertex, and two templates.
+const WITH_TEMPLATES: Around = Around {
+    vertices: Some(1),
+    templates: TWO_TEMPLATES,
+};
+
+const NO_TEMPLATES: &str = r#"
+    the first | ^0 | 28 template index out of range
+    minus 0 | ^-0 | 28 template index out of range
+    a half | ^0.5 | 18 not a whole number
+    "#;
+
+const TABLES: [Table; 12] = [
+    Table {
+        name: "instances need three members",
+        around: WITH_TEMPLATES,
+        geometry: "_",
+        rows: r#"
         all three | {"type":"GeometryInstance","template":1,"boundaries":[0],"transformationMatrix":[1,0,0,0,0,1,0,0,0,0,1,0,0,0,0,1]} | none
         by escapes | {"typ\u0065":"GeometryInst\u0061nce","templ\u0061te":1,"bound\u0061ries":[0],"transform\u0061tionMatrix":[1,0,0,0,0,1,0,0,0,0,1,0,0,0,0,1]} | none
         none | ^{"type":"GeometryInstance"} | 10 member missing
@@ -25,18 +29,12 @@ fn instances_need_three_members(rt: HostRuntime) -> Result<(), Fail> {
         no boundaries | ^{"type":"GeometryInstance","template":0,"transformationMatrix":[1,0,0,0,0,1,0,0,0,0,1,0,0,0,0,1]} | 10 member missing
         no matrix | ^{"type":"GeometryInstance","template":0,"boundaries":[0]} | 10 member missing
         "#,
-    )?;
-    Ok(())
-}
-
-#[test]
-fn templates_are_indices(rt: HostRuntime) -> Result<(), Fail> {
-    meets(
-        &rt,
-        rt.alloc(),
-        with_templates(),
-        r#"{"type":"GeometryInstance","template":_,"boundaries":[0],"transformationMatrix":[1,0,0,0,0,1,0,0,0,0,1,0,0,0,0,1]}"#,
-        r#"
+    },
+    Table {
+        name: "templates are indices",
+        around: WITH_TEMPLATES,
+        geometry: r#"{"type":"GeometryInstance","template":_,"boundaries":[0],"transformationMatrix":[1,0,0,0,0,1,0,0,0,0,1,0,0,0,0,1]}"#,
+        rows: r#"
         the first | 0 | none
         the last | 1 | none
         other spellings | 10e-1 | none
@@ -50,37 +48,27 @@ fn templates_are_indices(rt: HostRuntime) -> Result<(), Fail> {
         a text | ^"0" | 12 wrong kind
         an array | ^[0] | 12 wrong kind
         "#,
-    )?;
-    Ok(())
-}
-
-const NO_TEMPLATES: &str = r#"
-    the first | ^0 | 28 template index out of range
-    minus 0 | ^-0 | 28 template index out of range
-    a half | ^0.5 | 18 not a whole number
-    "#;
-
-#[test]
-fn no_index_names_a_template_of_none(rt: HostRuntime) -> Result<(), Fail> {
-    let instance =
-        r#"{"type":"GeometryInstance","template":_,"boundaries":[0],"transformationMatrix":[1,0,0,0,0,1,0,0,0,0,1,0,0,0,0,1]}"#;
-    let empty_list = Around {
-        vertices: Some(1),
-        templates: Given::List("[]"),
-    };
-    meets(&rt, rt.alloc(), empty_list, instance, NO_TEMPLATES)?;
-    meets(&rt, rt.alloc(), with_vertices(1), instance, NO_TEMPLATES)?;
-    Ok(())
-}
-
-#[test]
-fn an_instance_has_one_vertex(rt: HostRuntime) -> Result<(), Fail> {
-    meets(
-        &rt,
-        rt.alloc(),
-        with_templates(),
-        r#"{"type":"GeometryInstance","template":0,"boundaries":_,"transformationMatrix":[1,0,0,0,0,1,0,0,0,0,1,0,0,0,0,1]}"#,
-        r#"
+    },
+    Table {
+        name: "no index names a template of an empty list",
+        around: Around {
+            vertices: Some(1),
+            templates: Given::List("[]"),
+        },
+        geometry: r#"{"type":"GeometryInstance","template":_,"boundaries":[0],"transformationMatrix":[1,0,0,0,0,1,0,0,0,0,1,0,0,0,0,1]}"#,
+        rows: NO_TEMPLATES,
+    },
+    Table {
+        name: "no index names a template of no list",
+        around: ONE_VERTEX,
+        geometry: r#"{"type":"GeometryInstance","template":_,"boundaries":[0],"transformationMatrix":[1,0,0,0,0,1,0,0,0,0,1,0,0,0,0,1]}"#,
+        rows: NO_TEMPLATES,
+    },
+    Table {
+        name: "an instance has one vertex",
+        around: WITH_TEMPLATES,
+        geometry: r#"{"type":"GeometryInstance","template":0,"boundaries":_,"transformationMatrix":[1,0,0,0,0,1,0,0,0,0,1,0,0,0,0,1]}"#,
+        rows: r#"
         one | [0] | none
         null | ^null | 12 wrong kind
         a number | ^0 | 12 wrong kind
@@ -89,18 +77,12 @@ fn an_instance_has_one_vertex(rt: HostRuntime) -> Result<(), Fail> {
         two | ^[0,0] | 29 bad instance
         two of no kind | ^[null,"0"] | 29 bad instance
         "#,
-    )?;
-    Ok(())
-}
-
-#[test]
-fn the_vertex_of_an_instance_is_an_index(rt: HostRuntime) -> Result<(), Fail> {
-    meets(
-        &rt,
-        rt.alloc(),
-        with_templates(),
-        r#"{"type":"GeometryInstance","template":0,"boundaries":[_],"transformationMatrix":[1,0,0,0,0,1,0,0,0,0,1,0,0,0,0,1]}"#,
-        r#"
+    },
+    Table {
+        name: "the vertex of an instance is an index",
+        around: WITH_TEMPLATES,
+        geometry: r#"{"type":"GeometryInstance","template":0,"boundaries":[_],"transformationMatrix":[1,0,0,0,0,1,0,0,0,0,1,0,0,0,0,1]}"#,
+        rows: r#"
         another spelling | 0.0 | none
         equal to the count | ^1 | 25 vertex index out of range
         below 0 | ^-1 | 25 vertex index out of range
@@ -110,39 +92,26 @@ fn the_vertex_of_an_instance_is_an_index(rt: HostRuntime) -> Result<(), Fail> {
         a text | ^"0" | 12 wrong kind
         an array | ^[0] | 12 wrong kind
         "#,
-    )?;
-    Ok(())
-}
-
-#[test]
-fn the_vertex_of_an_instance_beside_unknown_ones(rt: HostRuntime) -> Result<(), Fail> {
-    let around = Around {
-        vertices: None,
-        ..with_templates()
-    };
-    meets(
-        &rt,
-        rt.alloc(),
-        around,
-        r#"{"type":"GeometryInstance","template":0,"boundaries":_,"transformationMatrix":[1,0,0,0,0,1,0,0,0,0,1,0,0,0,0,1]}"#,
-        r#"
+    },
+    Table {
+        name: "the vertex of an instance beside unknown ones",
+        around: Around {
+            vertices: None,
+            templates: TWO_TEMPLATES,
+        },
+        geometry: r#"{"type":"GeometryInstance","template":0,"boundaries":_,"transformationMatrix":[1,0,0,0,0,1,0,0,0,0,1,0,0,0,0,1]}"#,
+        rows: r#"
         any index | [9] | none
         below 0 | [-1] | none
         a half | [^0.5] | 18 not a whole number
         two | ^[9,9] | 29 bad instance
         "#,
-    )?;
-    Ok(())
-}
-
-#[test]
-fn the_matrix_has_16_items(rt: HostRuntime) -> Result<(), Fail> {
-    meets(
-        &rt,
-        rt.alloc(),
-        with_templates(),
-        r#"{"type":"GeometryInstance","template":0,"boundaries":[0],"transformationMatrix":_}"#,
-        r#"
+    },
+    Table {
+        name: "the matrix has 16 items",
+        around: WITH_TEMPLATES,
+        geometry: r#"{"type":"GeometryInstance","template":0,"boundaries":[0],"transformationMatrix":_}"#,
+        rows: r#"
         null | ^null | 12 wrong kind
         a number | ^1 | 12 wrong kind
         an object | ^{} | 12 wrong kind
@@ -152,18 +121,12 @@ fn the_matrix_has_16_items(rt: HostRuntime) -> Result<(), Fail> {
         17 | ^[0,0,0,0,0,0,0,0,0,0,0,0,0,0,0,0,0] | 29 bad instance
         four of four | ^[[1,0,0,0],[0,1,0,0],[0,0,1,0],[0,0,0,1]] | 29 bad instance
         "#,
-    )?;
-    Ok(())
-}
-
-#[test]
-fn the_matrix_has_numbers(rt: HostRuntime) -> Result<(), Fail> {
-    meets(
-        &rt,
-        rt.alloc(),
-        with_templates(),
-        r#"{"type":"GeometryInstance","template":0,"boundaries":[0],"transformationMatrix":[_,0,0,0,0,1,0,0,0,0,1,0,0,0,0,1]}"#,
-        r#"
+    },
+    Table {
+        name: "the matrix has numbers",
+        around: WITH_TEMPLATES,
+        geometry: r#"{"type":"GeometryInstance","template":0,"boundaries":[0],"transformationMatrix":[_,0,0,0,0,1,0,0,0,0,1,0,0,0,0,1]}"#,
+        rows: r#"
         a part | -0.5 | none
         10^18 | 1e18 | none
         the greatest power | 1e1000000 | none
@@ -174,49 +137,32 @@ fn the_matrix_has_numbers(rt: HostRuntime) -> Result<(), Fail> {
         a text | ^"1" | 12 wrong kind
         an array | ^[1] | 12 wrong kind
         "#,
-    )?;
-    meets(
-        &rt,
-        rt.alloc(),
-        with_templates(),
-        r#"{"type":"GeometryInstance","template":0,"boundaries":[0],"transformationMatrix":[1,0,0,0,0,1,0,0,0,0,1,0,0,0,0,_]}"#,
-        r#"
+    },
+    Table {
+        name: "the matrix ends with a number",
+        around: WITH_TEMPLATES,
+        geometry: r#"{"type":"GeometryInstance","template":0,"boundaries":[0],"transformationMatrix":[1,0,0,0,0,1,0,0,0,0,1,0,0,0,0,_]}"#,
+        rows: r#"
         the last a text | ^"1" | 12 wrong kind
         the last out of range | ^1e-1000001 | 13 number out of range
         "#,
-    )?;
-    Ok(())
-}
-
-#[test]
-fn other_members_of_an_instance_are_not_read(rt: HostRuntime) -> Result<(), Fail> {
-    meets(
-        &rt,
-        rt.alloc(),
-        with_templates(),
-        r#"{"type":"GeometryInstance","template":0,"boundaries":[0],"transformationMatrix":[1,0,0,0,0,1,0,0,0,0,1,0,0,0,0,1],_}"#,
-        r#"
+    },
+    Table {
+        name: "other members of an instance are not read",
+        around: WITH_TEMPLATES,
+        geometry: r#"{"type":"GeometryInstance","template":0,"boundaries":[0],"transformationMatrix":[1,0,0,0,0,1,0,0,0,0,1,0,0,0,0,1],_}"#,
+        rows: r#"
         a level of detail | "lod":"1" | none
         one that is no text | "lod":1 | none
         semantics | "semantics":null | none
         semantics with doubled names | "semantics":{"a":1,"a":1} | none
         "#,
-    )?;
-    Ok(())
-}
-
-#[test]
-fn a_template_is_no_instance(rt: HostRuntime) -> Result<(), Fail> {
-    let template = Around {
-        vertices: Some(1),
-        templates: Given::Itself,
-    };
-    meets(
-        &rt,
-        rt.alloc(),
-        template,
-        "_",
-        r#"
+    },
+    Table {
+        name: "a template is no instance",
+        around: A_TEMPLATE,
+        geometry: "_",
+        rows: r#"
         whole | {"type":^"GeometryInstance","template":0,"boundaries":[0],"transformationMatrix":[1,0,0,0,0,1,0,0,0,0,1,0,0,0,0,1]} | 29 bad instance
         no member | {"type":^"GeometryInstance"} | 29 bad instance
         by an escape | {"type":^"\u0047eometryInstance"} | 29 bad instance
@@ -226,6 +172,11 @@ fn a_template_is_no_instance(rt: HostRuntime) -> Result<(), Fail> {
         another type | {"type":"MultiPoint","lod":"1","boundaries":[0]} | none
         rules of another type | {"type":"MultiPoint","lod":"1","boundaries":[^1]} | 25 vertex index out of range
         "#,
-    )?;
+    },
+];
+
+#[test]
+fn instances_of_templates(rt: HostRuntime) -> Result<(), Fail> {
+    all_meet(&rt, rt.alloc(), TABLES.as_slice())?;
     Ok(())
 }

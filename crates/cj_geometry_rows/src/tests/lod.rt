@@ -4,7 +4,9 @@ ghost use Rattle.cj_spans.specs.Parts.{items_of};
 ghost use Rattle.cj_spans.specs.View.{tree};
 ghost use Rattle.cj_geometry.specs.ListSteps.{AreStepsOf};
 
-use super::{Given, line_of, list_line, templates_of, tokens_of};
+use super::{
+    A_TEMPLATE, Around, Given, Table, UNKNOWN_VERTICES, line_of, list_line, templates_of, tokens_of,
+};
 use cj_geometry::{Lods, Steps, Templates, lod_of};
 use cj_spans::{Doc, Kind, Node};
 use std::alloc::{AllocError, Global};
@@ -33,24 +35,38 @@ fn lod_in(rt: &impl Abort, alloc: Global, line: &[u8], given: Given) -> Result<S
     spelled(rt, alloc, lod_of(node, templates))
 }
 
+/// Checks that a row of the table has the level of detail that it expects.
+fn answers_row(rt: &impl Abort, alloc: Global, table: &Table, row: &str) -> Result<(), AllocError> {
+    let (line, want) = line_of(rt, alloc, table.geometry, row)?;
+    let found = lod_in(rt, alloc, line.as_bytes(), table.around.templates)?;
+    assert_eq!(rt; found.as_str(), want.as_str(), "{}: {row}", table.name);
+    Ok(())
+}
+
 /// Checks that each row of the table has the level of detail that it expects.
-fn answers(
-    rt: &impl Abort,
-    alloc: Global,
-    given: Given,
-    geometry: &str,
-    rows: &str,
-) -> Result<(), AllocError> {
-    for row in rows.trim().lines() {
-        let (line, want) = line_of(rt, alloc, geometry, row)?;
-        let found = lod_in(rt, alloc, line.as_bytes(), given)?;
-        assert_eq!(rt; found.as_str(), want.as_str(), "{row}");
+fn answers(rt: &impl Abort, alloc: Global, table: &Table) -> Result<(), AllocError> {
+    for row in table.rows.trim().lines() {
+        answers_row(rt, alloc, table, row)?;
+    }
+    Ok(())
+}
+
+/// Checks that each row of each table has the level of detail that it expects.
+fn all_answer(rt: &impl Abort, alloc: Global, tables: &[Table]) -> Result<(), AllocError> {
+    for table in tables {
+        answers(rt, alloc, table)?;
     }
     Ok(())
 }
 
 const TEMPLATES: &str =
     r#"[{"lod":"0"},{"lod":"1","lod":"x"},{"type":"Cone"},3,{"l\u006fd":null}]"#;
+
+/// The templates. The number of vertices does not matter.
+const WITH_TEMPLATES: Around = Around {
+    vertices: None,
+    templates: Given::List(TEMPLATES),
+};
 
 const OWN: &str = r#"
     a text | {"type":"Solid","lod":^"2.2"} | "2.2"
@@ -67,22 +83,36 @@ const OWN: &str = r#"
     of a text | "lod" | none
     "#;
 
-#[test]
-fn other_geometries_have_their_own(rt: HostRuntime) -> Result<(), Fail> {
-    answers(&rt, rt.alloc(), Given::Empty, "_", OWN)?;
-    answers(&rt, rt.alloc(), Given::Itself, "_", OWN)?;
-    answers(&rt, rt.alloc(), Given::List(TEMPLATES), "_", OWN)?;
-    Ok(())
-}
+const OF_NO_TEMPLATE: &str = r#"
+    any number | 0 | none
+    below 0 | -1 | none
+    no number | null | none
+    "#;
 
-#[test]
-fn instances_have_that_of_their_template(rt: HostRuntime) -> Result<(), Fail> {
-    answers(
-        &rt,
-        rt.alloc(),
-        Given::List(TEMPLATES),
-        "_",
-        r#"
+const TABLES: [Table; 8] = [
+    Table {
+        name: "other geometries have their own, beside no templates",
+        around: UNKNOWN_VERTICES,
+        geometry: "_",
+        rows: OWN,
+    },
+    Table {
+        name: "other geometries have their own, as templates",
+        around: A_TEMPLATE,
+        geometry: "_",
+        rows: OWN,
+    },
+    Table {
+        name: "other geometries have their own, beside templates",
+        around: WITH_TEMPLATES,
+        geometry: "_",
+        rows: OWN,
+    },
+    Table {
+        name: "instances have that of their template",
+        around: WITH_TEMPLATES,
+        geometry: "_",
+        rows: r#"
         the first | {"type":"GeometryInstance","template":0} | 8 "0"
         not its own | {"type":"GeometryInstance","template":0,"lod":"2"} | 8 "0"
         the first of two | {"type":"GeometryInstance","template":1} | 20 "1"
@@ -93,18 +123,12 @@ fn instances_have_that_of_their_template(rt: HostRuntime) -> Result<(), Fail> {
         of a template that is no object | {"type":"GeometryInstance","template":3,"lod":"2"} | none
         of no template | {"type":"GeometryInstance","lod":"2"} | none
         "#,
-    )?;
-    Ok(())
-}
-
-#[test]
-fn templates_are_chosen_by_whole_numbers(rt: HostRuntime) -> Result<(), Fail> {
-    answers(
-        &rt,
-        rt.alloc(),
-        Given::List(TEMPLATES),
-        r#"{"type":"GeometryInstance","lod":"2","template":_}"#,
-        r#"
+    },
+    Table {
+        name: "templates are chosen by whole numbers",
+        around: WITH_TEMPLATES,
+        geometry: r#"{"type":"GeometryInstance","lod":"2","template":_}"#,
+        rows: r#"
         minus 0 | -0 | 8 "0"
         a fraction of 0 | 1.0 | 20 "1"
         an exponent | 40e-1 | 65 null
@@ -118,22 +142,33 @@ fn templates_are_chosen_by_whole_numbers(rt: HostRuntime) -> Result<(), Fail> {
         a text | "0" | none
         an array | [0] | none
         "#,
-    )?;
-    Ok(())
-}
-
-const OF_NO_TEMPLATE: &str = r#"
-    any number | 0 | none
-    below 0 | -1 | none
-    no number | null | none
-    "#;
+    },
+    Table {
+        name: "instances beside no templates have none",
+        around: UNKNOWN_VERTICES,
+        geometry: r#"{"type":"GeometryInstance","lod":"2","template":_}"#,
+        rows: OF_NO_TEMPLATE,
+    },
+    Table {
+        name: "instances that are templates have none",
+        around: A_TEMPLATE,
+        geometry: r#"{"type":"GeometryInstance","lod":"2","template":_}"#,
+        rows: OF_NO_TEMPLATE,
+    },
+    Table {
+        name: "instances of an empty list have none",
+        around: Around {
+            vertices: None,
+            templates: Given::List("[]"),
+        },
+        geometry: r#"{"type":"GeometryInstance","lod":"2","template":_}"#,
+        rows: OF_NO_TEMPLATE,
+    },
+];
 
 #[test]
-fn instances_of_no_template_have_none(rt: HostRuntime) -> Result<(), Fail> {
-    let instance = r#"{"type":"GeometryInstance","lod":"2","template":_}"#;
-    answers(&rt, rt.alloc(), Given::Empty, instance, OF_NO_TEMPLATE)?;
-    answers(&rt, rt.alloc(), Given::Itself, instance, OF_NO_TEMPLATE)?;
-    answers(&rt, rt.alloc(), Given::List("[]"), instance, OF_NO_TEMPLATE)?;
+fn levels_of_detail(rt: HostRuntime) -> Result<(), Fail> {
+    all_answer(&rt, rt.alloc(), TABLES.as_slice())?;
     Ok(())
 }
 
@@ -148,16 +183,18 @@ fn numbered(alloc: Global, count: u32) -> Result<String, AllocError> {
     Ok(list)
 }
 
-/// Returns the templates of a list, counted now and by its steps.
-fn both_ways<'a>(
+/// Returns the templates of a list, counted now or by its steps.
+fn templates_by<'a>(
     rt: &impl Abort,
     list: Node<'a>,
     steps: &'a Steps,
-) -> (Templates<'a>, Templates<'a>)
+    is_stepped: bool,
+) -> Templates<'a>
     requires { AreStepsOf (items_of (tree list)) steps.now }
 {
     match list.kind() {
-        Kind::Array => (Templates::list(list), Templates::stepped(list, steps)),
+        Kind::Array if is_stepped => Templates::stepped(list, steps),
+        Kind::Array => Templates::list(list),
         _ => panic!(rt; "no list of templates"),
     }
 }
@@ -182,27 +219,65 @@ fn looked_up_in_turn(
     Ok(found)
 }
 
+/// Returns the levels of detail of the geometries of a line, beside a list of templates that is
+/// counted now or by its steps.
+fn lods_beside(
+    rt: &impl Abort,
+    alloc: Global,
+    list_line: &str,
+    line: &str,
+    is_stepped: bool,
+) -> Result<String, AllocError> {
+    let list_tokens = tokens_of(rt, alloc, list_line.as_bytes());
+    let list = Doc::of(list_line.as_bytes(), list_tokens.as_slice()).root();
+    let steps = Steps::of(list);
+    let templates = templates_by(rt, list, &steps, is_stepped);
+    let tokens = tokens_of(rt, alloc, line.as_bytes());
+    let geometries = Doc::of(line.as_bytes(), tokens.as_slice()).root();
+    looked_up_in_turn(rt, alloc, geometries, templates)
+}
+
+/// Checks the levels of detail of the geometries of a line, beside a list of templates that is
+/// counted by its steps.
+fn finds_stepped(
+    rt: &impl Abort,
+    alloc: Global,
+    list: &str,
+    line: &str,
+    want: &str,
+) -> Result<(), AllocError> {
+    let found = lods_beside(rt, alloc, list, line, true)?;
+    assert_eq!(rt; found.as_str(), want);
+    Ok(())
+}
+
+/// The same beside a list that is counted now.
+fn finds_counted(
+    rt: &impl Abort,
+    alloc: Global,
+    list: &str,
+    line: &str,
+    want: &str,
+) -> Result<(), AllocError> {
+    let found = lods_beside(rt, alloc, list, line, false)?;
+    assert_eq!(rt; found.as_str(), want);
+    Ok(())
+}
+
+const INSTANCES: &str = r#"[
+    {"type":"GeometryInstance","template":300}, {"type":"GeometryInstance","template":300},
+    {"type":"GeometryInstance","template":1}, {"type":"GeometryInstance","template":299},
+    {"type":"GeometryInstance","template":0}, {"type":"Solid","lod":"own","template":7},
+    {"type":"GeometryInstance","template":301}, {"type":"GeometryInstance","template":151},
+    {"type":"GeometryInstance","template":150}, {"type":"GeometryInstance","template":152}
+    ]"#;
+
 #[test]
 fn instances_of_a_long_list_find_their_templates(rt: HostRuntime) -> Result<(), Fail> {
-    let line = r#"[
-        {"type":"GeometryInstance","template":300}, {"type":"GeometryInstance","template":300},
-        {"type":"GeometryInstance","template":1}, {"type":"GeometryInstance","template":299},
-        {"type":"GeometryInstance","template":0}, {"type":"Solid","lod":"own","template":7},
-        {"type":"GeometryInstance","template":301}, {"type":"GeometryInstance","template":151},
-        {"type":"GeometryInstance","template":150}, {"type":"GeometryInstance","template":152}
-        ]"#;
     let list = numbered(rt.alloc(), 300)?;
-    let list_tokens = tokens_of(&rt, rt.alloc(), list.as_bytes());
-    let tokens = tokens_of(&rt, rt.alloc(), line.as_bytes());
-    let geometries = Doc::of(line.as_bytes(), tokens.as_slice()).root();
-    let list = Doc::of(list.as_bytes(), list_tokens.as_slice()).root();
-    let steps = Steps::of(list);
     let want = "299 299 0 298 none \"own\" none 150 149 151 ";
-    let (counted, stepped) = both_ways(&rt, list, &steps);
-    let found = looked_up_in_turn(&rt, rt.alloc(), geometries, counted)?;
-    assert_eq!(&rt; found.as_str(), want);
-    let found = looked_up_in_turn(&rt, rt.alloc(), geometries, stepped)?;
-    assert_eq!(&rt; found.as_str(), want);
+    finds_counted(&rt, rt.alloc(), &list, INSTANCES, want)?;
+    finds_stepped(&rt, rt.alloc(), &list, INSTANCES, want)?;
     Ok(())
 }
 
@@ -230,13 +305,6 @@ fn falling(alloc: Global, greatest: u32) -> Result<(String, String), AllocError>
 fn many_instances_of_a_long_list_find_their_templates(rt: HostRuntime) -> Result<(), Fail> {
     let list = numbered(rt.alloc(), 3_000)?;
     let (line, want) = falling(rt.alloc(), 3_000)?;
-    let list_tokens = tokens_of(&rt, rt.alloc(), list.as_bytes());
-    let tokens = tokens_of(&rt, rt.alloc(), line.as_bytes());
-    let geometries = Doc::of(line.as_bytes(), tokens.as_slice()).root();
-    let list = Doc::of(list.as_bytes(), list_tokens.as_slice()).root();
-    let steps = Steps::of(list);
-    let (_, stepped) = both_ways(&rt, list, &steps);
-    let found = looked_up_in_turn(&rt, rt.alloc(), geometries, stepped)?;
-    assert_eq!(&rt; found.as_str(), want.as_str());
+    finds_stepped(&rt, rt.alloc(), &list, &line, &want)?;
     Ok(())
 }

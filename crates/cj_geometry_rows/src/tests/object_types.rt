@@ -31,104 +31,93 @@ fn type_in(rt: &impl Abort, alloc: Global, line: &[u8]) -> Result<String, AllocE
     )
 }
 
-/// Checks that each row of the table has the type that it expects.
+/// Checks that a row of the table has the type that it expects.
+fn meets_row(rt: &impl Abort, alloc: Global, row: &str) -> Result<(), AllocError> {
+    let (value, want) = row.split_once('|').expect(rt, "two cells");
+    let found = type_in(rt, alloc, value.trim().as_bytes())?;
+    assert_eq!(rt; found.as_str(), want.trim(), "{row}");
+    Ok(())
+}
+
 fn meets(rt: &impl Abort, alloc: Global, rows: &str) -> Result<(), AllocError> {
     for row in rows.trim().lines() {
-        let (value, want) = row.split_once('|').expect(rt, "two cells");
-        let found = type_in(rt, alloc, value.trim().as_bytes())?;
-        assert_eq!(rt; found.as_str(), want.trim(), "{row}");
+        meets_row(rt, alloc, row)?;
     }
     Ok(())
 }
 
-#[test]
-fn types_of_the_first_level(rt: HostRuntime) -> Result<(), Fail> {
-    meets(
-        &rt,
-        rt.alloc(),
-        r#"
-        "Bridge" | 0 first Bridge
-        "Building" | 1 first Building
-        "CityFurniture" | 2 first CityFurniture
-        "CityObjectGroup" | 3 first CityObjectGroup
-        "GenericCityObject" | 4 first GenericCityObject
-        "LandUse" | 5 first LandUse
-        "OtherConstruction" | 6 first OtherConstruction
-        "PlantCover" | 7 first PlantCover
-        "Railway" | 8 first Railway
-        "Road" | 9 first Road
-        "SolitaryVegetationObject" | 10 first SolitaryVegetationObject
-        "TINRelief" | 11 first TINRelief
-        "TransportSquare" | 12 first TransportSquare
-        "Tunnel" | 13 first Tunnel
-        "WaterBody" | 14 first WaterBody
-        "Waterway" | 15 first Waterway
-        "#,
-    )?;
-    Ok(())
-}
+const FIRST_LEVEL: &str = r#"
+    "Bridge" | 0 first Bridge
+    "Building" | 1 first Building
+    "CityFurniture" | 2 first CityFurniture
+    "CityObjectGroup" | 3 first CityObjectGroup
+    "GenericCityObject" | 4 first GenericCityObject
+    "LandUse" | 5 first LandUse
+    "OtherConstruction" | 6 first OtherConstruction
+    "PlantCover" | 7 first PlantCover
+    "Railway" | 8 first Railway
+    "Road" | 9 first Road
+    "SolitaryVegetationObject" | 10 first SolitaryVegetationObject
+    "TINRelief" | 11 first TINRelief
+    "TransportSquare" | 12 first TransportSquare
+    "Tunnel" | 13 first Tunnel
+    "WaterBody" | 14 first WaterBody
+    "Waterway" | 15 first Waterway
+    "#;
+
+const SECOND_LEVEL: &str = r#"
+    "BridgeConstructiveElement" | 16 second BridgeConstructiveElement
+    "BridgeFurniture" | 17 second BridgeFurniture
+    "BridgeInstallation" | 18 second BridgeInstallation
+    "BridgePart" | 19 second BridgePart
+    "BridgeRoom" | 20 second BridgeRoom
+    "BuildingConstructiveElement" | 21 second BuildingConstructiveElement
+    "BuildingFurniture" | 22 second BuildingFurniture
+    "BuildingInstallation" | 23 second BuildingInstallation
+    "BuildingPart" | 24 second BuildingPart
+    "BuildingRoom" | 25 second BuildingRoom
+    "BuildingStorey" | 26 second BuildingStorey
+    "BuildingUnit" | 27 second BuildingUnit
+    "TunnelConstructiveElement" | 28 second TunnelConstructiveElement
+    "TunnelFurniture" | 29 second TunnelFurniture
+    "TunnelHollowSpace" | 30 second TunnelHollowSpace
+    "TunnelInstallation" | 31 second TunnelInstallation
+    "TunnelPart" | 32 second TunnelPart
+    "#;
+
+const TEXTS_AND_OTHER_VALUES: &str = r#"
+    "\u0042uilding" | 1 first Building
+    "R\u006f\u0061d" | 9 first Road
+    "" | none
+    "building" | none
+    "BUILDING" | none
+    "Buildin" | none
+    "Buildings" | none
+    " Building" | none
+    "Building " | none
+    "+Building" | none
+    "+Shed" | none
+    "TinRelief" | none
+    "BuildingpArt" | none
+    "Part" | none
+    "TunnelPar" | none
+    "TunnelParts" | none
+    "CityObject" | none
+    "CityJSONFeature" | none
+    "Solid" | none
+    3 | none
+    1 | none
+    true | none
+    null | none
+    ["Building"] | none
+    {"type":"Building"} | none
+    "#;
 
 #[test]
-fn types_of_the_second_level(rt: HostRuntime) -> Result<(), Fail> {
-    meets(
-        &rt,
-        rt.alloc(),
-        r#"
-        "BridgeConstructiveElement" | 16 second BridgeConstructiveElement
-        "BridgeFurniture" | 17 second BridgeFurniture
-        "BridgeInstallation" | 18 second BridgeInstallation
-        "BridgePart" | 19 second BridgePart
-        "BridgeRoom" | 20 second BridgeRoom
-        "BuildingConstructiveElement" | 21 second BuildingConstructiveElement
-        "BuildingFurniture" | 22 second BuildingFurniture
-        "BuildingInstallation" | 23 second BuildingInstallation
-        "BuildingPart" | 24 second BuildingPart
-        "BuildingRoom" | 25 second BuildingRoom
-        "BuildingStorey" | 26 second BuildingStorey
-        "BuildingUnit" | 27 second BuildingUnit
-        "TunnelConstructiveElement" | 28 second TunnelConstructiveElement
-        "TunnelFurniture" | 29 second TunnelFurniture
-        "TunnelHollowSpace" | 30 second TunnelHollowSpace
-        "TunnelInstallation" | 31 second TunnelInstallation
-        "TunnelPart" | 32 second TunnelPart
-        "#,
-    )?;
-    Ok(())
-}
-
-#[test]
-fn texts_and_other_values(rt: HostRuntime) -> Result<(), Fail> {
-    meets(
-        &rt,
-        rt.alloc(),
-        r#"
-        "\u0042uilding" | 1 first Building
-        "R\u006f\u0061d" | 9 first Road
-        "" | none
-        "building" | none
-        "BUILDING" | none
-        "Buildin" | none
-        "Buildings" | none
-        " Building" | none
-        "Building " | none
-        "+Building" | none
-        "+Shed" | none
-        "TinRelief" | none
-        "BuildingpArt" | none
-        "Part" | none
-        "TunnelPar" | none
-        "TunnelParts" | none
-        "CityObject" | none
-        "CityJSONFeature" | none
-        "Solid" | none
-        3 | none
-        1 | none
-        true | none
-        null | none
-        ["Building"] | none
-        {"type":"Building"} | none
-        "#,
-    )?;
+fn types_of_values(rt: HostRuntime) -> Result<(), Fail> {
+    meets(&rt, rt.alloc(), FIRST_LEVEL)?;
+    meets(&rt, rt.alloc(), SECOND_LEVEL)?;
+    meets(&rt, rt.alloc(), TEXTS_AND_OTHER_VALUES)?;
     Ok(())
 }
 
@@ -142,12 +131,18 @@ const NAMES: &str = r#"
     BuildingParts | none
     "#;
 
+/// Checks that the name of a row has the type that it expects.
+fn name_meets(rt: &impl Abort, alloc: Global, row: &str) -> Result<(), AllocError> {
+    let (name, want) = row.split_once('|').expect(rt, "two cells");
+    let found = shown(alloc, ObjectType::named(name.trim()))?;
+    assert_eq!(rt; found.as_str(), want.trim(), "{row}");
+    Ok(())
+}
+
 #[test]
 fn types_by_their_names(rt: HostRuntime) -> Result<(), Fail> {
     for row in NAMES.trim().lines() {
-        let (name, want) = row.split_once('|').expect(&rt, "two cells");
-        let found = shown(rt.alloc(), ObjectType::named(name.trim()))?;
-        assert_eq!(&rt; found.as_str(), want.trim(), "{row}");
+        name_meets(&rt, rt.alloc(), row)?;
     }
     Ok(())
 }

@@ -1,17 +1,15 @@
 //! Two rules broken at once. The least finding by byte is reported, and at one byte the one with
 //! the lesser code. The order of the checks does not matter.
-use super::{Around, Given, least_of, meets, shown, with_vertices};
+use super::{Around, Given, ONE_VERTEX, Table, all_meet, meets_after};
 use cj_spans::{Finding, Reason};
 use std::test::Fail;
 
-#[test]
-fn members_in_either_order(rt: HostRuntime) -> Result<(), Fail> {
-    meets(
-        &rt,
-        rt.alloc(),
-        with_vertices(1),
-        "_",
-        r#"
+const TABLES: [Table; 5] = [
+    Table {
+        name: "members in either order",
+        around: ONE_VERTEX,
+        geometry: "_",
+        rows: r#"
         a level of detail, then boundaries | {"type":"MultiPoint","lod":^1,"boundaries":[2]} | 12 wrong kind
         boundaries, then a level of detail | {"type":"MultiPoint","boundaries":[^2],"lod":1} | 25 vertex index out of range
         semantics, then boundaries | {"type":"Solid","lod":"1","semantics":^0,"boundaries":0} | 12 wrong kind
@@ -21,18 +19,12 @@ fn members_in_either_order(rt: HostRuntime) -> Result<(), Fail> {
         a type, then a doubled name | {"type":^"Cone","a":1,"a":1} | 24 unknown geometry type
         an index, then a doubled name | {"type":"MultiPoint","lod":"1","boundaries":[^1],"lod":"1"} | 25 vertex index out of range
         "#,
-    )?;
-    Ok(())
-}
-
-#[test]
-fn a_missing_member_is_told_at_its_object(rt: HostRuntime) -> Result<(), Fail> {
-    meets(
-        &rt,
-        rt.alloc(),
-        with_vertices(1),
-        "_",
-        r#"
+    },
+    Table {
+        name: "a missing member is told at its object",
+        around: ONE_VERTEX,
+        geometry: "_",
+        rows: r#"
         a level of detail beside an index | ^{"type":"MultiPoint","boundaries":[1]} | 10 member missing
         boundaries beside a level of detail | ^{"type":"MultiPoint","lod":1} | 10 member missing
         a type beside a doubled name | ^{"a":1,"a":1} | 10 member missing
@@ -40,35 +32,23 @@ fn a_missing_member_is_told_at_its_object(rt: HostRuntime) -> Result<(), Fail> {
         a type of a surface beside values | {"type":"Solid","lod":"1","boundaries":[],"semantics":{"surfaces":[^{}],"values":3}} | 10 member missing
         values before a type of a surface | {"type":"Solid","lod":"1","boundaries":[],"semantics":{"values":^3,"surfaces":[{}]}} | 12 wrong kind
         "#,
-    )?;
-    Ok(())
-}
-
-#[test]
-fn indices_in_either_order(rt: HostRuntime) -> Result<(), Fail> {
-    meets(
-        &rt,
-        rt.alloc(),
-        with_vertices(1),
-        r#"{"type":"MultiPoint","lod":"1","boundaries":_}"#,
-        r#"
+    },
+    Table {
+        name: "indices in either order",
+        around: ONE_VERTEX,
+        geometry: r#"{"type":"MultiPoint","lod":"1","boundaries":_}"#,
+        rows: r#"
         past the vertices, then a text | [0,^1,"0"] | 25 vertex index out of range
         a text, then past the vertices | [0,^"0",1] | 12 wrong kind
         a half, then 37 digits | [^0.5,1111111111111111111111111111111111111] | 18 not a whole number
         37 digits, then a half | [^1111111111111111111111111111111111111,0.5] | 13 number out of range
         "#,
-    )?;
-    Ok(())
-}
-
-#[test]
-fn values_and_boundaries_in_either_order(rt: HostRuntime) -> Result<(), Fail> {
-    meets(
-        &rt,
-        rt.alloc(),
-        with_vertices(1),
-        "_",
-        r#"
+    },
+    Table {
+        name: "values and boundaries in either order",
+        around: ONE_VERTEX,
+        geometry: "_",
+        rows: r#"
         boundaries first | {"type":"MultiSurface","lod":"1","boundaries":[[[^1]]],"semantics":{"surfaces":[],"values":[0]}} | 25 vertex index out of range
         values first | {"type":"MultiSurface","lod":"1","semantics":{"surfaces":[],"values":[^0]},"boundaries":[[[1]]]} | 27 semantics index out of range
         a count, then an index | {"type":"MultiSurface","lod":"1","boundaries":[[]],"semantics":{"surfaces":[],"values":^[0,0]}} | 26 semantics count
@@ -76,66 +56,58 @@ fn values_and_boundaries_in_either_order(rt: HostRuntime) -> Result<(), Fail> {
         a surface, then values | {"type":"MultiSurface","lod":"1","boundaries":[[]],"semantics":{"surfaces":[^0],"values":[]}} | 12 wrong kind
         values, then a surface | {"type":"MultiSurface","lod":"1","boundaries":[[]],"semantics":{"values":^[],"surfaces":[0]}} | 26 semantics count
         "#,
-    )?;
-    Ok(())
-}
-
-#[test]
-fn members_of_an_instance_in_either_order(rt: HostRuntime) -> Result<(), Fail> {
-    let around = Around {
-        vertices: Some(1),
-        templates: Given::List("[null]"),
-    };
-    meets(
-        &rt,
-        rt.alloc(),
-        around,
-        r#"{"type":"GeometryInstance",_}"#,
-        r#"
+    },
+    Table {
+        name: "members of an instance in either order",
+        around: Around {
+            vertices: Some(1),
+            templates: Given::List("[null]"),
+        },
+        geometry: r#"{"type":"GeometryInstance",_}"#,
+        rows: r#"
         a template, then boundaries | "template":^1,"boundaries":[],"transformationMatrix":[] | 28 template index out of range
         boundaries, then a template | "boundaries":^[],"template":1,"transformationMatrix":[] | 29 bad instance
         a matrix, then a template | "transformationMatrix":^0,"template":1,"boundaries":[1] | 12 wrong kind
         an index, then a matrix | "boundaries":[^1],"transformationMatrix":[],"template":0 | 25 vertex index out of range
         two indices and their array | "template":0,"boundaries":^[1,2],"transformationMatrix":[] | 29 bad instance
         "#,
-    )?;
+    },
+];
+
+#[test]
+fn two_rules_at_once(rt: HostRuntime) -> Result<(), Fail> {
+    all_meet(&rt, rt.alloc(), TABLES.as_slice())?;
     Ok(())
 }
 
+/// A line, the place and the reason of an earlier finding, and what is wanted.
+const AFTER: [(&str, u64, Reason, &str); 6] = [
+    (r#"{}"#, 0, Reason::DuplicateName, "0 10 member missing"),
+    (r#"{}"#, 0, Reason::Syntax, "0 4 syntax"),
+    (r#"{}"#, 1, Reason::Syntax, "0 10 member missing"),
+    (r#"{"type":3}"#, 8, Reason::NumberRange, "8 12 wrong kind"),
+    (
+        r#"{"type":3}"#,
+        8,
+        Reason::DuplicateName,
+        "8 11 duplicate name",
+    ),
+    (
+        r#"{"type":3}"#,
+        7,
+        Reason::TransformNotFixed,
+        "7 30 transform not fixed",
+    ),
+];
+
 #[test]
 fn earlier_findings_at_one_place(rt: HostRuntime) -> Result<(), Fail> {
-    let rows: [(&str, u64, Reason, &str); 6] = [
-        (r#"{}"#, 0, Reason::DuplicateName, "0 10 member missing"),
-        (r#"{}"#, 0, Reason::Syntax, "0 4 syntax"),
-        (r#"{}"#, 1, Reason::Syntax, "0 10 member missing"),
-        (r#"{"type":3}"#, 8, Reason::NumberRange, "8 12 wrong kind"),
-        (
-            r#"{"type":3}"#,
-            8,
-            Reason::DuplicateName,
-            "8 11 duplicate name",
-        ),
-        (
-            r#"{"type":3}"#,
-            7,
-            Reason::TransformNotFixed,
-            "7 30 transform not fixed",
-        ),
-    ];
-    for (line, place, reason, want) in rows.iter() {
+    for (line, place, reason, want) in &AFTER {
         let before = Finding {
             place: *place,
             reason: *reason,
         };
-        let found = least_of(
-            &rt,
-            rt.alloc(),
-            line.as_bytes(),
-            with_vertices(1),
-            Some(before),
-        );
-        let found = shown(rt.alloc(), found)?;
-        assert_eq!(rt; found.as_str(), *want, "{line} after {before:?}");
+        meets_after(&rt, rt.alloc(), *line, before, *want)?;
     }
     Ok(())
 }

@@ -61,8 +61,8 @@ fn unmarked(alloc: Global, row: &str) -> Result<(String, Option<Finding>), Alloc
     }
 }
 
-/// Returns `count` members, each with a comma after it. Their names are numbers of four digits after
-/// this front.
+/// Returns `count` members, each with a comma after it. Their names are numbers of four digits
+/// after this front.
 fn others(alloc: Global, front: &str, count: u32) -> Result<String, AllocError> {
     let mut text = String::new(alloc);
     for number in 0..count {
@@ -83,8 +83,20 @@ fn longer(alloc: Global, line: &str, members: &str) -> Result<String, AllocError
     }
 }
 
-/// Checks that an object has the finding of its mark, alone and with other names. The first walk
-/// over these deals with the lesser ones and with the `first` least of the object.
+fn finds(rt: &impl Abort, alloc: Global, line: &str, want: Option<Finding>, row: &str) {
+    let found = found_in(rt, alloc, line);
+    assert_eq!(rt; found, want, "{row} in {} bytes", line.len());
+}
+
+/// Returns an object with other names behind its own. The first walk over these deals with the
+/// lesser ones and with the `first` least of the object.
+fn with_others(alloc: Global, line: &str, first: u32, greater: &str) -> Result<String, AllocError> {
+    let lesser = others(alloc, "", WALK.wrapping_sub(first))?;
+    let members = format!(in alloc; "{lesser}{greater}")?;
+    longer(alloc, line, &members)
+}
+
+/// Checks that an object has the finding of its mark, alone and with other names.
 fn meets_row(
     rt: &impl Abort,
     alloc: Global,
@@ -93,11 +105,9 @@ fn meets_row(
     greater: &str,
 ) -> Result<(), AllocError> {
     let (line, want) = unmarked(alloc, row)?;
-    assert_eq!(rt; found_in(rt, alloc, &line), want, "{row}");
-    let lesser = others(alloc, "", WALK.wrapping_sub(first))?;
-    let members = format!(in alloc; "{lesser}{greater}")?;
-    let line = longer(alloc, &line, &members)?;
-    assert_eq!(rt; found_in(rt, alloc, &line), want, "{row} with others");
+    finds(rt, alloc, &line, want, row);
+    let longer = with_others(alloc, &line, first, greater)?;
+    finds(rt, alloc, &longer, want, row);
     Ok(())
 }
 
@@ -110,87 +120,90 @@ fn meet(rt: &impl Abort, alloc: Global, rows: &[(u32, &str)]) -> Result<(), Allo
     Ok(())
 }
 
+const IN_ANY_ORDER: [(u32, &str); 9] = [
+    (0, r#"{}"#),
+    (0, r#"{"a":1}"#),
+    (
+        5,
+        r#"{"a":1,"b":1,"c":1,"d":1,"e":1,"f":1,"g":1,"h":1,"i":1,"j":1}"#,
+    ),
+    (
+        5,
+        r#"{"j":1,"i":1,"h":1,"g":1,"f":1,"e":1,"d":1,"c":1,"b":1,"a":1}"#,
+    ),
+    (
+        5,
+        r#"{"e":1,"f":1,"d":1,"g":1,"c":1,"h":1,"b":1,"i":1,"a":1,"j":1}"#,
+    ),
+    (
+        1,
+        r#"{"a":1,"b":1,"c":1,"d":1,"e":1,"f":1,"g":1,"h":1,"i":1,"j":1,^"a":1}"#,
+    ),
+    (
+        10,
+        r#"{"a":1,"b":1,"c":1,"d":1,"e":1,"f":1,"g":1,"h":1,"i":1,"j":1,^"j":1}"#,
+    ),
+    (
+        6,
+        r#"{"j":1,"i":1,"h":1,"g":1,"f":1,"e":1,"d":1,"c":1,"b":1,"a":1,^"f":1}"#,
+    ),
+    (
+        9,
+        r#"{"j":1,^"j":1,"h":1,"g":1,"f":1,"e":1,"d":1,"c":1,"b":1,"a":1}"#,
+    ),
+];
+
 #[test]
 fn names_in_any_order(rt: HostRuntime) -> Result<(), Fail> {
-    let rows: [(u32, &str); 9] = [
-        (0, r#"{}"#),
-        (0, r#"{"a":1}"#),
-        (
-            5,
-            r#"{"a":1,"b":1,"c":1,"d":1,"e":1,"f":1,"g":1,"h":1,"i":1,"j":1}"#,
-        ),
-        (
-            5,
-            r#"{"j":1,"i":1,"h":1,"g":1,"f":1,"e":1,"d":1,"c":1,"b":1,"a":1}"#,
-        ),
-        (
-            5,
-            r#"{"e":1,"f":1,"d":1,"g":1,"c":1,"h":1,"b":1,"i":1,"a":1,"j":1}"#,
-        ),
-        (
-            1,
-            r#"{"a":1,"b":1,"c":1,"d":1,"e":1,"f":1,"g":1,"h":1,"i":1,"j":1,^"a":1}"#,
-        ),
-        (
-            10,
-            r#"{"a":1,"b":1,"c":1,"d":1,"e":1,"f":1,"g":1,"h":1,"i":1,"j":1,^"j":1}"#,
-        ),
-        (
-            6,
-            r#"{"j":1,"i":1,"h":1,"g":1,"f":1,"e":1,"d":1,"c":1,"b":1,"a":1,^"f":1}"#,
-        ),
-        (
-            9,
-            r#"{"j":1,^"j":1,"h":1,"g":1,"f":1,"e":1,"d":1,"c":1,"b":1,"a":1}"#,
-        ),
-    ];
-    meet(&rt, rt.alloc(), rows.as_slice())?;
+    meet(&rt, rt.alloc(), IN_ANY_ORDER.as_slice())?;
     Ok(())
 }
+
+const MORE_THAN_ONCE: [(u32, &str); 5] = [
+    (
+        1,
+        r#"{"a":1,^"a":1,"a":1,"a":1,"a":1,"a":1,"a":1,"a":1,"a":1,"a":1}"#,
+    ),
+    (
+        6,
+        r#"{"e":1,"a":1,"b":1,"c":1,"d":1,^"e":1,"e":1,"f":1,"e":1,"a":1}"#,
+    ),
+    (7, r#"{"d":1,"c":1,"b":1,"a":1,^"d":1,"a":1,"b":1,"c":1}"#),
+    (5, r#"{"a":1,"b":1,"c":1,"d":1,^"c":1,"b":1,"a":1,"d":1}"#),
+    (3, r#"{"b":1,"b1":1,"b2":1,"":1,"b0":1,"b11":1,^"":1}"#),
+];
 
 #[test]
 fn names_that_come_more_than_once(rt: HostRuntime) -> Result<(), Fail> {
-    let rows: [(u32, &str); 5] = [
-        (
-            1,
-            r#"{"a":1,^"a":1,"a":1,"a":1,"a":1,"a":1,"a":1,"a":1,"a":1,"a":1}"#,
-        ),
-        (
-            6,
-            r#"{"e":1,"a":1,"b":1,"c":1,"d":1,^"e":1,"e":1,"f":1,"e":1,"a":1}"#,
-        ),
-        (7, r#"{"d":1,"c":1,"b":1,"a":1,^"d":1,"a":1,"b":1,"c":1}"#),
-        (5, r#"{"a":1,"b":1,"c":1,"d":1,^"c":1,"b":1,"a":1,"d":1}"#),
-        (3, r#"{"b":1,"b1":1,"b2":1,"":1,"b0":1,"b11":1,^"":1}"#),
-    ];
-    meet(&rt, rt.alloc(), rows.as_slice())?;
+    meet(&rt, rt.alloc(), MORE_THAN_ONCE.as_slice())?;
     Ok(())
 }
 
+const OF_ONE_WORD: [(u32, &str); 7] = [
+    (
+        2,
+        r#"{"abcdefgh2":1,"abcdefgh1":1,"abcdefgh":1,"abcdefgh3":1,"abcdefgh11":1}"#,
+    ),
+    (
+        2,
+        r#"{"abcdefgh2":1,"abcdefgh1":1,"abcdefgh":1,"abcdefgh3":1,^"abcdefgh1":1}"#,
+    ),
+    (
+        3,
+        r#"{"abcdefgh2":1,"abcdefgh1":1,^"abcdefgh\u0032":1,"abcdefgh3":1,"abcdefgh1":1}"#,
+    ),
+    (4, r#"{"€b":1,"€a":1,"é":1,"₤a":1,"ÿa":1,"a":1}"#),
+    (4, r#"{"€b":1,"€a":1,"é":1,"₤a":1,^"\u20aca":1,"a":1}"#),
+    (1, r#"{"a":1,"b":1,"c":1,"d":1,"e":1,^"\u0061":1}"#),
+    (
+        5,
+        r#"{"\u0062":1,"\u0061":1,"\u0064":1,"\u0063":1,^"d":1,"a":1}"#,
+    ),
+];
+
 #[test]
 fn names_of_one_word(rt: HostRuntime) -> Result<(), Fail> {
-    let rows: [(u32, &str); 7] = [
-        (
-            2,
-            r#"{"abcdefgh2":1,"abcdefgh1":1,"abcdefgh":1,"abcdefgh3":1,"abcdefgh11":1}"#,
-        ),
-        (
-            2,
-            r#"{"abcdefgh2":1,"abcdefgh1":1,"abcdefgh":1,"abcdefgh3":1,^"abcdefgh1":1}"#,
-        ),
-        (
-            3,
-            r#"{"abcdefgh2":1,"abcdefgh1":1,^"abcdefgh\u0032":1,"abcdefgh3":1,"abcdefgh1":1}"#,
-        ),
-        (4, r#"{"€b":1,"€a":1,"é":1,"₤a":1,"ÿa":1,"a":1}"#),
-        (4, r#"{"€b":1,"€a":1,"é":1,"₤a":1,^"\u20aca":1,"a":1}"#),
-        (1, r#"{"a":1,"b":1,"c":1,"d":1,"e":1,^"\u0061":1}"#),
-        (
-            5,
-            r#"{"\u0062":1,"\u0061":1,"\u0064":1,"\u0063":1,^"d":1,"a":1}"#,
-        ),
-    ];
-    meet(&rt, rt.alloc(), rows.as_slice())?;
+    meet(&rt, rt.alloc(), OF_ONE_WORD.as_slice())?;
     Ok(())
 }
 
@@ -205,48 +218,39 @@ fn members(alloc: Global, count: u32, rise: bool) -> Result<String, AllocError> 
     Ok(text)
 }
 
-/// Returns what is found in an object of `count` names and one more at the end, and the place of
-/// that one.
-fn found_behind(
+/// Returns an object of `count` names and one more at the end, with a mark before that one if it is
+/// repeated.
+fn name_behind(alloc: Global, count: u32, rise: bool, name: &str) -> Result<String, AllocError> {
+    let members = members(alloc, count, rise)?;
+    format!(in alloc; "{{{members}{name}:0}}")
+}
+
+/// Checks that an object of `count` names and one more has the finding of its mark.
+fn meets_behind_count(
     rt: &impl Abort,
     alloc: Global,
     count: u32,
     rise: bool,
     name: &str,
-) -> Result<(Option<Finding>, u64), AllocError> {
-    let members = members(alloc, count, rise)?;
-    let line = format!(in alloc; "{{{members}\"{name}\":0}}")?;
-    let place = 1u64.wrapping_add(members.len() as u64);
-    Ok((found_in(rt, alloc, &line), place))
+) -> Result<(), AllocError> {
+    let row = name_behind(alloc, count, rise, name)?;
+    let (line, want) = unmarked(alloc, &row)?;
+    finds(rt, alloc, &line, want, name);
+    Ok(())
 }
 
-/// A name after some thousands of others is reported if it repeats one of them. The arrays are that
-/// of middle size and the large one.
-fn meets_behind(
-    rt: &impl Abort,
-    alloc: Global,
-    rise: bool,
-    name: &str,
-    is_repeated: bool,
-) -> Result<(), AllocError> {
-    for count in [6_000, 30_000] {
-        let (found, place) = found_behind(rt, alloc, count, rise, name)?;
-        let reason = Reason::DuplicateName;
-        let want = if is_repeated {
-            Some(Finding { place, reason })
-        } else {
-            None
-        };
-        assert_eq!(rt; found, want, "{name} behind {count}");
-    }
-    Ok(())
+/// A name after some thousands of others has the mark if it repeats one of them. The arrays are
+/// that of middle size and the large one.
+fn meets_behind(rt: &impl Abort, alloc: Global, rise: bool, name: &str) -> Result<(), AllocError> {
+    meets_behind_count(rt, alloc, 6_000, rise, name)?;
+    meets_behind_count(rt, alloc, 30_000, rise, name)
 }
 
 #[test]
 fn more_names_than_the_room_holds(rt: HostRuntime) -> Result<(), Fail> {
-    meets_behind(&rt, rt.alloc(), true, "a", false)?;
-    meets_behind(&rt, rt.alloc(), true, "5999", true)?;
-    meets_behind(&rt, rt.alloc(), false, "a", false)?;
-    meets_behind(&rt, rt.alloc(), false, "\\u0031", true)?;
+    meets_behind(&rt, rt.alloc(), true, r#""a""#)?;
+    meets_behind(&rt, rt.alloc(), true, r#"^"5999""#)?;
+    meets_behind(&rt, rt.alloc(), false, r#""a""#)?;
+    meets_behind(&rt, rt.alloc(), false, r#"^"\u0031""#)?;
     Ok(())
 }

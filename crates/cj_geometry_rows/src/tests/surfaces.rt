@@ -1,42 +1,6 @@
 //! Semantics: the object and its surfaces.
-use super::{meets, with_vertices};
+use super::{ONE_VERTEX, Table, all_meet};
 use std::test::Fail;
-
-#[test]
-fn semantics_are_an_object(rt: HostRuntime) -> Result<(), Fail> {
-    meets(
-        &rt,
-        rt.alloc(),
-        with_vertices(1),
-        r#"{"type":"MultiSurface","lod":"1","boundaries":[[[0]]],"semantics":_}"#,
-        r#"
-        an object | {"surfaces":[],"values":null} | none
-        null | ^null | 12 wrong kind
-        a truth | ^false | 12 wrong kind
-        a number | ^0 | 12 wrong kind
-        a text | ^"" | 12 wrong kind
-        an array | ^[] | 12 wrong kind
-        "#,
-    )?;
-    Ok(())
-}
-
-#[test]
-fn semantics_need_surfaces_and_values(rt: HostRuntime) -> Result<(), Fail> {
-    meets(
-        &rt,
-        rt.alloc(),
-        with_vertices(1),
-        r#"{"type":"MultiSurface","lod":"1","boundaries":[[[0]]],"semantics":_}"#,
-        r#"
-        neither | ^{} | 10 member missing
-        no surfaces | ^{"values":[null]} | 10 member missing
-        no values | ^{"surfaces":[]} | 10 member missing
-        no surfaces for a value | ^{"values":[9]} | 10 member missing
-        "#,
-    )?;
-    Ok(())
-}
 
 const VALUES_FIRST: &str = r#"
     any index | {"values":[9],"surfaces":^{}} | 12 wrong kind
@@ -48,23 +12,56 @@ const VALUES_FIRST: &str = r#"
     no array of values | {"values":^3,"surfaces":0} | 12 wrong kind
     "#;
 
-#[test]
-fn values_beside_surfaces_that_are_no_array(rt: HostRuntime) -> Result<(), Fail> {
-    let several = r#"{"type":"MultiSurface","lod":"1","boundaries":[[[0]]],"semantics":_}"#;
-    let composite = r#"{"type":"CompositeSurface","lod":"1","boundaries":[[[0]]],"semantics":_}"#;
-    meets(&rt, rt.alloc(), with_vertices(1), several, VALUES_FIRST)?;
-    meets(&rt, rt.alloc(), with_vertices(1), composite, VALUES_FIRST)?;
-    Ok(())
-}
+const UNREAD: &str = r#"
+    null | null | none
+    a number | 37 | none
+    an array | [0,1] | none
+    an object with doubled names | {"a":1,"a":2} | none
+    surfaces and values of any kind | {"surfaces":[{}],"values":[9]} | none
+    "#;
 
-#[test]
-fn surfaces_are_an_array_of_objects(rt: HostRuntime) -> Result<(), Fail> {
-    meets(
-        &rt,
-        rt.alloc(),
-        with_vertices(1),
-        r#"{"type":"Solid","lod":"1","boundaries":[],"semantics":{"surfaces":_,"values":null}}"#,
-        r#"
+const TABLES: [Table; 8] = [
+    Table {
+        name: "semantics are an object",
+        around: ONE_VERTEX,
+        geometry: r#"{"type":"MultiSurface","lod":"1","boundaries":[[[0]]],"semantics":_}"#,
+        rows: r#"
+        an object | {"surfaces":[],"values":null} | none
+        null | ^null | 12 wrong kind
+        a truth | ^false | 12 wrong kind
+        a number | ^0 | 12 wrong kind
+        a text | ^"" | 12 wrong kind
+        an array | ^[] | 12 wrong kind
+        "#,
+    },
+    Table {
+        name: "semantics need surfaces and values",
+        around: ONE_VERTEX,
+        geometry: r#"{"type":"MultiSurface","lod":"1","boundaries":[[[0]]],"semantics":_}"#,
+        rows: r#"
+        neither | ^{} | 10 member missing
+        no surfaces | ^{"values":[null]} | 10 member missing
+        no values | ^{"surfaces":[]} | 10 member missing
+        no surfaces for a value | ^{"values":[9]} | 10 member missing
+        "#,
+    },
+    Table {
+        name: "values beside surfaces that are no array",
+        around: ONE_VERTEX,
+        geometry: r#"{"type":"MultiSurface","lod":"1","boundaries":[[[0]]],"semantics":_}"#,
+        rows: VALUES_FIRST,
+    },
+    Table {
+        name: "values of a composite surface beside surfaces that are no array",
+        around: ONE_VERTEX,
+        geometry: r#"{"type":"CompositeSurface","lod":"1","boundaries":[[[0]]],"semantics":_}"#,
+        rows: VALUES_FIRST,
+    },
+    Table {
+        name: "surfaces are an array of objects",
+        around: ONE_VERTEX,
+        geometry: r#"{"type":"Solid","lod":"1","boundaries":[],"semantics":{"surfaces":_,"values":null}}"#,
+        rows: r#"
         no surface | [] | none
         null | ^null | 12 wrong kind
         a number | ^0 | 12 wrong kind
@@ -74,18 +71,12 @@ fn surfaces_are_an_array_of_objects(rt: HostRuntime) -> Result<(), Fail> {
         an array for a surface | [^[]] | 12 wrong kind
         a number after a surface | [{"type":"RoofSurface"},^0] | 12 wrong kind
         "#,
-    )?;
-    Ok(())
-}
-
-#[test]
-fn a_surface_needs_a_type(rt: HostRuntime) -> Result<(), Fail> {
-    meets(
-        &rt,
-        rt.alloc(),
-        with_vertices(1),
-        r#"{"type":"Solid","lod":"1","boundaries":[],"semantics":{"surfaces":_,"values":null}}"#,
-        r#"
+    },
+    Table {
+        name: "a surface needs a type",
+        around: ONE_VERTEX,
+        geometry: r#"{"type":"Solid","lod":"1","boundaries":[],"semantics":{"surfaces":_,"values":null}}"#,
+        rows: r#"
         a type | [{"type":"RoofSurface"}] | none
         any text | [{"type":""},{"type":"+Moss"}] | none
         other members | [{"type":"RoofSurface","parent":null,"children":3}] | none
@@ -96,23 +87,23 @@ fn a_surface_needs_a_type(rt: HostRuntime) -> Result<(), Fail> {
         an array | [{"type":"a"},{"type":^[]}] | 12 wrong kind
         by an escape | [{"\u0074yp\u0065":^0}] | 12 wrong kind
         "#,
-    )?;
-    Ok(())
-}
-
-const UNREAD: &str = r#"
-    null | null | none
-    a number | 37 | none
-    an array | [0,1] | none
-    an object with doubled names | {"a":1,"a":2} | none
-    surfaces and values of any kind | {"surfaces":[{}],"values":[9]} | none
-    "#;
+    },
+    Table {
+        name: "semantics of points are not read",
+        around: ONE_VERTEX,
+        geometry: r#"{"type":"MultiPoint","lod":"1","boundaries":[0],"semantics":_}"#,
+        rows: UNREAD,
+    },
+    Table {
+        name: "semantics of lines are not read",
+        around: ONE_VERTEX,
+        geometry: r#"{"type":"MultiLineString","lod":"1","boundaries":[[0]],"semantics":_}"#,
+        rows: UNREAD,
+    },
+];
 
 #[test]
-fn semantics_of_points_and_lines_are_not_read(rt: HostRuntime) -> Result<(), Fail> {
-    let points = r#"{"type":"MultiPoint","lod":"1","boundaries":[0],"semantics":_}"#;
-    let lines = r#"{"type":"MultiLineString","lod":"1","boundaries":[[0]],"semantics":_}"#;
-    meets(&rt, rt.alloc(), with_vertices(1), points, UNREAD)?;
-    meets(&rt, rt.alloc(), with_vertices(1), lines, UNREAD)?;
+fn semantics_and_their_surfaces(rt: HostRuntime) -> Result<(), Fail> {
+    all_meet(&rt, rt.alloc(), TABLES.as_slice())?;
     Ok(())
 }

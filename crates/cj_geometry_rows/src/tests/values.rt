@@ -1,5 +1,5 @@
 //! Semantic values for the boundaries.
-use super::{meets, with_vertices};
+use super::{ONE_VERTEX, Table, all_meet};
 use std::test::Fail;
 
 const OF_TWO_SURFACES: &str = r#"
@@ -30,87 +30,6 @@ const ENTRIES: &str = r#"
     a level more | [^[0],0] | 12 wrong kind
     "#;
 
-#[test]
-fn values_of_surfaces(rt: HostRuntime) -> Result<(), Fail> {
-    let around = with_vertices(1);
-    let several =
-        r#"{"type":"MultiSurface","lod":"1","boundaries":[[[0]],[]],"semantics":{"surfaces":[{"type":"a"},{"type":"b"}],"values":_}}"#;
-    meets(&rt, rt.alloc(), around, several, OF_TWO_SURFACES)?;
-    meets(&rt, rt.alloc(), around, several, ENTRIES)?;
-    Ok(())
-}
-
-#[test]
-fn values_of_a_composite_surface(rt: HostRuntime) -> Result<(), Fail> {
-    let around = with_vertices(1);
-    let composite =
-        r#"{"type":"CompositeSurface","lod":"1","boundaries":[[[0]],[]],"semantics":{"surfaces":[{"type":"a"},{"type":"b"}],"values":_}}"#;
-    meets(&rt, rt.alloc(), around, composite, OF_TWO_SURFACES)?;
-    meets(&rt, rt.alloc(), around, composite, ENTRIES)?;
-    Ok(())
-}
-
-#[test]
-fn no_index_names_a_surface_of_none(rt: HostRuntime) -> Result<(), Fail> {
-    meets(
-        &rt,
-        rt.alloc(),
-        with_vertices(1),
-        r#"{"type":"MultiSurface","lod":"1","boundaries":[[[0]]],"semantics":{"surfaces":[],"values":_}}"#,
-        r#"
-        null as a whole | null | none
-        null for the surface | [null] | none
-        an index | [^0] | 27 semantics index out of range
-        "#,
-    )?;
-    Ok(())
-}
-
-#[test]
-fn values_of_a_solid(rt: HostRuntime) -> Result<(), Fail> {
-    meets(
-        &rt,
-        rt.alloc(),
-        with_vertices(1),
-        r#"{"type":"Solid","lod":"1","boundaries":[[[[0]],[]],[[]]],"semantics":{"surfaces":[{"type":"a"}],"values":_}}"#,
-        r#"
-        null as a whole | null | none
-        null for each shell | [null,null] | none
-        null for surfaces | [[null,0],[null]] | none
-        an index for each | [[0,0],[0]] | none
-        a number | ^0 | 12 wrong kind
-        a level less | [^0,0] | 12 wrong kind
-        a text for a shell | [[0,0],^"0"] | 12 wrong kind
-        an object for a shell | [null,^{}] | 12 wrong kind
-        a level more | [[^[0],[0]],[[0]]] | 12 wrong kind
-        an index equal to the count | [[0,0],[^1]] | 27 semantics index out of range
-        "#,
-    )?;
-    Ok(())
-}
-
-#[test]
-fn lengths_of_the_values_of_a_solid(rt: HostRuntime) -> Result<(), Fail> {
-    meets(
-        &rt,
-        rt.alloc(),
-        with_vertices(1),
-        r#"{"type":"Solid","lod":"1","boundaries":[[[[0]],[]],[[]]],"semantics":{"surfaces":[{"type":"a"}],"values":_}}"#,
-        r#"
-        no shell | ^[] | 26 semantics count
-        a shell less | ^[[0,0]] | 26 semantics count
-        a null less | ^[null] | 26 semantics count
-        a shell more | ^[[0,0],[0],[]] | 26 semantics count
-        a shell more and its values | ^[[0,0],[0],[9]] | 26 semantics count
-        no surface | [^[],[0]] | 26 semantics count
-        a surface less | [^[0],[0]] | 26 semantics count
-        a surface more | [[0,0],^[0,0]] | 26 semantics count
-        a surface more beside null | [null,^[null,null]] | 26 semantics count
-        "#,
-    )?;
-    Ok(())
-}
-
 const OF_TWO_SOLIDS: &str = r#"
     null as a whole | null | none
     null for each solid | [null,null] | none
@@ -136,64 +55,131 @@ const LENGTHS_OF_TWO_SOLIDS: &str = r#"
     a surface more | [null,[[0],^[0]]] | 26 semantics count
     "#;
 
-#[test]
-fn values_of_solids(rt: HostRuntime) -> Result<(), Fail> {
-    let around = with_vertices(1);
-    let several =
-        r#"{"type":"MultiSolid","lod":"1","boundaries":[[[[[0]],[]]],[[[]],[]]],"semantics":{"surfaces":[{"type":"a"}],"values":_}}"#;
-    meets(&rt, rt.alloc(), around, several, OF_TWO_SOLIDS)?;
-    meets(&rt, rt.alloc(), around, several, LENGTHS_OF_TWO_SOLIDS)?;
-    Ok(())
-}
-
-#[test]
-fn values_of_a_composite_solid(rt: HostRuntime) -> Result<(), Fail> {
-    let around = with_vertices(1);
-    let composite =
-        r#"{"type":"CompositeSolid","lod":"1","boundaries":[[[[[0]],[]]],[[[]],[]]],"semantics":{"surfaces":[{"type":"a"}],"values":_}}"#;
-    meets(&rt, rt.alloc(), around, composite, OF_TWO_SOLIDS)?;
-    meets(&rt, rt.alloc(), around, composite, LENGTHS_OF_TWO_SOLIDS)?;
-    Ok(())
-}
-
-#[test]
-fn values_beside_boundaries_that_are_no_array(rt: HostRuntime) -> Result<(), Fail> {
-    meets(
-        &rt,
-        rt.alloc(),
-        with_vertices(1),
-        r#"{"type":"MultiSurface","lod":"1","semantics":{"surfaces":[{"type":"a"}],_}"#,
-        r#"
+const TABLES: [Table; 14] = [
+    Table {
+        name: "values of surfaces",
+        around: ONE_VERTEX,
+        geometry: r#"{"type":"MultiSurface","lod":"1","boundaries":[[[0]],[]],"semantics":{"surfaces":[{"type":"a"},{"type":"b"}],"values":_}}"#,
+        rows: OF_TWO_SURFACES,
+    },
+    Table {
+        name: "entries of the values of surfaces",
+        around: ONE_VERTEX,
+        geometry: r#"{"type":"MultiSurface","lod":"1","boundaries":[[[0]],[]],"semantics":{"surfaces":[{"type":"a"},{"type":"b"}],"values":_}}"#,
+        rows: ENTRIES,
+    },
+    Table {
+        name: "values of a composite surface",
+        around: ONE_VERTEX,
+        geometry: r#"{"type":"CompositeSurface","lod":"1","boundaries":[[[0]],[]],"semantics":{"surfaces":[{"type":"a"},{"type":"b"}],"values":_}}"#,
+        rows: OF_TWO_SURFACES,
+    },
+    Table {
+        name: "entries of the values of a composite surface",
+        around: ONE_VERTEX,
+        geometry: r#"{"type":"CompositeSurface","lod":"1","boundaries":[[[0]],[]],"semantics":{"surfaces":[{"type":"a"},{"type":"b"}],"values":_}}"#,
+        rows: ENTRIES,
+    },
+    Table {
+        name: "no index names a surface of none",
+        around: ONE_VERTEX,
+        geometry: r#"{"type":"MultiSurface","lod":"1","boundaries":[[[0]]],"semantics":{"surfaces":[],"values":_}}"#,
+        rows: r#"
+        null as a whole | null | none
+        null for the surface | [null] | none
+        an index | [^0] | 27 semantics index out of range
+        "#,
+    },
+    Table {
+        name: "values of a solid",
+        around: ONE_VERTEX,
+        geometry: r#"{"type":"Solid","lod":"1","boundaries":[[[[0]],[]],[[]]],"semantics":{"surfaces":[{"type":"a"}],"values":_}}"#,
+        rows: r#"
+        null as a whole | null | none
+        null for each shell | [null,null] | none
+        null for surfaces | [[null,0],[null]] | none
+        an index for each | [[0,0],[0]] | none
+        a number | ^0 | 12 wrong kind
+        a level less | [^0,0] | 12 wrong kind
+        a text for a shell | [[0,0],^"0"] | 12 wrong kind
+        an object for a shell | [null,^{}] | 12 wrong kind
+        a level more | [[^[0],[0]],[[0]]] | 12 wrong kind
+        an index equal to the count | [[0,0],[^1]] | 27 semantics index out of range
+        "#,
+    },
+    Table {
+        name: "lengths of the values of a solid",
+        around: ONE_VERTEX,
+        geometry: r#"{"type":"Solid","lod":"1","boundaries":[[[[0]],[]],[[]]],"semantics":{"surfaces":[{"type":"a"}],"values":_}}"#,
+        rows: r#"
+        no shell | ^[] | 26 semantics count
+        a shell less | ^[[0,0]] | 26 semantics count
+        a null less | ^[null] | 26 semantics count
+        a shell more | ^[[0,0],[0],[]] | 26 semantics count
+        a shell more and its values | ^[[0,0],[0],[9]] | 26 semantics count
+        no surface | [^[],[0]] | 26 semantics count
+        a surface less | [^[0],[0]] | 26 semantics count
+        a surface more | [[0,0],^[0,0]] | 26 semantics count
+        a surface more beside null | [null,^[null,null]] | 26 semantics count
+        "#,
+    },
+    Table {
+        name: "values of solids",
+        around: ONE_VERTEX,
+        geometry: r#"{"type":"MultiSolid","lod":"1","boundaries":[[[[[0]],[]]],[[[]],[]]],"semantics":{"surfaces":[{"type":"a"}],"values":_}}"#,
+        rows: OF_TWO_SOLIDS,
+    },
+    Table {
+        name: "lengths of the values of solids",
+        around: ONE_VERTEX,
+        geometry: r#"{"type":"MultiSolid","lod":"1","boundaries":[[[[[0]],[]]],[[[]],[]]],"semantics":{"surfaces":[{"type":"a"}],"values":_}}"#,
+        rows: LENGTHS_OF_TWO_SOLIDS,
+    },
+    Table {
+        name: "values of a composite solid",
+        around: ONE_VERTEX,
+        geometry: r#"{"type":"CompositeSolid","lod":"1","boundaries":[[[[[0]],[]]],[[[]],[]]],"semantics":{"surfaces":[{"type":"a"}],"values":_}}"#,
+        rows: OF_TWO_SOLIDS,
+    },
+    Table {
+        name: "lengths of the values of a composite solid",
+        around: ONE_VERTEX,
+        geometry: r#"{"type":"CompositeSolid","lod":"1","boundaries":[[[[[0]],[]]],[[[]],[]]],"semantics":{"surfaces":[{"type":"a"}],"values":_}}"#,
+        rows: LENGTHS_OF_TWO_SOLIDS,
+    },
+    Table {
+        name: "values beside boundaries that are no array",
+        around: ONE_VERTEX,
+        geometry: r#"{"type":"MultiSurface","lod":"1","semantics":{"surfaces":[{"type":"a"}],_}"#,
+        rows: r#"
         any count | "values":[0,0]},"boundaries":^0 | 12 wrong kind
         a count of null | "values":[]},"boundaries":^null | 12 wrong kind
         any index | "values":[^1]},"boundaries":0 | 27 semantics index out of range
         any kind | "values":^0},"boundaries":{} | 12 wrong kind
         "#,
-    )?;
-    meets(
-        &rt,
-        rt.alloc(),
-        with_vertices(1),
-        r#"^{"type":"MultiSurface","lod":"1","semantics":{"surfaces":[],"values":_}}"#,
-        "none at all|[0,9]|10 member missing",
-    )?;
-    Ok(())
-}
-
-#[test]
-fn values_beside_parts_that_are_no_arrays(rt: HostRuntime) -> Result<(), Fail> {
-    meets(
-        &rt,
-        rt.alloc(),
-        with_vertices(1),
-        r#"{"type":"Solid","lod":"1","semantics":{"surfaces":[{"type":"a"}],_}"#,
-        r#"
+    },
+    Table {
+        name: "values beside no boundaries",
+        around: ONE_VERTEX,
+        geometry: r#"^{"type":"MultiSurface","lod":"1","semantics":{"surfaces":[],"values":_}}"#,
+        rows: "none at all|[0,9]|10 member missing",
+    },
+    Table {
+        name: "values beside parts that are no arrays",
+        around: ONE_VERTEX,
+        geometry: r#"{"type":"Solid","lod":"1","semantics":{"surfaces":[{"type":"a"}],_}"#,
+        rows: r#"
         a number beside a shell | "values":[[0,0]]},"boundaries":[^0] | 12 wrong kind
         null beside a shell | "values":[[]]},"boundaries":[^null] | 12 wrong kind
         an index beside a number | "values":[[0,^1]]},"boundaries":[0] | 27 semantics index out of range
         a shell after a number | "values":[[0],^[0]]},"boundaries":[0,[]] | 26 semantics count
         a shell beside none | "values":^[[9]]},"boundaries":[] | 26 semantics count
         "#,
-    )?;
+    },
+];
+
+#[test]
+fn semantic_values(rt: HostRuntime) -> Result<(), Fail> {
+    all_meet(&rt, rt.alloc(), TABLES.as_slice())?;
     Ok(())
 }

@@ -2,7 +2,7 @@
 use super::{line_of, shown, tokens_of};
 use cj_geometry::rule::check_whole;
 use cj_spans::{Doc, Finding, Least};
-use std::alloc::Global;
+use std::alloc::{AllocError, Global};
 use std::process::Abort;
 use std::test::Fail;
 
@@ -31,12 +31,17 @@ const VALUES: &str = r#"
     an array | ^[0] | 12 wrong kind
     "#;
 
+fn meets(rt: &impl Abort, alloc: Global, row: &str) -> Result<(), AllocError> {
+    let (line, want) = line_of(rt, alloc, "_", row)?;
+    let found = shown(alloc, finding_of(rt, alloc, line.as_bytes()))?;
+    assert_eq!(rt; found.as_str(), want.as_str(), "{row}");
+    Ok(())
+}
+
 #[test]
 fn whole_numbers_of_any_sign(rt: HostRuntime) -> Result<(), Fail> {
     for row in VALUES.trim().lines() {
-        let (line, want) = line_of(&rt, rt.alloc(), "_", row)?;
-        let found = shown(rt.alloc(), finding_of(&rt, rt.alloc(), line.as_bytes()))?;
-        assert_eq!(&rt; found.as_str(), want.as_str(), "{row}");
+        meets(&rt, rt.alloc(), row)?;
     }
     Ok(())
 }

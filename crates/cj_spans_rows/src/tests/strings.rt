@@ -33,6 +33,11 @@ fn answer(
     Ok(scan(&line, &mut tokens, &mut stack))
 }
 
+/// Checks the result of a scan with a byte in its line.
+fn is_answer(rt: &impl Abort, got: Result<(), ScanFault>, want: Result<(), ScanFault>, byte: u8) {
+    assert_eq!(rt; got, want, "{byte}");
+}
+
 /// Checks that each of these bytes is accepted between `front` and `back`, and that any other is
 /// rejected at its place.
 fn takes_only(
@@ -49,7 +54,7 @@ fn takes_only(
         } else {
             Err(ScanFault::Syntax(front.len() as u64))
         };
-        assert_eq!(rt; got, want, "{byte}");
+        is_answer(rt, got, want, byte);
     }
     Ok(())
 }
@@ -72,7 +77,7 @@ fn takes_plain_bytes(
         } else {
             Ok(())
         };
-        assert_eq!(rt; got, want, "{byte}");
+        is_answer(rt, got, want, byte);
     }
     Ok(())
 }

@@ -1,6 +1,8 @@
 //! Rows of views. Expected values are read from the lines by hand.
-use cj_budget::{Bounded, Stack};
-use cj_spans::{Doc, Items, Kind, Node, Token, scan, tail_of_string};
+ghost use Rattle.cj_spans.specs.Sound.{AreOf};
+
+use super::tokens_of;
+use cj_spans::{Doc, Items, Kind, Node, Token, tail_of_string};
 use std::alloc::Global;
 use std::cmp::Ordering;
 use std::process::Abort;
@@ -18,22 +20,6 @@ struct Row {
     first_code: Option<u32>,
 }
 
-/// Scans a line, which is a text, and returns a view of it.
-fn view<'a>(
-    rt: &impl Abort,
-    alloc: Global,
-    line: &'a [u8],
-    tokens: &'a mut Bounded<Token>,
-) -> Doc<'a> {
-    assert!(rt; line.len() <= 1_000 && tokens.limit() >= 1_000);
-    let mut stack = Stack::new(alloc, 64);
-    match scan(line, tokens, &mut stack) {
-        Ok(()) => {}
-        Err(fault) => panic!(rt; "{fault:?}"),
-    }
-    Doc::of(line, tokens.as_slice())
-}
-
 /// Returns whether a node is of this kind, at this place, and has these bytes.
 fn is_at(node: Node, kind: Kind, start: u64, bytes: &[u8]) -> bool {
     node.kind() == kind && node.start() == start && node.bytes() == bytes
@@ -46,17 +32,29 @@ fn has_parts(node: Node, row: &Row) -> bool {
         && node.first_code() == row.first_code
 }
 
+fn are_bytes(rt: &impl Abort, got: &[u8], want: &[u8]) {
+    assert_eq!(rt; got, want);
+}
+
+fn is_number(rt: &impl Abort, got: u64, want: u64) {
+    assert_eq!(rt; got, want);
+}
+
+/// Checks that something holds for the value at a place.
+fn holds_at(rt: &impl Abort, holds: bool, place: u64) {
+    assert!(rt; holds, "at {place}");
+}
+
+fn is_value(rt: &impl Abort, node: Node, row: &Row) {
+    let is_there = is_at(node, row.kind, row.start, row.bytes);
+    assert!(rt; is_there && has_parts(node, row), "{:?}", row.line);
+}
+
 fn meets(rt: &impl Abort, alloc: Global, row: &Row) {
-    let mut tokens: Bounded<Token> = Bounded::new(alloc, 1_000);
-    let doc = view(rt, alloc, row.line, &mut tokens);
-    let node = doc.root();
-    assert_eq!(rt; doc.line(), row.line);
-    assert!(rt;
-        is_at(node, row.kind, row.start, row.bytes),
-        "{:?}",
-        row.line
-    );
-    assert!(rt; has_parts(node, row), "{:?}", row.line);
+    let tokens = tokens_of(rt, alloc, row.line);
+    let doc = Doc::of(row.line, tokens.as_slice());
+    are_bytes(rt, doc.line(), row.line);
+    is_value(rt, doc.root(), row);
 }
 
 fn all_meet(rt: &impl Abort, alloc: Global, rows: &[Row]) {
@@ -87,7 +85,7 @@ fn text(line: &'static [u8], first_code: Option<u32>) -> Row {
 }
 
 #[test]
-fn scalars_show_what_they_are(rt: HostRuntime) -> Result<(), Fail> {
+fn scalars_show_what_they_are(rt: HostRuntime) {
     let rows = [
         scalar(b"null", Kind::Null, 0, b"null"),
         scalar(b"true", Kind::Truth, 0, b"true"),
@@ -96,11 +94,10 @@ fn scalars_show_what_they_are(rt: HostRuntime) -> Result<(), Fail> {
         scalar(b"  0", Kind::Number, 2, b"0"),
     ];
     all_meet(&rt, rt.alloc(), rows.as_slice());
-    Ok(())
 }
 
 #[test]
-fn texts_show_their_first_code(rt: HostRuntime) -> Result<(), Fail> {
+fn texts_show_their_first_code(rt: HostRuntime) {
     let rows = [
         text(b"\"\"", None),
         text(b"\"[{\"", Some(91)),
@@ -112,11 +109,10 @@ fn texts_show_their_first_code(rt: HostRuntime) -> Result<(), Fail> {
         text(b"\"\\ud83d\"", Some(0xD83D)),
     ];
     all_meet(&rt, rt.alloc(), rows.as_slice());
-    Ok(())
 }
 
 #[test]
-fn containers_show_how_many_they_hold(rt: HostRuntime) -> Result<(), Fail> {
+fn containers_show_how_many_they_hold(rt: HostRuntime) {
     let rows = [
         scalar(b"[]", Kind::Array, 0, b"[]"),
         Row {
@@ -140,63 +136,127 @@ fn containers_show_how_many_they_hold(rt: HostRuntime) -> Result<(), Fail> {
         },
     ];
     all_meet(&rt, rt.alloc(), rows.as_slice());
-    Ok(())
+}
+
+/// A value with its kind, its place and its bytes.
+type Item = (Kind, u64, &'static [u8]);
+
+/// A member with its place, its name and its value.
+type Member = (u64, &'static [u8], &'static [u8]);
+
+/// A name with the bytes of its value.
+type Got = (&'static str, Option<&'static [u8]>);
+
+/// What the value of a line shows.
+#[derive(Clone, Copy)]
+enum Shown<'a> {
+    /// Its items, in order.
+    Items(&'a [Item]),
+    /// Its members, in order.
+    Members(&'a [Member]),
+    /// The values of names.
+    Got(&'a [Got]),
+    /// The values of names in the value of a name.
+    GotWithin(&'a str, &'a [Got]),
+    /// The texts of its items. Two are the same if they are equal here.
+    Texts(&'a [Option<&'a str>]),
+    /// The ranks of its items in the order of their texts. Items of one rank are equal.
+    Ranks(&'a [u8]),
+    /// How its items compare with a text.
+    Beside(&'a str, &'a [Ordering]),
+    /// The words of its items' texts.
+    Words(&'a [u64]),
+    /// The tails of its items' texts.
+    Tails(&'a [u64]),
+    /// The mixed numbers of its items' texts.
+    Mixes(&'a [u64]),
+    /// The numbers of its names and values.
+    Numbers(&'a [(u32, u32)]),
+    /// Its size, and the first item after each number of values and names.
+    Behind(u32, &'a [(u32, Option<&'a [u8]>)]),
+}
+
+fn is_shown(rt: &impl Abort, root: Node, shown: Shown) {
+    match shown {
+        Shown::Items(want) => items_are(rt, root, want),
+        Shown::Members(want) => members_are(rt, root, want),
+        Shown::Got(want) => are_got(rt, root, want),
+        Shown::GotWithin(name, want) => are_got_within(rt, root, name, want),
+        Shown::Texts(texts) => are_texts(rt, root.items(), texts),
+        Shown::Ranks(ranks) => are_ranked(rt, root.items(), ranks),
+        Shown::Beside(text, want) => are_ordered_beside(rt, root.items(), text, want),
+        Shown::Words(want) => words_are(rt, root.items(), want),
+        Shown::Tails(want) => tails_are(rt, root.items(), want),
+        Shown::Mixes(want) => mixes_are(rt, root.items(), want),
+        Shown::Numbers(want) => numbers_are(rt, root, want),
+        Shown::Behind(size, want) => are_behind(rt, root, size, want),
+    }
+}
+
+/// Checks what a line shows.
+fn shows(rt: &impl Abort, alloc: Global, line: &[u8], shown: Shown) {
+    let tokens = tokens_of(rt, alloc, line);
+    is_shown(rt, Doc::of(line, tokens.as_slice()).root(), shown);
+}
+
+fn item_is(rt: &impl Abort, item: Option<Node>, kind: Kind, start: u64, bytes: &[u8]) {
+    match item {
+        Some(node) => holds_at(rt, is_at(node, kind, start, bytes), start),
+        None => holds_at(rt, false, start),
+    }
 }
 
 /// Checks that the items of a list have these kinds, places and bytes, in order.
-fn items_are(rt: &impl Abort, list: Node, want: &[(Kind, u64, &[u8])]) {
+fn items_are(rt: &impl Abort, list: Node, want: &[Item]) {
     let mut items = list.items();
     for (kind, start, bytes) in want {
-        match items.next() {
-            Some(item) => assert!(rt; is_at(item, *kind, *start, *bytes), "{start}"),
-            None => panic!(rt; "an item is missing"),
-        }
+        item_is(rt, items.next(), *kind, *start, *bytes);
     }
     assert!(rt; items.next().is_none());
 }
 
 #[test]
-fn items_come_in_order(rt: HostRuntime) -> Result<(), Fail> {
+fn items_come_in_order(rt: HostRuntime) {
     let line = b"[null, [1,[2],3] ,{\"a\":[4]},\"x\"]";
-    let mut tokens: Bounded<Token> = Bounded::new(rt.alloc(), 1_000);
-    let doc = view(&rt, rt.alloc(), line, &mut tokens);
-    let want = [
-        (Kind::Null, 1u64, b"null".as_slice()),
-        (Kind::Array, 7u64, b"[1,[2],3]".as_slice()),
-        (Kind::Object, 18u64, b"{\"a\":[4]}".as_slice()),
-        (Kind::Text, 28u64, b"\"x\"".as_slice()),
-    ];
-    items_are(&rt, doc.root(), want.as_slice());
-    Ok(())
+    shows(&rt, rt.alloc(), line, Shown::Items(&ITEMS));
+}
+
+const ITEMS: [Item; 4] = [
+    (Kind::Null, 1, b"null"),
+    (Kind::Array, 7, b"[1,[2],3]"),
+    (Kind::Object, 18, b"{\"a\":[4]}"),
+    (Kind::Text, 28, b"\"x\""),
+];
+
+fn member_is(rt: &impl Abort, member: Option<(Node, Node)>, start: u64, name: &[u8], value: &[u8]) {
+    match member {
+        Some((key, node)) => {
+            holds_at(rt, is_at(key, Kind::Text, start, name), start);
+            are_bytes(rt, node.bytes(), value);
+        }
+        None => holds_at(rt, false, start),
+    }
 }
 
 /// Checks that the members of an object have these places, names and values, in order.
-fn members_are(rt: &impl Abort, object: Node, want: &[(u64, &[u8], &[u8])]) {
+fn members_are(rt: &impl Abort, object: Node, want: &[Member]) {
     let mut members = object.members();
     for (start, name, value) in want {
-        match members.next() {
-            Some((key, node)) => {
-                assert!(rt; is_at(key, Kind::Text, *start, *name), "{start}");
-                assert_eq!(rt; node.bytes(), *value);
-            }
-            None => panic!(rt; "a member is missing"),
-        }
+        member_is(rt, members.next(), *start, *name, *value);
     }
     assert!(rt; members.next().is_none());
 }
 
+const MEMBERS: [Member; 3] = [
+    (1, b"\"a\"", b"{\"b\":[1,{}]}"),
+    (20, b"\"\"", b"0"),
+    (25, b"\"a\"", b"\"z\""),
+];
+
 #[test]
-fn members_come_in_order(rt: HostRuntime) -> Result<(), Fail> {
+fn members_come_in_order(rt: HostRuntime) {
     let line = b"{\"a\":{\"b\":[1,{}]} , \"\":0,\"a\":\"z\"}";
-    let mut tokens: Bounded<Token> = Bounded::new(rt.alloc(), 1_000);
-    let doc = view(&rt, rt.alloc(), line, &mut tokens);
-    let want = [
-        (1u64, b"\"a\"".as_slice(), b"{\"b\":[1,{}]}".as_slice()),
-        (20u64, b"\"\"".as_slice(), b"0".as_slice()),
-        (25u64, b"\"a\"".as_slice(), b"\"z\"".as_slice()),
-    ];
-    members_are(&rt, doc.root(), want.as_slice());
-    Ok(())
+    shows(&rt, rt.alloc(), line, Shown::Members(&MEMBERS));
 }
 
 /// Returns the bytes of the member with this name.
@@ -208,37 +268,39 @@ fn got<'a>(node: Node<'a>, name: &str) -> Option<&'a [u8]> {
 }
 
 /// Checks that an object has these values by name.
-fn are_got(rt: &impl Abort, object: Node, rows: &[(&str, Option<&[u8]>)]) {
+fn are_got(rt: &impl Abort, object: Node, rows: &[Got]) {
     for (name, want) in rows {
         assert_eq!(rt; got(object, *name), *want, "{name}");
     }
 }
 
+/// Checks that the value of a name has these values by name.
+fn are_got_within(rt: &impl Abort, object: Node, name: &str, rows: &[Got]) {
+    are_got(rt, object.get(name).expect(rt, "a member"), rows);
+}
+
+const BY_TEXT: [Got; 11] = [
+    ("a", Some(b"1")),
+    ("b", Some(b"2")),
+    ("\u{1F600}", Some(b"5")),
+    ("\u{20AC}", Some(b"7")),
+    ("a\nb", Some(b"8")),
+    ("", Some(b"9")),
+    ("aa", Some(b"[10]")),
+    ("A", None),
+    ("aaa", None),
+    ("\\u0062", None),
+    ("\u{FFFD}", None),
+];
+
+const IN_AA: [Got; 1] = [("a", None)];
+
 #[test]
-fn members_are_found_by_their_text(rt: HostRuntime) -> Result<(), Fail> {
+fn members_are_found_by_their_text(rt: HostRuntime) {
     let line =
         b"{\"a\":1,\"\\u0062\":2,\"b\":3,\"a\":4,\"\\uD83D\\uDE00\":5,\"\\ud83d\":6,\"\xE2\x82\xAC\":7,\"a\\nb\":8,\"\":9,\"aa\":[10]}";
-    let mut tokens: Bounded<Token> = Bounded::new(rt.alloc(), 1_000);
-    let doc = view(&rt, rt.alloc(), line, &mut tokens);
-    let rows = [
-        ("a", Some(b"1".as_slice())),
-        ("b", Some(b"2".as_slice())),
-        ("\u{1F600}", Some(b"5".as_slice())),
-        ("\u{20AC}", Some(b"7".as_slice())),
-        ("a\nb", Some(b"8".as_slice())),
-        ("", Some(b"9".as_slice())),
-        ("aa", Some(b"[10]".as_slice())),
-        ("A", None),
-        ("aaa", None),
-        ("\\u0062", None),
-        ("\u{FFFD}", None),
-    ];
-    are_got(&rt, doc.root(), rows.as_slice());
-    match doc.root().get("aa") {
-        Some(array) => are_got(&rt, array, &[("a", None)]),
-        None => panic!(&rt; "no member"),
-    }
-    Ok(())
+    shows(&rt, rt.alloc(), line, Shown::Got(&BY_TEXT));
+    shows(&rt, rt.alloc(), line, Shown::GotWithin("aa", &IN_AA));
 }
 
 /// Returns whether an item has the text of another exactly if both are wanted to have one. What is
@@ -265,33 +327,31 @@ fn are_compared(item: Node, text: Option<&str>, items: Items, texts: &[Option<&s
     all
 }
 
+fn are_texts(rt: &impl Abort, items: Items, texts: &[Option<&str>]) {
+    for (item, text) in items.zip(texts.iter()) {
+        holds_at(rt, are_compared(item, *text, items, texts), item.start());
+    }
+}
+
+const TEXTS: [Option<&str>; 11] = [
+    Some("b1"),
+    Some("b1"),
+    Some("b"),
+    Some(""),
+    Some("\u{E9}"),
+    Some("\u{E9}"),
+    Some("e\u{301}"),
+    Some("\u{1F600}"),
+    None,
+    None,
+    Some("12"),
+];
+
 #[test]
-fn texts_are_compared_by_code_points(rt: HostRuntime) -> Result<(), Fail> {
+fn texts_are_compared_by_code_points(rt: HostRuntime) {
     let line =
         b"[\"b1\",\"\\u00621\",\"b\",\"\",\"\\u00e9\",\"\xC3\xA9\",\"e\\u0301\",\"\\ud83d\\ude00\",\"\\ud83d\",12,\"12\"]";
-    let mut tokens: Bounded<Token> = Bounded::new(rt.alloc(), 1_000);
-    let doc = view(&rt, rt.alloc(), line, &mut tokens);
-    let texts = [
-        Some("b1"),
-        Some("b1"),
-        Some("b"),
-        Some(""),
-        Some("\u{E9}"),
-        Some("\u{E9}"),
-        Some("e\u{301}"),
-        Some("\u{1F600}"),
-        None,
-        None,
-        Some("12"),
-    ];
-    let items = doc.root().items();
-    for (item, text) in items.zip(texts.iter()) {
-        assert!(&rt;
-            are_compared(item, *text, items, texts.as_slice()),
-            "{text:?}"
-        );
-    }
-    Ok(())
+    shows(&rt, rt.alloc(), line, Shown::Texts(&TEXTS));
 }
 
 /// Returns whether an item compares with the others as its rank compares with theirs. Items of one
@@ -304,109 +364,130 @@ fn is_ordered(item: Node, rank: u8, items: Items, ranks: &[u8]) -> bool {
     all
 }
 
+fn are_ranked(rt: &impl Abort, items: Items, ranks: &[u8]) {
+    for (item, rank) in items.zip(ranks.iter()) {
+        holds_at(rt, is_ordered(item, *rank, items, ranks), item.start());
+    }
+}
+
 #[test]
-fn texts_are_ordered_by_code_points(rt: HostRuntime) -> Result<(), Fail> {
+fn texts_are_ordered_by_code_points(rt: HostRuntime) {
     let line =
         b"[12,\"\",\"12\",\"b\",\"b1\",\"\\u00621\",\"e\\u0301\",\"\\u00e9\",\"\xC3\xA9\",\"\\ud83d\",\"\\uFFFD\",\"\xF0\x9F\x98\x80\",\"\\ud83d\\ude00\"]";
-    let ranks = [0u8, 1, 2, 3, 4, 4, 5, 6, 6, 7, 8, 9, 9];
-    let mut tokens: Bounded<Token> = Bounded::new(rt.alloc(), 1_000);
-    let items = view(&rt, rt.alloc(), line, &mut tokens).root().items();
-    for (item, rank) in items.zip(ranks.iter()) {
-        assert!(&rt; is_ordered(item, *rank, items, ranks.as_slice()), "{rank}");
-    }
-    Ok(())
+    let ranks = Shown::Ranks(&[0, 1, 2, 3, 4, 4, 5, 6, 6, 7, 8, 9, 9]);
+    shows(&rt, rt.alloc(), line, ranks);
 }
 
+fn words_are(rt: &impl Abort, items: Items, words: &[u64]) {
+    for (item, word) in items.zip(words.iter()) {
+        is_number(rt, item.text_word(), *word);
+    }
+}
+
+const WORDS: [u64; 9] = [
+    0,
+    0,
+    0x6100_0000_0000_0000,
+    0x6162_0000_0000_0000,
+    0x6162_6364_6566_6768,
+    0x6162_6364_6566_6768,
+    0x61FF_0000_0000_0000,
+    0xE961_0000_0000_0000,
+    0xFF00_0000_0000_0000,
+];
+
 #[test]
-fn words_are_of_the_first_eight_code_points(rt: HostRuntime) -> Result<(), Fail> {
+fn words_are_of_the_first_eight_code_points(rt: HostRuntime) {
     let line =
         b"[12,\"\",\"a\",\"\\u0061b\",\"abcdefgh\",\"abcdefghi\",\"a\xE2\x82\xACb\",\"\\u00e9a\",\"\xC3\xBFa\"]";
-    let words = [
-        0u64,
-        0,
-        0x6100_0000_0000_0000,
-        0x6162_0000_0000_0000,
-        0x6162_6364_6566_6768,
-        0x6162_6364_6566_6768,
-        0x61FF_0000_0000_0000,
-        0xE961_0000_0000_0000,
-        0xFF00_0000_0000_0000,
-    ];
-    let mut tokens: Bounded<Token> = Bounded::new(rt.alloc(), 1_000);
-    let items = view(&rt, rt.alloc(), line, &mut tokens).root().items();
-    for (item, word) in items.zip(words.iter()) {
-        assert_eq!(&rt; item.text_word(), *word);
-    }
-    Ok(())
+    shows(&rt, rt.alloc(), line, Shown::Words(&WORDS));
 }
 
-#[test]
-fn tails_are_of_the_last_eight_code_points(rt: HostRuntime) -> Result<(), Fail> {
-    let line =
-        b"[12,\"\",\"a\",\"\\u0061b\",\"abcdefgh\",\"xabcdefgh\",\"a\xE2\x82\xACb\",\"\\u00e9a\",\"\xC3\xBFa\"]";
-    let tails = [
-        0u64,
-        0,
-        0x61,
-        0x6162,
-        0x6162_6364_6566_6768,
-        0x6162_6364_6566_6768,
-        0x61_FF62,
-        0xE961,
-        0xFF61,
-    ];
-    let mut tokens: Bounded<Token> = Bounded::new(rt.alloc(), 1_000);
-    let items = view(&rt, rt.alloc(), line, &mut tokens).root().items();
+fn tails_are(rt: &impl Abort, items: Items, tails: &[u64]) {
     for (item, tail) in items.zip(tails.iter()) {
-        assert_eq!(&rt; item.text_tail(), *tail);
+        is_number(rt, item.text_tail(), *tail);
     }
-    assert_eq!(&rt; tail_of_string("a\u{20AC}b"), 0x61_FF62);
-    Ok(())
 }
 
+const TAILS: [u64; 9] = [
+    0,
+    0,
+    0x61,
+    0x6162,
+    0x6162_6364_6566_6768,
+    0x6162_6364_6566_6768,
+    0x61_FF62,
+    0xE961,
+    0xFF61,
+];
+
 #[test]
-fn numbers_are_mixed_of_all_code_points(rt: HostRuntime) -> Result<(), Fail> {
+fn tails_are_of_the_last_eight_code_points(rt: HostRuntime) {
     let line =
         b"[12,\"\",\"a\",\"\\u0061b\",\"abcdefgh\",\"xabcdefgh\",\"a\xE2\x82\xACb\",\"\\u00e9a\",\"\xC3\xBFa\"]";
-    let mixes = [
-        0u64,
-        0,
-        0x61,
-        0xF305_1F49_3B39_0457,
-        0x4D9A_B593_4765_C614,
-        0x814E_5318_5DBE_B38C,
-        0xD552_12BA_FEF7_FD97,
-        0x007D_C9D4_DACA_EF7E,
-        0x9942_3FC5_CB31_994C,
-    ];
-    let mut tokens: Bounded<Token> = Bounded::new(rt.alloc(), 1_000);
-    let items = view(&rt, rt.alloc(), line, &mut tokens).root().items();
-    for (item, mix) in items.zip(mixes.iter()) {
-        assert_eq!(&rt; item.text_mix(), *mix);
-    }
-    Ok(())
+    shows(&rt, rt.alloc(), line, Shown::Tails(&TAILS));
+    is_number(&rt, tail_of_string("a\u{20AC}b"), 0x61_FF62);
 }
 
-/// Returns whether the items of a line compare with a text as wanted.
-fn are_ordered_beside(items: Items, text: &str, wanted: &[Ordering]) -> bool {
-    let mut all = true;
-    for (item, order) in items.zip(wanted.iter()) {
-        all = all && item.compare_with(text) == *order;
+fn mixes_are(rt: &impl Abort, items: Items, mixes: &[u64]) {
+    for (item, mix) in items.zip(mixes.iter()) {
+        is_number(rt, item.text_mix(), *mix);
     }
-    all
 }
+
+const MIXES: [u64; 9] = [
+    0,
+    0,
+    0x61,
+    0xF305_1F49_3B39_0457,
+    0x4D9A_B593_4765_C614,
+    0x814E_5318_5DBE_B38C,
+    0xD552_12BA_FEF7_FD97,
+    0x007D_C9D4_DACA_EF7E,
+    0x9942_3FC5_CB31_994C,
+];
 
 #[test]
-fn texts_are_ordered_beside_a_text(rt: HostRuntime) -> Result<(), Fail> {
+fn numbers_are_mixed_of_all_code_points(rt: HostRuntime) {
+    let line =
+        b"[12,\"\",\"a\",\"\\u0061b\",\"abcdefgh\",\"xabcdefgh\",\"a\xE2\x82\xACb\",\"\\u00e9a\",\"\xC3\xBFa\"]";
+    shows(&rt, rt.alloc(), line, Shown::Mixes(&MIXES));
+}
+
+/// Checks that the items of a line compare with a text as wanted.
+fn are_ordered_beside(rt: &impl Abort, items: Items, text: &str, wanted: &[Ordering]) {
+    for (item, order) in items.zip(wanted.iter()) {
+        holds_at(rt, item.compare_with(text) == *order, item.start());
+    }
+}
+
+const BESIDE_B1: [Ordering; 8] = [
+    Ordering::Less,
+    Ordering::Less,
+    Ordering::Less,
+    Ordering::Less,
+    Ordering::Equal,
+    Ordering::Greater,
+    Ordering::Greater,
+    Ordering::Greater,
+];
+
+const BESIDE_E: [Ordering; 8] = [
+    Ordering::Less,
+    Ordering::Less,
+    Ordering::Less,
+    Ordering::Less,
+    Ordering::Less,
+    Ordering::Less,
+    Ordering::Equal,
+    Ordering::Greater,
+];
+
+#[test]
+fn texts_are_ordered_beside_a_text(rt: HostRuntime) {
     let line = b"[12,\"\",\"12\",\"b\",\"\\u00621\",\"b2\",\"\\u00e9\",\"\\ud83d\\ude00\"]";
-    let mut tokens: Bounded<Token> = Bounded::new(rt.alloc(), 1_000);
-    let items = view(&rt, rt.alloc(), line, &mut tokens).root().items();
-    let (less, equal, greater) = (Ordering::Less, Ordering::Equal, Ordering::Greater);
-    let beside_b1 = [less, less, less, less, equal, greater, greater, greater];
-    let beside_e = [less, less, less, less, less, less, equal, greater];
-    assert!(&rt; are_ordered_beside(items, "b1", beside_b1.as_slice()));
-    assert!(&rt; are_ordered_beside(items, "\u{E9}", beside_e.as_slice()));
-    Ok(())
+    shows(&rt, rt.alloc(), line, Shown::Beside("b1", &BESIDE_B1));
+    shows(&rt, rt.alloc(), line, Shown::Beside("\u{E9}", &BESIDE_E));
 }
 
 /// Returns whether a name and its value have these numbers, and the name is found by its own.
@@ -416,43 +497,43 @@ fn are_numbered(name: Node, value: Node, of_name: u32, of_value: u32) -> bool {
         && name.at(name.number()).bytes() == name.bytes()
 }
 
-#[test]
-fn nodes_are_found_by_their_numbers(rt: HostRuntime) -> Result<(), Fail> {
-    let line = b"{\"a\":[1,[2,\"b\"]],\"c\":{\"d\":null}}";
-    let mut tokens: Bounded<Token> = Bounded::new(rt.alloc(), 1_000);
-    let root = view(&rt, rt.alloc(), line, &mut tokens).root();
-    assert_eq!(&rt; root.number(), 0);
-    let numbers = [(1, 2), (7, 8)];
+/// Checks that the root has the number 0, and its names and values these.
+fn numbers_are(rt: &impl Abort, root: Node, numbers: &[(u32, u32)]) {
+    is_number(rt, root.number() as u64, 0);
     for ((name, value), (of_name, of_value)) in root.members().zip(numbers.iter()) {
-        assert!(&rt; are_numbered(name, value, *of_name, *of_value), "{of_name}");
+        let are_right = are_numbered(name, value, *of_name, *of_value);
+        holds_at(rt, are_right, name.start());
     }
-    Ok(())
 }
 
-/// Checks the two members of the line `{"a":[1,2],"b":"\u0061"}`.
-fn shows_two_members(rt: &impl Abort, object: Node) {
-    are_got(rt, object, &[("a", Some(b"[1,2]".as_slice()))]);
-    match object.get("b") {
-        Some(value) => assert!(rt; value.text_is("a")),
-        None => panic!(rt; "no member"),
-    }
+#[test]
+fn nodes_are_found_by_their_numbers(rt: HostRuntime) {
+    let line = b"{\"a\":[1,[2,\"b\"]],\"c\":{\"d\":null}}";
+    shows(&rt, rt.alloc(), line, Shown::Numbers(&[(1, 2), (7, 8)]));
 }
+
+const FIRST_MEMBER: [Got; 1] = [("a", Some(b"[1,2]"))];
+
+/// Checks a copy of the line `{"a":[1,2],"b":"\u0061"}`.
+fn shows_two_members(rt: &impl Abort, line: &[u8], tokens: &[Token])
+    requires scanned { AreOf line.now tokens.now }
+{
+    let doc = Doc::of(line, tokens);
+    are_bytes(rt, doc.line(), TWO_MEMBERS);
+    are_got(rt, doc.root(), &FIRST_MEMBER);
+    let text = doc.root().get("b").expect(rt, "a member");
+    assert!(rt; text.text_is("a"));
+}
+
+const TWO_MEMBERS: &[u8] = b"{\"a\":[1,2],\"b\":\"\\u0061\"}";
 
 #[test]
 fn a_copy_is_viewed_as_the_line_was(rt: HostRuntime) -> Result<(), Fail> {
-    let line = b"{\"a\":[1,2],\"b\":\"\\u0061\"}";
-    let mut tokens: Bounded<Token> = Bounded::new(rt.alloc(), 64);
-    let mut stack = Stack::new(rt.alloc(), 4);
-    match scan(line, &mut tokens, &mut stack) {
-        Ok(()) => {}
-        Err(fault) => panic!(&rt; "{fault:?}"),
-    }
-    let bytes = line.to_vec(rt.alloc())?;
+    let mut tokens = tokens_of(&rt, rt.alloc(), TWO_MEMBERS);
+    let bytes = TWO_MEMBERS.to_vec(rt.alloc())?;
     let kept = tokens.as_slice().to_vec(rt.alloc())?;
     tokens.clear();
-    let doc = Doc::of(bytes.as_slice(), kept.as_slice());
-    assert_eq!(&rt; doc.line(), line.as_slice());
-    shows_two_members(&rt, doc.root());
+    shows_two_members(&rt, &bytes, &kept);
     Ok(())
 }
 
@@ -464,29 +545,27 @@ fn first_behind<'a>(list: Node<'a>, size: u32) -> Option<&'a [u8]> {
     }
 }
 
-/// Checks the first item after each number of values and names.
-fn are_behind(rt: &impl Abort, list: Node, rows: &[(u32, Option<&[u8]>)]) {
-    for (size, want) in rows {
-        assert_eq!(rt; first_behind(list, *size), *want, "{size}");
+/// Checks the size of a list, and the first item after each number of values and names.
+fn are_behind(rt: &impl Abort, list: Node, size: u32, rows: &[(u32, Option<&[u8]>)]) {
+    is_number(rt, list.size() as u64, size as u64);
+    for (before, want) in rows {
+        assert_eq!(rt; first_behind(list, *before), *want, "{before}");
     }
 }
+
+const BEHIND: [(u32, Option<&[u8]>); 6] = [
+    (0, Some(b"10")),
+    (1, Some(b"[20,{\"a\":30}]")),
+    (6, Some(b"\"b\"")),
+    (7, Some(b"[]")),
+    (8, None),
+    (9_000_000, None),
+];
 
 /// The sizes of the items of `[10,[20,{"a":30}],"b",[]]`, and the item after each number of values
 /// and names.
 #[test]
-fn items_are_found_behind_others(rt: HostRuntime) -> Result<(), Fail> {
+fn items_are_found_behind_others(rt: HostRuntime) {
     let line = b"[10,[20,{\"a\":30}],\"b\",[]]";
-    let mut tokens: Bounded<Token> = Bounded::new(rt.alloc(), 1_000);
-    let list = view(&rt, rt.alloc(), line, &mut tokens).root();
-    assert_eq!(&rt; list.size(), 9);
-    let rows = [
-        (0, Some(b"10".as_slice())),
-        (1, Some(b"[20,{\"a\":30}]".as_slice())),
-        (6, Some(b"\"b\"".as_slice())),
-        (7, Some(b"[]".as_slice())),
-        (8, None),
-        (9_000_000, None),
-    ];
-    are_behind(&rt, list, rows.as_slice());
-    Ok(())
+    shows(&rt, rt.alloc(), line, Shown::Behind(9, &BEHIND));
 }
