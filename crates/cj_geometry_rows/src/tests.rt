@@ -83,17 +83,19 @@ const A_TEMPLATE: Around = Around {
 #[derive(Clone, Copy)]
 struct Table<'a> {
     name: &'a str,
-    around: Around,
     geometry: &'a str,
     rows: &'a str,
 }
+
+/// The longest line of these tests.
+const LONGEST: usize = 400_000;
 
 /// Returns the tokens of a line that is a JSON text.
 fn tokens_of(rt: &impl Abort, alloc: Global, line: &[u8]) -> Bounded<Token>
     ensures { AreOf line.now result.elements }
 {
-    assert!(rt; line.len() <= 100_000);
-    let mut tokens: Bounded<Token> = Bounded::new(alloc, 100_000);
+    assert!(rt; line.len() <= LONGEST);
+    let mut tokens: Bounded<Token> = Bounded::new(alloc, LONGEST);
     let mut stack = Stack::new(alloc, 64);
     match scan(line, &mut tokens, &mut stack) {
         Ok(()) => {}
@@ -122,6 +124,15 @@ fn list_line(given: Given) -> &'static [u8] {
     }
 }
 
+/// Returns the least of an earlier finding.
+fn begun(before: Option<Finding>) -> Least {
+    let mut least = Least::new();
+    if let Some(finding) = before {
+        least.add(finding);
+    }
+    least
+}
+
 /// Returns the least finding of a geometry, after an earlier finding.
 fn least_after(
     node: Node,
@@ -129,10 +140,7 @@ fn least_after(
     templates: Templates,
     before: Option<Finding>,
 ) -> Option<Finding> {
-    let mut least = Least::new();
-    if let Some(finding) = before {
-        least.add(finding);
-    }
+    let mut least = begun(before);
     check_geometry(node, vertices, templates, &mut least);
     least.get()
 }
@@ -201,27 +209,43 @@ fn line_of(
     unmarked(alloc, &line, want)
 }
 
+/// Checks the text that a row of a table has.
+fn is_text(rt: &impl Abort, found: &str, want: &str, table: &str, row: &str) {
+    assert_eq!(rt; found, want, "{table}: {row}");
+}
+
 /// Checks that a row of the table has the finding that it expects.
-fn meets_row(rt: &impl Abort, alloc: Global, table: &Table, row: &str) -> Result<(), AllocError> {
+fn meets_row(
+    rt: &impl Abort,
+    alloc: Global,
+    around: Around,
+    table: &Table,
+    row: &str,
+) -> Result<(), AllocError> {
     let (line, want) = line_of(rt, alloc, table.geometry, row)?;
-    let found = least_of(rt, alloc, line.as_bytes(), table.around, None);
+    let found = least_of(rt, alloc, line.as_bytes(), around, None);
     let found = shown(alloc, found)?;
-    assert_eq!(rt; found.as_str(), want.as_str(), "{}: {row}", table.name);
+    is_text(rt, &found, &want, table.name, row);
     Ok(())
 }
 
 /// Checks that each row of the table has the finding that it expects.
-fn meets(rt: &impl Abort, alloc: Global, table: &Table) -> Result<(), AllocError> {
+fn meets(rt: &impl Abort, alloc: Global, around: Around, table: &Table) -> Result<(), AllocError> {
     for row in table.rows.trim().lines() {
-        meets_row(rt, alloc, table, row)?;
+        meets_row(rt, alloc, around, table, row)?;
     }
     Ok(())
 }
 
 /// Checks that each row of each table has the finding that it expects.
-fn all_meet(rt: &impl Abort, alloc: Global, tables: &[Table]) -> Result<(), AllocError> {
+fn all_meet(
+    rt: &impl Abort,
+    alloc: Global,
+    around: Around,
+    tables: &[Table],
+) -> Result<(), AllocError> {
     for table in tables {
-        meets(rt, alloc, table)?;
+        meets(rt, alloc, around, table)?;
     }
     Ok(())
 }
@@ -237,6 +261,17 @@ fn meets_after(
 ) -> Result<(), AllocError> {
     let found = least_of(rt, alloc, line.as_bytes(), ONE_VERTEX, Some(before));
     let found = shown(alloc, found)?;
-    assert_eq!(rt; found.as_str(), want, "{line} after {before:?}");
+    is_text(rt, &found, want, "after an earlier finding", line);
     Ok(())
+}
+
+/// Adds a member and a comma. Its name is a number after this front.
+fn push_member(
+    alloc: Global,
+    text: &mut String,
+    front: &str,
+    number: u32,
+) -> Result<(), AllocError> {
+    let member = format!(in alloc; "\"{front}{number}\":0,")?;
+    text.push_str(&member)
 }

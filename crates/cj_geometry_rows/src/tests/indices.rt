@@ -2,12 +2,23 @@
 use super::{Around, FOUR_VERTICES, Given, NO_VERTICES, Table, UNKNOWN_VERTICES, all_meet};
 use std::test::Fail;
 
+/// A geometry that is itself a template, of no vertices.
+const A_TEMPLATE_OF_NO_VERTICES: Around = Around {
+    vertices: Some(0),
+    templates: Given::Itself,
+};
+
+/// So many vertices that the greatest index names the last one.
+const MANY_VERTICES: Around = Around {
+    vertices: Some(1_000_000_000_000_000_000),
+    templates: Given::Empty,
+};
+
 const INDEX: &str = r#"{"type":"MultiSurface","lod":"2.2","boundaries":[[[0,1,2,_]]]}"#;
 
-const TABLES: [Table; 9] = [
+const BESIDE_FOUR_VERTICES: [Table; 5] = [
     Table {
         name: "indices name a vertex",
-        around: FOUR_VERTICES,
         geometry: INDEX,
         rows: r#"
         the first | 0 | none
@@ -20,21 +31,7 @@ const TABLES: [Table; 9] = [
         "#,
     },
     Table {
-        name: "indices of no vertices",
-        around: Around {
-            vertices: Some(0),
-            templates: Given::Itself,
-        },
-        geometry: r#"{"type":"MultiPoint","lod":"1","boundaries":_}"#,
-        rows: r#"
-        no index | [] | none
-        the first | [^0] | 25 vertex index out of range
-        minus 0 | [^-0] | 25 vertex index out of range
-        "#,
-    },
-    Table {
         name: "indices are numbers",
-        around: FOUR_VERTICES,
         geometry: INDEX,
         rows: r#"
         null | ^null | 12 wrong kind
@@ -46,7 +43,6 @@ const TABLES: [Table; 9] = [
     },
     Table {
         name: "spellings of an index",
-        around: FOUR_VERTICES,
         geometry: INDEX,
         rows: r#"
         minus 0 | -0 | none
@@ -64,7 +60,6 @@ const TABLES: [Table; 9] = [
     },
     Table {
         name: "indices are whole",
-        around: FOUR_VERTICES,
         geometry: INDEX,
         rows: r#"
         a half more | ^1.5 | 18 not a whole number
@@ -81,7 +76,6 @@ const TABLES: [Table; 9] = [
     },
     Table {
         name: "indices are in range",
-        around: FOUR_VERTICES,
         geometry: INDEX,
         rows: r#"
         37 digits | ^1111111111111111111111111111111111111 | 13 number out of range
@@ -91,30 +85,38 @@ const TABLES: [Table; 9] = [
         a lesser power than the least | ^1e-1000001 | 13 number out of range
         "#,
     },
-    Table {
-        name: "no index names a vertex of none",
-        around: NO_VERTICES,
-        geometry: r#"{"type":"MultiPoint","lod":"1","boundaries":_}"#,
-        rows: r#"
+];
+
+const AS_A_TEMPLATE_OF_NO_VERTICES: [Table; 1] = [Table {
+    name: "indices of no vertices",
+    geometry: r#"{"type":"MultiPoint","lod":"1","boundaries":_}"#,
+    rows: r#"
+        no index | [] | none
+        the first | [^0] | 25 vertex index out of range
+        minus 0 | [^-0] | 25 vertex index out of range
+        "#,
+}];
+
+const BESIDE_NO_VERTICES: [Table; 1] = [Table {
+    name: "no index names a vertex of none",
+    geometry: r#"{"type":"MultiPoint","lod":"1","boundaries":_}"#,
+    rows: r#"
         no index | [] | none
         0 | [^0] | 25 vertex index out of range
         minus 0 | [^-0] | 25 vertex index out of range
         "#,
-    },
-    Table {
-        name: "the greatest index names the last vertex of many",
-        around: Around {
-            vertices: Some(1_000_000_000_000_000_000),
-            templates: Given::Empty,
-        },
-        geometry: r#"{"type":"MultiPoint","lod":"1","boundaries":_}"#,
-        rows: "the greatest whole number|[999999999999999999]|none",
-    },
-    Table {
-        name: "indices beside unknown vertices",
-        around: UNKNOWN_VERTICES,
-        geometry: INDEX,
-        rows: r#"
+}];
+
+const BESIDE_MANY_VERTICES: [Table; 1] = [Table {
+    name: "the greatest index names the last vertex of many",
+    geometry: r#"{"type":"MultiPoint","lod":"1","boundaries":_}"#,
+    rows: "the greatest whole number|[999999999999999999]|none",
+}];
+
+const BESIDE_UNKNOWN_VERTICES: [Table; 1] = [Table {
+    name: "indices beside unknown vertices",
+    geometry: INDEX,
+    rows: r#"
         any index | 4 | none
         the greatest whole number | 999999999999999999 | none
         below 0 | -1 | none
@@ -123,11 +125,19 @@ const TABLES: [Table; 9] = [
         a half | ^0.5 | 18 not a whole number
         10^18 | ^1e18 | 18 not a whole number
         "#,
-    },
-];
+}];
 
 #[test]
 fn indices_of_vertices(rt: HostRuntime) -> Result<(), Fail> {
-    all_meet(&rt, rt.alloc(), TABLES.as_slice())?;
+    all_meet(&rt, rt.alloc(), FOUR_VERTICES, &BESIDE_FOUR_VERTICES)?;
+    all_meet(
+        &rt,
+        rt.alloc(),
+        A_TEMPLATE_OF_NO_VERTICES,
+        &AS_A_TEMPLATE_OF_NO_VERTICES,
+    )?;
+    all_meet(&rt, rt.alloc(), NO_VERTICES, &BESIDE_NO_VERTICES)?;
+    all_meet(&rt, rt.alloc(), MANY_VERTICES, &BESIDE_MANY_VERTICES)?;
+    all_meet(&rt, rt.alloc(), UNKNOWN_VERTICES, &BESIDE_UNKNOWN_VERTICES)?;
     Ok(())
 }

@@ -10,16 +10,27 @@ const WITH_TEMPLATES: Around = Around {
     templates: TWO_TEMPLATES,
 };
 
+/// One vertex, and a list of no templates.
+const WITH_AN_EMPTY_LIST: Around = Around {
+    vertices: Some(1),
+    templates: Given::List("[]"),
+};
+
+/// Two templates, and an unknown number of vertices.
+const WITH_UNKNOWN_VERTICES: Around = Around {
+    vertices: None,
+    templates: TWO_TEMPLATES,
+};
+
 const NO_TEMPLATES: &str = r#"
     the first | ^0 | 28 template index out of range
     minus 0 | ^-0 | 28 template index out of range
     a half | ^0.5 | 18 not a whole number
     "#;
 
-const TABLES: [Table; 12] = [
+const BESIDE_TEMPLATES: [Table; 8] = [
     Table {
         name: "instances need three members",
-        around: WITH_TEMPLATES,
         geometry: "_",
         rows: r#"
         all three | {"type":"GeometryInstance","template":1,"boundaries":[0],"transformationMatrix":[1,0,0,0,0,1,0,0,0,0,1,0,0,0,0,1]} | none
@@ -32,7 +43,6 @@ const TABLES: [Table; 12] = [
     },
     Table {
         name: "templates are indices",
-        around: WITH_TEMPLATES,
         geometry: r#"{"type":"GeometryInstance","template":_,"boundaries":[0],"transformationMatrix":[1,0,0,0,0,1,0,0,0,0,1,0,0,0,0,1]}"#,
         rows: r#"
         the first | 0 | none
@@ -50,23 +60,7 @@ const TABLES: [Table; 12] = [
         "#,
     },
     Table {
-        name: "no index names a template of an empty list",
-        around: Around {
-            vertices: Some(1),
-            templates: Given::List("[]"),
-        },
-        geometry: r#"{"type":"GeometryInstance","template":_,"boundaries":[0],"transformationMatrix":[1,0,0,0,0,1,0,0,0,0,1,0,0,0,0,1]}"#,
-        rows: NO_TEMPLATES,
-    },
-    Table {
-        name: "no index names a template of no list",
-        around: ONE_VERTEX,
-        geometry: r#"{"type":"GeometryInstance","template":_,"boundaries":[0],"transformationMatrix":[1,0,0,0,0,1,0,0,0,0,1,0,0,0,0,1]}"#,
-        rows: NO_TEMPLATES,
-    },
-    Table {
         name: "an instance has one vertex",
-        around: WITH_TEMPLATES,
         geometry: r#"{"type":"GeometryInstance","template":0,"boundaries":_,"transformationMatrix":[1,0,0,0,0,1,0,0,0,0,1,0,0,0,0,1]}"#,
         rows: r#"
         one | [0] | none
@@ -80,7 +74,6 @@ const TABLES: [Table; 12] = [
     },
     Table {
         name: "the vertex of an instance is an index",
-        around: WITH_TEMPLATES,
         geometry: r#"{"type":"GeometryInstance","template":0,"boundaries":[_],"transformationMatrix":[1,0,0,0,0,1,0,0,0,0,1,0,0,0,0,1]}"#,
         rows: r#"
         another spelling | 0.0 | none
@@ -94,22 +87,7 @@ const TABLES: [Table; 12] = [
         "#,
     },
     Table {
-        name: "the vertex of an instance beside unknown ones",
-        around: Around {
-            vertices: None,
-            templates: TWO_TEMPLATES,
-        },
-        geometry: r#"{"type":"GeometryInstance","template":0,"boundaries":_,"transformationMatrix":[1,0,0,0,0,1,0,0,0,0,1,0,0,0,0,1]}"#,
-        rows: r#"
-        any index | [9] | none
-        below 0 | [-1] | none
-        a half | [^0.5] | 18 not a whole number
-        two | ^[9,9] | 29 bad instance
-        "#,
-    },
-    Table {
         name: "the matrix has 16 items",
-        around: WITH_TEMPLATES,
         geometry: r#"{"type":"GeometryInstance","template":0,"boundaries":[0],"transformationMatrix":_}"#,
         rows: r#"
         null | ^null | 12 wrong kind
@@ -124,7 +102,6 @@ const TABLES: [Table; 12] = [
     },
     Table {
         name: "the matrix has numbers",
-        around: WITH_TEMPLATES,
         geometry: r#"{"type":"GeometryInstance","template":0,"boundaries":[0],"transformationMatrix":[_,0,0,0,0,1,0,0,0,0,1,0,0,0,0,1]}"#,
         rows: r#"
         a part | -0.5 | none
@@ -140,7 +117,6 @@ const TABLES: [Table; 12] = [
     },
     Table {
         name: "the matrix ends with a number",
-        around: WITH_TEMPLATES,
         geometry: r#"{"type":"GeometryInstance","template":0,"boundaries":[0],"transformationMatrix":[1,0,0,0,0,1,0,0,0,0,1,0,0,0,0,_]}"#,
         rows: r#"
         the last a text | ^"1" | 12 wrong kind
@@ -149,7 +125,6 @@ const TABLES: [Table; 12] = [
     },
     Table {
         name: "other members of an instance are not read",
-        around: WITH_TEMPLATES,
         geometry: r#"{"type":"GeometryInstance","template":0,"boundaries":[0],"transformationMatrix":[1,0,0,0,0,1,0,0,0,0,1,0,0,0,0,1],_}"#,
         rows: r#"
         a level of detail | "lod":"1" | none
@@ -158,11 +133,35 @@ const TABLES: [Table; 12] = [
         semantics with doubled names | "semantics":{"a":1,"a":1} | none
         "#,
     },
-    Table {
-        name: "a template is no instance",
-        around: A_TEMPLATE,
-        geometry: "_",
-        rows: r#"
+];
+
+const BESIDE_AN_EMPTY_LIST: [Table; 1] = [Table {
+    name: "no index names a template of an empty list",
+    geometry: r#"{"type":"GeometryInstance","template":_,"boundaries":[0],"transformationMatrix":[1,0,0,0,0,1,0,0,0,0,1,0,0,0,0,1]}"#,
+    rows: NO_TEMPLATES,
+}];
+
+const BESIDE_ONE_VERTEX: [Table; 1] = [Table {
+    name: "no index names a template of no list",
+    geometry: r#"{"type":"GeometryInstance","template":_,"boundaries":[0],"transformationMatrix":[1,0,0,0,0,1,0,0,0,0,1,0,0,0,0,1]}"#,
+    rows: NO_TEMPLATES,
+}];
+
+const BESIDE_UNKNOWN_VERTICES: [Table; 1] = [Table {
+    name: "the vertex of an instance beside unknown ones",
+    geometry: r#"{"type":"GeometryInstance","template":0,"boundaries":_,"transformationMatrix":[1,0,0,0,0,1,0,0,0,0,1,0,0,0,0,1]}"#,
+    rows: r#"
+        any index | [9] | none
+        below 0 | [-1] | none
+        a half | [^0.5] | 18 not a whole number
+        two | ^[9,9] | 29 bad instance
+        "#,
+}];
+
+const AS_TEMPLATES: [Table; 1] = [Table {
+    name: "a template is no instance",
+    geometry: "_",
+    rows: r#"
         whole | {"type":^"GeometryInstance","template":0,"boundaries":[0],"transformationMatrix":[1,0,0,0,0,1,0,0,0,0,1,0,0,0,0,1]} | 29 bad instance
         no member | {"type":^"GeometryInstance"} | 29 bad instance
         by an escape | {"type":^"\u0047eometryInstance"} | 29 bad instance
@@ -172,11 +171,19 @@ const TABLES: [Table; 12] = [
         another type | {"type":"MultiPoint","lod":"1","boundaries":[0]} | none
         rules of another type | {"type":"MultiPoint","lod":"1","boundaries":[^1]} | 25 vertex index out of range
         "#,
-    },
-];
+}];
 
 #[test]
 fn instances_of_templates(rt: HostRuntime) -> Result<(), Fail> {
-    all_meet(&rt, rt.alloc(), TABLES.as_slice())?;
+    all_meet(&rt, rt.alloc(), WITH_TEMPLATES, &BESIDE_TEMPLATES)?;
+    all_meet(&rt, rt.alloc(), WITH_AN_EMPTY_LIST, &BESIDE_AN_EMPTY_LIST)?;
+    all_meet(&rt, rt.alloc(), ONE_VERTEX, &BESIDE_ONE_VERTEX)?;
+    all_meet(
+        &rt,
+        rt.alloc(),
+        WITH_UNKNOWN_VERTICES,
+        &BESIDE_UNKNOWN_VERTICES,
+    )?;
+    all_meet(&rt, rt.alloc(), A_TEMPLATE, &AS_TEMPLATES)?;
     Ok(())
 }

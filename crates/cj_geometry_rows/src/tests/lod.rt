@@ -4,9 +4,7 @@ ghost use Rattle.cj_spans.specs.Parts.{items_of};
 ghost use Rattle.cj_spans.specs.View.{tree};
 ghost use Rattle.cj_geometry.specs.ListSteps.{AreStepsOf};
 
-use super::{
-    A_TEMPLATE, Around, Given, Table, UNKNOWN_VERTICES, line_of, list_line, templates_of, tokens_of,
-};
+use super::{Given, Table, is_text, line_of, list_line, templates_of, tokens_of};
 use cj_geometry::{Lods, Steps, Templates, lod_of};
 use cj_spans::{Doc, Kind, Node};
 use std::alloc::{AllocError, Global};
@@ -36,37 +34,42 @@ fn lod_in(rt: &impl Abort, alloc: Global, line: &[u8], given: Given) -> Result<S
 }
 
 /// Checks that a row of the table has the level of detail that it expects.
-fn answers_row(rt: &impl Abort, alloc: Global, table: &Table, row: &str) -> Result<(), AllocError> {
+fn answers_row(
+    rt: &impl Abort,
+    alloc: Global,
+    given: Given,
+    table: &Table,
+    row: &str,
+) -> Result<(), AllocError> {
     let (line, want) = line_of(rt, alloc, table.geometry, row)?;
-    let found = lod_in(rt, alloc, line.as_bytes(), table.around.templates)?;
-    assert_eq!(rt; found.as_str(), want.as_str(), "{}: {row}", table.name);
+    let found = lod_in(rt, alloc, line.as_bytes(), given)?;
+    is_text(rt, &found, &want, table.name, row);
     Ok(())
 }
 
 /// Checks that each row of the table has the level of detail that it expects.
-fn answers(rt: &impl Abort, alloc: Global, table: &Table) -> Result<(), AllocError> {
+fn answers(rt: &impl Abort, alloc: Global, given: Given, table: &Table) -> Result<(), AllocError> {
     for row in table.rows.trim().lines() {
-        answers_row(rt, alloc, table, row)?;
+        answers_row(rt, alloc, given, table, row)?;
     }
     Ok(())
 }
 
 /// Checks that each row of each table has the level of detail that it expects.
-fn all_answer(rt: &impl Abort, alloc: Global, tables: &[Table]) -> Result<(), AllocError> {
+fn all_answer(
+    rt: &impl Abort,
+    alloc: Global,
+    given: Given,
+    tables: &[Table],
+) -> Result<(), AllocError> {
     for table in tables {
-        answers(rt, alloc, table)?;
+        answers(rt, alloc, given, table)?;
     }
     Ok(())
 }
 
 const TEMPLATES: &str =
     r#"[{"lod":"0"},{"lod":"1","lod":"x"},{"type":"Cone"},3,{"l\u006fd":null}]"#;
-
-/// The templates. The number of vertices does not matter.
-const WITH_TEMPLATES: Around = Around {
-    vertices: None,
-    templates: Given::List(TEMPLATES),
-};
 
 const OWN: &str = r#"
     a text | {"type":"Solid","lod":^"2.2"} | "2.2"
@@ -89,28 +92,40 @@ const OF_NO_TEMPLATE: &str = r#"
     no number | null | none
     "#;
 
-const TABLES: [Table; 8] = [
+const BESIDE_NO_TEMPLATES: [Table; 2] = [
     Table {
         name: "other geometries have their own, beside no templates",
-        around: UNKNOWN_VERTICES,
         geometry: "_",
         rows: OWN,
     },
+    Table {
+        name: "instances beside no templates have none",
+        geometry: r#"{"type":"GeometryInstance","lod":"2","template":_}"#,
+        rows: OF_NO_TEMPLATE,
+    },
+];
+
+const AS_TEMPLATES: [Table; 2] = [
     Table {
         name: "other geometries have their own, as templates",
-        around: A_TEMPLATE,
         geometry: "_",
         rows: OWN,
     },
     Table {
+        name: "instances that are templates have none",
+        geometry: r#"{"type":"GeometryInstance","lod":"2","template":_}"#,
+        rows: OF_NO_TEMPLATE,
+    },
+];
+
+const BESIDE_TEMPLATES: [Table; 3] = [
+    Table {
         name: "other geometries have their own, beside templates",
-        around: WITH_TEMPLATES,
         geometry: "_",
         rows: OWN,
     },
     Table {
         name: "instances have that of their template",
-        around: WITH_TEMPLATES,
         geometry: "_",
         rows: r#"
         the first | {"type":"GeometryInstance","template":0} | 8 "0"
@@ -126,7 +141,6 @@ const TABLES: [Table; 8] = [
     },
     Table {
         name: "templates are chosen by whole numbers",
-        around: WITH_TEMPLATES,
         geometry: r#"{"type":"GeometryInstance","lod":"2","template":_}"#,
         rows: r#"
         minus 0 | -0 | 8 "0"
@@ -143,41 +157,34 @@ const TABLES: [Table; 8] = [
         an array | [0] | none
         "#,
     },
-    Table {
-        name: "instances beside no templates have none",
-        around: UNKNOWN_VERTICES,
-        geometry: r#"{"type":"GeometryInstance","lod":"2","template":_}"#,
-        rows: OF_NO_TEMPLATE,
-    },
-    Table {
-        name: "instances that are templates have none",
-        around: A_TEMPLATE,
-        geometry: r#"{"type":"GeometryInstance","lod":"2","template":_}"#,
-        rows: OF_NO_TEMPLATE,
-    },
-    Table {
-        name: "instances of an empty list have none",
-        around: Around {
-            vertices: None,
-            templates: Given::List("[]"),
-        },
-        geometry: r#"{"type":"GeometryInstance","lod":"2","template":_}"#,
-        rows: OF_NO_TEMPLATE,
-    },
 ];
+
+const BESIDE_AN_EMPTY_LIST: [Table; 1] = [Table {
+    name: "instances of an empty list have none",
+    geometry: r#"{"type":"GeometryInstance","lod":"2","template":_}"#,
+    rows: OF_NO_TEMPLATE,
+}];
 
 #[test]
 fn levels_of_detail(rt: HostRuntime) -> Result<(), Fail> {
-    all_answer(&rt, rt.alloc(), TABLES.as_slice())?;
+    all_answer(&rt, rt.alloc(), Given::Empty, &BESIDE_NO_TEMPLATES)?;
+    all_answer(&rt, rt.alloc(), Given::Itself, &AS_TEMPLATES)?;
+    all_answer(&rt, rt.alloc(), Given::List(TEMPLATES), &BESIDE_TEMPLATES)?;
+    all_answer(&rt, rt.alloc(), Given::List("[]"), &BESIDE_AN_EMPTY_LIST)?;
     Ok(())
+}
+
+/// Adds a template with this level of detail.
+fn push_template(alloc: Global, list: &mut String, lod: u32) -> Result<(), AllocError> {
+    let template = format!(in alloc; ",{{\"lod\":{lod}}}")?;
+    list.push_str(&template)
 }
 
 /// Returns a list of this number of templates, each with its number as its level of detail.
 fn numbered(alloc: Global, count: u32) -> Result<String, AllocError> {
     let mut list = String::from_str(alloc, "[0")?;
     for number in 0..count {
-        let template = format!(in alloc; ",{{\"lod\":{number}}}")?;
-        list.push_str(template.as_str())?;
+        push_template(alloc, &mut list, number)?;
     }
     list.push_str("]")?;
     Ok(list)
@@ -247,7 +254,7 @@ fn finds_stepped(
     want: &str,
 ) -> Result<(), AllocError> {
     let found = lods_beside(rt, alloc, list, line, true)?;
-    assert_eq!(rt; found.as_str(), want);
+    is_text(rt, &found, want, "by steps", line);
     Ok(())
 }
 
@@ -260,7 +267,7 @@ fn finds_counted(
     want: &str,
 ) -> Result<(), AllocError> {
     let found = lods_beside(rt, alloc, list, line, false)?;
-    assert_eq!(rt; found.as_str(), want);
+    is_text(rt, &found, want, "counted now", line);
     Ok(())
 }
 
@@ -284,18 +291,26 @@ fn instances_of_a_long_list_find_their_templates(rt: HostRuntime) -> Result<(), 
 /// The distance between the templates that consecutive instances name.
 const APART: usize = 17;
 
+/// Adds an instance of the template with this number.
+fn push_instance(alloc: Global, line: &mut String, number: u32) -> Result<(), AllocError> {
+    let instance = format!(in alloc; ",{{\"type\":\"GeometryInstance\",\"template\":{number}}}")?;
+    line.push_str(&instance)
+}
+
+/// Adds the level of detail that `numbered` gives the template with this number.
+fn push_lod(alloc: Global, want: &mut String, number: u32) -> Result<(), AllocError> {
+    let lod = format!(in alloc; "{} ", number.saturating_sub(1))?;
+    want.push_str(&lod)
+}
+
 /// Returns instances of every `APART`th template, from this one down, and the levels of detail that
 /// `numbered` gives them.
 fn falling(alloc: Global, greatest: u32) -> Result<(String, String), AllocError> {
     let mut line = String::from_str(alloc, "[0")?;
     let mut want = String::from_str(alloc, "none ")?;
     for number in (1..=greatest).rev().step_by(APART) {
-        let instance = format!(in alloc;
-            ",{{\"type\":\"GeometryInstance\",\"template\":{number}}}"
-        )?;
-        line.push_str(instance.as_str())?;
-        let lod = number.saturating_sub(1);
-        want.push_str(format!(in alloc; "{lod} ")?.as_str())?;
+        push_instance(alloc, &mut line, number)?;
+        push_lod(alloc, &mut want, number)?;
     }
     line.push_str("]")?;
     Ok((line, want))

@@ -1,5 +1,5 @@
 //! The names in the objects that rules read are distinct.
-use super::{A_TEMPLATE, ONE_VERTEX, Table, all_meet, meets};
+use super::{A_TEMPLATE, ONE_VERTEX, Table, all_meet, meets, push_member};
 use std::alloc::{AllocError, Global};
 use std::process::Abort;
 use std::test::Fail;
@@ -8,8 +8,7 @@ use std::test::Fail;
 fn members(alloc: Global, count: u32) -> Result<String, AllocError> {
     let mut text = String::new(alloc);
     for number in 0..count {
-        let member = format!(in alloc; "\"{number}\":0,")?;
-        text.push_str(&member)?;
+        push_member(alloc, &mut text, "", number)?;
     }
     Ok(text)
 }
@@ -22,17 +21,15 @@ fn meets_behind(rt: &impl Abort, alloc: Global, count: u32, rows: &str) -> Resul
     let geometry = format!(in alloc; "{front}{members}_}}")?;
     let table = Table {
         name: "names behind many",
-        around: ONE_VERTEX,
         geometry: &geometry,
         rows,
     };
-    meets(rt, alloc, &table)
+    meets(rt, alloc, ONE_VERTEX, &table)
 }
 
-const TABLES: [Table; 7] = [
+const BESIDE_ONE_VERTEX: [Table; 6] = [
     Table {
         name: "names of a geometry are distinct",
-        around: ONE_VERTEX,
         geometry: r#"{"type":"MultiPoint","lod":"1","boundaries":[0],_}"#,
         rows: r#"
         another name | "Type":1 | none
@@ -50,7 +47,6 @@ const TABLES: [Table; 7] = [
     },
     Table {
         name: "the first member of a name is read",
-        around: ONE_VERTEX,
         geometry: "_",
         rows: r#"
         the first level of detail | {"type":"MultiPoint","lod":^1,"boundaries":[0],"lod":"1"} | 12 wrong kind
@@ -61,19 +57,7 @@ const TABLES: [Table; 7] = [
         "#,
     },
     Table {
-        name: "names of a template are distinct whatever the type",
-        around: A_TEMPLATE,
-        geometry: r#"{"a":1,^"a":2,"lod":"1","boundaries":[],"type":_}"#,
-        rows: r#"
-        an instance | "GeometryInstance" | 11 duplicate name
-        an unknown type | "Cone" | 11 duplicate name
-        a type that is no text | 3 | 11 duplicate name
-        a type of a depth | "Solid" | 11 duplicate name
-        "#,
-    },
-    Table {
         name: "names are distinct whatever the type",
-        around: ONE_VERTEX,
         geometry: r#"{"a":1,^"a":2,"lod":"1","boundaries":[0],"template":0,"transformationMatrix":[1,0,0,0,0,1,0,0,0,0,1,0,0,0,0,1],"type":_}"#,
         rows: r#"
         an instance | "GeometryInstance" | 11 duplicate name
@@ -84,7 +68,6 @@ const TABLES: [Table; 7] = [
     },
     Table {
         name: "names of semantics are distinct",
-        around: ONE_VERTEX,
         geometry: r#"{"type":"Solid","lod":"1","boundaries":[],"semantics":{"surfaces":[],"values":[],_}}"#,
         rows: r#"
         another name | "a":1 | none
@@ -96,7 +79,6 @@ const TABLES: [Table; 7] = [
     },
     Table {
         name: "names of a surface are distinct",
-        around: ONE_VERTEX,
         geometry: r#"{"type":"Solid","lod":"1","boundaries":[],"semantics":{"surfaces":[{"type":"a"},_],"values":[]}}"#,
         rows: r#"
         another surface | {"type":"a","a":1} | none
@@ -107,7 +89,6 @@ const TABLES: [Table; 7] = [
     },
     Table {
         name: "objects that no rule reads may double names",
-        around: ONE_VERTEX,
         geometry: "_",
         rows: r#"
         in a geometry | {"type":"MultiPoint","lod":"1","boundaries":[0],"material":{"a":1,"a":[{"b":1,"b":1}]}} | none
@@ -118,9 +99,21 @@ const TABLES: [Table; 7] = [
     },
 ];
 
+const AS_TEMPLATES: [Table; 1] = [Table {
+    name: "names of a template are distinct whatever the type",
+    geometry: r#"{"a":1,^"a":2,"lod":"1","boundaries":[],"type":_}"#,
+    rows: r#"
+        an instance | "GeometryInstance" | 11 duplicate name
+        an unknown type | "Cone" | 11 duplicate name
+        a type that is no text | 3 | 11 duplicate name
+        a type of a depth | "Solid" | 11 duplicate name
+        "#,
+}];
+
 #[test]
 fn distinct_names(rt: HostRuntime) -> Result<(), Fail> {
-    all_meet(&rt, rt.alloc(), TABLES.as_slice())?;
+    all_meet(&rt, rt.alloc(), ONE_VERTEX, &BESIDE_ONE_VERTEX)?;
+    all_meet(&rt, rt.alloc(), A_TEMPLATE, &AS_TEMPLATES)?;
     Ok(())
 }
 

@@ -1,6 +1,6 @@
 //! The types of city objects. A row has a value, and what is expected of it: number, level and
 //! name, or `none`.
-use super::tokens_of;
+use super::{is_text, tokens_of};
 use cj_geometry::ObjectType;
 use cj_spans::Doc;
 use std::alloc::{AllocError, Global};
@@ -35,7 +35,7 @@ fn type_in(rt: &impl Abort, alloc: Global, line: &[u8]) -> Result<String, AllocE
 fn meets_row(rt: &impl Abort, alloc: Global, row: &str) -> Result<(), AllocError> {
     let (value, want) = row.split_once('|').expect(rt, "two cells");
     let found = type_in(rt, alloc, value.trim().as_bytes())?;
-    assert_eq!(rt; found.as_str(), want.trim(), "{row}");
+    is_text(rt, &found, want.trim(), "types", row);
     Ok(())
 }
 
@@ -135,7 +135,7 @@ const NAMES: &str = r#"
 fn name_meets(rt: &impl Abort, alloc: Global, row: &str) -> Result<(), AllocError> {
     let (name, want) = row.split_once('|').expect(rt, "two cells");
     let found = shown(alloc, ObjectType::named(name.trim()))?;
-    assert_eq!(rt; found.as_str(), want.trim(), "{row}");
+    is_text(rt, &found, want.trim(), "types", row);
     Ok(())
 }
 
@@ -186,6 +186,6 @@ const IN_ORDER: [&str; 33] = [
 #[test]
 fn all_types_in_the_order_of_the_table(rt: HostRuntime) {
     for (object_type, name) in ObjectType::all().iter().zip(&IN_ORDER) {
-        assert_eq!(&rt; object_type.name(), *name);
+        is_text(&rt, object_type.name(), *name, "types in order", *name);
     }
 }

@@ -4,10 +4,15 @@ use super::{Around, Given, ONE_VERTEX, Table, all_meet, meets_after};
 use cj_spans::{Finding, Reason};
 use std::test::Fail;
 
-const TABLES: [Table; 5] = [
+/// One vertex, and one template.
+const WITH_ONE_TEMPLATE: Around = Around {
+    vertices: Some(1),
+    templates: Given::List("[null]"),
+};
+
+const BESIDE_ONE_VERTEX: [Table; 4] = [
     Table {
         name: "members in either order",
-        around: ONE_VERTEX,
         geometry: "_",
         rows: r#"
         a level of detail, then boundaries | {"type":"MultiPoint","lod":^1,"boundaries":[2]} | 12 wrong kind
@@ -22,7 +27,6 @@ const TABLES: [Table; 5] = [
     },
     Table {
         name: "a missing member is told at its object",
-        around: ONE_VERTEX,
         geometry: "_",
         rows: r#"
         a level of detail beside an index | ^{"type":"MultiPoint","boundaries":[1]} | 10 member missing
@@ -35,7 +39,6 @@ const TABLES: [Table; 5] = [
     },
     Table {
         name: "indices in either order",
-        around: ONE_VERTEX,
         geometry: r#"{"type":"MultiPoint","lod":"1","boundaries":_}"#,
         rows: r#"
         past the vertices, then a text | [0,^1,"0"] | 25 vertex index out of range
@@ -46,7 +49,6 @@ const TABLES: [Table; 5] = [
     },
     Table {
         name: "values and boundaries in either order",
-        around: ONE_VERTEX,
         geometry: "_",
         rows: r#"
         boundaries first | {"type":"MultiSurface","lod":"1","boundaries":[[[^1]]],"semantics":{"surfaces":[],"values":[0]}} | 25 vertex index out of range
@@ -57,26 +59,24 @@ const TABLES: [Table; 5] = [
         values, then a surface | {"type":"MultiSurface","lod":"1","boundaries":[[]],"semantics":{"values":^[],"surfaces":[0]}} | 26 semantics count
         "#,
     },
-    Table {
-        name: "members of an instance in either order",
-        around: Around {
-            vertices: Some(1),
-            templates: Given::List("[null]"),
-        },
-        geometry: r#"{"type":"GeometryInstance",_}"#,
-        rows: r#"
+];
+
+const BESIDE_ONE_TEMPLATE: [Table; 1] = [Table {
+    name: "members of an instance in either order",
+    geometry: r#"{"type":"GeometryInstance",_}"#,
+    rows: r#"
         a template, then boundaries | "template":^1,"boundaries":[],"transformationMatrix":[] | 28 template index out of range
         boundaries, then a template | "boundaries":^[],"template":1,"transformationMatrix":[] | 29 bad instance
         a matrix, then a template | "transformationMatrix":^0,"template":1,"boundaries":[1] | 12 wrong kind
         an index, then a matrix | "boundaries":[^1],"transformationMatrix":[],"template":0 | 25 vertex index out of range
         two indices and their array | "template":0,"boundaries":^[1,2],"transformationMatrix":[] | 29 bad instance
         "#,
-    },
-];
+}];
 
 #[test]
 fn two_rules_at_once(rt: HostRuntime) -> Result<(), Fail> {
-    all_meet(&rt, rt.alloc(), TABLES.as_slice())?;
+    all_meet(&rt, rt.alloc(), ONE_VERTEX, &BESIDE_ONE_VERTEX)?;
+    all_meet(&rt, rt.alloc(), WITH_ONE_TEMPLATE, &BESIDE_ONE_TEMPLATE)?;
     Ok(())
 }
 

@@ -6,35 +6,16 @@
 //! So it is tried alone, and with many others that are less or greater than its own. A row also has
 //! how many of its names the first walk then deals with. If the row has a repeated name, the walk
 //! ends between the two, as far as the others let it.
-ghost use Rattle.cj_spans.specs.Sound.{AreOf};
-
-use cj_budget::{Bounded, Stack};
+use super::{push_member, tokens_of};
 use cj_geometry::rule::check_names;
-use cj_spans::{Doc, Finding, Least, Reason, Token, scan};
+use cj_spans::{Doc, Finding, Least, Reason};
 use std::alloc::{AllocError, Global};
 use std::process::Abort;
 use std::test::Fail;
 
-/// The longest line of these tests.
-const LONGEST: usize = 400_000;
-
 /// How many names the first walk over 4,096 names or more deals with, in an object of at most 64
 /// KiB whose least names come first.
 const WALK: u32 = 2_048;
-
-/// The tokens of a line that is a JSON text.
-fn tokens_of(rt: &impl Abort, alloc: Global, line: &[u8]) -> Bounded<Token>
-    ensures { AreOf line.now result.elements }
-{
-    assert!(rt; line.len() <= LONGEST);
-    let mut tokens: Bounded<Token> = Bounded::new(alloc, LONGEST);
-    let mut stack = Stack::new(alloc, 64);
-    match scan(line, &mut tokens, &mut stack) {
-        Ok(()) => {}
-        Err(fault) => panic!(rt; "{fault:?}"),
-    }
-    tokens
-}
 
 /// Returns what is found in an object.
 fn found_in(rt: &impl Abort, alloc: Global, line: &str) -> Option<Finding> {
@@ -66,8 +47,7 @@ fn unmarked(alloc: Global, row: &str) -> Result<(String, Option<Finding>), Alloc
 fn others(alloc: Global, front: &str, count: u32) -> Result<String, AllocError> {
     let mut text = String::new(alloc);
     for number in 0..count {
-        let member = format!(in alloc; "\"{front}{}\":0,", number.wrapping_add(1_000))?;
-        text.push_str(&member)?;
+        push_member(alloc, &mut text, front, number.wrapping_add(1_000))?;
     }
     Ok(text)
 }
@@ -85,7 +65,7 @@ fn longer(alloc: Global, line: &str, members: &str) -> Result<String, AllocError
 
 fn finds(rt: &impl Abort, alloc: Global, line: &str, want: Option<Finding>, row: &str) {
     let found = found_in(rt, alloc, line);
-    assert_eq!(rt; found, want, "{row} in {} bytes", line.len());
+    assert_eq!(rt; found, want, "{row}");
 }
 
 /// Returns an object with other names behind its own. The first walk over these deals with the
@@ -212,8 +192,7 @@ fn members(alloc: Global, count: u32, rise: bool) -> Result<String, AllocError> 
     let mut text = String::new(alloc);
     for number in 0..count {
         let name = if rise { number } else { count - number };
-        let member = format!(in alloc; "\"{name}\":0,")?;
-        text.push_str(&member)?;
+        push_member(alloc, &mut text, "", name)?;
     }
     Ok(text)
 }

@@ -4,7 +4,7 @@ ghost use Rattle.cj_spans.specs.Parts.{items_of};
 ghost use Rattle.cj_spans.specs.View.{tree};
 ghost use Rattle.cj_geometry.specs.ListSteps.{AreStepsOf};
 
-use super::tokens_of;
+use super::{is_text, tokens_of};
 use cj_geometry::{Steps, Templates, check_geometry};
 use cj_spans::{Doc, Kind, Least, Node};
 use std::alloc::{AllocError, Global};
@@ -50,17 +50,13 @@ fn shown(rt: &impl Abort, alloc: Global, templates: Templates) -> Result<String,
     Ok(text)
 }
 
-fn is_text(rt: &impl Abort, text: &str, want: &str) {
-    assert_eq!(rt; text, want);
-}
-
 /// Checks the templates of a line that is a list, by its steps.
 fn list_meets(rt: &impl Abort, alloc: Global, line: &str, want: &str) -> Result<(), AllocError> {
     let tokens = tokens_of(rt, alloc, line.as_bytes());
     let list = Doc::of(line.as_bytes(), tokens.as_slice()).root();
     let steps = Steps::of(list);
     let found = shown(rt, alloc, stepped(rt, list, &steps))?;
-    is_text(rt, &found, want);
+    is_text(rt, &found, want, "lists that were gone over", line);
     Ok(())
 }
 
@@ -75,8 +71,8 @@ fn lists_that_were_gone_over(rt: HostRuntime) -> Result<(), Fail> {
 #[test]
 fn no_list_has_none_to_name(rt: HostRuntime) -> Result<(), Fail> {
     let empty = shown(&rt, rt.alloc(), Templates::empty())?;
-    is_text(&rt, &empty, "none");
+    is_text(&rt, &empty, "none", "no list", "no templates");
     let itself = shown(&rt, rt.alloc(), Templates::template())?;
-    is_text(&rt, &itself, "none");
+    is_text(&rt, &itself, "none", "no list", "a template itself");
     Ok(())
 }

@@ -12,10 +12,9 @@ const TYPES_OF_DEPTH: &str = r#"
     a solid of solids | "CompositeSolid" | 10 member missing
     "#;
 
-const TABLES: [Table; 12] = [
+const BESIDE_ONE_VERTEX: [Table; 12] = [
     Table {
         name: "values that are no objects",
-        around: ONE_VERTEX,
         geometry: "_",
         rows: r#"
         a number | ^3 | 12 wrong kind
@@ -28,7 +27,6 @@ const TABLES: [Table; 12] = [
     },
     Table {
         name: "values that are no objects, between blanks",
-        around: ONE_VERTEX,
         geometry: " \t_ ",
         rows: r#"
         a number | ^3 | 12 wrong kind
@@ -41,7 +39,6 @@ const TABLES: [Table; 12] = [
     },
     Table {
         name: "types that are missing or no texts",
-        around: ONE_VERTEX,
         geometry: "_",
         rows: r#"
         no member | ^{} | 10 member missing
@@ -56,7 +53,6 @@ const TABLES: [Table; 12] = [
     },
     Table {
         name: "types that are unknown",
-        around: ONE_VERTEX,
         geometry: r#"{"type":_}"#,
         rows: r#"
         no name of the table | ^"Cone" | 24 unknown geometry type
@@ -71,7 +67,6 @@ const TABLES: [Table; 12] = [
     },
     Table {
         name: "no rule of a type holds without one",
-        around: ONE_VERTEX,
         geometry: r#"{"lod":1,"boundaries":0,"semantics":0,"template":null,"type":_}"#,
         rows: r#"
         an unknown type | ^"Cone" | 24 unknown geometry type
@@ -80,7 +75,6 @@ const TABLES: [Table; 12] = [
     },
     Table {
         name: "each type has its depth",
-        around: ONE_VERTEX,
         geometry: "_",
         rows: r#"
         1 | {"type":"MultiPoint","lod":"1","boundaries":[0]} | none
@@ -94,7 +88,6 @@ const TABLES: [Table; 12] = [
     },
     Table {
         name: "types of surfaces are texts however spelled",
-        around: ONE_VERTEX,
         geometry: r#"{"type":_,"lod":"1","boundaries":[[[^[0]]]]}"#,
         rows: r#"
         a surface | "MultiSurface" | 12 wrong kind
@@ -104,7 +97,6 @@ const TABLES: [Table; 12] = [
     },
     Table {
         name: "types of solids are texts however spelled",
-        around: ONE_VERTEX,
         geometry: r#"{"type":_,"lod":"1","boundaries":[[[^0]]]}"#,
         rows: r#"
         a solid | "Solid" | 12 wrong kind
@@ -114,25 +106,21 @@ const TABLES: [Table; 12] = [
     },
     Table {
         name: "each type of a depth needs a level of detail",
-        around: ONE_VERTEX,
         geometry: r#"^{"type":_,"boundaries":[]}"#,
         rows: TYPES_OF_DEPTH,
     },
     Table {
         name: "each type of a depth needs boundaries",
-        around: ONE_VERTEX,
         geometry: r#"^{"type":_,"lod":"1"}"#,
         rows: TYPES_OF_DEPTH,
     },
     Table {
         name: "each type of a depth needs both",
-        around: ONE_VERTEX,
         geometry: r#"^{"type":_,"semantics":null}"#,
         rows: TYPES_OF_DEPTH,
     },
     Table {
         name: "a level of detail is a text",
-        around: ONE_VERTEX,
         geometry: r#"{"type":"MultiPoint","boundaries":[0],"lod":_}"#,
         rows: r#"
         a text | "2.2" | none
@@ -149,6 +137,6 @@ const TABLES: [Table; 12] = [
 
 #[test]
 fn types_and_levels_of_detail(rt: HostRuntime) -> Result<(), Fail> {
-    all_meet(&rt, rt.alloc(), TABLES.as_slice())?;
+    all_meet(&rt, rt.alloc(), ONE_VERTEX, &BESIDE_ONE_VERTEX)?;
     Ok(())
 }

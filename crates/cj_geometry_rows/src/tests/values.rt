@@ -55,34 +55,29 @@ const LENGTHS_OF_TWO_SOLIDS: &str = r#"
     a surface more | [null,[[0],^[0]]] | 26 semantics count
     "#;
 
-const TABLES: [Table; 14] = [
+const BESIDE_ONE_VERTEX: [Table; 14] = [
     Table {
         name: "values of surfaces",
-        around: ONE_VERTEX,
         geometry: r#"{"type":"MultiSurface","lod":"1","boundaries":[[[0]],[]],"semantics":{"surfaces":[{"type":"a"},{"type":"b"}],"values":_}}"#,
         rows: OF_TWO_SURFACES,
     },
     Table {
         name: "entries of the values of surfaces",
-        around: ONE_VERTEX,
         geometry: r#"{"type":"MultiSurface","lod":"1","boundaries":[[[0]],[]],"semantics":{"surfaces":[{"type":"a"},{"type":"b"}],"values":_}}"#,
         rows: ENTRIES,
     },
     Table {
         name: "values of a composite surface",
-        around: ONE_VERTEX,
         geometry: r#"{"type":"CompositeSurface","lod":"1","boundaries":[[[0]],[]],"semantics":{"surfaces":[{"type":"a"},{"type":"b"}],"values":_}}"#,
         rows: OF_TWO_SURFACES,
     },
     Table {
         name: "entries of the values of a composite surface",
-        around: ONE_VERTEX,
         geometry: r#"{"type":"CompositeSurface","lod":"1","boundaries":[[[0]],[]],"semantics":{"surfaces":[{"type":"a"},{"type":"b"}],"values":_}}"#,
         rows: ENTRIES,
     },
     Table {
         name: "no index names a surface of none",
-        around: ONE_VERTEX,
         geometry: r#"{"type":"MultiSurface","lod":"1","boundaries":[[[0]]],"semantics":{"surfaces":[],"values":_}}"#,
         rows: r#"
         null as a whole | null | none
@@ -92,7 +87,6 @@ const TABLES: [Table; 14] = [
     },
     Table {
         name: "values of a solid",
-        around: ONE_VERTEX,
         geometry: r#"{"type":"Solid","lod":"1","boundaries":[[[[0]],[]],[[]]],"semantics":{"surfaces":[{"type":"a"}],"values":_}}"#,
         rows: r#"
         null as a whole | null | none
@@ -109,7 +103,6 @@ const TABLES: [Table; 14] = [
     },
     Table {
         name: "lengths of the values of a solid",
-        around: ONE_VERTEX,
         geometry: r#"{"type":"Solid","lod":"1","boundaries":[[[[0]],[]],[[]]],"semantics":{"surfaces":[{"type":"a"}],"values":_}}"#,
         rows: r#"
         no shell | ^[] | 26 semantics count
@@ -125,31 +118,26 @@ const TABLES: [Table; 14] = [
     },
     Table {
         name: "values of solids",
-        around: ONE_VERTEX,
         geometry: r#"{"type":"MultiSolid","lod":"1","boundaries":[[[[[0]],[]]],[[[]],[]]],"semantics":{"surfaces":[{"type":"a"}],"values":_}}"#,
         rows: OF_TWO_SOLIDS,
     },
     Table {
         name: "lengths of the values of solids",
-        around: ONE_VERTEX,
         geometry: r#"{"type":"MultiSolid","lod":"1","boundaries":[[[[[0]],[]]],[[[]],[]]],"semantics":{"surfaces":[{"type":"a"}],"values":_}}"#,
         rows: LENGTHS_OF_TWO_SOLIDS,
     },
     Table {
         name: "values of a composite solid",
-        around: ONE_VERTEX,
         geometry: r#"{"type":"CompositeSolid","lod":"1","boundaries":[[[[[0]],[]]],[[[]],[]]],"semantics":{"surfaces":[{"type":"a"}],"values":_}}"#,
         rows: OF_TWO_SOLIDS,
     },
     Table {
         name: "lengths of the values of a composite solid",
-        around: ONE_VERTEX,
         geometry: r#"{"type":"CompositeSolid","lod":"1","boundaries":[[[[[0]],[]]],[[[]],[]]],"semantics":{"surfaces":[{"type":"a"}],"values":_}}"#,
         rows: LENGTHS_OF_TWO_SOLIDS,
     },
     Table {
         name: "values beside boundaries that are no array",
-        around: ONE_VERTEX,
         geometry: r#"{"type":"MultiSurface","lod":"1","semantics":{"surfaces":[{"type":"a"}],_}"#,
         rows: r#"
         any count | "values":[0,0]},"boundaries":^0 | 12 wrong kind
@@ -160,13 +148,11 @@ const TABLES: [Table; 14] = [
     },
     Table {
         name: "values beside no boundaries",
-        around: ONE_VERTEX,
         geometry: r#"^{"type":"MultiSurface","lod":"1","semantics":{"surfaces":[],"values":_}}"#,
         rows: "none at all|[0,9]|10 member missing",
     },
     Table {
         name: "values beside parts that are no arrays",
-        around: ONE_VERTEX,
         geometry: r#"{"type":"Solid","lod":"1","semantics":{"surfaces":[{"type":"a"}],_}"#,
         rows: r#"
         a number beside a shell | "values":[[0,0]]},"boundaries":[^0] | 12 wrong kind
@@ -180,6 +166,6 @@ const TABLES: [Table; 14] = [
 
 #[test]
 fn semantic_values(rt: HostRuntime) -> Result<(), Fail> {
-    all_meet(&rt, rt.alloc(), TABLES.as_slice())?;
+    all_meet(&rt, rt.alloc(), ONE_VERTEX, &BESIDE_ONE_VERTEX)?;
     Ok(())
 }

@@ -1,5 +1,5 @@
 //! Whole numbers. A row expects the finding of a line that is one value.
-use super::{line_of, shown, tokens_of};
+use super::{is_text, line_of, shown, tokens_of};
 use cj_geometry::rule::check_whole;
 use cj_spans::{Doc, Finding, Least};
 use std::alloc::{AllocError, Global};
@@ -34,7 +34,7 @@ const VALUES: &str = r#"
 fn meets(rt: &impl Abort, alloc: Global, row: &str) -> Result<(), AllocError> {
     let (line, want) = line_of(rt, alloc, "_", row)?;
     let found = shown(alloc, finding_of(rt, alloc, line.as_bytes()))?;
-    assert_eq!(rt; found.as_str(), want.as_str(), "{row}");
+    is_text(rt, &found, &want, "whole numbers", row);
     Ok(())
 }
 
