@@ -37,7 +37,10 @@ const LONG_LINE: [Step; 15] = [
 /// Gives the line that is too long, and takes these steps after it. Returns what is written.
 fn behind_long_line(rt: &impl Abort, alloc: Global, more: &[Step]) -> Result<Vec<u8>, Fail> {
     let mut steps = Vec::new(alloc);
-    for step in LONG_LINE.iter().chain(more) {
+    for step in &LONG_LINE {
+        steps.push(*step)?;
+    }
+    for step in more {
         steps.push(*step)?;
     }
     written_within(rt, alloc, 64, &steps)

@@ -188,7 +188,8 @@ fn a_write_fault_after_reports(rt: HostRuntime) -> Result<(), Fail> {
 
 // ---- the first line
 
-/// A text with an invalid first line, in parts, the line limit, and the byte and the reason of the end.
+/// A text with an invalid first line, in parts, the line limit, and the byte and the reason of the
+/// end.
 #[derive(Clone, Copy)]
 struct First<'a> {
     text: &'a [&'a [u8]],
