@@ -5,19 +5,19 @@
 //! removes elements must store the peak first, as `clear` does. A push need not.
 //!
 //! The limit is checked before memory is requested. So the result is `Full` exactly if the list is
-//! full, even if memory would be refused. A refused growth must leave the list, its peak and its
+//! full, even if memory would be refused. A failed growth must leave the list, its peak and its
 //! memory as they were. So memory is requested first, and the step after it cannot fail.
 //!
-//! The result of a request goes through `Refusals::note`, which counts refusals. Contracts see this
-//! count (`refused`). They also see whether memory is reserved for the limit (`reserved`), so that
-//! a caller knows that a call succeeds. Each call must keep that memory. `Vec` may take more memory
-//! than the limit needs: the bound is about lengths alone.
+//! The result of a request goes through `Refusals::note`, which counts failed growths. Contracts
+//! see this count (`failed_growths`). They also see whether memory is reserved for the limit
+//! (`reserved`), so that a caller knows that a call succeeds. Each call must keep that memory.
+//! `Vec` may take more memory than the limit needs: the bound is about lengths alone.
 //!
 //! `reserve_all` makes one request for exactly the missing memory, as a plain reserve may take
 //! twice as much. After it no call requests memory, so the reserved forms return no error.
 ghost use Rattle.std.specs.Prelude.{◌≡◌, ◌+◌, ◌<◌, ◌≤◌, ◌↔◌, ◌++◌, ◌∷◌, [], length, IsTrue, IsOk, OnOk, OnErr, IsErrOf};
 ghost use Rattle.std.specs.Prelude.{slice_set};
-ghost use Rattle.cj_budget.specs.Bounded.{IsNew, IsWithin, IsRefused, Becomes, Adds, Reserves};
+ghost use Rattle.cj_budget.specs.Bounded.{IsNew, IsWithin, FailsToGrow, Becomes, Adds, Reserves};
 
 use crate::growth::{NoMemory, Refusals};
 use std::alloc::Global;
@@ -45,7 +45,7 @@ pub enum ExtendFault {
 }
 
 /// A list that never has more elements than its limit. It remembers its peak, the greatest number
-/// of elements so far. It counts its growths that were refused.
+/// of elements so far. It counts its growths that failed.
 #[derive(Drop)]
 pub struct Bounded<T: Copy> {
     items: Vec<T>,
@@ -54,7 +54,7 @@ pub struct Bounded<T: Copy> {
     /// this and the length, since elements are only added in between. So a push does not store the
     /// peak.
     earlier: usize,
-    refusals: Refusals,
+    failed_growths: Refusals,
 }
 
 impl<T: Copy> Model for Bounded<T> {
@@ -70,7 +70,7 @@ impl<T: Copy> Model for Bounded<T> {
       limit = b.limit;
       peak = max b.earlier (vec_len b.items);
       reserved = nat_le b.limit (vec_capacity b.items);
-      refused = b.refusals;
+      failed_growths = b.failed_growths;
     } };
 
     ghost invariant = { λ b. (vec_len b.items ≤ b.limit) × (b.earlier ≤ b.limit) };
@@ -85,7 +85,7 @@ impl<T: Copy> Bounded<T> {
             items: Vec::new(alloc),
             limit,
             earlier: 0,
-            refusals: Refusals::none(),
+            failed_growths: Refusals::none(),
         }
     }
 
@@ -112,15 +112,15 @@ impl<T: Copy> Bounded<T> {
     ///
     /// # Errors
     ///
-    /// `NoMemory` if the allocation failed. The refusal is counted, and nothing else changes.
+    /// `NoMemory` if the allocation failed. The failed growth is counted, and nothing else changes.
     #[inline(always)]
     pub fn put(&mut self, x: T) -> Result<(), NoMemory>
         requires { length self.old.elements < self.old.limit }
         ensures ok { OnOk result (Becomes self.old (self.old.elements ++ x ∷ []) self.new) }
-        ensures err { OnErr result (IsRefused self.old self.new) }
+        ensures err { OnErr result (FailsToGrow self.old self.new) }
         ensures room { IsTrue self.old.reserved → IsOk result }
     {
-        self.refusals.note(self.items.try_reserve(1))?;
+        self.failed_growths.note(self.items.try_reserve(1))?;
         let _ = self.items.push(x);
         Ok(())
     }
@@ -135,7 +135,7 @@ impl<T: Copy> Bounded<T> {
         ensures ok { OnOk result (Becomes self.old (self.old.elements ++ xs.now) self.new) }
         ensures full { IsErrOf result ExtendFault.Full ↔ (self.old.limit < length self.old.elements + length xs.now) }
         ensures kept { IsErrOf result ExtendFault.Full → self.new ≡ self.old }
-        ensures memory { IsErrOf result ExtendFault.Memory → IsRefused self.old self.new }
+        ensures memory { IsErrOf result ExtendFault.Memory → FailsToGrow self.old self.new }
         ensures nothing { length xs.now ≡ 0 → IsOk result }
         ensures room { IsTrue self.old.reserved
             → length self.old.elements + length xs.now ≤ self.old.limit → IsOk result }
@@ -143,7 +143,7 @@ impl<T: Copy> Bounded<T> {
         if self.limit - self.items.len() < xs.len() {
             return Err(ExtendFault::Full);
         }
-        match self.refusals.note(self.items.try_reserve(xs.len())) {
+        match self.failed_growths.note(self.items.try_reserve(xs.len())) {
             Ok(()) => {
                 let _ = self.items.extend_from_slice(xs);
                 Ok(())
@@ -157,12 +157,13 @@ impl<T: Copy> Bounded<T> {
     ///
     /// # Errors
     ///
-    /// `NoMemory` if the allocation failed. The refusal is counted, and nothing else changes.
+    /// `NoMemory` if the allocation failed. The failed growth is counted, and nothing else changes.
     pub fn reserve_all(&mut self) -> Result<(), NoMemory>
         ensures { Reserves self.old result self.new }
     {
         let missing = self.limit - self.items.len();
-        self.refusals.note(self.items.try_reserve_exact(missing))
+        self.failed_growths
+            .note(self.items.try_reserve_exact(missing))
     }
 
     /// Returns whether memory is reserved for as many elements as the limit allows.

@@ -1,4 +1,4 @@
-//! A count of refused growths.
+//! A count of failed growths.
 //!
 //! No clause can see a call of the allocator. So each growth passes its result to `note`. Only
 //! `note` raises the count, and a lack of memory is reported only if the count has risen. The count
@@ -14,7 +14,7 @@ use thiserror::Error;
 #[error("out of memory")]
 pub struct NoMemory;
 
-/// How often a growth was refused. The count stops at 2^64 - 1.
+/// How often a growth failed. The count stops at 2^64 - 1.
 #[derive(Drop)]
 pub struct Refusals {
     count: u64,
@@ -29,15 +29,15 @@ impl Model for Refusals {
 }
 
 impl Refusals {
-    /// Returns a count of no refusals.
+    /// Returns a count of no failed growths.
     pub fn none() -> Refusals
         ensures { result ≡ 0 }
     {
         Refusals { count: 0 }
     }
 
-    /// Returns the result of a growth without its error. It raises the count if the growth was
-    /// refused. No other function raises it.
+    /// Returns the result of a growth without its error. It raises the count if the growth
+    /// failed. No other function raises it.
     pub fn note<E: Drop>(&mut self, answer: Result<(), E>) -> Result<(), NoMemory>
         ensures ok { OnOk answer (IsOk result) }
         ensures err { OnErr answer (IsErr result) }

@@ -5,7 +5,7 @@
 //! its greatest length, its peak. A [`Stack`] does the same for the open containers. In the layers
 //! above, only these lists grow with a stream. So the limits bound what they hold.
 //!
-//! Contracts see no call of the allocator. They see how often a growth was refused. Each list
+//! Contracts see no call of the allocator. They see how often a growth failed. Each list
 //! counts that with a [`Refusals`], and reports a lack of memory only if its count has risen.
 //!
 //! Both lists can reserve memory for their limit at once, with `reserve_all`. From then on they

@@ -13,14 +13,14 @@ use std::alloc::Global;
 use std::marker::Model;
 
 /// A stack of numbers that never has more items than its limit. It remembers its peak, the greatest
-/// number of items so far. Its first 64 items need no allocation. It counts its growths that were
-/// refused. Contracts see the top item first.
+/// number of items so far. Its first 64 items need no allocation. It counts its growths that
+/// failed. Contracts see the top item first.
 #[derive(Drop)]
 pub struct Stack {
     items: Items,
     limit: usize,
     peak: usize,
-    refusals: Refusals,
+    failed_growths: Refusals,
 }
 
 impl Model for Stack {
@@ -37,7 +37,7 @@ impl Model for Stack {
       limit = s.limit;
       peak = s.peak;
       reserved = nat_le s.limit s.items.capacity;
-      refused = s.refusals;
+      failed_growths = s.failed_growths;
     } };
 
     ghost invariant = { λ s. (length s.items.items ≤ s.peak) × (s.peak ≤ s.limit) × (64 ≤ s.items.capacity) };
@@ -52,7 +52,7 @@ impl Stack {
             items: Items::new(alloc),
             limit,
             peak: 0,
-            refusals: Refusals::none(),
+            failed_growths: Refusals::none(),
         }
     }
 
@@ -70,7 +70,7 @@ impl Stack {
         if length == self.limit {
             return Err(Refused::Full(item));
         }
-        match self.refusals.note(self.items.push(item)) {
+        match self.failed_growths.note(self.items.push(item)) {
             Ok(()) => {
                 self.peak = self.peak.max(length + 1);
                 Ok(())
@@ -84,13 +84,14 @@ impl Stack {
     ///
     /// # Errors
     ///
-    /// `NoMemory` if the allocation failed. The refusal is counted, and nothing else changes.
+    /// `NoMemory` if the allocation failed. The failed growth is counted, and nothing else changes.
     pub fn reserve_all(&mut self) -> Result<(), NoMemory>
         ensures reserves { Reserves self.old result self.new }
         ensures inline { self.old.limit ≤ 64 → IsOk result }
     {
         let missing = self.limit - self.items.len();
-        self.refusals.note(self.items.try_reserve_exact(missing))
+        self.failed_growths
+            .note(self.items.try_reserve_exact(missing))
     }
 
     /// Returns whether memory is reserved for as many items as the limit allows.

@@ -1,5 +1,5 @@
 //! Rows of limits, lists and stacks: `limits`, `lists` and `stacks`. `growth`: whether growths were
-//! refused.
+//! failed.
 //!
 //! Each comparison has a function of its own, because asserts make the proof of a function slower.
 mod growth;

@@ -41,6 +41,6 @@ pub record KeepsLaw (line : List ℕ) (old_tokens new_tokens : BoundedList Token
   pub stack_room : IsTrue old_stack.reserved → IsTrue new_stack.reserved
   pub stack_within : IsWithin new_stack
 
--- the list was emptied, and a growth of it may have been refused
+-- the list was emptied, and a growth of it may have failed
 abbrev pub IsEmptied : {T : Type 0} → BoundedList T → BoundedList T → Type 0
-IsEmptied old new = Becomes old [] (record new { refused = old.refused })
+IsEmptied old new = Becomes old [] (record new { failed_growths = old.failed_growths })

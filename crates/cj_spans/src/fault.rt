@@ -43,7 +43,7 @@ pub enum LineFault {
 impl From<NoMemory> for ScanFault {
     ghost from_gives = { λ _ fault. fault ≡ Memory };
 
-    fn from(_refusal: NoMemory) -> ScanFault {
+    fn from(_fault: NoMemory) -> ScanFault {
         ScanFault::Memory
     }
 }

@@ -281,8 +281,8 @@ pub fn scan_reserved(
 fn make_room(tokens: &mut Bounded<Token>, stack: &mut Stack) -> Result<(), NoMemory>
     ensures emptied { IsEmptied tokens.old tokens.new × IsEmptied stack.old stack.new }
     ensures ok { OnOk result (IsTrue tokens.new.reserved × IsTrue stack.new.reserved) }
-    ensures cause { OnErr result (HasRisen tokens.old.refused tokens.new.refused
-        ⊎ HasRisen stack.old.refused stack.new.refused) }
+    ensures cause { OnErr result (HasRisen tokens.old.failed_growths tokens.new.failed_growths
+        ⊎ HasRisen stack.old.failed_growths stack.new.failed_growths) }
     ensures granted { IsTrue tokens.old.reserved → IsTrue stack.old.reserved → IsOk result }
 {
     tokens.clear();
@@ -301,7 +301,7 @@ fn make_room(tokens: &mut Bounded<Token>, stack: &mut Stack) -> Result<(), NoMem
 /// The first of these:
 ///
 /// - `Memory` if the memory was refused. The line was not read, both lists are empty, and one of
-///   them has counted a refusal.
+///   them has counted a failed growth.
 /// - `NotUtf8` if the line is not UTF-8, whatever else is wrong with it.
 /// - `TooDeep` if the line opens more containers than the limit allows. The place is the first
 ///   container too many. The bytes after it are not read.
@@ -328,11 +328,12 @@ pub fn scan(line: &[u8], tokens: &mut Bounded<Token>, stack: &mut Stack) -> Resu
 
     // Memory is requested first. If it is refused, both lists are empty, and otherwise both have
     // their memory reserved. It is not refused if it was reserved before. The cause is a list's
-    // growth that was refused.
+    // growth that failed.
     ensures memory { IsTrue tokens.old.reserved → IsTrue stack.old.reserved
         → IsErrOf result ScanFault.Memory → ⊥ }
     ensures cause { IsErrOf result ScanFault.Memory
-        → HasRisen tokens.old.refused tokens.new.refused ⊎ HasRisen stack.old.refused stack.new.refused }
+        → HasRisen tokens.old.failed_growths tokens.new.failed_growths
+        ⊎ HasRisen stack.old.failed_growths stack.new.failed_growths }
     ensures emptied { IsErrOf result ScanFault.Memory
         → (tokens.new.elements ≡ []) × (stack.new.elements ≡ []) }
     ensures reserved { (IsErrOf result ScanFault.Memory → ⊥)

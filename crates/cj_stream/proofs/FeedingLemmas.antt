@@ -8,7 +8,7 @@ use Rattle.cj_stream.specs.declared.ending.LineEnd.{LineEnd}
 use Rattle.cj_stream.specs.declared.ending.LineEnd.TheVariants.{Complete as LineComplete, Refused as LineRefused, WriteFault as LineWriteFault}
 use Rattle.cj_stream.specs.Bound.{contents, IsBelow}
 use Rattle.cj_stream.specs.Ending.{line_end}
-use Rattle.cj_stream.specs.Engine.{EngineState, StandsFor, IsRefusedRoom, given, rules_of, limits_of, lines_of, peaks_of, end_of}
+use Rattle.cj_stream.specs.Engine.{EngineState, StandsFor, EngineFailsToGrow, given, rules_of, limits_of, lines_of, peaks_of, end_of}
 use Rattle.cj_stream.specs.Feeding.{Feeds, IsFinished}
 use Rattle.cj_stream.specs.Item.{Item}
 use Rattle.cj_stream.specs.Lines.{closed, first_content}
@@ -63,7 +63,7 @@ module _ {S : Type 0} (takes leaves : S → Item → S → Type 0) (failures : S
     going = tt;
     told = λ p st going. absurd (not-going old.ended e is going);
     memory = λ p st going. absurd (not-going old.ended e is going);
-    refused = λ going. absurd (not-going old.ended e is going);
+    growth = λ going. absurd (not-going old.ended e is going);
     sink = λ p st going. absurd (not-going old.ended e is going);
   })
     where
@@ -121,19 +121,19 @@ module _ {S : Type 0} (takes leaves : S → Item → S → Type 0) (failures : S
           (scanned-under (limits_of old) (limits_of new) (closed (p ++ bytes)) new.scanning limits (scanned p reads (st.going going).1));
       told = tt;
       memory = λ p st _ none. absurd (fault-not_ok Memory none);
-      refused = λ _ none. absurd (fault-not_ok Memory none);
+      growth = λ _ none. absurd (fault-not_ok Memory none);
       sink = λ p st _.
           let reads = (st.going going).0 in
           rw unended (Delivers-advances takes leaves old.reading new.reading s t p bytes reads (advances p reads));
     }
 
     -- reading stopped within these bytes
-    pub Feeds-stops : (bytes : List ℕ) (e : End) → new.ended ≡ Some e → (e ≡ WriteFault → HasRisen (failures s) (failures t)) → (e ≡ Memory → IsRefusedRoom old new)
+    pub Feeds-stops : (bytes : List ℕ) (e : End) → new.ended ≡ Some e → (e ≡ WriteFault → HasRisen (failures s) (failures t)) → (e ≡ Memory → EngineFailsToGrow old new)
         → ((p : List ℕ) → Reads old.reading p → Stops takes leaves old.reading s p bytes e new.reading t)
         → ((p : List ℕ) → Reads old.reading p → Scanned (limits_of old) (closed p) old.scanning → HoldsFew (limits_of old) (length (first_content (p ++ bytes))) new.scanning)
         → ((p : List ℕ) → Reads old.reading p → Scanned (limits_of old) (closed p) old.scanning → HeldUntil (limits_of old) p bytes (lines_of new) new.scanning)
         → Feeds takes leaves failures old bytes (Err e) new s t
-    Feeds-stops bytes e ended cause room_refused stops held least = record {
+    Feeds-stops bytes e ended cause growth stops held least = record {
       unended = tt;
       ended = ended;
       counts = counts;
@@ -153,7 +153,7 @@ module _ {S : Type 0} (takes leaves : S → Item → S → Type 0) (failures : S
       going = tt;
       told = λ p st _. Tells-stops takes leaves old.reading new.reading s t p bytes e (stops p (st.going going).0);
       memory = λ p st _ none. LacksMemory-stops takes leaves old.reading new.reading s t p bytes e (stops p (st.going going).0) (err-is none);
-      refused = λ _ none. room_refused (err-is none);
+      growth = λ _ none. growth (err-is none);
       sink = λ p st _.
           let reads = (st.going going).0 in
           rw ended (Delivers-stops takes leaves old.reading new.reading s t p bytes e reads (stops p reads));
@@ -234,7 +234,7 @@ module _ {S : Type 0} (takes leaves : S → Item → S → Type 0) (failures : S
         going = on-ok r (λ k p st. let z = k (p ++ take n bytes) (stands p st) in rw (whole p) at z) second.going;
         told = if-err r (λ e k p st _. let z = k (p ++ take n bytes) (stands p st) first.unended in rw (whole p, first.rules) at z) second.told;
         memory = λ p st _ is. absurd (memory is);
-        refused = λ _ is. absurd (memory is);
+        growth = λ _ is. absurd (memory is);
         sink = λ p st _.
             let after = second.sink (p ++ take n bytes) (stands p st) first.unended in
             let before = let k = first.sink p st going in rw first.unended at k in
@@ -269,6 +269,6 @@ module _ {S : Type 0} (takes leaves : S → Item → S → Type 0) (failures : S
     going = tt;
     told = h.told;
     memory = h.memory;
-    refused = h.refused;
+    growth = h.growth;
     sink = h.sink;
   }

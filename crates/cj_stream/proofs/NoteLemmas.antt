@@ -307,9 +307,9 @@ pub first-silent : (rules : Rules) (n : ℕ) (r : List ℕ) → reported rules r
 first-silent rules n r none good_first = empty-front (reported_first rules n r) _ (sym none ∙ reported-split rules n r good_first)
 
 -- a run that was refused its memory before the first read
-pub Noting-refused : {N : Type 0} (notes : N → Report → N → Type 0) (rules : Rules) (n : N)
+pub Noting-memory : {N : Type 0} (notes : N → Report → N → Type 0) (rules : Rules) (n : N)
     → RunsNoting notes (record { rules = rules; read = []; outcome = record { lines = 0; kept = 0; refused = 0; peaks = record { bytes = 0; tokens = 0; depth = 0 }; ended = Memory } }) n n
-Noting-refused notes rules n = record { reports = Notes-none notes rules [] 0 0 n n refl refl; noted = refl }
+Noting-memory notes rules n = record { reports = Notes-none notes rules [] 0 0 n n refl refl; noted = refl }
 
 -- memory was refused: nothing was noted
 pub noted-none : {N : Type 0} (notes : N → Report → N → Type 0) (rules : Rules) (r : List ℕ) (n m : N) (e : End) → e ≡ Memory → NotesRun notes rules r e n m → m ≡ n

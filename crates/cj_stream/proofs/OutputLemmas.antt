@@ -87,9 +87,9 @@ Runs-told takes leaves run at_end s t account sink = record {
 }
 
 -- where memory was refused before any line was dealt with, the sink is as it was
-pub refused-sink : {S : Type 0} (takes leaves : S → Item → S → Type 0) (rules : Rules) (q : List ℕ) (n : ℕ) (s t : S) (e : End) → e ≡ Memory → n ≡ 0
+pub memory-sink : {S : Type 0} (takes leaves : S → Item → S → Type 0) (rules : Rules) (q : List ℕ) (n : ℕ) (s t : S) (e : End) → e ≡ Memory → n ≡ 0
     → Delivers takes leaves rules q 0 n s t (Some e) → t ≡ s
-refused-sink takes leaves rules q n s t e is none h = go (rw (is, none) at h)
+memory-sink takes leaves rules q n s t e is none h = go (rw (is, none) at h)
   where
     go : Delivers takes leaves rules q 0 0 s t (Some Memory) → t ≡ s
     go h = let took = rw (sym h.kept) at h.took in h.fault ∙ took
@@ -165,5 +165,5 @@ module _ {S : Type 0} (contents : S → Option (List ℕ)) where
         }
     WritesLines-told Memory none d =
         let nothing : n ≡ 0 = none refl in
-        let same : t ≡ s = refused-sink writes writes_part rules r n s t Memory refl nothing d in
+        let same : t ≡ s = memory-sink writes writes_part rules r n s t Memory refl nothing d in
         (nothing, rw same (none-kept (contents s)))

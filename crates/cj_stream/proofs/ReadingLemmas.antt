@@ -253,16 +253,16 @@ module _ (f g : Reading) (p part : List ℕ) (h : Reads f p) (s : Stores f part 
       header_within (inl z) = ((first-fits z).first z).0.within
       header_within (inr z) = rw (same-header_later z) h.header_within
 
--- ---- the same but for the room for later lines and its refusals
+-- ---- the same but for the room for later lines and its failed growths
 
 pub left-same : (f g : Reading) → g ≡ f → IsLeft f g
 left-same f g e = rw e (record { kept = λ x. x; same = refl })
 
--- what is dealt with after more room was made, and none refused
-pub passed-left : (put refused : Bool) (f g h : Reading) → IsLeft f g → g.line.refused ≡ f.line.refused → Passes put refused g h → Passes put refused f h
+-- what is dealt with after more room was made, and no growth failed
+pub passed-left : (put refused : Bool) (f g h : Reading) → IsLeft f g → g.line.failed_growths ≡ f.line.failed_growths → Passes put refused g h → Passes put refused f h
 passed-left put refused f g h left none x = go (rw left.same at x)
   where
-    go : Passes put refused (widened f g.line.reserved g.line.refused) h → Passes put refused f h
+    go : Passes put refused (widened f g.line.reserved g.line.failed_growths) h → Passes put refused f h
     go x = record {
       rules = x.rules;
       lines = x.lines;
@@ -275,13 +275,13 @@ passed-left put refused f g h left none x = go (rw left.same at x)
         limit = x.line.limit;
         peak = x.line.peak;
         room = λ r. x.line.room (left.kept r);
-        refused = x.line.refused ∙ none;
+        failed_growths = x.line.failed_growths ∙ none;
         within = x.line.within;
       };
     }
 
 pub left-then : (f g h : Reading) → IsLeft f g → IsLeft g h → IsLeft f h
-left-then f g h a b = record { kept = λ r. b.kept (a.kept r); same = b.same ∙ ap (λ x. widened x h.line.reserved h.line.refused) a.same }
+left-then f g h a b = record { kept = λ r. b.kept (a.kept r); same = b.same ∙ ap (λ x. widened x h.line.reserved h.line.failed_growths) a.same }
 
 pub Reads-left : (f g : Reading) (p : List ℕ) → IsLeft f g → Reads f p → Reads g p
 Reads-left f g p left h = rw left.same (record {

@@ -22,7 +22,7 @@ use Rattle.cj_stream.proofs.IsLinesLemmas.{lines-whole}
 use Rattle.cj_stream.proofs.GoodLemmas.{good-refused}
 use Rattle.cj_stream.proofs.LeastLemmas.{held-scanned, least-read}
 use Rattle.cj_stream.proofs.OutputLemmas.{Runs-told}
-pub use Rattle.cj_stream.proofs.OutputLemmas.{refused-sink}
+pub use Rattle.cj_stream.proofs.OutputLemmas.{memory-sink}
 use Rattle.cj_stream.proofs.Apart.{none-some}
 
 pub Consumes-then : (a b c : Option (List ℕ)) (x y : List ℕ) → Consumes a b x → Consumes b c y → Consumes a c (x ++ y)
@@ -131,9 +131,9 @@ pub Consumes-none : (a : Option (List ℕ)) → Consumes a a []
 Consumes-none None = tt
 Consumes-none (Some a) = refl
 
-pub Runs-refused : {S : Type 0} (takes leaves : S → Item → S → Type 0) (rules : Rules) (at_end : Type 0) (s : S)
+pub Runs-memory : {S : Type 0} (takes leaves : S → Item → S → Type 0) (rules : Rules) (at_end : Type 0) (s : S)
     → Runs takes leaves (record { rules = rules; read = []; outcome = record { lines = 0; kept = 0; refused = 0; peaks = record { bytes = 0; tokens = 0; depth = 0 }; ended = Memory } }) at_end s s
-Runs-refused takes leaves rules at_end s = record {
+Runs-memory takes leaves rules at_end s = record {
   account = record {
     bounded = record { bytes = omega arith; tokens = omega arith; depth = omega arith };
     exact = λ e. cc;
@@ -196,8 +196,8 @@ least-going e r reads scanned =
     rw (append-nil r) at k
 
 -- memory was refused before the first read
-pub Stops-refused : (rules : Rules) → StopsInTime (record { rules = rules; read = []; outcome = record { lines = 0; kept = 0; refused = 0; peaks = record { bytes = 0; tokens = 0; depth = 0 }; ended = Memory } })
-Stops-refused rules = record {
+pub Stops-memory : (rules : Rules) → StopsInTime (record { rules = rules; read = []; outcome = record { lines = 0; kept = 0; refused = 0; peaks = record { bytes = 0; tokens = 0; depth = 0 }; ended = Memory } })
+Stops-memory rules = record {
   front = [];
   last = [];
   cut = refl;
@@ -260,12 +260,12 @@ enough-reads (Some a) (Some b) reads r e c w = λ few is. absurd (omega (arith, 
 pub memory-no_fault : Memory ≡ WriteFault → ⊥
 memory-no_fault h = cc
 
-pub unread-refused : (reads : ℕ) (e : End) → e ≡ Memory → IsReadWithin reads [] e
-unread-refused reads e is = rw is (record { giving = 0; gave = omega arith; least = omega arith; most = omega arith })
+pub unread-memory : (reads : ℕ) (e : End) → e ≡ Memory → IsReadWithin reads [] e
+unread-memory reads e is = rw is (record { giving = 0; gave = omega arith; least = omega arith; most = omega arith })
 
-pub enough-refused : (a : Option (List ℕ)) (reads : ℕ) (e : End) → e ≡ Memory → IfSome a (λ bytes. length bytes < reads → e ≢ ReadLimit)
-enough-refused None reads e is = tt
-enough-refused (Some a) reads e is = λ few limit. absurd (apart (sym is ∙ limit))
+pub enough-memory : (a : Option (List ℕ)) (reads : ℕ) (e : End) → e ≡ Memory → IfSome a (λ bytes. length bytes < reads → e ≢ ReadLimit)
+enough-memory None reads e is = tt
+enough-memory (Some a) reads e is = λ few limit. absurd (apart (sym is ∙ limit))
   where
     apart : Memory ≡ ReadLimit → ⊥
     apart h = cc

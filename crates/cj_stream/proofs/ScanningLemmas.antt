@@ -56,7 +56,7 @@ rises-forgets f g k = record {
   opened = omega (arith, k.opened.peak);
 }
 
--- ---- lists of which nothing has changed but the room for later lines and its refusals
+-- ---- lists of which nothing has changed but the room for later lines and its failed growths
 
 pub still-same : (f g : Scanning) → g ≡ f → IsStill f g
 still-same f g e = rw e (record { kept = λ r. r; count = refl; same = refl })
@@ -82,10 +82,10 @@ rises-still f g still = rw still.same (record { header = omega arith; line = ome
 pub few-still : (limits : LimitPair) (h : ℕ) (f g : Scanning) → IsStill f g → HoldsFew limits h f → HoldsFew limits h g
 few-still limits h f g still few = rw still.same few
 
-pub forgets-still : (f g h : Scanning) → IsStill f g → g.line.refused ≡ f.line.refused → Forgets g h → Forgets f h
+pub forgets-still : (f g h : Scanning) → IsStill f g → g.line.failed_growths ≡ f.line.failed_growths → Forgets g h → Forgets f h
 forgets-still f g h still none k = go (rw still.same at k)
   where
-    go : Forgets (record f { line = record f.line { elements = g.line.elements; reserved = g.line.reserved; refused = g.line.refused } }) h → Forgets f h
+    go : Forgets (record f { line = record f.line { elements = g.line.elements; reserved = g.line.reserved; failed_growths = g.line.failed_growths } }) h → Forgets f h
     go k = record {
       header = k.header;
       line = record {
@@ -93,7 +93,7 @@ forgets-still f g h still none k = go (rw still.same at k)
         limit = k.line.limit;
         peak = k.line.peak;
         room = λ r. k.line.room (still.kept r);
-        refused = k.line.refused ∙ none;
+        failed_growths = k.line.failed_growths ∙ none;
         within = k.line.within;
       };
       opened = k.opened;
@@ -103,7 +103,7 @@ pub still-then : (f g h : Scanning) → IsStill f g → IsStill g h → IsStill 
 still-then f g h a b = record {
   kept = λ r. b.kept (a.kept r);
   count = b.count ∙ a.count;
-  same = b.same ∙ ap (λ (x : Scanning). record x { line = record x.line { elements = h.line.elements; reserved = h.line.reserved; refused = h.line.refused } }) a.same;
+  same = b.same ∙ ap (λ (x : Scanning). record x { line = record x.line { elements = h.line.elements; reserved = h.line.reserved; failed_growths = h.line.failed_growths } }) a.same;
 }
 
 -- tokens that are the same but for their marks are as many

@@ -5,7 +5,7 @@ use Rattle.cj_stream.specs.declared.ending.End.{End}
 use Rattle.cj_stream.specs.declared.ending.End.TheVariants.{WriteFault, Memory}
 use Rattle.cj_stream.specs.Ending.{IsFirstEnd, IsLaterEnd}
 use Rattle.cj_stream.specs.Reading.{Reading, IsSound, Stays}
-use Rattle.cj_stream.specs.Scanning.{Scanning, HasRoom, IsReady, RefusesRoom, Rises}
+use Rattle.cj_stream.specs.Scanning.{Scanning, HasRoom, IsReady, ListsFailToGrow, Rises}
 use Rattle.cj_stream.specs.Sink.{HasRisen}
 
 -- what is held of bytes, and of trees
@@ -19,7 +19,7 @@ pub record IsFramed (f : FramerState) : Type 0 where
   pub room : HasRoom f.reading.rules.limits f.scanning
 
 -- whatever came of a call: the rules stay, no peak falls, and no list is above its limit. A write fault has its cause
--- in the sink, and want of memory in a growth that was refused; and it comes before the header is dealt with, or not at
+-- in the sink, and want of memory in a growth that failed; and it comes before the header is dealt with, or not at
 -- all
 pub record Carries {S T : Type 0} (failures : S → ℕ) (f g : FramerState) (answer : Result T End) (s t : S) :
     Type 0 where
@@ -29,5 +29,5 @@ pub record Carries {S T : Type 0} (failures : S → ℕ) (f g : FramerState) (an
   pub counts : failures s ≤ failures t
   pub cause : IsErrOf answer WriteFault → HasRisen (failures s) (failures t)
   pub first : IfErr answer IsFirstEnd
-  pub memory : IsErrOf answer Memory → RefusesRoom f.reading f.scanning g.reading g.scanning
+  pub memory : IsErrOf answer Memory → ListsFailToGrow f.reading f.scanning g.reading g.scanning
   pub late : 0 < f.reading.lines → IsReady g.reading g.scanning × IfErr answer IsLaterEnd

@@ -11,7 +11,7 @@ use Rattle.cj_stream.specs.Verdict.{Rules, refusal_in, judged, verdict, item_aft
 use Rattle.cj_stream.specs.Verdict.{features_first, reported_first}
 use Rattle.cj_stream.specs.Bound.{IsBounded, IsBelow, of_first, tree_size}
 use Rattle.cj_stream.specs.Reading.{Reading, Reads, stored}
-use Rattle.cj_stream.specs.Scanning.{Scanning, Scanned, RefusesRoom}
+use Rattle.cj_stream.specs.Scanning.{Scanning, Scanned, ListsFailToGrow}
 use Rattle.cj_stream.specs.Sink.{Took}
 
 -- what a contract sees of an engine: the bytes and the tokens that it holds of a stream, the bytes it has taken, and
@@ -67,9 +67,9 @@ pub record StandsFor (e : EngineState) (p : List ℕ) : Type 0 where
   pub counts : Counts (rules_of e) p (lines_of e) e.reading.kept (refused_of e)
   pub going : e.ended ≡ None → Reads e.reading p × Scanned (limits_of e) (closed p) e.scanning × (e.taken ≡ length p)
 
--- room for later lines was refused: the count of that has risen, of one of their two lists
-abbrev pub IsRefusedRoom : EngineState → EngineState → Type 0
-IsRefusedRoom old new = RefusesRoom old.reading old.scanning new.reading new.scanning
+-- a growth for later lines failed: the count of that has risen, of one of their two lists
+abbrev pub EngineFailsToGrow : EngineState → EngineState → Type 0
+EngineFailsToGrow old new = ListsFailToGrow old.reading old.scanning new.reading new.scanning
 
 -- it has been given nothing
 abbrev pub IsFresh : EngineState → Type 0

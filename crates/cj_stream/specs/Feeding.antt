@@ -3,7 +3,7 @@ use Rattle.std.specs.Prelude.{◌≡◌, ◌≢◌, ℕ, ◌≤◌, List, ◌++�
 use Rattle.cj_stream.specs.declared.ending.End.{End}
 use Rattle.cj_stream.specs.declared.ending.End.TheVariants.{Complete, WriteFault, Memory}
 use Rattle.cj_stream.specs.Bound.{IsBelow, IsExact, exact_peaks, first_lines}
-use Rattle.cj_stream.specs.Engine.{EngineState, StandsFor, IsRefusedRoom, given, rules_of, limits_of, lines_of}
+use Rattle.cj_stream.specs.Engine.{EngineState, StandsFor, EngineFailsToGrow, given, rules_of, limits_of, lines_of}
 use Rattle.cj_stream.specs.Engine.{peaks_of, Delivers, Going, Tells, Concludes}
 use Rattle.cj_stream.specs.Item.{Item}
 use Rattle.cj_stream.specs.Reading.{LacksMemory}
@@ -12,7 +12,7 @@ use Rattle.cj_stream.specs.Sink.{HasRisen}
 -- These bytes were given, and this was answered. An error is the end of the stream, and a write fault has its cause in
 -- the sink. What it stands for and may hold goes on, no line is taken back, and no less was held at most than the lines
 -- that were dealt with need. The answer tells of all bytes so far: that nothing was refused that could be judged, or
--- what was, or where memory lacks, because of a growth that was refused, and what the sink has taken by that.
+-- what was, or where memory lacks, because of a growth that failed, and what the sink has taken by that.
 pub record Feeds {S : Type 0} (takes leaves : S → Item → S → Type 0) (failures : S → ℕ) (old : EngineState)
     (bytes : List ℕ) (answer : Result (Unit {0}) End) (new : EngineState) (s t : S) : Type 0 where
   pub unended : OnOk answer (new.ended ≡ None)
@@ -30,7 +30,7 @@ pub record Feeds {S : Type 0} (takes leaves : S → Item → S → Type 0) (fail
       → Tells (rules_of old) (p ++ bytes) (lines_of new) e)
   pub memory : (p : List ℕ) → StandsFor old p → old.ended ≡ None → IsErrOf answer Memory
       → LacksMemory (rules_of old) (p ++ bytes) (lines_of new) × (t ≡ s)
-  pub refused : old.ended ≡ None → IsErrOf answer Memory → IsRefusedRoom old new
+  pub growth : old.ended ≡ None → IsErrOf answer Memory → EngineFailsToGrow old new
   pub sink : (p : List ℕ) → StandsFor old p → old.ended ≡ None
       → Delivers takes leaves (rules_of old) (p ++ bytes) (lines_of old) (lines_of new) s t new.ended
 

@@ -16,7 +16,7 @@ state_of (Lines l) = l
 
 -- a list that there is not
 abbrev no_list : {T : Type 0} → BoundedList T
-no_list = record { elements = []; limit = 0; peak = 0; reserved = false; refused = 0 }
+no_list = record { elements = []; limit = 0; peak = 0; reserved = false; failed_growths = 0 }
 
 -- what is seen of an engine: the state that it holds, but for the bytes that it has taken and its end, which are its
 -- own. While one state becomes the other it holds none, which nobody sees

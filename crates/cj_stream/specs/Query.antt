@@ -24,9 +24,9 @@ criteria q = record {
   box = option_map box_of q.bounds;
 }
 
--- how often a growth of a query was refused
-abbrev pub query_refusals : Query → ℕ
-query_refusals q = q.refusals
+-- how often a growth of a query failed
+abbrev pub failed_growths_of : Query → ℕ
+failed_growths_of q = q.failed_growths
 
 -- what lines are judged by under limits, for a query, and by what is told beside these
 abbrev pub rules_for : LimitPair → Query → OptionSet → Rules

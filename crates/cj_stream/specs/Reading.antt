@@ -132,14 +132,14 @@ pub record Passes (put refuses : Bool) (old new : Reading) : Type 0 where
   pub header : new.header ≡ old.header
   pub line : Becomes old.line [] new.line
 
--- the same, with more room for later lines, or not, and this count of refusals of it
+-- the same, with more room for later lines, or not, and this count of failed growths
 abbrev pub widened : Reading → Bool → ℕ → Reading
-widened f room refused = record f { line = record f.line { reserved = room; refused = refused } }
+widened f room failed = record f { line = record f.line { reserved = room; failed_growths = failed } }
 
--- nothing has changed but that there may be more room for later lines, or that it was refused
+-- nothing has changed but that there may be more room for later lines, or that a growth of it failed
 pub record IsLeft (f g : Reading) : Type 0 where
   pub kept : IsTrue f.line.reserved → IsTrue g.line.reserved
-  pub same : g ≡ widened f g.line.reserved g.line.refused
+  pub same : g ≡ widened f g.line.reserved g.line.failed_growths
 
 -- a line was refused: where reading goes on after it, it is dealt with, and else it is the end
 abbrev pub Refuses : Bool → ℕ → Reason → Reading → Result (Unit {0}) End → Reading → Type 0

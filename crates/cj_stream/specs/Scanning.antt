@@ -126,18 +126,19 @@ pub record IsOpen (before : ℕ) (s : Scanning) : Type 0 where
   pub opened : IsTrue s.opened.reserved
 
 -- nothing has changed but that the tokens of a later line may have marks, and that there may be more room for such
--- lines, or that it was refused
+-- lines, or that a growth of it failed
 pub record IsStill (old new : Scanning) : Type 0 where
   pub kept : IsTrue old.line.reserved → IsTrue new.line.reserved
   pub count : length new.line.elements ≡ length old.line.elements
   pub same : new ≡ record old {
     line = record old.line
-        { elements = new.line.elements; reserved = new.line.reserved; refused = new.line.refused };
+        { elements = new.line.elements; reserved = new.line.reserved; failed_growths = new.line.failed_growths };
   }
 
--- room for later lines was refused: the count of that has risen, of their bytes or of their tokens
-abbrev pub RefusesRoom : Reading → Scanning → Reading → Scanning → Type 0
-RefusesRoom f s g t = HasRisen f.line.refused g.line.refused ⊎ HasRisen s.line.refused t.line.refused
+-- a growth for later lines failed: the count of that has risen, of their bytes or of their tokens
+abbrev pub ListsFailToGrow : Reading → Scanning → Reading → Scanning → Type 0
+ListsFailToGrow f s g t =
+    HasRisen f.line.failed_growths g.line.failed_growths ⊎ HasRisen s.line.failed_growths t.line.failed_growths
 
 -- the lists of a line that was dealt with are emptied
 pub record Forgets (old new : Scanning) : Type 0 where

@@ -20,8 +20,8 @@
 //! first line has functions of its own (`take_front`, `finish_first`). So those for later lines
 //! (`take_piece`, `finish`) call nothing that may allocate.
 //!
-//! If `make_room` fails, or the sink fails after it, only this memory and the count of refused
-//! growths change (`IsLeft`, `IsStill`). Each list counts the growths that were refused. An end
+//! If `make_room` fails, or the sink fails after it, only this memory and the count of failed
+//! growths change (`IsLeft`, `IsStill`). Each list counts the growths that failed. An end
 //! reports a lack of memory only if such a count has risen.
 ghost use Rattle.std.specs.Prelude.{◌≡◌, ◌+◌, ◌^◌, ◌<◌, ◌≤◌, ℕ, List, [], ◌∷◌, ◌++◌, ◌⊎◌, true, false, length, take};
 ghost use Rattle.std.specs.Prelude.{if◌then◌else◌, OnOk, OnErr, IfOk, IfErr, IsErrOf, IsTrue, Some};
@@ -38,7 +38,7 @@ ghost use Rattle.cj_stream.specs.Query.{rules_for};
 ghost use Rattle.cj_stream.specs.Reading.{begun_of, begun_verdict, told_verdict, next_item, is_lenient, IsLeft, Stores};
 ghost use Rattle.cj_stream.specs.Reading.{Unstored, Passes, Deals, Settles, Reads, Advances, Stops, Stays, Finishes};
 ghost use Rattle.cj_stream.specs.Reporting.{Notes};
-ghost use Rattle.cj_stream.specs.Scanning.{Scanning, IsReady, IsStill, RefusesRoom, Scanned, ScansNext, HoldsFew};
+ghost use Rattle.cj_stream.specs.Scanning.{Scanning, IsReady, IsStill, ListsFailToGrow, Scanned, ScansNext, HoldsFew};
 ghost use Rattle.cj_stream.specs.Scanning.{HoldsFewNext, HeldUntil, JudgesLine, Forgets};
 ghost use Rattle.cj_stream.specs.Sink.{HasRisen, Took};
 ghost use Rattle.cj_stream.specs.Verdict.{Valid, report_of};
@@ -200,12 +200,12 @@ impl<'q> Framer<'q> {
         }
     }
 
-    /// Reserves memory for a later line. A refusal is counted, and changes nothing else.
+    /// Reserves memory for a later line. A failed growth is counted, and changes nothing else.
     fn make_room(&mut self) -> Result<(), NoMemory>
         ensures ok { OnOk result (IsTrue self.new.reading.line.reserved × IsTrue self.new.scanning.line.reserved) }
-        ensures counts { OnOk result ((self.new.reading.line.refused ≡ self.old.reading.line.refused)
-            × (self.new.scanning.line.refused ≡ self.old.scanning.line.refused)) }
-        ensures cause { OnErr result (RefusesRoom self.old.reading self.old.scanning
+        ensures counts { OnOk result ((self.new.reading.line.failed_growths ≡ self.old.reading.line.failed_growths)
+            × (self.new.scanning.line.failed_growths ≡ self.old.scanning.line.failed_growths)) }
+        ensures cause { OnErr result (ListsFailToGrow self.old.reading self.old.scanning
             self.new.reading self.new.scanning) }
         ensures left { IsLeft self.old.reading self.new.reading }
         ensures still { IsStill self.old.scanning self.new.scanning }
@@ -320,7 +320,7 @@ impl<'q> Framer<'q> {
         ensures framed { IsFramed self.new }
         ensures ready { OnOk result (IsTrue lf → IsReady self.new.reading self.new.scanning) }
         ensures end { IfErr result IsFirstEnd }
-        ensures memory { IsErrOf result End.Memory → RefusesRoom self.old.reading self.old.scanning
+        ensures memory { IsErrOf result End.Memory → ListsFailToGrow self.old.reading self.old.scanning
             self.new.reading self.new.scanning }
     {
         let parts = match self.desk.check_first(self.store.header.as_slice()) {
@@ -352,7 +352,7 @@ impl<'q> Framer<'q> {
             self.old.reading sink.old result self.new.reading sink.new }
         ensures forgets { OnOk result (Forgets self.old.scanning self.new.scanning) }
         ensures still { OnErr result (IsStill self.old.scanning self.new.scanning) }
-        ensures unrefused { self.new.scanning.line.refused ≡ self.old.scanning.line.refused }
+        ensures failed_growths { self.new.scanning.line.failed_growths ≡ self.old.scanning.line.failed_growths }
         ensures framed { IsFramed self.new }
         ensures ready { IsReady self.new.reading self.new.scanning }
         ensures end { IfErr result IsLaterEnd }
@@ -742,7 +742,7 @@ impl<'q> Framer<'q> {
 }
 
 /// Reserves memory for the first line, and for as many open containers as the depth limit allows. A
-/// refusal is counted.
+/// failed growth is counted.
 fn reserve_first(store: &mut Store, desk: &mut Desk) -> Result<(), NoMemory>
     ensures bytes { OnOk result (store.new
         ≡ record store.old { header = record store.old.header { reserved = true } }) }
@@ -750,9 +750,9 @@ fn reserve_first(store: &mut Store, desk: &mut Desk) -> Result<(), NoMemory>
       header_tokens = record desk.old.header_tokens { reserved = true };
       opened = record desk.old.opened { reserved = true };
     }) }
-    ensures cause { OnErr result (HasRisen store.old.header.refused store.new.header.refused
-        ⊎ HasRisen desk.old.header_tokens.refused desk.new.header_tokens.refused
-        ⊎ HasRisen desk.old.opened.refused desk.new.opened.refused) }
+    ensures cause { OnErr result (HasRisen store.old.header.failed_growths store.new.header.failed_growths
+        ⊎ HasRisen desk.old.header_tokens.failed_growths desk.new.header_tokens.failed_growths
+        ⊎ HasRisen desk.old.opened.failed_growths desk.new.opened.failed_growths) }
     ensures within { OnOk result
         (IsWithin store.new.header × IsWithin desk.new.header_tokens × IsWithin desk.new.opened) }
 {

@@ -8,7 +8,7 @@ ghost use Rattle.cj_stream.specs.Criteria.{has_lod as lod_holds, is_in as in_box
 ghost use Rattle.cj_geometry.specs.ObjectTypes.{row_named};
 ghost use Rattle.cj_stream.specs.Adding.{no_types, with_id, with_lod, with_type, with_box};
 ghost use Rattle.cj_stream.specs.BoxText.{box_text};
-ghost use Rattle.cj_stream.specs.Query.{criteria, query_refusals};
+ghost use Rattle.cj_stream.specs.Query.{criteria, failed_growths_of};
 ghost use Rattle.cj_stream.specs.Sink.{HasRisen, counted};
 ghost use Rattle.cj_stream.specs.declared.query.fault.QueryFault.TheVariants.{Memory, UnknownTypeName};
 
@@ -32,7 +32,7 @@ use texts::add_text;
 const TYPES: usize = 33;
 
 /// Selects features: a feature is selected if it satisfies each part that is set. The query counts
-/// its growths that were refused.
+/// its growths that failed.
 #[derive(Drop)]
 pub struct Query {
     alloc: Global,
@@ -40,7 +40,7 @@ pub struct Query {
     types: Option<[bool; TYPES]>,
     lods: Option<Vec<String>>,
     bounds: Option<Bounds>,
-    refusals: Refusals,
+    failed_growths: Refusals,
 }
 
 impl Query {
@@ -48,7 +48,7 @@ impl Query {
     #[tactic(auto, unfolding(crate::specs::Query::criteria, crate::specs::Criteria::holds))]
     pub fn all(alloc: Global) -> Query
         ensures all { criteria result ≡ everything }
-        ensures unrefused { query_refusals result ≡ 0 }
+        ensures failed_growths { failed_growths_of result ≡ 0 }
         ensures every { (header t : Tree) → satisfies (criteria result) header t ≡ true }
     {
         Query {
@@ -57,7 +57,7 @@ impl Query {
             types: None,
             lods: None,
             bounds: None,
-            refusals: Refusals::none(),
+            failed_growths: Refusals::none(),
         }
     }
 
@@ -74,7 +74,7 @@ impl Query {
     #[tactic(auto, unfolding(crate::specs::Query::criteria))]
     pub fn start_ids(&mut self)
         ensures asks { criteria self.new ≡ record (criteria self.old) { ids = Some [] } }
-        ensures refusals { query_refusals self.new ≡ query_refusals self.old }
+        ensures failed_growths { failed_growths_of self.new ≡ failed_growths_of self.old }
     {
         self.ids = Some(Ids::new(self.alloc));
     }
@@ -84,7 +84,7 @@ impl Query {
     #[tactic(auto, unfolding(crate::specs::Query::criteria))]
     pub fn start_types(&mut self)
         ensures asks { criteria self.new ≡ record (criteria self.old) { types = Some no_types } }
-        ensures refusals { query_refusals self.new ≡ query_refusals self.old }
+        ensures failed_growths { failed_growths_of self.new ≡ failed_growths_of self.old }
     {
         self.types = Some([false; TYPES]);
     }
@@ -94,7 +94,7 @@ impl Query {
     #[tactic(auto, unfolding(crate::specs::Query::criteria))]
     pub fn start_lods(&mut self)
         ensures asks { criteria self.new ≡ record (criteria self.old) { lods = Some [] } }
-        ensures refusals { query_refusals self.new ≡ query_refusals self.old }
+        ensures failed_growths { failed_growths_of self.new ≡ failed_growths_of self.old }
     {
         self.lods = Some(Vec::new(self.alloc));
     }
@@ -109,10 +109,10 @@ impl Query {
         ensures ok { OnOk result (criteria self.new ≡ with_id id.now (criteria self.old)) }
         ensures err { OnErr result (criteria self.new ≡ criteria self.old) }
         ensures memory { IfErr result (λ fault. fault ≡ Memory) }
-        ensures cause { OnErr result (HasRisen (query_refusals self.old) (query_refusals self.new)) }
-        ensures count { query_refusals self.new ≡ counted (query_refusals self.old) result }
+        ensures cause { OnErr result (HasRisen (failed_growths_of self.old) (failed_growths_of self.new)) }
+        ensures count { failed_growths_of self.new ≡ counted (failed_growths_of self.old) result }
     {
-        match add_id(self.alloc, &mut self.ids, id, &mut self.refusals) {
+        match add_id(self.alloc, &mut self.ids, id, &mut self.failed_growths) {
             Ok(()) => Ok(()),
             Err(NoMemory) => Err(QueryFault::Memory),
         }
@@ -123,7 +123,7 @@ impl Query {
     #[tactic(auto, unfolding(crate::specs::Query::criteria))]
     pub fn sort_ids(&mut self)
         ensures asks { criteria self.new ≡ criteria self.old }
-        ensures refusals { query_refusals self.new ≡ query_refusals self.old }
+        ensures failed_growths { failed_growths_of self.new ≡ failed_growths_of self.old }
     {
         if let Some(ids) = &mut self.ids {
             ids.sort();
@@ -141,7 +141,7 @@ impl Query {
         ensures asks { MatchOption (row_named name.now)
             ((result ≡ Err UnknownTypeName) × (criteria self.new ≡ criteria self.old))
             (λ row. (result ≡ Ok tt) × (criteria self.new ≡ with_type row.number (criteria self.old))) }
-        ensures refusals { query_refusals self.new ≡ query_refusals self.old }
+        ensures failed_growths { failed_growths_of self.new ≡ failed_growths_of self.old }
     {
         let Some(object_type) = ObjectType::named(name) else {
             return Err(QueryFault::UnknownTypeName);
@@ -163,10 +163,10 @@ impl Query {
         ensures ok { OnOk result (criteria self.new ≡ with_lod lod.now (criteria self.old)) }
         ensures err { OnErr result (criteria self.new ≡ criteria self.old) }
         ensures memory { IfErr result (λ fault. fault ≡ Memory) }
-        ensures cause { OnErr result (HasRisen (query_refusals self.old) (query_refusals self.new)) }
-        ensures count { query_refusals self.new ≡ counted (query_refusals self.old) result }
+        ensures cause { OnErr result (HasRisen (failed_growths_of self.old) (failed_growths_of self.new)) }
+        ensures count { failed_growths_of self.new ≡ counted (failed_growths_of self.old) result }
     {
-        match add_text(self.alloc, &mut self.lods, lod, &mut self.refusals) {
+        match add_text(self.alloc, &mut self.lods, lod, &mut self.failed_growths) {
             Ok(()) => Ok(()),
             Err(NoMemory) => Err(QueryFault::Memory),
         }
@@ -188,7 +188,7 @@ impl Query {
         ensures asks { MatchResult (box_text text.now)
             (λ box. (result ≡ Ok tt) × (criteria self.new ≡ with_box box (criteria self.old)))
             (λ fault. (result ≡ Err fault) × (criteria self.new ≡ criteria self.old)) }
-        ensures refusals { query_refusals self.new ≡ query_refusals self.old }
+        ensures failed_growths { failed_growths_of self.new ≡ failed_growths_of self.old }
     {
         self.bounds = Some(Bounds::read(text)?);
         Ok(())

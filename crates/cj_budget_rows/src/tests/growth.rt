@@ -1,18 +1,18 @@
-//! Whether growths were refused.
+//! Whether growths failed.
 use cj_budget::{NoMemory, Refusals};
 use std::process::Abort;
 
 /// Notes the answer of a growth, and compares what is passed on.
-fn check_note(rt: &impl Abort, refusals: &mut Refusals, answer: Result<(), NoMemory>) {
+fn check_note(rt: &impl Abort, failed_growths: &mut Refusals, answer: Result<(), NoMemory>) {
     let wanted = answer.is_ok();
-    assert_eq!(rt; refusals.note(answer).is_ok(), wanted);
+    assert_eq!(rt; failed_growths.note(answer).is_ok(), wanted);
 }
 
 #[test]
 fn answers_of_growths_are_noted(rt: HostRuntime) {
-    let mut refusals = Refusals::none();
-    check_note(&rt, &mut refusals, Ok(()));
-    check_note(&rt, &mut refusals, Err(NoMemory));
+    let mut failed_growths = Refusals::none();
+    check_note(&rt, &mut failed_growths, Ok(()));
+    check_note(&rt, &mut failed_growths, Err(NoMemory));
 }
 
 #[test]

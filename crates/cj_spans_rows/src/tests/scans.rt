@@ -643,9 +643,9 @@ fn is_memory_or_syntax(rt: &impl Abort, tokens: &mut Bounded<Token>, stack: &mut
     }
 }
 
-/// This is also run with each growth refused, one after another: `rt try --test --fail-alloc N`.
+/// This is also run with each growth failed, one after another: `rt try --test --fail-alloc N`.
 #[test]
-fn a_refused_growth_is_memory(rt: HostRuntime) {
+fn a_failed_growth_is_memory(rt: HostRuntime) {
     let mut tokens: Bounded<Token> = Bounded::new(rt.alloc(), 300);
     let mut stack = Stack::new(rt.alloc(), 300);
     is_memory_or_syntax(&rt, &mut tokens, &mut stack);

@@ -167,41 +167,41 @@ fn head_count(entries: usize) -> usize {
     }
 }
 
-/// Reserves memory for `more` bytes of text, and for their length. A refusal changes neither.
+/// Reserves memory for `more` bytes of text, and for their length. A failed growth changes neither.
 fn make_text_room(
     text: &mut String,
     lengths: &mut Vec<usize>,
     more: usize,
-    refusals: &mut Refusals,
+    failed_growths: &mut Refusals,
 ) -> Result<(), NoMemory>
     ensures text { string_bytes text.new ≡ string_bytes text.old }
     ensures lengths { vec_items lengths.new ≡ vec_items lengths.old }
     ensures room { OnOk result ((string_len text.new + more ≤ string_capacity text.new)
         × (vec_len lengths.new < vec_capacity lengths.new)) }
-    ensures cause { OnErr result (HasRisen refusals.old refusals.new) }
-    ensures count { refusals.new ≡ counted refusals.old result }
+    ensures cause { OnErr result (HasRisen failed_growths.old failed_growths.new) }
+    ensures count { failed_growths.new ≡ counted failed_growths.old result }
 {
-    refusals.note(text.reserve(more))?;
-    refusals.note(lengths.reserve(1))
+    failed_growths.note(text.reserve(more))?;
+    failed_growths.note(lengths.reserve(1))
 }
 
-/// Reserves memory for one entry more. A refusal changes no list.
+/// Reserves memory for one entry more. A failed growth changes no list.
 fn make_entry_room(
     entries: &mut Vec<Entry>,
     runs: &mut Vec<usize>,
     heads: &mut Vec<u64>,
-    refusals: &mut Refusals,
+    failed_growths: &mut Refusals,
 ) -> Result<(), NoMemory>
     ensures entries { vec_items entries.new ≡ vec_items entries.old }
     ensures runs { vec_items runs.new ≡ vec_items runs.old }
     ensures room { OnOk result ((vec_len entries.new < vec_capacity entries.new)
         × (vec_len runs.new < vec_capacity runs.new)) }
-    ensures cause { OnErr result (HasRisen refusals.old refusals.new) }
-    ensures count { refusals.new ≡ counted refusals.old result }
+    ensures cause { OnErr result (HasRisen failed_growths.old failed_growths.new) }
+    ensures count { failed_growths.new ≡ counted failed_growths.old result }
 {
-    refusals.note(entries.reserve(1))?;
-    refusals.note(runs.reserve(1))?;
-    refusals.note(heads.reserve(head_count(entries.len())))
+    failed_growths.note(entries.reserve(1))?;
+    failed_growths.note(runs.reserve(1))?;
+    failed_growths.note(heads.reserve(head_count(entries.len())))
 }
 
 /// Adds an id at the end, where its memory is reserved, and puts its entry in order.
@@ -393,15 +393,20 @@ impl Ids {
         }
     }
 
-    /// Adds an id at the end. A refusal changes nothing here.
-    fn push(&mut self, id: &str, refusals: &mut Refusals) -> Result<(), NoMemory>
+    /// Adds an id at the end. A failed growth changes nothing here.
+    fn push(&mut self, id: &str, failed_growths: &mut Refusals) -> Result<(), NoMemory>
         ensures ok { OnOk result (self.new ≡ self.old ++ id.now ∷ []) }
         ensures err { OnErr result (self.new ≡ self.old) }
-        ensures cause { OnErr result (HasRisen refusals.old refusals.new) }
-        ensures count { refusals.new ≡ counted refusals.old result }
+        ensures cause { OnErr result (HasRisen failed_growths.old failed_growths.new) }
+        ensures count { failed_growths.new ≡ counted failed_growths.old result }
     {
-        make_text_room(&mut self.text, &mut self.lengths, id.len(), refusals)?;
-        make_entry_room(&mut self.entries, &mut self.runs, &mut self.heads, refusals)?;
+        make_text_room(&mut self.text, &mut self.lengths, id.len(), failed_growths)?;
+        make_entry_room(
+            &mut self.entries,
+            &mut self.runs,
+            &mut self.heads,
+            failed_growths,
+        )?;
         add_entry(
             &mut self.text,
             &mut self.lengths,
@@ -440,24 +445,24 @@ impl Ids {
     }
 }
 
-/// Adds an id at the end of a part. A part that was not set begins empty. A refusal leaves the part
-/// unchanged.
+/// Adds an id at the end of a part. A part that was not set begins empty. A failed growth leaves
+/// the part unchanged.
 pub fn add_id(
     alloc: Global,
     part: &mut Option<Ids>,
     text: &str,
-    refusals: &mut Refusals,
+    failed_growths: &mut Refusals,
 ) -> Result<(), NoMemory>
     ensures ok { OnOk result (part.new ≡ with_text text.now part.old) }
     ensures err { OnErr result (part.new ≡ part.old) }
-    ensures cause { OnErr result (HasRisen refusals.old refusals.new) }
-    ensures count { refusals.new ≡ counted refusals.old result }
+    ensures cause { OnErr result (HasRisen failed_growths.old failed_growths.new) }
+    ensures count { failed_growths.new ≡ counted failed_growths.old result }
 {
     match part {
-        Some(ids) => ids.push(text, refusals),
+        Some(ids) => ids.push(text, failed_growths),
         None => {
             let mut ids = Ids::new(alloc);
-            ids.push(text, refusals)?;
+            ids.push(text, failed_growths)?;
             *part = Some(ids);
             Ok(())
         }

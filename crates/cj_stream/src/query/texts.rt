@@ -7,47 +7,55 @@ ghost use Rattle.cj_stream.specs.Sink.{HasRisen, counted};
 use cj_budget::{NoMemory, Refusals};
 use std::alloc::Global;
 
-/// Returns an owned copy of a text. Counts a refused allocation.
-pub fn own_text(alloc: Global, text: &str, refusals: &mut Refusals) -> Result<String, NoMemory>
+/// Returns an owned copy of a text. Counts a failed growth.
+pub fn own_text(
+    alloc: Global,
+    text: &str,
+    failed_growths: &mut Refusals,
+) -> Result<String, NoMemory>
     ensures ok { IfOk result (λ own. string_bytes own ≡ text.now) }
-    ensures cause { OnErr result (HasRisen refusals.old refusals.new) }
-    ensures count { refusals.new ≡ counted refusals.old result }
+    ensures cause { OnErr result (HasRisen failed_growths.old failed_growths.new) }
+    ensures count { failed_growths.new ≡ counted failed_growths.old result }
 {
     let mut own = String::new(alloc);
-    refusals.note(own.try_reserve_exact(text.len()))?;
+    failed_growths.note(own.try_reserve_exact(text.len()))?;
     let _never_fails = own.push_str(text);
     Ok(own)
 }
 
-/// Adds a text at the end of a list. A refusal changes nothing.
-fn push_text(texts: &mut Vec<String>, text: String, refusals: &mut Refusals) -> Result<(), NoMemory>
+/// Adds a text at the end of a list. A failed growth changes nothing.
+fn push_text(
+    texts: &mut Vec<String>,
+    text: String,
+    failed_growths: &mut Refusals,
+) -> Result<(), NoMemory>
     ensures ok { OnOk result (vec_items texts.new ≡ vec_items texts.old ++ text ∷ []) }
     ensures err { OnErr result (vec_items texts.new ≡ vec_items texts.old) }
-    ensures cause { OnErr result (HasRisen refusals.old refusals.new) }
-    ensures count { refusals.new ≡ counted refusals.old result }
+    ensures cause { OnErr result (HasRisen failed_growths.old failed_growths.new) }
+    ensures count { failed_growths.new ≡ counted failed_growths.old result }
 {
-    refusals.note(texts.push(text))
+    failed_growths.note(texts.push(text))
 }
 
-/// Adds a text at the end of a part. A part that was not set begins empty. A refusal changes
+/// Adds a text at the end of a part. A part that was not set begins empty. A failed growth changes
 /// nothing.
 pub fn add_text(
     alloc: Global,
     part: &mut Option<Vec<String>>,
     text: &str,
-    refusals: &mut Refusals,
+    failed_growths: &mut Refusals,
 ) -> Result<(), NoMemory>
     ensures ok { OnOk result (texts_of part.new ≡ with_text text.now (texts_of part.old)) }
     ensures err { OnErr result (texts_of part.new ≡ texts_of part.old) }
-    ensures cause { OnErr result (HasRisen refusals.old refusals.new) }
-    ensures count { refusals.new ≡ counted refusals.old result }
+    ensures cause { OnErr result (HasRisen failed_growths.old failed_growths.new) }
+    ensures count { failed_growths.new ≡ counted failed_growths.old result }
 {
-    let text = own_text(alloc, text, refusals)?;
+    let text = own_text(alloc, text, failed_growths)?;
     match part {
-        Some(texts) => push_text(texts, text, refusals),
+        Some(texts) => push_text(texts, text, failed_growths),
         None => {
             let mut texts = Vec::new(alloc);
-            push_text(&mut texts, text, refusals)?;
+            push_text(&mut texts, text, failed_growths)?;
             *part = Some(texts);
             Ok(())
         }

@@ -7,7 +7,7 @@ use Rattle.cj_stream.proofs.JoinedLemmas.{joined-more, joined-short, joined-all}
 use Rattle.cj_stream.proofs.CutLemmas.{TookWhole-left, EndsAt-told, EndsAt-concludes}
 use Rattle.cj_stream.proofs.NoteLemmas.{Notes-then, Notes-more, Noting-told, noted-none}
 use Rattle.cj_stream.proofs.OutputLemmas.{Runs-told}
-use Rattle.cj_stream.proofs.RunLemmas.{Delivers-then, kept_first-same, Ends-finished, Ends-fed, HasRisen-after, refused-sink, told-not_complete}
+use Rattle.cj_stream.proofs.RunLemmas.{Delivers-then, kept_first-same, Ends-finished, Ends-fed, HasRisen-after, memory-sink, told-not_complete}
 use Rattle.cj_stream.proofs.pieces.feed_all.Goals as goal
 
 pub feed-requires : goal.feed-requires
@@ -192,10 +192,10 @@ returns-clause-noting g c =
 
 -- memory is refused before any line was dealt with
 pub returns-in-Err-clause-memory : goal.returns-in-Err-clause-memory
-returns-in-Err-clause-memory g c = λ refused.
+returns-in-Err-clause-memory g c = λ lacks.
     let i = c.loop-taken.invariant in
-    let none = (c.feed.ensures.feeds.memory (joined (take c.loop-taken.taken (map (λ piece. piece.now) c.args.pieces.now))) i.2 i.0 (c.in-Err.is ∙ ap Err refused)).0.none in
-    (none, refused-sink g.S.LineSink.takes g.S.LineSink.leaves _ _ _ _ _ _ refused none (returns-in-Err-clause-runs g c).sink, noted-none g.N.ReportSink.notes (rules_of c.args.engine.now) (joined (take (c.loop-taken.taken + 1) (map (λ piece. piece.now) c.args.pieces.now))) _ _ _ refused (returns-in-Err-clause-noting g c).noted)
+    let none = (c.feed.ensures.feeds.memory (joined (take c.loop-taken.taken (map (λ piece. piece.now) c.args.pieces.now))) i.2 i.0 (c.in-Err.is ∙ ap Err lacks)).0.none in
+    (none, memory-sink g.S.LineSink.takes g.S.LineSink.leaves _ _ _ _ _ _ lacks none (returns-in-Err-clause-runs g c).sink, noted-none g.N.ReportSink.notes (rules_of c.args.engine.now) (joined (take (c.loop-taken.taken + 1) (map (λ piece. piece.now) c.args.pieces.now))) _ _ _ lacks (returns-in-Err-clause-noting g c).noted)
 
 pub returns-clause-memory : goal.returns-clause-memory
-returns-clause-memory g c = λ refused. absurd (c.finish-ended.ensures.finished.memory c.loop-taken.invariant.0 refused)
+returns-clause-memory g c = λ lacks. absurd (c.finish-ended.ensures.finished.memory c.loop-taken.invariant.0 lacks)

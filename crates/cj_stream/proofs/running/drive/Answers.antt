@@ -102,12 +102,12 @@ returns-in-Err-feed-clause-cause g c = λ e. HasRisen-after _ _ _ c.loop-i.invar
 
 -- memory is refused before any line was dealt with
 pub returns-in-Err-feed-clause-memory : goal.returns-in-Err-feed-clause-memory
-returns-in-Err-feed-clause-memory g c = λ refused.
+returns-in-Err-feed-clause-memory g c = λ lacks.
     let i = c.loop-i.invariant in
-    (c.feed.ensures.feeds.memory i.5.0 i.5.2 i.2 (c.in-Err-feed.is ∙ ap Err refused)).0.none
+    (c.feed.ensures.feeds.memory i.5.0 i.5.2 i.2 (c.in-Err-feed.is ∙ ap Err lacks)).0.none
 
 pub returns-in-Ok-eq0-clause-memory : goal.returns-in-Ok-eq0-clause-memory
-returns-in-Ok-eq0-clause-memory g c = λ refused. absurd (c.finish.ensures.finished.memory c.loop-i.invariant.2 refused)
+returns-in-Ok-eq0-clause-memory g c = λ lacks. absurd (c.finish.ensures.finished.memory c.loop-i.invariant.2 lacks)
 
 pub loop-i-preserved : goal.loop-i-preserved
 loop-i-preserved g c =

@@ -1,7 +1,7 @@
 use Rattle.std.proofs.Common.{◌≡◌, ◌∙◌, [], inl, inr, refl, ap, sym}
 use Rattle.cj_stream.specs.Source.{source_reader}
-use Rattle.cj_stream.proofs.NoteLemmas.{Noting-refused, noted-none}
-use Rattle.cj_stream.proofs.RunLemmas.{Consumes-none, Runs-refused, Stops-refused, refused-sink, memory-no_fault, unread-refused, enough-refused, enough-reads, none-counted}
+use Rattle.cj_stream.proofs.NoteLemmas.{Noting-memory, noted-none}
+use Rattle.cj_stream.proofs.RunLemmas.{Consumes-none, Runs-memory, Stops-memory, memory-sink, memory-no_fault, unread-memory, enough-memory, enough-reads, none-counted}
 use Rattle.cj_stream.proofs.running.run_within.Goals as goal
 
 -- The source holds the same loan to the end, so what is left in it is what the lender finds.
@@ -23,9 +23,9 @@ returns g c =
             counts.0,
             counts.1,
           );
-      memory = λ refused.
-          let none = c.lines.ensures ∙ c.drive-ended.ensures.memory refused in
-          (none, refused-sink g.S.LineSink.takes g.S.LineSink.leaves _ runs.0 _ _ _ _ refused none runs.3.sink, noted-none g.N.ReportSink.notes _ runs.0 _ _ _ refused runs.4.noted);
+      memory = λ lacks.
+          let none = c.lines.ensures ∙ c.drive-ended.ensures.memory lacks in
+          (none, memory-sink g.S.LineSink.takes g.S.LineSink.leaves _ runs.0 _ _ _ _ lacks none runs.3.sink, noted-none g.N.ReportSink.notes _ runs.0 _ _ _ lacks runs.4.noted);
     }
 
 pub returns-in-Err : goal.returns-in-Err
@@ -33,13 +33,13 @@ returns-in-Err g c = record {
   runs = (
     [],
     Consumes-none _,
-    unread-refused _ _ (ap (λ o. o.ended) c.without_memory.ensures),
-    rw c.without_memory.ensures (Runs-refused g.S.LineSink.takes g.S.LineSink.leaves _ _ c.args.sink.now),
-    rw c.without_memory.ensures (Noting-refused g.N.ReportSink.notes _ c.args.reports.now),
-    rw c.without_memory.ensures (Stops-refused _),
+    unread-memory _ _ (ap (λ o. o.ended) c.without_memory.ensures),
+    rw c.without_memory.ensures (Runs-memory g.S.LineSink.takes g.S.LineSink.leaves _ _ c.args.sink.now),
+    rw c.without_memory.ensures (Noting-memory g.N.ReportSink.notes _ c.args.reports.now),
+    rw c.without_memory.ensures (Stops-memory _),
   );
   cause = λ fault. absurd (memory-no_fault (sym (ap (λ o. o.ended) c.without_memory.ensures) ∙ fault));
-  enough = enough-refused _ _ _ (ap (λ o. o.ended) c.without_memory.ensures);
+  enough = enough-memory _ _ _ (ap (λ o. o.ended) c.without_memory.ensures);
   none = λ _. (refl, refl, refl, inr (ap (λ o. o.ended) c.without_memory.ensures), ap (λ o. o.lines) c.without_memory.ensures, ap (λ o. o.kept) c.without_memory.ensures);
   memory = λ _. (ap (λ o. o.lines) c.without_memory.ensures, refl, refl);
 }

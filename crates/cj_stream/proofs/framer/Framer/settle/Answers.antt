@@ -92,6 +92,6 @@ returns-in-Sound-clause-left g c =
     err-then (IsStill c.judge.new.self.scanning c.put_feature.new.self.scanning) _ c.put_feature.result (λ still t forgets. next-held f c.args.self.now.scanning t held (λ cs count s.
     let is : c.judge.result ≡ Sound = c.in-Sound.is in
     let after : 0 < c.judge.new.self.reading.lines = omega (arith, c.requires.later, ap (λ x. x.lines) c.judge.ensures.reading) in
-    let emptied = forgets-still c.judge.new.self.scanning c.put_feature.new.self.scanning t still c.put_feature.ensures.unrefused forgets in
+    let emptied = forgets-still c.judge.new.self.scanning c.put_feature.new.self.scanning t still c.put_feature.ensures.failed_growths forgets in
     let judges = judges-at c.args.self.now.reading.lines _ (begun_of c.args.self.now.reading) c.args.self.now.scanning c.judge.new.self.scanning _ count (let j = rw is at c.judge.ensures.lists in j) in
     scanned-valid c.args.self.now.reading.rules.limits (begun_of c.args.self.now.reading) c.args.self.now.scanning c.judge.new.self.scanning t emptied c.judge.ensures.before.room c.judge.ensures.short cs s judges)) c.put_feature.ensures.still

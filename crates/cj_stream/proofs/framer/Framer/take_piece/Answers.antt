@@ -38,7 +38,7 @@ loop-at-preserved g c =
       few = omega (arith, left_length rest k c.in-Some.ensures, c.take_line.ensures.few, c.loop-at.invariant.few);
       grows = omega (arith, c.loop-at.invariant.grows, c.take_line.ensures.grows);
       counts = omega (arith, c.take_line.ensures.carries.counts, c.loop-at.invariant.counts);
-      unrefused = λ z. absurd (omega (arith, z, c.in_ok-take_line.ensures.one));
+      failed_growths = λ z. absurd (omega (arith, z, c.in_ok-take_line.ensures.one));
       read = (
         i.0 ++ (take k rest ++ 10 ∷ []),
         piece_more c.args.piece.now i.0 rest k i.1 c.in-Some.ensures,
@@ -84,7 +84,7 @@ loop-at-init g c = record {
   few = omega arith;
   grows = omega arith;
   counts = omega arith;
-  unrefused = λ z. (refl, refl);
+  failed_growths = λ z. (refl, refl);
   read = (
     [],
     refl,

@@ -13,7 +13,7 @@ invariant-loop-at g l = record {
   few : l.self.reading.lines + length l.rest ≤ l.initial.self.reading.lines + length l.piece;
   grows : l.initial.self.reading.lines ≤ l.self.reading.lines;
   counts : g.S.LineSink.failures l.initial.sink ≤ g.S.LineSink.failures l.sink;
-  unrefused : l.self.reading.lines ≡ 0 → (l.self.reading.line.refused ≡ l.initial.self.reading.line.refused) × (l.self.scanning.line.refused ≡ l.initial.self.scanning.line.refused);
+  failed_growths : l.self.reading.lines ≡ 0 → (l.self.reading.line.failed_growths ≡ l.initial.self.reading.line.failed_growths) × (l.self.scanning.line.failed_growths ≡ l.initial.self.scanning.line.failed_growths);
   read : (done : List ℕ) × (l.piece ≡ done ++ l.rest) × ((p : List ℕ) → Reads l.initial.self.reading p → Advances g.S.LineSink.takes l.initial.self.reading l.initial.sink p done l.self.reading l.sink)
       × ((p : List ℕ) → Reads l.initial.self.reading p → Scanned l.initial.self.reading.rules.limits (closed p) l.initial.self.scanning → Scanned l.initial.self.reading.rules.limits (closed (p ++ done)) l.self.scanning);
   reports : (p : List ℕ) → Reads l.initial.self.reading p → Notes g.N.ReportSink.notes l.initial.self.reading.rules (p ++ l.piece) l.initial.self.reading.lines l.self.reading.lines l.initial.reports l.reports;
