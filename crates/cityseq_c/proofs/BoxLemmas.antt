@@ -14,6 +14,6 @@ module _ (r : Result (Unit {0}) QueryFault) (old new : Criteria) where
   box-set v (Ok box) h ok = (ap (λ a. Ok a.box) (sym h.1), h.1 ∙ ap (λ box. record old { box = box }) (sym (ap (λ a. a.box) h.1)))
   box-set v (Err fault) h ok = absurd (cc (h.0, ok))
 
-  pub box-refused : (fault : QueryFault) (box : Result Box QueryFault) → Sets box → r ≡ Err fault → box ≡ Err fault
-  box-refused fault (Ok box) h err = absurd (cc (h.0, err))
-  box-refused fault (Err other) h err = cc (h.0, err)
+  pub box-declined : (fault : QueryFault) (box : Result Box QueryFault) → Sets box → r ≡ Err fault → box ≡ Err fault
+  box-declined fault (Ok box) h err = absurd (cc (h.0, err))
+  box-declined fault (Err other) h err = cc (h.0, err)

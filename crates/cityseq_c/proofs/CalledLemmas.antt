@@ -10,7 +10,7 @@ use Rattle.cj_stream.specs.Verdict.{Rules}
 use Rattle.cityseq_c.specs.Answer.{answer_to, not_judged, status_of}
 use Rattle.cityseq_c.specs.Called.{Copied, Filters, Goes, IsUnjudged}
 use Rattle.cityseq_c.specs.Judged.{IsJudged, Judged}
-use Rattle.cityseq_c.specs.Query.{RefusesCall}
+use Rattle.cityseq_c.specs.Query.{DeclinesCall}
 use Rattle.cityseq_c.specs.Request.{IsAsked}
 use Rattle.cityseq_c.specs.declared.answer.Answer.{Answer}
 use Rattle.cityseq_c.specs.declared.reports.Told.{Told}
@@ -21,17 +21,17 @@ use Rattle.cityseq_c.specs.declared.request.Request.{Request}
 module _ {S : Type 0} (takes leaves : S → Item → S → Type 0) (r : Request) (header part : List ℕ) (s t : S) (old new : List Told) where
   pub goes : (also : Rules → Outcome → Type 0) → ((rules : Rules) (o : Outcome) → Judged takes leaves rules (header ++ part) o s t old new → also rules o) → (went : Result Outcome NotJudged)
       → IfOk went (λ o. (rules : Rules) × IsAsked r rules × Judged takes leaves rules (header ++ part) o s t old new)
-      → IfErr went (RefusesCall r header part) → OnErr went ((t ≡ s) × (new ≡ old)) → Goes r header part old new also went
-  goes also gives (Ok o) ok refused unread = (ok.0, ok.1, ok.2.tells, gives ok.0 o ok.2)
-  goes also gives (Err why) ok refused unread = (refused, unread.1)
+      → IfErr went (DeclinesCall r header part) → OnErr went ((t ≡ s) × (new ≡ old)) → Goes r header part old new also went
+  goes also gives (Ok o) ok declined unread = (ok.0, ok.1, ok.2.tells, gives ok.0 o ok.2)
+  goes also gives (Err why) ok declined unread = (declined, unread.1)
 
   -- the same where more is known of a call that was judged
   pub goes-known : (Known : Type 0) (also : Rules → Outcome → Type 0) → (Known → (rules : Rules) (o : Outcome) → Judged takes leaves rules (header ++ part) o s t old new → also rules o)
       → (went : Result Outcome NotJudged) → OnOk went Known
       → IfOk went (λ o. (rules : Rules) × IsAsked r rules × Judged takes leaves rules (header ++ part) o s t old new)
-      → IfErr went (RefusesCall r header part) → OnErr went ((t ≡ s) × (new ≡ old)) → Goes r header part old new also went
-  goes-known Known also gives (Ok o) known ok refused unread = (ok.0, ok.1, ok.2.tells, gives known ok.0 o ok.2)
-  goes-known Known also gives (Err why) known ok refused unread = (refused, unread.1)
+      → IfErr went (DeclinesCall r header part) → OnErr went ((t ≡ s) × (new ≡ old)) → Goes r header part old new also went
+  goes-known Known also gives (Ok o) known ok declined unread = (ok.0, ok.1, ok.2.tells, gives known ok.0 o ok.2)
+  goes-known Known also gives (Err why) known ok declined unread = (declined, unread.1)
 
   -- no end of a text that was judged has the status of a wrong request, or of want of memory
   status-judged : (e : End) → IsJudged e → (status_of e ≡ 2) ⊎ (status_of e ≡ 5) → ⊥

@@ -6,7 +6,7 @@ use Rattle.cj_stream.specs.BoxText.{box_text}
 use Rattle.cj_stream.specs.Criteria.{Box}
 use Rattle.cj_stream.specs.declared.query.fault.QueryFault.{QueryFault}
 use Rattle.cj_stream.specs.declared.query.fault.QueryFault.TheVariants.{Memory as NoMemory, UnknownTypeName, BadBox as BadBoxText, BoxRange as BoxTextRange, EmptyBox as EmptyBoxText}
-use Rattle.cityseq_c.specs.Query.{RefusesCall, RefusesQuery}
+use Rattle.cityseq_c.specs.Query.{DeclinesCall, DeclinesQuery}
 use Rattle.cityseq_c.specs.Request.{IsFit, box_asked, box_by, edges_by, fault_of, flags_by, ids_asked, items, lods_asked, or_fault, text_asked, texts_by, types_asked, types_by}
 use Rattle.cityseq_c.specs.declared.request.Fault.{Fault as WrongFault}
 use Rattle.cityseq_c.specs.declared.request.Fault.TheVariants.{LineLimit, DepthLimit, NoLine, NotUtf8, UnknownType, BadBox, BoxRange, EmptyBox, TooLong}
@@ -85,15 +85,15 @@ module _ (r : Request) (header part : List ℕ) (fit : IsFit r header part) wher
   known : (fault : WrongFault) → fault_of r ≡ Some fault → IsOfQuery fault
   known fault is = subst MayBe is (fault-may r)
 
-  -- a query that is refused makes the call refused
-  pub call-refused : (why : NotJudged) → RefusesQuery r why → RefusesCall r header part why
-  call-refused (Fault LineLimit) is = absurd (known LineLimit is)
-  call-refused (Fault DepthLimit) is = absurd (known DepthLimit is)
-  call-refused (Fault NoLine) is = absurd (known NoLine is)
-  call-refused (Fault TooLong) is = absurd (known TooLong is)
-  call-refused (Fault NotUtf8) is = (fit, is)
-  call-refused (Fault UnknownType) is = (fit, is)
-  call-refused (Fault BadBox) is = (fit, is)
-  call-refused (Fault BoxRange) is = (fit, is)
-  call-refused (Fault EmptyBox) is = (fit, is)
-  call-refused Memory is = fit
+  -- a query that is declined makes the call declined
+  pub call-declined : (why : NotJudged) → DeclinesQuery r why → DeclinesCall r header part why
+  call-declined (Fault LineLimit) is = absurd (known LineLimit is)
+  call-declined (Fault DepthLimit) is = absurd (known DepthLimit is)
+  call-declined (Fault NoLine) is = absurd (known NoLine is)
+  call-declined (Fault TooLong) is = absurd (known TooLong is)
+  call-declined (Fault NotUtf8) is = (fit, is)
+  call-declined (Fault UnknownType) is = (fit, is)
+  call-declined (Fault BadBox) is = (fit, is)
+  call-declined (Fault BoxRange) is = (fit, is)
+  call-declined (Fault EmptyBox) is = (fit, is)
+  call-declined Memory is = fit

@@ -26,7 +26,7 @@ use Rattle.cj_stream.proofs.IsLinesLemmas.{lines-are_lines}
 use Rattle.cj_stream.proofs.PartsLemmas.{lines-headed}
 use Rattle.cityseq_c.specs.Judged.{IsJudged, Judged, Tells}
 use Rattle.cityseq_c.specs.Reports.{Holds}
-use Rattle.cityseq_c.specs.Query.{RefusesCall}
+use Rattle.cityseq_c.specs.Query.{DeclinesCall}
 use Rattle.cityseq_c.specs.Request.{AreCut, IsAsked, IsFit, needed_limits}
 use Rattle.cityseq_c.specs.declared.reports.Told.{Told}
 use Rattle.cityseq_c.specs.declared.request.NotJudged.{NotJudged}
@@ -308,7 +308,7 @@ module _ {S : Type 0} (takes leaves : S → Item → S → Type 0) (r : Request)
       (rules, asked, judged-as-asked takes leaves rules header part o a b old new fit.cut (subst (λ z. Judged takes leaves z (header ++ part) o a b old new) same judged))
   asked-ok rules used (Err why) asked same judged = tt
 
-  -- and it is refused for want of memory alone
-  pub refused-memory : (went : Result Outcome NotJudged) → IfErr went (λ why. why ≡ Memory) → IfErr went (RefusesCall r header part)
-  refused-memory (Ok o) is = tt
-  refused-memory (Err why) is = rw is fit
+  -- and it is declined for want of memory alone
+  pub declined-memory : (went : Result Outcome NotJudged) → IfErr went (λ why. why ≡ Memory) → IfErr went (DeclinesCall r header part)
+  declined-memory (Ok o) is = tt
+  declined-memory (Err why) is = rw is fit

@@ -9,7 +9,7 @@ use Rattle.cj_stream.specs.TallySink.{Tally as Tallied, IsTallyOf}
 use Rattle.cj_stream.specs.Verdict.{Rules, is_kept, kept, output, output_first, verdict}
 use Rattle.cityseq_c.specs.Answer.{answer_to}
 use Rattle.cityseq_c.specs.Judged.{Tells}
-use Rattle.cityseq_c.specs.Query.{RefusesCall}
+use Rattle.cityseq_c.specs.Query.{DeclinesCall}
 use Rattle.cityseq_c.specs.Request.{IsAsked}
 use Rattle.cityseq_c.specs.Tally.{IsTally}
 use Rattle.cityseq_c.specs.Features.{HoldsRecords, spots}
@@ -27,7 +27,7 @@ abbrev pub Goes : Request → List ℕ → List ℕ → List Told → List Told 
     → Result Outcome NotJudged → Type 0
 Goes r header part old new also (Ok outcome) =
     (rules : Rules) × IsAsked r rules × Tells rules (header ++ part) outcome old new × also rules outcome
-Goes r header part old new also (Err why) = RefusesCall r header part why × (new ≡ old)
+Goes r header part old new also (Err why) = DeclinesCall r header part why × (new ≡ old)
 
 -- a call answers by how it went, where so many bytes of output were written
 pub record Calls (r : Request) (header part : List ℕ) (old new : List Told) (also : Rules → Outcome → Type 0)

@@ -13,17 +13,17 @@ Reads asked (Ok text) = asked ≡ Ok (option_map (λ (t : Bor (List ℕ)). t.now
 Reads asked (Err (Fault fault)) = asked ≡ Err fault
 Reads asked (Err Memory) = ⊥
 
--- a part is refused for what is wrong with it, or for want of memory, and then nothing is
-abbrev pub Refuses : {A : Type 0} → Result A WrongFault → NotJudged → Type 0
-Refuses asked (Fault fault) = asked ≡ Err fault
-Refuses asked Memory = IsOk asked
+-- a part is declined for what is wrong with it, or for want of memory, and then nothing is
+abbrev pub DeclinesPart : {A : Type 0} → Result A WrongFault → NotJudged → Type 0
+DeclinesPart asked (Fault fault) = asked ≡ Err fault
+DeclinesPart asked Memory = IsOk asked
 
--- a query is refused for the first fault of its parts, or for want of memory
-abbrev pub RefusesQuery : Request → NotJudged → Type 0
-RefusesQuery r (Fault fault) = fault_of r ≡ Some fault
-RefusesQuery r Memory = Unit {0}
+-- a query is declined for the first fault of its parts, or for want of memory
+abbrev pub DeclinesQuery : Request → NotJudged → Type 0
+DeclinesQuery r (Fault fault) = fault_of r ≡ Some fault
+DeclinesQuery r Memory = Unit {0}
 
 -- a stream is not judged for this fault, or for want of memory for a query
-abbrev pub RefusesCall : Request → List ℕ → List ℕ → NotJudged → Type 0
-RefusesCall r header part (Fault fault) = HasFault r header part fault
-RefusesCall r header part Memory = IsFit r header part
+abbrev pub DeclinesCall : Request → List ℕ → List ℕ → NotJudged → Type 0
+DeclinesCall r header part (Fault fault) = HasFault r header part fault
+DeclinesCall r header part Memory = IsFit r header part

@@ -4,7 +4,7 @@ ghost use Rattle.cj_stream.specs.Engine.{IsFresh, rules_of};
 ghost use Rattle.cj_stream.specs.Sink.{HasRisen};
 ghost use Rattle.cj_stream.specs.Verdict.{Rules};
 ghost use Rattle.cityseq_c.specs.Judged.{Judged};
-ghost use Rattle.cityseq_c.specs.Query.{RefusesCall};
+ghost use Rattle.cityseq_c.specs.Query.{DeclinesCall};
 ghost use Rattle.cityseq_c.specs.Request.{AreCut, IsAsked, IsFit, needed_limits, options_of};
 
 use crate::finder::Finder;
@@ -43,7 +43,7 @@ pub fn are_cut(header: &[u8], part: &[u8]) -> bool
 fn limits_of(header: &[u8], part: &[u8], request: &Request<'_>) -> Result<Limits, NotJudged>
     ensures ok { IfOk result (λ limits. IsFit request.now header.now part.now
         × (limits ≡ record { line = request.now.line_limit; depth = request.now.depth_limit })) }
-    ensures refused { IfErr result (RefusesCall request.now header.now part.now) }
+    ensures declined { IfErr result (DeclinesCall request.now header.now part.now) }
 {
     let limits = match Limits::new(request.line_limit, request.depth_limit) {
         Ok(limits) => limits,
@@ -125,7 +125,7 @@ pub fn judge<S: LineSink>(
     ensures fit { OnOk result (IsFit request.now header.now part.now) }
     ensures cause { IfOk result (λ outcome. outcome.ended ≡ End.WriteFault
         → HasRisen (S.failures sink.old) (S.failures sink.new)) }
-    ensures refused { IfErr result (RefusesCall request.now header.now part.now) }
+    ensures declined { IfErr result (DeclinesCall request.now header.now part.now) }
     ensures unread { OnErr result ((sink.new ≡ sink.old) × (reports.new ≡ reports.old)) }
 {
     let limits = limits_of(header, part, request)?;

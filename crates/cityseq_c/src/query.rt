@@ -2,7 +2,7 @@
 ghost use Rattle.std.specs.Prelude.{◌≡◌, None, Some, Ok, Err, IfOk, IfErr, OnOk, MatchOption};
 ghost use Rattle.cj_stream.specs.Adding.{flags_with, no_types};
 ghost use Rattle.cj_stream.specs.Query.{criteria};
-ghost use Rattle.cityseq_c.specs.Query.{Reads, Refuses, RefusesQuery};
+ghost use Rattle.cityseq_c.specs.Query.{Reads, DeclinesPart, DeclinesQuery};
 ghost use Rattle.cityseq_c.specs.Request.{AsksFor, box_asked, box_fault as fault_of_box, ids_asked, items, lods_asked};
 ghost use Rattle.cityseq_c.specs.Request.{text_asked, types_asked};
 
@@ -114,7 +114,7 @@ fn set_ids(query: &mut Query, request: &Request<'_>) -> Result<(), NotJudged>
     requires { (criteria query.old).ids ≡ None }
     ensures ok { OnOk result ((ids_asked request.now ≡ Ok (criteria query.new).ids)
         × (criteria query.new ≡ record (criteria query.old) { ids = (criteria query.new).ids })) }
-    ensures refused { IfErr result (Refuses (ids_asked request.now)) }
+    ensures declined { IfErr result (DeclinesPart (ids_asked request.now)) }
 {
     match text_of(request.asks_ids, request.ids)? {
         Some(ids) => add_ids(query, ids),
@@ -131,7 +131,7 @@ fn set_types(query: &mut Query, request: &Request<'_>) -> Result<(), NotJudged>
     requires { (criteria query.old).types ≡ None }
     ensures ok { OnOk result ((types_asked request.now ≡ Ok (criteria query.new).types)
         × (criteria query.new ≡ record (criteria query.old) { types = (criteria query.new).types })) }
-    ensures refused { IfErr result (Refuses (types_asked request.now)) }
+    ensures declined { IfErr result (DeclinesPart (types_asked request.now)) }
 {
     match text_of(request.asks_types, request.types)? {
         Some(types) => add_types(query, types),
@@ -148,7 +148,7 @@ fn set_lods(query: &mut Query, request: &Request<'_>) -> Result<(), NotJudged>
     requires { (criteria query.old).lods ≡ None }
     ensures ok { OnOk result ((lods_asked request.now ≡ Ok (criteria query.new).lods)
         × (criteria query.new ≡ record (criteria query.old) { lods = (criteria query.new).lods })) }
-    ensures refused { IfErr result (Refuses (lods_asked request.now)) }
+    ensures declined { IfErr result (DeclinesPart (lods_asked request.now)) }
 {
     match text_of(request.asks_lods, request.lods)? {
         Some(lods) => add_lods(query, lods),
@@ -165,7 +165,7 @@ fn set_box(query: &mut Query, request: &Request<'_>) -> Result<(), NotJudged>
     requires { (criteria query.old).box ≡ None }
     ensures ok { OnOk result ((box_asked request.now ≡ Ok (criteria query.new).box)
         × (criteria query.new ≡ record (criteria query.old) { box = (criteria query.new).box })) }
-    ensures refused { IfErr result (Refuses (box_asked request.now)) }
+    ensures declined { IfErr result (DeclinesPart (box_asked request.now)) }
 {
     match text_of(request.asks_box, request.bbox)? {
         Some(bbox) => match query.bbox(bbox) {
@@ -184,7 +184,7 @@ fn set_box(query: &mut Query, request: &Request<'_>) -> Result<(), NotJudged>
 /// The first fault of the parts in this order, or `Memory` if no memory was granted.
 pub fn query_of(alloc: Global, request: &Request<'_>) -> Result<Query, NotJudged>
     ensures ok { IfOk result (λ query. AsksFor request.now (criteria query)) }
-    ensures refused { IfErr result (RefusesQuery request.now) }
+    ensures declined { IfErr result (DeclinesQuery request.now) }
 {
     let mut query = Query::all(alloc);
     set_ids(&mut query, request)?;

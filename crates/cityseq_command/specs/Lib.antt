@@ -1,9 +1,9 @@
 pub mod Commands
+pub mod DeclineRows
 pub mod EndRows
 pub mod OptionRows
 pub mod Options
 pub mod Performed
-pub mod RefusalRows
 pub mod Report
 pub mod Reporting
 pub mod Summary

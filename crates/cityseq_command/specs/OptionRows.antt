@@ -42,7 +42,7 @@ TypeRows =
 abbrev pub BoxRow : Type 0
 BoxRow = criteria_by (record no_texts { box = Some (codes "3,0,1,1") }) ≡ Err EmptyBox
 
--- a type that is refused comes before a box that is refused
+-- a type that is declined comes before a box that is declined
 abbrev pub OrderRows : Type 0
 OrderRows =
     (criteria_by (record no_texts { types = Some (codes "Building"); box = Some (codes "1") }) ≡ Err BadBox)

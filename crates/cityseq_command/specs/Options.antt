@@ -25,7 +25,7 @@ texts_of t = record {
   box = option_copied t.bbox;
 }
 
--- the types that an option names, between its commas; or its refusal
+-- the types that an option names, between its commas; or its fault
 abbrev pub types_or_fault : Option (List Bool) → Result (Option (List Bool)) QueryFault
 types_or_fault None = Err UnknownTypeName
 types_or_fault (Some flags) = Ok (Some flags)
@@ -34,7 +34,7 @@ abbrev pub types_wanted : Option (List ℕ) → Result (Option (List Bool)) Quer
 types_wanted None = Ok None
 types_wanted (Some text) = types_or_fault (flags_with (fields text) no_types)
 
--- the box that an option gives, or its refusal
+-- the box that an option gives, or its fault
 abbrev pub box_or_fault : Result Box QueryFault → Result (Option Box) QueryFault
 box_or_fault (Ok box) = Ok (Some box)
 box_or_fault (Err fault) = Err fault
@@ -43,7 +43,7 @@ abbrev pub box_wanted : Option (List ℕ) → Result (Option Box) QueryFault
 box_wanted None = Ok None
 box_wanted (Some text) = box_or_fault (box_text text)
 
--- the criteria of these ids and LoDs, types and a box; the first refusal of the last two, if there is one
+-- the criteria of these ids and LoDs, types and a box; the first fault of the last two, if there is one
 abbrev pub criteria_with : Option (List (List ℕ)) → Option (List (List ℕ)) → Result (Option (List Bool)) QueryFault
     → Result (Option Box) QueryFault → Result Criteria QueryFault
 criteria_with ids lods (Err fault) box = Err fault
@@ -55,15 +55,15 @@ abbrev pub criteria_by : Texts → Result Criteria QueryFault
 criteria_by t = criteria_with (option_map fields t.ids) (option_map fields t.lods) (types_wanted t.types)
     (box_wanted t.box)
 
--- memory is wanted for ids, or for LoDs, which come after types that are not refused
+-- memory is wanted for ids, or for LoDs, which come after types that are not declined
 abbrev pub WantsMemory : Texts → Type 0
 WantsMemory t = IsSome t.ids ⊎ (IsSome t.lods × IsOk (types_wanted t.types))
 
--- A fault is the first refusal of the texts, set in the order ids, types, LoDs and box: where memory was refused they
+-- This is the first fault of the texts, set in the order ids, types, LoDs and box: where memory was refused they
 -- want some, and else it is what is wrong with the types or the box.
-abbrev pub RefusesBy : Texts → QueryFault → Type 0
-RefusesBy t Memory = WantsMemory t
-RefusesBy t UnknownTypeName = criteria_by t ≡ Err UnknownTypeName
-RefusesBy t BadBox = criteria_by t ≡ Err BadBox
-RefusesBy t BoxRange = criteria_by t ≡ Err BoxRange
-RefusesBy t EmptyBox = criteria_by t ≡ Err EmptyBox
+abbrev pub DeclinesTexts : Texts → QueryFault → Type 0
+DeclinesTexts t Memory = WantsMemory t
+DeclinesTexts t UnknownTypeName = criteria_by t ≡ Err UnknownTypeName
+DeclinesTexts t BadBox = criteria_by t ≡ Err BadBox
+DeclinesTexts t BoxRange = criteria_by t ≡ Err BoxRange
+DeclinesTexts t EmptyBox = criteria_by t ≡ Err EmptyBox

@@ -10,7 +10,7 @@ use Rattle.cj_stream.specs.Options.{OptionSet}
 use Rattle.cj_stream.specs.Query.{criteria}
 use Rattle.cj_stream.specs.declared.query.fault.QueryFault.{QueryFault}
 use Rattle.cityseq_command.specs.Commands.{IsCalled, program_app}
-use Rattle.cityseq_command.specs.Options.{Texts, criteria_by, RefusesBy}
+use Rattle.cityseq_command.specs.Options.{Texts, criteria_by, DeclinesTexts}
 use Rattle.cityseq_command.specs.declared.ask.Ask.{Ask}
 use Rattle.cityseq_command.specs.declared.ask.Ask.TheVariants.{Check, Filter, Info}
 use Rattle.cityseq_command.specs.declared.asking.NoAsk.{NoAsk}
@@ -41,10 +41,10 @@ IsOutOfRange LineLimit limits = ¬ InLine limits.line
 IsOutOfRange DepthLimit limits = InLine limits.line × ¬ InDepth limits.depth
 
 -- a command was given limits of which this is the first that is out of its range
-pub record RefusesLimits (m : ArgMatches) (fault : LimitFault) : Type 0 where
+pub record DeclinesLimits (m : ArgMatches) (fault : LimitFault) : Type 0 where
   pub limits : LimitPair
   pub given : HasLimits m limits
-  pub refused : IsOutOfRange fault limits
+  pub out_of_range : IsOutOfRange fault limits
 
 -- an option without a text is given, or not
 pub record HasFlag (m : ArgMatches) (option : List ℕ) (given : Bool) : Type 0 where
@@ -75,9 +75,9 @@ AsksBy name m (Filter limits query options) = (name ≡ codes "filter") × HasLi
     × (criteria_by (texts_in m) ≡ Ok (criteria query)) × HasFilterOptions m options
 AsksBy name m (Info limits options) = (name ≡ codes "info") × HasLimits m limits × HasInfoOptions m options
 
--- a command of this name with these options cannot be asked: it is `filter`, and this is the first refusal of its texts
+-- a command of this name with these options cannot be asked: it is `filter`, and this is the first fault of its texts
 abbrev pub CannotAsk : List ℕ → ArgMatches → QueryFault → Type 0
-CannotAsk name m fault = (name ≡ codes "filter") × RefusesBy (texts_in m) fault
+CannotAsk name m fault = (name ≡ codes "filter") × DeclinesTexts (texts_in m) fault
 
 -- a name is that of no command of the program
 abbrev pub IsNoCommand : List ℕ → Type 0
@@ -88,20 +88,20 @@ abbrev pub AsksFor : List Text → Ask → Type 0
 AsksFor words ask = (name : List ℕ) × (options : ArgMatches) × IsCalled words name options × AsksBy name options ask
 
 -- what a command of this name asks for with these options cannot be done: it is none of the program's; this is the
--- first limit that is out of its range; or this is the first refusal of its texts
-abbrev pub Refuses : List ℕ → ArgMatches → NoAsk → Type 0
-Refuses name m (Words error) = ⊥
-Refuses name m NoCommand = IsNoCommand name
-Refuses name m (Limits fault) = RefusesLimits m fault
-Refuses name m (Query fault) = CannotAsk name m fault
+-- first limit that is out of its range; or this is the first fault of its texts
+abbrev pub DeclinesOptions : List ℕ → ArgMatches → NoAsk → Type 0
+DeclinesOptions name m (Words error) = ⊥
+DeclinesOptions name m NoCommand = IsNoCommand name
+DeclinesOptions name m (Limits fault) = DeclinesLimits m fault
+DeclinesOptions name m (Query fault) = CannotAsk name m fault
 
 -- what these words ask for cannot be done: by the rules of `clap` they have a fault or ask for help, or memory was
--- refused to it; they name no command of the program; or a command that they name refuses its limits or its query
+-- refused to it; they name no command of the program; or a command that they name declines its limits or its query
 abbrev pub MayDecline : List Text → NoAsk → Type 0
 MayDecline words (Words error) = HasKind (fault_of program_app words) error
 MayDecline words NoCommand = (name : List ℕ) → option_map (λ p. p.0) (subcommand_of program_app words) ≡ Some name
     → IsNoCommand name
 MayDecline words (Limits fault) = (name : List ℕ) × (options : ArgMatches) × IsCalled words name options
-    × Refuses name options (Limits fault)
+    × DeclinesOptions name options (Limits fault)
 MayDecline words (Query fault) = (name : List ℕ) × (options : ArgMatches) × IsCalled words name options
-    × Refuses name options (Query fault)
+    × DeclinesOptions name options (Query fault)

@@ -4,9 +4,9 @@ ghost use Rattle.cj_stream.specs.Adding.{flags_with, no_types};
 ghost use Rattle.cj_stream.specs.BoxText.{fields};
 ghost use Rattle.cj_stream.specs.Query.{criteria};
 ghost use Rattle.cj_stream.specs.declared.query.fault.QueryFault.TheVariants.{Memory, UnknownTypeName};
-ghost use Rattle.cityseq_command.specs.Options.{criteria_by, texts_of, RefusesBy};
+ghost use Rattle.cityseq_command.specs.Options.{criteria_by, texts_of, DeclinesTexts};
 ghost use Rattle.cityseq_command.specs.Performed.{TakesOptions};
-ghost use Rattle.cityseq_command.specs.Words.{AsksBy, AsksFor, MayDecline, Refuses};
+ghost use Rattle.cityseq_command.specs.Words.{AsksBy, AsksFor, MayDecline, DeclinesOptions};
 
 use crate::ask::Ask;
 use crate::words::{
@@ -54,7 +54,7 @@ pub fn read_ask(alloc: Global, words: &[String]) -> Result<Ask, NoAsk>
 fn ask_of(alloc: Global, name: &str, options: &ArgMatches) -> Result<Ask, NoAsk>
     ensures ok { IfOk result (λ ask. AsksBy name.now options.now ask) }
     ensures takes { IfOk result TakesOptions }
-    ensures err { IfErr result (Refuses name.now options.now) }
+    ensures err { IfErr result (DeclinesOptions name.now options.now) }
 {
     let limits = match limits_of(options) {
         Ok(limits) => limits,
@@ -85,7 +85,7 @@ fn ask_of(alloc: Global, name: &str, options: &ArgMatches) -> Result<Ask, NoAsk>
 /// Types and a box need no allocation.
 pub fn query_of(alloc: Global, texts: &QueryTexts) -> Result<Query, QueryFault>
     ensures ok { IfOk result (λ query. criteria_by (texts_of texts.now) ≡ Ok (criteria query)) }
-    ensures err { IfErr result (λ fault. RefusesBy (texts_of texts.now) fault) }
+    ensures err { IfErr result (λ fault. DeclinesTexts (texts_of texts.now) fault) }
 {
     let mut query = Query::all(alloc);
     if let Some(ids) = texts.ids {

@@ -32,8 +32,8 @@ pub fn decline<W: Write + Drop, E: Write + Drop>(
     match why {
         NoAsk::Words(error) => tell_error(alloc, error, out, err),
         NoAsk::NoCommand => tell_wrong_words("no command: check, filter or info\n", err),
-        NoAsk::Limits(fault) => tell_refused_limit(*fault, err),
-        NoAsk::Query(fault) => tell_refused_query(*fault, err),
+        NoAsk::Limits(fault) => tell_declined_limit(*fault, err),
+        NoAsk::Query(fault) => tell_declined_query(*fault, err),
     }
 }
 
@@ -84,7 +84,7 @@ fn tell_wrong_words<E: Write + Drop>(text: &str, err: &mut Output<E>) -> u8
 }
 
 /// Writes which limit is out of its range, and returns the exit status.
-fn tell_refused_limit<E: Write + Drop>(fault: LimitFault, err: &mut Output<E>) -> u8
+fn tell_declined_limit<E: Write + Drop>(fault: LimitFault, err: &mut Output<E>) -> u8
     ensures { TellsFault (limit_line fault) 2 result (channel E.contents err.old) (channel E.contents err.new) }
 {
     let _ = write_limit_fault(err, fault);
@@ -92,7 +92,7 @@ fn tell_refused_limit<E: Write + Drop>(fault: LimitFault, err: &mut Output<E>) -
 }
 
 /// Writes what is wrong with a query, and returns the exit status.
-fn tell_refused_query<E: Write + Drop>(fault: QueryFault, err: &mut Output<E>) -> u8
+fn tell_declined_query<E: Write + Drop>(fault: QueryFault, err: &mut Output<E>) -> u8
     ensures { TellsFault (query_line fault) (status_of_query fault) result (channel E.contents err.old)
         (channel E.contents err.new) }
 {

@@ -1,7 +1,7 @@
-//! Laws of two definitions: what is written of an end, and which refusal a query has. Each is
+//! Laws of two definitions: what is written of an end, and which fault a query has. Each is
 //! proved once.
 ghost use Rattle.cityseq_command.specs.EndRows.{FailedRow, GoodRow, LineRows, RefusedRows};
-ghost use Rattle.cityseq_command.specs.RefusalRows.{MemoryRows, NoMemoryRows, OtherRows};
+ghost use Rattle.cityseq_command.specs.DeclineRows.{MemoryRows, NoMemoryRows, OtherRows};
 
 /// The end that is written, given the flush before it, and the line and the status of each end.
 pub fn ends_compute()
@@ -11,8 +11,8 @@ pub fn ends_compute()
     ensures refused { RefusedRows }
 {}
 
-/// The first refusal of options, on small texts with known results.
-pub fn refusals_compute()
+/// The first fault of options, on small texts with known results.
+pub fn declines_compute()
     ensures memory { MemoryRows }
     ensures no_memory { NoMemoryRows }
     ensures others { OtherRows }

@@ -3,7 +3,7 @@ ghost use Rattle.cityseq_command.specs.OptionRows.{NothingRow, IdRows, LodRow, T
 
 use cj_stream::row_laws::boxes_compute;
 
-/// The definition, on small texts with known criteria or refusals.
+/// The definition, on small texts with known criteria or faults.
 pub fn options_compute()
     ensures nothing { NothingRow }
     ensures ids { IdRows }

@@ -6,7 +6,7 @@ ghost use Rattle.clap.specs.declared.error.kind.ErrorKind.{ErrorKind};
 ghost use Rattle.cityseq_command.specs.Commands.{IsOption, IsCommand, line_rule, depth_rule, flag_rule, text_rule};
 ghost use Rattle.cityseq_command.specs.Commands.{with_limits as limited, check_app, filter_app, info_app, program_app};
 ghost use Rattle.cityseq_command.specs.Options.{texts_of as texts_given};
-ghost use Rattle.cityseq_command.specs.Words.{texts_in, HasNumber, HasLimits, RefusesLimits, HasFlag, HasCheckOptions};
+ghost use Rattle.cityseq_command.specs.Words.{texts_in, HasNumber, HasLimits, DeclinesLimits, HasFlag, HasCheckOptions};
 ghost use Rattle.cityseq_command.specs.Words.{HasFilterOptions, HasInfoOptions};
 
 use cj_budget::{LimitFault, Limits, USUAL_DEPTH, USUAL_LINE};
@@ -304,7 +304,7 @@ fn number_of(matches: &ArgMatches, option: &str, usual: u64) -> u64
 /// The first limit that is out of its range.
 pub fn limits_of(matches: &ArgMatches) -> Result<Limits, LimitFault>
     ensures ok { IfOk result (λ limits. HasLimits matches.now limits) }
-    ensures err { IfErr result (λ fault. RefusesLimits matches.now fault) }
+    ensures err { IfErr result (λ fault. DeclinesLimits matches.now fault) }
 {
     let line = number_of(matches, LINE_LIMIT, USUAL_LINE);
     let depth = number_of(matches, DEPTH, USUAL_DEPTH);

@@ -6,7 +6,7 @@ returns-clause-checks c =
     let j = c.judge.ensures in
     record {
       went = c.judge.result;
-      goes = goes _ _ c.args.request.now c.args.header.now c.args.part.now _ _ c.args.reports.now c.judge.new.reports (λ rules o. Unit {0}) (λ rules o judged. tt) c.judge.result j.ok j.refused j.unread;
+      goes = goes _ _ c.args.request.now c.args.header.now c.args.part.now _ _ c.args.reports.now c.judge.new.reports (λ rules o. Unit {0}) (λ rules o judged. tt) c.judge.result j.ok j.declined j.unread;
       told = c.of.ensures;
     }
 

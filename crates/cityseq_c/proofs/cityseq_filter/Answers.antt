@@ -20,7 +20,7 @@ returns-clause-filters c =
     (λ rules o. Copied rules (header ++ part) out written o)
     (λ rules o judged. copied rules (header ++ part) o a b c.args.reports.now new out written judged
     c.new-room.ensures.written (λ loan. c.output-1.given.1.1 (sym c.new-room.ensures.loan ∙ sym loan)) c.written.ensures)
-    c.judge-judged.result j.ok j.refused j.unread)
+    c.judge-judged.result j.ok j.declined j.unread)
 
 pub returns-clause-unjudged : goal.returns-clause-unjudged
 returns-clause-unjudged c which =

@@ -262,7 +262,7 @@ fn check_wrong_words(
 }
 
 #[test]
-fn wrong_words_are_refused_unread(rt: HostRuntime) -> Result<(), Fail> {
+fn wrong_words_are_declined_unread(rt: HostRuntime) -> Result<(), Fail> {
     check_wrong_words(&rt, rt.alloc(), &[], "Checks, filters and summarises")?;
     check_wrong_words(
         &rt,
@@ -297,7 +297,7 @@ fn wrong_words_are_refused_unread(rt: HostRuntime) -> Result<(), Fail> {
 }
 
 #[test]
-fn limits_out_of_range_are_refused_unread(rt: HostRuntime) -> Result<(), Fail> {
+fn limits_out_of_range_are_declined_unread(rt: HostRuntime) -> Result<(), Fail> {
     let lines = "error: invalid value '0' for '--line-limit <BYTES>': 0 is not in 1..=1073741824";
     check_wrong_words(&rt, rt.alloc(), &["filter", "--line-limit", "0"], lines)?;
     let lines =

@@ -1,4 +1,4 @@
-//! Limits in range, and limits that are refused.
+//! Limits in range, and limits that are declined.
 use cj_budget::{LimitFault, Limits, Peaks, USUAL_DEPTH, USUAL_LINE};
 use std::process::Abort;
 
@@ -38,7 +38,7 @@ fn check(rt: &impl Abort, rows: &[Row]) {
 }
 
 #[test]
-fn limits_are_refused_in_order(rt: HostRuntime) {
+fn limits_are_declined_in_order(rt: HostRuntime) {
     let rows = [
         Row {
             name: "both too small or great",

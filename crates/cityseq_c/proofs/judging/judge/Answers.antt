@@ -5,14 +5,14 @@ use Rattle.cj_stream.specs.Query.{criteria, rules_for}
 use Rattle.cj_stream.specs.Verdict.{Rules}
 use Rattle.cityseq_c.specs.Request.{IsFit}
 use Rattle.cityseq_c.proofs.CalledLemmas.{known-ok}
-use Rattle.cityseq_c.proofs.FaultLemmas.{call-refused}
-use Rattle.cityseq_c.proofs.NarrowLemmas.{asked-ok, refused-memory}
+use Rattle.cityseq_c.proofs.FaultLemmas.{call-declined}
+use Rattle.cityseq_c.proofs.NarrowLemmas.{asked-ok, declined-memory}
 use Rattle.cityseq_c.proofs.judging.judge.Goals as goal
 
-pub returns-in_err-query-clause-refused : goal.returns-in_err-query-clause-refused
-returns-in_err-query-clause-refused g c =
+pub returns-in_err-query-clause-declined : goal.returns-in_err-query-clause-declined
+returns-in_err-query-clause-declined g c =
     let returned = err_from_is_err_and c.from_residual-in_err-query.result c.from_residual-in_err-query.ensures.1 in
-    rw (returned.1, returned.2) (call-refused c.args.request.now c.args.header.now c.args.part.now c.in_ok-limits.ensures.ok.0 c.in_err-query.field-0.0 c.in_err-query.ensures.refused)
+    rw (returned.1, returned.2) (call-declined c.args.request.now c.args.header.now c.args.part.now c.in_ok-limits.ensures.ok.0 c.in_err-query.field-0.0 c.in_err-query.ensures.declined)
 
 pub returns-clause-ok : goal.returns-clause-ok
 returns-clause-ok g c =
@@ -29,7 +29,7 @@ returns-clause-fit g c =
     let fit = c.in_ok-limits.ensures.ok.0 in
     known-ok (IsFit c.args.request.now c.args.header.now c.args.part.now) c.judge_stream.result fit
 
-pub returns-clause-refused : goal.returns-clause-refused
-returns-clause-refused g c =
-    refused-memory g.S.LineSink.takes g.S.LineSink.leaves c.args.request.now c.args.header.now c.args.part.now c.args.sink.now c.judge_stream.new.sink
+pub returns-clause-declined : goal.returns-clause-declined
+returns-clause-declined g c =
+    declined-memory g.S.LineSink.takes g.S.LineSink.leaves c.args.request.now c.args.header.now c.args.part.now c.args.sink.now c.judge_stream.new.sink
     c.args.reports.now c.judge_stream.new.reports c.in_ok-limits.ensures.ok.0 c.judge_stream.result c.judge_stream.ensures.memory

@@ -37,10 +37,10 @@ module _ (old new : Criteria) (r : Result (Unit {0}) QueryFault) where
   others-stay entry (Some row) h ok only =
       h.1 ∙ ap (λ a. with_type row.number a) only ∙ ap (λ flags. record entry { types = Some flags }) (sym (ap flags_of h.1))
 
-  -- where a name was refused, it is no type's
-  flags-refused : (names : List (List ℕ)) (row : Option ObjectRow) → Adds old new r row → is_err r ≡ true → flags_by names (flags_of old) row ≡ None
-  flags-refused names None h err = refl
-  flags-refused names (Some row) h err = absurd (cc (ap (λ z. is_err z) h.0, err))
+  -- where a name was declined, it is no type's
+  flags-declined : (names : List (List ℕ)) (row : Option ObjectRow) → Adds old new r row → is_err r ≡ true → flags_by names (flags_of old) row ≡ None
+  flags-declined names None h err = refl
+  flags-declined names (Some row) h err = absurd (cc (ap (λ z. is_err z) h.0, err))
 
 -- the name that comes next, and those after it, go on from the flags so far to those of all names
 flags-here : (all : List (List ℕ)) (i : ℕ) (name : List ℕ) (flags : List Bool) → (i < length all) × (name ≡ get_or all i name)
@@ -76,8 +76,8 @@ returns-then-is_err c =
     let next = YieldsList-turn texts yielded _ c.loop-name.yielded_by _ _ name c.in-Some.is c.next.ensures.steps in
     let all = items c.args.types.now in
     let old = criteria c.loop-name.query in
-    let refused = flags-refused old (criteria c.add_type.new.self) c.add_type.result (drop (length yielded + 1) all) (row_named name.now) c.add_type.ensures.asks (sym c.is_err.ensures.value ∙ c.if-is_err.true) in
-    let none : flags_with all no_types ≡ None = sym (flags-here all (length yielded) name.now (flags_of old) next c.loop-name.invariant.left) ∙ refused in
+    let declined = flags-declined old (criteria c.add_type.new.self) c.add_type.result (drop (length yielded + 1) all) (row_named name.now) c.add_type.ensures.asks (sym c.is_err.ensures.value ∙ c.if-is_err.true) in
+    let none : flags_with all no_types ≡ None = sym (flags-here all (length yielded) name.now (flags_of old) next c.loop-name.invariant.left) ∙ declined in
     rw none refl
 
 pub returns : goal.returns

@@ -38,11 +38,11 @@ module _ (old new : Criteria) (r : Result (Unit {0}) QueryFault) where
   others-stay entry (Some row) h ok only =
       h.1 ∙ ap (λ a. with_type row.number a) only ∙ ap (λ flags. record entry { types = Some flags }) (sym (ap flags_of h.1))
 
-  -- where a name was refused, it is no type's
-  flags-refused : (names : List (List ℕ)) (fault : QueryFault) (row : Option ObjectRow) → Adds old new r row → r ≡ Err fault
+  -- where a name was declined, it is no type's
+  flags-declined : (names : List (List ℕ)) (fault : QueryFault) (row : Option ObjectRow) → Adds old new r row → r ≡ Err fault
       → (fault ≡ UnknownTypeName) × (flags_by names (flags_of old) row ≡ None)
-  flags-refused names fault None h err = (cc (h.0, err), refl)
-  flags-refused names fault (Some row) h err = absurd (cc (h.0, err))
+  flags-declined names fault None h err = (cc (h.0, err), refl)
+  flags-declined names fault (Some row) h err = absurd (cc (h.0, err))
 
 -- the name that comes next, and those after it, go on from the flags so far to those of all names
 flags-here : (all : List (List ℕ)) (i : ℕ) (name : List ℕ) (flags : List Bool) → (i < length all) × (name ≡ get_or all i name)
@@ -78,10 +78,10 @@ returns-in_err-add_type c =
     let next = YieldsList-turn texts yielded _ c.loop-name.yielded_by _ _ name c.in-Some.is c.next.ensures.steps in
     let all = fields c.args.types.now in
     let old = criteria c.loop-name.query in
-    let refused = flags-refused old (criteria c.add_type.new.self) c.add_type.result (drop (length yielded + 1) all) _ (row_named name.now) c.add_type.ensures.asks c.in_err-add_type.was in
-    let none : flags_with all no_types ≡ None = sym (flags-here all (length yielded) name.now (flags_of old) next c.loop-name.invariant.left) ∙ refused.1 in
+    let declined = flags-declined old (criteria c.add_type.new.self) c.add_type.result (drop (length yielded + 1) all) _ (row_named name.now) c.add_type.ensures.asks c.in_err-add_type.was in
+    let none : flags_with all no_types ≡ None = sym (flags-here all (length yielded) name.now (flags_of old) next c.loop-name.invariant.left) ∙ declined.1 in
     let returned = err_from_is_err_and c.from_residual.result c.from_residual.ensures.1 in
-    rw (none, returned.1, returned.2, refused.0) refl
+    rw (none, returned.1, returned.2, declined.0) refl
 
 pub returns : goal.returns
 returns c =

@@ -7,7 +7,7 @@ use Rattle.cj_stream.specs.BoxText.{fields, is_edge, box_between, is_empty, are_
 use Rattle.cj_stream.specs.Query.{criteria}
 use Rattle.cj_stream.specs.declared.query.fault.QueryFault.{QueryFault}
 use Rattle.cj_stream.specs.declared.query.fault.QueryFault.TheVariants.{Memory, UnknownTypeName, BadBox, BoxRange, EmptyBox}
-use Rattle.cityseq_command.specs.Options.{Texts, types_or_fault, types_wanted, box_or_fault, box_wanted, criteria_by, texts_of, RefusesBy}
+use Rattle.cityseq_command.specs.Options.{Texts, types_or_fault, types_wanted, box_or_fault, box_wanted, criteria_by, texts_of, DeclinesTexts}
 use Rattle.cityseq_command.proofs.asking.query_of.Goals.{in-Some+in_ok-add_ids, in_default, in-Some-types+in_ok-add_types, in_default-types, in-Some-lods+in_ok-add_lods, in_default-lods, in-Some-bbox+in_ok-bbox, in_default-bbox}
 use Rattle.cityseq_command.proofs.asking.query_of.Goals as goal
 
@@ -23,27 +23,27 @@ module _ (r : Result (Unit {0}) QueryFault) (old new : Criteria) where
   types-set None h ok = absurd (cc (h, ok))
   types-set (Some flags) h ok = (ap (λ a. Ok a.types) (sym h.1), h.1 ∙ ap (λ types. record old { types = types }) (sym (ap (λ a. a.types) h.1)))
 
-  types-refused : (fault : QueryFault) (flags : Option (List Bool)) → SetsTypes flags → r ≡ Err fault → (fault ≡ UnknownTypeName) × (flags ≡ None)
-  types-refused fault None h err = (cc (h, err), refl)
-  types-refused fault (Some flags) h err = absurd (cc (h.0, err))
+  types-declined : (fault : QueryFault) (flags : Option (List Bool)) → SetsTypes flags → r ≡ Err fault → (fault ≡ UnknownTypeName) × (flags ≡ None)
+  types-declined fault None h err = (cc (h, err), refl)
+  types-declined fault (Some flags) h err = absurd (cc (h.0, err))
 
   box-set : (box : Result Box QueryFault) → SetsBox box → r ≡ Ok tt → (box_or_fault box ≡ Ok new.box) × (new ≡ record old { box = new.box })
   box-set (Ok box) h ok = (ap (λ a. Ok a.box) (sym h.1), h.1 ∙ ap (λ box. record old { box = box }) (sym (ap (λ a. a.box) h.1)))
   box-set (Err fault) h ok = absurd (cc (h.0, ok))
 
-  box-refused : (fault : QueryFault) (box : Result Box QueryFault) → SetsBox box → r ≡ Err fault → box ≡ Err fault
-  box-refused fault (Ok box) h err = absurd (cc (h.0, err))
-  box-refused fault (Err other) h err = cc (h.0, err)
+  box-declined : (fault : QueryFault) (box : Result Box QueryFault) → SetsBox box → r ≡ Err fault → box ≡ Err fault
+  box-declined fault (Ok box) h err = absurd (cc (h.0, err))
+  box-declined fault (Err other) h err = cc (h.0, err)
 
--- memory is no reason to refuse a box
-refused-by-text : (wrong wide empty : Bool) (box : Box) → (if wrong then Err BadBox else if wide then Err BoxRange else if empty then Err EmptyBox else Ok box) ≡ Err Memory → ⊥
-refused-by-text true wide empty box e = cc e
-refused-by-text false true empty box e = cc e
-refused-by-text false false true box e = cc e
-refused-by-text false false false box e = cc e
+-- memory is no reason to decline a box
+declined-by-text : (wrong wide empty : Bool) (box : Box) → (if wrong then Err BadBox else if wide then Err BoxRange else if empty then Err EmptyBox else Ok box) ≡ Err Memory → ⊥
+declined-by-text true wide empty box e = cc e
+declined-by-text false true empty box e = cc e
+declined-by-text false false true box e = cc e
+declined-by-text false false false box e = cc e
 
 box-takes-none : (s : List ℕ) → box_text s ≡ Err Memory → ⊥
-box-takes-none s = refused-by-text (not (are_four_numbers (fields s))) (not (list_all is_edge (fields s))) (is_empty (box_between (fields s))) (box_between (fields s))
+box-takes-none s = declined-by-text (not (are_four_numbers (fields s))) (not (list_all is_edge (fields s))) (is_empty (box_between (fields s))) (box_between (fields s))
 
 pub returns-clause-ok : goal.returns-clause-ok
 returns-clause-ok c =
@@ -74,13 +74,13 @@ returns-clause-ok c =
     ] in
     rw (types.0, box.0, box.1, lods, types.1, ids) refl
 
--- a refusal that is no want of memory is that of the texts
-refused : (t : Texts) (fault : QueryFault) → criteria_by t ≡ Err fault → (fault ≡ Memory → ⊥) → RefusesBy t fault
-refused t Memory asks other = absurd (other refl)
-refused t UnknownTypeName asks other = asks
-refused t BadBox asks other = asks
-refused t BoxRange asks other = asks
-refused t EmptyBox asks other = asks
+-- a fault that is no want of memory is that of the texts
+declined : (t : Texts) (fault : QueryFault) → criteria_by t ≡ Err fault → (fault ≡ Memory → ⊥) → DeclinesTexts t fault
+declined t Memory asks other = absurd (other refl)
+declined t UnknownTypeName asks other = asks
+declined t BadBox asks other = asks
+declined t BoxRange asks other = asks
+declined t EmptyBox asks other = asks
 
 pub returns-in_err-add_ids-clause-err : goal.returns-in_err-add_ids-clause-err
 returns-in_err-add_ids-clause-err c =
@@ -92,7 +92,7 @@ pub returns-in_err-add_types-clause-err : goal.returns-in_err-add_types-clause-e
 returns-in_err-add_types-clause-err c =
     let texts = texts_of c.args.texts.now in
     let returned = err_from_is_err_and c.from_residual-in_err-add_types.result c.from_residual-in_err-add_types.ensures.1 in
-    let types = types-refused c.add_types.result (criteria c.match-texts.query) (criteria c.add_types.new.query) c.in_err-add_types.field-0.0 _ c.add_types.ensures c.in_err-add_types.was in
+    let types = types-declined c.add_types.result (criteria c.match-texts.query) (criteria c.add_types.new.query) c.in_err-add_types.field-0.0 _ c.add_types.ensures c.in_err-add_types.was in
     rw (returned.1, returned.2, types.0) (rw (c.in-Some-types.is, types.1) refl)
 
 pub returns-in_err-add_lods-clause-err : goal.returns-in_err-add_lods-clause-err
@@ -116,7 +116,7 @@ returns-in_err-bbox-clause-err c =
       | in_default-types w ↦ rw w.in_default-types.is (None, refl)
     ] in
     let fault = c.in_err-bbox.field-0.0 in
-    let box = box-refused c.bbox.result (criteria c.match-texts-3.query) (criteria c.bbox.new.self) fault (box_text c.in-Some-bbox.bbox.now) c.bbox.ensures.asks c.in_err-bbox.was in
+    let box = box-declined c.bbox.result (criteria c.match-texts-3.query) (criteria c.bbox.new.self) fault (box_text c.in-Some-bbox.bbox.now) c.bbox.ensures.asks c.in_err-bbox.was in
     let asks : criteria_by texts ≡ Err fault = rw (types.1, c.in-Some-bbox.is, box) refl in
     let returned = err_from_is_err_and c.from_residual-in_err-bbox.result c.from_residual-in_err-bbox.ensures.1 in
-    rw (returned.1, returned.2) (refused texts fault asks (λ same. box-takes-none c.in-Some-bbox.bbox.now (box ∙ ap Err same)))
+    rw (returned.1, returned.2) (declined texts fault asks (λ same. box-takes-none c.in-Some-bbox.bbox.now (box ∙ ap Err same)))

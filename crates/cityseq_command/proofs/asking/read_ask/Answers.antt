@@ -5,7 +5,7 @@ use Rattle.clap.specs.Words.{Row, Text, found_of, rows_of, subcommand_name_of, s
 use Rattle.clap.specs.declared.parser.matches.ArgMatches.{ArgMatches}
 use Rattle.clap.specs.declared.parser.matches.ArgMatches.TheViews.{out-ArgMatches}
 use Rattle.cityseq_command.specs.Commands.{IsCalled, program_app}
-use Rattle.cityseq_command.specs.Words.{IsNoCommand, MayDecline, Refuses}
+use Rattle.cityseq_command.specs.Words.{IsNoCommand, MayDecline, DeclinesOptions}
 use Rattle.cityseq_command.specs.declared.asking.NoAsk.{NoAsk}
 use Rattle.cityseq_command.specs.declared.asking.NoAsk.TheVariants.{Words, NoCommand, Limits, Query}
 use Rattle.cityseq_command.proofs.asking.read_ask.Goals as goal
@@ -29,12 +29,12 @@ other-command words name rows is none other named =
     let e : name ≡ other = cc in
     subst IsNoCommand e none
 
--- what a command refuses that the words name
-may-decline : (words : List Text) (name : List ℕ) (options : ArgMatches) → IsCalled words name options → (why : NoAsk) → Refuses name options why → MayDecline words why
-may-decline words name options is (Words error) refuses = absurd refuses
-may-decline words name options is NoCommand refuses = other-command words name (rows_of (found_of options)) is refuses
-may-decline words name options is (Limits fault) refuses = (name, options, is, refuses)
-may-decline words name options is (Query fault) refuses = (name, options, is, refuses)
+-- what a command declines that the words name
+may-decline : (words : List Text) (name : List ℕ) (options : ArgMatches) → IsCalled words name options → (why : NoAsk) → DeclinesOptions name options why → MayDecline words why
+may-decline words name options is (Words error) declines = absurd declines
+may-decline words name options is NoCommand declines = other-command words name (rows_of (found_of options)) is declines
+may-decline words name options is (Limits fault) declines = (name, options, is, declines)
+may-decline words name options is (Query fault) declines = (name, options, is, declines)
 
 pub returns-in-Some-clause-ok : goal.returns-in-Some-clause-ok
 returns-in-Some-clause-ok c =
@@ -49,4 +49,4 @@ returns-in-Some-clause-err c =
     let options = c.in-Some.options.now in
     let words = map string_bytes c.args.words.now in
     let is : IsCalled words name options = sym c.in-Ok.ensures.ok ∙ called c.in-Ok.matches name (rows_of (found_of options)) c.in-Some.ensures.name c.in-Some.ensures.rows in
-    IfErr-weaker c.ask_of.result _ _ (λ why refuses. may-decline words name options is why refuses) c.ask_of.ensures.err
+    IfErr-weaker c.ask_of.result _ _ (λ why declines. may-decline words name options is why declines) c.ask_of.ensures.err

@@ -1,6 +1,6 @@
 use Rattle.std.proofs.Common.{refl, inl, inr}
 use Rattle.cj_geometry.specs.ObjectTypes.{object_types}
-use Rattle.cityseq_command.proofs.end_laws.refusals_compute.Goals as goal
+use Rattle.cityseq_command.proofs.end_laws.declines_compute.Goals as goal
 
 pub returns : goal.returns
 unfolding object_types
