@@ -4,7 +4,7 @@
 
 use cityseq_command::command::{OUTPUT_BUFFER, command};
 use cityseq_command::decline::tell_no_memory;
-use cityseq_command::report::WRONG_WORDS;
+use cityseq_command::fault_lines::WRONG_WORDS;
 use cj_stream::Output;
 use std::alloc::{AllocError, Global};
 use std::env;

@@ -13,7 +13,7 @@ use Rattle.cityseq_c.specs.Judged.{IsJudged, Judged}
 use Rattle.cityseq_c.specs.Query.{DeclinesCall}
 use Rattle.cityseq_c.specs.Request.{IsAsked}
 use Rattle.cityseq_c.specs.declared.answer.Answer.{Answer}
-use Rattle.cityseq_c.specs.declared.reports.Told.{Told}
+use Rattle.cityseq_c.specs.declared.report_slice.Told.{Told}
 use Rattle.cityseq_c.specs.declared.request.NotJudged.{NotJudged}
 use Rattle.cityseq_c.specs.declared.request.NotJudged.TheVariants.{Fault, Memory}
 use Rattle.cityseq_c.specs.declared.request.Request.{Request}

@@ -15,16 +15,16 @@ use Rattle.cj_stream.specs.Headline.{IsUnhindered}
 use Rattle.cj_stream.specs.Item.{Item, is_feature}
 use Rattle.cj_stream.specs.Lines.{Line, NoLf, ended_line, lines}
 use Rattle.cj_stream.specs.Parts.{headed}
-use Rattle.cj_stream.specs.Reporting.{Notes}
+use Rattle.cj_stream.specs.ReportSink.{Notes}
 use Rattle.cj_stream.specs.Run.{CountsAll, Ends}
 use Rattle.cj_stream.specs.Sink.{Took}
 use Rattle.cj_stream.specs.Verdict.{Rules, ending, good, item_after, is_kept, kept, kept_from, reported, reported_first, reported_from, refusal_in, verdict}
 use Rattle.cj_stream.proofs.PartsLemmas.{first-headed, lines-headed}
 use Rattle.cityseq_c.specs.Judged.{IsJudged, Judged}
-use Rattle.cityseq_c.specs.Reports.{count_of, noted_loan, noted_room, noted_text, Holds, NotesOne}
+use Rattle.cityseq_c.specs.ReportSlice.{count_of, noted_loan, noted_room, noted_text, Holds, NotesOne}
 use Rattle.cityseq_c.specs.Request.{AreCut}
-use Rattle.cityseq_c.specs.declared.reports.Noted.{Noted}
-use Rattle.cityseq_c.specs.declared.reports.Told.{Told}
+use Rattle.cityseq_c.specs.declared.report_slice.Noted.{Noted}
+use Rattle.cityseq_c.specs.declared.report_slice.Told.{Told}
 use Rattle.cityseq_c.proofs.ReportLemmas.{all-held}
 
 take-nothing : (k : ℕ) → take {A = List ℕ} k [] ≡ []

@@ -25,10 +25,10 @@ use Rattle.cj_stream.specs.Verdict.{Rules, ending, ending_of, good, good_from, i
 use Rattle.cj_stream.proofs.IsLinesLemmas.{lines-are_lines}
 use Rattle.cj_stream.proofs.PartsLemmas.{lines-headed}
 use Rattle.cityseq_c.specs.Judged.{IsJudged, Judged, Tells}
-use Rattle.cityseq_c.specs.Reports.{Holds}
+use Rattle.cityseq_c.specs.ReportSlice.{Holds}
 use Rattle.cityseq_c.specs.Query.{DeclinesCall}
 use Rattle.cityseq_c.specs.Request.{AreCut, IsAsked, IsFit, needed_limits}
-use Rattle.cityseq_c.specs.declared.reports.Told.{Told}
+use Rattle.cityseq_c.specs.declared.report_slice.Told.{Told}
 use Rattle.cityseq_c.specs.declared.request.NotJudged.{NotJudged}
 use Rattle.cityseq_c.specs.declared.request.NotJudged.TheVariants.{Memory}
 use Rattle.cityseq_c.specs.declared.request.Request.{Request}

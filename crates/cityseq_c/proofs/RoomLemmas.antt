@@ -12,7 +12,7 @@ use Rattle.cj_stream.specs.declared.running.Outcome.{Outcome}
 use Rattle.cityseq_c.proofs.FitLemmas.{first-fits}
 use Rattle.cityseq_c.specs.Called.{Copied, IsFull, IsWritten}
 use Rattle.cityseq_c.specs.Judged.{Judged}
-use Rattle.cityseq_c.specs.declared.reports.Told.{Told}
+use Rattle.cityseq_c.specs.declared.report_slice.Told.{Told}
 use Rattle.cityseq_c.specs.Room.{room_bytes, room_loan, written_of, in_room, GrowsBy, StaysAt}
 use Rattle.cityseq_c.specs.declared.room.Room.{Room}
 

@@ -20,7 +20,7 @@ use Rattle.cj_stream.proofs.PartsLemmas.{front-good, header-valid, kept-first}
 use Rattle.cityseq_c.specs.Called.{IsTalliedOf}
 use Rattle.cityseq_c.specs.Judged.{Judged}
 use Rattle.cityseq_c.specs.Tally.{AreShown, HasCounts, IsTally}
-use Rattle.cityseq_c.specs.declared.reports.Told.{Told}
+use Rattle.cityseq_c.specs.declared.report_slice.Told.{Told}
 use Rattle.cityseq_c.specs.declared.tally.Tally.{Tally}
 
 -- without a hindrance the tally is that of all that is kept

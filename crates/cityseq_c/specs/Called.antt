@@ -15,7 +15,7 @@ use Rattle.cityseq_c.specs.Tally.{IsTally}
 use Rattle.cityseq_c.specs.Features.{HoldsRecords, spots}
 use Rattle.cityseq_c.specs.declared.answer.Answer.{Answer}
 use Rattle.cityseq_c.specs.declared.features.record_of.FeatureRecord.{FeatureRecord}
-use Rattle.cityseq_c.specs.declared.reports.Told.{Told}
+use Rattle.cityseq_c.specs.declared.report_slice.Told.{Told}
 use Rattle.cityseq_c.specs.declared.request.NotJudged.{NotJudged}
 use Rattle.cityseq_c.specs.declared.request.Request.{Request}
 use Rattle.cityseq_c.specs.declared.tally.Tally.{Tally}

@@ -9,8 +9,8 @@ use Rattle.cj_stream.specs.Item.{Item}
 use Rattle.cj_stream.specs.Run.{Account, CountsAll, Run}
 use Rattle.cj_stream.specs.Sink.{Took}
 use Rattle.cj_stream.specs.Verdict.{Rules, ending, kept, reported, reported_first}
-use Rattle.cityseq_c.specs.Reports.{Holds}
-use Rattle.cityseq_c.specs.declared.reports.Told.{Told}
+use Rattle.cityseq_c.specs.ReportSlice.{Holds}
+use Rattle.cityseq_c.specs.declared.report_slice.Told.{Told}
 
 -- an end of a text that was judged: no reader failed, and memory was granted
 abbrev pub IsJudged : End → Type 0

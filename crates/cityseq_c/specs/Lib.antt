@@ -7,7 +7,7 @@ pub mod Joined
 pub mod Judged
 pub mod Memory
 pub mod Query
-pub mod Reports
+pub mod ReportSlice
 pub mod Request
 pub mod Room
 pub mod Rows

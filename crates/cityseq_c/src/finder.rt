@@ -21,7 +21,7 @@ impl<'a> Finder<'a> {
     ghost use Rattle.std.specs.Prelude.{◌++◌};
     ghost use Rattle.cityseq_c.specs.Begins.{begin_of};
     ghost use Rattle.cityseq_c.specs.Request.{AreCut};
-    ghost use Rattle.cityseq_c.specs.Reports.{finder_text};
+    ghost use Rattle.cityseq_c.specs.ReportSlice.{finder_text};
 
     /// Returns a finder at the beginning of the part. The header and the part are cut after the
     /// first line.

@@ -10,7 +10,7 @@ ghost use Rattle.cityseq_c.specs.Request.{AreCut, IsAsked, IsFit, needed_limits,
 use crate::finder::Finder;
 use crate::memory::needed_line;
 use crate::query::query_of;
-use crate::reports::{Noted, Told};
+use crate::report_slice::{Noted, Told};
 use crate::request::{Fault, NotJudged, Request};
 use cj_stream::{End, Engine, LimitFault, Limits, LineSink, NoMemory, Outcome, laws, put_pieces};
 use memchr::memchr;

@@ -1,7 +1,7 @@
 //! Runs each export with enough memory. The inputs are a header and a feature, invalid lines, and
 //! wrong requests.
 use crate::features::FeatureRecord;
-use crate::reports::Told;
+use crate::report_slice::Told;
 use crate::request::Request;
 use crate::tally::{Number, Range, Tally};
 use crate::{

@@ -6,25 +6,25 @@ use Rattle.cj_budget.specs.declared.limits.Peaks.{Peaks}
 use Rattle.cj_stream.specs.declared.ending.End.{End}
 use Rattle.cj_stream.specs.declared.ending.End.TheVariants.{Complete, Refused, ReadFault, ReadLimit, WriteFault, Memory}
 use Rattle.cj_stream.specs.declared.output.WriteFault.{WriteFault as Unwritten}
-use Rattle.cj_stream.specs.declared.reporting.Report.{Report}
+use Rattle.cj_stream.specs.declared.report_sink.Report.{Report}
 use Rattle.cj_stream.specs.declared.running.Outcome.{Outcome}
 use Rattle.cj_stream.specs.Engine.{Counts}
 use Rattle.cj_stream.specs.Headline.{Headline}
 use Rattle.cj_stream.specs.Item.{is_feature}
 use Rattle.cj_stream.specs.Output.{Channel}
-use Rattle.cj_stream.specs.Reporting.{Collects}
+use Rattle.cj_stream.specs.ReportSink.{Collects}
 use Rattle.cj_stream.specs.Run.{Run, Gave, IsReadWithin, RunsNoting, Writes, WritesLines}
 use Rattle.cj_stream.specs.Sink.{HasRisen, RisesOnErr, AppendsPart, Took}
 use Rattle.cj_stream.specs.Verdict.{Rules, good, kept, kept_first, reported, reported_first}
 use Rattle.cj_stream.specs.Bound.{exact_peaks}
 use Rattle.cj_stream.specs.TallySink.{Tally, IsTallyOf, no_tally}
 use Rattle.cj_stream.specs.Query.{rules_for}
-use Rattle.cityseq_command.specs.Performed.{end_of_writing, Says, SaysCheck, SaysReport, Answers}
-use Rattle.cityseq_command.specs.Report.{Wrote}
-use Rattle.cityseq_command.specs.Reporting.{AreReported}
+use Rattle.cityseq_command.specs.Performed.{end_of_writing, Says, SaysCheck, SaysSummary, Answers}
+use Rattle.cityseq_command.specs.FaultLines.{Wrote}
+use Rattle.cityseq_command.specs.ReportWriter.{AreReported}
 use Rattle.cityseq_command.specs.declared.ask.Ask.{Ask}
 use Rattle.cityseq_command.specs.declared.ask.Ask.TheVariants.{Check, Filter, Info}
-use Rattle.cityseq_command.specs.Summary.{check_text, report}
+use Rattle.cityseq_command.specs.Summary.{check_text, summary_text}
 
 pub Keeps-refl : (a : Option (List ℕ)) → Keeps a a
 Keeps-refl None = tt
@@ -123,7 +123,7 @@ pub Reported-told : {N : Type 0} (notes : N → Report → N → Type 0) (run : 
     → RunsNoting Collects run [] (reported_first run.rules run.outcome.lines run.read) → AreReported notes run (reported_first run.rules run.outcome.lines run.read) n m
 Reported-told notes run n m told collected = record { collected = collected; took = subst (λ rs. Took notes n rs m) (sym told.reports.told) told.reports.noted }
 
--- a check or a report after a complete run, of what that counted
+-- a check or a summary after a complete run, of what that counted
 pub Says-check : (rules : Rules) (r : List ℕ) (n m k : ℕ) (written : Result (Unit {0}) Unwritten) (told : End) (old new : Channel)
     → n ≡ length (good rules r) → m ≡ length (filter is_feature (kept rules r)) → k ≡ length (reported rules r) → told ≡ end_of_writing written
     → Wrote (check_text n m k) written old new → SaysCheck rules r Complete told old new
@@ -131,26 +131,26 @@ Says-check rules r n m k written told old new lines features refused tells wrote
     let now : Wrote (check_text (length (good rules r)) (length (filter is_feature (kept rules r))) (length (reported rules r))) written old new = rw (← lines, ← features, ← refused) wrote in
     (written, tells, now)
 
-pub Says-report : (rules : Rules) (r : List ℕ) (n : ℕ) (t : Tally) (peaks : Peaks) (written : Result (Unit {0}) Unwritten) (told : End) (old new : Channel)
+pub Says-summary : (rules : Rules) (r : List ℕ) (n : ℕ) (t : Tally) (peaks : Peaks) (written : Result (Unit {0}) Unwritten) (told : End) (old new : Channel)
     → n ≡ length (good rules r) → IsTallyOf (kept rules r) t → peaks ≡ exact_peaks rules.limits r → told ≡ end_of_writing written
-    → Wrote (report n t peaks) written old new → SaysReport rules r Complete told old new
-Says-report rules r n t peaks written told old new lines tally held tells wrote = record {
+    → Wrote (summary_text n t peaks) written old new → SaysSummary rules r Complete told old new
+Says-summary rules r n t peaks written told old new lines tally held tells wrote = record {
   tally = t;
   counted = λ e. tally;
-  says = subst (λ p. Says (report (length (good rules r)) t p) Complete told old new) held
-      (subst (λ x. Says (report x t peaks) Complete told old new) lines (written, tells, wrote));
+  says = subst (λ p. Says (summary_text (length (good rules r)) t p) Complete told old new) held
+      (subst (λ x. Says (summary_text x t peaks) Complete told old new) lines (written, tells, wrote));
 }
 
 -- nothing was reported after a run that is not complete
-pub Says-no_report : (rules : Rules) (r : List ℕ) (e : End) (a : Channel) → (e ≡ Complete → ⊥) → (e ≡ WriteFault → ⊥) → SaysReport rules r e e a a
-Says-no_report rules r e a other well = record {
+pub Says-no_summary : (rules : Rules) (r : List ℕ) (e : End) (a : Channel) → (e ≡ Complete → ⊥) → (e ≡ WriteFault → ⊥) → SaysSummary rules r e e a a
+Says-no_summary rules r e a other well = record {
   tally = no_tally;
   counted = λ is. absurd (other is);
   says = Says-nothing _ e a other well;
 }
 
-SaysReport-kept : (rules : Rules) (r : List ℕ) (e told : End) (a b c : Channel) → SaysReport rules r e told a b → Keeps b.bytes c.bytes → c.failures ≡ b.failures → SaysReport rules r e told a c
-SaysReport-kept rules r e told a b c says k f = record {
+SaysSummary-kept : (rules : Rules) (r : List ℕ) (e told : End) (a b c : Channel) → SaysSummary rules r e told a b → Keeps b.bytes c.bytes → c.failures ≡ b.failures → SaysSummary rules r e told a c
+SaysSummary-kept rules r e told a b c says k f = record {
   tally = says.tally;
   counted = says.counted;
   says = Says-kept _ e told a b c says.says k f;
@@ -177,7 +177,7 @@ Answers-kept (Filter limits query options) r at_end outcome reports told a b c s
   λ rest all u. Headline-kept Collects (rules_for limits query options) _ r outcome.ended outcome.peaks a b c [] reports (says.2 rest all u) k f,
   WritesLines-kept (rules_for limits query options) r outcome.lines outcome.ended a.bytes b.bytes c.bytes says.3 k,
 )
-Answers-kept (Info limits options) r at_end outcome reports told a b c says k f = SaysReport-kept _ r outcome.ended told a b c says k f
+Answers-kept (Info limits options) r at_end outcome reports told a b c says k f = SaysSummary-kept _ r outcome.ended told a b c says k f
 
 -- ---- the reads of a run
 

@@ -5,11 +5,11 @@ use Rattle.std.specs.List.{flat_map}
 use Rattle.std.proofs.lemmas.List.{append-nil, take_all}
 use Rattle.cj_stream.specs.Output.{Channel, channel}
 use Rattle.cj_stream.specs.Sink.{HasRisen, Took}
-use Rattle.cj_stream.specs.declared.reporting.Report.{Report}
+use Rattle.cj_stream.specs.declared.report_sink.Report.{Report}
 use Rattle.cj_stream.specs.declared.output.WriteFault.{WriteFault}
-use Rattle.cityseq_command.specs.Report.{Wrote, WroteAfter}
-use Rattle.cityseq_command.specs.Reporting.{WritesReport, lent_output, loan_name, report_line, report_lines, writing}
-use Rattle.cityseq_command.specs.declared.reporting.WriteReports.{WriteReports}
+use Rattle.cityseq_command.specs.FaultLines.{Wrote, WroteAfter}
+use Rattle.cityseq_command.specs.ReportWriter.{WritesReport, lent_output, loan_name, report_line, report_lines, writing}
+use Rattle.cityseq_command.specs.declared.report_writer.WriteReports.{WriteReports}
 use Rattle.cityseq_command.proofs.TextLemmas.{Appends-nothing, Appends-then, AppendsPart-after, AppendsPart-front, parts_more, parts_at}
 
 -- the empty text is written by nothing

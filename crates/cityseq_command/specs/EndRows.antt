@@ -4,7 +4,7 @@ use Rattle.cj_spans.specs.declared.reason.Reason.TheVariants.{NoHeader, VertexIn
 use Rattle.cj_stream.specs.declared.ending.End.{End}
 use Rattle.cj_stream.specs.declared.ending.End.TheVariants.{Complete, Refused, ReadFault, ReadLimit, WriteFault, Memory}
 use Rattle.cj_stream.specs.declared.output.WriteFault.{WriteFault as Unwritten}
-use Rattle.cityseq_command.specs.Report.{fault_line, shown_end, status_of, status_after}
+use Rattle.cityseq_command.specs.FaultLines.{fault_line, shown_end, status_of, status_after}
 
 -- whatever the end, a write fault is shown where the flush after it failed
 abbrev pub FailedRow : Type 0

@@ -1,11 +1,11 @@
 pub mod Commands
 pub mod DeclineRows
 pub mod EndRows
+pub mod FaultLines
 pub mod OptionRows
 pub mod Options
 pub mod Performed
-pub mod Report
-pub mod Reporting
+pub mod ReportWriter
 pub mod Summary
 pub mod SummaryRows
 pub mod Text

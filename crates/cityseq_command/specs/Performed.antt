@@ -12,7 +12,7 @@ use Rattle.cj_stream.specs.Headline.{HeadlineOfRun}
 use Rattle.cj_stream.specs.Item.{is_feature}
 use Rattle.cj_stream.specs.Options.{OptionSet}
 use Rattle.cj_stream.specs.Query.{rules_for}
-use Rattle.cj_stream.specs.Reporting.{Collects}
+use Rattle.cj_stream.specs.ReportSink.{Collects}
 use Rattle.cj_stream.specs.Run.{Run, Account, IsReadWithin, RunsNoting, StopsInTime, Writes, WritesLines}
 use Rattle.cj_stream.specs.Output.{Channel}
 use Rattle.cj_stream.specs.Sink.{HasRisen}
@@ -21,18 +21,18 @@ use Rattle.cj_stream.specs.Verdict.{Rules, good, kept, reported}
 use Rattle.cj_stream.specs.declared.ending.End.{End}
 use Rattle.cj_stream.specs.declared.ending.End.TheVariants.{Complete, Refused, ReadFault, ReadLimit, WriteFault, Memory}
 use Rattle.cj_stream.specs.declared.output.WriteFault.{WriteFault as Unwritten}
-use Rattle.cj_stream.specs.declared.reporting.Report.{Report}
+use Rattle.cj_stream.specs.declared.report_sink.Report.{Report}
 use Rattle.cj_stream.specs.declared.running.Outcome.{Outcome}
-use Rattle.cityseq_command.specs.Report.{Reports, Wrote, fault_line, limit_line, no_command_line, query_line, status_of}
-use Rattle.cityseq_command.specs.Report.{status_after, status_of_query}
-use Rattle.cityseq_command.specs.Reporting.{AreReported, report_lines}
-use Rattle.cityseq_command.specs.Summary.{check_text, report}
+use Rattle.cityseq_command.specs.FaultLines.{ShowsEnd, Wrote, fault_line, limit_line, no_command_line, query_line}
+use Rattle.cityseq_command.specs.FaultLines.{status_of, status_after, status_of_query}
+use Rattle.cityseq_command.specs.ReportWriter.{AreReported, report_lines}
+use Rattle.cityseq_command.specs.Summary.{check_text, summary_text}
 use Rattle.cityseq_command.specs.declared.ask.Ask.{Ask}
 use Rattle.cityseq_command.specs.declared.ask.Ask.TheVariants.{Check, Filter, Info}
 use Rattle.cityseq_command.specs.declared.ask.Told.{Told}
 use Rattle.cityseq_command.specs.declared.asking.NoAsk.{NoAsk}
 use Rattle.cityseq_command.specs.declared.asking.NoAsk.TheVariants.{Words, NoCommand, Limits, Query}
-use Rattle.cityseq_command.specs.declared.report.Shown.{Shown}
+use Rattle.cityseq_command.specs.declared.fault_lines.Shown.{Shown}
 
 -- ---- texts of our own
 
@@ -59,10 +59,10 @@ SaysCheck rules r e told old new =
     told old new
 
 -- of the bytes r: how many good lines they have, their tally, and what was held at most
-pub record SaysReport (rules : Rules) (r : List ℕ) (e told : End) (old new : Channel) : Type 0 where
+pub record SaysSummary (rules : Rules) (r : List ℕ) (e told : End) (old new : Channel) : Type 0 where
   pub tally : Tally
   pub counted : e ≡ Complete → IsTallyOf (kept rules r) tally
-  pub says : Says (report (length (good rules r)) tally (exact_peaks rules.limits r)) e told old new
+  pub says : Says (summary_text (length (good rules r)) tally (exact_peaks rules.limits r)) e told old new
 
 -- ---- what is asked
 
@@ -80,7 +80,7 @@ rules_of_ask (Check limits options) = all_under limits options
 rules_of_ask (Filter limits query options) = rules_for limits query options
 rules_of_ask (Info limits options) = all_under limits options
 
--- a command takes the options that are set: `filter` alone leaves out what is asked for, and a report of `info` is of
+-- a command takes the options that are set: `filter` alone leaves out what is asked for, and a summary of `info` is of
 -- valid streams alone, so it does not go on
 abbrev pub TakesOptions : Ask → Type 0
 TakesOptions (Check limits options) = options.exclude ≡ false
@@ -101,7 +101,7 @@ Answers (Filter limits query options) r at_end outcome reports told old new =
     × HeadlineOfRun Collects (run_of (Filter limits query options) r outcome) at_end old new [] reports
     × WritesLines (rules_for limits query options) r outcome.lines outcome.ended old.bytes new.bytes
 Answers (Info limits options) r at_end outcome reports told old new =
-    SaysReport (all_under limits options) r outcome.ended told old new
+    SaysSummary (all_under limits options) r outcome.ended told old new
 
 -- What is asked was done with bytes r that were read, but for what is said at its end: the account of the run over
 -- them, which stopped in time; its reports, which a sink of reports has taken; what standard output has got, and that a
@@ -135,7 +135,7 @@ pub record Performs (ask : Ask) (r : List ℕ) (at_end : Type 0) (answer : ℕ) 
   pub usual : (rules_of_ask ask).options.keep_going ≡ false → refused ≡ []
   pub answers : Answers ask r at_end outcome refused told old.out new.out
   pub cause : told ≡ WriteFault → HasRisen old.out.failures new.out.failures
-  pub reports : Reports told (report_lines refused) new.out.flushed shown old.err new.err
+  pub reports : ShowsEnd told (report_lines refused) new.out.flushed shown old.err new.err
   pub status : answer ≡ status_after (length refused) shown.end
 
 -- ---- other words
@@ -147,7 +147,7 @@ pub record TellsHelp (answer : ℕ) (old new : Channels) : Type 0 where
   pub told : End
   pub shown : Shown
   pub says : Says text Complete told old.out new.out
-  pub reports : Reports told [] new.out.flushed shown old.err new.err
+  pub reports : ShowsEnd told [] new.out.flushed shown old.err new.err
   pub status : answer ≡ status_of shown.end
 
 -- standard error has got all of this line, or a prefix of it where it failed; and the answer is the status that is due

@@ -80,6 +80,6 @@ peaks_text peaks = joined (
     ∷ count_line (codes "peak open") peaks.depth
     ∷ [])
 
--- the report on a stream of so many lines, with this tally, of which so much was held at most
-abbrev pub report : ℕ → Tally → Peaks → List ℕ
-report lines t peaks = joined (count_line (codes "lines") lines ∷ tally_text t ∷ peaks_text peaks ∷ [])
+-- the summary of a stream of so many lines, with this tally, of which so much was held at most
+abbrev pub summary_text : ℕ → Tally → Peaks → List ℕ
+summary_text lines t peaks = joined (count_line (codes "lines") lines ∷ tally_text t ∷ peaks_text peaks ∷ [])

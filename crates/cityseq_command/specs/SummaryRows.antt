@@ -3,7 +3,7 @@ use Rattle.std.specs.Prelude.{◌≡◌, [], ◌∷◌, ◌++◌, Some, pos, neg
 use Rattle.cj_decimal.specs.Number.{number}
 use Rattle.cj_stream.specs.Cut.{joined}
 use Rattle.cj_stream.specs.TallySink.{Tally, no_tally}
-use Rattle.cityseq_command.specs.Summary.{check_text, report}
+use Rattle.cityseq_command.specs.Summary.{check_text, summary_text}
 
 -- two buildings of whole numbers on flat land, with one geometry of class 2
 abbrev pub buildings : Tally
@@ -27,9 +27,9 @@ underground = record {
   translate = Some (number (negsuc 452) (negsuc 2) ∷ number (pos 0) (pos 0) ∷ number (pos 84616468) (negsuc 2) ∷ []);
 }
 
--- the report on the buildings
+-- the summary of the buildings
 abbrev pub BuildingsRow : Type 0
-BuildingsRow = report 3 buildings (record { bytes = 350; tokens = 65; depth = 8 }) ≡ joined (
+BuildingsRow = summary_text 3 buildings (record { bytes = 350; tokens = 65; depth = 8 }) ≡ joined (
     codes "lines 3\n"
     ∷ codes "features 2\n"
     ∷ codes "scale 1e-3 1e-3 1e-3\n"
@@ -44,9 +44,9 @@ BuildingsRow = report 3 buildings (record { bytes = 350; tokens = 65; depth = 8 
     ∷ codes "peak open 8\n"
     ∷ [])
 
--- the report on nothing at all
+-- the summary of nothing at all
 abbrev pub NothingRow : Type 0
-NothingRow = report 0 no_tally (record { bytes = 0; tokens = 0; depth = 0 }) ≡ joined (
+NothingRow = summary_text 0 no_tally (record { bytes = 0; tokens = 0; depth = 0 }) ≡ joined (
     codes "lines 0\n"
     ∷ codes "features 0\n"
     ∷ codes "peak bytes 0\n"
@@ -54,9 +54,10 @@ NothingRow = report 0 no_tally (record { bytes = 0; tokens = 0; depth = 0 }) ≡
     ∷ codes "peak open 0\n"
     ∷ [])
 
--- the report on what is below the ground, of which as much was held as can be counted
+-- the summary of what is below the ground, of which as much was held as can be counted
 abbrev pub UndergroundRow : Type 0
-UndergroundRow = report 13 underground (record { bytes = 18446744073709551615; tokens = 100; depth = 64 }) ≡ joined (
+UndergroundRow = summary_text 13 underground
+    (record { bytes = 18446744073709551615; tokens = 100; depth = 64 }) ≡ joined (
     codes "lines 13\n"
     ∷ codes "features 12\n"
     ∷ codes "scale -1e0 25e-4 1e2\n"

@@ -4,9 +4,9 @@ ghost use Rattle.std.specs.Io.KnownBytes.{Consumes, IsAtEnd};
 ghost use Rattle.cj_stream.specs.Output.{channel};
 ghost use Rattle.cityseq_command.specs.Performed.{end_of_writing as told_after, Does, Performs, TakesOptions};
 
-use crate::report::{show_after, status_after};
-use crate::reporting::WriteReports;
-use crate::summary::{write_check, write_report};
+use crate::fault_lines::{show_after, status_after};
+use crate::report_writer::WriteReports;
+use crate::summary::{write_check, write_summary};
 use cj_stream::{
     End, IgnoreSink, Limits, Options, Output, Query, ReportSink, TallySink, WriteFault, laws, run,
 };
@@ -102,7 +102,7 @@ fn info<R: Read, W: Write + Drop, N: ReportSink>(
     laws::reports_are_collected::<W>();
     match outcome.ended {
         End::Complete => Told {
-            end: end_of_writing(write_report(out, outcome.lines, &tally, outcome.peaks)),
+            end: end_of_writing(write_summary(out, outcome.lines, &tally, outcome.peaks)),
             refused: outcome.refused,
         },
         ended => Told {

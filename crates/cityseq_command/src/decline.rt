@@ -3,11 +3,11 @@
 ghost use Rattle.clap.specs.Words.{kind_of};
 ghost use Rattle.cj_stream.specs.Output.{channel};
 ghost use Rattle.cityseq_command.specs.Performed.{Declines, TellsError, TellsFault, TellsHelp, TellsMemory};
-ghost use Rattle.cityseq_command.specs.Report.{limit_line, query_line, status_of_query};
+ghost use Rattle.cityseq_command.specs.FaultLines.{limit_line, query_line, status_of_query};
 
 use crate::ask::end_of_writing;
 use crate::asking::NoAsk;
-use crate::report::{
+use crate::fault_lines::{
     WRONG_WORDS, query_status, show, status, write_fault_line, write_limit_fault,
     write_query_fault, write_text,
 };

@@ -10,8 +10,9 @@
 //! - `ask` does what is asked, with the engine of `cj_stream`, over standard input and output.
 //! - `summary` writes what `check` and `info` print about a stream.
 //! - `decline` writes why nothing is done: help, wrong words, or an invalid query.
-//! - `reporting` has the sink that writes reports of invalid lines to standard error as they come.
-//! - `report` has the lines for standard error, and the exit statuses.
+//! - `report_writer` has the sink that writes reports of invalid lines to standard error, as they
+//!   come.
+//! - `fault_lines` has the lines for standard error, and the exit statuses.
 //!
 //! `option_laws`, `word_laws`, `summary_laws` and `end_laws` are worked examples of the
 //! definitions, as theorems. The rows that run are in the crate `cityseq_rows`.
@@ -22,9 +23,9 @@ mod asking;
 pub mod command;
 pub mod decline;
 mod end_laws;
+pub mod fault_lines;
 mod option_laws;
-pub mod report;
-mod reporting;
+mod report_writer;
 mod summary;
 mod summary_laws;
 mod word_laws;

@@ -3,12 +3,12 @@ ghost use Rattle.std.specs.Prelude.{◌≡◌, ◌≤◌, ◌<◌, OnOk, OnErr, 
 ghost use Rattle.std.specs.Io.KnownBytes.{Appends};
 ghost use Rattle.cj_stream.specs.Sink.{AppendsPart, RisesOnErr};
 ghost use Rattle.cj_stream.specs.Output.{channel, output_writer, output_failures};
-ghost use Rattle.cityseq_command.specs.Report.{Wrote};
+ghost use Rattle.cityseq_command.specs.FaultLines.{Wrote};
 ghost use Rattle.cityseq_command.specs.Summary.{check_text, numbers_line, power_text, types_text, class_names, lods_text};
-ghost use Rattle.cityseq_command.specs.Summary.{range_line, ranges_text, tally_text, peaks_text, report};
+ghost use Rattle.cityseq_command.specs.Summary.{range_line, ranges_text, tally_text, peaks_text, summary_text};
 ghost use Rattle.cityseq_command.specs.Text.{text_line, count_line, counted};
 
-use crate::report::{write_parts, write_text};
+use crate::fault_lines::{write_parts, write_text};
 use cj_budget::Peaks;
 use cj_decimal::Decimal;
 use cj_geometry::ObjectType;
@@ -259,7 +259,7 @@ fn write_peaks<W: Write + Drop>(out: &mut Output<W>, peaks: Peaks) -> Result<(),
 /// # Errors
 ///
 /// A write fault, after a prefix of the summary.
-pub fn write_report<W: Write + Drop>(
+pub fn write_summary<W: Write + Drop>(
     out: &mut Output<W>,
     lines: u64,
     tally: &TallySink,
@@ -267,10 +267,10 @@ pub fn write_report<W: Write + Drop>(
 ) -> Result<(), WriteFault>
     ensures ok { OnOk result
         (Appends (W.contents (output_writer out.old)) (W.contents (output_writer out.new))
-        (report lines tally.now peaks)) }
+        (summary_text lines tally.now peaks)) }
     ensures fault { OnErr result
         (AppendsPart (W.contents (output_writer out.old)) (W.contents (output_writer out.new))
-        (report lines tally.now peaks)) }
+        (summary_text lines tally.now peaks)) }
     ensures failures { RisesOnErr result (output_failures out.old) (output_failures out.new) }
 {
     write_count(out, "lines", lines)?;

@@ -2,12 +2,12 @@
 use Rattle.std.proofs.Common.{◌≡◌, ℕ, ◌+◌, ◌-◌, ◌^◌, ◌≤◌, List, [], ◌∷◌, length, min, take, ap, arith}
 use Rattle.cj_stream.specs.declared.ending.End.{End}
 use Rattle.cj_stream.specs.declared.ending.End.TheVariants.{Complete, Refused, ReadFault, ReadLimit, WriteFault, Memory}
-use Rattle.cj_stream.specs.declared.reporting.CountReports.{CountReports}
-use Rattle.cj_stream.specs.declared.reporting.Report.{Report}
+use Rattle.cj_stream.specs.declared.report_sink.CountReports.{CountReports}
+use Rattle.cj_stream.specs.declared.report_sink.Report.{Report}
 use Rattle.cj_stream.specs.CountReports.{count_of, no_reports, CountsFirst, CountsReportsOfRun, CountsReportsOfPieces}
 use Rattle.cj_stream.specs.Cut.{joined}
 use Rattle.cj_stream.specs.Lines.{whole}
-use Rattle.cj_stream.specs.Reporting.{CountsReport, Notes, NotesRun, NotesPieces}
+use Rattle.cj_stream.specs.ReportSink.{CountsReport, Notes, NotesRun, NotesPieces}
 use Rattle.cj_stream.specs.Sink.{Took, TookFront}
 use Rattle.cj_stream.specs.Verdict.{Rules, reported, reported_first}
 

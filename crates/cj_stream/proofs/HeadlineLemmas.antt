@@ -6,12 +6,12 @@ use Rattle.cj_budget.specs.declared.limits.Peaks.{Peaks}
 use Rattle.cj_spans.specs.declared.reason.Reason.{Reason}
 use Rattle.cj_stream.specs.declared.ending.End.{End}
 use Rattle.cj_stream.specs.declared.ending.End.TheVariants.{Complete, Refused, ReadFault, ReadLimit, WriteFault, Memory}
-use Rattle.cj_stream.specs.declared.reporting.Report.{Report}
+use Rattle.cj_stream.specs.declared.report_sink.Report.{Report}
 use Rattle.cj_stream.specs.Bound.{IsBounded, IsExact}
 use Rattle.cj_stream.specs.Cut.{Copies, joined, IsUnread}
 use Rattle.cj_stream.specs.Headline.{Headline, HeadlineOfRun, IsUnhindered}
 use Rattle.cj_stream.specs.Output.{Channel}
-use Rattle.cj_stream.specs.Reporting.{NotesRun, NotesPieces}
+use Rattle.cj_stream.specs.ReportSink.{NotesRun, NotesPieces}
 use Rattle.cj_stream.specs.Run.{Run, Account, Ends, Writes}
 use Rattle.cj_stream.specs.Sink.{HasRisen, Took}
 use Rattle.cj_stream.specs.Verdict.{Rules, refusal_in, judged, output, reported, ending}

@@ -8,14 +8,14 @@ use Rattle.cj_stream.specs.declared.ending.End.TheVariants.{Complete, Refused, R
 use Rattle.cj_stream.specs.declared.ending.LineEnd.{LineEnd}
 use Rattle.cj_stream.specs.declared.ending.LineEnd.TheVariants.{Complete as LineComplete, Refused as LineRefused, WriteFault as LineWriteFault}
 use Rattle.cj_budget.specs.declared.limits.Peaks.{Peaks}
-use Rattle.cj_stream.specs.declared.reporting.Report.{Report}
+use Rattle.cj_stream.specs.declared.report_sink.Report.{Report}
 use Rattle.cj_stream.specs.Cut.{joined}
 use Rattle.cj_stream.specs.Ending.{line_end}
 use Rattle.cj_stream.specs.Item.{Item}
 use Rattle.cj_stream.specs.LinePieces.{reported_after, NotesLines}
 use Rattle.cj_stream.specs.Lines.{Line, NoLf, closed, begun, ended_line, lines, whole}
 use Rattle.cj_stream.specs.Reading.{Reading, told_verdict, Stores, Settles, Reads}
-use Rattle.cj_stream.specs.Reporting.{Collects, Notes, NotesRun, NotesPieces}
+use Rattle.cj_stream.specs.ReportSink.{Collects, Notes, NotesRun, NotesPieces}
 use Rattle.cj_stream.specs.Run.{Run, Ends, RunsNoting}
 use Rattle.cj_stream.specs.Sink.{Took}
 use Rattle.cj_stream.specs.Verdict.{Rules, Verdict, Refuse, Blank, Unwanted, Valid, verdict, refusal_in, judged, good, good_from, report_of, reported_from, reported, reported_first}

@@ -6,11 +6,11 @@ use Rattle.cj_stream.specs.declared.engine.Phase.{Phase}
 use Rattle.cj_stream.specs.declared.engine.Phase.TheVariants.{Header, Lines}
 use Rattle.cj_stream.specs.declared.ending.End.{End}
 use Rattle.cj_stream.specs.Ending.{IsAccepted}
-use Rattle.cj_stream.specs.declared.reporting.Report.{Report}
+use Rattle.cj_stream.specs.declared.report_sink.Report.{Report}
 use Rattle.cj_stream.specs.Engine.{EngineState, StandsFor, rules_of, lines_of}
 use Rattle.cj_stream.specs.Feeding.{Feeds, IsFinished}
 use Rattle.cj_stream.specs.Item.{Item}
-use Rattle.cj_stream.specs.Reporting.{Notes}
+use Rattle.cj_stream.specs.ReportSink.{Notes}
 use Rattle.cj_stream.specs.Verdict.{reported_first}
 use Rattle.cj_stream.proofs.NoteLemmas.{Notes-first, Notes-then, Notes-over, reported_first-same}
 use Rattle.cj_stream.specs.Phase.{state_of, seen, IsUnderWay}

@@ -3,7 +3,7 @@ use Rattle.std.specs.Prelude.{◌≡◌, ℕ, List, [], ◌∷◌, ◌++◌, tru
 use Rattle.cj_spans.specs.declared.reason.Reason.TheVariants.{LineTooLong, Syntax, MissingMember}
 use Rattle.cj_stream.specs.declared.ending.End.{End}
 use Rattle.cj_stream.specs.declared.ending.End.TheVariants.{Complete, Refused}
-use Rattle.cj_stream.specs.declared.reporting.Report.{Report}
+use Rattle.cj_stream.specs.declared.report_sink.Report.{Report}
 use Rattle.cj_stream.specs.Rows.{small_header, small_feature, wide_rules, tight_rules, Gives}
 use Rattle.cj_stream.specs.Verdict.{Rules, reported}
 

@@ -5,8 +5,8 @@ pub mod BoxRows
 pub mod BoxText
 pub mod Carrying
 pub mod ChoiceRows
-pub mod CountRows
 pub mod CountReports
+pub mod CountRows
 pub mod CountSink
 pub mod Criteria
 pub mod Cut
@@ -35,7 +35,7 @@ pub mod Phase
 pub mod Query
 pub mod QueryRows
 pub mod Reading
-pub mod Reporting
+pub mod ReportSink
 pub mod Rows
 pub mod Run
 pub mod Scanning

@@ -7,7 +7,7 @@ use Rattle.cj_stream.specs.declared.ending.LineEnd.{LineEnd}
 use Rattle.cj_stream.specs.declared.ending.LineEnd.TheVariants.{Complete, WriteFault}
 use Rattle.cj_stream.specs.declared.line_pieces.LinesOutcome.{LinesOutcome}
 use Rattle.cj_stream.specs.declared.pieces.PiecesOutcome.{PiecesOutcome}
-use Rattle.cj_stream.specs.declared.reporting.Report.{Report}
+use Rattle.cj_stream.specs.declared.report_sink.Report.{Report}
 use Rattle.cj_stream.specs.Bound.{IsBounded, IsExact}
 use Rattle.cj_stream.specs.Cut.{joined, AppendsMore}
 use Rattle.cj_stream.specs.Ending.{line_end}

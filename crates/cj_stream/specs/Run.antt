@@ -5,7 +5,7 @@ use Rattle.std.specs.List.{filter}
 use Rattle.std.specs.Io.KnownBytes.{Appends, Keeps}
 use Rattle.cj_stream.specs.declared.ending.End.{End}
 use Rattle.cj_stream.specs.declared.ending.End.TheVariants.{Complete, Refused, ReadFault, ReadLimit, WriteFault, Memory}
-use Rattle.cj_stream.specs.declared.reporting.Report.{Report}
+use Rattle.cj_stream.specs.declared.report_sink.Report.{Report}
 use Rattle.cj_stream.specs.declared.running.Outcome.{Outcome}
 use Rattle.cj_stream.specs.Lines.{Line, lines, raw, whole}
 use Rattle.cj_stream.specs.Item.{Item, is_feature}
@@ -14,7 +14,7 @@ use Rattle.cj_stream.specs.Verdict.{reported, verdict}
 use Rattle.cj_stream.specs.Bound.{IsBelow, IsBounded, IsExact, exact_peaks, first_lines}
 use Rattle.cj_stream.specs.Engine.{EngineState, Counts, Delivers, lines_of, refused_of, peaks_of}
 use Rattle.cj_stream.specs.Reading.{LacksMemory}
-use Rattle.cj_stream.specs.Reporting.{Notes, NotesRun}
+use Rattle.cj_stream.specs.ReportSink.{Notes, NotesRun}
 use Rattle.cj_stream.specs.Sink.{Took, TookFront, LeavesNext, AppendsPart}
 
 -- a run: the rules that its lines are judged by, the bytes that it read, and how it went

@@ -17,7 +17,7 @@ use Rattle.cj_feature.specs.Header.{header as header_findings}
 use Rattle.cj_feature.specs.Feature.{feature as feature_findings}
 use Rattle.cj_stream.specs.declared.ending.End.{End}
 use Rattle.cj_stream.specs.declared.ending.End.TheVariants.{Complete, Refused}
-use Rattle.cj_stream.specs.declared.reporting.Report.{Report}
+use Rattle.cj_stream.specs.declared.report_sink.Report.{Report}
 use Rattle.cj_stream.specs.Criteria.{Criteria, needs_box, holds}
 use Rattle.cj_stream.specs.Lines.{Line, lines, closed, begun, ended_line, last_line}
 use Rattle.cj_stream.specs.Item.{Item, raw_item, is_feature, tree_of, item_at}

@@ -14,14 +14,14 @@ ghost use Rattle.cj_stream.specs.Feeding.{Feeds, IsFinished};
 ghost use Rattle.cj_stream.specs.Phase.{state_of, IsUnderWay};
 ghost use Rattle.cj_stream.specs.Query.{rules_for};
 ghost use Rattle.cj_stream.specs.Engine.{StandsFor, rules_of, lines_of, refused_of, held_by, peaks_of};
-ghost use Rattle.cj_stream.specs.Reporting.{Notes};
+ghost use Rattle.cj_stream.specs.ReportSink.{Notes};
 
 use crate::ending::End;
 use crate::header_reader::HeaderReader;
 use crate::line_reader::LineReader;
 use crate::options::Options;
 use crate::query::Query;
-use crate::reporting::ReportSink;
+use crate::report_sink::ReportSink;
 use crate::sink::LineSink;
 use cj_budget::{Limits, NoMemory, Peaks};
 use std::alloc::Global;

@@ -37,7 +37,7 @@ ghost use Rattle.cj_stream.specs.Judging.{Says, Misreads, ShowsTree, IsHeaderOf}
 ghost use Rattle.cj_stream.specs.Query.{rules_for};
 ghost use Rattle.cj_stream.specs.Reading.{begun_of, begun_verdict, told_verdict, next_item, is_lenient, IsLeft, Stores};
 ghost use Rattle.cj_stream.specs.Reading.{Unstored, Passes, Deals, Settles, Reads, Advances, Stops, Stays, Finishes};
-ghost use Rattle.cj_stream.specs.Reporting.{Notes};
+ghost use Rattle.cj_stream.specs.ReportSink.{Notes};
 ghost use Rattle.cj_stream.specs.Scanning.{Scanning, IsReady, IsStill, ListsFailToGrow, Scanned, ScansNext, HoldsFew};
 ghost use Rattle.cj_stream.specs.Scanning.{HoldsFewNext, HeldUntil, JudgesLine, Forgets};
 ghost use Rattle.cj_stream.specs.Sink.{HasRisen, Took};
@@ -49,7 +49,7 @@ use crate::header_reader::Progress;
 use crate::judge::Content;
 use crate::options::Options;
 use crate::query::Query;
-use crate::reporting::{Report, ReportSink};
+use crate::report_sink::{Report, ReportSink};
 use crate::sink::LineSink;
 use crate::store::{Store, TooLong};
 use cj_budget::{Limits, NoMemory, Peaks};

@@ -29,7 +29,7 @@ ghost use Rattle.cj_stream.specs.Lines.{Line, NoLf, ended_line, later_of, lines,
 ghost use Rattle.cj_stream.specs.Output.{output_writer, output_failures, channel, WritesItem, WritesPart};
 ghost use Rattle.cj_stream.specs.Parts.{headed, IsCut, AreComplete, moved_end, moved_report, greater_peaks};
 ghost use Rattle.cj_stream.specs.Parts.{JoinsTallies};
-ghost use Rattle.cj_stream.specs.Reporting.{Collects, CountsReport, Notes, NotesRun, NotesPieces};
+ghost use Rattle.cj_stream.specs.ReportSink.{Collects, CountsReport, Notes, NotesRun, NotesPieces};
 ghost use Rattle.cj_stream.specs.Run.{Account, Puts, Run, Runs, RunsNoting, Writes, WritesLines};
 ghost use Rattle.cj_stream.specs.Selection.{LeavesKept, all_lines, staying};
 ghost use Rattle.cj_stream.specs.Sink.{HasRisen};
@@ -39,10 +39,10 @@ ghost use Rattle.cj_stream.specs.Verdict.{ending};
 ghost use Rattle.cj_stream.specs.declared.ending.End.{End};
 ghost use Rattle.cj_stream.specs.declared.ending.LineEnd.{LineEnd};
 ghost use Rattle.cj_stream.specs.declared.output.Output.{Output};
-ghost use Rattle.cj_stream.specs.declared.reporting.CountReports.{CountReports};
+ghost use Rattle.cj_stream.specs.declared.report_sink.CountReports.{CountReports};
 ghost use Rattle.cj_stream.specs.declared.sink.CountSink.{CountSink};
 
-use crate::reporting::ReportSink;
+use crate::report_sink::ReportSink;
 use std::io::Write;
 
 /// The lines of a stream are contents without LF. Each followed by the LF that ended it, they give

@@ -39,7 +39,7 @@
 //!   [`widen_all`]).
 //! - `query`: which features are selected ([`Query`]).
 //! - `options`: how a stream is read and judged ([`Options`]).
-//! - `reporting`: the trait of a sink of reports ([`ReportSink`]), one that counts and one that
+//! - `report_sink`: the trait of a sink of reports ([`ReportSink`]), one that counts and one that
 //!   ignores.
 //! - `engine`: the stream so far ([`Engine`]), in one of two states: `header_reader`
 //!   ([`HeaderReader`]) and `line_reader` ([`LineReader`]).
@@ -67,7 +67,7 @@ mod output;
 mod parts;
 mod pieces;
 mod query;
-mod reporting;
+mod report_sink;
 pub mod row_laws;
 mod running;
 mod sink;
@@ -88,7 +88,7 @@ pub use options::Options;
 pub use output::{Output, WriteFault, WriteSink};
 pub use pieces::{PiecesOutcome, headline, put_pieces};
 pub use query::{Query, QueryFault};
-pub use reporting::{CountReports, NoReports, Report, ReportSink};
+pub use report_sink::{CountReports, NoReports, Report, ReportSink};
 pub use running::{Outcome, run, run_within};
 pub use sink::{CountSink, IgnoreSink, LineSink};
 pub use tally::{TallySink, count_lods, widen_all};

@@ -8,14 +8,14 @@ ghost use Rattle.cj_stream.specs.Ending.{line_end};
 ghost use Rattle.cj_stream.specs.Engine.{Delivers, StandsFor, rules_of, lines_of};
 ghost use Rattle.cj_stream.specs.LinePieces.{pieces_outcome, PutsLines, NotesLines, CopiesLines, HeadlineOfLines};
 ghost use Rattle.cj_stream.specs.Output.{output_writer, channel, WritesItem, WritesPart};
-ghost use Rattle.cj_stream.specs.Reporting.{Notes};
+ghost use Rattle.cj_stream.specs.ReportSink.{Notes};
 ghost use Rattle.cj_stream.specs.Run.{Ends};
 ghost use Rattle.cj_stream.specs.Sink.{HasRisen};
 
 use crate::ending::LineEnd;
 use crate::line_reader::LineReader;
 use crate::output::Output;
-use crate::reporting::ReportSink;
+use crate::report_sink::ReportSink;
 use crate::sink::LineSink;
 use cj_budget::Peaks;
 use std::io::Write;

@@ -9,11 +9,11 @@ ghost use Rattle.cj_stream.specs.Ending.{line_end};
 ghost use Rattle.cj_stream.specs.Feeding.{Feeds, IsFinished};
 ghost use Rattle.cj_stream.specs.Scanning.{IsReady};
 ghost use Rattle.cj_stream.specs.Engine.{EngineState, StandsFor, rules_of, lines_of, refused_of, held_by, peaks_of};
-ghost use Rattle.cj_stream.specs.Reporting.{Notes};
+ghost use Rattle.cj_stream.specs.ReportSink.{Notes};
 
 use crate::ending::LineEnd;
 use crate::framer::Framer;
-use crate::reporting::ReportSink;
+use crate::report_sink::ReportSink;
 use crate::sink::LineSink;
 use cj_budget::Peaks;
 use std::marker::Model;

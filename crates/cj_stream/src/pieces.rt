@@ -6,14 +6,14 @@ ghost use Rattle.cj_stream.specs.Cut.{joined, Copies, PutsPieces, TookWhole, Fed
 ghost use Rattle.cj_stream.specs.Engine.{Delivers, IsFresh, rules_of, lines_of};
 ghost use Rattle.cj_stream.specs.Headline.{Headline, IsUnhindered};
 ghost use Rattle.cj_stream.specs.Output.{output_writer, channel, WritesItem, WritesPart};
-ghost use Rattle.cj_stream.specs.Reporting.{Notes, NotesPieces};
+ghost use Rattle.cj_stream.specs.ReportSink.{Notes, NotesPieces};
 ghost use Rattle.cj_stream.specs.Run.{CountsAll, Runs, RunsNoting, outcome_of};
 ghost use Rattle.cj_stream.specs.Sink.{HasRisen};
 
 use crate::ending::End;
 use crate::engine::Engine;
 use crate::output::Output;
-use crate::reporting::ReportSink;
+use crate::report_sink::ReportSink;
 use crate::sink::LineSink;
 use cj_budget::Peaks;
 use std::io::Write;

@@ -13,7 +13,7 @@ use crate::ending::End;
 use crate::engine::Engine;
 use crate::options::Options;
 use crate::query::Query;
-use crate::reporting::ReportSink;
+use crate::report_sink::ReportSink;
 use crate::sink::LineSink;
 use cj_budget::{Limits, NoMemory, Peaks};
 use source::{ReadFault, Source};

@@ -3,7 +3,7 @@ use super::calls::{Written, check_bytes, check_number, check_written, commanded,
 use super::devices::{SlowReader, SlowWriter};
 use super::texts::{FEATURE, HEADER};
 use cityseq_command::ask::{Ask, perform};
-use cityseq_command::report::{status, write_fault_line};
+use cityseq_command::fault_lines::{status, write_fault_line};
 use cj_budget::Limits;
 use cj_spans::Reason;
 use cj_stream::{End, Options, Output, Query};

@@ -5,7 +5,7 @@ use Rattle.cj_stream.specs.Query.{rules_for}
 use Rattle.cj_stream.specs.Verdict.{reported_first}
 use Rattle.cityseq_command.specs.Performed.{all_under, run_of}
 use Rattle.cityseq_command.specs.declared.ask.Ask.TheVariants.{Info}
-use Rattle.cityseq_command.proofs.PerformLemmas.{Says-report, Says-no_report, Reported-told, cause-text, no_fault}
+use Rattle.cityseq_command.proofs.PerformLemmas.{Says-summary, Says-no_summary, Reported-told, cause-text, no_fault}
 use Rattle.cityseq_command.proofs.ask.info.Goals as goal
 
 pub returns-in-Complete : goal.returns-in-Complete
@@ -18,7 +18,7 @@ returns-in-Complete g c =
     let peaks = c.first_invalid_line_is_the_end.ensures.peaks all e.0 c.run-outcome.result.peaks c.requires.0 ends.0 (e.3.account.exact c.in-Complete.is) in
     let collected = c.reports_are_collected.ensures.runs (run_of (Info c.args.limits c.args.options) e.0 c.run-outcome.result) (g.R.Read.remaining c.run-outcome.new.reader) e.3.account
     (λ none. (c.run-outcome.ensures.memory none).0) in
-    let w = c.write_report.ensures in (
+    let w = c.write_summary.ensures in (
       e.0,
       e.1,
       record {
@@ -28,9 +28,9 @@ returns-in-Complete g c =
         stops = e.5;
         within = e.2;
         reported = Reported-told g.N.ReportSink.notes _ c.args.reports.now c.run-outcome.new.reports e.4 collected;
-        answers = rw c.in-Complete.is (Says-report all e.0 _ _ _ c.write_report.result c.end_of_writing.result (channel g.W.Write.contents c.args.out.now) (channel g.W.Write.contents c.write_report.new.out)
+        answers = rw c.in-Complete.is (Says-summary all e.0 _ _ _ c.write_summary.result c.end_of_writing.result (channel g.W.Write.contents c.args.out.now) (channel g.W.Write.contents c.write_summary.new.out)
             ends.1 tally peaks c.end_of_writing.ensures (record { whole = w.ok; front = w.fault; failures = w.failures }));
-        cause = cause-text c.write_report.result c.end_of_writing.result _ _ c.end_of_writing.ensures w.failures;
+        cause = cause-text c.write_summary.result c.end_of_writing.result _ _ c.end_of_writing.ensures w.failures;
         count = e.3.account.counts.refused;
       },
     )
@@ -52,7 +52,7 @@ returns g c =
         stops = e.5;
         within = e.2;
         reported = Reported-told g.N.ReportSink.notes _ c.args.reports.now c.run-outcome.new.reports e.4 collected;
-        answers = Says-no_report _ _ _ (channel g.W.Write.contents c.args.out.now) c.in_default.not-Complete well;
+        answers = Says-no_summary _ _ _ (channel g.W.Write.contents c.args.out.now) c.in_default.not-Complete well;
         cause = λ is. absurd (well is);
         count = e.3.account.counts.refused;
       },

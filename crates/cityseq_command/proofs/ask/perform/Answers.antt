@@ -2,8 +2,8 @@ use Rattle.std.proofs.Common.{◌≡◌, [], Ok, ap, sym, subst, ◌∙◌}
 use Rattle.cj_stream.specs.Output.{channel, output_failures}
 use Rattle.cj_stream.specs.Sink.{HasRisen}
 use Rattle.cityseq_command.specs.Performed.{rules_of_ask}
-use Rattle.cityseq_command.specs.Report.{fault_line, status_after}
-use Rattle.cityseq_command.specs.Reporting.{lent_output, report_lines}
+use Rattle.cityseq_command.specs.FaultLines.{fault_line, status_after}
+use Rattle.cityseq_command.specs.ReportWriter.{lent_output, report_lines}
 use Rattle.cityseq_command.proofs.PerformLemmas.{Answers-kept, enough-told}
 use Rattle.cityseq_command.proofs.WroteLemmas.{WroteAfter-then, wrote-reports}
 use Rattle.cityseq_command.proofs.ask.perform.Goals as goal

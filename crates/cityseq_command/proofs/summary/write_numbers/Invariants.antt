@@ -1,7 +1,7 @@
 use Rattle.std.proofs.Common.{Ok, ◌∷◌, take}
 use Rattle.std.specs.List.{flat_map}
 use Rattle.cj_stream.specs.Output.{channel}
-use Rattle.cityseq_command.specs.Report.{Wrote}
+use Rattle.cityseq_command.specs.FaultLines.{Wrote}
 use Rattle.cityseq_command.specs.Summary.{power_text}
 use Rattle.cityseq_command.proofs.summary.write_numbers.Given as goal
 

@@ -1,7 +1,7 @@
 use Rattle.std.specs.Prelude.{[]}
 use Rattle.std.specs.Io.KnownBytes.{IsAtEnd}
 use Rattle.cj_stream.specs.Output.{output_writer, channel}
-use Rattle.cj_stream.specs.Reporting.{Collects}
+use Rattle.cj_stream.specs.ReportSink.{Collects}
 use Rattle.cj_stream.specs.Verdict.{reported_first}
 use Rattle.cj_stream.proofs.HeadlineLemmas.{Headline-run}
 use Rattle.cj_stream.proofs.NoteLemmas.{Noting-collected}

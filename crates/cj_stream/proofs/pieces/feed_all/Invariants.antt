@@ -1,7 +1,7 @@
 use Rattle.std.proofs.Common.{◌≡◌, ◌≤◌, None, take, map}
 use Rattle.cj_stream.specs.Cut.{joined}
 use Rattle.cj_stream.specs.Engine.{StandsFor, rules_of, lines_of, Delivers}
-use Rattle.cj_stream.specs.Reporting.{Notes}
+use Rattle.cj_stream.specs.ReportSink.{Notes}
 use Rattle.cj_stream.specs.Verdict.{refusal_in, judged}
 use Rattle.cj_stream.proofs.pieces.feed_all.Given as goal
 

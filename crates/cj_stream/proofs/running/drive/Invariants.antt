@@ -2,7 +2,7 @@ use Rattle.std.proofs.Common.{◌≡◌, ◌*◌, ◌≤◌, ℕ, List, None, le
 use Rattle.std.specs.Io.KnownBytes.{Consumes}
 use Rattle.cj_stream.specs.Source.{source_reader, source_name, reads_of, has_failed}
 use Rattle.cj_stream.specs.Engine.{StandsFor, rules_of, lines_of, Delivers}
-use Rattle.cj_stream.specs.Reporting.{Notes}
+use Rattle.cj_stream.specs.ReportSink.{Notes}
 use Rattle.cj_stream.proofs.running.drive.Given as goal
 
 abbrev pub invariant-loop-i : goal.invariant-loop-i

@@ -3,7 +3,7 @@ use Rattle.std.proofs.lemmas.List.{drop_all}
 use Rattle.cj_stream.specs.Lines.{lines}
 use Rattle.cityseq_c.specs.Begins.{begin_of}
 use Rattle.cityseq_c.specs.Features.{place_of}
-use Rattle.cityseq_c.specs.Reports.{finder_text}
+use Rattle.cityseq_c.specs.ReportSlice.{finder_text}
 use Rattle.cityseq_c.proofs.FinderLemmas.{along-next, begin-found}
 use Rattle.cityseq_c.proofs.finder.Finder.begin.Goals as goal
 use Rattle.cityseq_c.proofs.finder.Finder.begin.Goals.{then-line, else-line, then-loop-self-test+else-not-is_at_end, else-loop-self-test}

@@ -1,7 +1,7 @@
 use Rattle.std.proofs.Common.{◌≡◌, ◌+◌, ◌≤◌, ◌++◌, ℕ, List, length}
 use Rattle.cj_stream.specs.Lines.{closed}
 use Rattle.cj_stream.specs.Reading.{Reads, Stays, Advances}
-use Rattle.cj_stream.specs.Reporting.{Notes}
+use Rattle.cj_stream.specs.ReportSink.{Notes}
 use Rattle.cj_stream.specs.Scanning.{Scanned, IsReady, Rises}
 use Rattle.cj_stream.proofs.framer.Framer.take_piece.Given as goal
 

@@ -1,7 +1,7 @@
 //! Sinks of reports: they receive the invalid lines if reading goes on after them. The trait is
 //! here, one sink that ignores reports, and one that counts them.
 ghost use Rattle.std.specs.Prelude.{◌≡◌};
-ghost use Rattle.cj_stream.specs.declared.reporting.Report.{Report};
+ghost use Rattle.cj_stream.specs.declared.report_sink.Report.{Report};
 
 use cj_spans::Reason;
 
@@ -47,7 +47,7 @@ pub struct CountReports {
 }
 
 impl ReportSink for CountReports {
-    ghost use Rattle.cj_stream.specs.Reporting.{CountsReport};
+    ghost use Rattle.cj_stream.specs.ReportSink.{CountsReport};
 
     ghost notes = { CountsReport };
 

@@ -5,8 +5,8 @@ ghost use Rattle.std.specs.Io.KnownBytes.{Appends};
 ghost use Rattle.cj_stream.specs.Cut.{joined};
 ghost use Rattle.cj_stream.specs.Sink.{AppendsPart, RisesOnErr};
 ghost use Rattle.cj_stream.specs.Output.{channel, output_writer, output_failures};
-ghost use Rattle.cityseq_command.specs.Report.{Wrote, WroteAfter, fault_line, limit_line, query_line, shown_end, status_of};
-ghost use Rattle.cityseq_command.specs.Report.{status_after as due_after, status_of_query};
+ghost use Rattle.cityseq_command.specs.FaultLines.{Wrote, WroteAfter, fault_line, limit_line, query_line, shown_end};
+ghost use Rattle.cityseq_command.specs.FaultLines.{status_of, status_after as due_after, status_of_query};
 
 use cj_budget::LimitFault;
 use cj_spans::Reason;

@@ -3,15 +3,15 @@
 use Rattle.std.specs.Prelude.{◌≡◌, ℕ, List, [], Option, Result}
 use Rattle.std.specs.List.{flat_map}
 use Rattle.cj_stream.specs.Output.{Channel, channel}
-use Rattle.cj_stream.specs.Reporting.{Collects}
+use Rattle.cj_stream.specs.ReportSink.{Collects}
 use Rattle.cj_stream.specs.Run.{Run, RunsNoting}
 use Rattle.cj_stream.specs.Sink.{Took}
 use Rattle.cj_stream.specs.declared.ending.End.TheVariants.{Refused}
 use Rattle.cj_stream.specs.declared.output.Output.{Output}
 use Rattle.cj_stream.specs.declared.output.WriteFault.{WriteFault as Unwritten}
-use Rattle.cj_stream.specs.declared.reporting.Report.{Report}
-use Rattle.cityseq_command.specs.Report.{fault_line, WroteAfter}
-use Rattle.cityseq_command.specs.declared.reporting.WriteReports.{WriteReports}
+use Rattle.cj_stream.specs.declared.report_sink.Report.{Report}
+use Rattle.cityseq_command.specs.FaultLines.{fault_line, WroteAfter}
+use Rattle.cityseq_command.specs.declared.report_writer.WriteReports.{WriteReports}
 
 -- ---- the reports of a run
 

@@ -1,8 +1,8 @@
 use Rattle.std.proofs.Common.{Ok, take}
 use Rattle.std.specs.List.{flat_map}
 use Rattle.cj_stream.specs.Output.{channel}
-use Rattle.cityseq_command.specs.Report.{Wrote}
-use Rattle.cityseq_command.proofs.report.write_parts.Given as goal
+use Rattle.cityseq_command.specs.FaultLines.{Wrote}
+use Rattle.cityseq_command.proofs.fault_lines.write_parts.Given as goal
 
 abbrev pub invariant-loop-part : goal.invariant-loop-part
 invariant-loop-part g l =

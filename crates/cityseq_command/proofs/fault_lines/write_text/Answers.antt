@@ -1,4 +1,4 @@
-use Rattle.cityseq_command.proofs.report.write_text.Goals as goal
+use Rattle.cityseq_command.proofs.fault_lines.write_text.Goals as goal
 
 pub returns : goal.returns
 returns g c = record {

@@ -2,7 +2,7 @@ use Rattle.std.proofs.Common.{codes}
 use Rattle.cityseq_command.specs.Text.{count_line}
 use Rattle.cityseq_command.specs.Summary.{tally_text, peaks_text}
 use Rattle.cityseq_command.proofs.TextLemmas.{fault-before, fault-after, last-fault, written-after, last-written}
-use Rattle.cityseq_command.proofs.summary.write_report.Goals as goal
+use Rattle.cityseq_command.proofs.summary.write_summary.Goals as goal
 
 pub returns-in_err-write_count-clause-fault : goal.returns-in_err-write_count-clause-fault
 returns-in_err-write_count-clause-fault g c =

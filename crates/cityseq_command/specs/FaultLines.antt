@@ -5,7 +5,7 @@ use Rattle.std.specs.Io.KnownBytes.{Appends}
 use Rattle.cj_stream.specs.Cut.{joined}
 use Rattle.cj_stream.specs.Output.{Channel}
 use Rattle.cj_stream.specs.Sink.{AppendsPart, RisesOnErr}
-use Rattle.cityseq_command.specs.declared.report.Shown.{Shown}
+use Rattle.cityseq_command.specs.declared.fault_lines.Shown.{Shown}
 use Rattle.cj_budget.specs.declared.limits.LimitFault.{LimitFault}
 use Rattle.cj_budget.specs.declared.limits.LimitFault.TheVariants.{LineLimit, DepthLimit}
 use Rattle.cj_stream.specs.declared.output.WriteFault.{WriteFault as Unwritten}
@@ -92,7 +92,7 @@ WroteAfter (Err f) text answer old new = (answer ≡ Err f) × (new ≡ old)
 -- a run ended so, its output noted this of the flush after it, and this is shown: the run's end, or a write fault where
 -- that flush failed; and the line of that end after a text that came before, of which standard error has taken all, or
 -- a prefix where it failed
-pub record Reports (e : End) (before : List ℕ) (noted : Option (Result (Unit {0}) Unwritten)) (shown : Shown)
+pub record ShowsEnd (e : End) (before : List ℕ) (noted : Option (Result (Unit {0}) Unwritten)) (shown : Shown)
     (old new : Channel) : Type 0 where
   pub flushed : Result (Unit {0}) Unwritten
   pub told : noted ≡ Some flushed

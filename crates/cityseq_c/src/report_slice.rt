@@ -20,7 +20,7 @@ pub struct Told {
 
 impl Told {
     ghost use Rattle.std.specs.Prelude.{◌≡◌};
-    ghost use Rattle.cityseq_c.specs.Reports.{finder_text, told as told_of};
+    ghost use Rattle.cityseq_c.specs.ReportSlice.{finder_text, told as told_of};
 
     /// Returns a report as C has it. `finder` finds where its line begins.
     fn of(report: Report, finder: &mut Finder<'_>) -> Told
@@ -48,7 +48,7 @@ pub struct Noted<'a> {
 
 impl<'a> Noted<'a> {
     ghost use Rattle.std.specs.Prelude.{◌≡◌};
-    ghost use Rattle.cityseq_c.specs.Reports.{count_of, finder_text, noted_loan, noted_room, noted_text};
+    ghost use Rattle.cityseq_c.specs.ReportSlice.{count_of, finder_text, noted_loan, noted_room, noted_text};
 
     /// Returns a sink that has written no report. Lines begin where `finder` finds them.
     pub fn new(finder: Finder<'a>, reports: &'a mut [Told]) -> Noted<'a>
@@ -66,7 +66,7 @@ impl<'a> Noted<'a> {
 }
 
 impl ReportSink for Noted<'_> {
-    ghost use Rattle.cityseq_c.specs.Reports.{NotesOne};
+    ghost use Rattle.cityseq_c.specs.ReportSlice.{NotesOne};
 
     ghost notes = { NotesOne };
 

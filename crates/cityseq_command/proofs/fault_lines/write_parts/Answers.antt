@@ -1,7 +1,7 @@
 use Rattle.std.proofs.Common.{[], arith}
 use Rattle.cityseq_command.proofs.TextLemmas.{joined-map}
 use Rattle.cityseq_command.proofs.WroteLemmas.{Wrote-nothing, part-wrote, part-stops, parts-wrote}
-use Rattle.cityseq_command.proofs.report.write_parts.Goals as goal
+use Rattle.cityseq_command.proofs.fault_lines.write_parts.Goals as goal
 
 pub loop-part-init : goal.loop-part-init
 loop-part-init g c = Wrote-nothing tt _

@@ -1,8 +1,8 @@
 //! The sink that writes reports of invalid lines to standard error, as they come.
 ghost use Rattle.std.specs.Prelude.{◌≡◌, Ok};
-ghost use Rattle.cityseq_command.specs.Reporting.{loan_name, lent_output, writing as answer_so_far};
+ghost use Rattle.cityseq_command.specs.ReportWriter.{loan_name, lent_output, writing as answer_so_far};
 
-use crate::report::write_refusal;
+use crate::fault_lines::write_refusal;
 use cj_stream::{Output, Report, ReportSink, WriteFault};
 use std::io::Write;
 
@@ -36,7 +36,7 @@ impl<'e, E: Write + Drop> WriteReports<'e, E> {
 }
 
 impl<E: Write + Drop> ReportSink for WriteReports<'_, E> {
-    ghost use Rattle.cityseq_command.specs.Reporting.{WritesReport};
+    ghost use Rattle.cityseq_command.specs.ReportWriter.{WritesReport};
 
     ghost notes = { WritesReport E.contents };
 
