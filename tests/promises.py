@@ -233,7 +233,7 @@ def check_headline(report):
 
 def check_reasons(code, report):
     source = (ROOT / 'crates/cj_spans/src/reason.rt').read_text()
-    table = re.findall(r'Reason::(\w+) => make_entry\((\d+), "([^"]*)"\)', source)
+    table = re.findall(r'Reason::(\w+) => make_row\((\d+), "([^"]*)"\)', source)
     document = (ROOT / 'docs/REASONS.md').read_text()
     report.place = 'docs/REASONS.md'
     for name, number, text in table:

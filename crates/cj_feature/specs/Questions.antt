@@ -15,8 +15,8 @@ use Rattle.cj_feature.specs.declared.feature.search.tagged.Text.{Text}
 use Rattle.cj_feature.specs.declared.feature.search.questions.order.Pair.{Pair}
 use Rattle.cj_feature.specs.declared.feature.search.questions.order.Question.{Question}
 use Rattle.cj_feature.specs.declared.feature.search.questions.Questions.{Questions}
-use Rattle.cj_feature.specs.declared.feature.search.questions.Answer.{Answer}
-use Rattle.cj_feature.specs.declared.feature.search.questions.Answer.TheVariants.{Listed, Absent, Untold}
+use Rattle.cj_feature.specs.declared.feature.search.questions.LinkAnswer.{LinkAnswer}
+use Rattle.cj_feature.specs.declared.feature.search.questions.LinkAnswer.TheVariants.{Listed, Absent, Untold}
 use Rattle.cj_feature.specs.Tag.{tag_of}
 use Rattle.cj_feature.specs.Links.{same_text, is_known, lists}
 
@@ -121,7 +121,7 @@ pub record AreAnswered {R K : ℕ} (list : List ℕ) (objects : Node) (left : Li
   pub known : AreLeft objects (noted a) a.known left
 
 -- what an answer says of two texts
-abbrev pub IsAnswer : List ℕ → Node → Tree → Tree → Answer → Type 0
+abbrev pub IsAnswer : List ℕ → Node → Tree → Tree → LinkAnswer → Type 0
 IsAnswer list objects from to Listed = lists list (members_of (tree objects)) from to ≡ true
 IsAnswer list objects from to Absent = is_known (members_of (tree objects)) from ≡ false
 IsAnswer list objects from to Untold = Unit {0}

@@ -1,7 +1,5 @@
-pub mod Answers
 pub mod Digits
 pub mod Distinct
-pub mod Entries
 pub mod Grammars
 pub mod ListSteps
 pub mod Neighbours
@@ -15,3 +13,5 @@ pub mod Rooms
 pub mod Sequences
 pub mod Shapes
 pub mod Texts
+pub mod TemplateLods
+pub mod WordedNames

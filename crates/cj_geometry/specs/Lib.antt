@@ -1,5 +1,3 @@
-pub mod Answers
-pub mod Entries
 pub mod Form
 pub mod Geometry
 pub mod Given
@@ -13,3 +11,5 @@ pub mod Rule
 pub mod Table
 pub mod TreeSet
 pub mod Lone
+pub mod TemplateLods
+pub mod WordedNames

@@ -11,7 +11,7 @@ ghost use Rattle.cj_spans.specs.Parts.{items_of, member_of};
 ghost use Rattle.cj_spans.specs.View.{tree};
 ghost use Rattle.cj_geometry.specs.Geometry.{list_of, parts_of};
 ghost use Rattle.cj_geometry.specs.Given.{given};
-ghost use Rattle.cj_geometry.specs.Answers.{AreAnswersIn};
+ghost use Rattle.cj_geometry.specs.TemplateLods.{AreAnswersIn};
 ghost use Rattle.cj_geometry.specs.ListSteps.{AreStepsOf, AreFinerStepsOf};
 ghost use Rattle.cj_geometry.specs.TreeSet.{options-set};
 
@@ -29,13 +29,13 @@ const MANY: usize = 64;
 
 /// A result: the level of detail of the template with this number.
 #[derive(Clone, Copy)]
-struct Answer<'a> {
+struct TemplateLod<'a> {
     number: u64,
     lod: Option<Node<'a>>,
 }
 
 /// Returns the result for the template with this number, if one is kept.
-fn answer_for<'a>(answers: &[Option<Answer<'a>>], number: u64) -> Option<Answer<'a>>
+fn answer_for<'a>(answers: &[Option<TemplateLod<'a>>], number: u64) -> Option<TemplateLod<'a>>
     ensures kept { IfSome result (λ a. (slot : ℕ) × (slice_get answers.now slot ≡ Some (Some a))) }
     ensures number { IfSome result (λ a. a.number ≡ number) }
 {
@@ -52,10 +52,10 @@ fn answer_for<'a>(answers: &[Option<Answer<'a>>], number: u64) -> Option<Answer<
 /// Returns these results, with another one in a slot.
 #[inline(never)]
 fn with_answer<'a>(
-    answers: [Option<Answer<'a>>; ANSWERS],
+    answers: [Option<TemplateLod<'a>>; ANSWERS],
     slot: usize,
-    answer: Answer<'a>,
-) -> [Option<Answer<'a>>; ANSWERS]
+    answer: TemplateLod<'a>,
+) -> [Option<TemplateLod<'a>>; ANSWERS]
     requires { slot < ANSWERS }
     ensures { result ≡ slice_set answers.entry slot (Some answer.entry) }
 {
@@ -72,7 +72,7 @@ pub struct Lods<'a> {
     steps: Steps,
     searches: usize,
     finer: Option<FinerSteps>,
-    answers: [Option<Answer<'a>>; ANSWERS],
+    answers: [Option<TemplateLod<'a>>; ANSWERS],
     oldest: usize,
     ghost stepped: { AreStepsOf (parts_of (list_of (given templates))) steps },
     ghost stepped_finer: { ForSome finer (AreFinerStepsOf (parts_of (list_of (given templates)))) },
@@ -148,7 +148,7 @@ impl<'a> Lods<'a> {
             return answer.lod;
         }
         let lod = self.lod_found(list, number);
-        self.note(list, Answer { number, lod });
+        self.note(list, TemplateLod { number, lod });
         lod
     }
 
@@ -193,7 +193,7 @@ impl<'a> Lods<'a> {
 
     /// Keeps a result, in place of the oldest.
     #[inline(never)]
-    fn note(&mut self, list: Node<'a>, answer: Answer<'a>)
+    fn note(&mut self, list: Node<'a>, answer: TemplateLod<'a>)
         requires list { Some (tree list) ≡ list_of (given_to self.old) }
         requires right { option_map tree answer.lod
             ≡ option_and_then (member_of (chars (codes "lod"))) (slice_get (items_of (tree list)) answer.number) }

@@ -1,11 +1,11 @@
 //! Repeated names of an object.
 //!
 //! Few names are compared each with each. Many are sorted by text and then by place. A repeated
-//! name comes directly after an earlier one of its text. An array of fixed size holds entries of
-//! names ([`Entry`]), so more names need more than one walk. Each walk gathers the least names
-//! above those that the earlier walks have dealt with. If the array is full, it keeps the least
-//! names. The next one is the ceiling of the walk. The kept ones are copied to a second array and
-//! back, since contracts say nothing of the rest after a selection.
+//! name comes directly after an earlier one of its text. An array of fixed size holds names with
+//! their words ([`WordedName`]), so more names need more than one walk. Each walk gathers the least
+//! names above those that the earlier walks have dealt with. If the array is full, it keeps the
+//! least names. The next one is the ceiling of the walk. The kept ones are copied to a second array
+//! and back, since contracts say nothing of the rest after a selection.
 //!
 //! So n names take about n / `KEPT` walks and n * log n comparisons, for any texts in any order. No
 //! memory is allocated. The arrays use 12 KiB of the stack for up to 1,000 names. They use 72 KiB
@@ -17,10 +17,10 @@ ghost use Rattle.cj_spans.specs.Parts.{members_of, AreInOrder};
 ghost use Rattle.cj_spans.specs.View.{tree, source_of, members_left};
 ghost use Rattle.cj_geometry.specs.Rule.{repeats_of, distinct};
 ghost use Rattle.cj_geometry.specs.Names.{is_above, is_below, Ascend, repeat_of, neighbours, last_of, names_of};
-ghost use Rattle.cj_geometry.specs.Entries.{IsWorded, name_in, names_in, limit_in, TakeOne, HoldNames};
+ghost use Rattle.cj_geometry.specs.WordedNames.{IsWorded, name_in, names_in, limit_in, TakeOne, HoldNames};
 
 use crate::rule::add;
-use crate::rule::order::{Entry, NO_NAME, is_before, sort, take_least};
+use crate::rule::order::{NO_NAME, WordedName, is_before, sort, take_least};
 use cj_spans::{Least, Members, Node, Reason};
 
 /// At most this number of names are compared each with each.
@@ -76,12 +76,12 @@ fn check_few(object: Node, found: &mut Least)
 #[derive(Clone, Copy)]
 struct Held {
     count: usize,
-    ceiling: Option<Entry>,
+    ceiling: Option<WordedName>,
 }
 
 /// Returns whether a name comes after the floor: one of those that are not dealt with yet.
 #[inline(always)]
-fn is_left(object: Node, name: Entry, floor: Option<Entry>) -> bool
+fn is_left(object: Node, name: WordedName, floor: Option<WordedName>) -> bool
     requires name { IsWorded (source_of object) name }
     requires floor { IfSome floor (IsWorded (source_of object)) }
     ensures { let s = source_of object.entry in result ≡ is_above (limit_in s floor) (name_in s name) }
@@ -94,7 +94,7 @@ fn is_left(object: Node, name: Entry, floor: Option<Entry>) -> bool
 
 /// Returns whether a name comes before the ceiling, so that it may have a place.
 #[inline(always)]
-fn has_place(object: Node, name: Entry, ceiling: Option<Entry>) -> bool
+fn has_place(object: Node, name: WordedName, ceiling: Option<WordedName>) -> bool
     requires name { IsWorded (source_of object) name }
     requires ceiling { IfSome ceiling (IsWorded (source_of object)) }
     ensures { let s = source_of object.entry in result ≡ is_below (limit_in s ceiling) (name_in s name) }
@@ -105,8 +105,8 @@ fn has_place(object: Node, name: Entry, ceiling: Option<Entry>) -> bool
     }
 }
 
-/// Copies entries to the start of the array.
-fn put_back(room: &mut [Entry], kept: &[Entry])
+/// Copies names to the start of the array.
+fn put_back(room: &mut [WordedName], kept: &[WordedName])
     requires { length kept.now ≤ length room.old }
     ensures room { length room.new ≡ length room.old }
     ensures front { take (length kept.now) room.new ≡ kept.now }
@@ -115,14 +115,20 @@ fn put_back(room: &mut [Entry], kept: &[Entry])
 }
 
 /// Adds a name to the array. If the array is full then, it keeps the least names.
-fn put(object: Node, name: Entry, held: Held, room: &mut [Entry], kept: &mut [Entry]) -> Held
+fn put(
+    object: Node,
+    name: WordedName,
+    held: Held,
+    room: &mut [WordedName],
+    kept: &mut [WordedName],
+) -> Held
     requires some { 0 < length kept.old }
     requires fewer { length kept.old < length room.old }
     requires place { held.count < length room.old }
     ensures kept { length kept.new ≡ length kept.old }
     ensures room { length room.new ≡ length room.old }
     ensures count { (0 < result.count) × (result.count < length room.new) }
-    ensures entries { TakeOne (source_of object.entry) name (take held.count room.old) held.ceiling
+    ensures taken { TakeOne (source_of object.entry) name (take held.count room.old) held.ceiling
         (take result.count room.new) result.ceiling }
 {
     room[held.count] = name;
@@ -142,7 +148,12 @@ fn put(object: Node, name: Entry, held: Held, room: &mut [Entry], kept: &mut [En
 }
 
 /// Gathers the least names of an object above the floor, as many as the array can hold.
-fn gather(object: Node, floor: Option<Entry>, room: &mut [Entry], kept: &mut [Entry]) -> Held
+fn gather(
+    object: Node,
+    floor: Option<WordedName>,
+    room: &mut [WordedName],
+    kept: &mut [WordedName],
+) -> Held
     requires some { 0 < length kept.old }
     requires fewer { length kept.old < length room.old }
     requires floor { IfSome floor (IsWorded (source_of object)) }
@@ -160,7 +171,7 @@ fn gather(object: Node, floor: Option<Entry>, room: &mut [Entry], kept: &mut [En
         ceiling: None,
     };
     for (node, _) in object.members() {
-        let name = Entry::of(node);
+        let name = WordedName::of(node);
         if is_left(object, name, floor) && has_place(object, name, held.ceiling) {
             held = put(object, name, held, room, kept);
         }
@@ -179,7 +190,7 @@ fn check_pair(before: Node, name: Node, found: &mut Least)
 
 /// A name does not repeat the one before it.
 #[inline(always)]
-fn check_neighbour(object: Node, before: Option<Entry>, name: Entry, found: &mut Least)
+fn check_neighbour(object: Node, before: Option<WordedName>, name: WordedName, found: &mut Least)
     requires name { IsWorded (source_of object) name }
     requires before { IfSome before (IsWorded (source_of object)) }
     ensures { let s = source_of object.entry in
@@ -199,10 +210,10 @@ fn check_neighbour(object: Node, before: Option<Entry>, name: Entry, found: &mut
 /// last name.
 fn check_neighbours(
     object: Node,
-    floor: Option<Entry>,
-    names: &[Entry],
+    floor: Option<WordedName>,
+    names: &[WordedName],
     found: &mut Least,
-) -> Option<Entry>
+) -> Option<WordedName>
     requires names { All (IsWorded (source_of object)) names.now }
     requires floor { IfSome floor (IsWorded (source_of object)) }
     ensures word { IfSome result (IsWorded (source_of object.entry)) }
@@ -221,7 +232,12 @@ fn check_neighbours(
 
 /// Deals with the names that a walk has gathered. Returns the last of them. The remaining names are
 /// above it.
-fn deal(object: Node, floor: Option<Entry>, names: &mut [Entry], found: &mut Least) -> Option<Entry>
+fn deal(
+    object: Node,
+    floor: Option<WordedName>,
+    names: &mut [WordedName],
+    found: &mut Least,
+) -> Option<WordedName>
     requires names { All (IsWorded (source_of object)) names.old }
     requires floor { IfSome floor (IsWorded (source_of object)) }
     ensures permutation { IsPermutation names.old names.new }
@@ -238,7 +254,7 @@ fn deal(object: Node, floor: Option<Entry>, names: &mut [Entry], found: &mut Lea
 
 /// The names of an object are distinct. A repeated one comes directly after another of its text in
 /// the order of names.
-fn check_in_order(object: Node, room: &mut [Entry], kept: &mut [Entry], found: &mut Least)
+fn check_in_order(object: Node, room: &mut [WordedName], kept: &mut [WordedName], found: &mut Least)
     requires kept { 0 < length kept.old }
     requires room { length kept.old < length room.old }
     ensures { found.new ≡ least found.old (distinct (tree object.entry)) }

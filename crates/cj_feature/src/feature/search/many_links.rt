@@ -15,7 +15,7 @@ use crate::feature::ids::is_known;
 use crate::feature::links::{SHORT, has_as_many, parents_of_part};
 use crate::feature::search::link::Link;
 use crate::feature::search::noted::Noted;
-use crate::feature::search::questions::{Ahead, Answer, Questions};
+use crate::feature::search::questions::{Ahead, LinkAnswer, Questions};
 use crate::feature::search::tagged::tag_of;
 use cj_geometry::rule::{add, is_told_before};
 use cj_spans::{Least, Members, Node, Reason};
@@ -69,9 +69,9 @@ fn check_item<'a, const ROOM: usize, const KEPT: usize>(
     }
     let Ahead { link, name, .. } = ahead;
     match questions.answer(objects, item, ahead) {
-        Answer::Listed => return true,
-        Answer::Absent => link.check_absent(objects, name.node(objects), item, found),
-        Answer::Untold => link.check(objects, name.node(objects), item, found),
+        LinkAnswer::Listed => return true,
+        LinkAnswer::Absent => link.check_absent(objects, name.node(objects), item, found),
+        LinkAnswer::Untold => link.check(objects, name.node(objects), item, found),
     }
     false
 }
@@ -178,9 +178,9 @@ fn is_known_parent<'a, const ROOM: usize, const KEPT: usize>(
     ensures answered { AreAnswered (back_of ahead.entry.link) objects.entry [] questions.new }
 {
     match questions.answer(objects, item, ahead) {
-        Answer::Listed => true,
-        Answer::Absent => false,
-        Answer::Untold => is_known(objects, item),
+        LinkAnswer::Listed => true,
+        LinkAnswer::Absent => false,
+        LinkAnswer::Untold => is_known(objects, item),
     }
 }
 

@@ -32,7 +32,7 @@ use wanted::{is_wanted, mark_wanted};
 
 /// What was found for a question.
 #[derive(Clone, Copy)]
-pub enum Answer {
+pub enum LinkAnswer {
     /// A city object of the one name lists the other.
     Listed,
     /// No city object has the one name.
@@ -214,7 +214,7 @@ impl<const ROOM: usize, const KEPT: usize> Questions<ROOM, KEPT> {
     }
 
     /// Returns what was found for a question, or None if it is not noted.
-    fn found(&mut self, list: &str, objects: Node, from: Text, to: Noted) -> Option<Answer>
+    fn found(&mut self, list: &str, objects: Node, from: Text, to: Noted) -> Option<LinkAnswer>
         requires answered { AreAnswered (chars list.now) objects [] self.old }
         ensures answer { IfSome result
             (IsAnswer (chars list.now) objects.entry (tree from.entry.node) (noted_in objects.entry to)) }
@@ -223,24 +223,24 @@ impl<const ROOM: usize, const KEPT: usize> Questions<ROOM, KEPT> {
         let hand = hand_of::<KEPT>(from.node, from.tag);
         let run = self.runs[hand];
         if let Some(true) = self.is_listed(list, objects, run, from, to) {
-            return Some(Answer::Listed);
+            return Some(LinkAnswer::Listed);
         }
         let questions = &self.questions[..self.count];
         let first = first_on(objects, questions, from)?;
         if !self.known[first] {
-            return Some(Answer::Absent);
+            return Some(LinkAnswer::Absent);
         }
         let run = run_on(objects, questions, from, first);
         self.runs[hand] = run;
         match self.is_listed(list, objects, run, from, to)? {
-            true => Some(Answer::Listed),
-            false => Some(Answer::Untold),
+            true => Some(LinkAnswer::Listed),
+            false => Some(LinkAnswer::Untold),
         }
     }
 
     /// Returns whether a city object that an item names lists the current one. If the question is
     /// not noted, it is noted with the next ones and answered.
-    pub fn answer(&mut self, objects: Node, item: Node, ahead: Ahead) -> Answer
+    pub fn answer(&mut self, objects: Node, item: Node, ahead: Ahead) -> LinkAnswer
         requires { AreAnswered (back_of ahead.link) objects [] self.old }
         ensures answer { IsAnswer (back_of ahead.entry.link) objects.entry (tree item.entry)
             (noted_in objects.entry ahead.entry.name) result }
@@ -256,10 +256,10 @@ impl<const ROOM: usize, const KEPT: usize> Questions<ROOM, KEPT> {
                 self.ask(list, objects, item, ahead);
                 match self.found(list, objects, from, ahead.name) {
                     Some(answer) => answer,
-                    None => Answer::Untold,
+                    None => LinkAnswer::Untold,
                 }
             }
-            _ => Answer::Absent,
+            _ => LinkAnswer::Absent,
         }
     }
 }

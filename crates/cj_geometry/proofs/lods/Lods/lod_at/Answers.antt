@@ -3,7 +3,7 @@ use Rattle.std.specs.Str.{chars}
 use Rattle.cj_spans.specs.Parts.{member_of}
 use Rattle.cj_geometry.specs.Geometry.{list_of, parts_of}
 use Rattle.cj_geometry.specs.Given.{given}
-use Rattle.cj_geometry.proofs.Answers.{answer-right}
+use Rattle.cj_geometry.proofs.TemplateLods.{answer-right}
 use Rattle.cj_geometry.proofs.lods.Lods.lod_at.Goals as goal
 
 pub returns-in-Some-clause-lod : goal.returns-in-Some-clause-lod

@@ -3,8 +3,8 @@ use Rattle.std.specs.Str.{chars}
 use Rattle.cj_spans.specs.Parts.{member_of}
 use Rattle.cj_geometry.specs.Geometry.{list_of, parts_of}
 use Rattle.cj_geometry.specs.Given.{given}
-use Rattle.cj_geometry.specs.Answers.{AreAnswersIn}
-use Rattle.cj_geometry.proofs.Answers.{answer-kept}
+use Rattle.cj_geometry.specs.TemplateLods.{AreAnswersIn}
+use Rattle.cj_geometry.proofs.TemplateLods.{answer-kept}
 use Rattle.cj_geometry.proofs.lods.Lods.note.Goals as goal
 
 pub invariant_of-self-clause-answered : goal.invariant_of-self-clause-answered

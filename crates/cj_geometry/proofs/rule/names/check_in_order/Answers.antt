@@ -3,7 +3,7 @@ use Rattle.std.proofs.lemmas.List.{length-take-le}
 use Rattle.cj_spans.specs.Parts.{members_of}
 use Rattle.cj_spans.specs.View.{tree, source_of}
 use Rattle.cj_geometry.specs.Names.{names_of, last_of}
-use Rattle.cj_geometry.specs.Entries.{limit_in, names_in, HoldNames}
+use Rattle.cj_geometry.specs.WordedNames.{limit_in, names_in, HoldNames}
 use Rattle.cj_geometry.proofs.Distinct.{left_above, reached_more, all_reached}
 use Rattle.cj_geometry.proofs.Rooms.{are_next, none_left, room_kept, first_held, none_there}
 use Rattle.cj_geometry.proofs.rule.names.check_in_order.Goals as goal

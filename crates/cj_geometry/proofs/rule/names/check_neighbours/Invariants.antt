@@ -3,7 +3,7 @@ use Rattle.std.specs.Prelude.{IfSome}
 use Rattle.cj_spans.specs.Finding.{least}
 use Rattle.cj_spans.specs.View.{source_of}
 use Rattle.cj_geometry.specs.Names.{neighbours, last_of}
-use Rattle.cj_geometry.specs.Entries.{IsWorded, limit_in, names_in}
+use Rattle.cj_geometry.specs.WordedNames.{IsWorded, limit_in, names_in}
 use Rattle.cj_geometry.proofs.rule.names.check_neighbours.Given as goal
 
 abbrev pub invariant-loop-name : goal.invariant-loop-name

@@ -1,7 +1,7 @@
 use Rattle.std.proofs.lemmas.List.Sorted.{All-permutation}
 use Rattle.cj_spans.specs.View.{source_of}
-use Rattle.cj_geometry.specs.Entries.{IsWorded}
+use Rattle.cj_geometry.specs.WordedNames.{IsWorded}
 use Rattle.cj_geometry.proofs.rule.names.deal.Goals as goal
 
 pub check_neighbours-requires-clause-names : goal.check_neighbours-requires-clause-names
-check_neighbours-requires-clause-names c = All-permutation (IsWorded (source_of c.args.object)) c.args.names.now c.sort.new.entries c.sort.ensures.permutation c.requires.names
+check_neighbours-requires-clause-names c = All-permutation (IsWorded (source_of c.args.object)) c.args.names.now c.sort.new.names c.sort.ensures.permutation c.requires.names

@@ -2,7 +2,7 @@ use Rattle.std.proofs.Common.{◌≡◌, ◌∙◌, ◌&&◌, Bool, true, false,
 use Rattle.cj_spans.specs.Parts.{members_of}
 use Rattle.cj_spans.specs.View.{tree, source_of, members_left, members_source}
 use Rattle.cj_geometry.specs.Names.{names_of, is_above, is_below}
-use Rattle.cj_geometry.specs.Entries.{IsWorded, name_in, limit_in}
+use Rattle.cj_geometry.specs.WordedNames.{IsWorded, name_in, limit_in}
 use Rattle.cj_geometry.proofs.Rooms.{HasGathered, gathered_first, gathered_passed, gathered_more}
 use Rattle.cj_geometry.proofs.rule.names.gather.Goals.{else-is_left-via-then-is_left+else-has_place, else-is_left-via-else-is_left}
 use Rattle.cj_geometry.proofs.rule.names.gather.Goals as goal
@@ -41,7 +41,7 @@ loop-node-preserved-then-has_place c =
       source = y.3 ∙ i.source;
       gathered = gathered_more s names (names_of (members_left c.next.new.self)) (limit_in s c.args.floor) c.loop-node.held.ceiling c.put-held.result.ceiling name (tree c.in-Some.node) (take c.loop-node.held.count c.loop-node.room) _
           (subst (λ x. name_in x name ≡ tree c.in-Some.node) e c.of-name.ensures.name) (subst (λ x. IsWorded x name) e c.of-name.ensures.word)
-          (sym c.is_left.ensures ∙ c.if-is_left.true) (sym c.has_place.ensures ∙ c.if-has_place.true) r.entries
+          (sym c.is_left.ensures ∙ c.if-is_left.true) (sym c.has_place.ensures ∙ c.if-has_place.true) r.taken
           (subst (λ xs. HasGathered s names (names_of xs) (limit_in s c.args.floor) c.loop-node.held.ceiling (take c.loop-node.held.count c.loop-node.room)) y.0 i.gathered);
     }
 

@@ -2,12 +2,12 @@ use Rattle.std.proofs.Common.{rules}
 use Rattle.std.specs.Ordering.{is_lt}
 use Rattle.std.proofs.lemmas.List.Sorted.{All-permutation, ranks_by}
 use Rattle.cj_spans.specs.View.{source_of}
-use Rattle.cj_geometry.specs.Entries.{IsWorded, compare_entries}
-use Rattle.cj_geometry.proofs.Entries.{ascend_sorted, compares_as, entries_order}
+use Rattle.cj_geometry.specs.WordedNames.{IsWorded, compare_worded}
+use Rattle.cj_geometry.proofs.WordedNames.{ascend_sorted, compares_as, worded_order}
 use Rattle.cj_geometry.proofs.rule.order.sort.Goals as goal
 
 pub returns-clause-order : goal.returns-clause-order
 returns-clause-order c =
     let s = source_of c.args.object in
-    ascend_sorted s c.sort_unstable_by.new.self (All-permutation (IsWorded s) c.args.entries.now c.sort_unstable_by.new.self c.sort_unstable_by.ensures.permutation c.requires)
-    (c.sort_unstable_by.ensures.sorted (λ d e. is_lt (compare_entries s d e)) (ranks_by (entries_order s) (λ e. e)) (compares_as (compare_entries s) (λ a r f k. search rules)))
+    ascend_sorted s c.sort_unstable_by.new.self (All-permutation (IsWorded s) c.args.names.now c.sort_unstable_by.new.self c.sort_unstable_by.ensures.permutation c.requires)
+    (c.sort_unstable_by.ensures.sorted (λ d e. is_lt (compare_worded s d e)) (ranks_by (worded_order s) (λ e. e)) (compares_as (compare_worded s) (λ a r f k. search rules)))

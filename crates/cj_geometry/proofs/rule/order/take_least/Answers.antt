@@ -2,12 +2,12 @@ use Rattle.std.proofs.Common.{rules}
 use Rattle.std.specs.Ordering.{is_lt}
 use Rattle.std.proofs.lemmas.List.Sorted.{ranks_by}
 use Rattle.cj_spans.specs.View.{source_of}
-use Rattle.cj_geometry.specs.Entries.{compare_entries}
-use Rattle.cj_geometry.proofs.Entries.{compares_as, entries_order, least_copied}
+use Rattle.cj_geometry.specs.WordedNames.{compare_worded}
+use Rattle.cj_geometry.proofs.WordedNames.{compares_as, worded_order, least_copied}
 use Rattle.cj_geometry.proofs.rule.order.take_least.Goals as goal
 
 pub returns-clause-least : goal.returns-clause-least
 returns-clause-least c =
     let s = source_of c.args.object in
     let r = c.select_nth_unstable_by-front.ensures in
-    least_copied s _ _ _ _ _ c.copy_from_slice.ensures.after r.permutation (r.partitioned (λ d e. is_lt (compare_entries s d e)) (ranks_by (entries_order s) (λ e. e)) (compares_as (compare_entries s) (λ a r f k. search rules)))
+    least_copied s _ _ _ _ _ c.copy_from_slice.ensures.after r.permutation (r.partitioned (λ d e. is_lt (compare_worded s d e)) (ranks_by (worded_order s) (λ e. e)) (compares_as (compare_worded s) (λ a r f k. search rules)))

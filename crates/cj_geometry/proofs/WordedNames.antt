@@ -1,4 +1,4 @@
--- Entries of names are ordered as their names are.
+-- Names with the words of their texts are ordered as their names are.
 use Rattle.std.proofs.Common.{◌≡◌, ℕ, zero, suc, ◌<◌, ◌≤◌, inl, inr, nat_lt, nat_eq, true, false, cond, List, [], ◌∷◌, ◌++◌, length, get_or, sym, ap, subst, arith, ◌∙◌}
 use denote.Param.Members.{Mut}
 use denote.Ref.{Bor}
@@ -21,8 +21,8 @@ use Rattle.cj_spans.specs.Parts.{text_of}
 use Rattle.cj_spans.specs.Order.{compare_texts, word_of}
 use Rattle.cj_spans.proofs.Words.{less_by_words}
 use Rattle.cj_geometry.specs.Names.{compare_names, is_earlier, Ascend}
-use Rattle.cj_geometry.specs.Entries.{name_in, names_in, word_in, IsWorded, compare_entries, AreLeast}
-use Rattle.cj_geometry.specs.declared.rule.order.Entry.{Entry}
+use Rattle.cj_geometry.specs.WordedNames.{name_in, names_in, word_in, IsWorded, compare_worded, AreLeast}
+use Rattle.cj_geometry.specs.declared.rule.order.WordedName.{WordedName}
 use Rattle.cj_geometry.proofs.Ordered.{order}
 
 -- ---- the words go along with the texts
@@ -52,19 +52,19 @@ words_first t u v w e f =
           ap (λ r. ordering_then r (compare_names t u)) (greater_numbers v w g) ∙ sym (ap (λ r. ordering_then r (nat_cmp (start_of t) (start_of u))) k)
     ]
 
-pub entries_as_names : (s : Source) (d e : Entry) → IsWorded s d → IsWorded s e → compare_entries s d e ≡ compare_names (name_in s d) (name_in s e)
-entries_as_names s d e h k = words_first (name_in s d) (name_in s e) (word_in d) (word_in e) h k
+pub worded_as_names : (s : Source) (d e : WordedName) → IsWorded s d → IsWorded s e → compare_worded s d e ≡ compare_names (name_in s d) (name_in s e)
+worded_as_names s d e h k = words_first (name_in s d) (name_in s e) (word_in d) (word_in e) h k
 
-pub less_as_earlier : (s : Source) (d e : Entry) → IsWorded s d → IsWorded s e → is_lt (compare_entries s d e) ≡ is_earlier (name_in s d) (name_in s e)
-less_as_earlier s d e h k = ap is_lt (entries_as_names s d e h k)
+pub less_as_earlier : (s : Source) (d e : WordedName) → IsWorded s d → IsWorded s e → is_lt (compare_worded s d e) ≡ is_earlier (name_in s d) (name_in s e)
+less_as_earlier s d e h k = ap is_lt (worded_as_names s d e h k)
 
--- ---- one order of all entries
+-- ---- one order of all
 
-pub entries_order : (s : Source) → IsTotalOrder (compare_entries s)
-entries_order s = then_total (on_total word_in nat_cmp_total) (on_total (name_in s) order)
+pub worded_order : (s : Source) → IsTotalOrder (compare_worded s)
+worded_order s = then_total (on_total word_in nat_cmp_total) (on_total (name_in s) order)
 
--- entries that are sorted by it have names in order
-each_later : (s : Source) (e : Entry) (es : List Entry) → IsWorded s e → All (IsWorded s) es → ((k : ℕ) (d : Entry) → k < length es → is_lt (compare_entries s (get_or es k d) e) ≡ false) → All (λ u. is_earlier u (name_in s e) ≡ false) (names_in s es)
+-- those that are sorted by it have names in order
+each_later : (s : Source) (e : WordedName) (es : List WordedName) → IsWorded s e → All (IsWorded s) es → ((k : ℕ) (d : WordedName) → k < length es → is_lt (compare_worded s (get_or es k d) e) ≡ false) → All (λ u. is_earlier u (name_in s e) ≡ false) (names_in s es)
 each_later s e [] h a f = All-nil (λ u. is_earlier u (name_in s e) ≡ false)
 each_later s e (d ∷ es) h a f =
     let g = sym (less_as_earlier s d e (All-head (IsWorded s) d es a) h) ∙ f 0 d (omega arith) in
@@ -75,19 +75,19 @@ each_later s e (d ∷ es) h a f =
     first_and g r zero x l = g
     first_and g r (suc k) x l = r k x (omega arith)
 
-pub ascend_by : (s : Source) (es : List Entry) → All (IsWorded s) es → ((i j : ℕ) (d : Entry) → i ≤ j → j < length es → is_lt (compare_entries s (get_or es j d) (get_or es i d)) ≡ false) → Ascend (names_in s es)
+pub ascend_by : (s : Source) (es : List WordedName) → All (IsWorded s) es → ((i j : ℕ) (d : WordedName) → i ≤ j → j < length es → is_lt (compare_worded s (get_or es j d) (get_or es i d)) ≡ false) → Ascend (names_in s es)
 ascend_by s [] a f = tt
 ascend_by s (e ∷ es) a f =
     (each_later s e es (All-head (IsWorded s) e es a) (All-tail (IsWorded s) e es a) (λ k d l. f 0 (suc k) d (omega arith) (omega arith)), ascend_by s es (All-tail (IsWorded s) e es a) (λ i j d h l. f (suc i) (suc j) d (omega arith) (omega arith)))
 
-pub ascend_sorted : (s : Source) (es : List Entry) → All (IsWorded s) es → IsSortedBy (λ d e. is_lt (compare_entries s d e)) es → Ascend (names_in s es)
-ascend_sorted s es a h = ascend_by s es a (sorted_far (λ d e. is_lt (compare_entries s d e)) (ranks_by (entries_order s) (λ e. e)) es h)
+pub ascend_sorted : (s : Source) (es : List WordedName) → All (IsWorded s) es → IsSortedBy (λ d e. is_lt (compare_worded s d e)) es → Ascend (names_in s es)
+ascend_sorted s es a h = ascend_by s es a (sorted_far (λ d e. is_lt (compare_worded s d e)) (ranks_by (worded_order s) (λ e. e)) es h)
 
 -- ---- what a closure that compares by an order has a sort do
 
 pub compares_as : {X F : Type 0} (R : X → X → Ordering) {g : Mut F (Bor X × (Bor X × Unit {0})) Ordering} {f : F} → ((a : Bor X × (Bor X × Unit {0})) (r : Ordering) (f' : F) → Called g f a r f' → (r ≡ R a.0.now a.1.0.now) × (f' ≡ f)) → ComparesAs g (λ d e. is_lt (R d e)) f
 compares_as R {g = g} {f = f} h = always_returns_same g (λ a r. is_lt r ≡ is_lt (R a.0.now a.1.0.now)) f (λ a r f' k. (ap is_lt (h a r f' k).0, (h a r f' k).1))
 
--- a copy of the front of a split has the least of all entries
-pub least_copied : (s : Source) (all front others copy : List Entry) (next : Entry) → copy ≡ front → IsPermutation all (front ++ next ∷ others) → IsSplitAroundBy (λ d e. is_lt (compare_entries s d e)) front next others → AreLeast s all copy next
+-- a copy of the front of a split has the least of all
+pub least_copied : (s : Source) (all front others copy : List WordedName) (next : WordedName) → copy ≡ front → IsPermutation all (front ++ next ∷ others) → IsSplitAroundBy (λ d e. is_lt (compare_worded s d e)) front next others → AreLeast s all copy next
 least_copied s all front others copy next e h k = subst (λ xs. AreLeast s all xs next) (sym e) (record { others = others; permutation = h; before = k.0; behind = k.1 })
