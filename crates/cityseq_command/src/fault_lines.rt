@@ -80,13 +80,13 @@ pub fn write_text<W: Write + Drop>(out: &mut Output<W>, text: &str) -> Result<()
     out.write_whole(text.as_bytes())
 }
 
-/// Writes a text that is given in parts.
-pub fn write_parts<W: Write + Drop>(out: &mut Output<W>, parts: &[&str]) -> Result<(), WriteFault>
-    ensures { Wrote (joined (map (λ part. part.now) parts.now)) result
+/// Writes texts one after another.
+pub fn write_texts<W: Write + Drop>(out: &mut Output<W>, texts: &[&str]) -> Result<(), WriteFault>
+    ensures { Wrote (joined (map (λ text. text.now) texts.now)) result
         (channel W.contents out.old) (channel W.contents out.new) }
 {
-    for part in parts {
-        write_text(out, part)?;
+    for text in texts {
+        write_text(out, text)?;
     }
     Ok(())
 }
@@ -104,7 +104,7 @@ pub fn write_refusal<E: Write + Drop>(
     let mut line_digits = Buffer::new();
     let mut place_digits = Buffer::new();
     let mut code_digits = Buffer::new();
-    let parts = [
+    let texts = [
         "line ",
         line_digits.format(line),
         ", byte ",
@@ -115,7 +115,7 @@ pub fn write_refusal<E: Write + Drop>(
         reason.text(),
         "\n",
     ];
-    write_parts(err, &parts)
+    write_texts(err, &texts)
 }
 
 /// Writes the line about an end to standard error. A complete run has none.

@@ -8,7 +8,7 @@ ghost use Rattle.cityseq_command.specs.Summary.{check_text, numbers_line, power_
 ghost use Rattle.cityseq_command.specs.Summary.{range_line, ranges_text, tally_text, peaks_text, summary_text};
 ghost use Rattle.cityseq_command.specs.Text.{text_line, count_line, counted};
 
-use crate::fault_lines::{write_parts, write_text};
+use crate::fault_lines::{write_text, write_texts};
 use cj_budget::Peaks;
 use cj_decimal::Decimal;
 use cj_geometry::ObjectType;
@@ -56,14 +56,14 @@ fn write_valid<W: Write + Drop>(
 {
     let mut line_digits = Buffer::new();
     let mut feature_digits = Buffer::new();
-    let parts = [
+    let texts = [
         "valid lines=",
         line_digits.format(lines),
         " features=",
         feature_digits.format(features),
         "\n",
     ];
-    write_parts(out, &parts)
+    write_texts(out, &texts)
 }
 
 /// Writes the number of lines and features of a stream, and how many of its lines are invalid.
@@ -80,7 +80,7 @@ fn write_invalid<W: Write + Drop>(
     let mut line_digits = Buffer::new();
     let mut feature_digits = Buffer::new();
     let mut refused_digits = Buffer::new();
-    let parts = [
+    let texts = [
         "invalid lines=",
         line_digits.format(lines),
         " features=",
@@ -89,7 +89,7 @@ fn write_invalid<W: Write + Drop>(
         refused_digits.format(refused),
         "\n",
     ];
-    write_parts(out, &parts)
+    write_texts(out, &texts)
 }
 
 /// Writes a line: a name, and words after it, each after a space.
@@ -103,7 +103,7 @@ fn write_line<W: Write + Drop>(
 {
     write_text(out, name)?;
     for word in words {
-        write_parts(out, &[" ", *word])?;
+        write_texts(out, &[" ", *word])?;
     }
     write_text(out, "\n")
 }
@@ -142,13 +142,13 @@ fn write_power<W: Write + Drop>(out: &mut Output<W>, number: Decimal) -> Result<
 {
     let mut coefficient = Buffer::new();
     let mut power = Buffer::new();
-    let parts = [
+    let texts = [
         " ",
         coefficient.format(number.coefficient()),
         "e",
         power.format(number.power()),
     ];
-    write_parts(out, &parts)
+    write_texts(out, &texts)
 }
 
 /// Writes a line with the numbers of a transform, if there is one.

@@ -66,19 +66,19 @@ one_more xs kept i d le below =
     ∙ append_assoc (take kept xs) (y ∷ []) (drop (i + 1) xs)
     ∙ ap (λ l. take kept xs ++ l) (sym (drop_more xs i d below))
 
--- ---- marks
+-- ---- flags
 
-marked-not : (marks : List Bool) (p i : ℕ) → p < length marks → p ≡ i → slice_index_or (slice_set marks p true) i false ≡ false → ⊥
-marked-not marks p i below e clear =
-    let yes : get_or (slice_set marks p true) p false ≡ true = get_or-set_same marks p true false below in
-    let no : get_or (slice_set marks p true) p false ≡ false = subst (λ k. get_or (slice_set marks p true) k false ≡ false) (sym e) clear in
+flagged-not : (flags : List Bool) (p i : ℕ) → p < length flags → p ≡ i → slice_index_or (slice_set flags p true) i false ≡ false → ⊥
+flagged-not flags p i below e clear =
+    let yes : get_or (slice_set flags p true) p false ≡ true = get_or-set_same flags p true false below in
+    let no : get_or (slice_set flags p true) p false ≡ false = subst (λ k. get_or (slice_set flags p true) k false ≡ false) (sym e) clear in
     cc
 
-unmarked : (marks : List Bool) (p i : ℕ) → p < length marks → slice_index_or (slice_set marks p true) i false ≡ false → slice_index_or marks i false ≡ false
-unmarked marks p i below clear =
+unflagged : (flags : List Bool) (p i : ℕ) → p < length flags → slice_index_or (slice_set flags p true) i false ≡ false → slice_index_or flags i false ≡ false
+unflagged flags p i below clear =
     elim (cases_eq i p) [
-      | inl e ↦ absurd (marked-not marks p i below (sym e) clear)
-      | inr n ↦ sym (get_or-set_other marks p i true false n) ∙ clear
+      | inl e ↦ absurd (flagged-not flags p i below (sym e) clear)
+      | inr n ↦ sym (get_or-set_other flags p i true false n) ∙ clear
     ]
 
 same_texts : (t u : Tree) → same_text t u ≡ true → text_of t ≡ text_of u
@@ -174,44 +174,44 @@ module _ (objects : Node) (qs : List Question) where
 
   -- ---- one city object less is left
 
-  module _ (marks : List Bool) (m : Tree × Tree) (rest : List (Tree × Tree)) (left : AreLeft objects qs marks (m ∷ rest)) where
+  module _ (flags : List Bool) (m : Tree × Tree) (rest : List (Tree × Tree)) (left : AreLeft objects qs flags (m ∷ rest)) where
     -- whose name is not asked about
-    pub left_unasked : ((i : ℕ) → IsFirstOn objects qs m.0 i → None ≡ Some i) → AreLeft objects qs marks rest
+    pub left_unasked : ((i : ℕ) → IsFirstOn objects qs m.0 i → None ≡ Some i) → AreLeft objects qs flags rest
     left_unasked none = λ t i f clear.
         elim (either (same_text m.0 t)) [
           | inl e ↦ let no : None ≡ Some i = none i (moved m.0 t i (same_texts m.0 t e) f) in absurd (cc)
           | inr e ↦ left t i f clear ∙ ap (λ v. v || is_known rest t) e
         ]
 
-    -- whose name is asked about: the first question on it has a mark now
-    pub left_marked : (p : ℕ) → p < length marks → ((i : ℕ) → IsFirstOn objects qs m.0 i → Some p ≡ Some i) → AreLeft objects qs (slice_set marks p true) rest
-    left_marked p below is = λ t i f clear.
+    -- whose name is asked about: the first question on it has a flag now
+    pub left_flagged : (p : ℕ) → p < length flags → ((i : ℕ) → IsFirstOn objects qs m.0 i → Some p ≡ Some i) → AreLeft objects qs (slice_set flags p true) rest
+    left_flagged p below is = λ t i f clear.
         elim (either (same_text m.0 t)) [
           | inl e ↦
               let same : Some p ≡ Some i = is i (moved m.0 t i (same_texts m.0 t e) f) in
               let at : p ≡ i = cc in
-              absurd (marked-not marks p i below at clear)
-          | inr e ↦ left t i f (unmarked marks p i below clear) ∙ ap (λ v. v || is_known rest t) e
+              absurd (flagged-not flags p i below at clear)
+          | inr e ↦ left t i f (unflagged flags p i below clear) ∙ ap (λ v. v || is_known rest t) e
         ]
 
   -- ---- what is listed
 
-  pub listed_on : (list : List ℕ) (marks : List Bool) (from to : Tree) (p : ℕ) → AreListed list objects qs marks → IsQuestion objects qs from to p
-      → ((f t : Tree) → same_text from f ≡ true → same_text to t ≡ true → lists list (members_of (tree objects)) f t ≡ true) → AreListed list objects qs (slice_set marks p true)
-  listed_on list marks from to p old here has = λ i q stands marked.
+  pub listed_on : (list : List ℕ) (flags : List Bool) (from to : Tree) (p : ℕ) → AreListed list objects qs flags → IsQuestion objects qs from to p
+      → ((f t : Tree) → same_text from f ≡ true → same_text to t ≡ true → lists list (members_of (tree objects)) f t ≡ true) → AreListed list objects qs (slice_set flags p true)
+  listed_on list flags from to p old here has = λ i q stands flagged.
       elim (cases_eq i p) [
         | inl e ↦
             let other : slice_get qs i ≡ Some here.question = ap (slice_get qs) e ∙ here.stands in
             let same : q ≡ here.question = cc in
             λ f t h k. has f t (shared (from_in objects here.question) from f here.first (subst (λ w. same_text (from_in objects w) f ≡ true) same h))
             (shared (to_in objects here.question) to t here.second (subst (λ w. same_text (to_in objects w) t ≡ true) same k))
-        | inr n ↦ old i q stands (sym (get_or-set_other marks p i true false n) ∙ marked)
+        | inr n ↦ old i q stands (sym (get_or-set_other flags p i true false n) ∙ flagged)
       ]
 
   -- ---- no questions
 
-  pub none_listed : (list : List ℕ) (marks : List Bool) → ((i : ℕ) → slice_index_or marks i false ≡ false) → AreListed list objects qs marks
-  none_listed list marks none = λ i q stands marked. let no : slice_index_or marks i false ≡ false = none i in absurd (cc)
+  pub none_listed : (list : List ℕ) (flags : List Bool) → ((i : ℕ) → slice_index_or flags i false ≡ false) → AreListed list objects qs flags
+  none_listed list flags none = λ i q stands flagged. let no : slice_index_or flags i false ≡ false = none i in absurd (cc)
 
 -- ---- what is no text is the name of nothing
 

@@ -97,22 +97,22 @@ IsListed list objects q =
     (from to : Tree) → same_text (from_in objects q) from ≡ true → same_text (to_in objects q) to ≡ true
     → lists list (members_of (tree objects)) from to ≡ true
 
--- so it is with each question that has a mark
+-- so it is with each question that has a flag
 abbrev pub AreListed : List ℕ → Node → List Question → List Bool → Type 0
-AreListed list objects qs marks = (i : ℕ) (q : Question) → slice_get qs i ≡ Some q → slice_index_or marks i false ≡ true
+AreListed list objects qs flags = (i : ℕ) (q : Question) → slice_get qs i ≡ Some q → slice_index_or flags i false ≡ true
     → IsListed list objects q
 
--- where the first question on a text has no mark, the text is an id exactly if it is one of those that are left
+-- where the first question on a text has no flag, the text is an id exactly if it is one of those that are left
 abbrev pub AreLeft : Node → List Question → List Bool → List (Tree × Tree) → Type 0
-AreLeft objects qs marks left =
-    (t : Tree) (i : ℕ) → IsFirstOn objects qs t i → slice_index_or marks i false ≡ false
+AreLeft objects qs flags left =
+    (t : Tree) (i : ℕ) → IsFirstOn objects qs t i → slice_index_or flags i false ≡ false
     → is_known (members_of (tree objects)) t ≡ is_known left t
 
 -- the questions that are noted
 abbrev pub noted : {R K : ℕ} → Questions R K → List Question
 noted a = take a.count a.questions
 
--- they stand in order, and their marks answer them by all city objects but those that are left
+-- they stand in order, and their flags answer them by all city objects but those that are left
 pub record AreAnswered {R K : ℕ} (list : List ℕ) (objects : Node) (left : List (Tree × Tree)) (a : Questions R K) :
     Type 0 where
   pub few : a.count ≤ length a.questions

@@ -39,7 +39,7 @@ pub struct Desk<'q> {
     pub line_tokens: Bounded<Token>,
     pub opened: Stack,
     /// What was read of a valid header.
-    pub parts: Option<HeaderParts>,
+    pub header_parts: Option<HeaderParts>,
 }
 
 impl<'q> Desk<'q> {
@@ -56,7 +56,7 @@ impl<'q> Desk<'q> {
         ensures header { IsNew 0 ((limits.line + limits.depth + 1) / 2) result.header_tokens }
         ensures line { IsNew 0 ((limits.line + limits.depth + 1) / 2) result.line_tokens }
         ensures opened { IsNew 64 limits.depth result.opened }
-        ensures parts { result.parts ≡ None }
+        ensures header_parts { result.header_parts ≡ None }
     {
         let depth = limits.depth() as usize;
         let tokens = (limits.line() as usize + depth + 1) / 2; // each but the last has two bytes or an open container
@@ -67,7 +67,7 @@ impl<'q> Desk<'q> {
             header_tokens: Bounded::new(alloc, tokens),
             line_tokens: Bounded::new(alloc, tokens),
             opened: Stack::new(alloc, depth),
-            parts: None,
+            header_parts: None,
         }
     }
 
@@ -75,7 +75,7 @@ impl<'q> Desk<'q> {
     /// The tokens go into the list of the first line or that of later lines.
     pub fn judge(&mut self, before: u64, content: &[u8]) -> Content
         requires range { InLine self.old.limits.line }
-        requires room { before < 2 ^ 62 }
+        requires countable { before < 2 ^ 62 }
         requires lists { HasRoom self.old.limits (scanning self.old) }
         requires open { IsOpen before (scanning self.old) }
         requires short { length content.now ≤ self.old.limits.line }
@@ -105,8 +105,8 @@ impl<'q> Desk<'q> {
     /// least finding makes.
     pub fn check_first(&self, content: &[u8]) -> Result<HeaderParts, End>
         requires shows { ShowsTree content.now self.now.limits.depth self.now.header_tokens.elements }
-        ensures ok { IfOk result (λ parts. IsHeaderOf (tree_of self.now.limits.depth content.now)
-            (rules_for self.now.limits self.now.query.now self.now.options) parts) }
+        ensures ok { IfOk result (λ header_parts. IsHeaderOf (tree_of self.now.limits.depth content.now)
+            (rules_for self.now.limits self.now.query.now self.now.options) header_parts) }
         ensures valid { OnOk result (tree_verdict (rules_for self.now.limits self.now.query.now self.now.options) 1
             (tree_of self.now.limits.depth content.now) (tree_of self.now.limits.depth content.now) ≡ Valid) }
         ensures refused { IfErr result (λ e. refusal_of
@@ -125,13 +125,13 @@ impl<'q> Desk<'q> {
     pub fn put_first<S: LineSink>(
         &mut self,
         content: &[u8],
-        parts: HeaderParts,
+        header_parts: HeaderParts,
         lf: bool,
         sink: &mut S,
     ) -> Result<(), End>
         requires shows { ShowsTree content.now self.old.limits.depth self.old.header_tokens.elements }
-        requires parts { IsHeaderOf (tree_of self.old.limits.depth content.now)
-            (rules_for self.old.limits self.old.query.now self.old.options) parts }
+        requires header_parts { IsHeaderOf (tree_of self.old.limits.depth content.now)
+            (rules_for self.old.limits self.old.query.now self.old.options) header_parts }
         ensures counts { S.failures sink.old ≤ S.failures sink.new }
         ensures cause { IsErrOf result End.WriteFault → HasRisen (S.failures sink.old) (S.failures sink.new) }
         ensures puts { MatchResult result
@@ -140,18 +140,18 @@ impl<'q> Desk<'q> {
             (λ e. (e ≡ End.WriteFault) × S.leaves sink.old (item_at self.old.limits.depth 1
             (tree_of self.old.limits.depth content.now) (record { content = content.now; lf = lf })) sink.new) }
         ensures same { OnErr result (self.new ≡ self.old) }
-        ensures rest { OnOk result (self.new ≡ record self.old { parts = self.new.parts }) }
+        ensures rest { OnOk result (self.new ≡ record self.old { header_parts = self.new.header_parts }) }
         ensures keeps { OnOk result (KeepsHeader content.now
             (rules_for self.old.limits self.old.query.now self.old.options)
-            self.old.header_tokens.elements self.new.parts) }
+            self.old.header_tokens.elements self.new.header_parts) }
     {
         let doc = Doc::of(content, self.header_tokens.as_slice());
-        let header = Header::of(doc, parts);
+        let header = Header::of(doc, header_parts);
         if sink.header(&header, lf).is_err() {
             return Err(End::WriteFault);
         }
-        let parts = header.parts();
-        self.parts = Some(parts);
+        let header_parts = header.parts();
+        self.header_parts = Some(header_parts);
         Ok(())
     }
 
@@ -182,12 +182,12 @@ impl<'q> Desk<'q> {
         lf: bool,
         sink: &mut S,
     ) -> Result<bool, End>
-        requires room { before < 2 ^ 62 }
+        requires countable { before < 2 ^ 62 }
         requires later { 0 < before }
         requires shows { ShowsTree content.now self.now.limits.depth self.now.line_tokens.elements }
         requires marks { HasMarks content.now self.now.limits self.now.options self.now.line_tokens.elements }
         requires keeps { KeepsHeader first.now (rules_for self.now.limits self.now.query.now self.now.options)
-            self.now.header_tokens.elements self.now.parts }
+            self.now.header_tokens.elements self.now.header_parts }
         ensures counts { S.failures sink.old ≤ S.failures sink.new }
         ensures cause { IsErrOf result End.WriteFault → HasRisen (S.failures sink.old) (S.failures sink.new) }
         ensures hands { Hands S.takes S.leaves
@@ -197,11 +197,11 @@ impl<'q> Desk<'q> {
             (record { content = content.now; lf = lf })) sink.old result sink.new }
         ensures end { IfErr result IsLaterEnd }
     {
-        let Some(parts) = &self.parts else {
+        let Some(header_parts) = &self.header_parts else {
             unreachable!()
         };
         let header_doc = Doc::of(first, self.header_tokens.as_slice());
-        let header = Header::of(header_doc, *parts);
+        let header = Header::of(header_doc, *header_parts);
         let doc = Doc::of(content, self.line_tokens.as_slice());
         let feature = match check_feature(doc, &header, self.options.asks_for_trees()) {
             Ok(feature) => feature,

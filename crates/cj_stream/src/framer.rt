@@ -83,7 +83,7 @@ impl<'q> Model for Framer<'q> {
 
     ghost invariant = { λ f. IsFramed
         (record { reading = reading f.store f.desk f.kept f.refused; scanning = scanning f.desk })
-        × KeepsFirst (reading f.store f.desk f.kept f.refused) (scanning f.desk) f.desk.parts };
+        × KeepsFirst (reading f.store f.desk f.kept f.refused) (scanning f.desk) f.desk.header_parts };
 }
 
 impl<'q> Framer<'q> {
@@ -133,7 +133,7 @@ impl<'q> Framer<'q> {
 
     /// Returns whether reading goes on after the begun line, a later one, if it is invalid.
     fn is_lenient(&self) -> bool
-        requires room { self.now.reading.lines < 2 ^ 62 }
+        requires countable { self.now.reading.lines < 2 ^ 62 }
         requires later { 0 < self.now.reading.lines }
         ensures { result ≡ is_lenient self.now.reading }
     {
@@ -142,7 +142,7 @@ impl<'q> Framer<'q> {
 
     /// Returns the end at the begun line if it is too long.
     fn too_long(&self) -> End
-        requires room { self.now.reading.lines < 2 ^ 62 }
+        requires countable { self.now.reading.lines < 2 ^ 62 }
         ensures { result ≡ End.Refused (self.now.reading.lines + 1) self.now.reading.rules.limits.line
             Reason.LineTooLong }
     {
@@ -176,7 +176,7 @@ impl<'q> Framer<'q> {
     /// Stores a part of a later line, unless the line is being dropped. If this part makes the line
     /// too long, the line is dropped or rejected.
     fn store(&mut self, part: &[u8]) -> Result<(), End>
-        requires room { self.old.reading.lines < 2 ^ 62 }
+        requires countable { self.old.reading.lines < 2 ^ 62 }
         requires later { 0 < self.old.reading.lines }
         requires ready { IsReady self.old.reading self.old.scanning }
         ensures ok { OnOk result (Stores self.old.reading part.now self.new.reading) }
@@ -217,7 +217,7 @@ impl<'q> Framer<'q> {
 
     /// Ends the begun line, and counts it. `put` says whether the sink took it.
     fn pass(&mut self, put: bool)
-        requires room { self.old.reading.lines < 2 ^ 62 }
+        requires countable { self.old.reading.lines < 2 ^ 62 }
         requires later { 0 < self.old.reading.lines }
         ensures passes { Passes put false self.old.reading self.new.reading }
         ensures forgets { Forgets self.old.scanning self.new.scanning }
@@ -232,7 +232,7 @@ impl<'q> Framer<'q> {
 
     /// Ends the begun line, and counts it as refused.
     fn pass_refused(&mut self)
-        requires room { self.old.reading.lines < 2 ^ 62 }
+        requires countable { self.old.reading.lines < 2 ^ 62 }
         requires later { 0 < self.old.reading.lines }
         ensures passes { Passes false true self.old.reading self.new.reading }
         ensures forgets { Forgets self.old.scanning self.new.scanning }
@@ -245,7 +245,7 @@ impl<'q> Framer<'q> {
 
     /// Decides what the begun line is as a text.
     fn judge(&mut self) -> Content
-        requires room { self.old.reading.lines < 2 ^ 62 }
+        requires countable { self.old.reading.lines < 2 ^ 62 }
         requires ready { IsReady self.old.reading self.old.scanning }
         ensures before { IsFramed self.old }
         ensures reading { self.new.reading ≡ self.old.reading }
@@ -273,15 +273,15 @@ impl<'q> Framer<'q> {
     /// Puts a valid header to the sink.
     fn put_first<S: LineSink>(
         &mut self,
-        parts: HeaderParts,
+        header_parts: HeaderParts,
         lf: bool,
         sink: &mut S,
     ) -> Result<(), End>
         requires first { self.old.reading.lines ≡ 0 }
         requires shows { ShowsTree (begun_of self.old.reading) self.old.reading.rules.limits.depth
             self.old.scanning.header.elements }
-        requires parts { IsHeaderOf (tree_of self.old.reading.rules.limits.depth (begun_of self.old.reading))
-            self.old.reading.rules parts }
+        requires header_parts { IsHeaderOf (tree_of self.old.reading.rules.limits.depth (begun_of self.old.reading))
+            self.old.reading.rules header_parts }
         ensures counts { S.failures sink.old ≤ S.failures sink.new }
         ensures cause { IsErrOf result End.WriteFault → HasRisen (S.failures sink.old) (S.failures sink.new) }
         ensures deals { Deals S.takes S.leaves false Valid
@@ -293,7 +293,7 @@ impl<'q> Framer<'q> {
         ensures end { IfErr result (λ e. e ≡ End.WriteFault) }
     {
         let content = self.store.header.as_slice();
-        match self.desk.put_first(content, parts, lf, sink) {
+        match self.desk.put_first(content, header_parts, lf, sink) {
             Ok(()) => {
                 self.store.pass();
                 self.desk.forget();
@@ -323,15 +323,15 @@ impl<'q> Framer<'q> {
         ensures memory { IsErrOf result End.Memory → ListsFailToGrow self.old.reading self.old.scanning
             self.new.reading self.new.scanning }
     {
-        let parts = match self.desk.check_first(self.store.header.as_slice()) {
-            Ok(parts) => parts,
+        let header_parts = match self.desk.check_first(self.store.header.as_slice()) {
+            Ok(header_parts) => header_parts,
             Err(end) => return Err(end),
         };
         if !lf {
-            return self.put_first(parts, lf, sink);
+            return self.put_first(header_parts, lf, sink);
         }
         match self.make_room() {
-            Ok(()) => self.put_first(parts, lf, sink),
+            Ok(()) => self.put_first(header_parts, lf, sink),
             Err(NoMemory) => Err(End::Memory),
         }
     }
@@ -339,7 +339,7 @@ impl<'q> Framer<'q> {
     /// Judges the tree of a later line, and puts it to the sink if it is a valid feature to keep.
     /// The query and the options decide that.
     fn put_feature<S: LineSink>(&mut self, lf: bool, sink: &mut S) -> Result<(), End>
-        requires room { self.old.reading.lines < 2 ^ 62 }
+        requires countable { self.old.reading.lines < 2 ^ 62 }
         requires later { 0 < self.old.reading.lines }
         requires ready { IsReady self.old.reading self.old.scanning }
         requires shows { ShowsTree (begun_of self.old.reading) self.old.reading.rules.limits.depth
@@ -404,7 +404,7 @@ impl<'q> Framer<'q> {
     /// long.
     fn settle<S: LineSink>(&mut self, lf: bool, sink: &mut S) -> Result<(), End>
         requires ready { IsReady self.old.reading self.old.scanning }
-        requires room { self.old.reading.lines < 2 ^ 62 }
+        requires countable { self.old.reading.lines < 2 ^ 62 }
         requires later { 0 < self.old.reading.lines }
         ensures carries { Carries S.failures self.old self.new result sink.old sink.new }
         ensures one { OnOk result (self.new.reading.lines ≡ self.old.reading.lines + 1) }
@@ -443,7 +443,7 @@ impl<'q> Framer<'q> {
         reports: &mut N,
     ) -> Result<(), End>
         requires ready { IsReady self.old.reading self.old.scanning }
-        requires room { self.old.reading.lines < 2 ^ 62 }
+        requires countable { self.old.reading.lines < 2 ^ 62 }
         requires later { 0 < self.old.reading.lines }
         ensures carries { Carries S.failures self.old self.new result sink.old sink.new }
         ensures one { OnOk result (self.new.reading.lines ≡ self.old.reading.lines + 1) }
@@ -517,7 +517,7 @@ impl<'q> Framer<'q> {
         reports: &mut N,
     ) -> Result<(), End>
         requires ready { IsReady self.old.reading self.old.scanning }
-        requires room { self.old.reading.lines < 2 ^ 62 }
+        requires countable { self.old.reading.lines < 2 ^ 62 }
         requires later { 0 < self.old.reading.lines }
         requires one { NoLf part.now }
         ensures carries { Carries S.failures self.old self.new result sink.old sink.new }
@@ -599,7 +599,7 @@ impl<'q> Framer<'q> {
         reports: &mut N,
     ) -> Result<(), End>
         requires ready { IsReady self.old.reading self.old.scanning }
-        requires room { self.old.reading.lines + length piece.now < 2 ^ 62 }
+        requires countable { self.old.reading.lines + length piece.now < 2 ^ 62 }
         requires later { 0 < self.old.reading.lines }
         ensures carries { Carries S.failures self.old self.new result sink.old sink.new }
         ensures few { self.new.reading.lines ≤ self.old.reading.lines + length piece.now }
@@ -668,7 +668,7 @@ impl<'q> Framer<'q> {
         reports: &mut N,
     ) -> Result<(), End>
         requires ready { IsReady self.old.reading self.old.scanning }
-        requires room { self.old.reading.lines < 2 ^ 62 }
+        requires countable { self.old.reading.lines < 2 ^ 62 }
         requires later { 0 < self.old.reading.lines }
         ensures carries { Carries S.failures self.old self.new result sink.old sink.new }
         ensures few { self.new.reading.lines ≤ self.old.reading.lines + 1 }

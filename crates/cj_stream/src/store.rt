@@ -111,7 +111,7 @@ impl Store {
 
     /// Ends the begun line, and counts it. The first line stays.
     pub fn pass(&mut self)
-        requires room { self.old.lines < 2 ^ 62 }
+        requires countable { self.old.lines < 2 ^ 62 }
         ensures lines { self.new.lines ≡ self.old.lines + 1 }
         ensures held { self.new.dropped ≡ false }
         ensures header { self.new.header ≡ self.old.header }

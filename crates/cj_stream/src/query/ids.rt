@@ -2,10 +2,10 @@
 //!
 //! All ids are in one text, in the order in which they were added. For each id there is an entry.
 //! The entries are in runs, and each run is sorted. A new entry is a run of its own. It joins the
-//! runs before it that are at most [`STEP`] times as long as all entries after them, and the joined
-//! run is sorted. So each run is more than [`STEP`] times as long as the next one. There are few
-//! runs, and a binary search looks an id up in each. To add an id, some short runs are sorted, and
-//! seldom a long one.
+//! runs before it that are at most [`RATIO`] times as long as all entries after them, and the
+//! joined run is sorted. So each run is more than [`RATIO`] times as long as the next one. There
+//! are few runs, and a binary search looks an id up in each. To add an id, some short runs are
+//! sorted, and seldom a long one.
 //!
 //! The number of an entry is made of the last eight code points of its id. Entries are ordered by
 //! number, and by text if the numbers are equal. The numbers are side by side in memory. So a
@@ -14,7 +14,7 @@
 //! number of steps stays the same.
 //!
 //! After [`Ids::sort`] there is one run, and if it is long it has heads: the number of every
-//! [`PART`]th entry. The heads pick some neighbouring entries, which are compared one after
+//! [`DISTANCE`]th entry. The heads pick some neighbouring entries, which are compared one after
 //! another. That waits for memory about once, and a binary search of the run several times. Heads
 //! are a hint. The picked entries are used only if the first and the last of them show that no
 //! other entry has the number. Otherwise the whole run is searched. So the proof needs no fact
@@ -40,10 +40,10 @@ use std::cmp::Ordering;
 use std::marker::Model;
 
 /// A run stays a run only if it is more than this many times as long as all entries after it.
-const STEP: usize = 16;
+const RATIO: usize = 16;
 
 /// The distance between entries whose numbers are heads.
-const PART: usize = 32;
+const DISTANCE: usize = 32;
 
 /// The least number of entries in a run that has heads.
 const LONG: usize = 64;
@@ -149,7 +149,7 @@ fn join_last(runs: &mut Vec<usize>) -> usize
     let mut count = 1;
     while let Some(last) = runs.last() {
         let last = *last;
-        if last / STEP > count {
+        if last / RATIO > count {
             break;
         }
         count += last;
@@ -163,7 +163,7 @@ fn head_count(entries: usize) -> usize {
     if entries < LONG {
         0
     } else {
-        entries / PART + 1
+        entries / DISTANCE + 1
     }
 }
 
@@ -258,7 +258,7 @@ fn take_heads(run: &[Entry], heads: &mut Vec<u64>) {
     heads.clear();
     for place in 0..head_count(run.len()) {
         if heads.len() < heads.capacity() {
-            if let Some(entry) = run.get(place.saturating_mul(PART)) {
+            if let Some(entry) = run.get(place.saturating_mul(DISTANCE)) {
                 put(heads, entry.number);
             }
         }
@@ -316,8 +316,8 @@ fn part_of<'a>(heads: &[u64], run: &'a [Entry], number: u64) -> Option<&'a [Entr
         return None;
     }
     let place = heads_before(heads, number);
-    let start = place.saturating_sub(1).saturating_mul(PART);
-    let end = place.saturating_mul(PART).saturating_add(2);
+    let start = place.saturating_sub(1).saturating_mul(DISTANCE);
+    let end = place.saturating_mul(DISTANCE).saturating_add(2);
     part_between(run, start, end, number)
 }
 

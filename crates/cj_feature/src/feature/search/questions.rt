@@ -9,7 +9,7 @@
 //! A long name is read seldom, although it may list many. Questions on one name have the number of
 //! one node.
 //!
-//! A mark is set only if a city object lists what a question asks. No mark is missing for a name
+//! A flag is set only if a city object lists what a question asks. No flag is missing for a name
 //! that is asked about. `runs` and `wanted` only save time, and no answer depends on them.
 //!
 //! `Questions` allocates no memory. It uses 18 bytes of the stack for each question, and 28 for
@@ -27,8 +27,8 @@ use cj_spans::{Kind, Members, Node};
 pub use gathering::Ahead;
 use gathering::{gather, hand_of, note_ahead};
 use order::{Pair, Question, first_on};
-use runs::{NO_RUN, Run, find_noted, find_unmarked, run_on};
-use wanted::{is_wanted, mark_wanted};
+use runs::{NO_RUN, Run, find_noted, find_unlisted, run_on};
+use wanted::{is_wanted, note_wanted};
 
 /// What was found for a question.
 #[derive(Clone, Copy)]
@@ -59,19 +59,19 @@ pub struct Questions<const ROOM: usize, const KEPT: usize> {
     ghost places: { 0 < ROOM × 0 < KEPT },
 }
 
-/// Sets a mark.
-fn mark(marks: &mut [bool], place: usize)
-    requires { place < length marks.old }
-    ensures { marks.new ≡ slice_set marks.old place true }
+/// Sets a flag.
+fn set_flag(flags: &mut [bool], place: usize)
+    requires { place < length flags.old }
+    ensures { flags.new ≡ slice_set flags.old place true }
 {
-    marks[place] = true;
+    flags[place] = true;
 }
 
-/// Removes all marks.
-fn clear(marks: &mut [bool])
-    ensures { (i : ℕ) → slice_index_or marks.new i false ≡ false }
+/// Clears all flags.
+fn clear(flags: &mut [bool])
+    ensures { (i : ℕ) → slice_index_or flags.new i false ≡ false }
 {
-    for one in marks.iter_mut() {
+    for one in flags.iter_mut() {
         *one = false;
     }
 }
@@ -112,8 +112,8 @@ impl<const ROOM: usize, const KEPT: usize> Questions<ROOM, KEPT> {
         self.count = 0;
     }
 
-    /// Marks the question in a run on these texts. A city object of the first text lists the
-    /// second.
+    /// Sets the flag of the question in a run on these texts. A city object of the first text
+    /// lists the second.
     fn answer_item(&mut self, list: &str, objects: Node, pair: Pair, run: Run, later: Members)
         requires answered { AreAnswered (chars list.now) objects (members_left later) self.old }
         requires listed { (from to : Tree) → same_text (tree pair.from.node) from ≡ true
@@ -122,13 +122,13 @@ impl<const ROOM: usize, const KEPT: usize> Questions<ROOM, KEPT> {
         ensures { AreAnswered (chars list.now) objects.entry (members_left later.entry) self.new }
     {
         let questions = &self.questions[..self.count];
-        if let Some(place) = find_unmarked(objects, questions, &self.listed, run, pair) {
-            mark(&mut self.listed, place);
+        if let Some(place) = find_unlisted(objects, questions, &self.listed, run, pair) {
+            set_flag(&mut self.listed, place);
         }
     }
 
-    /// Marks the questions in a run on this name that the list of a city object of the name
-    /// answers.
+    /// Sets the flags of the questions in a run on this name that the list of a city object of the
+    /// name answers.
     fn answer_items(
         &mut self,
         list: &str,
@@ -160,8 +160,8 @@ impl<const ROOM: usize, const KEPT: usize> Questions<ROOM, KEPT> {
         }
     }
 
-    /// Marks the questions that a city object answers, if one asks about its name. Then only the
-    /// later city objects still have questions to answer.
+    /// Sets the flags of the questions that a city object answers, if one asks about its name.
+    /// Then only the later city objects still have questions to answer.
     fn answer_object(&mut self, list: &str, objects: Node, name: Node, object: Node, later: Members)
         requires answered { AreAnswered (chars list.now) objects (trees (name, object) ∷ members_left later) self.old }
         requires listed { (from to : Tree) → same_text (tree name) from ≡ true
@@ -175,7 +175,7 @@ impl<const ROOM: usize, const KEPT: usize> Questions<ROOM, KEPT> {
             return;
         };
         let run = run_on(objects, questions, from, place);
-        mark(&mut self.known, place);
+        set_flag(&mut self.known, place);
         self.answer_items(list, objects, from, object, run, later);
     }
 
@@ -198,7 +198,7 @@ impl<const ROOM: usize, const KEPT: usize> Questions<ROOM, KEPT> {
         self.count = gather(objects, &mut self.questions[..count]);
         clear(&mut self.known);
         clear(&mut self.listed);
-        mark_wanted(objects, &self.questions[..self.count], &mut self.wanted);
+        note_wanted(objects, &self.questions[..self.count], &mut self.wanted);
         self.answer_all(list, objects);
     }
 

@@ -45,17 +45,17 @@ fn part_of(questions: &[Question], run: Run) -> (usize, &[Question])
     (first, &questions[first..end])
 }
 
-/// Returns whether a mark is set.
-fn is_marked(marks: &[bool], place: usize) -> bool {
-    place < marks.len() && marks[place]
+/// Returns whether a flag is set.
+fn is_set(flags: &[bool], place: usize) -> bool {
+    place < flags.len() && flags[place]
 }
 
-/// Returns the place of the question on these texts, if it is in a run and has no mark. So if a
+/// Returns the place of the question on these texts, if it is in a run and has no flag. So if a
 /// pair is listed many times, its first text is read once.
-pub fn find_unmarked(
+pub fn find_unlisted(
     objects: Node,
     questions: &[Question],
-    marks: &[bool],
+    flags: &[bool],
     run: Run,
     pair: Pair,
 ) -> Option<usize>
@@ -64,7 +64,7 @@ pub fn find_unmarked(
 {
     let (first, part) = part_of(questions, run);
     let place = first + part.partition_point(|one| one.to.compare_with(pair.to, objects).is_lt());
-    if is_marked(marks, place) {
+    if is_set(flags, place) {
         return None;
     }
     let question = question_at(questions, place)?;

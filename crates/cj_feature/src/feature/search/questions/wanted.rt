@@ -22,9 +22,9 @@ fn bit_among<const PLACES: usize>(number: u64) -> u32
     1u32 << (number / PLACES as u64 % BITS)
 }
 
-/// Marks the second texts of questions as asked about. The place of a mark depends on the number
-/// that the text is mixed to, not on its tag. So texts of one tag have different bits.
-pub fn mark_wanted<const KEPT: usize>(
+/// Sets the bits of the second texts of questions. The place of a bit depends on the number that
+/// the text is mixed to, not on its tag. So texts of one tag have different bits.
+pub fn note_wanted<const KEPT: usize>(
     objects: Node,
     questions: &[Question],
     wanted: &mut [u32; KEPT],

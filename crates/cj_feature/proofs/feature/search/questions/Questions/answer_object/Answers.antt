@@ -4,7 +4,7 @@ use Rattle.std.proofs.lemmas.Option.{slice_get_within}
 use Rattle.cj_spans.specs.View.{trees, members_left}
 use Rattle.cj_feature.specs.Links.{same_text}
 use Rattle.cj_feature.specs.Questions.{AreLeft, IsFirstOn, noted}
-use Rattle.cj_feature.proofs.Questions.{left_unasked, left_marked}
+use Rattle.cj_feature.proofs.Questions.{left_unasked, left_flagged}
 use Rattle.cj_feature.proofs.feature.search.questions.Questions.answer_object.Goals as goal
 
 pub returns-in_default : goal.returns-in_default
@@ -28,7 +28,7 @@ answer_items-requires g c =
           few = c.requires.answered.few;
           order = c.requires.answered.order;
           listed = c.requires.answered.listed;
-          known = subst (λ marks. AreLeft c.args.objects (noted a) marks rest) (sym c.mark.ensures) (left_marked c.args.objects (noted a) a.known (trees (c.args.name, c.args.object)) rest c.requires.answered.known c.in-Some.place (grind (arith, common_steps)) (λ i f. sym c.in-Some.is ∙ c.first_on.ensures.only i (subst (λ t. IsFirstOn c.args.objects (noted a) t i) (sym c.of-from.ensures) f)));
+          known = subst (λ flags. AreLeft c.args.objects (noted a) flags rest) (sym c.set_flag.ensures) (left_flagged c.args.objects (noted a) a.known (trees (c.args.name, c.args.object)) rest c.requires.answered.known c.in-Some.place (grind (arith, common_steps)) (λ i f. sym c.in-Some.is ∙ c.first_on.ensures.only i (subst (λ t. IsFirstOn c.args.objects (noted a) t i) (sym c.of-from.ensures) f)));
         },
         λ f t h k. c.requires.listed f t (subst (λ u. same_text u f ≡ true) c.of-from.ensures h) k,
       ),
