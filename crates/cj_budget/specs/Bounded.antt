@@ -60,7 +60,7 @@ module _ {T : Type 0} where
       : Type 0 where
     pub ok : OnOk r (Becomes old xs new)
     pub full : IsErrOf r (Full x) ↔ (length old.elements ≡ old.limit)
-    pub kept : IsErrOf r (Full x) → new ≡ old
+    pub unchanged : IsErrOf r (Full x) → new ≡ old
     pub memory : IsErrOf r (Memory x) → FailsToGrow old new
     pub err : OnErr r (IsErrOf r (Full x) ⊎ IsErrOf r (Memory x))
     pub room : IsTrue old.reserved → length old.elements < old.limit → IsOk r

@@ -134,7 +134,7 @@ impl<T: Copy> Bounded<T> {
     pub fn extend_from_slice(&mut self, xs: &[T]) -> Result<(), ExtendFault>
         ensures ok { OnOk result (Becomes self.old (self.old.elements ++ xs.now) self.new) }
         ensures full { IsErrOf result ExtendFault.Full ↔ (self.old.limit < length self.old.elements + length xs.now) }
-        ensures kept { IsErrOf result ExtendFault.Full → self.new ≡ self.old }
+        ensures unchanged { IsErrOf result ExtendFault.Full → self.new ≡ self.old }
         ensures memory { IsErrOf result ExtendFault.Memory → FailsToGrow self.old self.new }
         ensures nothing { length xs.now ≡ 0 → IsOk result }
         ensures room { IsTrue self.old.reserved

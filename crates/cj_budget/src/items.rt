@@ -70,7 +70,7 @@ impl Items {
         ensures err { OnErr result (self.new ≡ self.old) }
         ensures room { length self.old.items < self.old.capacity → IsOk result }
         ensures capacity { self.old.capacity ≤ self.new.capacity }
-        ensures kept { length self.old.items < self.old.capacity → self.new.capacity ≡ self.old.capacity }
+        ensures same_capacity { length self.old.items < self.old.capacity → self.new.capacity ≡ self.old.capacity }
     {
         if self.count == self.capacity() {
             self.more.try_reserve(1)?;

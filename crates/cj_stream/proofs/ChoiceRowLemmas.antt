@@ -19,7 +19,7 @@ use Rattle.cj_stream.specs.ChoiceRows.{choosing, ApartRow, ChainRow, ExcludeRow}
 use Rattle.cj_stream.specs.Item.{tree_of}
 use Rattle.cj_stream.specs.Lines.{raw, ended_line}
 use Rattle.cj_stream.specs.Rows.{small_header, small_feature}
-use Rattle.cj_stream.specs.Verdict.{Rules, Unwanted, Valid, is_blank_byte, is_wanted, by_least, verdict, verdict_at, tree_verdict, ending_of}
+use Rattle.cj_stream.specs.Verdict.{Rules, LeftOut, Valid, is_blank_byte, is_kept_if_valid, by_least, verdict, verdict_at, tree_verdict, ending_of}
 use Rattle.cj_stream.proofs.RowLemmas.{spelled-tree, by-tree, header_json, feature_json, header_text, feature_text, header_tree, holds-everything, written, second-refused, two-good, open_line}
 use Rattle.cj_stream.proofs.VerdictLemmas.{verdict-json, tree-valid, tree-unasked}
 
@@ -65,16 +65,16 @@ module _ (tree exclude : Bool) where
     refused : (place : ℕ) → least None (feature plain_header t tree) ≡ Some (found_at place NotReached)
         → (ending_of rules (ended_line small_header ∷ open_line c ∷ []) ≡ Refused 2 place NotReached) × (written rules (ended_line small_header ∷ open_line c ∷ []) ≡ raw (ended_line small_header) ++ [])
     refused place least_is =
-        second-refused rules place NotReached (ended_line small_header) (header_valid _) refl (open_line c) [] (second ∙ ap (by_least (is_wanted rules 2 plain_header t)) least_is)
+        second-refused rules place NotReached (ended_line small_header) (header_valid _) refl (open_line c) [] (second ∙ ap (by_least (is_kept_if_valid rules 2 plain_header t)) least_is)
 
-    kept : feature plain_header t tree ≡ [] → is_wanted rules 2 plain_header t ≡ true
+    kept : feature plain_header t tree ≡ [] → is_kept_if_valid rules 2 plain_header t ≡ true
         → (ending_of rules (ended_line small_header ∷ open_line c ∷ []) ≡ Complete) × (written rules (ended_line small_header ∷ open_line c ∷ []) ≡ raw (ended_line small_header) ++ (c ++ []))
-    kept valid wanted = two-good rules (ended_line small_header) (header_valid _) (open_line c) (second ∙ tree-valid rules 2 plain_header t valid wanted)
+    kept valid keep = two-good rules (ended_line small_header) (header_valid _) (open_line c) (second ∙ tree-valid rules 2 plain_header t valid keep)
 
-    left_out : feature plain_header t tree ≡ [] → is_wanted rules 2 plain_header t ≡ false
+    left_out : feature plain_header t tree ≡ [] → is_kept_if_valid rules 2 plain_header t ≡ false
         → (ending_of rules (ended_line small_header ∷ open_line c ∷ []) ≡ Complete) × (written rules (ended_line small_header ∷ open_line c ∷ []) ≡ raw (ended_line small_header) ++ [])
-    left_out valid unwanted =
-        let out : verdict rules (ended_line small_header ∷ []) c ≡ Unwanted = second ∙ tree-unasked rules 2 plain_header t valid unwanted in
+    left_out valid leave =
+        let out : verdict rules (ended_line small_header ∷ []) c ≡ LeftOut = second ∙ tree-unasked rules 2 plain_header t valid leave in
         rw (header_valid _, out) (refl, rw (header_valid _, out) refl)
 
 -- ---- rows

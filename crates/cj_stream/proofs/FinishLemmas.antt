@@ -11,7 +11,7 @@ use Rattle.cj_stream.specs.declared.ending.End.{End}
 use Rattle.cj_stream.specs.declared.ending.End.TheVariants.{Complete, Refused, ReadFault, ReadLimit, WriteFault, Memory}
 use Rattle.cj_stream.specs.Lines.{Line, closed, begun, begun_after, first_content, ended_line, last_line, later_of, lines}
 use Rattle.cj_stream.specs.Item.{Item}
-use Rattle.cj_stream.specs.Verdict.{Rules, Verdict, Refuse, Blank, Unwanted, Valid, verdict, item_after, goes_on, refusal_of, is_kept, refusal_in, refusal_from, kept_from, ending, ending_of, kept_first}
+use Rattle.cj_stream.specs.Verdict.{Rules, Verdict, Refuse, Blank, LeftOut, Valid, verdict, item_after, goes_on, refusal_of, is_kept, refusal_in, refusal_from, kept_from, ending, ending_of, kept_first}
 use Rattle.cj_stream.specs.Bound.{bytes_bound, greatest, held_length, contents, exact_peaks, IsExact}
 use Rattle.cj_stream.specs.Reading.{Reading, next_verdict, next_item, is_lenient, IsLeft, Refuses, Deals, Settles, Reads, Finishes, FinishesWith, Passes}
 use Rattle.cj_stream.specs.Scanning.{Scanning, Scanned, ScansNext, HasRoom, HoldsFew}
@@ -82,7 +82,7 @@ pub settles-memory : {S : Type 0} (takes leaves : S → Item → S → Type 0) (
     → Settles takes leaves on v i f s r g t → r ≡ Err Memory → ⊥
 settles-memory takes leaves on (Refuse place reason) i f g s t r open_end (inl d) m = refused-memory on place reason f g r d.0 m
 settles-memory takes leaves on Blank i f g s t r open_end (inl d) m = cc
-settles-memory takes leaves on Unwanted i f g s t r open_end (inl d) m = cc
+settles-memory takes leaves on LeftOut i f g s t r open_end (inl d) m = cc
 settles-memory takes leaves on Valid i f g s t (Ok x) open_end (inl d) m = cc
 settles-memory takes leaves on Valid i f g s t (Err x) open_end (inl d) m = let fault : x ≡ WriteFault = d.0 in cc
 settles-memory takes leaves on v i f g s t r open_end (inr m) e = let lf : i.line.lf ≡ true = m.5 in cc
@@ -142,7 +142,7 @@ module _ {S : Type 0} (takes leaves : S → Item → S → Type 0) (f g : Readin
       → Deals takes leaves (is_lenient f) v (next_item f (unended b c)) f s r g t → Concluded f.rules p g.lines (end_of r)
   concluded-last b c (Refuse place reason) r e h d = concluded-refused b c place reason (is_lenient f) r e h refl d.0
   concluded-last b c Blank r e h d = rw d.0 (ending-verdict b c e ∙ rw h refl, count-last b c e d.1.lines)
-  concluded-last b c Unwanted r e h d = rw d.0 (ending-verdict b c e ∙ rw h refl, count-last b c e d.1.lines)
+  concluded-last b c LeftOut r e h d = rw d.0 (ending-verdict b c e ∙ rw h refl, count-last b c e d.1.lines)
   concluded-last b c Valid (Ok x) e h d = (ending-verdict b c e ∙ rw h refl, count-last b c e d.0.lines)
   concluded-last b c Valid (Err x) e h d = rw d.0 tt
 
@@ -195,7 +195,7 @@ module _ {S : Type 0} (takes leaves : S → Item → S → Type 0) (f g : Readin
       → Deals takes leaves (is_lenient f) v (next_item f (unended b c)) f s r g t → Counts f.rules p g.lines g.kept g.refused
   counts-last b c (Refuse place reason) r e h d = counts-refused b c place reason (is_lenient f) r e h refl d.0
   counts-last b c Blank r e h d = counts-passed b c false false e d.1 (rw h refl) (rw h refl) (rw h refl)
-  counts-last b c Unwanted r e h d = counts-passed b c false false e d.1 (rw h refl) (rw h refl) (rw h refl)
+  counts-last b c LeftOut r e h d = counts-passed b c false false e d.1 (rw h refl) (rw h refl) (rw h refl)
   counts-last b c Valid (Ok x) e h d = counts-passed b c true false e d.0 (rw h refl) (rw h refl) (rw h refl)
   counts-last b c Valid (Err x) e h d = counts-left d.1
 
@@ -243,7 +243,7 @@ module _ {S : Type 0} (takes leaves : S → Item → S → Type 0) (f g : Readin
   settled-dealt : (l : Item) (v : Verdict) (r : Result (Unit {0}) End) → Deals takes leaves (is_lenient f) v l f s r g t → Settled
   settled-dealt l (Refuse place reason) r d = settled-refused (is_lenient f) place reason r d.0
   settled-dealt l Blank r d = settled-passed false false d.1
-  settled-dealt l Unwanted r d = settled-passed false false d.1
+  settled-dealt l LeftOut r d = settled-passed false false d.1
   settled-dealt l Valid (Ok x) d = settled-passed true false d.0
   settled-dealt l Valid (Err x) d = settled-left d.1
 
@@ -299,7 +299,7 @@ module _ {S : Type 0} (takes leaves : S → Item → S → Type 0) (f g : Readin
       → g.header.peak + g.line.peak ≡ (exact_peaks f.rules.limits p).bytes
   peak-dealt b c (Refuse place reason) r e d done = peak-refused b c place reason (is_lenient f) r e d.0 done
   peak-dealt b c Blank r e d done = peak-all false false b c e d.1
-  peak-dealt b c Unwanted r e d done = peak-all false false b c e d.1
+  peak-dealt b c LeftOut r e d done = peak-all false false b c e d.1
   peak-dealt b c Valid (Ok x) e d done = peak-all true false b c e d.0
   peak-dealt b c Valid (Err x) e d done = absurd (clash (sym d.0 ∙ done))
     where
@@ -336,7 +336,7 @@ module _ {S : Type 0} (takes leaves : S → Item → S → Type 0) (f g : Readin
       dealt : (v : Verdict) (l : Item) (r : Result (Unit {0}) End) → Deals takes leaves (is_lenient f) v l f s r g t → end_of r ≡ Complete → r ≡ Ok tt
       dealt (Refuse place reason) l r d h = refuses (is_lenient f) place reason r d.0 h
       dealt Blank l r d h = d.0
-      dealt Unwanted l r d h = d.0
+      dealt LeftOut l r d h = d.0
       dealt Valid l (Ok x) d h = refl
       dealt Valid l (Err x) d h = cc
 
@@ -394,7 +394,7 @@ module _ {S : Type 0} (takes leaves : S → Item → S → Type 0) (f g : Readin
       → Deals takes leaves (is_lenient f) v (next_item f (unended b c)) f s r g t → Delivers takes leaves f.rules p f.lines g.lines s t (Some (end_of r))
   delivers-last b c (Refuse place reason) r e h d = delivers-refused b c place reason (is_lenient f) r e h d.0 d.1
   delivers-last b c Blank r e h d = rw d.0 (skipped b c false false e d.1 (rw h refl) d.2)
-  delivers-last b c Unwanted r e h d = rw d.0 (skipped b c false false e d.1 (rw h refl) d.2)
+  delivers-last b c LeftOut r e h d = rw d.0 (skipped b c false false e d.1 (rw h refl) d.2)
   delivers-last b c Valid (Ok x) e h d = record {
     added = item_after f.rules (map ended_line (closed p)) (unended b c) ∷ [];
     middle = t;

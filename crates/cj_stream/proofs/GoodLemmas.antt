@@ -8,7 +8,7 @@ use Rattle.cj_stream.specs.declared.ending.End.{End}
 use Rattle.cj_stream.specs.declared.ending.End.TheVariants.{Complete, Refused}
 use Rattle.cj_stream.specs.Lines.{Line, lines}
 use Rattle.cj_stream.specs.Item.{Item}
-use Rattle.cj_stream.specs.Verdict.{Rules, Verdict, Refuse, Blank, Unwanted, Valid, verdict, item_after, goes_on, refusal_of, is_kept, refusal_from, refusal_in, good_from, kept_from, good, kept, kept_first, ending, ending_of}
+use Rattle.cj_stream.specs.Verdict.{Rules, Verdict, Refuse, Blank, LeftOut, Valid, verdict, item_after, goes_on, refusal_of, is_kept, refusal_from, refusal_in, good_from, kept_from, good, kept, kept_first, ending, ending_of}
 use Rattle.cj_stream.proofs.VerdictLemmas.{kept-append, before-more}
 use Rattle.cj_stream.proofs.Apart.{false-true, none-some, some-none}
 
@@ -67,7 +67,7 @@ refusal-good rules before m place reason (l ∷ ls) h = step (verdict rules befo
         on true h = omega (arith, later h, one)
         on false h = let same : length before + 1 ≡ m = cc in omega (arith, same)
     step Blank later h = omega (arith, later h, one)
-    step Unwanted later h = omega (arith, later h, one)
+    step LeftOut later h = omega (arith, later h, one)
     step Valid later h = omega (arith, later h, one)
 
 -- a refusal is no completion
@@ -84,7 +84,7 @@ refusal-kind rules before (l ∷ ls) h = step (verdict rules before l.content) (
         on true h = later h
         on false h = cc
     step Blank later h = later h
-    step Unwanted later h = later h
+    step LeftOut later h = later h
     step Valid later h = later h
 
 none_of : (o : Option End) → (o ≡ Some Complete → ⊥) → unwrap_or o Complete ≡ Complete → o ≡ None
@@ -143,7 +143,7 @@ kept-head rules before l rest h = step (verdict rules before l.content) refl h
         → kept_from rules before (good_from rules before (l ∷ rest)) ≡ item_after rules before l ∷ kept_from rules (before ++ l ∷ []) (good_from rules (before ++ l ∷ []) rest)
     step (Refuse place reason) e k = absurd (false-true k)
     step Blank e k = absurd (false-true k)
-    step Unwanted e k = absurd (false-true k)
+    step LeftOut e k = absurd (false-true k)
     step Valid e k = rw e (rw e refl)
 
 -- where the line after the first n ones is kept: it follows what is kept of them

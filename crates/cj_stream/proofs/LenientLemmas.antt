@@ -14,7 +14,7 @@ use Rattle.cj_stream.specs.declared.ending.End.{End}
 use Rattle.cj_stream.specs.declared.ending.End.TheVariants.{Complete, Refused}
 use Rattle.cj_stream.specs.Bound.{is_spelled, is_readable, exact_peaks, IsExact}
 use Rattle.cj_stream.specs.Lines.{Line, later_of, lines}
-use Rattle.cj_stream.specs.Verdict.{Rules, Verdict, Refuse, Blank, Unwanted, Valid, is_blank_byte, verdict_at, text_verdict, verdict, header_of, goes_on, refusal_of, refusal_from, refusal_in, report_of, good_from, good, reported_from, reported, ending, ending_of}
+use Rattle.cj_stream.specs.Verdict.{Rules, Verdict, Refuse, Blank, LeftOut, Valid, is_blank_byte, verdict_at, text_verdict, verdict, header_of, goes_on, refusal_of, refusal_from, refusal_in, report_of, good_from, good, reported_from, reported, ending, ending_of}
 use Rattle.cj_stream.proofs.Apart.{none-some, some-none}
 use Rattle.cj_stream.proofs.GoodLemmas.{good-all, refusal-kind}
 use Rattle.cj_stream.proofs.VerdictLemmas.{and-both}
@@ -27,7 +27,7 @@ first-none (Some x) rest h = cc
 lenient-none : (rules : Rules) (n : ℕ) (v : Verdict) → rules.options.keep_going ≡ true → 1 < n → refusal_of rules n v ≡ None
 lenient-none rules n (Refuse place reason) on later = let e : ltb 1 n ≡ true = grind (arith, nat_tests) in rw (e, on) refl
 lenient-none rules n Blank on later = refl
-lenient-none rules n Unwanted on later = refl
+lenient-none rules n LeftOut on later = refl
 lenient-none rules n Valid on later = refl
 
 later-none : (rules : Rules) (before ls : List Line) → rules.options.keep_going ≡ true → 0 < length before → refusal_from rules before ls ≡ None
@@ -65,7 +65,7 @@ never rules n off = rw off (go (nat_lt 1 n))
 silent : (rules : Rules) (n : ℕ) (v : Verdict) → rules.options.keep_going ≡ false → refusal_of rules n v ≡ None → report_of n v ≡ []
 silent rules n (Refuse place reason) off h = absurd (some-none (Refused n place reason) (rw (never rules n off) at h))
 silent rules n Blank off h = refl
-silent rules n Unwanted off h = refl
+silent rules n LeftOut off h = refl
 silent rules n Valid off h = refl
 
 unreported_from : (rules : Rules) (before ls : List Line) → rules.options.keep_going ≡ false → reported_from rules before (good_from rules before ls) ≡ []

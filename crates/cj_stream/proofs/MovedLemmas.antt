@@ -10,7 +10,7 @@ use Rattle.cj_stream.specs.declared.ending.End.{End}
 use Rattle.cj_stream.specs.declared.ending.End.TheVariants.{Refused}
 use Rattle.cj_stream.specs.Lines.{Line}
 use Rattle.cj_stream.specs.Parts.{moved_end, moved_report}
-use Rattle.cj_stream.specs.Verdict.{Rules, Verdict, Refuse, Blank, Unwanted, Valid, verdict_at, text_verdict, verdict, item_after, refusal_of, report_of, refusal_from, good_from, kept_from, reported_from}
+use Rattle.cj_stream.specs.Verdict.{Rules, Verdict, Refuse, Blank, LeftOut, Valid, verdict_at, text_verdict, verdict, item_after, refusal_of, report_of, refusal_from, good_from, kept_from, reported_from}
 
 module _ (rules : Rules) where
   -- ---- one line
@@ -51,13 +51,13 @@ module _ (rules : Rules) where
       go true = refl
       go false = refl
   one-refusal n m k Blank later e = refl
-  one-refusal n m k Unwanted later e = refl
+  one-refusal n m k LeftOut later e = refl
   one-refusal n m k Valid later e = refl
 
   one-report : (n m k : ℕ) (v : Verdict) → n ≡ m + k → report_of n v ≡ map (moved_report k) (report_of m v)
   one-report n m k (Refuse place reason) e = rw e refl
   one-report n m k Blank e = refl
-  one-report n m k Unwanted e = refl
+  one-report n m k LeftOut e = refl
   one-report n m k Valid e = refl
 
   module _ (l : Line) where

@@ -18,7 +18,7 @@ use Rattle.cj_stream.specs.Reading.{Reading, told_verdict, Stores, Settles, Read
 use Rattle.cj_stream.specs.ReportSink.{Collects, Notes, NotesRun, NotesPieces}
 use Rattle.cj_stream.specs.Run.{Run, Ends, RunsNoting}
 use Rattle.cj_stream.specs.Sink.{Took}
-use Rattle.cj_stream.specs.Verdict.{Rules, Verdict, Refuse, Blank, Unwanted, Valid, verdict, refusal_in, judged, good, good_from, report_of, reported_from, reported, reported_first}
+use Rattle.cj_stream.specs.Verdict.{Rules, Verdict, Refuse, Blank, LeftOut, Valid, verdict, refusal_in, judged, good, good_from, report_of, reported_from, reported, reported_first}
 use Rattle.cj_stream.proofs.Apart.{some-none}
 use Rattle.cj_stream.proofs.CutLemmas.{refused-more}
 use Rattle.cj_stream.proofs.EngineLemmas.{lines-front, take-front}
@@ -71,7 +71,7 @@ unreported rules l h = go (verdict rules [] l.content) refl h
     go : (v : Verdict) → verdict rules [] l.content ≡ v → refusal_in rules (l ∷ []) ≡ None → report_of 1 (verdict rules [] l.content) ++ [] ≡ []
     go (Refuse place reason) e h = absurd (some-none (Refused 1 place reason) (rw e at h))
     go Blank e h = rw e refl
-    go Unwanted e h = rw e refl
+    go LeftOut e h = rw e refl
     go Valid e h = rw e refl
 
 pub first-unreported : (rules : Rules) (k : ℕ) (q : List ℕ) → k ≤ 1 → refusal_in rules (take k (lines q)) ≡ None → reported_first rules k q ≡ []

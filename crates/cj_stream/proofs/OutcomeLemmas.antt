@@ -12,7 +12,7 @@ use Rattle.cj_stream.specs.Lines.{Line, lines}
 use Rattle.cj_stream.specs.Parts.{headed, IsCut, moved_end, capped_end, both_outcomes, capped_outcome}
 use Rattle.cj_stream.specs.Run.{Ends, Account}
 use Rattle.cj_stream.specs.Tallied.{capped}
-use Rattle.cj_stream.specs.Verdict.{Rules, Verdict, Refuse, Blank, Unwanted, Valid, verdict, item_after, is_kept, report_of, kept_from, reported_from}
+use Rattle.cj_stream.specs.Verdict.{Rules, Verdict, Refuse, Blank, LeftOut, Valid, verdict, item_after, is_kept, report_of, kept_from, reported_from}
 use Rattle.cj_stream.proofs.GoodLemmas.{good-refused}
 use Rattle.cj_stream.proofs.PartsLemmas.{front-good}
 use Rattle.cj_stream.proofs.AccountLemmas.{run_over, Account-joined}
@@ -45,7 +45,7 @@ reported-short rules before (l ∷ ls) =
     one : (n : ℕ) (v : Verdict) → length (report_of n v) ≤ 1
     one n (Refuse place reason) = omega arith
     one n Blank = omega arith
-    one n Unwanted = omega arith
+    one n LeftOut = omega arith
     one n Valid = omega arith
 
 -- no more features are kept, and no more lines refused, than were dealt with

@@ -20,7 +20,7 @@ use Rattle.cj_stream.specs.Bound.{exact_peaks, contents, greatest, held_length, 
 use Rattle.cj_stream.specs.Item.{raw_item, is_feature}
 use Rattle.cj_stream.specs.Lines.{Line, NoLf, closed, begun, ended_line, lines, whole, later_of, first_content}
 use Rattle.cj_stream.specs.Parts.{headed, IsCut, moved_end, moved_report, greater_peaks}
-use Rattle.cj_stream.specs.Verdict.{Rules, Verdict, Refuse, Blank, Unwanted, Valid, is_blank_byte, by_least, verdict_at, text_verdict, verdict, findings, item_after, refusal_of, refusal_from, refusal_in, good_from, good, kept_from, kept, reported_from, reported, output, ending, ending_of}
+use Rattle.cj_stream.specs.Verdict.{Rules, Verdict, Refuse, Blank, LeftOut, Valid, is_blank_byte, by_least, verdict_at, text_verdict, verdict, findings, item_after, refusal_of, refusal_from, refusal_in, good_from, good, kept_from, kept, reported_from, reported, output, ending, ending_of}
 use Rattle.cj_stream.proofs.Apart.{some-none}
 use Rattle.cj_stream.proofs.CutLemmas.{lines-more, good-stays}
 use Rattle.cj_stream.proofs.EngineLemmas.{same-peaks}
@@ -50,16 +50,16 @@ lines-parts a b w =
 -- ---- a first line that is not refused
 
 -- a header is never left out
-wanted-first : (rules : Rules) (header : Tree) (c : List ℕ) → verdict_at rules 1 header c ≡ Unwanted → ⊥
+first-not_left_out : (rules : Rules) (header : Tree) (c : List ℕ) → verdict_at rules 1 header c ≡ LeftOut → ⊥
 unfolding verdict_at
-wanted-first rules header c h = go (ltb rules.limits.line (length c)) (is_utf8 c) (judgement c rules.limits.depth) h
+first-not_left_out rules header c h = go (ltb rules.limits.line (length c)) (is_utf8 c) (judgement c rules.limits.depth) h
   where
-    asked : (o : Option Finding) → by_least true o ≡ Unwanted → ⊥
+    asked : (o : Option Finding) → by_least true o ≡ LeftOut → ⊥
     asked None e = cc
     asked (Some f) e = cc
 
     go : {d : ℕ} (long text : Bool) (j : Judgement c d)
-        → cond long (Refuse rules.limits.line LineTooLong) (cond (not text) (Refuse (utf8_valid_len c) NotUtf8) (cond (false && list_all is_blank_byte c) Blank (text_verdict rules 1 header j))) ≡ Unwanted → ⊥
+        → cond long (Refuse rules.limits.line LineTooLong) (cond (not text) (Refuse (utf8_valid_len c) NotUtf8) (cond (false && list_all is_blank_byte c) Blank (text_verdict rules 1 header j))) ≡ LeftOut → ⊥
     go true text j e = cc
     go false false j e = cc
     go false true (spelled t json shallow) e = asked (least None (findings rules 1 header t)) e
@@ -72,7 +72,7 @@ valid-first rules c h = go (verdict rules [] c) refl
     go : (v : Verdict) → verdict rules [] c ≡ v → verdict rules [] c ≡ Valid
     go (Refuse place reason) e = absurd (some-none (Refused 1 place reason) (rw e at h))
     go Blank e = let late = (blank-is rules 1 _ c e).0 in absurd (omega (arith, late))
-    go Unwanted e = absurd (wanted-first rules _ c e)
+    go LeftOut e = absurd (first-not_left_out rules _ c e)
     go Valid e = e
 
 -- ---- lines, and more lines, behind a header that is valid

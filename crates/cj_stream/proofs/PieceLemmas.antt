@@ -10,7 +10,7 @@ use Rattle.cj_stream.specs.declared.ending.End.{End}
 use Rattle.cj_stream.specs.declared.ending.End.TheVariants.{Refused, WriteFault, Memory}
 use Rattle.cj_stream.specs.Lines.{lines, closed, begun, ended_line, NoLf}
 use Rattle.cj_stream.specs.Item.{Item}
-use Rattle.cj_stream.specs.Verdict.{Rules, Verdict, Refuse, Blank, Unwanted, Valid, verdict, item_after, refusal_of, is_kept, long_line}
+use Rattle.cj_stream.specs.Verdict.{Rules, Verdict, Refuse, Blank, LeftOut, Valid, verdict, item_after, refusal_of, is_kept, long_line}
 use Rattle.cj_stream.specs.Reading.{Reading, begun_of, told_verdict, next_verdict, next_item, is_lenient, IsBegun, IsLeft, Unstored, Stores, Passes, Refuses, Deals, Settles, Reads, kept_closed, Puts, Advances, IsNext, HasCause, Stops}
 use Rattle.cj_stream.specs.Sink.{Took}
 use Rattle.cj_stream.proofs.LineLemmas.{closed-more, begun-more, closed-lf, begun-lf, none-from_length}
@@ -76,7 +76,7 @@ module _ {S : Type 0} (takes leaves : S → Item → S → Type 0) where
       → Deals takes leaves (is_lenient g) v (next_item g (ended_line (begun p))) g s r h t → r ≡ Ok tt → Advances takes g s p (10 ∷ []) h t
   dealt g h s t p (Refuse place reason) r reads e d ok = gone-on g h s t p place reason (is_lenient g) r reads e refl d.0 d.1 ok
   dealt g h s t p Blank r reads e d ok = passed g h s t p false false reads d.1 (rw e refl) (rw e refl) (rw e refl) d.2
-  dealt g h s t p Unwanted r reads e d ok = passed g h s t p false false reads d.1 (rw e refl) (rw e refl) (rw e refl) d.2
+  dealt g h s t p LeftOut r reads e d ok = passed g h s t p false false reads d.1 (rw e refl) (rw e refl) (rw e refl) d.2
   dealt g h s t p Valid (Err x) reads e d ok = absurd (clash-err (Err x) x refl ok)
   dealt g h s t p Valid (Ok x) reads e d ok =
       let is = next-item g p reads (ended_line (begun p)) in
@@ -206,7 +206,7 @@ module _ {S : Type 0} (takes leaves : S → Item → S → Type 0) where
       → IsLeft g h × HasCause leaves g.rules (p ++ part) (p ++ (part ++ 10 ∷ more)) g.lines s t e
   undealt g h s t p part more (Refuse place reason) r e n reads is d err = unforgiven g h s t p part more place reason (is_lenient g) r e n reads is refl d.0 d.1 err
   undealt g h s t p part more Blank r e n reads is d err = absurd (good-bad r e d.0 err)
-  undealt g h s t p part more Unwanted r e n reads is d err = absurd (good-bad r e d.0 err)
+  undealt g h s t p part more LeftOut r e n reads is d err = absurd (good-bad r e d.0 err)
   undealt g h s t p part more Valid (Ok x) e n reads is d err = absurd (clash err)
     where
       clash : ◌≡◌ {A = Result (Unit {0}) End} (Ok x) (Err e) → ⊥

@@ -28,7 +28,7 @@ use Rattle.cj_stream.specs.Lines.{Line, raw, ended_line}
 use Rattle.cj_stream.specs.Rows.{small_header, small_feature, lost_feature, euro_feature, wide_rules, tight_rules, Gives, WholeRow, BlankRow, OrderRow, BadRow, LongRow}
 use Rattle.cj_stream.specs.Criteria.{everything, holds}
 use Rattle.cj_stream.specs.Options.{usual_options}
-use Rattle.cj_stream.specs.Verdict.{Rules, goes_on, is_wanted, Refuse, Blank, Valid, is_blank_byte, verdict, verdict_at, text_verdict, by_least, tree_verdict, ending_of, good_from, kept_from}
+use Rattle.cj_stream.specs.Verdict.{Rules, goes_on, is_kept_if_valid, Refuse, Blank, Valid, is_blank_byte, verdict, verdict_at, text_verdict, by_least, tree_verdict, ending_of, good_from, kept_from}
 use Rattle.cj_stream.proofs.VerdictLemmas.{verdict-long, verdict-json, verdict-blank, tree-valid}
 
 -- ---- trees
@@ -131,10 +131,10 @@ pub feature_first : (t : Tree) → verdict_at wide_rules 1 t small_feature ≡ R
 feature_first t = sound 1 t small_feature plain_feature.tree feature_json (lit≤ tt) 8388608 (lit≤ tt) feature_text refl ∙ ap (by_least true) feature-no_header
 
 header_second : verdict_at wide_rules 2 (tree_of 64 small_header) small_header ≡ Refuse 0 MissingMember
-header_second = rw header_tree (sound 2 plain_header small_header plain_header header_json (lit≤ tt) 8388608 (lit≤ tt) header_text refl ∙ ap (by_least (is_wanted wide_rules 2 plain_header plain_header)) header-no_feature)
+header_second = rw header_tree (sound 2 plain_header small_header plain_header header_json (lit≤ tt) 8388608 (lit≤ tt) header_text refl ∙ ap (by_least (is_kept_if_valid wide_rules 2 plain_header plain_header)) header-no_feature)
 
 lost_third : verdict_at wide_rules 3 (tree_of 64 small_header) lost_feature ≡ Refuse 31 IdNotFound
-lost_third = rw header_tree (sound 3 plain_header lost_feature other_id.tree lost_json (lit≤ tt) 8388608 (lit≤ tt) lost_text refl ∙ ap (by_least (is_wanted wide_rules 3 plain_header other_id.tree)) other_id-refused)
+lost_third = rw header_tree (sound 3 plain_header lost_feature other_id.tree lost_json (lit≤ tt) 8388608 (lit≤ tt) lost_text refl ∙ ap (by_least (is_kept_if_valid wide_rules 3 plain_header other_id.tree)) other_id-refused)
 
 -- what is no JSON text is refused whatever the header
 abbrev cut : List ℕ

@@ -59,7 +59,7 @@ rises-forgets f g k = record {
 -- ---- lists of which nothing has changed but the room for later lines and its failed growths
 
 pub still-same : (f g : Scanning) → g ≡ f → IsStill f g
-still-same f g e = rw e (record { kept = λ r. r; count = refl; same = refl })
+still-same f g e = rw e (record { room = λ r. r; count = refl; same = refl })
 
 pub still-err : {T E : Type 0} (f g : Scanning) (r : Result T E) → OnErr r (g ≡ f) → OnErr r (IsStill f g)
 still-err f g (Ok x) h = h
@@ -92,7 +92,7 @@ forgets-still f g h still none k = go (rw still.same at k)
         elements = k.line.elements;
         limit = k.line.limit;
         peak = k.line.peak;
-        room = λ r. k.line.room (still.kept r);
+        room = λ r. k.line.room (still.room r);
         failed_growths = k.line.failed_growths ∙ none;
         within = k.line.within;
       };
@@ -101,7 +101,7 @@ forgets-still f g h still none k = go (rw still.same at k)
 
 pub still-then : (f g h : Scanning) → IsStill f g → IsStill g h → IsStill f h
 still-then f g h a b = record {
-  kept = λ r. b.kept (a.kept r);
+  room = λ r. b.room (a.room r);
   count = b.count ∙ a.count;
   same = b.same ∙ ap (λ (x : Scanning). record x { line = record x.line { elements = h.line.elements; reserved = h.line.reserved; failed_growths = h.line.failed_growths } }) a.same;
 }

@@ -4,7 +4,7 @@ use Rattle.cj_spans.specs.declared.reason.Reason.{Reason}
 use Rattle.cj_stream.specs.declared.ending.End.{End}
 use Rattle.cj_stream.specs.declared.ending.End.TheVariants.{Refused, WriteFault, Memory}
 use Rattle.cj_stream.specs.Item.{Item}
-use Rattle.cj_stream.specs.Verdict.{Verdict, Refuse, Blank, Unwanted, Valid, goes_on, refusal_of}
+use Rattle.cj_stream.specs.Verdict.{Verdict, Refuse, Blank, LeftOut, Valid, goes_on, refusal_of}
 use Rattle.cj_stream.proofs.Apart.{none-some}
 use Rattle.cj_stream.specs.Reading.{Reading, IsSound, Stays, IsLeft, Fits, Drops, StaysDropped, Stores, Passes, Refuses, Deals, Settles}
 use Rattle.cj_stream.proofs.ReadingLemmas.{zero_or}
@@ -81,14 +81,14 @@ module _ {S : Type 0} (takes leaves : S → Item → S → Type 0) (l : Item) (f
   pub Stays-dealt : (v : Verdict) (r : Result (Unit {0}) End) → Deals takes leaves on v l f s r g t → Stays f g
   Stays-dealt (Refuse place reason) r d = Stays-refused on place reason f g r d.0
   Stays-dealt Blank r d = Stays-passed false false f g d.1
-  Stays-dealt Unwanted r d = Stays-passed false false f g d.1
+  Stays-dealt LeftOut r d = Stays-passed false false f g d.1
   Stays-dealt Valid (Ok x) d = Stays-passed true false f g d.0
   Stays-dealt Valid (Err x) d = Stays-left f g d.1
 
   pub few-dealt : (v : Verdict) (r : Result (Unit {0}) End) → Deals takes leaves on v l f s r g t → g.lines ≤ f.lines + 1
   few-dealt (Refuse place reason) r d = few-refused on place reason f g r d.0
   few-dealt Blank r d = few-passed false false f g d.1
-  few-dealt Unwanted r d = few-passed false false f g d.1
+  few-dealt LeftOut r d = few-passed false false f g d.1
   few-dealt Valid (Ok x) d = few-passed true false f g d.0
   few-dealt Valid (Err x) d = rw d.1.same (omega arith)
 
@@ -109,7 +109,7 @@ Settles-ended takes leaves (Refuse place reason) i f s e h = inl (go (goes_on f.
     go true k = absurd (none-some e k)
     go false k = let same : e ≡ Refused (f.lines + 1) place reason = cc in ((ap Err same, refl), refl)
 Settles-ended takes leaves Blank i f s e h = absurd (none-some e h)
-Settles-ended takes leaves Unwanted i f s e h = absurd (none-some e h)
+Settles-ended takes leaves LeftOut i f s e h = absurd (none-some e h)
 Settles-ended takes leaves Valid i f s e h = absurd (none-some e h)
 
 -- a refusal that is an end has changed nothing of what is held of bytes
@@ -117,7 +117,7 @@ pub refused-same : {S : Type 0} (takes leaves : S → Item → S → Type 0) (v 
     → Settles takes leaves false v i f s r g t → r ≡ Err (Refused n place reason) → g ≡ f
 refused-same takes leaves (Refuse at why) i f g s t r n place reason (inl d) e = d.0.1
 refused-same takes leaves Blank i f g s t r n place reason (inl d) e = let ok : r ≡ Ok tt = d.0 in cc
-refused-same takes leaves Unwanted i f g s t r n place reason (inl d) e = let ok : r ≡ Ok tt = d.0 in cc
+refused-same takes leaves LeftOut i f g s t r n place reason (inl d) e = let ok : r ≡ Ok tt = d.0 in cc
 refused-same takes leaves Valid i f g s t (Ok x) n place reason (inl d) e = cc
 refused-same takes leaves Valid i f g s t (Err x) n place reason (inl d) e = let fault : x ≡ WriteFault = d.0 in cc
 refused-same takes leaves v i f g s t r n place reason (inr m) e = let lacks : r ≡ Err Memory = m.0 in cc
@@ -127,7 +127,7 @@ pub settled-err : {S : Type 0} (takes leaves : S → Item → S → Type 0) (on 
 settled-err takes leaves true (Refuse at why) i f g s t e (inl d) = let ok : ◌≡◌ {A = Result (Unit {0}) End} (Err e) (Ok tt) = d.0.0 in cc
 settled-err takes leaves false (Refuse at why) i f g s t e (inl d) = ap (λ x. x.lines) d.0.1
 settled-err takes leaves on Blank i f g s t e (inl d) = let ok : ◌≡◌ {A = Result (Unit {0}) End} (Err e) (Ok tt) = d.0 in cc
-settled-err takes leaves on Unwanted i f g s t e (inl d) = let ok : ◌≡◌ {A = Result (Unit {0}) End} (Err e) (Ok tt) = d.0 in cc
+settled-err takes leaves on LeftOut i f g s t e (inl d) = let ok : ◌≡◌ {A = Result (Unit {0}) End} (Err e) (Ok tt) = d.0 in cc
 settled-err takes leaves on Valid i f g s t e (inl d) = ap (λ x. x.lines) d.1.same
 settled-err takes leaves on v i f g s t e (inr m) = ap (λ x. x.lines) m.1.same
 

@@ -19,7 +19,7 @@ use Rattle.cj_spans.specs.Finding.{least, IsLeast}
 use Rattle.cj_spans.proofs.Findings.{least_only, fold_least}
 use Rattle.cj_stream.specs.Lines.{Line}
 use Rattle.cj_stream.specs.Item.{Item}
-use Rattle.cj_stream.specs.Verdict.{Rules, Refuse, Blank, Unwanted, Valid, verdict_at, verdict, findings, is_wanted, by_least, tree_verdict, text_verdict, item_after, is_blank_byte, refusal_of, is_kept, refusal_from, kept_from}
+use Rattle.cj_stream.specs.Verdict.{Rules, Refuse, Blank, LeftOut, Valid, verdict_at, verdict, findings, is_kept_if_valid, by_least, tree_verdict, text_verdict, item_after, is_blank_byte, refusal_of, is_kept, refusal_from, kept_from}
 use Rattle.cj_stream.proofs.LineLemmas.{not_true}
 
 blank-byte : (b : ℕ) → is_blank_byte b ≡ true → b < 128
@@ -94,21 +94,21 @@ least-is : (fs : List Finding) (f : Finding) → IsLeast fs (Some f) → least N
 least-is fs f h = least_only fs fs (Some f) (least None fs) (λ g. (λ x. x, λ x. x)) h (fold_least None fs)
 
 pub tree-refused : (rules : Rules) (n : ℕ) (header t : Tree) (f : Finding) → IsLeast (findings rules n header t) (Some f) → tree_verdict rules n header t ≡ Refuse f.place f.reason
-tree-refused rules n header t f h = ap (by_least (is_wanted rules n header t)) (least-is (findings rules n header t) f h)
+tree-refused rules n header t f h = ap (by_least (is_kept_if_valid rules n header t)) (least-is (findings rules n header t) f h)
 
-pub tree-valid : (rules : Rules) (n : ℕ) (header t : Tree) → findings rules n header t ≡ [] → is_wanted rules n header t ≡ true → tree_verdict rules n header t ≡ Valid
-tree-valid rules n header t h wanted = ap (λ fs. by_least (is_wanted rules n header t) (least None fs)) h ∙ rw wanted refl
+pub tree-valid : (rules : Rules) (n : ℕ) (header t : Tree) → findings rules n header t ≡ [] → is_kept_if_valid rules n header t ≡ true → tree_verdict rules n header t ≡ Valid
+tree-valid rules n header t h keep = ap (λ fs. by_least (is_kept_if_valid rules n header t) (least None fs)) h ∙ rw keep refl
 
-pub tree-unasked : (rules : Rules) (n : ℕ) (header t : Tree) → findings rules n header t ≡ [] → is_wanted rules n header t ≡ false → tree_verdict rules n header t ≡ Unwanted
-tree-unasked rules n header t h unwanted = ap (λ fs. by_least (is_wanted rules n header t) (least None fs)) h ∙ rw unwanted refl
+pub tree-unasked : (rules : Rules) (n : ℕ) (header t : Tree) → findings rules n header t ≡ [] → is_kept_if_valid rules n header t ≡ false → tree_verdict rules n header t ≡ LeftOut
+tree-unasked rules n header t h leave = ap (λ fs. by_least (is_kept_if_valid rules n header t) (least None fs)) h ∙ rw leave refl
 
 tree-not_blank : (rules : Rules) (n : ℕ) (header t : Tree) → tree_verdict rules n header t ≡ Blank → ⊥
-tree-not_blank rules n header t h = go (is_wanted rules n header t) (least None (findings rules n header t)) h
+tree-not_blank rules n header t h = go (is_kept_if_valid rules n header t) (least None (findings rules n header t)) h
   where
-    go : (wanted : Bool) (o : Option Finding) → by_least wanted o ≡ Blank → ⊥
+    go : (keep : Bool) (o : Option Finding) → by_least keep o ≡ Blank → ⊥
     go true None e = cc
     go false None e = cc
-    go wanted (Some f) e = cc
+    go keep (Some f) e = cc
 
 -- a line whose verdict is blank is a later one, and blank
 pub blank-is : (rules : Rules) (n : ℕ) (header : Tree) (c : List ℕ) → verdict_at rules n header c ≡ Blank → (1 < n) × (list_all is_blank_byte c ≡ true)

@@ -3,7 +3,7 @@ use Rattle.std.specs.Prelude.{◌≡◌, ℕ, Bool, true, false, Result, Ok, Err
 use Rattle.cj_stream.specs.declared.ending.End.{End}
 use Rattle.cj_stream.specs.declared.ending.End.TheVariants.{Refused, WriteFault}
 use Rattle.cj_stream.specs.Item.{Item}
-use Rattle.cj_stream.specs.Verdict.{Verdict, Refuse, Blank, Unwanted, Valid}
+use Rattle.cj_stream.specs.Verdict.{Verdict, Refuse, Blank, LeftOut, Valid}
 
 -- it is refused, or not asked for, and the sink stays; or it was put, or a fault of the sink is the end. No line of a
 -- tree is blank
@@ -11,6 +11,6 @@ abbrev pub Hands : {S : Type 0} → (S → Item → S → Type 0) → (S → Ite
     → Result Bool End → S → Type 0
 Hands takes leaves (Refuse place reason) number i s r t = (r ≡ Err (Refused number place reason)) × (t ≡ s)
 Hands takes leaves Blank number i s r t = ⊥
-Hands takes leaves Unwanted number i s r t = (r ≡ Ok false) × (t ≡ s)
+Hands takes leaves LeftOut number i s r t = (r ≡ Ok false) × (t ≡ s)
 Hands takes leaves Valid number i s r t =
     MatchResult r (λ put. (put ≡ true) × takes s i t) (λ e. (e ≡ WriteFault) × leaves s i t)

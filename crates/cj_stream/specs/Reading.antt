@@ -15,7 +15,7 @@ use Rattle.cj_stream.specs.declared.ending.End.TheVariants.{Complete, Refused, R
 use Rattle.cj_stream.specs.Lines.{Line, lines, closed, begun, begun_later, ended_line, first_content, later_of}
 use Rattle.cj_stream.specs.Item.{Item, is_feature, tree_of, item_at}
 use Rattle.cj_stream.specs.Query.{rules_for}
-use Rattle.cj_stream.specs.Verdict.{Rules, Verdict, Refuse, Blank, Unwanted, Valid, tree_verdict, verdict_at, verdict}
+use Rattle.cj_stream.specs.Verdict.{Rules, Verdict, Refuse, Blank, LeftOut, Valid, tree_verdict, verdict_at, verdict}
 use Rattle.cj_stream.specs.Verdict.{item_after, is_kept, goes_on, refusal_in, kept_from, reported_from, judged}
 use Rattle.cj_stream.specs.Bound.{greatest, held_length}
 use Rattle.cj_stream.specs.Sink.{Took}
@@ -138,7 +138,7 @@ widened f room failed = record f { line = record f.line { reserved = room; faile
 
 -- nothing has changed but that there may be more room for later lines, or that a growth of it failed
 pub record IsLeft (f g : Reading) : Type 0 where
-  pub kept : IsTrue f.line.reserved → IsTrue g.line.reserved
+  pub room : IsTrue f.line.reserved → IsTrue g.line.reserved
   pub same : g ≡ widened f g.line.reserved g.line.failed_growths
 
 -- a line was refused: where reading goes on after it, it is dealt with, and else it is the end
@@ -151,7 +151,7 @@ abbrev pub Deals : {S : Type 0} → (S → Item → S → Type 0) → (S → Ite
     → S → Result (Unit {0}) End → Reading → S → Type 0
 Deals takes leaves on (Refuse place reason) i f s r g t = Refuses on place reason f r g × (t ≡ s)
 Deals takes leaves on Blank i f s r g t = (r ≡ Ok tt) × Passes false false f g × (t ≡ s)
-Deals takes leaves on Unwanted i f s r g t = (r ≡ Ok tt) × Passes false false f g × (t ≡ s)
+Deals takes leaves on LeftOut i f s r g t = (r ≡ Ok tt) × Passes false false f g × (t ≡ s)
 Deals takes leaves on Valid i f s r g t =
     MatchResult r (λ _. Passes true false f g × takes s i t) (λ e. (e ≡ WriteFault) × IsLeft f g × leaves s i t)
 

@@ -128,7 +128,7 @@ pub record IsOpen (before : ℕ) (s : Scanning) : Type 0 where
 -- nothing has changed but that the tokens of a later line may have marks, and that there may be more room for such
 -- lines, or that a growth of it failed
 pub record IsStill (old new : Scanning) : Type 0 where
-  pub kept : IsTrue old.line.reserved → IsTrue new.line.reserved
+  pub room : IsTrue old.line.reserved → IsTrue new.line.reserved
   pub count : length new.line.elements ≡ length old.line.elements
   pub same : new ≡ record old {
     line = record old.line

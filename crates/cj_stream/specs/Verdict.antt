@@ -34,7 +34,7 @@ pub record Rules : Type 0 where
 pub data Verdict : Type 0 where
   Refuse : ℕ → Reason → Verdict
   Blank : Verdict
-  Unwanted : Verdict
+  LeftOut : Verdict
   Valid : Verdict
 
 -- space, tab and CR
@@ -56,19 +56,19 @@ abbrev pub is_asked : Rules → Tree → Tree → Bool
 is_asked rules header t = if rules.options.exclude then not (holds rules.criteria header t) else holds
     rules.criteria header t
 
--- a header is wanted, and a feature that is asked for
-abbrev pub is_wanted : Rules → ℕ → Tree → Tree → Bool
-is_wanted rules number header t = number == 1 || is_asked rules header t
+-- a header is kept if it is valid, and a feature that is asked for
+abbrev pub is_kept_if_valid : Rules → ℕ → Tree → Tree → Bool
+is_kept_if_valid rules number header t = number == 1 || is_asked rules header t
 
 -- the verdict by the least of some findings; where there is none, by whether the tree is asked for
 abbrev pub by_least : Bool → Option Finding → Verdict
-by_least wanted None = if wanted then Valid else Unwanted
-by_least wanted (Some f) = Refuse f.place f.reason
+by_least keep None = if keep then Valid else LeftOut
+by_least keep (Some f) = Refuse f.place f.reason
 
 -- the verdict on a line of this tree
 abbrev pub tree_verdict : Rules → ℕ → Tree → Tree → Verdict
 tree_verdict rules number header t =
-    by_least (is_wanted rules number header t) (least None (findings rules number header t))
+    by_least (is_kept_if_valid rules number header t) (least None (findings rules number header t))
 
 -- the verdict on bytes of UTF-8, by what they are as a JSON text under a depth limit
 abbrev pub text_verdict : {c : List ℕ} {depth : ℕ} → Rules → ℕ → Tree → Judgement c depth → Verdict
@@ -112,21 +112,21 @@ abbrev pub refusal_of : Rules → ℕ → Verdict → Option End
 refusal_of rules number (Refuse place reason) =
     if goes_on rules number then None else Some (Refused number place reason)
 refusal_of rules number Blank = None
-refusal_of rules number Unwanted = None
+refusal_of rules number LeftOut = None
 refusal_of rules number Valid = None
 
 -- what is reported of a line with this number, where reading goes on after it: its refusal, if it is refused
 abbrev pub report_of : ℕ → Verdict → List Report
 report_of number (Refuse place reason) = record { line = number; place = place; reason = reason } ∷ []
 report_of number Blank = []
-report_of number Unwanted = []
+report_of number LeftOut = []
 report_of number Valid = []
 
 -- a valid line that is asked for is kept
 abbrev pub is_kept : Verdict → Bool
 is_kept (Refuse place reason) = false
 is_kept Blank = false
-is_kept Unwanted = false
+is_kept LeftOut = false
 is_kept Valid = true
 
 -- the first refusal that is an end, among lines that come after others
