@@ -15,3 +15,4 @@ pub mod Rooms
 pub mod Sequences
 pub mod Shapes
 pub mod Texts
+pub mod Triples
