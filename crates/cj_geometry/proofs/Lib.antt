@@ -15,3 +15,4 @@ pub mod Shapes
 pub mod Texts
 pub mod TemplateLods
 pub mod WordedNames
+pub mod Triples

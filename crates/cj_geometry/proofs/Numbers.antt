@@ -154,7 +154,7 @@ module _ (line : List ℕ) (t : Tree) (kind : kind_of t ≡ Number) where
 
   -- with the whole number that a call may have read of it
   module _ (s : List ℕ) (same : s ≡ spelling_of line t) where
-    whole-there : (w : ℤ) → ((c : Class s) → whole_answer c ≡ Ok (Some w)) → whole_of t ≡ Some w
+    pub whole-there : (w : ℤ) → ((c : Class s) → whole_answer c ≡ Ok (Some w)) → whole_of t ≡ Some w
     whole-there w answer = whole-read s same (Ok (Some w)) (Ok (Some w)) (λ c. sym (answer c)) refl
 
     pub few-read : (o : Option ℕ) → IfSome o (λ n. (c : Class s) → whole_answer c ≡ Ok (Some (pos n))) → IfSome o (λ n. n < 10 ^ 18) → IfSome o (λ n. (n < 10 ^ 18) × (whole_of t ≡ Some (pos n)))

@@ -38,7 +38,7 @@ pub use member::{check_text_member, needed};
 pub use names::check_names;
 pub use number::{
     Bound, check_index, check_index_below, check_number, check_whole, count_indices, count_wholes,
-    read_whole, read_whole_word,
+    is_short_triple, read_whole, read_whole_word,
 };
 
 /// Adds a reason at a value. Few values have one.

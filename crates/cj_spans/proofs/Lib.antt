@@ -32,3 +32,4 @@ pub mod Walks
 pub mod Strings
 pub mod Granted
 pub mod Marking
+pub mod Triples

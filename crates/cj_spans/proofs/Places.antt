@@ -41,7 +41,7 @@ slice-one b i h =
     let z : i - i ≡ 0 = omega arith in
     slice-more b i i (omega arith) h ∙ ap (λ n. take n (drop i b) ++ get_or b i 0 ∷ []) z
 
-slice-length : (b : List ℕ) (i j : ℕ) → i ≤ j → j ≤ length b → i + length (slice_range b i j) ≡ j
+pub slice-length : (b : List ℕ) (i j : ℕ) → i ≤ j → j ≤ length b → i + length (slice_range b i j) ≡ j
 slice-length b i j h l = grind (arith, common_steps)
 
 past_end : (b : List ℕ) (k : ℕ) → length b ≤ k → get_or b k 0 ≡ 0
@@ -120,7 +120,7 @@ of_text s None y t e = none_some y e
 of_text [] (Some x) y t e = subst IsOfText (some_same x y e) t
 of_text (c ∷ s) (Some x) y t e = of_text s (lex_step x c) y (of_text_step x c t) e
 
-slice_has : (b : List ℕ) (i j n : ℕ) → n < length (slice_range b i j) → byte b (i + n) ≡ get_or (slice_range b i j) n 0
+pub slice_has : (b : List ℕ) (i j n : ℕ) → n < length (slice_range b i j) → byte b (i + n) ≡ get_or (slice_range b i j) n 0
 slice_has b i j n l =
     let q : n < j - i = omega (arith, length-take (j - i) (drop i b)) in
     sym (get_or-take (j - i) (drop i b) n 0 q ∙ get_or-drop i b n 0)

@@ -1,17 +1,18 @@
 -- Tokens that show the tree of a line: what is known of each.
-use Rattle.std.proofs.Common.{◌≡◌, ℕ, zero, suc, ◌+◌, ◌<◌, ◌≤◌, List, [], ◌∷◌, ◌++◌, length, drop, slice_get, slice_range, true, inl, inr, Some, refl, sym, ap, subst, arith, ◌∙◌, append_assoc}
+use Rattle.std.proofs.Common.{◌≡◌, ℕ, zero, suc, ◌+◌, ◌-◌, ◌<◌, ◌≤◌, List, [], ◌∷◌, ◌++◌, length, drop, slice_get, slice_range, true, inl, inr, Some, refl, sym, ap, subst, arith, ◌∙◌, append_assoc}
 use Rattle.std.proofs.lemmas.Bool.{cases_lt}
 use Rattle.std.proofs.lemmas.List.{append-nil}
 use Rattle.std.proofs.lemmas.Bool.Decides.{nat_tests}
+use Rattle.std.proofs.lemmas.Grind.{merely}
 use Rattle.cj_spans.specs.declared.token.Token.{Token}
 use Rattle.cj_spans.specs.declared.token.Kind.{Kind}
 use Rattle.cj_spans.specs.declared.token.Kind.TheVariants.{Null, Truth, Number, Text, Array, Object}
 use Rattle.cj_spans.specs.Tree.{Atom, Tree, scalar, array, object, Items, no_items, item, Members, no_members, member, add_item, add_member, start_of, size, total_size, items_size, members_size}
-use Rattle.cj_spans.specs.Spelling.{IsScalar}
+use Rattle.cj_spans.specs.Spelling.{IsScalar, IsNumber}
 use Rattle.cj_spans.specs.Json.{byte, IsAtom, Value, atom, empty_array, full_array, empty_object, full_object, Padded, padded, LedItems, no_led, led, LedMembers, no_led_members, led_member, Named, named, Json}
 use Rattle.cj_spans.specs.Preorder.{Span, span_at, preorder, items_preorder, members_preorder, spans_of}
 use Rattle.cj_spans.specs.Forest.{kind_by, held, past, atom_of, items_from, members_from, node, forest}
-use Rattle.cj_spans.specs.Sound.{AreOf, AreWithin, AreRising, AreNested, AreNamed, AreLinked, are_members}
+use Rattle.cj_spans.specs.Sound.{AreOf, AreWithin, AreRising, AreNested, AreNamed, AreSpelled, AreLinked, are_members}
 use Rattle.cj_spans.specs.View.{tree_at}
 use Rattle.cj_spans.proofs.Lists.{items_preorder-add, members_preorder-add}
 use Rattle.cj_spans.proofs.Verdicts.{json_only}
@@ -152,6 +153,8 @@ record IsGood (b : List ℕ) (s : Span) (ss : List Span) : Type 0 where
   within : s.stop ≤ length b
   stops : StopsBy s.stop ss
   named : byte b s.start ≡ 123 → are_members (held s.stop (forest b ss)) ≡ true
+  numeral : kind_by (byte b s.start) ≡ Number → IsNumber (slice_range b s.start s.stop)
+  closed : byte b s.start ≡ 91 → byte b (s.stop - 1) ≡ 93
   later : From (suc s.start) ss
 
 abbrev AllGood : List ℕ → List Span → Type 0
@@ -205,12 +208,12 @@ good_both b i j k ss us f g h q = record {
 }
 
 -- a span over others
-good_over : (b : List ℕ) (i j : ℕ) (ss : List Span) → i < j → j ≤ length b → Good b (suc i) j ss → ((rest : List Span) → From j rest → byte b i ≡ 123 → are_members (held j (forest b (ss ++ rest))) ≡ true) → Good b i j (span_at i j ∷ ss)
-good_over b i j ss o l h n = record {
+good_over : (b : List ℕ) (i j : ℕ) (ss : List Span) → i < j → j ≤ length b → Good b (suc i) j ss → (kind_by (byte b i) ≡ Number → IsNumber (slice_range b i j)) → (byte b i ≡ 91 → byte b (j - 1) ≡ 93) → ((rest : List Span) → From j rest → byte b i ≡ 123 → are_members (held j (forest b (ss ++ rest))) ≡ true) → Good b i j (span_at i j ∷ ss)
+good_over b i j ss o l h numeral closed n = record {
   between = (omega arith, omega arith, between_more (suc i) j i j ss (omega arith) (omega arith) h.between);
   good = λ rest f g.
       let after = from_append (suc i) ss rest (between_from (suc i) j ss h.between) (from_more (suc i) j rest o f) in
-      (record { order = o; within = l; stops = stops_between (suc i) j ss rest h.between (stops_from j rest f); named = n rest f; later = after }, h.good rest f g);
+      (record { order = o; within = l; stops = stops_between (suc i) j ss rest h.between (stops_from j rest f); named = n rest f; numeral = numeral; closed = closed; later = after }, h.good rest f g);
 }
 
 -- ---- the grammar
@@ -228,10 +231,30 @@ not_object Text s h e = cc
 not_object Array s h e = cc
 not_object Object s h e = h
 
+not_array : (k : Kind) (s : List ℕ) → IsScalar k s → k ≡ Array → ⊥
+not_array Null s h e = cc
+not_array Truth s h e = cc
+not_array Number s h e = cc
+not_array Text s h e = cc
+not_array Array s h e = h
+not_array Object s h e = cc
+
+atom_numeral : (k : Kind) (s : List ℕ) → IsScalar k s → k ≡ Number → IsNumber s
+atom_numeral k s h e = subst (λ z. IsScalar z s) e h
+
+-- what a bracket or a brace begins is no number
+no_numeral : (b : List ℕ) (i c j : ℕ) → byte b i ≡ c → (kind_by c ≡ Number → ⊥) → kind_by (byte b i) ≡ Number → IsNumber (slice_range b i j)
+no_numeral b i c j h n e = absurd (n (sym (ap kind_by h) ∙ e))
+
+closes : (b : List ℕ) (j c : ℕ) → byte b j ≡ c → byte b (suc j - 1) ≡ c
+closes b j c h = let e : suc j - 1 ≡ j = omega arith in ap (byte b) e ∙ h
+
 good_atom : (b : List ℕ) (k : Kind) (i j : ℕ) → IsAtom b k i j → Good b i j (span_at i j ∷ [])
 good_atom b k i j w =
     let o = w.order in
     good_over b i j [] o w.within (record { between = tt; good = λ rest f g. g })
+    (λ e. atom_numeral k (slice_range b i j) w.spelled (sym (atom_kind b k i j w) ∙ e))
+    (λ e. absurd (not_array k (slice_range b i j) w.spelled (sym (atom_kind b k i j w) ∙ ap kind_by e)))
     (λ rest f e. absurd (not_object k (slice_range b i j) w.spelled (sym (atom_kind b k i j w) ∙ ap kind_by e)))
 
 good_named : {b : List ℕ} {i j : ℕ} {n : Atom} → Named b i j n → Good b i j (span_at n.start n.stop ∷ [])
@@ -265,20 +288,22 @@ mutual
   good_value {b} (atom k i j w) = good_atom b k i j w
   good_value {b} (empty_array i j o w c) =
       let h = w.order in let l = byte_within b j 92 c in
-      good_over b i (suc j) [] (omega arith) l (good_more b (suc i) (suc i) (suc i) (suc j) [] (omega arith) (omega arith) (good_none b (suc i))) (λ rest f e. absurd (omega arith))
+      good_over b i (suc j) [] (omega arith) l (good_more b (suc i) (suc i) (suc i) (suc j) [] (omega arith) (omega arith) (good_none b (suc i))) (no_numeral b i 91 (suc j) o (λ e. cc)) (λ e. closes b j 93 c) (λ rest f e. absurd (omega arith))
   good_value {b} (full_array i j k us u o l p c) =
       let a = led_order l in let q = padded_ends p in let m = byte_within b k 92 c in
       good_over b i (suc k) (items_preorder (add_item us u)) (omega arith) m
-      (good_more b (suc i) k (suc i) (suc k) (items_preorder (add_item us u)) (omega arith) (omega arith) (good_add b (suc i) j k us u a q (good_led l) (good_padded p))) (λ rest f e. absurd (omega arith))
+      (good_more b (suc i) k (suc i) (suc k) (items_preorder (add_item us u)) (omega arith) (omega arith) (good_add b (suc i) j k us u a q (good_led l) (good_padded p))) (no_numeral b i 91 (suc k) o (λ e. cc)) (λ e. closes b k 93 c) (λ rest f e. absurd (omega arith))
   good_value {b} (empty_object i j o w c) =
       let h = w.order in let l = byte_within b j 124 c in
       good_over b i (suc j) [] (omega arith) l (good_more b (suc i) (suc i) (suc i) (suc j) [] (omega arith) (omega arith) (good_none b (suc i)))
+      (no_numeral b i 123 (suc j) o (λ e. cc)) (λ e. absurd (omega arith))
       (λ rest f e. alternate_held b (suc j) no_members rest (record { all = tt; shows = λ rest h. refl }) f)
   good_value {b} (full_object i j k l us n u o ld nm p c) =
       let a = led_members_order ld in let q = padded_ends p in let r = named_ends nm in let m = byte_within b l 124 c in
       let v = add_member us n u in
       good_over b i (suc l) (members_preorder v) (omega arith) m
       (good_more b (suc i) l (suc i) (suc l) (members_preorder v) (omega arith) (omega arith) (good_add_member b (suc i) j k l us n u a r q (good_led_members ld) (good_named nm) (good_padded p)))
+      (no_numeral b i 123 (suc l) o (λ e. cc)) (λ e. absurd (omega arith))
       (λ rest f e. alternate_held b (suc l) v rest (shows_more b l (suc l) _ _ (omega arith) (shows_add_member ld nm p (shows_led_members ld) (shows_padded p))) f)
 
   good_padded : {b : List ℕ} {i j : ℕ} {t : Tree} → Padded b i j t → Good b i j (preorder t)
@@ -334,12 +359,16 @@ are_named b ts g = λ k t h e.
     let f : suc k ≡ k + 1 = omega arith in
     subst (λ n. are_members (held t.stop (forest b (drop n (spans_of ts)))) ≡ true) f ((good_at b ts k t g h).named e)
 
+are_spelled : (b : List ℕ) (ts : List Token) → AllGood b (spans_of ts) → AreSpelled b ts
+are_spelled b ts g = λ k t h. let w = good_at b ts k t g h in (λ e. merely (w.numeral e), w.closed)
+
 -- what a view of the tokens of a line needs
 pub record Known (b : List ℕ) (ts : List Token) : Type 0 where
   pub within : AreWithin b ts
   pub rising : AreRising ts
   pub nested : AreNested ts
   pub named : AreNamed b ts
+  pub spelled : AreSpelled b ts
   pub linked : AreLinked ts
   pub some : 0 < length ts
 
@@ -353,7 +382,7 @@ known b ts a =
     let g = subst (AllGood b) e (json_good b a.tree a.json) in
     let s = size_some a.tree in
     let c = a.count in
-    record { within = are_within b ts g; rising = are_rising b ts g; nested = are_nested b ts g; named = are_named b ts g; linked = a.linked; some = omega arith }
+    record { within = are_within b ts g; rising = are_rising b ts g; nested = are_nested b ts g; named = are_named b ts g; spelled = are_spelled b ts g; linked = a.linked; some = omega arith }
 
 first_shown : (b : List ℕ) (ss : List Span) (t : Tree) → forest b ss ≡ t ∷ [] → tree_at b ss 0 ≡ t
 unfolding forest tree_at

@@ -1,17 +1,20 @@
 -- Bytes of a line, 16 at a time: what the marks of a vector say of the bytes.
-use Rattle.std.proofs.Common.{◌≡◌, ℕ, zero, suc, ◌+◌, ◌-◌, ◌%◌, ◌^◌, ◌<◌, ◌≤◌, List, [], ◌∷◌, length, map, get_or, nat_eq, inl, inr, Bool, true, false, cond, not, eqb, ltb, replicate, refl, sym, ap, subst, arith, ◌∙◌, w8}
+use Rattle.std.proofs.Common.{◌≡◌, ℕ, zero, suc, ◌+◌, ◌-◌, ◌%◌, ◌^◌, ◌/◌, ◌<◌, ◌≤◌, List, [], ◌∷◌, length, map, get_or, nat_eq, inl, inr, Bool, true, false, cond, not, eqb, ltb, replicate, refl, sym, ap, subst, arith, ◌∙◌, w8}
 use Rattle.std.proofs.lemmas.Bool.{cases_eq}
 use Rattle.std.proofs.lemmas.Bool.Decides.{nat_tests}
 use Rattle.std.specs.Simd.Lanes.{zip2, mask_l, sel_l, top, chunk}
 use Rattle.std.specs.List.{prefix_len}
 use Rattle.std.specs.Int.Count.{count_trailing_zeros}
 use Rattle.std.proofs.lemmas.List.Sums.{prefix_len-le-length, prefix_len_passes}
-use Rattle.std.proofs.lemmas.Simd.{get_or-chunk, leading_from_mask_l, tops_compared, bitmask_splat, zip2_splat, zip2_splat_left, mask_l-mod, map-map, length-chunk, none_from_empty_mask, trailing_mask_l, run_in_chunk_le, run_in_chunk_fails}
-use Rattle.std.proofs.lemmas.List.{length-map}
+use Rattle.std.proofs.lemmas.Simd.{bit_mask_l, get_or-chunk, leading_from_mask_l, tops_compared, bitmask_splat, zip2_splat, zip2_splat_left, mask_l-mod, map-map, length-chunk, none_from_empty_mask, trailing_mask_l, run_in_chunk_le, run_in_chunk_fails}
+use Rattle.std.proofs.lemmas.List.{length-map, get_or-map}
+use Rattle.std.proofs.Math.Nat.{div-eq_of_lt}
+use Rattle.std.proofs.Math.Pow.{pow_mono}
 use Rattle.cj_spans.specs.Spelling.{is_plain}
 use Rattle.cj_spans.specs.Json.{byte}
 use Rattle.cj_spans.specs.Machine.{is_digit}
 use Rattle.cj_spans.specs.Decoding.{AreAlike}
+use Rattle.cj_spans.specs.Wholes.{IsWholeSign}
 
 -- how far a byte is above `0`, where bytes below it come last
 abbrev above : ℕ → ℕ
@@ -116,6 +119,56 @@ plain_within b i room n = run_in_chunk_le special b i 16 (count_trailing_zeros 6
 
 pub plain_before : (b : List ℕ) (i : ℕ) → i + 16 ≤ length b → (plain_marks b i ≡ 0 → ⊥) → (k : ℕ) → i ≤ k → k < i + count_trailing_zeros 64 (plain_marks b i) → is_plain (byte b k) ≡ true
 plain_before b i room n k l h = plain_from (byte b k) (run_in_chunk_fails special b i 16 (count_trailing_zeros 64 (plain_marks b i)) 0 room (plain_counted b i room n) k l h)
+
+-- ---- bytes of whole numbers and of commas
+
+-- how far a byte is above the comma, where a point and bytes below it come last
+abbrev above_comma : ℕ → ℕ
+above_comma x = (dropped 46 x + 212) % 256
+
+-- a byte that stands in no array of whole numbers
+abbrev foreign : ℕ → Bool
+foreign x = ltb 13 (above_comma x)
+
+sign_from : (x : ℕ) → x < 256 → foreign x ≡ false → IsWholeSign x
+sign_from x l h =
+    elim (cases_eq x 46) [
+      | inl e ↦ absurd (grind (arith, nat_tests))
+      | inr d ↦
+          let same : dropped 46 x ≡ x = grind (arith, nat_tests) in
+          let e : (x + 212) % 256 ≤ 13 = grind (arith, nat_tests) in
+          (omega arith, omega arith, grind (arith, nat_tests))
+    ]
+
+-- the marks of the bytes from i on that stand in no such array
+abbrev pub foreign_marks : List ℕ → ℕ → ℕ
+foreign_marks b i = mask_l (map (top 7) (zip2 (λ a c. cond (ltb a c) 255 0) (replicate 16 13) (zip2 (λ a c. (a + (256 - c)) % 256) (without 46 (chunk i 16 b)) (replicate 16 44)))) % 2 ^ 64
+
+foreign_marks_are : (b : List ℕ) (i : ℕ) → i + 16 ≤ length b → foreign_marks b i ≡ mask_l (map foreign (chunk i 16 b))
+foreign_marks_are b i room =
+    let v = chunk i 16 b in
+    let long : length v ≡ 16 = length-chunk i 16 b room in
+    let w = map (dropped 46) v in
+    let long1 : length w ≡ 16 = length-map v (dropped 46) ∙ long in
+    ap (λ u. mask_l (map (top 7) (zip2 (λ a c. cond (ltb a c) 255 0) (replicate 16 13) (zip2 (λ a c. (a + (256 - c)) % 256) u (replicate 16 44)))) % 2 ^ 64) (without_is 46 v long)
+    ∙ ap (λ u. mask_l (map (top 7) (zip2 (λ a c. cond (ltb a c) 255 0) (replicate 16 13) u)) % 2 ^ 64) (zip2_splat (λ a c. (a + (256 - c)) % 256) w 16 44 long1)
+    ∙ marks_over 13 (map (λ a. (a + 212) % 256) w) (length-map w (λ a. (a + 212) % 256) ∙ long1)
+    ∙ ap mask_l (map-map (λ y. ltb 13 y) (λ a. (a + 212) % 256) w ∙ map-map (λ a. ltb 13 ((a + 212) % 256)) (dropped 46) v)
+
+-- where the marks stop below a bit, the bytes from there on are signs
+pub signs_above : (b : List ℕ) (i : ℕ) → i + 16 ≤ length b → ((k : ℕ) → byte b k < 256) → (j k : ℕ) → foreign_marks b i < 2 ^ j → j ≤ k → k < 16 → IsWholeSign (byte b (i + k))
+signs_above b i room small j k low order few =
+    let v = chunk i 16 b in
+    let e = foreign_marks_are b i room in
+    let less : mask_l (map foreign v) < 2 ^ k = omega (arith, pow_mono order, e) in
+    let none : mask_l (map foreign v) / 2 ^ k ≡ 0 = div-eq_of_lt less in
+    let bit = bit_mask_l (map foreign v) k in
+    let at : get_or (map foreign v) k false ≡ foreign (byte b (i + k)) = get_or-map foreign v k 0 false (omega (arith, length-chunk i 16 b room)) ∙ ap foreign (get_or-chunk i 16 b k 0 few) in
+    sign_from (byte b (i + k)) (small (i + k)) (sym at ∙ unset (get_or (map foreign v) k false) (sym bit ∙ ap (λ n. n % 2) none))
+  where
+    unset : (x : Bool) → ◌≡◌ {A = ℕ} (cond x 1 0) 0 → x ≡ false
+    unset true h = absurd (omega arith)
+    unset false h = refl
 
 -- ---- bytes of two strings
 

@@ -195,7 +195,7 @@ walk_on b ts k n r t nested h e l =
 
 -- ---- tokens that are whole
 
-before_drop : (j i : ℕ) (ts : List Token) → i ≤ before j ts → before j (drop i ts) + i ≡ before j ts
+pub before_drop : (j i : ℕ) (ts : List Token) → i ≤ before j ts → before j (drop i ts) + i ≡ before j ts
 before_drop j zero ts h = omega arith
 before_drop j (suc i) [] h = absurd (omega arith)
 before_drop j (suc i) (t ∷ ts) h =
@@ -212,7 +212,7 @@ before-less i j (t ∷ ts) h =
       | inr g ↦ let e = before_zero i t ts g in omega arith
     ]
 
-starts_before : (ts : List Token) (j k : ℕ) (t : Token) → slice_get ts k ≡ Some t → 0 < before j (drop k ts) → t.start < j
+pub starts_before : (ts : List Token) (j k : ℕ) (t : Token) → slice_get ts k ≡ Some t → 0 < before j (drop k ts) → t.start < j
 starts_before ts j k t h l = elim (cases_lt t.start j) [ inl o ↦ o | inr g ↦ let z = before_stopped ts j k t h g in absurd (omega arith) ]
 
 -- a part of a token's tree links no further than the token

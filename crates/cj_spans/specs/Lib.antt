@@ -23,3 +23,4 @@ pub mod Sound
 pub mod View
 pub mod Marks
 pub mod Atom
+pub mod Wholes

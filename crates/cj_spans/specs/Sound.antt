@@ -1,5 +1,5 @@
 -- When tokens show the tree of a line.
-use Rattle.std.specs.Prelude.{◌≡◌, ℕ, suc, ◌+◌, ◌%◌, ◌^◌, ◌<◌, ◌≤◌, List, [], ◌∷◌, length, drop, slice_range, Bool}
+use Rattle.std.specs.Prelude.{◌≡◌, ℕ, suc, ◌+◌, ◌-◌, ◌%◌, ◌^◌, ◌<◌, ◌≤◌, List, [], ◌∷◌, length, drop, slice_range, Bool}
 use Rattle.std.specs.Prelude.{true, false, ◌&&◌, cond, nat_lt, Some, slice_get}
 use Rattle.cj_spans.specs.declared.token.Kind.TheVariants.{Text, Null, Truth, Number, Array, Object}
 use Rattle.cj_spans.specs.declared.token.Kind.{Kind}
@@ -7,9 +7,10 @@ use Rattle.cj_spans.specs.declared.token.Token.{Token}
 use Rattle.cj_spans.specs.Tree.{Tree, scalar, array, object, size, total_size}
 use Rattle.cj_spans.specs.Json.{Json, byte}
 use Rattle.cj_spans.specs.Preorder.{spans_of}
-use Rattle.cj_spans.specs.Forest.{forest, held}
+use Rattle.cj_spans.specs.Forest.{forest, held, kind_by}
 use Rattle.cj_spans.specs.Kinds.{is_text}
-use Rattle.cj_spans.specs.Signs.{left_brace, quote}
+use Rattle.cj_spans.specs.Signs.{left_brace, left_bracket, quote, right_bracket}
+use Rattle.cj_spans.specs.Spelling.{IsNumber}
 
 -- how many tokens at the front start before the place
 abbrev pub before : ℕ → List Token → ℕ
@@ -71,6 +72,12 @@ are_members (n ∷ t ∷ ts) = is_name n && are_members ts
 abbrev pub AreNamed : List ℕ → List Token → Type 0
 AreNamed line tokens = (k : ℕ) (t : Token) → slice_get tokens k ≡ Some t → byte line t.start ≡ left_brace
     → are_members (held t.stop (forest line (drop (k + 1) (spans_of tokens)))) ≡ true
+
+-- a token that begins as a number spells one, and an array goes up to its bracket
+abbrev pub AreSpelled : List ℕ → List Token → Type 0
+AreSpelled line tokens = (k : ℕ) (t : Token) → slice_get tokens k ≡ Some t
+    → (kind_by (byte line t.start) ≡ Number → ∥ IsNumber (slice_range line t.start t.stop) ∥₁)
+    × (byte line t.start ≡ left_bracket → byte line (t.stop - 1) ≡ right_bracket)
 
 -- a string has no parts: its token links to the next one
 abbrev pub AreLone : List ℕ → List Token → Type 0

@@ -1,9 +1,10 @@
 //! Bytes of a line, 16 at a time.
-ghost use Rattle.std.specs.Prelude.{◌≡◌, ◌+◌, ◌≤◌, ◌<◌, length, ℕ, true, IfSome, IfNone};
+ghost use Rattle.std.specs.Prelude.{◌≡◌, ◌+◌, ◌^◌, ◌≤◌, ◌<◌, length, ℕ, true, IfSome, IfNone, IsTrue};
 ghost use Rattle.cj_spans.specs.Decoding.{AreAlike};
 ghost use Rattle.cj_spans.specs.Spelling.{is_plain as is_plain_of};
 ghost use Rattle.cj_spans.specs.Json.{byte as byte_of};
 ghost use Rattle.cj_spans.specs.Machine.{is_digit as is_digit_of};
+ghost use Rattle.cj_spans.specs.Wholes.{IsWholeSign};
 
 use std::simd::prelude::*;
 
@@ -29,6 +30,43 @@ pub fn find_other(line: &[u8], place: usize) -> Option<usize>
     } else {
         Some(place + others.trailing_zeros() as usize)
     }
+}
+
+/// How far the byte `9` is above a comma.
+const COMMA_TO_NINE: u8 = 13;
+
+/// Returns a number with bit `k` set if the byte at `place + k` cannot be in an array of whole
+/// numbers, for 16 bytes.
+#[inline(always)]
+fn mark_others(line: &[u8], place: usize) -> u64
+    requires { place + 16 ≤ length line.now }
+    ensures { (j k : ℕ) → result < 2 ^ j → j ≤ k → k < 16 → IsWholeSign (byte_of line.now (place + k)) }
+{
+    let bytes = u8x16::from_slice(&line[place..]);
+    let pointless = bytes
+        .simd_eq(u8x16::splat(b'.'))
+        .select(u8x16::splat(0), bytes);
+    let above = pointless - u8x16::splat(b',');
+    above.simd_gt(u8x16::splat(COMMA_TO_NINE)).to_bitmask()
+}
+
+/// Returns whether the bytes from `from` to `to` are those of whole numbers and of commas. False if
+/// there are more than 32, and near the start of the line.
+#[inline(always)]
+pub fn are_whole_signs(line: &[u8], from: usize, to: usize) -> bool
+    requires order { from ≤ to }
+    requires within { to ≤ length line.now }
+    ensures { IsTrue result → (k : ℕ) → from ≤ k → k < to → IsWholeSign (byte_of line.now k) }
+{
+    let count = to - from;
+    if count > 2 * LANES || to < LANES {
+        return false;
+    }
+    let marks = mark_others(line, to - LANES);
+    if count < LANES {
+        return marks < 1 << (LANES - count);
+    }
+    marks == 0 && mark_others(line, from) == 0
 }
 
 /// Returns the place of the first byte that is not plain in a string, among the 16 from `place` on.

@@ -12,7 +12,9 @@
 //! }
 //! ```
 ghost use Rattle.std.specs.Prelude.{◌≡◌, ◌<◌, ◌≤◌, ◌+◌, ◌^◌, ℕ, length, slice_get, Some, List, take, drop, slice_range};
-ghost use Rattle.cj_spans.specs.Sound.{AreOf, AreFull, AreWithin, AreRising, AreNested, AreNamed, AreLinked, AreLone};
+ghost use Rattle.std.specs.Prelude.{IsTrue};
+ghost use Rattle.cj_spans.specs.Sound.{AreOf, AreFull, AreWithin, AreRising, AreNested, AreNamed, AreSpelled};
+ghost use Rattle.cj_spans.specs.Sound.{AreLinked, AreLone};
 ghost use Rattle.cj_spans.specs.Sound.{AreWhole, ShowMembers, before};
 ghost use Rattle.cj_spans.specs.Tree.{Tree};
 ghost use Rattle.cj_spans.specs.declared.token.Token.{Token as TokenOf};
@@ -20,6 +22,7 @@ ghost use Rattle.cj_spans.specs.Json.{Json, byte};
 ghost use Rattle.cj_spans.specs.Forest.{kind_by};
 ghost use Rattle.cj_spans.specs.Sound.{items_end as items_end_of, members_end as members_end_of};
 
+use crate::lanes::are_whole_signs;
 use crate::mark::{LINKS, has_mark};
 use crate::text::{
     CodePoints, compare_spelling_with, compare_spellings, mix, spell_one_text, spells, tail, word,
@@ -36,6 +39,7 @@ struct Source<'a> {
     ghost rising: { AreRising tokens.now },
     ghost nested: { AreNested tokens.now },
     ghost named: { AreNamed line.now tokens.now },
+    ghost spelled: { AreSpelled line.now tokens.now },
     ghost linked: { AreLinked tokens.now },
     ghost lone: { AreLone line.now tokens.now },
     ghost full: { AreFull line.now tokens.now },
@@ -130,6 +134,17 @@ impl<'a> Source<'a> {
             → result ≡ index + 1 + before t.stop (drop (index + 1) self.entry.tokens.now) }
     {
         (token_at(self.tokens, index).link % LINKS) as usize
+    }
+
+    /// Returns whether the token at this index has at most 18 bytes.
+    #[inline(always)]
+    fn is_short(self, index: usize) -> bool
+        requires { index < length self.tokens.now }
+        ensures { IsTrue result → (t : TokenOf) → slice_get self.entry.tokens.now index ≡ Some t
+            → t.stop ≤ t.start + 18 }
+    {
+        let token = token_at(self.tokens, index);
+        token.stop - token.start <= 18
     }
 }
 
@@ -283,6 +298,48 @@ impl<'a> Node<'a> {
     }
 }
 
+/// The bytes of an array of three whole numbers with its brackets, if none of the numbers can have
+/// more than 18 bytes.
+const FEW_BYTES: usize = 21;
+
+impl<'a> Node<'a> {
+    ghost use Rattle.std.specs.Prelude.{All};
+    ghost use Rattle.cj_spans.specs.declared.token.Kind.TheVariants.{Array};
+    ghost use Rattle.cj_spans.specs.Parts.{kind_of, items_of};
+    ghost use Rattle.cj_spans.specs.View.{tree, line_of};
+    ghost use Rattle.cj_spans.specs.Wholes.{IsShortWhole};
+
+    /// Returns whether the three tokens after its own have at most 18 bytes each.
+    #[inline(always)]
+    fn has_short_items(self) -> bool
+        requires { self.index + 4 ≤ length self.source.tokens.now }
+        ensures { IsTrue result → (k : ℕ) (t : TokenOf) → self.entry.index < k → k < self.entry.index + 4
+            → slice_get self.entry.source.tokens.now k ≡ Some t → t.stop ≤ t.start + 18 }
+    {
+        self.source.is_short(self.index + 1)
+            && self.source.is_short(self.index + 2)
+            && self.source.is_short(self.index + 3)
+    }
+
+    /// Returns whether it is an array of three whole numbers, of at most 18 bytes each, without
+    /// white space. It looks at 16 bytes at a time, and not at each number. False for three such
+    /// numbers of more than 32 bytes, and near the start of the line.
+    #[inline(always)]
+    pub fn is_short_triple(self) -> bool
+        ensures array { IsTrue result → kind_of (tree self.entry) ≡ Array }
+        ensures three { IsTrue result → length (items_of (tree self.entry)) ≡ 3 }
+        ensures wholes { IsTrue result → All (IsShortWhole (line_of self.entry)) (items_of (tree self.entry)) }
+    {
+        let token = token_at(self.source.tokens, self.index);
+        let (start, stop) = (token.start as usize, token.stop as usize);
+        if self.source.line[start] != b'[' || self.source.after(self.index) != self.index + 4 {
+            return false;
+        }
+        are_whole_signs(self.source.line, start + 1, stop - 1)
+            && (stop - start <= FEW_BYTES || self.has_short_items())
+    }
+}
+
 impl<'a> Node<'a> {
     ghost use Rattle.std.specs.Prelude.{true, false};
     ghost use Rattle.cj_spans.specs.Marks.{IsMarked, is_marked_at};
@@ -325,7 +382,7 @@ impl<'a> Node<'a> {
 }
 
 impl<'a> Node<'a> {
-    ghost use Rattle.std.specs.Prelude.{option_map, IfSome, IsTrue, ◌↔◌};
+    ghost use Rattle.std.specs.Prelude.{option_map, IfSome, ◌↔◌};
     ghost use Rattle.std.specs.Str.{chars};
     ghost use Rattle.cj_spans.specs.Parts.{text_of, are_same_texts, has_text, first_code_of, member_of};
     ghost use Rattle.cj_spans.specs.Decoding.{code_points_left};

@@ -25,7 +25,9 @@ use crate::feature::search::reached::check_reached;
 use crate::header::Header;
 use crate::member::{check_name_member, check_there};
 use cj_geometry::Templates;
-use cj_geometry::rule::{add, check_array, check_names, check_object, check_whole, count_wholes};
+use cj_geometry::rule::{
+    add, check_array, check_names, check_object, check_whole, count_wholes, is_short_triple,
+};
 use cj_spans::{Doc, Finding, Least, Node, Reason};
 
 /// Checks that each item is a whole number. Returns how many there are, so that one walk is enough.
@@ -44,15 +46,25 @@ fn check_wholes(node: Node, found: &mut Least) -> u64
     count
 }
 
-/// Checks that the value is an array of three whole numbers.
-#[inline(always)]
-fn check_vertex(node: Node, found: &mut Least)
+/// Checks a vertex that [`is_short_triple`] does not accept, as [`check_vertex`] does.
+#[inline(never)]
+fn check_other_vertex(node: Node, found: &mut Least)
     ensures { found.new ≡ least found.old (of_length NotThree 3 whole_number (tree node.entry)) }
 {
     if check_array(node, found) {
         if check_wholes(node, found) != 3 {
             add(node, Reason::NotThree, found);
         }
+    }
+}
+
+/// Checks that the value is an array of three whole numbers.
+#[inline(always)]
+fn check_vertex(node: Node, found: &mut Least)
+    ensures { found.new ≡ least found.old (of_length NotThree 3 whole_number (tree node.entry)) }
+{
+    if !is_short_triple(node) {
+        check_other_vertex(node, found);
     }
 }
 

@@ -8,7 +8,7 @@ ghost use Rattle.cj_geometry.specs.Lone.{AreLone};
 ghost use Rattle.cj_spans.specs.Finding.{least};
 ghost use Rattle.cj_spans.specs.View.{tree};
 ghost use Rattle.cj_geometry.specs.Rule.{number, index, whole_number, is_outside as is_outside_of, whole_of};
-ghost use Rattle.cj_geometry.specs.Rule.{fault_reason};
+ghost use Rattle.cj_geometry.specs.Rule.{fault_reason, of_length};
 
 use crate::rule::{add, is_told_before};
 use cj_decimal::{Decimal, DecimalFault, digits_word};
@@ -311,4 +311,13 @@ pub fn count_wholes(node: Node) -> u32
         items = node.items_behind(front);
     }
     front
+}
+
+/// Returns whether the value is an array of three whole numbers, if a look at its bytes shows that
+/// ([`Node::is_short_triple`]), as for nearly all vertices. It has no finding then.
+#[inline(always)]
+pub fn is_short_triple(node: Node) -> bool
+    ensures { IsTrue result → (reason : ReasonOf) → of_length reason 3 whole_number (tree node.entry) ≡ [] }
+{
+    node.is_short_triple()
 }

@@ -3,7 +3,7 @@ use Rattle.cj_spans.specs.declared.reason.Reason.TheVariants.{NotThree}
 use Rattle.cj_spans.specs.View.{tree}
 use Rattle.cj_geometry.specs.Rule.{whole_number}
 use Rattle.cj_feature.proofs.Lengths.{of_length-late}
-use Rattle.cj_feature.proofs.feature.rules.check_vertex.Goals as goal
+use Rattle.cj_feature.proofs.feature.rules.check_other_vertex.Goals as goal
 
 pub returns-then-check_wholes-ne3 : goal.returns-then-check_wholes-ne3
 returns-then-check_wholes-ne3 c =

@@ -1,0 +1,45 @@
+-- Few digits, perhaps after a minus, are a whole number.
+use Rattle.std.proofs.Common.{◌≡◌, ℕ, suc, ◌+◌, ◌-◌, ◌*◌, ◌^◌, ◌<◌, ◌≤◌, List, [], ◌∷◌, length, ℤ, Some, Ok, refl, sym, ap, subst, arith, ◌∙◌}
+use Rattle.std.proofs.Math.Nat.{mul_assoc, mul_comm, mul-le-mul_right, pow-suc, pow-le-pow_right}
+use Rattle.cj_decimal.specs.Class.{Class, whole_answer}
+use Rattle.cj_decimal.specs.Number.{signed}
+use Rattle.cj_decimal.specs.Reading.{IsShort, digits_front, begins, begins_digit, body}
+use Rattle.cj_decimal.specs.Spelling.{AllDigits, IsInt, IsFewDigits, IsFewSigned, digits_value, value_after}
+use Rattle.cj_decimal.proofs.Grammar.{append_nil, front_append, int_digits}
+use Rattle.cj_decimal.proofs.Wholes.{int_alone_reads, signed_answer, body_of_signed}
+
+-- digits are worth less than one more of what they go on from
+value_below : (n : ℕ) (s : List ℕ) → AllDigits s → value_after n s < (n + 1) * 10 ^ length s
+value_below n [] h = omega arith
+value_below n (b ∷ s) h =
+    let rest = value_below (10 * n + (b - 48)) s h.1 in
+    let low = h.0.0 in
+    let high = h.0.1 in
+    let p = 10 ^ length s in
+    let room : 10 * n + (b - 48) + 1 ≤ 10 * (n + 1) = omega arith in
+    let more = mul-le-mul_right p room in
+    let power = pow-suc 10 (length s) in
+    subst (λ q. value_after (10 * n + (b - 48)) s < (n + 1) * q) (sym power)
+    (nearer (value_after (10 * n + (b - 48)) s) ((10 * n + (b - 48) + 1) * p) (10 * (n + 1) * p) ((n + 1) * (p * 10)) rest more (turned (n + 1) p))
+  where
+    nearer : (v d m q : ℕ) → v < d → d ≤ m → m ≡ q → v < q
+    nearer v d m q l o e = omega arith
+
+    turned : (x p : ℕ) → 10 * x * p ≡ x * (p * 10)
+    turned x p = ap (λ z. z * p) (mul_comm 10 x) ∙ mul_assoc x 10 p ∙ ap (λ z. x * z) (mul_comm 10 p)
+
+few_short : (s : List ℕ) → IsFewDigits s → IsShort s (digits_value s)
+unfolding begins_digit
+few_short s few =
+    let all = int_digits s few.0 in
+    let front : digits_front s ≡ s = ap digits_front (sym (append_nil s)) ∙ front_append s [] all refl in
+    let tests = int_alone_reads s few.0 in
+    let below = value_below 0 s all in
+    let power : 10 ^ length s ≤ 10 ^ 18 = pow-le-pow_right (omega arith) few.1 in
+    record { int = tests.0; rest = tests.1; value = ap digits_value (sym front); small = omega (arith, below, power) }
+
+-- whatever class such a spelling has, it has a whole number
+pub few_whole : (s : List ℕ) → IsFewSigned s → (w : ℤ) × ((c : Class s) → whole_answer c ≡ Ok (Some w))
+few_whole s few =
+    let n = digits_value (body s) in
+    (signed (begins 45 s) n, λ c. signed_answer s (begins 45 s) n c refl (few_short (body s) (body_of_signed s few)))

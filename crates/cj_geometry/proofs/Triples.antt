@@ -1,0 +1,43 @@
+-- Arrays of three whole numbers have no finding.
+use Rattle.std.proofs.Common.{◌≡◌, ℕ, suc, ◌+◌, ◌<◌, ◌≤◌, List, [], ◌∷◌, ◌++◌, length, ◌⊎◌, inl, inr, refl, sym, ap, subst, arith, ◌∙◌}
+use Rattle.std.specs.Prelude.{All}
+use Rattle.std.specs.List.{flat_map}
+use Rattle.cj_spans.specs.declared.token.Kind.TheVariants.{Array}
+use Rattle.cj_spans.specs.declared.reason.Reason.{Reason}
+use Rattle.cj_spans.specs.Tree.{Tree}
+use Rattle.cj_spans.specs.Parts.{kind_of, items_of, spelling_of}
+use Rattle.cj_spans.specs.Wholes.{IsWholeNumber, IsShortWhole}
+use Rattle.cj_decimal.specs.Spelling.{IsInt, IsFewDigits, IsFewSigned}
+use Rattle.cj_decimal.proofs.Few.{few_whole}
+use Rattle.cj_geometry.specs.Rule.{of_length, whole_number}
+use Rattle.cj_geometry.proofs.Lone.{whole-none}
+use Rattle.cj_geometry.proofs.Numbers.{whole-there}
+
+few-signed : (s : List ℕ) → IsWholeNumber s → length s ≤ 18 → IsFewSigned s
+few-signed s w short = go w.minus_is
+  where
+    int-few : length w.int ≤ 18 → IsFewDigits w.int
+    int-few l = (w.int_is, l)
+
+    go : (w.minus ≡ []) ⊎ (w.minus ≡ 45 ∷ []) → IsFewSigned s
+    go (inl e) =
+        let same : s ≡ w.int = w.joined ∙ ap (λ m. m ++ w.int) e in
+        let P : List ℕ → Type 0 = IsFewDigits in
+        inl (subst P (sym same) (int-few (omega (arith, short, ap length same))))
+    go (inr e) =
+        let same : s ≡ 45 ∷ w.int = w.joined ∙ ap (λ m. m ++ w.int) e in
+        inr (w.int, same, int-few (omega (arith, short, ap length same)))
+
+short-none : (line : List ℕ) (t : Tree) → IsShortWhole line t → whole_number t ≡ []
+short-none line t w =
+    let r = few_whole (spelling_of line t) (few-signed (spelling_of line t) w.whole w.short) in
+    whole-none t r.0 (whole-there line t w.kind (spelling_of line t) refl r.0 r.1)
+
+each-none : (line : List ℕ) (ts : List Tree) → All (IsShortWhole line) ts → flat_map whole_number ts ≡ []
+each-none line [] all = refl
+each-none line (t ∷ ts) all =
+    ap (λ xs. xs ++ flat_map whole_number ts) (short-none line t (all 0 t (omega arith)))
+    ∙ each-none line ts (λ k d l. all (suc k) d (omega arith))
+
+pub triple-none : (line : List ℕ) (t : Tree) (reason : Reason) → kind_of t ≡ Array → length (items_of t) ≡ 3 → All (IsShortWhole line) (items_of t) → of_length reason 3 whole_number t ≡ []
+triple-none line t reason array three all = rw (array, three) (each-none line (items_of t) all)

@@ -1,0 +1,70 @@
+use Rattle.std.proofs.Common.{arith, sym, ap, ◌∙◌}
+use Rattle.cj_spans.specs.declared.token.Kind.TheVariants.{Array}
+use Rattle.cj_spans.specs.Forest.{kind_by}
+use Rattle.cj_spans.specs.View.{tree, line_of}
+use Rattle.cj_spans.proofs.Sizes.{full_sized}
+use Rattle.cj_spans.proofs.Triples.{room_within, three_long, wholes, few_wholes}
+use Rattle.cj_spans.proofs.Views.{kind_shown}
+use Rattle.cj_spans.proofs.node.Node.is_short_triple.Goals as goal
+
+pub are_whole_signs-requires-clause-order : goal.are_whole_signs-requires-clause-order
+are_whole_signs-requires-clause-order c =
+    let n = c.args.self in
+    let s = n.source in
+    let t = c.token_at-token.result in
+    let here = c.token_at-token.ensures in
+    room_within s.line.now t.start t.stop (s.within n.index t here).0 c.if-self-start-ne91.false ((s.spelled n.index t here).1 c.if-self-start-ne91.false)
+
+pub returns-then-stop-start-le-FEW_BYTES-clause-array : goal.returns-then-stop-start-le-FEW_BYTES-clause-array
+unfolding tree
+returns-then-stop-start-le-FEW_BYTES-clause-array c so =
+    let n = c.args.self in
+    let s = n.source in
+    let t = c.token_at-token.result in
+    let here = c.token_at-token.ensures in
+    sym (kind_shown s.line.now s.tokens.now n.index t Array here (sym (ap kind_by c.if-self-start-ne91.false)))
+
+pub returns-then-stop-start-le-FEW_BYTES-clause-three : goal.returns-then-stop-start-le-FEW_BYTES-clause-three
+unfolding tree
+returns-then-stop-start-le-FEW_BYTES-clause-three c so =
+    let n = c.args.self in
+    let s = n.source in
+    let t = c.token_at-token.result in
+    let here = c.token_at-token.ensures in
+    three_long s.line.now s.tokens.now s.within s.rising s.nested s.linked s.spelled (full_sized s.line.now s.tokens.now s.nested s.linked s.full) n.index t here c.if-self-start-ne91.false (sym (c.after.ensures.link t here) ∙ c.if-after-self.false) (c.are_whole_signs.ensures c.if-are_whole_signs.true)
+
+pub returns-then-stop-start-le-FEW_BYTES-clause-wholes : goal.returns-then-stop-start-le-FEW_BYTES-clause-wholes
+unfolding tree line_of
+returns-then-stop-start-le-FEW_BYTES-clause-wholes c so =
+    let n = c.args.self in
+    let s = n.source in
+    let t = c.token_at-token.result in
+    let here = c.token_at-token.ensures in
+    few_wholes s.line.now s.tokens.now s.within s.rising s.nested s.linked s.spelled (full_sized s.line.now s.tokens.now s.nested s.linked s.full) n.index t here c.if-self-start-ne91.false (sym (c.after.ensures.link t here) ∙ c.if-after-self.false) (c.are_whole_signs.ensures c.if-are_whole_signs.true) (omega arith)
+
+pub returns-else-stop-start-le-FEW_BYTES-clause-array : goal.returns-else-stop-start-le-FEW_BYTES-clause-array
+unfolding tree
+returns-else-stop-start-le-FEW_BYTES-clause-array c so =
+    let n = c.args.self in
+    let s = n.source in
+    let t = c.token_at-token.result in
+    let here = c.token_at-token.ensures in
+    sym (kind_shown s.line.now s.tokens.now n.index t Array here (sym (ap kind_by c.if-self-start-ne91.false)))
+
+pub returns-else-stop-start-le-FEW_BYTES-clause-three : goal.returns-else-stop-start-le-FEW_BYTES-clause-three
+unfolding tree
+returns-else-stop-start-le-FEW_BYTES-clause-three c so =
+    let n = c.args.self in
+    let s = n.source in
+    let t = c.token_at-token.result in
+    let here = c.token_at-token.ensures in
+    three_long s.line.now s.tokens.now s.within s.rising s.nested s.linked s.spelled (full_sized s.line.now s.tokens.now s.nested s.linked s.full) n.index t here c.if-self-start-ne91.false (sym (c.after.ensures.link t here) ∙ c.if-after-self.false) (c.are_whole_signs.ensures c.if-are_whole_signs.true)
+
+pub returns-else-stop-start-le-FEW_BYTES-clause-wholes : goal.returns-else-stop-start-le-FEW_BYTES-clause-wholes
+unfolding tree line_of
+returns-else-stop-start-le-FEW_BYTES-clause-wholes c so =
+    let n = c.args.self in
+    let s = n.source in
+    let t = c.token_at-token.result in
+    let here = c.token_at-token.ensures in
+    wholes s.line.now s.tokens.now s.within s.rising s.nested s.linked s.spelled (full_sized s.line.now s.tokens.now s.nested s.linked s.full) n.index t here c.if-self-start-ne91.false (sym (c.after.ensures.link t here) ∙ c.if-after-self.false) (c.are_whole_signs.ensures c.if-are_whole_signs.true) (λ m u l h g. c.has_short_items.ensures so m u l h g)
