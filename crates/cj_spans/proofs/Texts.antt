@@ -1,14 +1,12 @@
 -- Characters and code points, read one at a time.
-use Rattle.std.proofs.Common.{◌≡◌, ℕ, zero, suc, ◌+◌, ◌-◌, ◌*◌, ◌<◌, ◌≤◌, List, [], ◌∷◌, ◌++◌, length, take, drop, get_or, Bool, true, false, cond, not, ◌&&◌, nat_eq, nat_lt, Option, Some, None, inl, inr, refl, sym, ap, subst, arith, ◌∙◌, add-one, drop-cons, length-append}
+use Rattle.std.proofs.Common.{◌≡◌, ℕ, zero, suc, ◌+◌, ◌-◌, ◌*◌, ◌<◌, ◌≤◌, List, [], ◌∷◌, ◌++◌, length, take, drop, get_or, Bool, true, false, cond, ◌&&◌, nat_eq, nat_lt, Option, Some, inl, inr, refl, sym, ap, subst, arith, ◌∙◌, add-one, drop-cons, length-append}
 use Rattle.std.specs.Cmp.Derive.{both_true}
 use Rattle.std.proofs.lemmas.Bool.{cases_lt}
 use Rattle.std.proofs.lemmas.List.{drop-drop, drop-take, length-take}
 use Rattle.std.proofs.lemmas.Bool.Decides.{nat_tests}
 use Rattle.std.proofs.lemmas.Grind.{common_steps}
-use Rattle.cj_spans.specs.declared.text.CodePoint.{CodePoint}
-use Rattle.cj_spans.specs.Decoding.{left, after_read, ReadsCodePoint, plain_front, code_points_from, AreAlike, StartAlike}
-use Rattle.cj_spans.specs.Tail.{tail_on}
-use Rattle.cj_spans.specs.Mix.{mix_on}
+use Rattle.cj_spans.specs.declared.text.decode.CodePoint.{CodePoint}
+use Rattle.cj_spans.specs.Decoding.{left, after_read, ReadsCodePoint, code_points_from, AreAlike, StartAlike}
 use Rattle.cj_spans.specs.Order.{compare}
 use Rattle.std.specs.Ordering.{nat_cmp, ordering_then}
 use Rattle.std.specs.declared.cmp.Ordering.TheVariants.{Less, Equal, Greater}
@@ -82,9 +80,6 @@ at_fourth cs = ap (λ xs. char_of xs 0) (sym (drop-drop 1 2 cs)) ∙ at_next (dr
 -- what comes after two steps
 pub takes_on : (bs cs : List ℕ) (x n m : ℕ) (p : CodePoint) → ReadsCodePoint bs cs x n p → (y : ℕ) (q : CodePoint) → ReadsCodePoint bs (drop n cs) y m q → ReadsCodePoint bs cs y (n + m) q
 takes_on bs cs x n m p t y q u = record { code = u.code; rest = u.rest ∙ drop-drop m n cs }
-
-pub takes_as : (bs cs : List ℕ) (x y n : ℕ) (p : CodePoint) → ReadsCodePoint bs cs x n p → x ≡ y → ReadsCodePoint bs cs y n p
-takes_as bs cs x y n p t e = record { code = t.code ∙ e; rest = t.rest }
 
 digits_same : (a b c d : ℕ) → (a * 16 + b) * 256 + (c * 16 + d) ≡ ((a * 16 + b) * 16 + c) * 16 + d
 digits_same a b c d = omega arith
@@ -274,29 +269,25 @@ plain_cons c cs n = points_go_on c cs cs (code_points_after 0 cs) c 1 (first_pla
 pub plain_code : (bs : List ℕ) (i : ℕ) → i < length bs → get_or bs i 0 < 128 → nat_eq (get_or bs i 0) 92 ≡ false → code_points_from bs i ≡ get_or bs i 0 ∷ code_points_from bs (i + 1)
 plain_code bs i h l n = ap (code_points_after 0) (plain_character bs i h l) ∙ plain_cons (get_or bs i 0) (left bs (i + 1)) n
 
-pub front_end : (bs : List ℕ) (i : ℕ) → length bs ≤ i → plain_front (drop i bs) ≡ None
-front_end bs i h = let e : drop i bs ≡ [] = grind (arith, common_steps) in ap plain_front e
-
-pub front_cons : (bs : List ℕ) (i : ℕ) → i < length bs → plain_front (drop i bs) ≡ cond (nat_lt (get_or bs i 0) 128 && not (nat_eq (get_or bs i 0) 92)) (Some (get_or bs i 0)) None
-front_cons bs i h = ap plain_front (at_drop bs i h)
-
 pub text_ends : (bs ws : List ℕ) (i j : ℕ) → length bs ≤ i → length ws ≤ j → are_same (code_points_from bs i) (left ws j) ≡ true
 text_ends bs ws i j h k = ap (λ cs. are_same (code_points_after 0 cs) (left ws j)) (chars_past bs i h) ∙ ap (λ ps. are_same ps (left ws j)) points_nil ∙ ap (are_same []) (chars_past ws j k)
-
-pub texts_end : (bs ds : List ℕ) (i j : ℕ) → length bs ≤ i → length ds ≤ j → are_same (code_points_from bs i) (code_points_from ds j) ≡ true
-texts_end bs ds i j h k = ap (λ cs. are_same (code_points_after 0 cs) (code_points_from ds j)) (chars_past bs i h) ∙ ap (λ ps. are_same ps (code_points_from ds j)) points_nil ∙ ap (are_same []) (points_done ds j (chars_past ds j k))
 
 pub order_ends : (bs ds : List ℕ) (i j : ℕ) → length bs ≤ i → length ds ≤ j → compare (code_points_from bs i) (code_points_from ds j) ≡ Equal
 order_ends bs ds i j h k = ap (λ ps. compare ps (code_points_from ds j)) (points_done bs i (chars_past bs i h)) ∙ ap (compare []) (points_done ds j (chars_past ds j k))
 
-pub order_ends_with : (bs ws : List ℕ) (i j : ℕ) → length bs ≤ i → length ws ≤ j → compare (code_points_from bs i) (left ws j) ≡ Equal
-order_ends_with bs ws i j h k = ap (λ ps. compare ps (left ws j)) (points_done bs i (chars_past bs i h)) ∙ ap (compare []) (chars_past ws j k)
+-- the first code points decide, where they differ
+order_differs : (x y : ℕ) (xs ys : List ℕ) → nat_eq x y ≡ false → compare (x ∷ xs) (y ∷ ys) ≡ nat_cmp x y
+order_differs x y xs ys n =
+    elim (cases_lt x y) [
+      | inl h ↦ let e : nat_lt x y ≡ true = grind (arith, nat_tests) in ap (λ b. ordering_then (cond b Less (cond (nat_eq x y) Equal Greater)) (compare xs ys)) e ∙ sym (ap (λ b. cond b Less (cond (nat_eq x y) Equal Greater)) e)
+      | inr h ↦ let e : nat_lt x y ≡ false = grind (arith, nat_tests) in (λ k. ordering_then (cond (e k) Less (cond (n k) Equal Greater)) (compare xs ys)) ∙ sym (λ k. cond (e k) Less (cond (n k) Equal Greater))
+    ]
 
-pub tail_ends : (bs : List ℕ) (i h : ℕ) → length bs ≤ i → tail_on h (code_points_from bs i) ≡ h
-tail_ends bs i h e = ap (tail_on h) (points_done bs i (chars_past bs i e))
-
-pub mix_ends : (bs : List ℕ) (i h : ℕ) → length bs ≤ i → mix_on h (code_points_from bs i) ≡ h
-mix_ends bs i h e = ap (mix_on h) (points_done bs i (chars_past bs i e))
+pub order_apart : (bs ds : List ℕ) (i j b c : ℕ) → (i < length bs) × (b ≡ get_or bs i 0) → (j < length ds) × (c ≡ get_or ds j 0) → nat_eq b c ≡ false → (b < 128) × (c < 128) → (nat_eq b 92 ≡ false) × (nat_eq c 92 ≡ false) → compare (code_points_from bs i) (code_points_from ds j) ≡ nat_cmp b c
+order_apart bs ds i j b c f g n a p =
+    let x = plain_code bs i f.0 (omega (arith, f.1)) (ap (λ v. nat_eq v 92) (sym f.1) ∙ p.0) ∙ ap (λ v. v ∷ code_points_from bs (i + 1)) (sym f.1) in
+    let y = plain_code ds j g.0 (omega (arith, g.1)) (ap (λ v. nat_eq v 92) (sym g.1) ∙ p.1) ∙ ap (λ v. v ∷ code_points_from ds (j + 1)) (sym g.1) in
+    (λ k. compare (x k) (y k)) ∙ order_differs b c (code_points_from bs (i + 1)) (code_points_from ds (j + 1)) n
 
 -- ---- between the quotes
 
@@ -414,24 +405,12 @@ shared_front (suc n) bs i ds j h k a =
         (ap (λ v. get_or bs v 0) (sym e) ∙ s.0 ∙ ap (λ v. get_or ds v 0) f, subst (λ v. get_or bs v 0 < 128) e s.1, ap (λ v. nat_eq (get_or bs v 0) 92) (sym e) ∙ s.2)
 
 -- tell nothing
-number_same : (x : ℕ) → nat_eq x x ≡ true
-number_same x = grind (arith, nat_tests)
-
 number_equal : (x : ℕ) → nat_cmp x x ≡ Equal
-number_equal x = let l : nat_lt x x ≡ false = grind (arith, nat_tests) in ap (λ b. cond b Less (cond (nat_eq x x) Equal Greater)) l ∙ ap (λ b. cond b Equal Greater) (number_same x)
-
-same_behind : (fs cs ds : List ℕ) → are_same cs ds ≡ are_same (fs ++ cs) (fs ++ ds)
-same_behind [] cs ds = refl
-same_behind (x ∷ fs) cs ds = same_behind fs cs ds ∙ sym (ap (λ v. v && are_same (fs ++ cs) (fs ++ ds)) (number_same x))
+number_equal x = let l : nat_lt x x ≡ false = grind (arith, nat_tests) in ap (λ b. cond b Less (cond (nat_eq x x) Equal Greater)) l ∙ (let e : nat_eq x x ≡ true = grind (arith, nat_tests) in ap (λ b. cond b Equal Greater) e)
 
 order_behind : (fs cs ds : List ℕ) → compare cs ds ≡ compare (fs ++ cs) (fs ++ ds)
 order_behind [] cs ds = refl
 order_behind (x ∷ fs) cs ds = order_behind fs cs ds ∙ sym (ap (λ o. ordering_then o (compare (fs ++ cs) (fs ++ ds))) (number_equal x))
-
-pub same_passed : (bs : List ℕ) (i : ℕ) (ds : List ℕ) (j n : ℕ) → StartAlike bs i ds j n → are_same (code_points_from bs (i + n)) (code_points_from ds (j + n)) ≡ are_same (code_points_from bs i) (code_points_from ds j)
-same_passed bs i ds j n s =
-    let f = shared_front n bs i ds j s.within s.within_other s.alike in
-    same_behind f.0 (code_points_from bs (i + n)) (code_points_from ds (j + n)) ∙ (λ k. are_same (sym f.1 k) (sym f.2 k))
 
 pub order_passed : (bs : List ℕ) (i : ℕ) (ds : List ℕ) (j n : ℕ) → StartAlike bs i ds j n → compare (code_points_from bs (i + n)) (code_points_from ds (j + n)) ≡ compare (code_points_from bs i) (code_points_from ds j)
 order_passed bs i ds j n s =

@@ -1,13 +1,11 @@
 -- The first code points of a text as one number.
-use Rattle.std.proofs.Common.{◌≡◌, ℕ, suc, ◌+◌, ◌*◌, ◌/◌, ◌<◌, ◌≤◌, ◌^◌, List, [], ◌∷◌, length, true, false, cond, nat_lt, nat_eq, Option, Some, None, inl, inr, refl, sym, ap, subst, arith, ◌∙◌}
+use Rattle.std.proofs.Common.{◌≡◌, ℕ, suc, ◌+◌, ◌*◌, ◌/◌, ◌<◌, ◌≤◌, ◌^◌, List, [], ◌∷◌, true, false, cond, nat_lt, nat_eq, Option, Some, None, inl, inr, refl, sym, ap, subst, arith, ◌∙◌}
 use Rattle.std.proofs.Math.Nat.{mul-le-mul_right}
 use Rattle.std.specs.Ordering.{ordering_then}
 use Rattle.std.specs.declared.cmp.Ordering.TheVariants.{Less, Equal, Greater}
 use Rattle.std.proofs.lemmas.Bool.{cases_order, cases_lt}
 use Rattle.std.proofs.lemmas.Bool.Decides.{nat_tests}
-use Rattle.cj_spans.specs.Decoding.{code_points_from}
 use Rattle.cj_spans.specs.Order.{compare, compare_texts, digits, word_of}
-use Rattle.cj_spans.proofs.Texts.{points_done, chars_past}
 
 -- ---- the digits by cases
 
@@ -16,10 +14,6 @@ digits_few w c cs h = let e : nat_lt c 255 ≡ true = grind (arith, nat_tests) i
 
 pub digits_cut : (w c : ℕ) (cs : List ℕ) → 255 ≤ c → digits w (c ∷ cs) ≡ 255 * w
 digits_cut w c cs h = let e : nat_lt c 255 ≡ false = grind (arith, nat_tests) in ap (λ b. cond b (c * w + digits (w / 256) cs) (255 * w)) e
-
--- a byte that stands for itself is a digit
-pub digits_plain : (w c : ℕ) (cs ds : List ℕ) → c < 128 → cs ≡ c ∷ ds → digits w cs ≡ c * w + digits (w / 256) ds
-digits_plain w c cs ds h e = ap (digits w) e ∙ digits_few w c ds (omega arith)
 
 -- ---- no number is as much as the next digit's weight more
 
@@ -39,8 +33,8 @@ digits_below w (c ∷ cs) =
 pub digits_none : (cs : List ℕ) → digits 0 cs ≡ 0
 digits_none cs = let h = digits_below 0 cs in omega arith
 
-pub digits_end : (w : ℕ) (bs : List ℕ) (i : ℕ) → length bs ≤ i → digits w (code_points_from bs i) ≡ 0
-digits_end w bs i h = ap (digits w) (points_done bs i (chars_past bs i h))
+pub word_fits : (cs : List ℕ) → digits (256 ^ 7) cs < 2 ^ 64
+word_fits cs = let h = digits_below (256 ^ 7) cs in omega arith
 
 -- ---- a lesser word is of a lesser text
 

@@ -1,10 +1,10 @@
 -- What is read of a text, and what is left. Only private clauses cite it.
-use Rattle.std.specs.Prelude.{◌≡◌, ◌+◌, ◌-◌, ◌<◌, ◌≤◌, ℕ, List, [], ◌∷◌, length, drop, get_or, false, cond, not, ◌&&◌}
-use Rattle.std.specs.Prelude.{nat_eq, nat_lt, Option, Some, None}
+use Rattle.std.specs.Prelude.{◌≡◌, ◌+◌, ◌-◌, ◌<◌, ◌≤◌, ℕ, List, [], length, drop, get_or, false}
+use Rattle.std.specs.Prelude.{nat_eq, Option, Some, None}
 use Rattle.std.specs.Str.{chars, chars_after}
-use Rattle.cj_spans.specs.declared.text.CodePoint.{CodePoint}
-use Rattle.cj_spans.specs.declared.text.CodePoints.{CodePoints}
-use Rattle.cj_spans.specs.declared.text.Characters.{Characters}
+use Rattle.cj_spans.specs.declared.text.decode.CodePoint.{CodePoint}
+use Rattle.cj_spans.specs.declared.text.decode.CodePoints.{CodePoints}
+use Rattle.cj_spans.specs.declared.text.decode.Characters.{Characters}
 use Rattle.cj_spans.specs.Text.{code_points_after}
 use Rattle.cj_spans.specs.Signs.{backslash}
 
@@ -21,11 +21,6 @@ after_read bytes n (Some p) = chars_after n p.code (drop p.stop bytes)
 pub record ReadsCodePoint (bytes cs : List ℕ) (x n : ℕ) (p : CodePoint) : Type 0 where
   pub code : p.code ≡ x
   pub rest : left bytes p.stop ≡ drop n cs
-
--- the first byte, where it alone is a character that stands for itself: ASCII, and no backslash
-abbrev pub plain_front : List ℕ → Option ℕ
-plain_front [] = None
-plain_front (b ∷ bs) = cond (nat_lt b 128 && not (nat_eq b backslash)) (Some b) None
 
 -- the code points from a place on
 abbrev pub code_points_from : List ℕ → ℕ → List ℕ

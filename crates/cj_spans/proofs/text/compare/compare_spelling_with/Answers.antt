@@ -1,0 +1,9 @@
+use Rattle.std.proofs.Common.{◌≡◌, refl, ◌∙◌, ap}
+use Rattle.std.specs.Ordering.{nat_cmp}
+use Rattle.std.proofs.lemmas.Iterator.Consumers.{YieldsList-from_first}
+use Rattle.std.proofs.lemmas.Iterator.Search.{cmp_from_yields_List}
+use Rattle.cj_spans.specs.Decoding.{code_points_left, characters_left}
+use Rattle.cj_spans.proofs.text.compare.compare_spelling_with.Goals as goal
+
+pub returns : goal.returns
+returns c = cmp_from_yields_List {v = λ x. x} (λ s t. t ≡ s) c.of-2.result nat_cmp _ c.cmp.ensures.ran (YieldsList-from_first (λ x. x) code_points_left _ c.of.ensures) (λ it e. YieldsList-from_first (λ x. x) characters_left _ (ap characters_left {x = it} {y = c.of-2.result} e ∙ c.of-2.ensures)) (λ x y. refl)

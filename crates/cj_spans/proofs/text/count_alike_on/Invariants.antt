@@ -1,9 +1,0 @@
-use Rattle.std.proofs.Common.{◌-◌}
-use Rattle.cj_spans.specs.Decoding.{StartAlike}
-use Rattle.cj_spans.proofs.text.count_alike_on.Given as goal
-
-abbrev pub invariant-loop-count : goal.invariant-loop-count
-invariant-loop-count l = StartAlike l.bytes l.place l.others l.other_place l.count
-
-abbrev pub decreases-loop-count : goal.decreases-loop-count
-decreases-loop-count l = l.room - l.count

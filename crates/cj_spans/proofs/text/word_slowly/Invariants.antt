@@ -1,7 +1,0 @@
-use Rattle.std.proofs.Common.{◌≡◌, ◌+◌}
-use Rattle.cj_spans.specs.Decoding.{code_points_left}
-use Rattle.cj_spans.specs.Order.{digits}
-use Rattle.cj_spans.proofs.text.word_slowly.Given as goal
-
-abbrev pub invariant-loop-point : goal.invariant-loop-point
-invariant-loop-point l = l.word + digits l.weight (code_points_left l.point-iterator) ≡ l.fn.front + digits l.fn.first_weight (code_points_left l.fn.points)

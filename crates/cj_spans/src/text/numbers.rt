@@ -1,0 +1,95 @@
+//! Numbers of texts: equal texts have equal numbers in any spelling.
+ghost use Rattle.std.specs.Prelude.{◌≡◌, ◌^◌, Some};
+ghost use Rattle.std.specs.Str.{chars};
+ghost use Rattle.cj_spans.specs.Decoding.{code_points_left};
+ghost use Rattle.cj_spans.specs.Tail.{tail_step, tail_on, tail_of};
+ghost use Rattle.cj_spans.specs.Mix.{mix_step, mix_on};
+ghost use Rattle.cj_spans.specs.Order.{digits};
+
+use crate::text::decode::{Characters, CodePoints};
+
+/// The weight of the first code point of a text in its word: the top eight of 64 bits.
+const FIRST_WEIGHT: u64 = 1 << 56;
+
+/// The weight of a code point in units of the next one.
+const BASE: u64 = 256;
+
+/// The least code point that ends a word.
+const PAST_DIGITS: u32 = 255;
+
+/// Returns the first eight code points of a string's text as one number. The order of such numbers
+/// is the order of the texts, as far as they differ.
+#[tactic(auto, using(crate::proofs::Words::digits_none, crate::proofs::Words::digits_few, crate::proofs::Words::digits_cut, crate::proofs::Words::word_fits))]
+pub(crate) fn word(points: CodePoints) -> u64
+    ensures { result ≡ digits (256 ^ 7) (code_points_left points.entry) }
+{
+    let mut word = 0;
+    let mut weight = FIRST_WEIGHT;
+    for point in points {
+        if weight == 0 {
+            return word;
+        }
+        if point >= PAST_DIGITS {
+            return word + PAST_DIGITS as u64 * weight;
+        }
+        word += point as u64 * weight;
+        weight /= BASE;
+    }
+    word
+}
+
+/// Seven code points of a tail are below this. The next code point displaces the first of eight.
+const SEVEN_DIGITS: u64 = 1 << 56;
+
+/// Returns the tail after one more code point.
+#[inline(always)]
+fn tail_with(tail: u64, point: u32) -> u64
+    ensures { result ≡ tail_step tail point }
+{
+    tail % SEVEN_DIGITS * BASE + point.min(PAST_DIGITS) as u64
+}
+
+/// Returns the last eight code points of a string's text as one number.
+pub(crate) fn tail(points: CodePoints) -> u64
+    ensures { result ≡ tail_on 0 (code_points_left points.entry) }
+{
+    let mut tail = 0;
+    for point in points {
+        tail = tail_with(tail, point);
+    }
+    tail
+}
+
+/// Returns the last eight code points of a text that is in no line, like one of a query, as one
+/// number: [`crate::Node::text_tail`] of a node with this text.
+pub fn tail_of_string(text: &str) -> u64
+    ensures { result ≡ tail_of (Some (chars text.now)) }
+{
+    let mut tail = 0;
+    for character in Characters::of(text) {
+        tail = tail_with(tail, character);
+    }
+    tail
+}
+
+/// The factor of a number before each code point is added. It is odd, so no code point is lost.
+const MULTIPLIER: u64 = 0x9E37_79B9_7F4A_7C15;
+
+/// Returns the number of a text after one more code point.
+#[inline(always)]
+fn mix_with(mix: u64, point: u32) -> u64
+    ensures { result ≡ mix_step mix point }
+{
+    mix.wrapping_mul(MULTIPLIER).wrapping_add(point as u64)
+}
+
+/// Returns all code points of a string's text, mixed to one number.
+pub(crate) fn mix(points: CodePoints) -> u64
+    ensures { result ≡ mix_on 0 (code_points_left points.entry) }
+{
+    let mut mix = 0;
+    for point in points {
+        mix = mix_with(mix, point);
+    }
+    mix
+}
