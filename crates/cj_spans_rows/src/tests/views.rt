@@ -174,6 +174,8 @@ enum Shown<'a> {
     Numbers(&'a [(u32, u32)]),
     /// Its size, and the first item after each number of values and names.
     Behind(u32, &'a [(u32, Option<&'a [u8]>)]),
+    /// Which of its items are short triples of whole numbers.
+    Triples(&'a [bool]),
 }
 
 fn is_shown(rt: &impl Abort, root: Node, shown: Shown) {
@@ -190,6 +192,7 @@ fn is_shown(rt: &impl Abort, root: Node, shown: Shown) {
         Shown::Mixes(want) => mixes_are(rt, root.items(), want),
         Shown::Numbers(want) => numbers_are(rt, root, want),
         Shown::Behind(size, want) => are_behind(rt, root, size, want),
+        Shown::Triples(want) => triples_are(rt, root.items(), want),
     }
 }
 
@@ -568,4 +571,34 @@ const BEHIND: [(u32, Option<&[u8]>); 6] = [
 fn items_are_found_behind_others(rt: HostRuntime) {
     let line = b"[10,[20,{\"a\":30}],\"b\",[]]";
     shows(&rt, rt.alloc(), line, Shown::Behind(9, &BEHIND));
+}
+
+fn triples_are(rt: &impl Abort, items: Items, want: &[bool]) {
+    let mut left = items;
+    for is_triple in want {
+        match left.next() {
+            Some(item) => holds_at(rt, item.is_short_triple() == *is_triple, item.start()),
+            None => holds_at(rt, false, 0),
+        }
+    }
+}
+
+/// Six triples of up to 25 bytes between the brackets, a number of 19 digits, a triple of 32 bytes,
+/// one of 33, and nine other values.
+const TRIPLES: [bool; 19] = [
+    false, true, true, true, true, true, true, false, true, false, false, false, false, false,
+    false, false, false, false, false,
+];
+
+#[test]
+fn short_triples_are_told_by_their_bytes(rt: HostRuntime) {
+    let line =
+        b"[\"at the start of a line\",[1,2,3],[-1,0,-2],[1234567,1234567,12345],[-1234567,-1234567,-123456],[12345,123456,123456],[1,2,123456789012345678],[1234567890123456789,1,2],[12345678901,12345678901,12345678],[12345678901,12345678901,123456789],[1,2],[1,2,3,4],[1,2,3.0],[1,2,3e0],[1, 2,3],[1,2,[3]],[[1,2]],[1,2,\"3\"],{\"1\":2}]";
+    shows(&rt, rt.alloc(), line, Shown::Triples(&TRIPLES));
+}
+
+/// Nothing is told of an array near the start of the line.
+#[test]
+fn a_triple_at_the_start_is_not_told(rt: HostRuntime) {
+    shows(&rt, rt.alloc(), b"[[1,2,3]]", Shown::Triples(&[false]));
 }
