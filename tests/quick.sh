@@ -63,6 +63,6 @@ for crate in $tested; do
 done
 wait
 for crate in $tested; do row "tests of $crate" have_passed "$crate"; done
-echo 'left out: the tests of cj_stream_rows and cj_stream_verdicts, which take longer; the gate has them'
+echo 'left out: the tests of cj_stream_rows, cj_stream_devices and cj_stream_verdicts, which take longer; the gate has them'
 echo "$passed passed, $failed failed"
 [ "$failed" = 0 ]

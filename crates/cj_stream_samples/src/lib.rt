@@ -19,6 +19,8 @@ pub use calls::{
     ran_to, refused, written_by,
 };
 pub use devices::{CutReader, EndlessReader, SlowReader, SlowWriter};
-pub use lines::{BEYOND, FEATURE, FIRST, HEADER, SEVERAL, SMALL, STREAM, THIRD_REFUSED};
+pub use lines::{
+    BEYOND, FEATURE, FIRST, HEADER, SEVERAL, SMALL, STREAM, THIRD_REFUSED, attributed,
+};
 pub use notes::{NoteReports, note};
 pub use queries::{ALL, Parts, by_box, by_ids, by_lods, by_types, query_of};

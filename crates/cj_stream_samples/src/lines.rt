@@ -33,3 +33,10 @@ pub const THIRD_REFUSED: &[u8] =
 /// none. It has the extent of the usual feature.
 pub const SEVERAL: &[u8] =
     b"{\"type\":\"CityJSONFeature\",\"id\":\"b1\",\"CityObjects\":{\"b1\":{\"type\":\"Building\",\"geometry\":[{\"type\":\"MultiPoint\",\"lod\":\"1\",\"boundaries\":[0]},{\"type\":\"MultiPoint\",\"lod\":\"1.2\",\"boundaries\":[1]}]},\"r1\":{\"type\":\"Road\",\"geometry\":[{\"type\":\"MultiPoint\",\"lod\":\"2.2\",\"boundaries\":[2]}]},\"w1\":{\"type\":\"WaterBody\"}},\"vertices\":[[0,0,0],[1000,500,0],[500,1000,0]]}";
+
+/// Returns the feature with an attribute of this text, in parts. The text begins at byte 170, and
+/// there are 22 further bytes.
+pub fn attributed(text: &[u8]) -> [&[u8]; 5] {
+    let (front, back) = (&FEATURE[..150], &FEATURE[150..]);
+    [front, b",\"attributes\":{\"a\":\"", text, b"\"}", back]
+}

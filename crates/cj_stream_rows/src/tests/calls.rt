@@ -1,8 +1,6 @@
-//! What the tests share: comparisons, and calls of an engine.
-use cj_budget::{Limits, Peaks};
-use cj_stream::{
-    End, Engine, LineSink, NoReports, Options, Outcome, Query, ReportSink, put_pieces,
-};
+//! What the tests share: comparisons, and an engine that gets a text in two pieces.
+use cj_budget::Limits;
+use cj_stream::{End, Engine, LineSink, NoReports, Options, Outcome, Query, put_pieces};
 use cj_stream_samples::{NoteReports, joined};
 use std::alloc::Global;
 use std::process::Abort;
@@ -48,19 +46,6 @@ pub fn check_notes(rt: &impl Abort, reports: &NoteReports, wanted: &str, row: &s
     check_bytes(rt, reports.notes.as_bytes(), wanted.as_bytes(), row, at);
 }
 
-/// Returns an engine within these limits. The proof of a test that opens one itself would get all
-/// that the contract says.
-pub fn opened<'q>(
-    alloc: Global,
-    line: u64,
-    depth: u64,
-    query: &'q Query,
-    options: Options,
-) -> Result<Engine<'q>, Fail> {
-    let limits = Limits::new(line, depth)?;
-    Ok(Engine::open(alloc, limits, query, options)?)
-}
-
 /// Gives a text to an engine, cut in two at this place. Returns the bytes that it has taken.
 pub fn taken_of_cut<S: LineSink>(
     rt: &impl Abort,
@@ -75,43 +60,4 @@ pub fn taken_of_cut<S: LineSink>(
     let mut engine = Engine::open(alloc, Limits::usual(), &query, Options::new())?;
     put_pieces(&mut engine, &pieces, sink, &mut NoReports);
     Ok(engine.taken())
-}
-
-/// Gives a piece to an engine, and compares the result. What the engine reports goes to a sink of
-/// reports.
-pub fn check_feed<S: LineSink, N: ReportSink>(
-    rt: &impl Abort,
-    engine: &mut Engine,
-    piece: &[u8],
-    sink: &mut S,
-    reports: &mut N,
-    wanted: Result<(), End>,
-) {
-    assert!(rt; engine.taken() <= 1_000_000_000);
-    assert!(rt; piece.len() <= 1_000_000_000);
-    assert_eq!(rt; engine.feed(piece, sink, reports), wanted);
-}
-
-/// Ends the stream of an engine, and compares the result.
-pub fn check_finish<S: LineSink, N: ReportSink>(
-    rt: &impl Abort,
-    engine: &mut Engine,
-    sink: &mut S,
-    reports: &mut N,
-    wanted: End,
-) {
-    assert_eq!(rt; engine.finish(sink, reports), wanted);
-}
-
-/// Compares what an engine counts.
-pub fn check_counts(rt: &impl Abort, engine: &Engine, taken: u64, lines: u64, kept: u64) {
-    check_number(rt, engine.taken(), taken, "taken", taken);
-    check_number(rt, engine.lines(), lines, "lines", taken);
-    check_number(rt, engine.kept(), kept, "kept", taken);
-}
-
-/// Compares what an engine holds, and what it held at most.
-pub fn check_held(rt: &impl Abort, engine: &Engine, held: Peaks, peaks: Peaks) {
-    assert_eq!(rt; engine.held(), held);
-    assert_eq!(rt; engine.peaks(), peaks);
 }

@@ -1,12 +1,11 @@
 //! Streams with invalid lines that reading goes on after, with every cut.
 use super::cuts::{Kind, Row, check, check_with};
 use super::line_pieces::check_rest;
-use super::rows::attributed;
 use cj_budget::Peaks;
 use cj_spans::Reason;
 use cj_stream::Query;
 use cj_stream_samples::{
-    BEYOND, FEATURE, FIRST, HEADER, SMALL, STREAM, complete, held, outcome, refused,
+    BEYOND, FEATURE, FIRST, HEADER, SMALL, STREAM, attributed, complete, held, outcome, refused,
 };
 use std::alloc::Global;
 use std::process::Abort;

@@ -5,8 +5,8 @@ use cj_budget::{Limits, Peaks};
 use cj_spans::Reason;
 use cj_stream::{End, NoReports, Outcome, laws, row_laws};
 use cj_stream_samples::{
-    BEYOND, FEATURE, FIRST, HEADER, SMALL, STREAM, SlowReader, THIRD_REFUSED, copied, held, joined,
-    outcome, refused,
+    BEYOND, FEATURE, FIRST, HEADER, SMALL, STREAM, SlowReader, THIRD_REFUSED, attributed, copied,
+    held, joined, outcome, refused,
 };
 use std::alloc::Global;
 use std::process::Abort;
@@ -320,13 +320,6 @@ fn brackets_past_the_usual_depth_limit(rt: HostRuntime) -> Result<(), Fail> {
         peaks: held(1_165, 85, 64),
     };
     check_refused(&rt, rt.alloc(), &refusal)
-}
-
-/// Returns the feature with an attribute of this text, in parts. The text begins at byte 170, and
-/// there are 22 further bytes.
-pub fn attributed(text: &[u8]) -> [&[u8]; 5] {
-    let (front, back) = (&FEATURE[..150], &FEATURE[150..]);
-    [front, b",\"attributes\":{\"a\":\"", text, b"\"}", back]
 }
 
 #[test]

@@ -1,7 +1,6 @@
 //! Rows through the two states, with every cut, and what both return where one becomes the other.
 use super::calls::{check_bytes, check_ended, check_outcome};
 use super::rows::Wanted;
-use super::steps::{Opening, Step, written_by_steps};
 use super::turn_steps::{HeaderStep, LineStep, written_by_turns};
 use cj_budget::Limits;
 use cj_spans::Reason;
@@ -256,29 +255,7 @@ pub fn check_progress(
 }
 
 /// Gives a header and an invalid line to the reader of a header, which uses 141 bytes. The rest
-/// goes to the reader of lines.
-fn check_rest_by_states(
-    rt: &impl Abort,
-    alloc: Global,
-    text: &[u8],
-    end: LineEnd,
-) -> Result<(), Fail> {
-    let header = [HeaderStep::Feed(text, 141, true)];
-    let lines = [
-        LineStep::Feed(b"{}\n", Err(end)),
-        LineStep::Counts(141, 1, 0),
-    ];
-    let _ = written_by_turns(rt, alloc, &header, &lines)?;
-    Ok(())
-}
-
-/// Gives the same to an engine, which takes nothing of it.
-fn check_rest(rt: &impl Abort, alloc: Global, text: &[u8], wanted: End) -> Result<(), Fail> {
-    let steps = [Step::Feed(text, Err(wanted)), Step::Counts(0, 1, 0)];
-    let _ = written_by_steps(rt, alloc, &Opening::usual(), &steps)?;
-    Ok(())
-}
-
+/// goes to the reader of lines. An engine takes nothing of the same piece.
 #[test]
 fn a_piece_whose_rest_is_refused(rt: HostRuntime) -> Result<(), Fail> {
     let text = joined(rt.alloc(), &[FIRST, b"{}\n"])?;
@@ -287,6 +264,11 @@ fn a_piece_whose_rest_is_refused(rt: HostRuntime) -> Result<(), Fail> {
         place: 0,
         reason: Reason::MissingMember,
     };
-    check_rest_by_states(&rt, rt.alloc(), &text, end)?;
-    check_rest(&rt, rt.alloc(), &text, End::from(end))
+    let header = [HeaderStep::Feed(&text, 141, true)];
+    let lines = [
+        LineStep::Feed(b"{}\n", Err(end)),
+        LineStep::Counts(141, 1, 0),
+    ];
+    let _ = written_by_turns(&rt, rt.alloc(), &header, &lines)?;
+    Ok(())
 }

@@ -1,7 +1,8 @@
 //! What is tallied of a stream.
-use super::calls::{check_bytes, taken_of_cut};
+use super::calls::check_bytes;
+use super::steps::{Opening, Step, check_steps};
 use cj_feature::{Feature, Header};
-use cj_stream::{LineSink, TallySink, WriteFault};
+use cj_stream::{End, LineSink, TallySink, WriteFault};
 use cj_stream_samples::{FEATURE, joined, ran_to};
 use std::alloc::{AllocError, Global};
 use std::process::Abort;
@@ -142,8 +143,14 @@ impl LineSink for TypesSink {
 
 /// Tallies the stream cut in two at this place.
 fn check_cut(rt: &impl Abort, alloc: Global, text: &[u8], at: usize) -> Result<(), Fail> {
+    assert!(rt; at <= text.len());
+    let steps = [
+        Step::Feed(&text[..at], Ok(())),
+        Step::Feed(&text[at..], Ok(())),
+        Step::Finish(End::Complete),
+    ];
     let mut tally = TallySink::new();
-    let _ = taken_of_cut(rt, alloc, text, at, &mut tally)?;
+    check_steps(rt, alloc, &Opening::usual(), &steps, &mut tally)?;
     let told = report(alloc, &tally)?;
     check_bytes(rt, told.as_bytes(), TALLY.as_bytes(), "pieces", at as u64);
     Ok(())

@@ -3,7 +3,7 @@ use super::calls::{check_bytes, check_number};
 use super::steps::{Opening, Step, written_by_steps};
 use cj_spans::Reason;
 use cj_stream::End;
-use cj_stream_samples::{FEATURE, HEADER, STREAM, THIRD_REFUSED, held, joined, refused};
+use cj_stream_samples::{FEATURE, FIRST, HEADER, STREAM, THIRD_REFUSED, held, joined, refused};
 use std::alloc::Global;
 use std::process::Abort;
 use std::test::Fail;
@@ -46,6 +46,17 @@ fn an_end_stays_the_end(rt: HostRuntime) -> Result<(), Fail> {
 fn an_end_by_a_finding_stays_the_end(rt: HostRuntime) -> Result<(), Fail> {
     let end = refused(3, 144, Reason::VertexIndex);
     check_end(&rt, rt.alloc(), 8_388_608, THIRD_REFUSED, end, STREAM)
+}
+
+/// The engine takes nothing of a piece with a header and an invalid line. The two states take the
+/// header.
+#[test]
+fn a_piece_whose_second_line_is_refused(rt: HostRuntime) -> Result<(), Fail> {
+    let text = joined(rt.alloc(), &[FIRST, b"{}\n"])?;
+    let end = refused(2, 0, Reason::MissingMember);
+    let steps = [Step::Feed(&text, Err(end)), Step::Counts(0, 1, 0)];
+    let _ = written_by_steps(&rt, rt.alloc(), &Opening::usual(), &steps)?;
+    Ok(())
 }
 
 /// Returns the steps of a stream by single bytes. The byte at `last` is the end, and each later one

@@ -1,10 +1,9 @@
 //! Lines longer than one read, given at once and in very many pieces.
-use super::calls::check_bytes;
-use super::rows::{Wanted, attributed, check_run};
+use super::calls::{check_bytes, check_outcome};
 use super::steps::{Opening, Step, written_by_steps};
 use cj_budget::Limits;
 use cj_stream::{End, Outcome};
-use cj_stream_samples::{FEATURE, FIRST, held, joined, outcome};
+use cj_stream_samples::{FEATURE, FIRST, SlowReader, attributed, copied, held, joined, outcome};
 use std::alloc::Global;
 use std::process::Abort;
 use std::test::Fail;
@@ -24,6 +23,14 @@ pub fn long_text(alloc: Global, length: usize) -> Result<Vec<u8>, Fail> {
     let digits = digits(alloc, length.saturating_sub(232))?;
     let [front, name, value, end, back] = attributed(&digits);
     Ok(joined(alloc, &[FIRST, front, name, value, end, back, b"\n"])?)
+}
+
+/// Runs over a reader that gives `step` bytes per read. All of the text is written.
+fn check_run(rt: &impl Abort, alloc: Global, text: &[u8], step: usize, wanted: Outcome, row: &str) {
+    let mut reader = SlowReader::new(text, step);
+    let (outcome, written) = copied(alloc, &mut reader, Limits::usual());
+    check_outcome(rt, outcome, wanted, row, step as u64);
+    check_bytes(rt, &written, text, row, step as u64);
 }
 
 /// Gives a stream in pieces of `step` bytes, and its end, and compares the outcome.
@@ -50,17 +57,18 @@ fn by_pieces<'a>(
     Ok(steps)
 }
 
-/// Gives a stream to an engine in pieces of `step` bytes.
+/// Gives a stream to an engine in pieces of `step` bytes. All of the text is written.
 fn check_pieces(
     rt: &impl Abort,
     alloc: Global,
     text: &[u8],
     step: usize,
-    wanted: &Wanted,
+    wanted: Outcome,
+    row: &str,
 ) -> Result<(), Fail> {
-    let steps = by_pieces(rt, alloc, text, step, wanted.outcome)?;
+    let steps = by_pieces(rt, alloc, text, step, wanted)?;
     let written = written_by_steps(rt, alloc, &Opening::usual(), &steps)?;
-    check_bytes(rt, &written, wanted.written, wanted.name, step as u64);
+    check_bytes(rt, &written, text, row, step as u64);
     Ok(())
 }
 
@@ -69,16 +77,14 @@ fn check_pieces(
 fn check_long_line(rt: &impl Abort, alloc: Global, length: usize) -> Result<(), Fail> {
     let text = long_text(alloc, length)?;
     let bytes = (length as u64).saturating_add(140);
-    let wanted = Wanted {
-        name: "long line",
-        written: &text,
-        outcome: outcome(2, 1, held(bytes, 69, 8), End::Complete),
-    };
-    check_run(rt, alloc, &text, 1_000_000, Limits::usual(), &wanted);
-    check_run(rt, alloc, &text, 8_191, Limits::usual(), &wanted);
-    check_pieces(rt, alloc, &text, text.len(), &wanted)?;
-    check_pieces(rt, alloc, &text, text.len().saturating_sub(1), &wanted)?;
-    check_pieces(rt, alloc, &text, 50, &wanted)
+    let wanted = outcome(2, 1, held(bytes, 69, 8), End::Complete);
+    check_run(rt, alloc, &text, 1_000_000, wanted, "long line");
+    check_run(rt, alloc, &text, 8_191, wanted, "long line");
+    let but_one = text.len().saturating_sub(1);
+    for step in &[text.len(), but_one, 50] {
+        check_pieces(rt, alloc, &text, *step, wanted, "long line")?;
+    }
+    Ok(())
 }
 
 #[test]
@@ -110,11 +116,8 @@ pub fn many_features(alloc: Global, features: usize) -> Result<Vec<u8>, Fail> {
 #[test]
 fn a_thousand_features_in_a_piece(rt: HostRuntime) -> Result<(), Fail> {
     let text = many_features(rt.alloc(), 1_000)?;
-    let wanted = Wanted {
-        name: "a thousand features",
-        written: &text,
-        outcome: outcome(1_001, 1_000, held(350, 65, 8), End::Complete),
-    };
-    check_run(&rt, rt.alloc(), &text, 1_000_000, Limits::usual(), &wanted);
-    check_pieces(&rt, rt.alloc(), &text, text.len(), &wanted)
+    let wanted = outcome(1_001, 1_000, held(350, 65, 8), End::Complete);
+    let row = "a thousand features";
+    check_run(&rt, rt.alloc(), &text, 1_000_000, wanted, row);
+    check_pieces(&rt, rt.alloc(), &text, text.len(), wanted, row)
 }
