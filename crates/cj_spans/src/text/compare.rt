@@ -173,6 +173,7 @@ pub(crate) fn compare_spellings(spelling: &[u8], other: &[u8]) -> Ordering
 }
 
 /// Compares the text of a string, given with its quotes, with this text.
+#[inline(never)]
 pub(crate) fn compare_spelling_with(spelling: &[u8], wanted: &str) -> Ordering
     requires { 0 < length spelling.now }
     ensures { result ≡ compare (text spelling.now) (chars wanted.now) }
