@@ -156,7 +156,6 @@ fn compare_points(points: CodePoints, others: CodePoints) -> Ordering
 
 /// Compares the texts of two strings, given with their quotes. Most are the same plain bytes, or
 /// differ in a plain byte.
-#[tactic(auto, using(crate::proofs::Texts::order_ends, crate::proofs::Texts::order_apart))]
 #[inline]
 pub(crate) fn compare_spellings(spelling: &[u8], other: &[u8]) -> Ordering
     requires first { 0 < length spelling.now }
@@ -174,6 +173,7 @@ pub(crate) fn compare_spellings(spelling: &[u8], other: &[u8]) -> Ordering
 }
 
 /// Compares the text of a string, given with its quotes, with this text.
+#[inline(never)]
 pub(crate) fn compare_spelling_with(spelling: &[u8], wanted: &str) -> Ordering
     requires { 0 < length spelling.now }
     ensures { result ≡ compare (text spelling.now) (chars wanted.now) }
