@@ -87,6 +87,41 @@ fn an_end_stays_by_single_bytes(rt: HostRuntime) -> Result<(), Fail> {
     Ok(())
 }
 
+/// Gives a stream, cut in two at this place. The engine takes the first piece, unless the byte at
+/// `last` is in it. Of the piece with that byte, which is the end, it takes nothing.
+fn check_taken(
+    rt: &impl Abort,
+    alloc: Global,
+    text: &[u8],
+    at: usize,
+    last: usize,
+    end: End,
+) -> Result<(), Fail> {
+    assert!(rt; at <= text.len());
+    let (first, taken) = if at <= last {
+        (Ok(()), at)
+    } else {
+        (Err(end), 0)
+    };
+    let steps = [
+        Step::Feed(&text[..at], first),
+        Step::Feed(&text[at..], Err(end)),
+        Step::Counts(taken as u64, 2, 1),
+    ];
+    let written = written_by_steps(rt, alloc, &Opening::usual(), &steps)?;
+    check_bytes(rt, &written, STREAM, "taken by the engine", at as u64);
+    Ok(())
+}
+
+#[test]
+fn what_an_engine_takes_of_a_refused_stream(rt: HostRuntime) -> Result<(), Fail> {
+    let end = refused(3, 144, Reason::VertexIndex);
+    for at in 0..THIRD_REFUSED.len() {
+        check_taken(&rt, rt.alloc(), THIRD_REFUSED, at, 562, end)?;
+    }
+    Ok(())
+}
+
 /// A header, its LF, and a feature in two parts.
 #[test]
 fn what_is_held_is_told(rt: HostRuntime) -> Result<(), Fail> {

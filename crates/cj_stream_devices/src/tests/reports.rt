@@ -5,7 +5,7 @@ use super::reads::ran_within;
 use super::steps::{Opening, Step, check_steps, written_by_steps};
 use cj_budget::Limits;
 use cj_spans::Reason;
-use cj_stream::{CountReports, End, Options, Outcome, Output, Query, WriteSink};
+use cj_stream::{CountReports, End, IgnoreSink, Options, Outcome, Output, Query, WriteSink};
 use cj_stream_samples::{
     BEYOND, FEATURE, FIRST, NoteReports, Reading, SlowReader, SlowWriter, going, joined, outcome,
     ran, refused, written_by,
@@ -29,11 +29,10 @@ fn going_within(limits: Limits, query: &Query) -> Reading<'_> {
 /// number on.
 fn counted(alloc: Global, text: &[u8], from: u64) -> Result<(Outcome, u64), Fail> {
     let mut reports = CountReports { reports: from };
-    let mut sink = WriteSink::new(Vec::new(alloc));
     let mut reader = SlowReader::new(text, 100);
     let query = Query::all(alloc);
     let reading = going_within(Limits::new(1_000, 64)?, &query);
-    let outcome = ran(alloc, &mut reader, &mut sink, &mut reports, &reading);
+    let outcome = ran(alloc, &mut reader, &mut IgnoreSink, &mut reports, &reading);
     Ok((outcome, reports.reports))
 }
 

@@ -1,7 +1,7 @@
 //! What is tallied of a stream.
 use super::calls::check_bytes;
 use super::steps::{Opening, Step, check_steps};
-use cj_feature::{Feature, Header};
+use cj_feature::{CityObject, Feature, Header};
 use cj_stream::{End, LineSink, TallySink, WriteFault};
 use cj_stream_samples::{FEATURE, joined, ran_to};
 use std::alloc::{AllocError, Global};
@@ -108,11 +108,15 @@ struct TypesSink {
     lost: bool,
 }
 
+/// Returns the count of the type of this city object.
+fn type_note(alloc: Global, tally: &TallySink, object: CityObject) -> Result<String, AllocError> {
+    format!(in alloc; " {}", tally.by_type(object.object_type))
+}
+
 fn types_note(alloc: Global, tally: &TallySink, feature: &Feature) -> Result<String, AllocError> {
     let mut notes = String::new(alloc);
     for object in feature.objects() {
-        let note = format!(in alloc; " {}", tally.by_type(object.object_type))?;
-        notes.push_str(&note)?;
+        notes.push_str(&type_note(alloc, tally, object)?)?;
     }
     Ok(notes)
 }

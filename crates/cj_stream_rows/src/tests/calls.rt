@@ -1,7 +1,7 @@
-//! What the tests share: comparisons, and an engine that gets a text in two pieces.
+//! What the tests share: comparisons, and a run.
 use cj_budget::Limits;
-use cj_stream::{End, Engine, LineSink, NoReports, Options, Outcome, Query, put_pieces};
-use cj_stream_samples::{NoteReports, joined};
+use cj_stream::{End, Outcome};
+use cj_stream_samples::{NoteReports, SlowReader, copied, joined};
 use std::alloc::Global;
 use std::process::Abort;
 use std::test::Fail;
@@ -46,18 +46,8 @@ pub fn check_notes(rt: &impl Abort, reports: &NoteReports, wanted: &str, row: &s
     check_bytes(rt, reports.notes.as_bytes(), wanted.as_bytes(), row, at);
 }
 
-/// Gives a text to an engine, cut in two at this place. Returns the bytes that it has taken.
-pub fn taken_of_cut<S: LineSink>(
-    rt: &impl Abort,
-    alloc: Global,
-    text: &[u8],
-    at: usize,
-    sink: &mut S,
-) -> Result<u64, Fail> {
-    assert!(rt; at <= text.len() && text.len() <= 10_000);
-    let query = Query::all(alloc);
-    let pieces = [&text[..at], &text[at..]];
-    let mut engine = Engine::open(alloc, Limits::usual(), &query, Options::new())?;
-    put_pieces(&mut engine, &pieces, sink, &mut NoReports);
-    Ok(engine.taken())
+/// Runs over a reader that gives one byte per read, and returns how it ends.
+pub fn ended_by_bytes(alloc: Global, text: &[u8], limits: Limits) -> End {
+    let (outcome, _) = copied(alloc, &mut SlowReader::new(text, 1), limits);
+    outcome.ended
 }

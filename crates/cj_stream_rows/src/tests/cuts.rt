@@ -54,44 +54,78 @@ impl Way {
 }
 
 /// Returns how a row is read.
-fn reading_of<'q>(row: &Row, limits: Limits, query: &'q Query) -> Reading<'q> {
-    Reading {
-        limits,
+fn reading_of<'q>(row: &Row, query: &'q Query) -> Result<Reading<'q>, Fail> {
+    Ok(Reading {
+        limits: Limits::new(row.line_limit, 64)?,
         query,
         options: Options::new().keep_going(row.goes_on),
-    }
+    })
+}
+
+/// Runs over a stream by reads of `step` bytes.
+fn told_by_run(
+    alloc: Global,
+    text: &[u8],
+    step: usize,
+    sink: &mut WriteSink<Vec<u8>>,
+    reports: &mut NoteReports,
+    reading: &Reading,
+) -> Outcome {
+    let mut reader = SlowReader::new(text, step);
+    ran(alloc, &mut reader, sink, reports, reading)
 }
 
 /// Reads a stream in one way.
 fn told(
     rt: &impl Abort,
     alloc: Global,
-    case: &Case,
+    text: &[u8],
     way: Way,
     sink: &mut WriteSink<Vec<u8>>,
     reports: &mut NoteReports,
+    reading: &Reading,
 ) -> Result<Outcome, Fail> {
-    let limits = Limits::new(case.row.line_limit, 64)?;
-    let reading = reading_of(case.row, limits, case.query);
     match way {
-        Way::Run(step) => {
-            let mut reader = SlowReader::new(case.text, step);
-            Ok(ran(alloc, &mut reader, sink, reports, &reading))
-        }
-        Way::Engine(at) => Ok(given(alloc, case.text, at, sink, reports, &reading)?),
-        Way::Lines(at) => given_behind(rt, alloc, case.text, at, sink, reports, &reading),
+        Way::Run(step) => Ok(told_by_run(alloc, text, step, sink, reports, reading)),
+        Way::Engine(at) => Ok(given(alloc, text, at, sink, reports, reading)?),
+        Way::Lines(at) => given_behind(rt, alloc, text, at, sink, reports, reading),
     }
 }
 
-/// Reads a stream in one way, and compares what was written, what was reported and the outcome.
-fn check_way(rt: &impl Abort, alloc: Global, case: &Case, way: Way) -> Result<(), Fail> {
-    let (row, at) = (case.row, way.number());
+/// Reads a stream in one way. Returns the outcome, and what was written.
+fn written_by_way(
+    rt: &impl Abort,
+    alloc: Global,
+    case: &Case,
+    way: Way,
+    reports: &mut NoteReports,
+) -> Result<(Outcome, Vec<u8>), Fail> {
+    let reading = reading_of(case.row, case.query)?;
     let mut sink = WriteSink::new(Vec::new(alloc));
-    let mut reports = NoteReports::new(alloc);
-    let outcome = told(rt, alloc, case, way, &mut sink, &mut reports)?;
-    check_notes(rt, &reports, row.reports, row.name, at);
+    let outcome = told(rt, alloc, case.text, way, &mut sink, reports, &reading)?;
+    Ok((outcome, sink.into_inner()))
+}
+
+/// Compares what was written, what was reported and the outcome.
+fn check_told(
+    rt: &impl Abort,
+    case: &Case,
+    outcome: Outcome,
+    written: &[u8],
+    reports: &NoteReports,
+    at: u64,
+) {
+    let row = case.row;
+    check_notes(rt, reports, row.reports, row.name, at);
     check_outcome(rt, outcome, row.outcome, row.name, at);
-    check_bytes(rt, &sink.into_inner(), case.written, row.name, at);
+    check_bytes(rt, written, case.written, row.name, at);
+}
+
+/// Reads a stream in one way, and compares how it went.
+fn check_way(rt: &impl Abort, alloc: Global, case: &Case, way: Way) -> Result<(), Fail> {
+    let mut reports = NoteReports::new(alloc);
+    let (outcome, written) = written_by_way(rt, alloc, case, way, &mut reports)?;
+    check_told(rt, case, outcome, &written, &reports, way.number());
     Ok(())
 }
 

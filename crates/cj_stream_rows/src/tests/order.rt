@@ -1,8 +1,8 @@
 //! Which of several broken rules of one line is reported.
-use super::calls::check_ended;
+use super::calls::{check_ended, ended_by_bytes};
 use cj_budget::Limits;
 use cj_spans::Reason;
-use cj_stream_samples::{FIRST, SlowReader, copied, joined, refused};
+use cj_stream_samples::{FIRST, joined, refused};
 use std::alloc::Global;
 use std::process::Abort;
 use std::test::Fail;
@@ -20,9 +20,9 @@ struct Row<'a> {
 fn check_row(rt: &impl Abort, alloc: Global, row: &Row) -> Result<(), Fail> {
     let text = joined(alloc, &[FIRST, row.line, b"\n"])?;
     let limits = Limits::new(row.limits.0, row.limits.1)?;
-    let (outcome, _) = copied(alloc, &mut SlowReader::new(&text, 1), limits);
+    let ended = ended_by_bytes(alloc, &text, limits);
     let wanted = refused(2, row.place, row.reason);
-    check_ended(rt, outcome.ended, wanted, "first fault", row.place);
+    check_ended(rt, ended, wanted, "first fault", row.place);
     Ok(())
 }
 

@@ -1,5 +1,7 @@
 //! Worked examples: inputs, what is written of them, and how they end.
-use super::calls::{check_bytes, check_ended, check_joined, check_number, check_outcome};
+use super::calls::{
+    check_bytes, check_ended, check_joined, check_number, check_outcome, ended_by_bytes,
+};
 use super::cuts::{Row, USUAL_LINE, check};
 use cj_budget::{Limits, Peaks};
 use cj_spans::Reason;
@@ -234,10 +236,14 @@ fn bytes_before_syntax(rt: HostRuntime) -> Result<(), Fail> {
 /// Runs by single bytes over a header and a line that is no JSON text from a place on.
 pub fn check_place(rt: &impl Abort, alloc: Global, line: &[u8], place: u64) -> Result<(), Fail> {
     let text = joined(alloc, &[FIRST, line])?;
-    let mut reader = SlowReader::new(&text, 1);
-    let (outcome, _) = copied(alloc, &mut reader, Limits::usual());
-    let wanted = refused(2, place, Reason::Syntax);
-    check_ended(rt, outcome.ended, wanted, "syntax", place);
+    let ended = ended_by_bytes(alloc, &text, Limits::usual());
+    check_ended(
+        rt,
+        ended,
+        refused(2, place, Reason::Syntax),
+        "syntax",
+        place,
+    );
     Ok(())
 }
 

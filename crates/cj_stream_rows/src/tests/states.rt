@@ -68,7 +68,7 @@ pub fn turned<'q>(rt: &impl Abort, header: HeaderReader<'q>) -> LineReader<'q> {
 
 /// Gives pieces to the reader of a header until it accepts. Returns how many it has used before,
 /// and the bytes used of the next.
-pub fn until_accepted<S: LineSink>(
+fn until_accepted<S: LineSink>(
     rt: &impl Abort,
     header: &mut HeaderReader,
     pieces: &[&[u8]],
@@ -99,7 +99,7 @@ fn to_the_end<S: LineSink>(
 }
 
 /// Gives the rest of the pieces after a header to the reader of lines, and the end.
-pub fn behind_header<S: LineSink>(
+fn behind_header<S: LineSink>(
     rt: &impl Abort,
     lines: &mut LineReader,
     pieces: &[&[u8]],
@@ -116,32 +116,64 @@ pub fn behind_header<S: LineSink>(
     }
 }
 
-/// Gives pieces to both states, one after the other, and the end.
-fn by_states<S: LineSink>(
+/// Gives the rest of the pieces after an accepted header to the reader of lines that its reader
+/// becomes, and the end. Returns how it went, and the bytes that are taken.
+fn by_lines<S: LineSink>(
+    rt: &impl Abort,
+    header: HeaderReader,
+    pieces: &[&[u8]],
+    at: usize,
+    used: usize,
+    sink: &mut S,
+) -> (Outcome, u64) {
+    let mut lines = turned(rt, header);
+    let end = behind_header(rt, &mut lines, pieces, at, used, sink);
+    let told = outcome(lines.lines(), lines.kept(), lines.peaks(), End::from(end));
+    (told, lines.taken())
+}
+
+/// Returns what the reader of a header that ends the stream says of it, and the bytes that it has
+/// taken.
+fn told_by_header(header: &HeaderReader, end: HeaderEnd) -> (Outcome, u64) {
+    let (lines, kept) = (header.lines(), header.kept());
+    let told = outcome(lines, kept, header.peaks(), End::from(end));
+    (told, header.taken())
+}
+
+/// Gives pieces to both states, one after the other, and the end. Returns how it went, and the
+/// bytes that both have taken.
+pub fn by_states<S: LineSink>(
     rt: &impl Abort,
     header: HeaderReader,
     pieces: &[&[u8]],
     sink: &mut S,
-) -> Outcome {
+) -> (Outcome, u64) {
     let mut header = header;
-    let end = match until_accepted(rt, &mut header, pieces, sink) {
-        Ok(None) => finish_header(rt, &mut header, sink),
-        Err(end) => end,
-        Ok(Some((at, used))) => {
-            let mut lines = turned(rt, header);
-            let end = behind_header(rt, &mut lines, pieces, at, used, sink);
-            return outcome(lines.lines(), lines.kept(), lines.peaks(), End::from(end));
+    match until_accepted(rt, &mut header, pieces, sink) {
+        Ok(Some((at, used))) => by_lines(rt, header, pieces, at, used, sink),
+        Ok(None) => {
+            let end = finish_header(rt, &mut header, sink);
+            told_by_header(&header, end)
         }
-    };
-    outcome(
-        header.lines(),
-        header.kept(),
-        header.peaks(),
-        End::from(end),
-    )
+        Err(end) => told_by_header(&header, end),
+    }
 }
 
-/// Copies pieces through both states.
+/// Copies pieces through both states. Returns how it went, and what was written.
+fn copied_by_states(
+    rt: &impl Abort,
+    alloc: Global,
+    pieces: &[&[u8]],
+    limits: Limits,
+) -> Result<(Outcome, Vec<u8>), Fail> {
+    let query = Query::all(alloc);
+    let header = header_opened(alloc, &Reading::usual(limits, &query))?;
+    let mut sink = WriteSink::new(Vec::new(alloc));
+    let (told, _) = by_states(rt, header, pieces, &mut sink);
+    Ok((told, sink.into_inner()))
+}
+
+/// Copies pieces through both states, and compares how it went.
 fn check_pieces(
     rt: &impl Abort,
     alloc: Global,
@@ -150,12 +182,9 @@ fn check_pieces(
     wanted: &Wanted,
     at: u64,
 ) -> Result<(), Fail> {
-    let query = Query::all(alloc);
-    let mut sink = WriteSink::new(Vec::new(alloc));
-    let header = header_opened(alloc, &Reading::usual(limits, &query))?;
-    let told = by_states(rt, header, pieces, &mut sink);
+    let (told, written) = copied_by_states(rt, alloc, pieces, limits)?;
     check_outcome(rt, told, wanted.outcome, wanted.name, at);
-    check_bytes(rt, &sink.into_inner(), wanted.written, wanted.name, at);
+    check_bytes(rt, &written, wanted.written, wanted.name, at);
     Ok(())
 }
 
@@ -233,14 +262,10 @@ fn a_first_line_that_is_no_header_by_states(rt: HostRuntime) -> Result<(), Fail>
 #[test]
 fn a_line_too_long_by_states(rt: HostRuntime) -> Result<(), Fail> {
     let text = joined(rt.alloc(), &[FIRST, FEATURE, b" \n"])?;
-    let query = Query::all(rt.alloc());
-    let reading = Reading::usual(Limits::new(210, 64)?, &query);
-    let mut sink = WriteSink::new(Vec::new(rt.alloc()));
-    let header = header_opened(rt.alloc(), &reading)?;
-    let told = by_states(&rt, header, &[&text], &mut sink);
+    let (told, written) = copied_by_states(&rt, rt.alloc(), &[&text], Limits::new(210, 64)?)?;
     let wanted = refused(2, 210, Reason::LineTooLong);
     check_ended(&rt, told.ended, wanted, "too long", 0);
-    check_bytes(&rt, &sink.into_inner(), FIRST, "too long", 0);
+    check_bytes(&rt, &written, FIRST, "too long", 0);
     Ok(())
 }
 

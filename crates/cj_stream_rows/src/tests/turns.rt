@@ -1,6 +1,6 @@
 //! What both states return, call by call: where one becomes the other, and after an end.
-use super::calls::{check_bytes, check_number, taken_of_cut};
-use super::states::{behind_header, turned, until_accepted, usual_header};
+use super::calls::{check_bytes, check_number};
+use super::states::{by_states, usual_header};
 use super::turn_steps::{HeaderStep, LineStep, check_turns, written_by_turns};
 use cj_spans::Reason;
 use cj_stream::{CountSink, HeaderEnd, LineEnd, Query};
@@ -201,24 +201,17 @@ fn an_end_of_lines_stays_by_single_bytes(rt: HostRuntime) -> Result<(), Fail> {
     Ok(())
 }
 
-/// Returns the bytes of a stream, cut in two, that both states have taken.
+/// Returns the bytes of a stream that both states have taken.
 fn taken_by_states(rt: &impl Abort, alloc: Global, pieces: &[&[u8]]) -> Result<u64, Fail> {
     let query = Query::all(alloc);
-    let mut sink = NONE;
-    let mut header = usual_header(alloc, &query)?;
-    match until_accepted(rt, &mut header, pieces, &mut sink) {
-        Ok(Some((at, used))) => {
-            let mut lines = turned(rt, header);
-            behind_header(rt, &mut lines, pieces, at, used, &mut sink);
-            Ok(lines.taken())
-        }
-        _ => Ok(header.taken()),
-    }
+    let header = usual_header(alloc, &query)?;
+    let (_, taken) = by_states(rt, header, pieces, &mut NONE);
+    Ok(taken)
 }
 
 /// Compares what is taken of a stream with a header of 140 bytes, cut in two at this place. Calls
 /// that return `Ok` take all bytes up to the one that is the end. Of the piece with that byte the
-/// engine takes nothing, and the states take the header.
+/// states take the header.
 fn check_taken(
     rt: &impl Abort,
     alloc: Global,
@@ -230,8 +223,6 @@ fn check_taken(
     let whole = if at <= last { at as u64 } else { 0 };
     let states = taken_by_states(rt, alloc, &[&text[..at], &text[at..]])?;
     check_number(rt, states, whole.max(141), "taken by the states", at as u64);
-    let engine = taken_of_cut(rt, alloc, text, at, &mut NONE)?;
-    check_number(rt, engine, whole, "taken by the engine", at as u64);
     Ok(())
 }
 
