@@ -54,12 +54,12 @@ impl Way {
 }
 
 /// Returns how a row is read.
-fn reading_of<'q>(row: &Row, query: &'q Query) -> Result<Reading<'q>, Fail> {
-    Ok(Reading {
-        limits: Limits::new(row.line_limit, 64)?,
+fn reading_of<'q>(row: &Row, limits: Limits, query: &'q Query) -> Reading<'q> {
+    Reading {
+        limits,
         query,
         options: Options::new().keep_going(row.goes_on),
-    })
+    }
 }
 
 /// Runs over a stream by reads of `step` bytes.
@@ -100,7 +100,8 @@ fn written_by_way(
     way: Way,
     reports: &mut NoteReports,
 ) -> Result<(Outcome, Vec<u8>), Fail> {
-    let reading = reading_of(case.row, case.query)?;
+    let limits = Limits::new(case.row.line_limit, 64)?;
+    let reading = reading_of(case.row, limits, case.query);
     let mut sink = WriteSink::new(Vec::new(alloc));
     let outcome = told(rt, alloc, case.text, way, &mut sink, reports, &reading)?;
     Ok((outcome, sink.into_inner()))
