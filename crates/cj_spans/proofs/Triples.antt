@@ -174,7 +174,7 @@ module _ (b : List ℕ) (ts : List Token) (within : AreWithin b ts) (rising : Ar
       let shown = spelling_shown b ts m u g in
       let long = slice-length b u.start u.stop (omega arith) w.1 in
       let whole = whole_from (slice_range b u.start u.stop) (told_number (slice_range b u.start u.stop) ((spelled m u g).0 number))
-            (λ n f. subst IsInWhole (slice_has b u.start u.stop n f) (sign_in (byte b (u.start + n)) (sign_at (u.start + n) (omega arith) (omega arith)))) in
+      (λ n f. subst IsInWhole (slice_has b u.start u.stop n f) (sign_in (byte b (u.start + n)) (sign_at (u.start + n) (omega arith) (omega arith)))) in
       let tree = below_at b ts m u g in
       let one = ap size tree.tree ∙ number_size b u.start u.stop _ number in
       let link = sized m u g in
@@ -257,13 +257,13 @@ module _ (b : List ℕ) (ts : List Token) (within : AreWithin b ts) (rising : Ar
   whole_part m u p l = let e = p.long in let s = p.some in record { kind = p.kind; whole = p.whole; short = omega arith }
 
   pub wholes : ((m : ℕ) (u : Token) → k < m → m < k + 4 → slice_get ts m ≡ Some u → u.stop ≤ u.start + 18) → All (IsShortWhole b) (items_of (tree_at b (spans_of ts) k))
-  wholes short = 
+  wholes short =
       let w = three in
       subst (All (IsShortWhole b)) (sym w.all)
       (all_three (IsShortWhole b) (tree_at b (spans_of ts) (k + 1)) (tree_at b (spans_of ts) (k + 2)) (tree_at b (spans_of ts) (k + 3))
-        (whole_part (k + 1) w.x w.x_part (short (k + 1) w.x (omega arith) (omega arith) w.x_part.here))
-        (whole_part (k + 2) w.y w.y_part (short (k + 2) w.y (omega arith) (omega arith) w.y_part.here))
-        (whole_part (k + 3) w.z w.z_part (short (k + 3) w.z (omega arith) (omega arith) w.z_part.here)))
+      (whole_part (k + 1) w.x w.x_part (short (k + 1) w.x (omega arith) (omega arith) w.x_part.here))
+      (whole_part (k + 2) w.y w.y_part (short (k + 2) w.y (omega arith) (omega arith) w.y_part.here))
+      (whole_part (k + 3) w.z w.z_part (short (k + 3) w.z (omega arith) (omega arith) w.z_part.here)))
 
   -- in so few bytes each is short
   pub few_wholes : t.stop ≤ t.start + 21 → All (IsShortWhole b) (items_of (tree_at b (spans_of ts) k))
@@ -278,7 +278,7 @@ module _ (b : List ℕ) (ts : List Token) (within : AreWithin b ts) (rising : Ar
       let yz = w.y_z in
       subst (All (IsShortWhole b)) (sym w.all)
       (all_three (IsShortWhole b) (tree_at b (spans_of ts) (k + 1)) (tree_at b (spans_of ts) (k + 2)) (tree_at b (spans_of ts) (k + 3))
-        (whole_part (k + 1) w.x w.x_part (omega arith)) (whole_part (k + 2) w.y w.y_part (omega arith)) (whole_part (k + 3) w.z w.z_part (omega arith)))
+      (whole_part (k + 1) w.x w.x_part (omega arith)) (whole_part (k + 2) w.y w.y_part (omega arith)) (whole_part (k + 3) w.z w.z_part (omega arith)))
 
   pub three_long : length (items_of (tree_at b (spans_of ts) k)) ≡ 3
   three_long = ap length three.all
