@@ -16,7 +16,7 @@ NUMBER = r"(\d+\.\d+\.\d+)"
 # Each place: the files, the text around the version, and how many times it is there at least.
 PLACES = [
     ("crates/*/src/**/*.rt", rf'const VERSION: &(?:\'static )?(?:str|\[u8\]) = b?"{NUMBER}', 1),
-    ("crates/cityseq_rows/src/tests/*.rt", rf'b"cityseq {NUMBER}\\n"', 1),
+    ("crates/cityseq_options/src/tests/*.rt", rf'b"cityseq {NUMBER}\\n"', 1),
     ("crates/cityseq_c/src/tests.rt", rf'b"{NUMBER}', 0),
     ("tests/library.c", rf'"{NUMBER}"', 0),
     ("tests/program.sh", rf"lines 'cityseq {NUMBER}'", 1),

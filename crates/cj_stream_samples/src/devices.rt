@@ -82,7 +82,7 @@ impl Read for CutReader<'_> {
 }
 
 /// Takes at most `step` bytes per write. The write number `stops_at` takes none, and the write
-/// number `fails_at` fails, from 1.
+/// number `fails_at` fails, from 1. Its flush fails if `flush_fails`.
 #[derive(Drop)]
 pub struct SlowWriter {
     pub bytes: Vec<u8>,
@@ -91,6 +91,7 @@ pub struct SlowWriter {
     pub stops_at: u64,
     pub fails_at: u64,
     pub fault: ErrorKind,
+    pub flush_fails: bool,
 }
 
 impl SlowWriter {
@@ -103,6 +104,7 @@ impl SlowWriter {
             stops_at: 0,
             fails_at: 0,
             fault: ErrorKind::Other,
+            flush_fails: false,
         }
     }
 }
@@ -122,6 +124,9 @@ impl Write for SlowWriter {
     }
 
     fn flush(&mut self) -> Result<()> {
+        if self.flush_fails {
+            return Err(Error::from(self.fault));
+        }
         Ok(())
     }
 }

@@ -1,6 +1,6 @@
 //! What the tests of `cj_stream` share: lines of streams, queries, readers and writers that are slow
-//! or that fail, and calls of the engine. The tests are in crates of their own, `cj_stream_rows` and
-//! `cj_stream_verdicts`, which are proved beside each other.
+//! or that fail, and calls of the engine. The tests are in crates of their own, such as
+//! `cj_stream_rows`, which are proved beside each other. Tests of the program share some of it too.
 //!
 //! ```text
 //! let mut reader = SlowReader::new(STREAM, 1);

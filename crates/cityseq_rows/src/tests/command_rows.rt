@@ -1,12 +1,12 @@
 //! Rows of the program: what it writes if a line is invalid, and if a device fails.
-use super::calls::{Written, check_bytes, check_number, check_written, commanded, joined, refused};
-use super::devices::{SlowReader, SlowWriter};
-use super::texts::{FEATURE, HEADER};
+use super::calls::{check_bytes, check_number, check_written};
 use cityseq_command::ask::{Ask, perform};
 use cityseq_command::fault_lines::{status, write_fault_line};
+use cityseq_samples::{Written, commanded};
 use cj_budget::Limits;
 use cj_spans::Reason;
 use cj_stream::{End, Options, Output, Query};
+use cj_stream_samples::{FEATURE, HEADER, SlowReader, SlowWriter, joined, refused};
 use std::alloc::Global;
 use std::io::Write;
 use std::process::Abort;

@@ -1,19 +1,15 @@
 //! Rows of the program with `--keep-going`.
-use super::calls::{Written, check_bytes, check_number, check_written, commanded, joined};
-use super::devices::{SlowReader, SlowWriter};
-use super::texts::{FEATURE, HEADER};
+use super::calls::{check_bytes, check_number, check_written};
 use cityseq_command::ask::{Ask, perform};
+use cityseq_samples::{Written, commanded};
 use cj_budget::Limits;
 use cj_stream::{Options, Output, Query};
-use std::alloc::Global;
+use cj_stream_samples::{BEYOND, FEATURE, HEADER, SlowReader, SlowWriter, joined};
+use std::alloc::{AllocError, Global};
 use std::process::Abort;
 use std::test::Fail;
 
-/// The feature of the other rows, but with an index of 4 where there are four vertices.
-const BAD: &[u8] =
-    b"{\"type\":\"CityJSONFeature\",\"id\":\"b1\",\"CityObjects\":{\"b1\":{\"type\":\"Building\",\"geometry\":[{\"type\":\"MultiSurface\",\"lod\":\"2.2\",\"boundaries\":[[[0,1,2,4]]]}]}},\"vertices\":[[0,0,0],[1000,0,0],[1000,1000,0],[0,1000,0]]}";
-
-/// Its report on line 3.
+/// The report of a feature with an index past its vertices, on line 3.
 const BAD_TOLD: &[u8] = b"line 3, byte 144: 25 vertex index out of range\n";
 
 /// A header with a version that is not read.
@@ -36,7 +32,7 @@ fn check_going(
 }
 
 /// Returns a header, two valid features, and an invalid line between them.
-fn with_bad_line(alloc: Global, bad: &[u8]) -> Result<Vec<u8>, Fail> {
+fn with_bad_line(alloc: Global, bad: &[u8]) -> Result<Vec<u8>, AllocError> {
     joined(
         alloc,
         &[HEADER, b"\n", FEATURE, b"\n", bad, b"\n", FEATURE, b"\n"],
@@ -44,13 +40,13 @@ fn with_bad_line(alloc: Global, bad: &[u8]) -> Result<Vec<u8>, Fail> {
 }
 
 /// Returns the same without the invalid line.
-fn without_bad_line(alloc: Global) -> Result<Vec<u8>, Fail> {
+fn without_bad_line(alloc: Global) -> Result<Vec<u8>, AllocError> {
     joined(alloc, &[HEADER, b"\n", FEATURE, b"\n", FEATURE, b"\n"])
 }
 
 #[test]
 fn a_bad_line_is_reported_and_left_out(rt: HostRuntime) -> Result<(), Fail> {
-    let input = with_bad_line(rt.alloc(), BAD)?;
+    let input = with_bad_line(rt.alloc(), BEYOND)?;
     let good = without_bad_line(rt.alloc())?;
     let words = ["filter", "--keep-going"];
     check_going(&rt, rt.alloc(), &words, &input, 1, &good, BAD_TOLD)?;
@@ -61,7 +57,7 @@ fn a_bad_line_is_reported_and_left_out(rt: HostRuntime) -> Result<(), Fail> {
 
 #[test]
 fn without_the_option_it_is_the_end(rt: HostRuntime) -> Result<(), Fail> {
-    let input = with_bad_line(rt.alloc(), BAD)?;
+    let input = with_bad_line(rt.alloc(), BEYOND)?;
     let front = joined(rt.alloc(), &[HEADER, b"\n", FEATURE, b"\n"])?;
     check_going(&rt, rt.alloc(), &["filter"], &input, 1, &front, BAD_TOLD)?;
     check_going(&rt, rt.alloc(), &["check"], &input, 1, b"", BAD_TOLD)
@@ -106,7 +102,7 @@ fn a_valid_stream_is_no_other(rt: HostRuntime) -> Result<(), Fail> {
 
 /// Returns a header and later lines. The second is no object, the fourth has no members, and the
 /// fifth is blank.
-fn with_several(alloc: Global) -> Result<Vec<u8>, Fail> {
+fn with_several(alloc: Global) -> Result<Vec<u8>, AllocError> {
     joined(alloc, &[HEADER, b"\n[]\n", FEATURE, b"\n{}\n \n", FEATURE])
 }
 
@@ -215,7 +211,7 @@ fn a_standard_error_that_fails_before_the_end(rt: HostRuntime) -> Result<(), Fai
 
 #[test]
 fn a_failed_flush_after_a_report(rt: HostRuntime) -> Result<(), Fail> {
-    let input = with_bad_line(rt.alloc(), BAD)?;
+    let input = with_bad_line(rt.alloc(), BEYOND)?;
     let good = without_bad_line(rt.alloc())?;
     let told = joined(rt.alloc(), &[BAD_TOLD, b"write fault\n"])?;
     let mut out = failing(rt.alloc(), 0);
@@ -228,7 +224,7 @@ fn a_failed_flush_after_a_report(rt: HostRuntime) -> Result<(), Fail> {
 /// The fifth write is that of the feature after the invalid line.
 #[test]
 fn a_write_fault_after_a_report(rt: HostRuntime) -> Result<(), Fail> {
-    let input = with_bad_line(rt.alloc(), BAD)?;
+    let input = with_bad_line(rt.alloc(), BEYOND)?;
     let front = joined(rt.alloc(), &[HEADER, b"\n", FEATURE, b"\n"])?;
     let told = joined(rt.alloc(), &[BAD_TOLD, b"write fault\n"])?;
     let out = failing(rt.alloc(), 5);
@@ -239,7 +235,7 @@ fn a_write_fault_after_a_report(rt: HostRuntime) -> Result<(), Fail> {
 
 #[test]
 fn a_read_fault_after_a_report(rt: HostRuntime) -> Result<(), Fail> {
-    let input = with_bad_line(rt.alloc(), BAD)?;
+    let input = with_bad_line(rt.alloc(), BEYOND)?;
     let front = joined(rt.alloc(), &[HEADER, b"\n", FEATURE, b"\n"])?;
     let told = joined(rt.alloc(), &[BAD_TOLD, b"read fault\n"])?;
     let mut reader = SlowReader::new(&input, 600);
@@ -276,7 +272,7 @@ fn a_read_fault_leaves_nothing_to_count(rt: HostRuntime) -> Result<(), Fail> {
     check_failing_reader(&rt, rt.alloc(), &["check"], &good, fault)?;
     check_failing_reader(&rt, rt.alloc(), &["info"], &good, fault)?;
     check_failing_reader(&rt, rt.alloc(), &["check", "--keep-going"], &good, fault)?;
-    let input = with_bad_line(rt.alloc(), BAD)?;
+    let input = with_bad_line(rt.alloc(), BEYOND)?;
     let told = joined(rt.alloc(), &[BAD_TOLD, fault])?;
     let words = ["check", "--keep-going"];
     check_failing_reader(&rt, rt.alloc(), &words, &input, &told)
@@ -290,7 +286,7 @@ fn check_failing_text(
     fails_at: u64,
     wanted: &[u8],
 ) -> Result<(), Fail> {
-    let input = with_bad_line(alloc, BAD)?;
+    let input = with_bad_line(alloc, BEYOND)?;
     let told = joined(alloc, &[BAD_TOLD, b"write fault\n"])?;
     let mut out = failing(alloc, fails_at);
     out.flush_fails = fails_at == 0;

@@ -1,11 +1,11 @@
 //! Texts longer than each buffer, long words, and the default limits.
-use super::calls::{check_bytes, check_number, check_written, commanded, joined};
-use super::devices::{SlowReader, SlowWriter};
-use super::texts::{FEATURE, HEADER};
+use super::calls::{check_bytes, check_number, check_written};
 use cityseq_command::ask::{Ask, perform};
 use cityseq_command::command::OUTPUT_BUFFER;
+use cityseq_samples::commanded;
 use cj_budget::Limits;
 use cj_stream::{Options, Output, Query};
+use cj_stream_samples::{FEATURE, HEADER, SlowReader, SlowWriter, joined};
 use std::alloc::Global;
 use std::io::BufWriter;
 use std::process::Abort;

@@ -1,12 +1,12 @@
 //! Rows of the command line: which words ask for what.
 ghost use Rattle.cityseq_command.specs.Performed.{TakesOptions};
 
-use super::calls::{check_bytes, check_number, check_written, commanded, joined};
-use super::devices::{SlowReader, SlowWriter};
-use super::texts::{FEATURE, HEADER};
+use super::calls::{check_bytes, check_number, check_written};
 use cityseq_command::ask::{Ask, perform};
+use cityseq_samples::commanded;
 use cj_budget::Limits;
 use cj_stream::{Options, Output};
+use cj_stream_samples::{FEATURE, HEADER, SlowReader, SlowWriter, joined};
 use std::alloc::Global;
 use std::process::Abort;
 use std::test::Fail;

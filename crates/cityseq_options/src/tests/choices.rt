@@ -1,7 +1,7 @@
 //! Rows of the program with `--tree` and `--exclude`.
-use super::calls::{check_written, commanded, joined};
-use super::devices::SlowReader;
-use super::texts::{FEATURE, HEADER};
+use super::calls::check_written;
+use cityseq_samples::commanded;
+use cj_stream_samples::{FEATURE, HEADER, SlowReader, joined};
 use std::alloc::Global;
 use std::process::Abort;
 use std::test::Fail;
