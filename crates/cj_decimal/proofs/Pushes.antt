@@ -44,9 +44,9 @@ push_zero lead extra lost n s = record {
     tenfold : (n l p : ℕ) → n ≡ l * p → 10 * n + 0 ≡ l * (10 * p)
     tenfold n l p e = omega (arith, e)
 
-pub push_lost : (lead extra : ℕ) (lost : Bool) (n d : ℕ) → 10 ^ 35 ≤ lead → 0 < d → d < 10 → StandsFor lead extra lost n → StandsFor lead extra true (10 * n + d)
+pub push_lost : (lead extra : ℕ) (lost : Bool) (n d : ℕ) → 10 ^ 35 ≤ lead → (lost ≡ false → 0 < d) → d < 10 → StandsFor lead extra lost n → StandsFor lead extra true (10 * n + d)
 push_lost lead extra true n d full p h s = record { whole = λ e. absurd (cc e); cut = λ _. too_long_more n d h (s.cut refl) }
-push_lost lead extra false n d full p h s = record { whole = λ e. absurd (cc e); cut = λ _. too_long_new n d p h (big lead extra n full (s.whole refl)) }
+push_lost lead extra false n d full p h s = record { whole = λ e. absurd (cc e); cut = λ _. too_long_new n d (p refl) h (big lead extra n full (s.whole refl)) }
   where
     big : (l x n : ℕ) → 10 ^ 35 ≤ l → n ≡ l * 10 ^ x → 10 ^ 35 ≤ n
     big l x n full e = let pos : 0 < 10 ^ x = ten_pow_pos x in grind (arith, e, pos)

@@ -1,5 +1,6 @@
 -- The way through the digits of a spelling.
-use Rattle.std.proofs.Common.{◌≡◌, ℕ, suc, ◌+◌, ◌-◌, ◌*◌, ◌<◌, ◌≤◌, List, [], ◌∷◌, length, drop, get_or, true, false, cond, refl, sym, ap, ◌∙◌, arith, drop-cons, length-drop}
+use Rattle.std.proofs.Common.{◌≡◌, ℕ, suc, ◌+◌, ◌-◌, ◌*◌, ◌<◌, ◌≤◌, List, [], ◌∷◌, length, drop, get_or, true, false, cond, refl, sym, ap, ◌∙◌, arith, drop-cons, length-drop, inl, inr}
+use Rattle.std.proofs.lemmas.Bool.{cases_lt}
 use Rattle.std.proofs.lemmas.Bool.Decides.{nat_tests}
 use Rattle.std.specs.Char.{is_ascii_digit}
 use Rattle.cj_decimal.specs.Reading.{begins_digit, digits_front, digits_rest, Passes, Carries, Stops}
@@ -113,6 +114,13 @@ digit_at s at h = rw (drop_at s at h) refl
 pub no_digit_past : (s : List ℕ) (at : ℕ) → length s ≤ at → begins_digit (drop at s) ≡ false
 unfolding begins_digit
 no_digit_past s at h = rw (drop_all s at h) refl
+
+-- a digit there is a byte of the list
+pub is_digit_at : (s : List ℕ) (at : ℕ) → begins_digit (drop at s) ≡ true → (at < length s) × (is_ascii_digit (get_or s at 0) ≡ true)
+is_digit_at s at h = elim (cases_lt at (length s)) [
+  | inl within ↦ (within, sym (digit_at s at within) ∙ h)
+  | inr past ↦ absurd (cc (no_digit_past s at past))
+]
 
 pub front_of_stop : (t : List ℕ) → begins_digit t ≡ false → (digits_front t ≡ []) × (digits_rest t ≡ t)
 unfolding begins_digit

@@ -34,32 +34,18 @@ impl Digits {
         lost: false,
     };
 
-    /// Returns these digits and one more.
+    /// Returns these digits and one more, which still fits.
     fn push(self, digit: u8) -> Digits
         requires digit { digit < 10 }
-        requires room { self.extra + 1 < 2 ^ 64 }
+        requires room { self.lead < 10 ^ 35 }
         ensures stands { (n : ℕ) → StandsFor self.lead self.extra self.lost n
             → StandsFor result.lead result.extra result.lost (10 * n + digit) }
-        ensures extra { result.extra ≤ self.extra + 1 }
+        ensures extra { result.extra ≡ self.extra }
     {
-        if self.lead < FULL {
-            return Digits {
-                lead: self.lead * 10 + digit as u128,
-                extra: self.extra,
-                lost: self.lost,
-            };
-        }
-        if digit == 0 {
-            return Digits {
-                lead: self.lead,
-                extra: self.extra + 1,
-                lost: self.lost,
-            };
-        }
         Digits {
-            lead: self.lead,
+            lead: self.lead * 10 + digit as u128,
             extra: self.extra,
-            lost: true,
+            lost: self.lost,
         }
     }
 }
@@ -94,6 +80,37 @@ pub fn read_short(spelling: &[u8], from: usize, start: u64) -> (u64, usize)
     (value, at)
 }
 
+/// Reads all digits from a place on, after as many as fit. Zeros are counted. The first other digit
+/// is lost, and so are all after it.
+fn read_past_full(spelling: &[u8], from: usize, start: Digits) -> Run
+    requires within { from ≤ length spelling.now }
+    requires bounded { start.extra ≤ from }
+    requires full { 10 ^ 35 ≤ start.lead }
+    ensures stops { Stops spelling.now from result.stop }
+    ensures stands { (n : ℕ) → StandsFor start.lead start.extra start.lost n
+        → StandsFor result.digits.lead result.digits.extra result.digits.lost
+        (value_after n (digits_front (drop from spelling.now))) }
+    ensures bounded { result.digits.extra ≤ result.stop }
+{
+    let mut extra = start.extra;
+    let mut at = from;
+    while at < spelling.len() && spelling[at] == b'0' {
+        extra += 1;
+        at += 1;
+    }
+    let mut lost = start.lost;
+    while has_digit(spelling, at) {
+        lost = true;
+        at += 1;
+    }
+    let digits = Digits {
+        lead: start.lead,
+        extra,
+        lost,
+    };
+    Run { digits, stop: at }
+}
+
 /// Reads all digits from a place on, for any count of them.
 ///
 /// It is separate from the usual case, which then needs no memory for its numbers.
@@ -109,15 +126,14 @@ pub fn read_long(spelling: &[u8], from: usize, start: Digits) -> Run
 {
     let mut digits = start;
     let mut at = from;
-    while at < spelling.len() {
-        let byte = spelling[at];
-        if !byte.is_ascii_digit() {
+    while digits.lead < FULL {
+        if !has_digit(spelling, at) {
             return Run { digits, stop: at };
         }
-        digits = digits.push(byte - b'0');
+        digits = digits.push(spelling[at] - b'0');
         at += 1;
     }
-    Run { digits, stop: at }
+    read_past_full(spelling, at, digits)
 }
 
 /// Reads the digits that continue a short number. Usually there are none.

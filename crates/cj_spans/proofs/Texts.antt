@@ -354,27 +354,33 @@ stands_once (pair h i j k l m n o cs ps e f s) =
 
 -- ---- bytes that two strings share
 
-alike_on : (bs : List ℕ) (i : ℕ) (ds : List ℕ) (j n m : ℕ) → AreAlike bs i ds j n → AreAlike bs (i + n) ds (j + n) m → AreAlike bs i ds j (n + m)
-alike_on bs i ds j n m a b k l =
+alike_on : (bs : List ℕ) (i : ℕ) (ds : List ℕ) (j n last m : ℕ) → AreAlike bs i ds j n → last ≤ n → AreAlike bs (i + last) ds (j + last) m → AreAlike bs i ds j (last + m)
+alike_on bs i ds j n last m a c b k l =
     elim (cases_lt k n) [
       | inl h ↦ a k h
       | inr g ↦
-          let e : i + n + (k - n) ≡ i + k = omega arith in
-          let f : j + n + (k - n) ≡ j + k = omega arith in
-          let s = b (k - n) (omega arith) in
+          let e : i + last + (k - last) ≡ i + k = omega arith in
+          let f : j + last + (k - last) ≡ j + k = omega arith in
+          let s = b (k - last) (omega arith) in
           (ap (λ x. get_or bs x 0) (sym e) ∙ s.0 ∙ ap (λ x. get_or ds x 0) f, subst (λ x. get_or bs x 0 < 128) e s.1, ap (λ x. nat_eq (get_or bs x 0) 92) (sym e) ∙ s.2)
     ]
 
 pub alike_none : (bs : List ℕ) (i : ℕ) (ds : List ℕ) (j : ℕ) → StartAlike bs i ds j 0
 alike_none bs i ds j = record { within = omega arith; within_other = omega arith; alike = λ k l. absurd (omega arith) }
 
-pub alike_more : (bs : List ℕ) (i : ℕ) (ds : List ℕ) (j n m : ℕ) → StartAlike bs i ds j n → m ≤ length bs - i - n → m ≤ length ds - j - n → AreAlike bs (i + n) ds (j + n) m → StartAlike bs i ds j (n + m)
-alike_more bs i ds j n m s h k a =
-    let x = s.within in let y = s.within_other in
-    record { within = omega arith; within_other = omega arith; alike = alike_on bs i ds j n m s.alike a }
+pub alike_first : (bs : List ℕ) (i : ℕ) (ds : List ℕ) (j n : ℕ) → i + n ≤ length bs → j + n ≤ length ds → AreAlike bs i ds j n → StartAlike bs i ds j n
+alike_first bs i ds j n h k a = record { within = omega arith; within_other = omega arith; alike = a }
+
+-- more of them are alike, by a look that begins no later than where the first look ended
+pub alike_more : (bs : List ℕ) (i : ℕ) (ds : List ℕ) (j n last m all : ℕ) → StartAlike bs i ds j n → last ≤ n → last + m ≡ all → all ≤ length bs - i → all ≤ length ds - j → AreAlike bs (i + last) ds (j + last) m → StartAlike bs i ds j all
+alike_more bs i ds j n last m all s c e h k a = subst (StartAlike bs i ds j) e (record {
+  within = omega arith;
+  within_other = omega arith;
+  alike = alike_on bs i ds j n last m s.alike c a;
+})
 
 pub alike_one_more : (bs : List ℕ) (i : ℕ) (ds : List ℕ) (j n : ℕ) → StartAlike bs i ds j n → n < length bs - i → n < length ds - j → get_or bs (i + n) 0 ≡ get_or ds (j + n) 0 → get_or bs (i + n) 0 < 128 → nat_eq (get_or bs (i + n) 0) 92 ≡ false → StartAlike bs i ds j (n + 1)
-alike_one_more bs i ds j n s h k same low other = alike_more bs i ds j n 1 s (omega arith) (omega arith) (λ l m.
+alike_one_more bs i ds j n s h k same low other = alike_more bs i ds j n n 1 (n + 1) s (omega arith) refl (omega arith) (omega arith) (λ l m.
     let z : l ≡ 0 = omega arith in
     let x : i + n + l ≡ i + n = omega arith in
     let y : j + n + l ≡ j + n = omega arith in

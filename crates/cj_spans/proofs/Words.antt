@@ -1,11 +1,14 @@
 -- The first code points of a text as one number.
-use Rattle.std.proofs.Common.{◌≡◌, ℕ, suc, ◌+◌, ◌*◌, ◌/◌, ◌<◌, ◌≤◌, ◌^◌, List, [], ◌∷◌, true, false, cond, nat_lt, nat_eq, Option, Some, None, inl, inr, refl, sym, ap, subst, arith, ◌∙◌}
+use Rattle.std.proofs.Common.{◌≡◌, ℕ, suc, ◌+◌, ◌*◌, ◌/◌, ◌<◌, ◌≤◌, ◌^◌, List, [], ◌∷◌, true, false, cond, nat_lt, nat_eq, get_or, length, Option, Some, None, inl, inr, refl, sym, ap, subst, arith, ◌∙◌}
 use Rattle.std.proofs.Math.Nat.{mul-le-mul_right}
 use Rattle.std.specs.Ordering.{ordering_then}
 use Rattle.std.specs.declared.cmp.Ordering.TheVariants.{Less, Equal, Greater}
 use Rattle.std.proofs.lemmas.Bool.{cases_order, cases_lt}
 use Rattle.std.proofs.lemmas.Bool.Decides.{nat_tests}
+use Rattle.std.specs.Int.{from_be_bytes, w64}
+use Rattle.cj_spans.specs.Decoding.{AreAlike, code_points_from}
 use Rattle.cj_spans.specs.Order.{compare, compare_texts, digits, word_of}
+use Rattle.cj_spans.proofs.Texts.{plain_code}
 
 -- ---- the digits by cases
 
@@ -90,3 +93,29 @@ pub less_by_words : (s t : Option (List ℕ)) → word_of s < word_of t → comp
 less_by_words s None h = absurd (omega arith)
 less_by_words None (Some t) h = refl
 less_by_words (Some s) (Some t) h = less_by_digits (256 ^ 7) s t h
+
+-- ---- a word of plain bytes
+
+plain_digit : (w : ℕ) (bs : List ℕ) (i k : ℕ) → i + 8 ≤ length bs → AreAlike bs i bs i 8 → k < 8 → digits w (code_points_from bs (i + k)) ≡ get_or bs (i + k) 0 * w + digits (w / 256) (code_points_from bs (i + (k + 1)))
+plain_digit w bs i k h a l =
+    let b = a k l in
+    let low = b.1 in
+    let next : i + k + 1 ≡ i + (k + 1) = omega arith in
+    ap (digits w) (plain_code bs (i + k) (omega arith) b.1 b.2)
+    ∙ digits_few w (get_or bs (i + k) 0) (code_points_from bs (i + k + 1)) (omega arith)
+    ∙ ap (λ j. get_or bs (i + k) 0 * w + digits (w / 256) (code_points_from bs j)) next
+
+-- it is the sum of their weights
+pub plain_word : (bs : List ℕ) (i : ℕ) → i + 8 ≤ length bs → AreAlike bs i bs i 8 → digits (256 ^ 7) (code_points_from bs i) ≡ from_be_bytes w64 (get_or bs i 0 ∷ get_or bs (i + 1) 0 ∷ get_or bs (i + 2) 0 ∷ get_or bs (i + 3) 0 ∷ get_or bs (i + 4) 0 ∷ get_or bs (i + 5) 0 ∷ get_or bs (i + 6) 0 ∷ get_or bs (i + 7) 0 ∷ [])
+plain_word bs i h a =
+    let none : i + 0 ≡ i = omega arith in
+    let start : digits (256 ^ 7) (code_points_from bs i) ≡ get_or bs i 0 * 256 ^ 7 + digits (256 ^ 6) (code_points_from bs (i + 1)) = subst (λ j. digits (256 ^ 7) (code_points_from bs j) ≡ get_or bs j 0 * 256 ^ 7 + digits (256 ^ 6) (code_points_from bs (i + 1))) none (plain_digit (256 ^ 7) bs i 0 h a (omega arith)) in
+    let e1 = plain_digit (256 ^ 6) bs i 1 h a (omega arith) in
+    let e2 = plain_digit (256 ^ 5) bs i 2 h a (omega arith) in
+    let e3 = plain_digit (256 ^ 4) bs i 3 h a (omega arith) in
+    let e4 = plain_digit (256 ^ 3) bs i 4 h a (omega arith) in
+    let e5 = plain_digit (256 ^ 2) bs i 5 h a (omega arith) in
+    let e6 = plain_digit (256 ^ 1) bs i 6 h a (omega arith) in
+    let e7 = plain_digit 1 bs i 7 h a (omega arith) in
+    let end = digits_none (code_points_from bs (i + 8)) in
+    omega arith

@@ -28,76 +28,79 @@ fn is_alike(first: u8, second: u8) -> bool
     first == second && first < 128 && first != b'\\'
 }
 
-/// Returns how many bytes of two strings are alike from here on. The first `known` of them are
-/// known to be.
-#[tactic(auto, using(crate::proofs::Texts::alike_one_more))]
+/// Returns how many bytes of two strings are alike from here on, one after another.
+#[tactic(auto, using(crate::proofs::Texts::alike_none, crate::proofs::Texts::alike_one_more))]
 #[inline(always)]
-fn count_alike_on(
-    bytes: &[u8],
-    place: usize,
-    others: &[u8],
-    other_place: usize,
-    known: usize,
-) -> usize
-    requires { StartAlike bytes.now place others.now other_place known }
+fn count_alike_singly(bytes: &[u8], place: usize, others: &[u8], other_place: usize) -> usize
     ensures { StartAlike bytes.now place others.now other_place result }
 {
     let room = bytes_from(bytes, place).min(bytes_from(others, other_place));
-    let mut count = known;
+    let mut count = 0;
     while count < room && is_alike(bytes[place + count], others[other_place + count]) {
         count += 1;
     }
     count
 }
 
-/// Does the same, by 8 bytes while there are that many.
+/// Does the same for 8 to 16 bytes, by the first 8 and the last 8 of them.
 #[inline(always)]
 fn count_few_alike(
     bytes: &[u8],
     place: usize,
     others: &[u8],
     other_place: usize,
-    known: usize,
+    room: usize,
 ) -> usize
-    requires { StartAlike bytes.now place others.now other_place known }
+    requires least { 8 ≤ room }
+    requires most { room ≤ 16 }
+    requires first { place + room ≤ length bytes.now }
+    requires second { other_place + room ≤ length others.now }
     ensures { StartAlike bytes.now place others.now other_place result }
 {
-    let room = bytes_from(bytes, place).min(bytes_from(others, other_place));
-    if room - known < FEW_LANES {
-        return count_alike_on(bytes, place, others, other_place, known);
+    if let Some(count) = find_unlike_of_few(bytes, place, others, other_place) {
+        return count;
     }
-    match find_unlike_of_few(bytes, place + known, others, other_place + known) {
-        Some(more) => known + more,
-        None => count_alike_on(bytes, place, others, other_place, known + FEW_LANES),
+    let last = room - FEW_LANES;
+    match find_unlike_of_few(bytes, place + last, others, other_place + last) {
+        Some(more) => last + more,
+        None => room,
     }
 }
 
-/// Returns how many bytes of two strings are alike from here on, by 16 bytes while there are that
-/// many.
+/// Does the same for at least 8 bytes, by 16 at a time. The last 16 may have some in common with
+/// those before.
 #[tactic(auto, using(crate::proofs::Texts::alike_none))]
 #[inline(never)]
 fn count_many_alike(bytes: &[u8], place: usize, others: &[u8], other_place: usize) -> usize
+    requires first { place + 8 ≤ length bytes.now }
+    requires second { other_place + 8 ≤ length others.now }
     ensures { StartAlike bytes.now place others.now other_place result }
 {
     let room = bytes_from(bytes, place).min(bytes_from(others, other_place));
+    if room < LANES {
+        return count_few_alike(bytes, place, others, other_place, room);
+    }
     let mut count = 0;
-    while room - count >= LANES {
+    while room - count > LANES {
         match find_unlike(bytes, place + count, others, other_place + count) {
             Some(more) => return count + more,
             None => count += LANES,
         }
     }
-    count_few_alike(bytes, place, others, other_place, count)
+    let last = room - LANES;
+    match find_unlike(bytes, place + last, others, other_place + last) {
+        Some(more) => last + more,
+        None => room,
+    }
 }
 
 /// Returns how many bytes of two strings are alike from here on.
-#[tactic(auto, using(crate::proofs::Texts::alike_none))]
 #[inline(always)]
 fn count_alike(bytes: &[u8], place: usize, others: &[u8], other_place: usize) -> usize
     ensures { StartAlike bytes.now place others.now other_place result }
 {
     if bytes_from(bytes, place) < FEW_LANES || bytes_from(others, other_place) < FEW_LANES {
-        count_alike_on(bytes, place, others, other_place, 0)
+        count_alike_singly(bytes, place, others, other_place)
     } else {
         count_many_alike(bytes, place, others, other_place)
     }

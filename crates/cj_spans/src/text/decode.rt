@@ -158,6 +158,7 @@ fn digit_value(digit: u32) -> u32
 }
 
 /// Returns the number that four hexadecimal digits spell.
+#[inline(always)]
 fn read_digits(bytes: &[u8], place: usize) -> CodePoint
     ensures reads { (cs : List ℕ) → left bytes.now place ≡ cs → ReadsCodePoint bytes.now cs (four_digits cs) 4 result }
     ensures size { result.code < 2 ^ 18 }
@@ -175,6 +176,7 @@ fn read_digits(bytes: &[u8], place: usize) -> CodePoint
 }
 
 /// Returns the unit of an escape with `u`. None if another character or escape is at the place.
+#[inline(always)]
 fn read_unit(bytes: &[u8], place: usize) -> Option<CodePoint>
     ensures is { (cs : List ℕ) → left bytes.now place ≡ cs → is_some result ≡ is_unicode cs }
     ensures reads { IfSome result

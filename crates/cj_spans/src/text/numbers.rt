@@ -1,11 +1,12 @@
 //! Numbers of texts: equal texts have equal numbers in any spelling.
-ghost use Rattle.std.specs.Prelude.{◌≡◌, ◌^◌, Some};
+ghost use Rattle.std.specs.Prelude.{◌≡◌, ◌+◌, ◌^◌, ◌≤◌, length, Some};
 ghost use Rattle.std.specs.Str.{chars};
-ghost use Rattle.cj_spans.specs.Decoding.{code_points_left};
+ghost use Rattle.cj_spans.specs.Decoding.{AreAlike, code_points_from, code_points_left};
 ghost use Rattle.cj_spans.specs.Tail.{tail_step, tail_on, tail_of};
 ghost use Rattle.cj_spans.specs.Mix.{mix_step, mix_on};
 ghost use Rattle.cj_spans.specs.Order.{digits};
 
+use crate::lanes::{FEW_LANES, find_unlike_of_few};
 use crate::text::decode::{Characters, CodePoints};
 
 /// The weight of the first code point of a text in its word: the top eight of 64 bits.
@@ -17,12 +18,38 @@ const BASE: u64 = 256;
 /// The least code point that ends a word.
 const PAST_DIGITS: u32 = 255;
 
+/// Returns the word of eight plain bytes.
+#[inline(always)]
+fn word_of_plain(bytes: &[u8], place: usize) -> u64
+    requires within { place + 8 ≤ length bytes.now }
+    requires plain { AreAlike bytes.now place bytes.now place 8 }
+    ensures { result ≡ digits (256 ^ 7) (code_points_from bytes.now place) }
+{
+    u64::from_be_bytes([
+        bytes[place],
+        bytes[place + 1],
+        bytes[place + 2],
+        bytes[place + 3],
+        bytes[place + 4],
+        bytes[place + 5],
+        bytes[place + 6],
+        bytes[place + 7],
+    ])
+}
+
 /// Returns the first eight code points of a string's text as one number. The order of such numbers
-/// is the order of the texts, as far as they differ.
+/// is the order of the texts, as far as they differ. It looks first whether the next eight bytes are
+/// plain, which are like themselves then.
 #[tactic(auto, using(crate::proofs::Words::digits_none, crate::proofs::Words::digits_few, crate::proofs::Words::digits_cut, crate::proofs::Words::word_fits))]
 pub(crate) fn word(points: CodePoints) -> u64
     ensures { result ≡ digits (256 ^ 7) (code_points_left points.entry) }
 {
+    let (bytes, place) = (points.bytes, points.place);
+    if bytes.len().saturating_sub(place) >= FEW_LANES
+        && find_unlike_of_few(bytes, place, bytes, place).is_none()
+    {
+        return word_of_plain(bytes, place);
+    }
     let mut word = 0;
     let mut weight = FIRST_WEIGHT;
     for point in points {

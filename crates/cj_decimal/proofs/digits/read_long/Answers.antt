@@ -1,33 +1,40 @@
-use Rattle.std.proofs.Common.{arith, sym, ◌∙◌}
-use Rattle.cj_decimal.proofs.Ways.{passes_step, carries_step, stops_at_other, stops_at_end, carried_at_other, carried_at_end}
+use Rattle.std.proofs.Common.{arith, get_or, sym, ◌∙◌}
+use Rattle.cj_decimal.proofs.Ways.{passes_step, carries_step, stops_here, carried_here, digit_bounds, is_digit_at}
 use Rattle.cj_decimal.proofs.digits.read_long.Goals as goal
 
-pub loop-at-preserved : goal.loop-at-preserved
-loop-at-preserved c =
-    let digit = sym c.is_ascii_digit.ensures.value ∙ c.if-not-is_ascii_digit.false in
+pub loop-digits-smaller : goal.loop-digits-smaller
+loop-digits-smaller c = let there = is_digit_at c.args.spelling.now c.loop-digits.at (sym c.has_digit.ensures ∙ c.if-not-has_digit.false) in omega (arith, there.0)
+
+pub bounds-spelling-at : goal.bounds-spelling-at
+bounds-spelling-at c = (is_digit_at c.args.spelling.now c.loop-digits.at (sym c.has_digit.ensures ∙ c.if-not-has_digit.false)).0
+
+pub overflow_sub-spelling : goal.overflow_sub-spelling
+overflow_sub-spelling c =
+    let there = is_digit_at c.args.spelling.now c.loop-digits.at (sym c.has_digit.ensures ∙ c.if-not-has_digit.false) in
+    (digit_bounds _ there.1).0
+
+pub push-digits-requires-clause-digit : goal.push-digits-requires-clause-digit
+push-digits-requires-clause-digit c =
+    let there = is_digit_at c.args.spelling.now c.loop-digits.at (sym c.has_digit.ensures ∙ c.if-not-has_digit.false) in
+    let bounds = digit_bounds (get_or c.args.spelling.now c.loop-digits.at 0) there.1 in
+    omega (arith, bounds.1)
+
+pub loop-digits-preserved : goal.loop-digits-preserved
+loop-digits-preserved c =
+    let there = is_digit_at c.args.spelling.now c.loop-digits.at (sym c.has_digit.ensures ∙ c.if-not-has_digit.false) in
     record {
-      passes = passes_step _ _ _ c.loop-at.invariant.passes c.loop-at-test.true digit;
+      passes = passes_step _ _ _ c.loop-digits.invariant.passes there.0 there.1;
       stands = λ n s.
-          let so_far = c.loop-at.invariant.stands n s in
-          (_, carries_step _ _ _ _ _ so_far.1 c.loop-at-test.true digit, c.push-digits.ensures.stands so_far.0 so_far.2);
+          let so_far = c.loop-digits.invariant.stands n s in
+          (_, carries_step _ _ _ _ _ so_far.1 there.0 there.1, c.push-digits.ensures.stands so_far.0 so_far.2);
       bounded = omega arith;
     }
 
-pub returns-then-not-is_ascii_digit-clause-stops : goal.returns-then-not-is_ascii_digit-clause-stops
-returns-then-not-is_ascii_digit-clause-stops c =
-    stops_at_other _ _ _ c.loop-at.invariant.passes c.loop-at-test.true (sym c.is_ascii_digit.ensures.value ∙ c.if-not-is_ascii_digit.true)
+pub returns-then-not-has_digit-clause-stops : goal.returns-then-not-has_digit-clause-stops
+returns-then-not-has_digit-clause-stops c =
+    stops_here _ _ _ c.loop-digits.invariant.passes (sym c.has_digit.ensures ∙ c.if-not-has_digit.true)
 
-pub returns-then-not-is_ascii_digit-clause-stands : goal.returns-then-not-is_ascii_digit-clause-stands
-returns-then-not-is_ascii_digit-clause-stands c = λ n s.
-    let so_far = c.loop-at.invariant.stands n s in
-    let all = carried_at_other _ _ _ _ _ so_far.1 c.loop-at-test.true (sym c.is_ascii_digit.ensures.value ∙ c.if-not-is_ascii_digit.true) in
-    rw (← all) so_far.2
-
-pub returns-clause-stops : goal.returns-clause-stops
-returns-clause-stops c = stops_at_end _ _ _ c.loop-at.invariant.passes c.loop-at-test.false
-
-pub returns-clause-stands : goal.returns-clause-stands
-returns-clause-stands c = λ n s.
-    let so_far = c.loop-at.invariant.stands n s in
-    let all = carried_at_end _ _ _ _ _ so_far.1 c.loop-at-test.false in
-    rw (← all) so_far.2
+pub returns-then-not-has_digit-clause-stands : goal.returns-then-not-has_digit-clause-stands
+returns-then-not-has_digit-clause-stands c = λ n s.
+    let so_far = c.loop-digits.invariant.stands n s in
+    rw (← (carried_here _ _ _ _ _ so_far.1 (sym c.has_digit.ensures ∙ c.if-not-has_digit.true))) so_far.2

@@ -3,12 +3,13 @@ use Rattle.cj_decimal.specs.Digits.{StandsFor}
 use Rattle.cj_decimal.specs.Reading.{Carries, Passes}
 use Rattle.cj_decimal.proofs.digits.read_long.Given as goal
 
-abbrev pub invariant-loop-at : goal.invariant-loop-at
-invariant-loop-at l = record {
+abbrev pub invariant-loop-digits : goal.invariant-loop-digits
+invariant-loop-digits l = record {
   passes : Passes l.spelling l.fn.from l.at;
-  stands : (n : ℕ) → StandsFor l.fn.start.lead l.fn.start.extra l.fn.start.lost n → (m : ℕ) × Carries l.spelling l.fn.from n l.at m × StandsFor l.digits.lead l.digits.extra l.digits.lost m;
+  stands : (n : ℕ) → StandsFor l.fn.start.lead l.fn.start.extra l.fn.start.lost n
+      → (m : ℕ) × Carries l.spelling l.fn.from n l.at m × StandsFor l.digits.lead l.digits.extra l.digits.lost m;
   bounded : l.digits.extra ≤ l.at;
 }
 
-abbrev pub decreases-loop-at : goal.decreases-loop-at
-decreases-loop-at l = length l.spelling - l.at
+abbrev pub decreases-loop-digits : goal.decreases-loop-digits
+decreases-loop-digits l = length l.spelling - l.at

@@ -1,20 +1,14 @@
-use Rattle.std.proofs.Common.{arith}
-use Rattle.cj_spans.proofs.Texts.{alike_more}
+use Rattle.std.proofs.Common.{arith, ◌-◌, refl}
+use Rattle.cj_spans.proofs.Texts.{alike_first, alike_more}
 use Rattle.cj_spans.proofs.text.compare.count_few_alike.Goals as goal
 
-pub count_alike_on-requires-in-None : goal.count_alike_on-requires-in-None
-count_alike_on-requires-in-None c =
-    let a = c.bytes_from.ensures in
-    let b = c.bytes_from-2.ensures in
-    let m = c.min-room.ensures in
-    let t = c.if-room-known-lt-FEW_LANES.false in
-    alike_more c.args.bytes.now c.args.place c.args.others.now c.args.other_place c.args.known 8 c.requires (omega arith) (omega arith) c.in-None.ensures.none
+pub returns-in-Some-find_unlike_of_few : goal.returns-in-Some-find_unlike_of_few
+returns-in-Some-find_unlike_of_few c =
+    let first = alike_first c.args.bytes.now c.args.place c.args.others.now c.args.other_place 8 (omega arith) (omega arith) c.in_default.ensures.none in
+    let few = c.in-Some-find_unlike_of_few.ensures.found.0 in
+    alike_more _ _ _ _ 8 (c.args.room - 8) c.in-Some-find_unlike_of_few.more _ first (omega arith) refl (omega arith) (omega arith) c.in-Some-find_unlike_of_few.ensures.found.1
 
-pub returns-in-Some : goal.returns-in-Some
-returns-in-Some c =
-    let a = c.bytes_from.ensures in
-    let b = c.bytes_from-2.ensures in
-    let m = c.min-room.ensures in
-    let t = c.if-room-known-lt-FEW_LANES.false in
-    let f = c.in-Some.ensures.found.0 in
-    alike_more c.args.bytes.now c.args.place c.args.others.now c.args.other_place c.args.known c.in-Some.more c.requires (omega arith) (omega arith) c.in-Some.ensures.found.1
+pub returns-in-None : goal.returns-in-None
+returns-in-None c =
+    let first = alike_first c.args.bytes.now c.args.place c.args.others.now c.args.other_place 8 (omega arith) (omega arith) c.in_default.ensures.none in
+    alike_more _ _ _ _ 8 (c.args.room - 8) 8 _ first (omega arith) (omega arith) (omega arith) (omega arith) c.in-None.ensures.none

@@ -1,6 +1,6 @@
 use Rattle.std.proofs.Common.{◌-◌}
 use Rattle.cj_spans.specs.Decoding.{StartAlike}
-use Rattle.cj_spans.proofs.text.compare.count_alike_on.Given as goal
+use Rattle.cj_spans.proofs.text.compare.count_alike_singly.Given as goal
 
 abbrev pub invariant-loop-count : goal.invariant-loop-count
 invariant-loop-count l = StartAlike l.bytes l.place l.others l.other_place l.count

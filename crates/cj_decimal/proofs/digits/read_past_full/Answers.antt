@@ -1,0 +1,45 @@
+use Rattle.std.proofs.Common.{◌≡◌, ◌-◌, true, sym, ap, arith, get_or, ◌∙◌}
+use Rattle.std.specs.Char.{is_ascii_digit}
+use Rattle.cj_decimal.proofs.Pushes.{push_zero, push_lost}
+use Rattle.cj_decimal.proofs.Ways.{passes_step, carries_step, stops_here, carried_here, digit_bounds, is_digit_at}
+use Rattle.cj_decimal.proofs.digits.read_past_full.Goals as goal
+
+pub loop-at-preserved : goal.loop-at-preserved
+loop-at-preserved c =
+    let byte : get_or c.args.spelling.now c.loop-at.at 0 ≡ 48 = c.if-spelling-at-eq48.true in
+    let digit : is_ascii_digit (get_or c.args.spelling.now c.loop-at.at 0) ≡ true = ap is_ascii_digit byte in
+    let none : get_or c.args.spelling.now c.loop-at.at 0 - 48 ≡ 0 = omega (arith, byte) in
+    record {
+      passes = passes_step _ _ _ c.loop-at.invariant.passes c.loop-at-test.true digit;
+      stands = λ n s.
+          let so_far = c.loop-at.invariant.stands n s in
+          (_, carries_step _ _ _ _ _ so_far.1 c.loop-at-test.true digit, rw none (push_zero _ _ _ _ so_far.2));
+      bounded = omega arith;
+    }
+
+pub loop-lost-smaller : goal.loop-lost-smaller
+loop-lost-smaller c = let there = is_digit_at c.args.spelling.now c.loop-lost.at (sym c.has_digit.ensures ∙ c.loop-lost-test.true) in omega (arith, there.0)
+
+pub loop-lost-preserved : goal.loop-lost-preserved
+loop-lost-preserved c =
+    let there = is_digit_at c.args.spelling.now c.loop-lost.at (sym c.has_digit.ensures ∙ c.loop-lost-test.true) in
+    let bounds = digit_bounds (get_or c.args.spelling.now c.loop-lost.at 0) there.1 in
+    record {
+      passes = passes_step _ _ _ c.loop-lost.invariant.passes there.0 there.1;
+      stands = λ n s.
+          let so_far = c.loop-lost.invariant.stands n s in (
+            _,
+            carries_step _ _ _ _ _ so_far.1 there.0 there.1,
+            push_lost _ _ _ _ _ c.requires.full (λ e. omega (arith, c.loop-lost.invariant.other e there.0, bounds.0)) (omega (arith, bounds.1)) so_far.2,
+          );
+      other = λ e. absurd (cc e);
+      bounded = omega arith;
+    }
+
+pub returns-clause-stops : goal.returns-clause-stops
+returns-clause-stops c = stops_here _ _ _ c.loop-lost.invariant.passes (sym c.has_digit.ensures ∙ c.loop-lost-test.false)
+
+pub returns-clause-stands : goal.returns-clause-stands
+returns-clause-stands c = λ n s.
+    let so_far = c.loop-lost.invariant.stands n s in
+    rw (← (carried_here _ _ _ _ _ so_far.1 (sym c.has_digit.ensures ∙ c.loop-lost-test.false))) so_far.2
