@@ -64,11 +64,6 @@ outcome-of x e is = ap (λ z. outcome_by z e) x.told ∙ ap (λ z. record x.outc
 pub same-end : (e f : End) (o : Option End) → o ≡ Some e → o ≡ Some f → e ≡ f
 same-end e f o h k = cc (sym h ∙ k)
 
--- of what was not judged it tells none
-pub unjudged-none : (a : Answer) → IsUnjudged a → ended_by a ≡ None
-unjudged-none a (inl two) = rw two refl
-unjudged-none a (inr five) = rw five refl
-
 complete-told : (a : Answer) → a.status ≡ 0 → ended_by a ≡ Some Complete
 complete-told a zero = rw zero refl
 

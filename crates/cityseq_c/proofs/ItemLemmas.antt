@@ -23,7 +23,3 @@ pub items-split : (text : List ℕ) {s t : Split ℕ} → nat_eq (length text) 0
     → YieldsList steps (λ x. x.now) t (items text)
 items-split text some is has_more lf same = rw (items-some text some) (YieldsList-at same (YieldsList-from_str_split 10 text (lit< tt) is has_more lf))
 
--- no text has no item
-pub items-none : (s : List ℕ) → nat_eq (length s) 0 ≡ true → items s ≡ []
-items-none [] none = refl
-items-none (b ∷ s) none = absurd (omega (arith, eqb-true (length (b ∷ s)) 0 none))

@@ -1,7 +1,7 @@
 -- Numbers of at most eight digits, read by one word of eight bytes.
 use Rattle.std.proofs.Common.{◌≡◌, ℕ, zero, suc, ◌+◌, ◌-◌, ◌*◌, ◌/◌, ◌%◌, ◌^◌, ◌<◌, ◌≤◌, List, [], ◌∷◌, length, take, drop, map, Bool, true, false, ◌&&◌, ◌||◌, nat_le, nat_eq, refl, sym, ap, subst, arith, ◌∙◌, inl, inr, not}
 use Rattle.std.specs.Int.Bits.{bit_and, bit_or, bit_xor, and_block, xor_block}
-use Rattle.std.proofs.lemmas.Nat.{xor_lt, pow-add, pow_pos, shr-shr, shr_le, and_mask, and_shr, and_le_r, le_or_l, le_or_r}
+use Rattle.std.proofs.lemmas.Nat.{xor_lt, pow-add, shr-shr, shr_le, and_mask, and_shr, le_or_l, le_or_r}
 use Rattle.std.proofs.lemmas.Nat.Bits.{and_high_mask}
 use Rattle.std.proofs.lemmas.Bool.Decides.{nat_tests}
 use Rattle.std.proofs.lemmas.Bool.{cases_lt}
@@ -434,9 +434,6 @@ passes_each w s e h is small =
     let high : bit_and ((w + 0x0606060606060606) % 2 ^ 64) 0xf0f0f0f0f0f0f0f0 ≡ 0 = ap (λ v. bit_and v 0xf0f0f0f0f0f0f0f0) sum ∙ no_nibbles (map (λ b. b + 6) s) (length_map (λ b. b + 6) s ∙ e) (sixes_below s small) in
     is_zero _ (ap (λ v. bit_or v (bit_and ((w + 0x0606060606060606) % 2 ^ 64) 0xf0f0f0f0f0f0f0f0)) low ∙ ap (bit_or 0) high)
 
-pub masked_below : (x k : ℕ) → bit_and x (2 ^ 64 - 2 ^ k) < 2 ^ 64
-masked_below x k = let h = and_le_r x (2 ^ 64 - 2 ^ k) in let p = pow_pos k in omega (arith, h, p)
-
 -- ---- short numbers
 
 alone : (t : List ℕ) → length t ≡ 0 → t ≡ []
@@ -484,9 +481,6 @@ one_zero : (s : List ℕ) → IsInt s → get_or s 0 0 ≡ 48 → length s ≡ 1
 one_zero [] int z = absurd int
 one_zero (b ∷ t) (inl alone_is) z = let n : length t ≡ 0 = ap length alone_is.1 in omega (arith, n)
 one_zero (b ∷ t) (inr more) z = let low = more.0 in absurd (omega arith)
-
-pub lead_alone : (line : List ℕ) (start stop : ℕ) → start < stop → stop ≤ length line → IsInt (slice_range line start stop) → get_or line start 0 ≡ 48 → stop - start ≡ 1
-lead_alone line start stop order within int z = sym (length_slice line start stop within) ∙ one_zero (slice_range line start stop) int (first_is line start stop order ∙ z)
 
 -- ---- behind a minus
 

@@ -35,9 +35,6 @@ zero_same s n q e =
 pub zero_normal : IsNormal (number (pos 0) (pos 0))
 zero_normal = record { normal = λ e. refl }
 
-pub zero_in_range : IsInRange (number (pos 0) (pos 0))
-zero_in_range = record { digits = omega arith; power_low = omega (arith, ints); power_high = omega (arith, ints) }
-
 -- the number c with k zeros at its end is the number c at a power k higher
 pub trimmed_same : (s : Bool) (n c k : ℕ) (p q : ℤ) → n ≡ c * 10 ^ k → q ≡ p +ℤ pos k → SameValue (number (signed s n) p) (number (signed s c) q)
 trimmed_same s n c k p q e f = same_scaled (signed s n) (signed s c) p q k (ap (signed s) e ∙ signed_times s c (10 ^ k)) f

@@ -1,5 +1,5 @@
 -- Whole numbers of units, and what is left of them.
-use Rattle.std.proofs.Common.{◌≡◌, ℕ, ◌*◌, ◌^◌, ◌<◌, ◌≤◌, ℤ, pos, negsuc, ◌+ℤ◌, ◌-ℤ◌, ◌*ℤ◌, ◌≤ℤ◌, ◌<ℤ◌, refl, sym, ap, ◌∙◌, arith}
+use Rattle.std.proofs.Common.{◌≡◌, ℕ, ◌*◌, ◌^◌, ◌<◌, ◌≤◌, ℤ, pos, negsuc, ◌+ℤ◌, ◌-ℤ◌, ◌*ℤ◌, ◌≤ℤ◌, ◌<ℤ◌, sym, ap, ◌∙◌, arith}
 use Rattle.std.specs.Prelude.{unsigned_abs}
 use Rattle.std.specs.Ordering.{int_cmp, MatchOrdering}
 use Rattle.std.specs.declared.cmp.Ordering.{Ordering}
@@ -7,8 +7,7 @@ use Rattle.std.specs.declared.cmp.Ordering.TheVariants.{Less, Equal, Greater}
 use Rattle.std.specs.Cmp.{int_cmp_is, int_ranked}
 use Rattle.std.specs.Int.{int_div_euclid, int_rem_euclid, w64, w128, cast_signed, cast_unsigned}
 use Rattle.std.specs.Prelude.{FitsSigned}
-use Rattle.std.proofs.lemmas.Int.{ints, unsigned_abs-mul, to_z-of_z, fits_signed_from_abs}
-use Rattle.std.proofs.lemmas.Nat.{mul-le}
+use Rattle.std.proofs.lemmas.Int.{ints, to_z-of_z, fits_signed_from_abs}
 use Rattle.cj_decimal.specs.Number.{value_order}
 use Rattle.cj_decimal.specs.Affine.{units}
 use Rattle.cj_decimal.proofs.TenPowers.{times_one}
@@ -27,19 +26,6 @@ pub euclid_high : (z : ℤ) → int_rem_euclid z (pos (10 ^ 18)) <ℤ pos (10 ^ 
 euclid_high (pos a) = omega (arith, ints)
 euclid_high (negsuc a) = omega (arith, ints)
 
--- the split is the only one
-pub split_quotient : (w p : ℤ) → pos 0 ≤ℤ p → p <ℤ pos (10 ^ 18) → int_div_euclid (w *ℤ pos (10 ^ 18) +ℤ p) (pos (10 ^ 18)) ≡ w
-split_quotient w p low high = quotient (w *ℤ pos (10 ^ 18) +ℤ p) (int_div_euclid (w *ℤ pos (10 ^ 18) +ℤ p) (pos (10 ^ 18))) (int_rem_euclid (w *ℤ pos (10 ^ 18) +ℤ p) (pos (10 ^ 18))) (euclid (w *ℤ pos (10 ^ 18) +ℤ p)) (euclid_low _) (euclid_high _) refl
-  where
-    quotient : (z d r : ℤ) → d *ℤ pos (10 ^ 18) +ℤ r ≡ z → pos 0 ≤ℤ r → r <ℤ pos (10 ^ 18) → z ≡ w *ℤ pos (10 ^ 18) +ℤ p → d ≡ w
-    quotient z d r e a b f = omega (arith, ints)
-
-pub split_remainder : (w p : ℤ) → pos 0 ≤ℤ p → p <ℤ pos (10 ^ 18) → int_rem_euclid (w *ℤ pos (10 ^ 18) +ℤ p) (pos (10 ^ 18)) ≡ p
-split_remainder w p low high = remainder (w *ℤ pos (10 ^ 18) +ℤ p) (int_div_euclid (w *ℤ pos (10 ^ 18) +ℤ p) (pos (10 ^ 18))) (int_rem_euclid (w *ℤ pos (10 ^ 18) +ℤ p) (pos (10 ^ 18))) (euclid (w *ℤ pos (10 ^ 18) +ℤ p)) (split_quotient w p low high) refl
-  where
-    remainder : (z d r : ℤ) → d *ℤ pos (10 ^ 18) +ℤ r ≡ z → d ≡ w → z ≡ w *ℤ pos (10 ^ 18) +ℤ p → r ≡ p
-    remainder z d r e f g = omega (arith, ints)
-
 -- products go over sums
 pub times_sum : (v x y : ℤ) → v *ℤ (x +ℤ y) ≡ v *ℤ x +ℤ v *ℤ y
 times_sum v x y =
@@ -51,9 +37,6 @@ times_scaled v a u =
     let scaled = product_is a (pos u) in
     let first = product_is v a in
     same_in _ _ (omega (arith, product_is v (a *ℤ pos u), product_is (v *ℤ a) (pos u), ap (λ n. up v * n) scaled.0, ap (λ n. up v * n) scaled.1, ap (λ n. down v * n) scaled.0, ap (λ n. down v * n) scaled.1, ap (λ n. n * u) first.0, ap (λ n. n * u) first.1))
-
-pub product_size : (a b : ℤ) (m n : ℕ) → unsigned_abs a ≤ m → unsigned_abs b ≤ n → unsigned_abs (a *ℤ b) ≤ m * n
-product_size a b m n h k = omega (arith, unsigned_abs-mul a b, mul-le (unsigned_abs a) (unsigned_abs b) m n h k)
 
 -- ---- how a number compares with another, by the parts of their difference
 pub order_from_difference : (x q d : ℤ) (r : Ordering) → x -ℤ q ≡ d → r ≡ int_cmp d (pos 0) → r ≡ int_cmp x q

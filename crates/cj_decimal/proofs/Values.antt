@@ -23,9 +23,6 @@ gap_add t u p h k =
     let w : t ≤ℤ p = omega (arith, ints) in
     omega (arith, ints, gap_is t u h, gap_is u p k, gap_is t p w)
 
-pub gap_up : (t : ℤ) (k : ℕ) → int_gap t (t +ℤ pos k) ≡ k
-gap_up t k = let w : t ≤ℤ (t +ℤ pos k) = omega (arith, ints) in omega (arith, ints, gap_is t (t +ℤ pos k) w)
-
 pub smaller_left : (m n : Number) → smaller_power m n ≤ℤ m.power
 smaller_left m n = omega (arith, ints, clamps)
 

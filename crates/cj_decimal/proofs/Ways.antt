@@ -92,9 +92,6 @@ stops_at_end s from at c h = stops_when s from at c (no_front_past s at h) (ap d
 carried : (s : List ℕ) (from n at m : ℕ) → Carries s from n at m → digits_front (drop at s) ≡ [] → m ≡ value_after n (digits_front (drop from s))
 carried s from n at m c none = sym (ap (λ ds. value_after m ds) none) ∙ c.value
 
-pub carried_at_other : (s : List ℕ) (from n at m : ℕ) → Carries s from n at m → at < length s → is_ascii_digit (get_or s at 0) ≡ false → m ≡ value_after n (digits_front (drop from s))
-carried_at_other s from n at m c h d = carried s from n at m c (no_front s at h d)
-
 pub carried_at_end : (s : List ℕ) (from n at m : ℕ) → Carries s from n at m → length s ≤ at → m ≡ value_after n (digits_front (drop from s))
 carried_at_end s from n at m c h = carried s from n at m c (no_front_past s at h)
 

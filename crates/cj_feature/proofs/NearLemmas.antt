@@ -20,13 +20,13 @@ use Rattle.cj_spans.specs.View.{tree, line_of, source_of, tokens_in, tree_at, do
 use Rattle.cj_feature.specs.declared.feature.search.near.Near.{Near}
 use Rattle.cj_feature.specs.declared.feature.search.near.lists.Lists.{Lists}
 use Rattle.cj_feature.specs.declared.feature.search.near.pending.Pending.{Pending}
-use Rattle.cj_feature.specs.declared.feature.search.near.slot.Held.TheVariants.{Nothing, Finished}
+use Rattle.cj_feature.specs.declared.feature.search.near.slot.Held.TheVariants.{Nothing}
 use Rattle.cj_feature.specs.declared.feature.search.near.slot.Slot.{Slot}
 use Rattle.cj_feature.specs.Links.{listed_in}
 use Rattle.cj_feature.specs.Relations.{IsIn, Children}
 use Rattle.cj_feature.specs.Reached.{itself, child, IsReached, IsReachedObject}
 use Rattle.cj_feature.specs.Slots.{IsHeld, IsReady}
-use Rattle.cj_feature.specs.Marking.{OnlyMarks, AreNamed, AreReached, ReachesName, Knows, WaitsFor, AddsNone, IsGuide, spans_by}
+use Rattle.cj_feature.specs.Marking.{AreNamed, AreReached, ReachesName, Knows, WaitsFor, AddsNone, IsGuide, spans_by}
 use Rattle.cj_feature.proofs.LinkFaults.{from-texts, from-listed}
 use Rattle.cj_spans.proofs.Marking.{line-of-document}
 use Rattle.cj_feature.proofs.Fitting.{one-some}
@@ -55,14 +55,6 @@ set-slot xs i v k s h =
 pub each-set : (P : ℕ → Type 0) (xs : List Slot) (i : ℕ) (v : Slot) → ((k n : ℕ) (s : Slot) → slice_get xs k ≡ Some s → IsReady s n → P n) → ((n : ℕ) → IsReady v n → P n) → (k n : ℕ) (s : Slot) → slice_get (slice_set xs i v) k ≡ Some s → IsReady s n → P n
 each-set P xs i v all here k n s h r =
     elim (set-slot xs i v k s h) [ inl e ↦ here n (subst (λ t. IsReady t n) (sym e) r) | inr g ↦ all k n s g r ]
-
--- one that is finished adds none
-pub set-finished : (xs : List Slot) (i : ℕ) (v : Slot) (m : ℕ) → IsHeld v (Finished m) → (k n : ℕ) (s : Slot) → slice_get (slice_set xs i v) k ≡ Some s → IsReady s n → (j : ℕ) × (slice_get xs j ≡ Some s)
-set-finished xs i v m f k n s h r =
-    elim (set-slot xs i v k s h) [
-      | inl e ↦ absurd (let same : v.packed ≡ s.packed = ap (λ (t : Slot). t.packed) e in omega (arith, same, f, r.packed, r.below))
-      | inr g ↦ (k, g)
-    ]
 
 -- slots in another order are the same
 pub among-moved : {X : Type 0} (xs ys : List X) (k : ℕ) (n : X) → IsPermutation xs ys → slice_get ys k ≡ Some n → (j : ℕ) × (slice_get xs j ≡ Some n)
@@ -123,12 +115,6 @@ named-kept objects line spans a b h named = λ k n s at ready. let from = h.slot
 
 pub known-kept : {O L : ℕ} (n : Node) (a b : Lists O L) → AddsNone a b → Knows n a → Knows n b
 known-kept n a b h k = named-kept (members_of (tree n)) (line_of n) (spans_by n) a b h k
-
-pub same-marks : (a : BoundedList Token) → OnlyMarks a a
-same-marks a = record { tokens = refl; list = refl }
-
-pub more-marks : (a b c : BoundedList Token) → OnlyMarks a b → OnlyMarks b c → OnlyMarks a c
-more-marks a b c h k = record { tokens = k.tokens ∙ h.tokens; list = k.list ∙ ap (λ (x : BoundedList Token). record x { elements = c.elements }) h.list }
 
 -- the guide stands, with none come to hand and others that wait
 pub guide-on : {O L P : ℕ} (line : List ℕ) (tokens : List Token) (a b : Near O L P) → IsGuide line tokens a → AddsNone a.lists b.lists → ((f : Tree) → Json line f → WaitsFor f line (spans_of tokens) a.pending → WaitsFor f line (spans_of tokens) b.pending) → IsGuide line tokens b

@@ -18,9 +18,6 @@ pub record Among (objects : Node) (w : Members) : Type 0 where
   pub line : members_line w ≡ line_of objects
   pub source : members_source w ≡ source_of objects
 
-pub among-all : (objects : Node) (w : Members) → members_left w ≡ members_of (tree objects) → members_line w ≡ line_of objects → members_source w ≡ source_of objects → Among objects w
-among-all objects w e l s = record { among = λ m. subst (λ ms. Contains ms m) e; line = l; source = s }
-
 -- its next one, and the rest
 module _ (objects : Node) (w v : Members) (m : Tree × Tree) (a : Among objects w) (e : members_left w ≡ m ∷ members_left v) where
   pub first-among : Contains (members_of (tree objects)) m

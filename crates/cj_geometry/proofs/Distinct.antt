@@ -11,7 +11,6 @@ use Rattle.cj_spans.specs.Parts.{text_of, are_same_texts, AreInOrder}
 use Rattle.cj_spans.proofs.Findings.{least-append}
 use Rattle.cj_geometry.specs.Rule.{one, repeats_of, repeats}
 use Rattle.cj_geometry.specs.Names.{is_above, Ascend, repeat_of, neighbours, last_of, names_of}
-use Rattle.cj_geometry.proofs.Ordered.{both_sides}
 use Rattle.cj_geometry.proofs.Neighbours.{absorbed, contains_cases, contains_first, contains_later, contains_none, AreDealt, HaveNoGap, IsPast, all_dealt, none_past, last_past, last_among}
 
 -- ---- what a repeated name is
@@ -131,15 +130,6 @@ pub record AreNext (ms : List (Tree × Tree)) (floor : Option Tree) (ts : List T
   pub named : All (Contains (names_of ms)) ts
   pub past : All (IsPast floor) ts
   pub no_gap : HaveNoGap (names_of ms) floor ts
-
-pub reached_first : (ms : List (Tree × Tree)) (o : Option Finding) → HasReached ms o o None
-reached_first ms o = record {
-  told = [];
-  sum = refl;
-  right = All-nil (Contains (repeats ms));
-  floor_named = tt;
-  dealt = λ t u ct cu s l h. absurd (both_sides refl h);
-}
 
 pub reached_more : (ms : List (Tree × Tree)) → AreInOrder ms → (old now next : Option Finding) (floor last : Option Tree) (ts : List Tree) → HasReached ms old now floor → AreNext ms floor ts → next ≡ least now (neighbours floor ts) → last ≡ last_of floor ts
     → HasReached ms old next last

@@ -1,5 +1,5 @@
 -- What is kept of a list at even steps.
-use Rattle.std.proofs.Common.{◌≡◌, ℕ, zero, suc, ◌+◌, ◌-◌, ◌*◌, ◌/◌, ◌%◌, ◌<◌, ◌≤◌, List, [], ◌∷◌, ◌++◌, length, take, drop, get_or, slice_get, inl, inr, refl, sym, ap, subst, arith, ◌∙◌, length-append, mul-zero}
+use Rattle.std.proofs.Common.{◌≡◌, ℕ, zero, suc, ◌+◌, ◌-◌, ◌*◌, ◌/◌, ◌%◌, ◌<◌, ◌≤◌, List, [], ◌∷◌, ◌++◌, length, take, drop, get_or, slice_get, inl, inr, refl, sym, ap, arith, ◌∙◌, mul-zero}
 use Rattle.std.proofs.Math.ListN.{set}
 use Rattle.std.proofs.lemmas.Bool.{cases_lt}
 use Rattle.std.proofs.lemmas.List.{get_or-set_same, get_or-set_other, take-append-drop, length-set}
@@ -110,12 +110,6 @@ pub on_else : (places step : ℕ) (ts left : List Tree) (t : Tree) (rest : List 
 on_else places step ts left t rest sizes sizes' place place' until until' sum own w e z s p u o =
     let noted = passes places step ts left t rest sizes place until sum w e (omega arith) in
     rw (s, p, u, o) noted
-
--- at the end all steps are noted
-pub all_noted : (places step : ℕ) (ts left : List Tree) (sizes : List ℕ) (place until passed : ℕ) → IsNoted places step ts left sizes place until passed → left ≡ [] → AreSizesAt step ts sizes
-all_noted places step ts left sizes place until passed w e = λ n h.
-    let none = ap length e in let at = w.next in
-    w.noted n (elim (cases_lt n place) [ inl l ↦ l | inr g ↦ let high = mul-le place step n step g (omega arith) in absurd (omega arith) ])
 
 -- ---- an item by its number
 

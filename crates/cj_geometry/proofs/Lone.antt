@@ -1,5 +1,5 @@
 -- Items at the front of an array that hold nothing, and have no finding.
-use Rattle.std.proofs.Common.{◌≡◌, ℕ, zero, suc, ◌+◌, ◌<◌, ◌≤◌, List, [], ◌∷◌, ◌++◌, length, take, drop, Bool, true, false, not, nat_lt, Option, Some, None, pos, refl, sym, ap, subst, arith, ◌∙◌, add-one}
+use Rattle.std.proofs.Common.{◌≡◌, ℕ, zero, suc, ◌+◌, ◌<◌, ◌≤◌, List, [], ◌∷◌, ◌++◌, length, take, drop, Bool, true, false, not, nat_lt, Option, Some, None, pos, refl, sym, ap, subst, arith, ◌∙◌}
 use Rattle.std.specs.List.{flat_map}
 use Rattle.std.specs.Prelude.{ℤ, IfSome, IsSome}
 use Rattle.std.proofs.lemmas.List.{length-drop}
@@ -12,7 +12,7 @@ use Rattle.cj_spans.specs.Kinds.{is_number}
 use Rattle.cj_spans.specs.Parts.{kind_of}
 use Rattle.cj_decimal.specs.Class.{Class, no_number, out_of_range, not_whole, whole}
 use Rattle.cj_decimal.proofs.Classes.{class}
-use Rattle.cj_geometry.specs.Rule.{one, spelling, index, is_outside, whole_of, whole_by, whole_number, whole_findings}
+use Rattle.cj_geometry.specs.Rule.{spelling, index, is_outside, whole_of, whole_by, whole_number, whole_findings}
 use Rattle.cj_geometry.specs.Lone.{AreLone}
 use Rattle.cj_geometry.proofs.Numbers.{index-of-whole}
 
@@ -56,9 +56,6 @@ module _ (n : ℕ) (ts : List Tree) (t : Tree) (rest : List Tree) (next : drop n
 -- what is counted is less than what an array holds
 pub lone-below : (n : ℕ) (ts : List Tree) → AreLone n ts → n ≤ total_size ts
 lone-below n ts h = let f = size-front n ts in let s = h.sizes in omega (arith, f, s)
-
-pub lone-none : (ts : List Tree) → AreLone 0 ts
-lone-none ts = record { within = omega arith; sizes = refl }
 
 -- ---- a whole number
 

@@ -214,11 +214,3 @@ of-name n t small h = of-text object_types (chars (row_numbered n).name) t (text
 pub of-name-type : (o : ObjectType) (t : Tree) → has_text (chars (row_at o).name) t ≡ true → row_of t ≡ Some (row_at o)
 of-name-type o t h = of-name (number_of o) t (number-below o) h
 
--- a tree whose row this is has its name as a text
-pub row-named : (rows : List ObjectRow) (t : Tree) (r : ObjectRow) → row_in rows t ≡ Some r → has_text (chars r.name) t ≡ true
-row-named [] t r h = cc
-row-named (q ∷ qs) t r h = go (has_text (chars q.name) t) refl (row-named qs t r) h
-  where
-    go : (b : Bool) → has_text (chars q.name) t ≡ b → (row_in qs t ≡ Some r → has_text (chars r.name) t ≡ true) → cond b (Some q) (row_in qs t) ≡ Some r → has_text (chars r.name) t ≡ true
-    go true here later k = let same : q ≡ r = cc in rw (← same) here
-    go false other later k = later k

@@ -1,38 +1,19 @@
 -- Boundaries and semantic values, one level at a time.
-use Rattle.std.proofs.Common.{◌≡◌, ℕ, zero, suc, ◌-◌, ◌<◌, List, [], ◌∷◌, ◌++◌, Option, false, arith, refl, ap, ◌∙◌}
+use Rattle.std.proofs.Common.{◌≡◌, ℕ, zero, suc, ◌-◌, ◌<◌, List, [], ◌∷◌, ◌++◌, Option, arith, refl, ap, ◌∙◌}
 use Rattle.std.specs.List.{flat_map}
 use Rattle.std.proofs.Math.Numerals.{sub-one}
-use Rattle.cj_spans.specs.declared.token.Kind.TheVariants.{Array, Null}
-use Rattle.cj_spans.specs.declared.reason.Reason.TheVariants.{VertexIndex, WrongKind}
+use Rattle.cj_spans.specs.declared.token.Kind.TheVariants.{Array}
 use Rattle.cj_spans.specs.Tree.{Tree}
 use Rattle.cj_spans.specs.Parts.{kind_of, items_of}
-use Rattle.cj_spans.specs.Kinds.{is_array, is_null}
-use Rattle.cj_geometry.specs.Rule.{one, index}
 use Rattle.cj_geometry.specs.Geometry.{shape, entry, values, beside, other_count, other_parts, parts_of}
-
-pub shape-zero : (v : Option ℕ) (d : ℕ) (t : Tree) → d ≡ 0 → shape v d t ≡ index VertexIndex v t
-shape-zero v zero t h = refl
-shape-zero v (suc d) t h = absurd (omega arith)
 
 pub shape-array : (v : Option ℕ) (d : ℕ) (t : Tree) → 0 < d → kind_of t ≡ Array → shape v d t ≡ flat_map (shape v (d - 1)) (items_of t)
 shape-array v zero t h k = absurd (omega arith)
 shape-array v (suc d) t h k = rw (k, sub-one (suc d)) refl
 
-pub values-null : (m : Option ℕ) (d : ℕ) (t : Tree) (b : Option Tree) → kind_of t ≡ Null → values m d t b ≡ []
-values-null m zero t b k = rw k refl
-values-null m (suc d) t b k = rw k refl
-
 pub values-array : (m : Option ℕ) (d : ℕ) (t : Tree) (b : Option Tree) → 0 < d → kind_of t ≡ Array → values m d t b ≡ other_count t b ++ beside (values m (d - 1)) (items_of t) (parts_of b)
 values-array m zero t b h k = absurd (omega arith)
 values-array m (suc d) t b h k = rw (k, sub-one (suc d)) refl
-
-pub values-zero : (m : Option ℕ) (d : ℕ) (t : Tree) (b : Option Tree) → d ≡ 0 → values m d t b ≡ entry m t
-values-zero m zero t b h = refl
-values-zero m (suc d) t b h = absurd (omega arith)
-
-pub values-suc : (m : Option ℕ) (d : ℕ) (t : Tree) (b : Option Tree) → 0 < d → (is_null (kind_of t) ≡ false) → (is_array (kind_of t) ≡ false) → values m d t b ≡ one WrongKind t
-values-suc m zero t b h k l = absurd (omega arith)
-values-suc m (suc d) t b h k l = rw (k, l) refl
 
 -- at the lowest level what stands beside the values tells nothing
 pub beside-entries : (m : Option ℕ) (ts bs : List Tree) → beside (values m 0) ts bs ≡ flat_map (entry m) ts

@@ -1,5 +1,5 @@
 -- Arrays of three whole numbers have no finding.
-use Rattle.std.proofs.Common.{◌≡◌, ℕ, suc, ◌+◌, ◌<◌, ◌≤◌, List, [], ◌∷◌, ◌++◌, length, ◌⊎◌, inl, inr, refl, sym, ap, subst, arith, ◌∙◌}
+use Rattle.std.proofs.Common.{◌≡◌, ℕ, suc, ◌≤◌, List, [], ◌∷◌, ◌++◌, length, ◌⊎◌, inl, inr, refl, sym, ap, subst, arith, ◌∙◌}
 use Rattle.std.specs.Prelude.{All}
 use Rattle.std.specs.List.{flat_map}
 use Rattle.cj_spans.specs.declared.token.Kind.TheVariants.{Array}
@@ -7,7 +7,7 @@ use Rattle.cj_spans.specs.declared.reason.Reason.{Reason}
 use Rattle.cj_spans.specs.Tree.{Tree}
 use Rattle.cj_spans.specs.Parts.{kind_of, items_of, spelling_of}
 use Rattle.cj_spans.specs.Wholes.{IsWholeNumber, IsShortWhole}
-use Rattle.cj_decimal.specs.Spelling.{IsInt, IsFewDigits, IsFewSigned}
+use Rattle.cj_decimal.specs.Spelling.{IsFewDigits, IsFewSigned}
 use Rattle.cj_decimal.proofs.Few.{few_whole}
 use Rattle.cj_geometry.specs.Rule.{of_length, whole_number}
 use Rattle.cj_geometry.proofs.Lone.{whole-none}

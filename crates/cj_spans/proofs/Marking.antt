@@ -72,9 +72,6 @@ get_bare [] k t h = cc
 get_bare (u ∷ ts) zero t h = let e : u ≡ t = cc in ap (λ (v : Token). Some (token_at v.start v.stop (link_of v))) e
 get_bare (u ∷ ts) (suc k) t h = get_bare ts k t h
 
-mod_twice : (n : ℕ) → n % 2 ^ 31 % 2 ^ 31 ≡ n % 2 ^ 31
-mod_twice n = omega arith
-
 -- the law of links, at a token, of tokens that differ by marks alone
 linked_bare : (ts us : List Token) → bare us ≡ bare ts → AreLinked ts → AreLinked us
 linked_bare ts us e linked = λ k t h.
@@ -142,11 +139,6 @@ keeps old new n t h e l w =
 pub found_at-number : (n : Node) (k : ℕ) → k < length (tokens_in (source_of n)) → tree_in (source_of n) k ≡ tree_at (line_of n) (spans_of (tokens_in (source_of n))) k
 unfolding tree_in source_of tokens_in line_of
 found_at-number n k l = let e : min k (length n.source.tokens.now - 1) ≡ k = omega arith in ap (tree_at n.source.line.now (spans_of n.source.tokens.now)) e
-
--- nodes beside each other are of one line
-pub line-of-source : (m n : Node) → source_of m ≡ source_of n → line_of m ≡ line_of n
-unfolding source_of line_of
-line-of-source m n e = ap (λ (s : Source). s.line.now) e
 
 pub line-of-document : (n : Node) (d : Doc) → source_of n ≡ document_source d → line_of n ≡ document_line d
 unfolding source_of line_of document_source document_line

@@ -123,9 +123,6 @@ mutual
   led_members_room {b} (no_led_members i) = omega arith
   led_members_room {b} (led_member i j k l us n u ld nm p c) = let e = led_members_room ld in let f = padded_room p in let g = members_size-add us n u in let h = named_room nm in omega arith
 
-pub few_tokens : (b : List ℕ) (ts : List Token) → AreOf b ts → length ts ≤ length b
-few_tokens b ts a = let e = padded_room a.json in let c = a.count in omega arith
-
 -- ---- a walk over the tokens that start before a place
 
 before_step : (ts : List Token) (j n : ℕ) (t : Token) → slice_get ts n ≡ Some t → t.start < j → before j (drop n ts) ≡ suc (before j (drop (suc n) ts))

@@ -1,6 +1,6 @@
 -- Arrays of three whole numbers, told by their tokens and by the bytes between their brackets.
 use Rattle.std.proofs.Common.{◌≡◌, ℕ, zero, suc, ◌+◌, ◌-◌, ◌<◌, ◌≤◌, List, [], ◌∷◌, ◌++◌, length, drop, get_or, slice_get, slice_range, Bool, true, false, nat_eq, Option, Some, None, ◌⊎◌, inl, inr, refl, sym, ap, subst, arith, ◌∙◌}
-use Rattle.std.specs.Prelude.{All, ⊤, option_and_then}
+use Rattle.std.specs.Prelude.{All}
 use Rattle.std.specs.Coded.{coded_bool}
 use Rattle.std.proofs.lemmas.Bool.{cases_lt}
 use Rattle.std.proofs.lemmas.Bool.Decides.{nat_tests}
@@ -15,18 +15,18 @@ use Rattle.cj_spans.specs.declared.lex.Lex.{Lex}
 use Rattle.cj_spans.specs.Tree.{Tree, size}
 use Rattle.cj_spans.specs.Json.{byte}
 use Rattle.cj_spans.specs.Kinds.{is_number}
-use Rattle.cj_spans.specs.Forest.{kind_by, node, held, forest}
+use Rattle.cj_spans.specs.Forest.{kind_by, node}
 use Rattle.cj_spans.specs.Machine.{lex_kind}
 use Rattle.cj_spans.specs.Parts.{kind_of, spelling_of, items_of}
 use Rattle.cj_spans.specs.Preorder.{spans_of}
 use Rattle.cj_spans.specs.Scan.{AreSized}
-use Rattle.cj_spans.specs.Sound.{AreWithin, AreRising, AreNested, AreLinked, AreSpelled, AreWhole, before, link_of, shown_between}
-use Rattle.cj_spans.specs.Spelling.{IsNumber, IsFrac, IsExp, IsMinus, IsInt}
+use Rattle.cj_spans.specs.Sound.{AreWithin, AreRising, AreNested, AreLinked, AreSpelled, before, link_of}
+use Rattle.cj_spans.specs.Spelling.{IsNumber, IsFrac, IsExp}
 use Rattle.cj_spans.specs.View.{tree_at}
 use Rattle.cj_spans.specs.Wholes.{IsWholeNumber, IsShortWhole, IsWholeSign}
 use Rattle.cj_spans.proofs.Places.{slice_has, slice-length}
 use Rattle.cj_spans.proofs.Sizes.{before_walked}
-use Rattle.cj_spans.proofs.Spellings.{none_some, some_same, reading, reading_sound, reading_whole}
+use Rattle.cj_spans.proofs.Spellings.{some_same, reading, reading_sound, reading_whole}
 use Rattle.cj_spans.proofs.Views.{below, below_at, kind_shown, spelling_shown}
 use Rattle.cj_spans.proofs.Walks.{before_drop, starts_before, items_from_link, item_on, shown_none, whole_later, LinksTo}
 

@@ -229,21 +229,6 @@ pub record Cleared {T : Type 0} (old empty : BoundedList T) : Type 0 where
 pub cleared : {T : Type 0} (old empty : BoundedList T) → Becomes old [] empty → Cleared old empty
 cleared old empty c = let p = c.peak in record { limit = c.limit; peak = omega arith; room = c.room }
 
-pub law_of : (b : List ℕ) (old empty new : BoundedList Token) (old_stack empty_stack new_stack : BoundedList ℕ) → Cleared old empty → Cleared old_stack empty_stack → KeepsLaw b empty new empty_stack new_stack → KeepsLaw b old new old_stack new_stack
-law_of b old empty new old_stack empty_stack new_stack c d k =
-    let e = c.peak in let f = d.peak in let p = k.token_peak in let q = k.stack_peak in
-    record {
-      law = k.law;
-      token_limit = k.token_limit ∙ c.limit;
-      token_peak = omega arith;
-      token_room = λ r. k.token_room (c.room r);
-      tokens_within = k.tokens_within;
-      stack_limit = k.stack_limit ∙ d.limit;
-      stack_peak = omega arith;
-      stack_room = λ r. k.stack_room (d.room r);
-      stack_within = k.stack_within;
-    }
-
 pub scan_of : (b : List ℕ) (old empty new : BoundedList Token) (old_stack empty_stack new_stack : BoundedList ℕ) → Cleared old empty → Cleared old_stack empty_stack → KeepsLaw b empty new empty_stack new_stack → length b ≤ 1073741824 → Accepts b new empty_stack new_stack
     → (t : Tree) × IsScanOf b t old new old_stack new_stack
 scan_of b old empty new old_stack empty_stack new_stack c d k few_bytes a =

@@ -1,5 +1,5 @@
 -- Whole numbers in an array: the machine over them.
-use Rattle.std.proofs.Common.{◌≡◌, ℕ, suc, ◌+◌, ◌<◌, ◌≤◌, List, [], ◌∷◌, ◌++◌, length, Bool, true, false, nat_eq, Option, Some, None, refl, sym, ap, subst, arith, ◌∙◌, ◌⊎◌, inl, inr}
+use Rattle.std.proofs.Common.{◌≡◌, ℕ, suc, ◌+◌, ◌<◌, ◌≤◌, List, [], ◌∷◌, ◌++◌, length, true, false, nat_eq, Option, Some, None, refl, sym, ap, subst, arith, ◌∙◌, ◌⊎◌, inl, inr}
 use Rattle.std.proofs.lemmas.Bool.{cond-false}
 use Rattle.std.specs.Prelude.{IfSome, option_map}
 use Rattle.std.proofs.lemmas.Bool.Decides.{nat_tests}
@@ -119,14 +119,3 @@ minus_is b i k e d =
 pub behind_minus_stop : (b : List ℕ) (i : ℕ) (r : Option ℕ) → byte b i ≡ 45 → IfSome r (λ k. (48 ≤ byte b (i + 1)) × IsNumberUpTo b (i + 1) k) → IfSome r (λ k. IsNumberUpTo b i k)
 behind_minus_stop b i None e h = tt
 behind_minus_stop b i (Some k) e h = minus_is b i k e h
-
--- ---- what a test says
-
-pub in_digits : (c : ℕ) (r : Bool) → r ≡ is_digit c → r ≡ true → (48 ≤ c) × (c ≤ 57)
-in_digits c r e h = let f = sym e ∙ h in (low c f, high c f)
-  where
-    low : (c : ℕ) → is_digit c ≡ true → 48 ≤ c
-    low c f = grind (arith, nat_tests)
-
-    high : (c : ℕ) → is_digit c ≡ true → c ≤ 57
-    high c f = grind (arith, nat_tests)

@@ -1,4 +1,4 @@
-use Rattle.std.proofs.Common.{◌≡◌, ◌+◌, refl, arith}
+use Rattle.std.proofs.Common.{◌+◌, refl, arith}
 use Rattle.cj_spans.specs.declared.lex.Lex.TheVariants.{Whole}
 use Rattle.cj_spans.specs.Json.{byte}
 use Rattle.cj_spans.proofs.Atoms.{read_to}
