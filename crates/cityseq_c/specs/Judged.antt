@@ -5,10 +5,9 @@ use Rattle.cj_stream.specs.declared.ending.End.TheVariants.{Complete, Refused, R
 use Rattle.cj_stream.specs.declared.running.Outcome.{Outcome}
 use Rattle.cj_stream.specs.Engine.{Delivers}
 use Rattle.cj_stream.specs.Headline.{IsUnhindered}
-use Rattle.cj_stream.specs.Item.{Item}
 use Rattle.cj_stream.specs.Run.{Account, CountsAll, Run}
-use Rattle.cj_stream.specs.Sink.{Took}
-use Rattle.cj_stream.specs.Verdict.{Rules, ending, kept, reported, reported_first}
+use Rattle.cj_stream.specs.Sink.{Took, SinkLaw}
+use Rattle.cj_stream.specs.Verdict.{Rules, ending, kept, reported, reported_first, stretch}
 use Rattle.cityseq_c.specs.ReportSlice.{Holds}
 use Rattle.cityseq_c.specs.declared.report_slice.Told.{Told}
 
@@ -38,8 +37,8 @@ pub record Tells (rules : Rules) (text : List ℕ) (outcome : Outcome) (old new 
 
 -- a text was judged: what is told of it, and what a sink took: all that is kept of it, or that of the lines that were
 -- dealt with, and then what a fault may leave
-pub record Judged {S : Type 0} (takes leaves : S → Item → S → Type 0) (rules : Rules) (text : List ℕ)
+pub record Judged {S : Type 0} (law : SinkLaw S) (rules : Rules) (text : List ℕ)
     (outcome : Outcome) (s t : S) (old new : List Told) : Type 0 where
   pub tells : Tells rules text outcome old new
-  pub took : IsUnhindered outcome.ended → Took takes s (kept rules text) t
-  pub delivers : Delivers takes leaves rules text 0 outcome.lines s t (Some outcome.ended)
+  pub took : IsUnhindered outcome.ended → Took law.takes s (kept rules text) t
+  pub delivers : Delivers law (stretch rules text 0 outcome.lines) s t (Some outcome.ended)

@@ -83,10 +83,10 @@ fn judge_stream<S: LineSink>(
     requires fresh { IsFresh engine.old }
     requires cut { AreCut header.now part.now }
     requires short { length header.now + length part.now ≤ 2 ^ 60 }
-    ensures ok { IfOk result (λ outcome. Judged S.takes S.leaves (rules_of engine.old) (header.now ++ part.now) outcome
+    ensures ok { IfOk result (λ outcome. Judged S.law (rules_of engine.old) (header.now ++ part.now) outcome
         sink.old sink.new reports.old reports.new) }
     ensures cause { IfOk result (λ outcome. outcome.ended ≡ End.WriteFault
-        → HasRisen (S.failures sink.old) (S.failures sink.new)) }
+        → HasRisen (S.law.failures sink.old) (S.law.failures sink.new)) }
     ensures memory { IfErr result (λ why. why ≡ NotJudged.Memory) }
     ensures unread { OnErr result ((sink.new ≡ sink.old) × (reports.new ≡ reports.old)) }
 {
@@ -121,10 +121,10 @@ pub fn judge<S: LineSink>(
     reports: &mut [Told],
 ) -> Result<Outcome, NotJudged>
     ensures ok { IfOk result (λ outcome. (rules : Rules) × IsAsked request.now rules
-        × Judged S.takes S.leaves rules (header.now ++ part.now) outcome sink.old sink.new reports.old reports.new) }
+        × Judged S.law rules (header.now ++ part.now) outcome sink.old sink.new reports.old reports.new) }
     ensures fit { OnOk result (IsFit request.now header.now part.now) }
     ensures cause { IfOk result (λ outcome. outcome.ended ≡ End.WriteFault
-        → HasRisen (S.failures sink.old) (S.failures sink.new)) }
+        → HasRisen (S.law.failures sink.old) (S.law.failures sink.new)) }
     ensures declined { IfErr result (DeclinesCall request.now header.now part.now) }
     ensures unread { OnErr result ((sink.new ≡ sink.old) × (reports.new ≡ reports.old)) }
 {

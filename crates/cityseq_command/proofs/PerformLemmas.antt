@@ -9,13 +9,13 @@ use Rattle.cj_stream.specs.declared.output.WriteFault.{WriteFault as Unwritten}
 use Rattle.cj_stream.specs.declared.report_sink.Report.{Report}
 use Rattle.cj_stream.specs.declared.running.Outcome.{Outcome}
 use Rattle.cj_stream.specs.Engine.{Counts}
-use Rattle.cj_stream.specs.Headline.{Headline}
+use Rattle.cj_stream.specs.Headline.{Headline, fate_of, outputs}
 use Rattle.cj_stream.specs.Item.{is_feature}
 use Rattle.cj_stream.specs.Output.{Channel}
 use Rattle.cj_stream.specs.ReportSink.{Collects}
 use Rattle.cj_stream.specs.Run.{Run, Gave, IsReadWithin, RunsNoting, Writes, WritesLines}
 use Rattle.cj_stream.specs.Sink.{HasRisen, RisesOnErr, AppendsPart, Took}
-use Rattle.cj_stream.specs.Verdict.{Rules, good, kept, kept_first, reported, reported_first}
+use Rattle.cj_stream.specs.Verdict.{Rules, good, kept, kept_first, reported, reported_first, up_to}
 use Rattle.cj_stream.specs.Bound.{exact_peaks}
 use Rattle.cj_stream.specs.TallySink.{Tally, IsTallyOf, no_tally}
 use Rattle.cj_stream.specs.Query.{rules_for}
@@ -54,7 +54,8 @@ Writes-kept rules r ReadLimit a b c h k = Appends-kept a b c _ h k
 Writes-kept rules r WriteFault a b c h k = AppendsPart-kept a b c _ h k
 Writes-kept rules r Memory a b c h k = AppendsPart-kept a b c _ h k
 
-WritesLines-kept : (rules : Rules) (r : List ℕ) (n : ℕ) (e : End) (a b c : Option (List ℕ)) → WritesLines rules r n e a b → Keeps b c → WritesLines rules r n e a c
+WritesLines-kept : (rules : Rules) (r : List ℕ) (n : ℕ) (e : End) (a b c : Option (List ℕ))
+    → WritesLines (up_to rules r n) e a b → Keeps b c → WritesLines (up_to rules r n) e a c
 WritesLines-kept rules r n Complete a b c h k = Appends-kept a b c _ h k
 WritesLines-kept rules r n (Refused line place reason) a b c h k = Appends-kept a b c _ h k
 WritesLines-kept rules r n ReadFault a b c h k = Appends-kept a b c _ h k
@@ -156,8 +157,11 @@ SaysSummary-kept rules r e told a b c says k f = record {
   says = Says-kept _ e told a b c says.says k f;
 }
 
-Headline-kept : {N : Type 0} (notes : N → Report → N → Type 0) (rules : Rules) (text given : List ℕ) (e : End) (peaks : Peaks) (a b c : Channel) (n m : N) → Headline notes rules text given e peaks a b n m
-    → Keeps b.bytes c.bytes → c.failures ≡ b.failures → Headline notes rules text given e peaks a c n m
+Headline-kept : {N : Type 0} (notes : N → Report → N → Type 0) (rules : Rules) (text given : List ℕ) (e : End)
+    (peaks : Peaks) (a b c : Channel) (n m : N) → Headline notes (fate_of rules text given e peaks)
+    (outputs a n) (outputs b m)
+    → Keeps b.bytes c.bytes → c.failures ≡ b.failures → Headline notes (fate_of rules text given e peaks)
+    (outputs a n) (outputs c m)
 Headline-kept notes rules text given e peaks a b c n m h k f = record {
   writes = λ u. Appends-kept a.bytes b.bytes c.bytes _ (h.writes u) k;
   gives = h.gives;

@@ -8,7 +8,7 @@ use Rattle.clap.specs.declared.error.kind.ErrorKind.TheVariants.{OutOfMemory, Di
 use Rattle.cj_budget.specs.Limits.{LimitPair}
 use Rattle.cj_stream.specs.Criteria.{everything}
 use Rattle.cj_stream.specs.Bound.{exact_peaks}
-use Rattle.cj_stream.specs.Headline.{HeadlineOfRun}
+use Rattle.cj_stream.specs.Headline.{HeadlineOfRun, outputs}
 use Rattle.cj_stream.specs.Item.{is_feature}
 use Rattle.cj_stream.specs.Options.{OptionSet}
 use Rattle.cj_stream.specs.Query.{rules_for}
@@ -17,7 +17,7 @@ use Rattle.cj_stream.specs.Run.{Run, Account, IsReadWithin, RunsNoting, StopsInT
 use Rattle.cj_stream.specs.Output.{Channel}
 use Rattle.cj_stream.specs.Sink.{HasRisen}
 use Rattle.cj_stream.specs.TallySink.{Tally, IsTallyOf}
-use Rattle.cj_stream.specs.Verdict.{Rules, good, kept, reported}
+use Rattle.cj_stream.specs.Verdict.{Rules, good, kept, reported, up_to}
 use Rattle.cj_stream.specs.declared.ending.End.{End}
 use Rattle.cj_stream.specs.declared.ending.End.TheVariants.{Complete, Refused, ReadFault, ReadLimit, WriteFault, Memory}
 use Rattle.cj_stream.specs.declared.output.WriteFault.{WriteFault as Unwritten}
@@ -98,8 +98,9 @@ Answers (Check limits options) r at_end outcome reports told old new =
     SaysCheck (all_under limits options) r outcome.ended told old new
 Answers (Filter limits query options) r at_end outcome reports told old new =
     (told ≡ outcome.ended) × Writes (rules_for limits query options) r outcome.ended old.bytes new.bytes
-    × HeadlineOfRun Collects (run_of (Filter limits query options) r outcome) at_end old new [] reports
-    × WritesLines (rules_for limits query options) r outcome.lines outcome.ended old.bytes new.bytes
+    × HeadlineOfRun Collects (run_of (Filter limits query options) r outcome) at_end (outputs old [])
+    (outputs new reports)
+    × WritesLines (up_to (rules_for limits query options) r outcome.lines) outcome.ended old.bytes new.bytes
 Answers (Info limits options) r at_end outcome reports told old new =
     SaysSummary (all_under limits options) r outcome.ended told old new
 

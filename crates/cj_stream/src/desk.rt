@@ -8,7 +8,7 @@
 //! functions that use them. A view borrows the lists, so they change only after the call of the
 //! sink. A line's number is the number of lines before it plus one, so the header has number 1.
 ghost use Rattle.std.specs.Prelude.{◌≡◌, ◌+◌, ◌<◌, ◌≤◌, ◌^◌, ◌/◌, List, length, [], OnOk, OnErr, IfOk, IfErr, IsErrOf};
-ghost use Rattle.std.specs.Prelude.{MatchResult, IsTrue, None, Some};
+ghost use Rattle.std.specs.Prelude.{MatchResult, IsTrue, None, Some, false};
 ghost use Rattle.cj_budget.specs.Bounded.{IsNew, Becomes};
 ghost use Rattle.cj_budget.specs.Limits.{InLine};
 ghost use Rattle.cj_spans.specs.Marks.{AreUnmarked};
@@ -16,6 +16,7 @@ ghost use Rattle.cj_stream.specs.Ending.{IsLaterEnd};
 ghost use Rattle.cj_stream.specs.Item.{tree_of, item_at};
 ghost use Rattle.cj_stream.specs.Sink.{HasRisen};
 ghost use Rattle.cj_stream.specs.Verdict.{Valid, refusal_of, tree_verdict};
+ghost use Rattle.cj_stream.specs.Reading.{JudgedAs};
 
 use crate::ending::End;
 use crate::judge::{Content, judge};
@@ -132,12 +133,12 @@ impl<'q> Desk<'q> {
         requires shows { ShowsTree content.now self.old.limits.depth self.old.header_tokens.elements }
         requires header_parts { IsHeaderOf (tree_of self.old.limits.depth content.now)
             (rules_for self.old.limits self.old.query.now self.old.options) header_parts }
-        ensures counts { S.failures sink.old ≤ S.failures sink.new }
-        ensures cause { IsErrOf result End.WriteFault → HasRisen (S.failures sink.old) (S.failures sink.new) }
+        ensures counts { S.law.failures sink.old ≤ S.law.failures sink.new }
+        ensures cause { IsErrOf result End.WriteFault → HasRisen (S.law.failures sink.old) (S.law.failures sink.new) }
         ensures puts { MatchResult result
-            (λ _. S.takes sink.old (item_at self.old.limits.depth 1 (tree_of self.old.limits.depth content.now)
+            (λ _. S.law.takes sink.old (item_at self.old.limits.depth 1 (tree_of self.old.limits.depth content.now)
             (record { content = content.now; lf = lf })) sink.new)
-            (λ e. (e ≡ End.WriteFault) × S.leaves sink.old (item_at self.old.limits.depth 1
+            (λ e. (e ≡ End.WriteFault) × S.law.leaves sink.old (item_at self.old.limits.depth 1
             (tree_of self.old.limits.depth content.now) (record { content = content.now; lf = lf })) sink.new) }
         ensures same { OnErr result (self.new ≡ self.old) }
         ensures rest { OnOk result (self.new ≡ record self.old { header_parts = self.new.header_parts }) }
@@ -188,13 +189,13 @@ impl<'q> Desk<'q> {
         requires marks { HasMarks content.now self.now.limits self.now.options self.now.line_tokens.elements }
         requires keeps { KeepsHeader first.now (rules_for self.now.limits self.now.query.now self.now.options)
             self.now.header_tokens.elements self.now.header_parts }
-        ensures counts { S.failures sink.old ≤ S.failures sink.new }
-        ensures cause { IsErrOf result End.WriteFault → HasRisen (S.failures sink.old) (S.failures sink.new) }
-        ensures hands { Hands S.takes S.leaves
+        ensures counts { S.law.failures sink.old ≤ S.law.failures sink.new }
+        ensures cause { IsErrOf result End.WriteFault → HasRisen (S.law.failures sink.old) (S.law.failures sink.new) }
+        ensures hands { Hands S.law (JudgedAs (before + 1) false
             (tree_verdict (rules_for self.now.limits self.now.query.now self.now.options) (before + 1)
-            (tree_of self.now.limits.depth first.now) (tree_of self.now.limits.depth content.now)) (before + 1)
+            (tree_of self.now.limits.depth first.now) (tree_of self.now.limits.depth content.now))
             (item_at self.now.limits.depth (before + 1) (tree_of self.now.limits.depth first.now)
-            (record { content = content.now; lf = lf })) sink.old result sink.new }
+            (record { content = content.now; lf = lf }))) sink.old result sink.new }
         ensures end { IfErr result IsLaterEnd }
     {
         let Some(header_parts) = &self.header_parts else {

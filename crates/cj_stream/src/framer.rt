@@ -37,11 +37,12 @@ ghost use Rattle.cj_stream.specs.Judging.{Says, Misreads, ShowsTree, IsHeaderOf}
 ghost use Rattle.cj_stream.specs.Query.{rules_for};
 ghost use Rattle.cj_stream.specs.Reading.{begun_of, begun_verdict, told_verdict, next_item, is_lenient, IsLeft, Stores};
 ghost use Rattle.cj_stream.specs.Reading.{Unstored, Passes, Deals, Settles, Reads, Advances, Stops, Stays, Finishes};
+ghost use Rattle.cj_stream.specs.Reading.{further, judged_begun};
 ghost use Rattle.cj_stream.specs.ReportSink.{Notes};
 ghost use Rattle.cj_stream.specs.Scanning.{Scanning, IsReady, IsStill, ListsFailToGrow, Scanned, ScansNext, HoldsFew};
 ghost use Rattle.cj_stream.specs.Scanning.{HoldsFewNext, HeldUntil, JudgesLine, Forgets};
-ghost use Rattle.cj_stream.specs.Sink.{HasRisen, Took};
-ghost use Rattle.cj_stream.specs.Verdict.{Valid, report_of};
+ghost use Rattle.cj_stream.specs.Sink.{HasRisen, Took, with_sink};
+ghost use Rattle.cj_stream.specs.Verdict.{Valid, report_of, stretch};
 
 use crate::desk::Desk;
 use crate::ending::End;
@@ -282,11 +283,10 @@ impl<'q> Framer<'q> {
             self.old.scanning.header.elements }
         requires header_parts { IsHeaderOf (tree_of self.old.reading.rules.limits.depth (begun_of self.old.reading))
             self.old.reading.rules header_parts }
-        ensures counts { S.failures sink.old ≤ S.failures sink.new }
-        ensures cause { IsErrOf result End.WriteFault → HasRisen (S.failures sink.old) (S.failures sink.new) }
-        ensures deals { Deals S.takes S.leaves false Valid
-            (next_item self.old.reading (record { content = begun_of self.old.reading; lf = lf }))
-            self.old.reading sink.old result self.new.reading sink.new }
+        ensures counts { S.law.failures sink.old ≤ S.law.failures sink.new }
+        ensures cause { IsErrOf result End.WriteFault → HasRisen (S.law.failures sink.old) (S.law.failures sink.new) }
+        ensures deals { Deals S.law (judged_begun self.old.reading false Valid lf)
+            (with_sink self.old.reading sink.old) result (with_sink self.new.reading sink.new) }
         ensures forgets { OnOk result (Forgets self.old.scanning self.new.scanning) }
         ensures same { OnErr result (self.new.scanning ≡ self.old.scanning) }
         ensures framed { IsFramed self.new }
@@ -310,11 +310,10 @@ impl<'q> Framer<'q> {
         requires ready { IsReady self.old.reading self.old.scanning }
         requires shows { ShowsTree (begun_of self.old.reading) self.old.reading.rules.limits.depth
             self.old.scanning.header.elements }
-        ensures counts { S.failures sink.old ≤ S.failures sink.new }
-        ensures cause { IsErrOf result End.WriteFault → HasRisen (S.failures sink.old) (S.failures sink.new) }
-        ensures settles { Settles S.takes S.leaves false (begun_verdict self.old.reading)
-            (next_item self.old.reading (record { content = begun_of self.old.reading; lf = lf }))
-            self.old.reading sink.old result self.new.reading sink.new }
+        ensures counts { S.law.failures sink.old ≤ S.law.failures sink.new }
+        ensures cause { IsErrOf result End.WriteFault → HasRisen (S.law.failures sink.old) (S.law.failures sink.new) }
+        ensures settles { Settles S.law (judged_begun self.old.reading false (begun_verdict self.old.reading) lf)
+            (with_sink self.old.reading sink.old) result (with_sink self.new.reading sink.new) }
         ensures forgets { OnOk result (Forgets self.old.scanning self.new.scanning) }
         ensures still { OnErr result (IsStill self.old.scanning self.new.scanning) }
         ensures framed { IsFramed self.new }
@@ -345,11 +344,10 @@ impl<'q> Framer<'q> {
         requires shows { ShowsTree (begun_of self.old.reading) self.old.reading.rules.limits.depth
             self.old.scanning.line.elements }
         requires unmarked { AreUnmarked self.old.scanning.line.elements }
-        ensures counts { S.failures sink.old ≤ S.failures sink.new }
-        ensures cause { IsErrOf result End.WriteFault → HasRisen (S.failures sink.old) (S.failures sink.new) }
-        ensures deals { Deals S.takes S.leaves false (begun_verdict self.old.reading)
-            (next_item self.old.reading (record { content = begun_of self.old.reading; lf = lf }))
-            self.old.reading sink.old result self.new.reading sink.new }
+        ensures counts { S.law.failures sink.old ≤ S.law.failures sink.new }
+        ensures cause { IsErrOf result End.WriteFault → HasRisen (S.law.failures sink.old) (S.law.failures sink.new) }
+        ensures deals { Deals S.law (judged_begun self.old.reading false (begun_verdict self.old.reading) lf)
+            (with_sink self.old.reading sink.old) result (with_sink self.new.reading sink.new) }
         ensures forgets { OnOk result (Forgets self.old.scanning self.new.scanning) }
         ensures still { OnErr result (IsStill self.old.scanning self.new.scanning) }
         ensures failed_growths { self.new.scanning.line.failed_growths ≡ self.old.scanning.line.failed_growths }
@@ -378,13 +376,12 @@ impl<'q> Framer<'q> {
         requires ready { IsReady self.old.reading self.old.scanning }
         requires first { self.old.reading.lines ≡ 0 }
         requires undropped { self.old.reading.dropped ≡ false }
-        ensures carries { Carries S.failures self.old self.new result sink.old sink.new }
+        ensures carries { Carries S.law (with_sink self.old sink.old) result (with_sink self.new sink.new) }
         ensures one { OnOk result (self.new.reading.lines ≡ 1) }
         ensures none { OnErr result (self.new.reading.lines ≡ 0) }
         ensures lines { self.new.reading.lines ≤ 1 }
-        ensures settles { Settles S.takes S.leaves false (told_verdict self.old.reading)
-            (next_item self.old.reading (record { content = begun_of self.old.reading; lf = lf }))
-            self.old.reading sink.old result self.new.reading sink.new }
+        ensures settles { Settles S.law (judged_begun self.old.reading false (told_verdict self.old.reading) lf)
+            (with_sink self.old.reading sink.old) result (with_sink self.new.reading sink.new) }
         ensures ready { OnOk result (IsTrue lf → IsReady self.new.reading self.new.scanning) }
         ensures scanned { OnOk result (ScansNext self.old.reading self.old.scanning self.new.scanning) }
         ensures few { HoldsFewNext self.old.reading self.old.scanning self.new.scanning }
@@ -406,12 +403,11 @@ impl<'q> Framer<'q> {
         requires ready { IsReady self.old.reading self.old.scanning }
         requires countable { self.old.reading.lines < 2 ^ 62 }
         requires later { 0 < self.old.reading.lines }
-        ensures carries { Carries S.failures self.old self.new result sink.old sink.new }
+        ensures carries { Carries S.law (with_sink self.old sink.old) result (with_sink self.new sink.new) }
         ensures one { OnOk result (self.new.reading.lines ≡ self.old.reading.lines + 1) }
         ensures grows { self.old.reading.lines ≤ self.new.reading.lines }
-        ensures settles { Settles S.takes S.leaves false (told_verdict self.old.reading)
-            (next_item self.old.reading (record { content = begun_of self.old.reading; lf = lf }))
-            self.old.reading sink.old result self.new.reading sink.new }
+        ensures settles { Settles S.law (judged_begun self.old.reading false (told_verdict self.old.reading) lf)
+            (with_sink self.old.reading sink.old) result (with_sink self.new.reading sink.new) }
         ensures scanned { OnOk result (ScansNext self.old.reading self.old.scanning self.new.scanning) }
         ensures few { HoldsFewNext self.old.reading self.old.scanning self.new.scanning }
         ensures left { OnErr result ((s : Scanning) → Forgets self.new.scanning s
@@ -445,12 +441,11 @@ impl<'q> Framer<'q> {
         requires ready { IsReady self.old.reading self.old.scanning }
         requires countable { self.old.reading.lines < 2 ^ 62 }
         requires later { 0 < self.old.reading.lines }
-        ensures carries { Carries S.failures self.old self.new result sink.old sink.new }
+        ensures carries { Carries S.law (with_sink self.old sink.old) result (with_sink self.new sink.new) }
         ensures one { OnOk result (self.new.reading.lines ≡ self.old.reading.lines + 1) }
         ensures grows { self.old.reading.lines ≤ self.new.reading.lines }
-        ensures settles { Settles S.takes S.leaves (is_lenient self.old.reading) (told_verdict self.old.reading)
-            (next_item self.old.reading (record { content = begun_of self.old.reading; lf = lf }))
-            self.old.reading sink.old result self.new.reading sink.new }
+        ensures settles { Settles S.law (judged_begun self.old.reading (is_lenient self.old.reading) (told_verdict self.old.reading) lf)
+            (with_sink self.old.reading sink.old) result (with_sink self.new.reading sink.new) }
         ensures scanned { OnOk result (ScansNext self.old.reading self.old.scanning self.new.scanning) }
         ensures few { HoldsFewNext self.old.reading self.old.scanning self.new.scanning }
         ensures noted { OnOk result (Took N.notes reports.old
@@ -483,15 +478,16 @@ impl<'q> Framer<'q> {
         requires first { self.old.reading.lines ≡ 0 }
         requires undropped { self.old.reading.dropped ≡ false }
         requires one { NoLf part.now }
-        ensures carries { Carries S.failures self.old self.new result sink.old sink.new }
+        ensures carries { Carries S.law (with_sink self.old sink.old) result (with_sink self.new sink.new) }
         ensures few { self.new.reading.lines ≤ 1 }
         ensures one { OnOk result (self.new.reading.lines ≡ 1) }
         ensures none { OnErr result (self.new.reading.lines ≡ 0) }
         ensures ok { OnOk result ((p : List ℕ) → Reads self.old.reading p →
-            Advances S.takes self.old.reading sink.old p (part.now ++ newline ∷ []) self.new.reading sink.new) }
+            Advances S.law (further p (part.now ++ newline ∷ [])) (with_sink self.old.reading sink.old)
+            (with_sink self.new.reading sink.new)) }
         ensures err { IfErr result (λ e. (p more : List ℕ) → Reads self.old.reading p →
-            Stops S.takes S.leaves self.old.reading sink.old p (part.now ++ newline ∷ more) e
-            self.new.reading sink.new) }
+            Stops S.law (further p (part.now ++ newline ∷ more)) (with_sink self.old.reading sink.old) e
+            (with_sink self.new.reading sink.new)) }
         ensures ready { OnOk result (IsReady self.new.reading self.new.scanning) }
         ensures scanned { OnOk result
             ((p : List ℕ) → Reads self.old.reading p
@@ -520,15 +516,16 @@ impl<'q> Framer<'q> {
         requires countable { self.old.reading.lines < 2 ^ 62 }
         requires later { 0 < self.old.reading.lines }
         requires one { NoLf part.now }
-        ensures carries { Carries S.failures self.old self.new result sink.old sink.new }
+        ensures carries { Carries S.law (with_sink self.old sink.old) result (with_sink self.new sink.new) }
         ensures few { self.new.reading.lines ≤ self.old.reading.lines + 1 }
         ensures grows { self.old.reading.lines ≤ self.new.reading.lines }
         ensures one { OnOk result (self.new.reading.lines ≡ self.old.reading.lines + 1) }
         ensures ok { OnOk result ((p : List ℕ) → Reads self.old.reading p →
-            Advances S.takes self.old.reading sink.old p (part.now ++ newline ∷ []) self.new.reading sink.new) }
+            Advances S.law (further p (part.now ++ newline ∷ [])) (with_sink self.old.reading sink.old)
+            (with_sink self.new.reading sink.new)) }
         ensures err { IfErr result (λ e. (p more : List ℕ) → Reads self.old.reading p →
-            Stops S.takes S.leaves self.old.reading sink.old p (part.now ++ newline ∷ more) e
-            self.new.reading sink.new) }
+            Stops S.law (further p (part.now ++ newline ∷ more)) (with_sink self.old.reading sink.old) e
+            (with_sink self.new.reading sink.new)) }
         ensures scanned { OnOk result
             ((p : List ℕ) → Reads self.old.reading p
             → Scanned self.old.reading.rules.limits (closed p) self.old.scanning
@@ -539,8 +536,9 @@ impl<'q> Framer<'q> {
             → HoldsFew self.old.reading.rules.limits (length (first_content (p ++ (part.now ++ newline ∷ more))))
             self.new.scanning) }
         ensures undealt { OnErr result (self.new.reading.lines ≡ self.old.reading.lines) }
-        ensures reports { (p more : List ℕ) → Reads self.old.reading p → Notes N.notes self.old.reading.rules
-            (p ++ (part.now ++ newline ∷ more)) self.old.reading.lines self.new.reading.lines reports.old reports.new }
+        ensures reports { (p more : List ℕ) → Reads self.old.reading p
+            → Notes N.notes (stretch self.old.reading.rules (p ++ (part.now ++ newline ∷ more)) self.old.reading.lines
+            self.new.reading.lines) reports.old reports.new }
     {
         self.store(part)?;
         self.deal(true, sink, reports)?;
@@ -559,11 +557,13 @@ impl<'q> Framer<'q> {
         ensures none { OnErr result (self.new.reading.lines ≡ 0) }
         ensures few { self.new.reading.lines ≤ 1 }
         ensures undropped { IfOk result (λ t. t.accepted ≡ false → self.new.reading.dropped ≡ false) }
-        ensures carries { Carries S.failures self.old self.new result sink.old sink.new }
+        ensures carries { Carries S.law (with_sink self.old sink.old) result (with_sink self.new sink.new) }
         ensures ok { IfOk result (λ t. (p : List ℕ) → Reads self.old.reading p →
-            Advances S.takes self.old.reading sink.old p (take t.used piece.now) self.new.reading sink.new) }
+            Advances S.law (further p (take t.used piece.now)) (with_sink self.old.reading sink.old)
+            (with_sink self.new.reading sink.new)) }
         ensures err { IfErr result (λ e. (p : List ℕ) → Reads self.old.reading p →
-            Stops S.takes S.leaves self.old.reading sink.old p piece.now e self.new.reading sink.new) }
+            Stops S.law (further p piece.now) (with_sink self.old.reading sink.old) e
+            (with_sink self.new.reading sink.new)) }
         ensures ready { OnOk result (IsReady self.new.reading self.new.scanning) }
         ensures scanned { IfOk result (λ t.
             (p : List ℕ) → Reads self.old.reading p → Scanned self.old.reading.rules.limits (closed p) self.old.scanning
@@ -601,13 +601,15 @@ impl<'q> Framer<'q> {
         requires ready { IsReady self.old.reading self.old.scanning }
         requires countable { self.old.reading.lines + length piece.now < 2 ^ 62 }
         requires later { 0 < self.old.reading.lines }
-        ensures carries { Carries S.failures self.old self.new result sink.old sink.new }
+        ensures carries { Carries S.law (with_sink self.old sink.old) result (with_sink self.new sink.new) }
         ensures few { self.new.reading.lines ≤ self.old.reading.lines + length piece.now }
         ensures grows { self.old.reading.lines ≤ self.new.reading.lines }
         ensures ok { OnOk result ((p : List ℕ) → Reads self.old.reading p →
-            Advances S.takes self.old.reading sink.old p piece.now self.new.reading sink.new) }
+            Advances S.law (further p piece.now) (with_sink self.old.reading sink.old)
+            (with_sink self.new.reading sink.new)) }
         ensures err { IfErr result (λ e. (p : List ℕ) → Reads self.old.reading p →
-            Stops S.takes S.leaves self.old.reading sink.old p piece.now e self.new.reading sink.new) }
+            Stops S.law (further p piece.now) (with_sink self.old.reading sink.old) e
+            (with_sink self.new.reading sink.new)) }
         ensures scanned { OnOk result
             ((p : List ℕ) → Reads self.old.reading p
             → Scanned self.old.reading.rules.limits (closed p) self.old.scanning
@@ -621,8 +623,8 @@ impl<'q> Framer<'q> {
             → Scanned self.old.reading.rules.limits (closed p) self.old.scanning
             → HeldUntil self.old.reading.rules.limits p piece.now self.new.reading.lines self.new.scanning) }
         ensures reports { (p : List ℕ) → Reads self.old.reading p
-            → Notes N.notes self.old.reading.rules (p ++ piece.now)
-            self.old.reading.lines self.new.reading.lines reports.old reports.new }
+            → Notes N.notes (stretch self.old.reading.rules (p ++ piece.now) self.old.reading.lines
+            self.new.reading.lines) reports.old reports.new }
     {
         let mut rest = piece;
         while let Some(at) = memchr(b'\n', rest) {
@@ -638,11 +640,11 @@ impl<'q> Framer<'q> {
         requires ready { IsReady self.old.reading self.old.scanning }
         requires first { self.old.reading.lines ≡ 0 }
         requires undropped { self.old.reading.dropped ≡ false }
-        ensures carries { Carries S.failures self.old self.new result sink.old sink.new }
+        ensures carries { Carries S.law (with_sink self.old sink.old) result (with_sink self.new sink.new) }
         ensures few { self.new.reading.lines ≤ 1 }
         ensures memory { IsErrOf result End.Memory → ⊥ }
         ensures finishes { (p : List ℕ) → Reads self.old.reading p →
-            Finishes S.takes S.leaves self.old.reading sink.old p result self.new.reading sink.new }
+            Finishes S.law p (with_sink self.old.reading sink.old) result (with_sink self.new.reading sink.new) }
         ensures scanned { OnOk result
             ((p : List ℕ) → Reads self.old.reading p
             → Scanned self.old.reading.rules.limits (closed p) self.old.scanning
@@ -670,12 +672,12 @@ impl<'q> Framer<'q> {
         requires ready { IsReady self.old.reading self.old.scanning }
         requires countable { self.old.reading.lines < 2 ^ 62 }
         requires later { 0 < self.old.reading.lines }
-        ensures carries { Carries S.failures self.old self.new result sink.old sink.new }
+        ensures carries { Carries S.law (with_sink self.old sink.old) result (with_sink self.new sink.new) }
         ensures few { self.new.reading.lines ≤ self.old.reading.lines + 1 }
         ensures grows { self.old.reading.lines ≤ self.new.reading.lines }
         ensures memory { IsErrOf result End.Memory → ⊥ }
         ensures finishes { (p : List ℕ) → Reads self.old.reading p →
-            Finishes S.takes S.leaves self.old.reading sink.old p result self.new.reading sink.new }
+            Finishes S.law p (with_sink self.old.reading sink.old) result (with_sink self.new.reading sink.new) }
         ensures scanned { OnOk result
             ((p : List ℕ) → Reads self.old.reading p
             → Scanned self.old.reading.rules.limits (closed p) self.old.scanning
@@ -683,8 +685,9 @@ impl<'q> Framer<'q> {
         ensures held { (p : List ℕ) → Reads self.old.reading p
             → Scanned self.old.reading.rules.limits (closed p) self.old.scanning
             → HoldsFew self.old.reading.rules.limits (length (first_content p)) self.new.scanning }
-        ensures reports { (p : List ℕ) → Reads self.old.reading p → Notes N.notes self.old.reading.rules p
-            self.old.reading.lines self.new.reading.lines reports.old reports.new }
+        ensures reports { (p : List ℕ) → Reads self.old.reading p
+            → Notes N.notes (stretch self.old.reading.rules p self.old.reading.lines self.new.reading.lines)
+            reports.old reports.new }
     {
         if self.has_begun() {
             return self.deal(false, sink, reports);

@@ -11,8 +11,10 @@ pub returns-then-has_begun-clause-finishes : goal.returns-then-has_begun-clause-
 returns-then-has_begun-clause-finishes g c = λ p reads.
     let f = c.args.self.now.reading in
     let some = has-begun f (begun p) reads.begun (c.has_begun.ensures.some c.if-has_begun.true) in
-    finishes-with g.S.LineSink.takes g.S.LineSink.leaves (begun p) f c.deal.new.self.reading c.args.sink.now c.deal.new.sink c.deal.result some
-    (Settles-begun g.S.LineSink.takes g.S.LineSink.leaves (is_lenient f) f c.deal.new.self.reading c.args.sink.now c.deal.new.sink (begun p) false c.deal.result reads.begun c.deal.ensures.settles)
+    finishes-with g.S.LineSink.law (begun p) f c.deal.new.self.reading c.args.sink.now c.deal.new.sink c.deal.result
+    some
+    (Settles-begun g.S.LineSink.law (is_lenient f) f c.deal.new.self.reading c.args.sink.now c.deal.new.sink (begun p)
+    false c.deal.result reads.begun c.deal.ensures.settles)
 
 pub returns-then-has_begun-clause-scanned : goal.returns-then-has_begun-clause-scanned
 returns-then-has_begun-clause-scanned g c =
@@ -23,7 +25,8 @@ pub returns-then-has_begun-clause-reports : goal.returns-then-has_begun-clause-r
 returns-then-has_begun-clause-reports g c = λ p reads.
     let f = c.args.self.now.reading in
     let some = has-begun f (begun p) reads.begun (c.has_begun.ensures.some c.if-has_begun.true) in
-    Notes-finished g.N.ReportSink.notes g.S.LineSink.takes g.S.LineSink.leaves _ _ _ f c.deal.new.self.reading c.args.sink.now c.deal.new.sink p c.args.reports.now c.deal.new.reports c.deal.result
+    Notes-finished g.N.ReportSink.notes g.S.LineSink.law _ _ _ f c.deal.new.self.reading c.args.sink.now c.deal.new.sink
+    p c.args.reports.now c.deal.new.reports c.deal.result
     reads some c.deal.ensures.settles c.deal.ensures.one c.deal.ensures.noted c.deal.ensures.silent
 
 pub returns-clause-scanned : goal.returns-clause-scanned

@@ -10,9 +10,12 @@ pub returns-then-has_begun-clause-finishes : goal.returns-then-has_begun-clause-
 returns-then-has_begun-clause-finishes g c = λ p reads.
     let f = c.args.self.now.reading in
     let some = has-begun f (begun p) reads.begun (c.has_begun.ensures.some c.if-has_begun.true) in
-    let settles = Settles-first g.S.LineSink.takes g.S.LineSink.leaves f c.settle_first.new.self.reading c.args.sink.now c.settle_first.new.sink _ _ c.settle_first.result c.requires.first c.settle_first.ensures.settles in
-    finishes-with g.S.LineSink.takes g.S.LineSink.leaves (begun p) f c.settle_first.new.self.reading c.args.sink.now c.settle_first.new.sink c.settle_first.result some
-    (Settles-begun g.S.LineSink.takes g.S.LineSink.leaves (is_lenient f) f c.settle_first.new.self.reading c.args.sink.now c.settle_first.new.sink (begun p) false c.settle_first.result reads.begun settles)
+    let settles = Settles-first g.S.LineSink.law f c.settle_first.new.self.reading c.args.sink.now
+    c.settle_first.new.sink _ _ c.settle_first.result c.requires.first c.settle_first.ensures.settles in
+    finishes-with g.S.LineSink.law (begun p) f c.settle_first.new.self.reading c.args.sink.now c.settle_first.new.sink
+    c.settle_first.result some
+    (Settles-begun g.S.LineSink.law (is_lenient f) f c.settle_first.new.self.reading c.args.sink.now
+    c.settle_first.new.sink (begun p) false c.settle_first.result reads.begun settles)
 
 pub returns-then-has_begun-clause-scanned : goal.returns-then-has_begun-clause-scanned
 returns-then-has_begun-clause-scanned g c =

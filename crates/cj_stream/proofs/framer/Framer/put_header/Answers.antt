@@ -10,4 +10,4 @@ returns-in-Err-clause-settles g c =
     let f = c.args.self.now.reading in
     let same = begun_verdict-first f c.requires.first in
     let refused : refusal_of f.rules (f.lines + 1) (begun_verdict f) ≡ Some c.in-Err.end = rw (same, c.requires.first, ← c.self.view_is, ← c.as_slice.ensures.value) c.in-Err.ensures.refused in
-    Settles-ended g.S.LineSink.takes g.S.LineSink.leaves (begun_verdict f) _ f c.args.sink.now c.in-Err.end refused
+    Settles-ended g.S.LineSink.law (begun_verdict f) _ f c.args.sink.now c.in-Err.end refused

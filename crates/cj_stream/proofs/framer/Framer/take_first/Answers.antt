@@ -10,15 +10,26 @@ use Rattle.cj_stream.proofs.framer.Framer.take_first.Goals as goal
 pub returns-in_err-store_first-clause-err : goal.returns-in_err-store_first-clause-err
 returns-in_err-store_first-clause-err g c =
     let p = err_from_is_err_and c.from_residual.result c.from_residual.ensures.1 in
-    rw (p.1, p.2) (λ q more reads. rw c.in_err-store_first.ensures.err (Stops-unstored g.S.LineSink.takes g.S.LineSink.leaves c.args.self.now.reading c.args.sink.now q c.args.part.now more _ reads c.requires.one c.in_err-store_first.ensures.cause))
+    rw (p.1, p.2) (λ q more reads. rw c.in_err-store_first.ensures.err (Stops-unstored g.S.LineSink.law
+    c.args.self.now.reading c.args.sink.now q c.args.part.now more _ reads c.requires.one
+    c.in_err-store_first.ensures.cause))
 
 pub returns-in_err-settle_first-clause-err : goal.returns-in_err-settle_first-clause-err
 returns-in_err-settle_first-clause-err g c =
     let p = err_from_is_err_and c.from_residual-in_err-settle_first.result c.from_residual-in_err-settle_first.ensures.1 in
-    rw (p.1, p.2) (λ q more reads. Stops-undealt g.S.LineSink.takes g.S.LineSink.leaves c.args.self.now.reading c.store_first.new.self.reading c.settle_first.new.self.reading c.args.sink.now c.settle_first.new.sink q c.args.part.now more _ _ reads c.requires.one c.in_ok-store_first.ensures.ok (Settles-first g.S.LineSink.takes g.S.LineSink.leaves c.store_first.new.self.reading c.settle_first.new.self.reading c.args.sink.now c.settle_first.new.sink _ _ c.settle_first.result (c.in_ok-store_first.ensures.ok.lines ∙ c.requires.first) c.settle_first.ensures.settles) c.in_err-settle_first.was)
+    rw (p.1, p.2) (λ q more reads. Stops-undealt g.S.LineSink.law c.args.self.now.reading c.store_first.new.self.reading
+    c.settle_first.new.self.reading c.args.sink.now c.settle_first.new.sink q c.args.part.now more _ _ reads
+    c.requires.one c.in_ok-store_first.ensures.ok (Settles-first g.S.LineSink.law c.store_first.new.self.reading
+    c.settle_first.new.self.reading c.args.sink.now c.settle_first.new.sink _ _ c.settle_first.result
+    (c.in_ok-store_first.ensures.ok.lines ∙ c.requires.first) c.settle_first.ensures.settles)
+    c.in_err-settle_first.was)
 
 pub returns-clause-ok : goal.returns-clause-ok
-returns-clause-ok g c = λ q reads. Advances-line g.S.LineSink.takes g.S.LineSink.leaves c.args.self.now.reading c.store_first.new.self.reading c.settle_first.new.self.reading c.args.sink.now c.settle_first.new.sink q c.args.part.now c.settle_first.result reads c.requires.one c.in_ok-store_first.ensures.ok (Settles-first g.S.LineSink.takes g.S.LineSink.leaves c.store_first.new.self.reading c.settle_first.new.self.reading c.args.sink.now c.settle_first.new.sink _ _ c.settle_first.result (c.in_ok-store_first.ensures.ok.lines ∙ c.requires.first) c.settle_first.ensures.settles) c.in_ok-settle_first.was
+returns-clause-ok g c = λ q reads. Advances-line g.S.LineSink.law c.args.self.now.reading c.store_first.new.self.reading
+    c.settle_first.new.self.reading c.args.sink.now c.settle_first.new.sink q c.args.part.now c.settle_first.result
+    reads c.requires.one c.in_ok-store_first.ensures.ok (Settles-first g.S.LineSink.law c.store_first.new.self.reading
+    c.settle_first.new.self.reading c.args.sink.now c.settle_first.new.sink _ _ c.settle_first.result
+    (c.in_ok-store_first.ensures.ok.lines ∙ c.requires.first) c.settle_first.ensures.settles) c.in_ok-settle_first.was
 
 pub returns-in_err-store_first-clause-held : goal.returns-in_err-store_first-clause-held
 returns-in_err-store_first-clause-held g c =
@@ -36,7 +47,9 @@ returns-in_err-settle_first-clause-undealt g c =
     let p = err_from_is_err_and c.from_residual-in_err-settle_first.result c.from_residual-in_err-settle_first.ensures.1 in
     let settles = rw c.in_err-settle_first.was at c.settle_first.ensures.settles in
     let f = c.store_first.new.self.reading in
-    rw p.1 (settled-err g.S.LineSink.takes g.S.LineSink.leaves false (told_verdict f) (next_item f (record { content = begun_of f; lf = true })) f _ _ _ _ settles ∙ c.in_ok-store_first.ensures.ok.lines)
+    rw p.1 (settled-err g.S.LineSink.law false (told_verdict f)
+    (next_item f (record { content = begun_of f; lf = true })) f _ _ _ _ settles
+    ∙ c.in_ok-store_first.ensures.ok.lines)
 
 pub returns-clause-scanned : goal.returns-clause-scanned
 returns-clause-scanned g c = λ q reads s. scanned-line c.args.self.now.reading c.store_first.new.self.reading q c.args.part.now c.args.self.now.scanning c.store_first.new.self.scanning c.settle_first.new.self.scanning

@@ -2,8 +2,9 @@ use Rattle.std.proofs.Common.{◌≡◌, ◌++◌, ◌+◌, ◌∙◌, length, t
 use Rattle.std.proofs.lemmas.Result.{err_from_is_err_and}
 use Rattle.std.proofs.lemmas.List.{take_all}
 use Rattle.cj_stream.specs.Lines.{closed, first_content}
-use Rattle.cj_stream.specs.Reading.{Advances, Stops}
+use Rattle.cj_stream.specs.Reading.{Advances, Stops, further}
 use Rattle.cj_stream.specs.Scanning.{Scanned, HoldsFew}
+use Rattle.cj_stream.specs.Sink.{with_sink}
 use Rattle.cj_stream.proofs.PieceSlices.{lf_found, lf_front, NoLf-before, NoLf-not_found}
 use Rattle.cj_stream.proofs.PieceLemmas.{Stops-unstored_last, Advances-stored}
 use Rattle.cj_stream.proofs.ScanningLemmas.{Rises-same, few-scanned, first-closed, scanned-begun}
@@ -13,7 +14,8 @@ use Rattle.cj_stream.proofs.framer.Framer.take_front.Goals as goal
 pub returns-in_err-store_first-clause-err : goal.returns-in_err-store_first-clause-err
 returns-in_err-store_first-clause-err g c =
     let p = err_from_is_err_and c.from_residual.result c.from_residual.ensures.1 in
-    rw (p.1, p.2) (λ q reads. rw c.in_err-store_first.ensures.err (Stops-unstored_last g.S.LineSink.takes g.S.LineSink.leaves c.args.self.now.reading c.args.sink.now q c.args.piece.now _ reads
+    rw (p.1, p.2) (λ q reads. rw c.in_err-store_first.ensures.err (Stops-unstored_last g.S.LineSink.law
+    c.args.self.now.reading c.args.sink.now q c.args.piece.now _ reads
     (NoLf-not_found c.args.piece.now c.memchr.result c.memchr.ensures c.in_default.not-Some) c.in_err-store_first.ensures.cause))
 
 pub returns-in_err-store_first-clause-held : goal.returns-in_err-store_first-clause-held
@@ -31,8 +33,10 @@ returns-in_default-clause-front g c = record {
 pub returns-in_default-clause-ok : goal.returns-in_default-clause-ok
 returns-in_default-clause-ok g c = λ q reads.
     let all : take (length c.args.piece.now) c.args.piece.now ≡ c.args.piece.now = take_all (length c.args.piece.now) c.args.piece.now (omega arith) in
-    subst (λ z. Advances g.S.LineSink.takes c.args.self.now.reading c.args.sink.now q z c.store_first.new.self.reading c.args.sink.now) (sym all)
-    (Advances-stored g.S.LineSink.takes g.S.LineSink.leaves c.args.self.now.reading c.store_first.new.self.reading c.args.sink.now q c.args.piece.now reads
+    subst (λ z. Advances g.S.LineSink.law (further q z) (with_sink c.args.self.now.reading c.args.sink.now)
+    (with_sink c.store_first.new.self.reading c.args.sink.now)) (sym all)
+    (Advances-stored g.S.LineSink.law c.args.self.now.reading c.store_first.new.self.reading c.args.sink.now q
+    c.args.piece.now reads
     (NoLf-not_found c.args.piece.now c.memchr.result c.memchr.ensures c.in_default.not-Some) c.in_ok-store_first.ensures.ok)
 
 pub returns-in_default-clause-scanned : goal.returns-in_default-clause-scanned
@@ -49,7 +53,8 @@ pub returns-in_err-take_first-clause-err : goal.returns-in_err-take_first-clause
 returns-in_err-take_first-clause-err g c =
     let p = err_from_is_err_and c.from_residual-in_err-take_first.result c.from_residual-in_err-take_first.ensures.1 in
     rw (p.1, p.2) (λ q reads.
-    subst (λ z. Stops g.S.LineSink.takes g.S.LineSink.leaves c.args.self.now.reading c.args.sink.now q z c.in_err-take_first.field-0.0 c.take_first.new.self.reading c.take_first.new.sink)
+    subst (λ z. Stops g.S.LineSink.law (further q z) (with_sink c.args.self.now.reading c.args.sink.now)
+    c.in_err-take_first.field-0.0 (with_sink c.take_first.new.self.reading c.take_first.new.sink))
     (sym (lf_found c.args.piece.now c.in-Some.at c.in-Some.ensures)) (c.in_err-take_first.ensures.err q (drop (c.in-Some.at + 1) c.args.piece.now) reads))
 
 pub returns-in_err-take_first-clause-held : goal.returns-in_err-take_first-clause-held
@@ -78,7 +83,8 @@ returns-clause-front g c = record {
 
 pub returns-clause-ok : goal.returns-clause-ok
 returns-clause-ok g c = λ q reads.
-    subst (λ z. Advances g.S.LineSink.takes c.args.self.now.reading c.args.sink.now q z c.take_first.new.self.reading c.take_first.new.sink)
+    subst (λ z. Advances g.S.LineSink.law (further q z) (with_sink c.args.self.now.reading c.args.sink.now)
+    (with_sink c.take_first.new.self.reading c.take_first.new.sink))
     (sym (lf_front c.args.piece.now c.in-Some.at c.in-Some.ensures)) (c.in_ok-take_first.ensures.ok q reads)
 
 pub returns-clause-scanned : goal.returns-clause-scanned

@@ -21,7 +21,8 @@ returns-in_err-take_line-clause-err g c =
     let a = i.2 q reads in
     let rest = c.loop-at.rest.now in
     let s = c.in_err-take_line.ensures.err (q ++ i.0) (drop (c.in-Some.at + 1) rest) a.reads in
-    rw (i.1) (Stops-later g.S.LineSink.takes g.S.LineSink.leaves c.args.self.now.reading c.loop-at.self.reading c.take_line.new.self.reading c.args.sink.now c.loop-at.sink c.take_line.new.sink q i.0 rest _ a
+    rw (i.1) (Stops-later g.S.LineSink.law c.args.self.now.reading c.loop-at.self.reading c.take_line.new.self.reading
+    c.args.sink.now c.loop-at.sink c.take_line.new.sink q i.0 rest _ a
     (rw (lf_found rest c.in-Some.at c.in-Some.ensures) s)))
 
 pub loop-at-preserved : goal.loop-at-preserved
@@ -44,7 +45,8 @@ loop-at-preserved g c =
         piece_more c.args.piece.now i.0 rest k i.1 c.in-Some.ensures,
         λ q reads.
             let a = i.2 q reads in
-            Advances-then g.S.LineSink.takes g.S.LineSink.leaves c.args.self.now.reading c.loop-at.self.reading c.take_line.new.self.reading c.args.sink.now c.loop-at.sink c.take_line.new.sink q i.0 (take k rest ++ 10 ∷ []) a
+            Advances-then g.S.LineSink.law c.args.self.now.reading c.loop-at.self.reading c.take_line.new.self.reading
+            c.args.sink.now c.loop-at.sink c.take_line.new.sink q i.0 (take k rest ++ 10 ∷ []) a
             (c.in_ok-take_line.ensures.ok (q ++ i.0) a.reads),
         λ q reads s.
             let a = i.2 q reads in
@@ -65,16 +67,20 @@ returns-in_err-store-clause-err g c =
     rw (p.1, p.2) (λ q reads.
     let a = i.2 q reads in
     let rest = c.loop-at.rest.now in
-    rw (i.1, c.in_err-store.ensures.err) (Stops-later g.S.LineSink.takes g.S.LineSink.leaves c.args.self.now.reading c.loop-at.self.reading c.loop-at.self.reading c.args.sink.now c.loop-at.sink c.loop-at.sink q i.0 rest _ a
-    (Stops-unstored_last g.S.LineSink.takes g.S.LineSink.leaves c.loop-at.self.reading c.loop-at.sink (q ++ i.0) rest _ a.reads (NoLf-not_found rest c.memchr.result c.memchr.ensures c.in_default.not-Some) c.in_err-store.ensures.cause)))
+    rw (i.1, c.in_err-store.ensures.err) (Stops-later g.S.LineSink.law c.args.self.now.reading c.loop-at.self.reading
+    c.loop-at.self.reading c.args.sink.now c.loop-at.sink c.loop-at.sink q i.0 rest _ a
+    (Stops-unstored_last g.S.LineSink.law c.loop-at.self.reading c.loop-at.sink (q ++ i.0) rest _ a.reads
+    (NoLf-not_found rest c.memchr.result c.memchr.ensures c.in_default.not-Some) c.in_err-store.ensures.cause)))
 
 pub returns-clause-ok : goal.returns-clause-ok
 returns-clause-ok g c = λ q reads.
     let i = c.loop-at.invariant.read in
     let a = i.2 q reads in
     let rest = c.loop-at.rest.now in
-    rw i.1 (Advances-then g.S.LineSink.takes g.S.LineSink.leaves c.args.self.now.reading c.loop-at.self.reading c.store.new.self.reading c.args.sink.now c.loop-at.sink c.loop-at.sink q i.0 rest a
-    (Advances-stored g.S.LineSink.takes g.S.LineSink.leaves c.loop-at.self.reading c.store.new.self.reading c.loop-at.sink (q ++ i.0) rest a.reads (NoLf-not_found rest c.memchr.result c.memchr.ensures c.in_default.not-Some) c.in_ok-store.ensures.ok))
+    rw i.1 (Advances-then g.S.LineSink.law c.args.self.now.reading c.loop-at.self.reading c.store.new.self.reading
+    c.args.sink.now c.loop-at.sink c.loop-at.sink q i.0 rest a
+    (Advances-stored g.S.LineSink.law c.loop-at.self.reading c.store.new.self.reading c.loop-at.sink (q ++ i.0) rest
+    a.reads (NoLf-not_found rest c.memchr.result c.memchr.ensures c.in_default.not-Some) c.in_ok-store.ensures.ok))
 
 pub loop-at-init : goal.loop-at-init
 loop-at-init g c = record {
@@ -88,7 +94,7 @@ loop-at-init g c = record {
   read = (
     [],
     refl,
-    λ q reads. Advances-none g.S.LineSink.takes g.S.LineSink.leaves c.args.self.now.reading c.args.sink.now q reads,
+    λ q reads. Advances-none g.S.LineSink.law c.args.self.now.reading c.args.sink.now q reads,
     λ q reads s. rw (append-nil q) s,
   );
   reports = λ q reads. Notes-none g.N.ReportSink.notes c.args.self.now.reading.rules (q ++ c.args.piece.now) _ _ _ _ refl refl;
