@@ -19,9 +19,9 @@ use Rattle.cj_stream.specs.ReportSink.{Notes}
 use Rattle.cj_stream.specs.Run.{CountsAll, Ends}
 use Rattle.cj_stream.specs.Sink.{Took, SinkLaw}
 use Rattle.cj_stream.specs.Verdict.{Rules, ending, good, item_after, is_kept, kept, kept_from, reported, reported_first}
-use Rattle.cj_stream.specs.Verdict.{reported_from, refusal_in, verdict, stretch, up_to}
+use Rattle.cj_stream.specs.Verdict.{reported_from, refusal_in, verdict, stretch, up_to, stream_of}
 use Rattle.cj_stream.proofs.PartsLemmas.{first-headed, lines-headed}
-use Rattle.cityseq_c.specs.Judged.{IsJudged, Judged}
+use Rattle.cityseq_c.specs.Judged.{IsJudged, Judged, lent}
 use Rattle.cityseq_c.specs.ReportSlice.{count_of, noted_loan, noted_room, noted_text, Holds, NotesOne}
 use Rattle.cityseq_c.specs.Request.{AreCut}
 use Rattle.cityseq_c.specs.declared.report_slice.Noted.{Noted}
@@ -191,7 +191,7 @@ module _ {S : Type 0} (law : SinkLaw S) (rules : Rules) (header part : List ℕ)
     (delivers : Delivers law (stretch rules (joined (take (k + 1) (header ∷ part ∷ []))) 0 o.lines) s t (Some o.ended))
     (notes : Notes NotesOne (stretch rules (joined (take (k + 1) (header ∷ part ∷ []))) 0 o.lines) a b)
     (good_reported : (r : List ℕ) (n : ℕ) → n ≡ length (good rules r) → reported_first rules n r ≡ reported rules r)
-    (over : noted_text a ≡ header ++ part) (none : count_of a ≡ 0) (lent : noted_room a ≡ old) (back : noted_loan b ≡ noted_loan a → new ≡ noted_room b) where
+    (over : noted_text a ≡ header ++ part) (none : count_of a ≡ 0) (loan : noted_room a ≡ old) (back : noted_loan b ≡ noted_loan a → new ≡ noted_room b) where
   whole : joined (header ∷ part ∷ []) ≡ header ++ part
   whole = all-joined header part
 
@@ -212,11 +212,11 @@ module _ {S : Type 0} (law : SinkLaw S) (rules : Rules) (header part : List ℕ)
   counted : IsUnhindered o.ended → CountsAll rules (header ++ part) o
   counted free = subst (λ z. CountsAll rules z o) whole (counts_all free)
 
-  pub judged : Judged law rules (header ++ part) o s t old new
+  pub judged : Judged law (stream_of rules (header ++ part)) o (lent s old) (lent t new)
   judged =
       let first = all-held a b (reported_first rules o.lines (header ++ part)) none of_first.noted in
       let held : Holds (header ++ part) (reported_first rules o.lines (header ++ part)) old new =
-      subst (λ z. Holds z (reported_first rules o.lines (header ++ part)) old new) over (rw (back first.0, ← lent) first.1) in
+      subst (λ z. Holds z (reported_first rules o.lines (header ++ part)) old new) over (rw (back first.0, ← loan) first.1) in
       record {
         tells = record {
           judged = judged-end;

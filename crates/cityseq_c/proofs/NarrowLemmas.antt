@@ -23,10 +23,10 @@ use Rattle.cj_stream.specs.Run.{CountsAll, Ends}
 use Rattle.cj_stream.specs.Sink.{Took, SinkLaw}
 use Rattle.cj_stream.specs.Verdict.{Rules, ending, ending_of, good, good_from, is_kept, item_after, kept, kept_first}
 use Rattle.cj_stream.specs.Verdict.{kept_from, refusal_from, refusal_in, reported, reported_first, reported_from}
-use Rattle.cj_stream.specs.Verdict.{text_verdict, verdict, verdict_at, stretch, up_to}
+use Rattle.cj_stream.specs.Verdict.{text_verdict, verdict, verdict_at, stretch, up_to, stream_of}
 use Rattle.cj_stream.proofs.IsLinesLemmas.{lines-are_lines}
 use Rattle.cj_stream.proofs.PartsLemmas.{lines-headed}
-use Rattle.cityseq_c.specs.Judged.{IsJudged, Judged, Tells}
+use Rattle.cityseq_c.specs.Judged.{IsJudged, Judged, Tells, lent}
 use Rattle.cityseq_c.specs.ReportSlice.{Holds}
 use Rattle.cityseq_c.specs.Query.{DeclinesCall}
 use Rattle.cityseq_c.specs.Request.{AreCut, IsAsked, IsFit, needed_limits}
@@ -263,8 +263,9 @@ module _ (rules : Rules) (m : ℕ) (low : m ≤ rules.limits.line) where
         fault = faults-text to x.middle b e x.fault;
       }
 
-      judged-text : (o : Outcome) (a b : S) (old new : List Told) → Judged law narrow s o a b old new
-          → Judged law rules s o a b old new
+      judged-text : (o : Outcome) (a b : S) (old new : List Told)
+          → Judged law (stream_of narrow s) o (lent a old) (lent b new)
+          → Judged law (stream_of rules s) o (lent a old) (lent b new)
       judged-text o a b old new x =
           let t = x.tells in
           record {
@@ -288,8 +289,9 @@ module _ (rules : Rules) (m : ℕ) (low : m ≤ rules.limits.line) where
 -- a header and a part that were judged by the limits that they need are judged as by the limits that were asked for
 pub judged-as-asked : {S : Type 0} (law : SinkLaw S) (rules : Rules) (header part : List ℕ) (o : Outcome) (a b : S)
     (old new : List Told) → AreCut header part
-    → Judged law (record rules { limits = needed_limits rules.limits header part }) (header ++ part) o a b old new
-    → Judged law rules (header ++ part) o a b old new
+    → Judged law (stream_of (record rules { limits = needed_limits rules.limits header part }) (header ++ part)) o
+    (lent a old) (lent b new)
+    → Judged law (stream_of rules (header ++ part)) o (lent a old) (lent b new)
 judged-as-asked law rules header part o a b old new cut x = go (cases_lt longest rules.limits.line)
   where
     longest : ℕ
@@ -298,27 +300,29 @@ judged-as-asked law rules header part o a b old new cut x = go (cases_lt longest
     least : ℕ
     least = min rules.limits.line longest
 
-    go : (longest < rules.limits.line) ⊎ (rules.limits.line ≤ longest) → Judged law rules (header ++ part) o a b old new
+    go : (longest < rules.limits.line) ⊎ (rules.limits.line ≤ longest) → Judged law (stream_of rules (header ++ part)) o
+        (lent a old) (lent b new)
     go (inl fewer) =
         let low : least ≤ rules.limits.line = omega arith in
         judged-text rules least low (header ++ part) (short-cut least header part cut (omega (arith, fewer))
         (omega (arith, fewer))) law o a b old new x
     go (inr enough) =
         let same : least ≡ rules.limits.line = min-eq_left enough in
-        subst (λ z. Judged law (record rules { limits = record { line = z; depth = rules.limits.depth } })
-        (header ++ part) o a b old new) same x
+        subst (λ z. Judged law (stream_of (record rules { limits = record { line = z; depth = rules.limits.depth } })
+        (header ++ part)) o (lent a old) (lent b new)) same x
 
 module _ {S : Type 0} (law : SinkLaw S) (r : Request) (header part : List ℕ) (a b : S) (old new : List Told)
     (fit : IsFit r header part) where
   -- so a call that judged by these answers by the rules of its request
   pub asked-ok : (rules used : Rules) (went : Result Outcome NotJudged) → IsAsked r rules → used ≡ record rules { limits = needed_limits rules.limits header part }
-      → IfOk went (λ o. Judged law used (header ++ part) o a b old new)
-      → IfOk went (λ o. (x : Rules) × IsAsked r x × Judged law x (header ++ part) o a b old new)
+      → IfOk went (λ o. Judged law (stream_of used (header ++ part)) o (lent a old) (lent b new))
+      → IfOk went (λ o. (x : Rules) × IsAsked r x × Judged law (stream_of x (header ++ part)) o
+      (lent a old) (lent b new))
   asked-ok rules used (Ok o) asked same judged = (
     rules,
     asked,
     judged-as-asked law rules header part o a b old new fit.cut
-        (subst (λ z. Judged law z (header ++ part) o a b old new) same judged),
+        (subst (λ z. Judged law (stream_of z (header ++ part)) o (lent a old) (lent b new)) same judged),
   )
   asked-ok rules used (Err why) asked same judged = tt
 

@@ -7,11 +7,11 @@ use Rattle.cj_stream.specs.Engine.{Faults}
 use Rattle.cj_stream.specs.Headline.{IsUnhindered}
 use Rattle.cj_stream.specs.Item.{Item, raw_item}
 use Rattle.cj_stream.specs.Sink.{Took}
-use Rattle.cj_stream.specs.Verdict.{Rules, kept, kept_first, output, up_to}
+use Rattle.cj_stream.specs.Verdict.{Rules, kept, kept_first, output, up_to, stream_of}
 use Rattle.cj_stream.specs.declared.running.Outcome.{Outcome}
 use Rattle.cityseq_c.proofs.FitLemmas.{first-fits}
 use Rattle.cityseq_c.specs.Called.{Copied, IsFull, IsWritten}
-use Rattle.cityseq_c.specs.Judged.{Judged}
+use Rattle.cityseq_c.specs.Judged.{Judged, lent}
 use Rattle.cityseq_c.specs.declared.report_slice.Told.{Told}
 use Rattle.cityseq_c.specs.Room.{room_bytes, room_loan, written_of, in_room, room_law}
 use Rattle.cityseq_c.specs.declared.room.Room.{Room}
@@ -48,7 +48,8 @@ in-empty a b xs took none =
     (omega (arith, w.count, none), w.bytes ∙ ap (λ n. take n (room_bytes a) ++ flat_map raw_item xs) none)
 
 module _ (rules : Rules) (text : List ℕ) (o : Outcome) (a b : Room) (old new : List Told) (out : List ℕ) (written : ℕ)
-    (j : Judged room_law rules text o a b old new) (none : written_of a ≡ 0) (back : room_loan b ≡ room_loan a
+    (j : Judged room_law (stream_of rules text) o (lent a old) (lent b new)) (none : written_of a ≡ 0)
+    (back : room_loan b ≡ room_loan a
     → out ≡ room_bytes b) (count : written ≡ written_of b) where
   all-copied : IsUnhindered o.ended → IsWritten (output rules text) out written
   all-copied free =

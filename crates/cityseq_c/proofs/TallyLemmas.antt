@@ -19,14 +19,14 @@ use Rattle.cj_stream.specs.Verdict.{Rules, ending, item_after, kept, kept_from, 
 use Rattle.cj_stream.specs.Sink.{never_fails}
 use Rattle.cj_stream.proofs.PartsLemmas.{front-good, header-valid, kept-first}
 use Rattle.cityseq_c.specs.Called.{IsTalliedOf}
-use Rattle.cityseq_c.specs.Judged.{Judged}
+use Rattle.cityseq_c.specs.Judged.{Judged, lent}
 use Rattle.cityseq_c.specs.Tally.{AreShown, HasCounts, IsTally}
 use Rattle.cityseq_c.specs.declared.report_slice.Told.{Told}
 use Rattle.cityseq_c.specs.declared.tally.Tally.{Tally}
 
 -- without a hindrance the tally is that of all that is kept
 pub tallied : (rules : Rules) (text : List ℕ) (o : Outcome) (start t : Tallied) (old new : List Told)
-    → Judged (never_fails Tallies) rules text o start t old new → start ≡ no_tally
+    → Judged (never_fails Tallies) (stream_of rules text) o (lent start old) (lent t new) → start ≡ no_tally
     → (told : Tally) → IsTally t told → (start ≡ no_tally → Puts (never_fails Tallies) (stream_of rules text) Complete
     start t → TalliesRun rules text Complete t)
     → IsUnhindered o.ended → IsTalliedOf rules text told

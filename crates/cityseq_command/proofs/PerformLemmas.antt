@@ -15,11 +15,11 @@ use Rattle.cj_stream.specs.Output.{Channel}
 use Rattle.cj_stream.specs.ReportSink.{Collects}
 use Rattle.cj_stream.specs.Run.{Run, Gave, IsReadWithin, RunsNoting, Writes, WritesLines}
 use Rattle.cj_stream.specs.Sink.{HasRisen, RisesOnErr, AppendsPart, Took}
-use Rattle.cj_stream.specs.Verdict.{Rules, good, kept, kept_first, reported, reported_first, up_to}
+use Rattle.cj_stream.specs.Verdict.{Rules, good, kept, kept_first, reported, reported_first, up_to, stream_of}
 use Rattle.cj_stream.specs.Bound.{exact_peaks}
 use Rattle.cj_stream.specs.TallySink.{Tally, IsTallyOf, no_tally}
 use Rattle.cj_stream.specs.Query.{rules_for}
-use Rattle.cityseq_command.specs.Performed.{end_of_writing, Says, SaysCheck, SaysSummary, Answers}
+use Rattle.cityseq_command.specs.Performed.{end_of_writing, Says, SaysCheck, SaysSummary, Answers, went}
 use Rattle.cityseq_command.specs.FaultLines.{Wrote}
 use Rattle.cityseq_command.specs.ReportWriter.{AreReported}
 use Rattle.cityseq_command.specs.declared.ask.Ask.{Ask}
@@ -127,14 +127,14 @@ Reported-told notes run n m told collected = record { collected = collected; too
 -- a check or a summary after a complete run, of what that counted
 pub Says-check : (rules : Rules) (r : List ℕ) (n m k : ℕ) (written : Result (Unit {0}) Unwritten) (told : End) (old new : Channel)
     → n ≡ length (good rules r) → m ≡ length (filter is_feature (kept rules r)) → k ≡ length (reported rules r) → told ≡ end_of_writing written
-    → Wrote (check_text n m k) written old new → SaysCheck rules r Complete told old new
+    → Wrote (check_text n m k) written old new → SaysCheck (stream_of rules r) Complete told old new
 Says-check rules r n m k written told old new lines features refused tells wrote =
     let now : Wrote (check_text (length (good rules r)) (length (filter is_feature (kept rules r))) (length (reported rules r))) written old new = rw (← lines, ← features, ← refused) wrote in
     (written, tells, now)
 
 pub Says-summary : (rules : Rules) (r : List ℕ) (n : ℕ) (t : Tally) (peaks : Peaks) (written : Result (Unit {0}) Unwritten) (told : End) (old new : Channel)
     → n ≡ length (good rules r) → IsTallyOf (kept rules r) t → peaks ≡ exact_peaks rules.limits r → told ≡ end_of_writing written
-    → Wrote (summary_text n t peaks) written old new → SaysSummary rules r Complete told old new
+    → Wrote (summary_text n t peaks) written old new → SaysSummary (stream_of rules r) Complete told old new
 Says-summary rules r n t peaks written told old new lines tally held tells wrote = record {
   tally = t;
   counted = λ e. tally;
@@ -143,14 +143,17 @@ Says-summary rules r n t peaks written told old new lines tally held tells wrote
 }
 
 -- nothing was reported after a run that is not complete
-pub Says-no_summary : (rules : Rules) (r : List ℕ) (e : End) (a : Channel) → (e ≡ Complete → ⊥) → (e ≡ WriteFault → ⊥) → SaysSummary rules r e e a a
+pub Says-no_summary : (rules : Rules) (r : List ℕ) (e : End) (a : Channel) → (e ≡ Complete → ⊥) → (e ≡ WriteFault → ⊥)
+    → SaysSummary (stream_of rules r) e e a a
 Says-no_summary rules r e a other well = record {
   tally = no_tally;
   counted = λ is. absurd (other is);
   says = Says-nothing _ e a other well;
 }
 
-SaysSummary-kept : (rules : Rules) (r : List ℕ) (e told : End) (a b c : Channel) → SaysSummary rules r e told a b → Keeps b.bytes c.bytes → c.failures ≡ b.failures → SaysSummary rules r e told a c
+SaysSummary-kept : (rules : Rules) (r : List ℕ) (e told : End) (a b c : Channel)
+    → SaysSummary (stream_of rules r) e told a b → Keeps b.bytes c.bytes → c.failures ≡ b.failures
+    → SaysSummary (stream_of rules r) e told a c
 SaysSummary-kept rules r e told a b c says k f = record {
   tally = says.tally;
   counted = says.counted;
@@ -172,8 +175,9 @@ Headline-kept notes rules text given e peaks a b c n m h k f = record {
 }
 
 -- an answer stays where the writer keeps its bytes
-pub Answers-kept : (ask : Ask) (r : List ℕ) (at_end : Type 0) (outcome : Outcome) (reports : List Report) (told : End) (a b c : Channel) → Answers ask r at_end outcome reports told a b
-    → Keeps b.bytes c.bytes → c.failures ≡ b.failures → Answers ask r at_end outcome reports told a c
+pub Answers-kept : (ask : Ask) (r : List ℕ) (at_end : Type 0) (outcome : Outcome) (reports : List Report) (told : End)
+    (a b c : Channel) → Answers ask (went r at_end outcome reports) told a b
+    → Keeps b.bytes c.bytes → c.failures ≡ b.failures → Answers ask (went r at_end outcome reports) told a c
 Answers-kept (Check limits options) r at_end outcome reports told a b c says k f = Says-kept _ outcome.ended told a b c says k f
 Answers-kept (Filter limits query options) r at_end outcome reports told a b c says k f = (
   says.0,
@@ -198,7 +202,8 @@ Says-limit text ReadLimit told old new says is = refl
 Says-limit text WriteFault told old new says is = absurd says
 Says-limit text Memory told old new says is = sym says.0 ∙ is
 
-Answers-limit : (ask : Ask) (r : List ℕ) (at_end : Type 0) (outcome : Outcome) (reports : List Report) (told : End) (old new : Channel) → Answers ask r at_end outcome reports told old new
+Answers-limit : (ask : Ask) (r : List ℕ) (at_end : Type 0) (outcome : Outcome) (reports : List Report) (told : End)
+    (old new : Channel) → Answers ask (went r at_end outcome reports) told old new
     → told ≡ ReadLimit → outcome.ended ≡ ReadLimit
 Answers-limit (Check limits options) r at_end outcome reports told old new says is = Says-limit _ outcome.ended told old new says is
 Answers-limit (Filter limits query options) r at_end outcome reports told old new says is = sym says.0 ∙ is
@@ -212,6 +217,7 @@ limit-reads reads r e is w =
 
 -- of too few bytes it is never told that the reads ran out
 pub enough-told : (ask : Ask) (r : List ℕ) (at_end : Type 0) (outcome : Outcome) (reports : List Report) (told : End) (old new : Channel) (reads : ℕ)
-    → Answers ask r at_end outcome reports told old new → IsReadWithin reads r outcome.ended → length r < reads → told ≡ ReadLimit → ⊥
+    → Answers ask (went r at_end outcome reports) told old new → IsReadWithin reads r outcome.ended → length r < reads
+    → told ≡ ReadLimit → ⊥
 enough-told ask r at_end outcome reports told old new reads says within few is =
     omega (arith, few, limit-reads reads r outcome.ended (Answers-limit ask r at_end outcome reports told old new says is) within)
