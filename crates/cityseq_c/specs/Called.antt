@@ -36,9 +36,9 @@ call request header part old new =
 abbrev pub text_of : Call → List ℕ
 text_of c = c.header ++ c.part
 
--- A call, by how it went: header and part were judged, as one stream, by the rules that were asked for, and this is told
--- of it, with what else comes of these; or nothing was read, for what is wrong or for want of memory, and no room has
--- changed.
+-- A call, by how it went: header and part were judged, as one stream, by the rules that were asked for, and this is
+-- told of it, with what else comes of these; or nothing was read, for what is wrong or for want of memory, and no room
+-- has changed.
 abbrev pub Goes : Call → (Rules → Outcome → Type 0) → Result Outcome NotJudged → Type 0
 Goes c also (Ok outcome) =
     (rules : Rules) × IsAsked c.request rules × Tells rules (text_of c) outcome c.old c.new × also rules outcome

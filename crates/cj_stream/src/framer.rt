@@ -27,19 +27,18 @@ ghost use Rattle.std.specs.Prelude.{◌≡◌, ◌+◌, ◌^◌, ◌<◌, ◌≤
 ghost use Rattle.std.specs.Prelude.{if◌then◌else◌, OnOk, OnErr, IfOk, IfErr, IsErrOf, IsTrue, Some};
 ghost use Rattle.cj_budget.specs.Bounded.{IsWithin};
 ghost use Rattle.cj_spans.specs.Marks.{AreUnmarked};
-ghost use Rattle.cj_stream.specs.Bound.{contents};
-ghost use Rattle.cj_stream.specs.Carrying.{IsFramed, Carries};
+ghost use Rattle.cj_stream.specs.Carrying.{IsFramed, Carries, TakesAll, TakesSome, FinishesAll};
 ghost use Rattle.cj_stream.specs.Ending.{IsFirstEnd, IsLaterEnd};
-ghost use Rattle.cj_stream.specs.Lines.{newline, NoLf, closed, first_of, first_content};
+ghost use Rattle.cj_stream.specs.Lines.{newline, NoLf, closed};
 ghost use Rattle.cj_stream.specs.Front.{IsFront};
 ghost use Rattle.cj_stream.specs.Item.{tree_of};
 ghost use Rattle.cj_stream.specs.Judging.{Says, Misreads, ShowsTree, IsHeaderOf};
 ghost use Rattle.cj_stream.specs.Query.{rules_for};
-ghost use Rattle.cj_stream.specs.Reading.{begun_of, begun_verdict, told_verdict, next_item, is_lenient, IsLeft, Stores};
-ghost use Rattle.cj_stream.specs.Reading.{Unstored, Passes, Deals, Settles, Reads, Advances, Stops, Stays, Finishes};
-ghost use Rattle.cj_stream.specs.Reading.{further, judged_begun};
+ghost use Rattle.cj_stream.specs.Reading.{begun_of, begun_verdict, told_verdict, is_lenient, IsLeft, Stores};
+ghost use Rattle.cj_stream.specs.Reading.{Unstored, Passes, Deals, Settles, Reads, Stays};
+ghost use Rattle.cj_stream.specs.Reading.{judged_begun};
 ghost use Rattle.cj_stream.specs.ReportSink.{Notes};
-ghost use Rattle.cj_stream.specs.Scanning.{Scanning, IsReady, IsStill, ListsFailToGrow, Scanned, ScansNext, HoldsFew};
+ghost use Rattle.cj_stream.specs.Scanning.{Scanning, IsReady, IsStill, ListsFailToGrow, Scanned, ScansNext};
 ghost use Rattle.cj_stream.specs.Scanning.{HoldsFewNext, HeldUntil, JudgesLine, Forgets};
 ghost use Rattle.cj_stream.specs.Sink.{HasRisen, Took, with_sink};
 ghost use Rattle.cj_stream.specs.Verdict.{Valid, report_of, stretch};
@@ -482,22 +481,11 @@ impl<'q> Framer<'q> {
         ensures few { self.new.reading.lines ≤ 1 }
         ensures one { OnOk result (self.new.reading.lines ≡ 1) }
         ensures none { OnErr result (self.new.reading.lines ≡ 0) }
-        ensures ok { OnOk result ((p : List ℕ) → Reads self.old.reading p →
-            Advances S.law (further p (part.now ++ newline ∷ [])) (with_sink self.old.reading sink.old)
-            (with_sink self.new.reading sink.new)) }
-        ensures err { IfErr result (λ e. (p more : List ℕ) → Reads self.old.reading p →
-            Stops S.law (further p (part.now ++ newline ∷ more)) (with_sink self.old.reading sink.old) e
-            (with_sink self.new.reading sink.new)) }
+        ensures ok { OnOk result (TakesAll S.law (part.now ++ newline ∷ []) (with_sink self.old sink.old)
+            (with_sink self.new sink.new)) }
+        ensures err { IfErr result (λ e. (more : List ℕ)
+            → TakesSome S.law (part.now ++ newline ∷ more) (with_sink self.old sink.old) e (with_sink self.new sink.new)) }
         ensures ready { OnOk result (IsReady self.new.reading self.new.scanning) }
-        ensures scanned { OnOk result
-            ((p : List ℕ) → Reads self.old.reading p
-            → Scanned self.old.reading.rules.limits (closed p) self.old.scanning
-            → Scanned self.old.reading.rules.limits (closed (p ++ (part.now ++ newline ∷ []))) self.new.scanning) }
-        ensures held { OnErr result
-            ((p more : List ℕ) → Reads self.old.reading p
-            → Scanned self.old.reading.rules.limits (closed p) self.old.scanning
-            → HoldsFew self.old.reading.rules.limits (length (first_content (p ++ (part.now ++ newline ∷ more))))
-            self.new.scanning) }
         ensures undealt { OnErr result (self.new.reading.lines ≡ self.old.reading.lines) }
     {
         self.store_first(part)?;
@@ -520,21 +508,10 @@ impl<'q> Framer<'q> {
         ensures few { self.new.reading.lines ≤ self.old.reading.lines + 1 }
         ensures grows { self.old.reading.lines ≤ self.new.reading.lines }
         ensures one { OnOk result (self.new.reading.lines ≡ self.old.reading.lines + 1) }
-        ensures ok { OnOk result ((p : List ℕ) → Reads self.old.reading p →
-            Advances S.law (further p (part.now ++ newline ∷ [])) (with_sink self.old.reading sink.old)
-            (with_sink self.new.reading sink.new)) }
-        ensures err { IfErr result (λ e. (p more : List ℕ) → Reads self.old.reading p →
-            Stops S.law (further p (part.now ++ newline ∷ more)) (with_sink self.old.reading sink.old) e
-            (with_sink self.new.reading sink.new)) }
-        ensures scanned { OnOk result
-            ((p : List ℕ) → Reads self.old.reading p
-            → Scanned self.old.reading.rules.limits (closed p) self.old.scanning
-            → Scanned self.old.reading.rules.limits (closed (p ++ (part.now ++ newline ∷ []))) self.new.scanning) }
-        ensures held { OnErr result
-            ((p more : List ℕ) → Reads self.old.reading p
-            → Scanned self.old.reading.rules.limits (closed p) self.old.scanning
-            → HoldsFew self.old.reading.rules.limits (length (first_content (p ++ (part.now ++ newline ∷ more))))
-            self.new.scanning) }
+        ensures ok { OnOk result (TakesAll S.law (part.now ++ newline ∷ []) (with_sink self.old sink.old)
+            (with_sink self.new sink.new)) }
+        ensures err { IfErr result (λ e. (more : List ℕ)
+            → TakesSome S.law (part.now ++ newline ∷ more) (with_sink self.old sink.old) e (with_sink self.new sink.new)) }
         ensures undealt { OnErr result (self.new.reading.lines ≡ self.old.reading.lines) }
         ensures reports { (p more : List ℕ) → Reads self.old.reading p
             → Notes N.notes (stretch self.old.reading.rules (p ++ (part.now ++ newline ∷ more)) self.old.reading.lines
@@ -558,20 +535,11 @@ impl<'q> Framer<'q> {
         ensures few { self.new.reading.lines ≤ 1 }
         ensures undropped { IfOk result (λ t. t.accepted ≡ false → self.new.reading.dropped ≡ false) }
         ensures carries { Carries S.law (with_sink self.old sink.old) result (with_sink self.new sink.new) }
-        ensures ok { IfOk result (λ t. (p : List ℕ) → Reads self.old.reading p →
-            Advances S.law (further p (take t.used piece.now)) (with_sink self.old.reading sink.old)
-            (with_sink self.new.reading sink.new)) }
-        ensures err { IfErr result (λ e. (p : List ℕ) → Reads self.old.reading p →
-            Stops S.law (further p piece.now) (with_sink self.old.reading sink.old) e
-            (with_sink self.new.reading sink.new)) }
+        ensures ok { IfOk result (λ t. TakesAll S.law (take t.used piece.now) (with_sink self.old sink.old)
+            (with_sink self.new sink.new)) }
+        ensures err { IfErr result (λ e. TakesSome S.law piece.now (with_sink self.old sink.old) e
+            (with_sink self.new sink.new)) }
         ensures ready { OnOk result (IsReady self.new.reading self.new.scanning) }
-        ensures scanned { IfOk result (λ t.
-            (p : List ℕ) → Reads self.old.reading p → Scanned self.old.reading.rules.limits (closed p) self.old.scanning
-            → Scanned self.old.reading.rules.limits (closed (p ++ take t.used piece.now)) self.new.scanning) }
-        ensures held { OnErr result
-            ((p : List ℕ) → Reads self.old.reading p
-            → Scanned self.old.reading.rules.limits (closed p) self.old.scanning
-            → HoldsFew self.old.reading.rules.limits (length (first_content (p ++ piece.now))) self.new.scanning) }
         ensures least { OnErr result
             ((p : List ℕ) → Reads self.old.reading p
             → Scanned self.old.reading.rules.limits (closed p) self.old.scanning
@@ -604,20 +572,9 @@ impl<'q> Framer<'q> {
         ensures carries { Carries S.law (with_sink self.old sink.old) result (with_sink self.new sink.new) }
         ensures few { self.new.reading.lines ≤ self.old.reading.lines + length piece.now }
         ensures grows { self.old.reading.lines ≤ self.new.reading.lines }
-        ensures ok { OnOk result ((p : List ℕ) → Reads self.old.reading p →
-            Advances S.law (further p piece.now) (with_sink self.old.reading sink.old)
-            (with_sink self.new.reading sink.new)) }
-        ensures err { IfErr result (λ e. (p : List ℕ) → Reads self.old.reading p →
-            Stops S.law (further p piece.now) (with_sink self.old.reading sink.old) e
-            (with_sink self.new.reading sink.new)) }
-        ensures scanned { OnOk result
-            ((p : List ℕ) → Reads self.old.reading p
-            → Scanned self.old.reading.rules.limits (closed p) self.old.scanning
-            → Scanned self.old.reading.rules.limits (closed (p ++ piece.now)) self.new.scanning) }
-        ensures held { OnErr result
-            ((p : List ℕ) → Reads self.old.reading p
-            → Scanned self.old.reading.rules.limits (closed p) self.old.scanning
-            → HoldsFew self.old.reading.rules.limits (length (first_content (p ++ piece.now))) self.new.scanning) }
+        ensures ok { OnOk result (TakesAll S.law piece.now (with_sink self.old sink.old) (with_sink self.new sink.new)) }
+        ensures err { IfErr result (λ e. TakesSome S.law piece.now (with_sink self.old sink.old) e
+            (with_sink self.new sink.new)) }
         ensures least { OnErr result
             ((p : List ℕ) → Reads self.old.reading p
             → Scanned self.old.reading.rules.limits (closed p) self.old.scanning
@@ -643,15 +600,7 @@ impl<'q> Framer<'q> {
         ensures carries { Carries S.law (with_sink self.old sink.old) result (with_sink self.new sink.new) }
         ensures few { self.new.reading.lines ≤ 1 }
         ensures memory { IsErrOf result End.Memory → ⊥ }
-        ensures finishes { (p : List ℕ) → Reads self.old.reading p →
-            Finishes S.law p (with_sink self.old.reading sink.old) result (with_sink self.new.reading sink.new) }
-        ensures scanned { OnOk result
-            ((p : List ℕ) → Reads self.old.reading p
-            → Scanned self.old.reading.rules.limits (closed p) self.old.scanning
-            → Scanned self.old.reading.rules.limits (contents p) self.new.scanning) }
-        ensures held { (p : List ℕ) → Reads self.old.reading p
-            → Scanned self.old.reading.rules.limits (closed p) self.old.scanning
-            → HoldsFew self.old.reading.rules.limits (length (first_content p)) self.new.scanning }
+        ensures finishes { FinishesAll S.law (with_sink self.old sink.old) result (with_sink self.new sink.new) }
     {
         if self.has_begun() {
             return self.settle_first(false, sink);
@@ -676,15 +625,7 @@ impl<'q> Framer<'q> {
         ensures few { self.new.reading.lines ≤ self.old.reading.lines + 1 }
         ensures grows { self.old.reading.lines ≤ self.new.reading.lines }
         ensures memory { IsErrOf result End.Memory → ⊥ }
-        ensures finishes { (p : List ℕ) → Reads self.old.reading p →
-            Finishes S.law p (with_sink self.old.reading sink.old) result (with_sink self.new.reading sink.new) }
-        ensures scanned { OnOk result
-            ((p : List ℕ) → Reads self.old.reading p
-            → Scanned self.old.reading.rules.limits (closed p) self.old.scanning
-            → Scanned self.old.reading.rules.limits (contents p) self.new.scanning) }
-        ensures held { (p : List ℕ) → Reads self.old.reading p
-            → Scanned self.old.reading.rules.limits (closed p) self.old.scanning
-            → HoldsFew self.old.reading.rules.limits (length (first_content p)) self.new.scanning }
+        ensures finishes { FinishesAll S.law (with_sink self.old sink.old) result (with_sink self.new sink.new) }
         ensures reports { (p : List ℕ) → Reads self.old.reading p
             → Notes N.notes (stretch self.old.reading.rules p self.old.reading.lines self.new.reading.lines)
             reports.old reports.new }

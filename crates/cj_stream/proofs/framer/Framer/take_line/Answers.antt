@@ -10,42 +10,44 @@ use Rattle.cj_stream.proofs.framer.Framer.take_line.Goals as goal
 pub returns-in_err-store-clause-err : goal.returns-in_err-store-clause-err
 returns-in_err-store-clause-err g c =
     let p = err_from_is_err_and c.from_residual.result c.from_residual.ensures.1 in
-    rw (p.1, p.2) (λ q more reads. rw c.in_err-store.ensures.err (Stops-unstored g.S.LineSink.law
-    c.args.self.now.reading c.args.sink.now q c.args.part.now more _ reads c.requires.one
-    c.in_err-store.ensures.cause))
+    let f = c.args.self.now.reading in
+    rw (p.1, p.2) (λ more. record {
+      stops = λ q reads. rw c.in_err-store.ensures.err (Stops-unstored g.S.LineSink.law f c.args.sink.now q
+          c.args.part.now more _ reads c.requires.one c.in_err-store.ensures.cause);
+      held = λ q reads s. rw c.in_err-store.ensures.err (few-scanned f.rules.limits (closed q)
+          c.args.self.now.scanning _ s (first-closed q (c.args.part.now ++ 10 ∷ more)));
+    })
 
 pub returns-in_err-deal-clause-err : goal.returns-in_err-deal-clause-err
 returns-in_err-deal-clause-err g c =
     let p = err_from_is_err_and c.from_residual-in_err-deal.result c.from_residual-in_err-deal.ensures.1 in
-    rw (p.1, p.2) (λ q more reads. Stops-undealt g.S.LineSink.law c.args.self.now.reading c.store.new.self.reading
-    c.deal.new.self.reading c.args.sink.now c.deal.new.sink q c.args.part.now more _ _ reads c.requires.one
-    c.in_ok-store.ensures.ok c.deal.ensures.settles c.in_err-deal.was)
+    let f = c.args.self.now.reading in
+    rw (p.1, p.2) (λ more. record {
+      stops = λ q reads. Stops-undealt g.S.LineSink.law f c.store.new.self.reading c.deal.new.self.reading
+          c.args.sink.now c.deal.new.sink q c.args.part.now more _ _ reads c.requires.one c.in_ok-store.ensures.ok
+          c.deal.ensures.settles c.in_err-deal.was;
+      held = λ q reads s. few-line f c.store.new.self.reading q c.args.part.now c.args.self.now.scanning
+          c.store.new.self.scanning c.deal.new.self.scanning reads c.requires.one c.in_ok-store.ensures.ok
+          c.store.ensures.lists s more c.deal.ensures.few;
+    })
 
 pub returns-clause-ok : goal.returns-clause-ok
-returns-clause-ok g c = λ q reads. Advances-line g.S.LineSink.law c.args.self.now.reading c.store.new.self.reading
-    c.deal.new.self.reading c.args.sink.now c.deal.new.sink q c.args.part.now c.deal.result reads c.requires.one
-    c.in_ok-store.ensures.ok c.deal.ensures.settles c.in_ok-deal.was
-
-pub returns-in_err-store-clause-held : goal.returns-in_err-store-clause-held
-returns-in_err-store-clause-held g c =
-    let p = err_from_is_err_and c.from_residual.result c.from_residual.ensures.1 in
-    rw p.1 (λ q more reads s. rw c.in_err-store.ensures.err (few-scanned c.args.self.now.reading.rules.limits (closed q) c.args.self.now.scanning _ s (first-closed q (c.args.part.now ++ 10 ∷ more))))
-
-pub returns-in_err-deal-clause-held : goal.returns-in_err-deal-clause-held
-returns-in_err-deal-clause-held g c =
-    let p = err_from_is_err_and c.from_residual-in_err-deal.result c.from_residual-in_err-deal.ensures.1 in
-    rw p.1 (λ q more reads s. few-line c.args.self.now.reading c.store.new.self.reading q c.args.part.now c.args.self.now.scanning c.store.new.self.scanning c.deal.new.self.scanning
-    reads c.requires.one c.in_ok-store.ensures.ok c.store.ensures.lists s more c.deal.ensures.few)
+returns-clause-ok g c =
+    let f = c.args.self.now.reading in
+    record {
+      advances = λ q reads. Advances-line g.S.LineSink.law f c.store.new.self.reading c.deal.new.self.reading
+          c.args.sink.now c.deal.new.sink q c.args.part.now c.deal.result reads c.requires.one
+          c.in_ok-store.ensures.ok c.deal.ensures.settles c.in_ok-deal.was;
+      scanned = λ q reads s. scanned-line f c.store.new.self.reading q c.args.part.now c.args.self.now.scanning
+          c.store.new.self.scanning c.deal.new.self.scanning reads c.requires.one c.in_ok-store.ensures.ok
+          c.store.ensures.lists s c.in_ok-deal.ensures.scanned;
+    }
 
 pub returns-in_err-deal-clause-undealt : goal.returns-in_err-deal-clause-undealt
 returns-in_err-deal-clause-undealt g c =
     let p = err_from_is_err_and c.from_residual-in_err-deal.result c.from_residual-in_err-deal.ensures.1 in
     let settles = rw c.in_err-deal.was at c.deal.ensures.settles in
     rw p.1 (settled-err g.S.LineSink.law _ _ _ _ _ _ _ _ settles ∙ c.in_ok-store.ensures.ok.lines)
-
-pub returns-clause-scanned : goal.returns-clause-scanned
-returns-clause-scanned g c = λ q reads s. scanned-line c.args.self.now.reading c.store.new.self.reading q c.args.part.now c.args.self.now.scanning c.store.new.self.scanning c.deal.new.self.scanning
-    reads c.requires.one c.in_ok-store.ensures.ok c.store.ensures.lists s c.in_ok-deal.ensures.scanned
 
 pub returns-in_err-deal-clause-carries : goal.returns-in_err-deal-clause-carries
 returns-in_err-deal-clause-carries g c = record {

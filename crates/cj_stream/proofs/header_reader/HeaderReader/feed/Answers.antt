@@ -19,7 +19,7 @@ returns-in-Ok-clause-feeds g c =
     (record { reading = c.self.inside.framer.reading; scanning = c.self.inside.framer.scanning; taken = c.self.inside.taken; ended = option_map header_end c.self.inside.ended }) _
     (record { reading = c.take_front.new.self.reading; scanning = c.take_front.new.self.scanning; taken = c.self.inside.taken + c.in-Ok.progress.used; ended = option_map header_end c.self.inside.ended }) _
     going c.take_front.ensures.carries.counts c.take_front.ensures.carries.stays c.take_front.ensures.carries.framed.sound c.take_front.ensures.carries.framed.room c.take_front.ensures.carries.rises
-    (take c.in-Ok.progress.used c.args.piece.now) going (omega (arith, length-take c.in-Ok.progress.used c.args.piece.now, c.in-Ok.ensures.front.within)) c.in-Ok.ensures.ok c.in-Ok.ensures.scanned)
+    (take c.in-Ok.progress.used c.args.piece.now) going (omega (arith, length-take c.in-Ok.progress.used c.args.piece.now, c.in-Ok.ensures.front.within)) c.in-Ok.ensures.ok.advances c.in-Ok.ensures.ok.scanned)
 
 pub returns-in-Err-clause-feeds : goal.returns-in-Err-clause-feeds
 returns-in-Err-clause-feeds g c =
@@ -29,4 +29,4 @@ returns-in-Err-clause-feeds g c =
     (record { reading = c.self.inside.framer.reading; scanning = c.self.inside.framer.scanning; taken = c.self.inside.taken; ended = option_map header_end c.self.inside.ended }) _
     (record { reading = c.take_front.new.self.reading; scanning = c.take_front.new.self.scanning; taken = c.self.inside.taken; ended = Some c.in-Err.end }) _
     going c.take_front.ensures.carries.counts c.take_front.ensures.carries.stays c.take_front.ensures.carries.framed.sound c.take_front.ensures.carries.framed.room c.take_front.ensures.carries.rises
-    c.args.piece.now c.in-Err.end refl (λ fault. c.take_front.ensures.carries.cause (c.in-Err.is ∙ ap Err fault)) (λ lacks. c.take_front.ensures.carries.memory (c.in-Err.is ∙ ap Err lacks)) c.in-Err.ensures.err c.in-Err.ensures.held c.in-Err.ensures.least)
+    c.args.piece.now c.in-Err.end refl (λ fault. c.take_front.ensures.carries.cause (c.in-Err.is ∙ ap Err fault)) (λ lacks. c.take_front.ensures.carries.memory (c.in-Err.is ∙ ap Err lacks)) c.in-Err.ensures.err.stops c.in-Err.ensures.err.held c.in-Err.ensures.least)

@@ -18,7 +18,7 @@ returns-in-Ok-clause-feeds g c =
     (record { reading = c.self.inside.framer.reading; scanning = c.self.inside.framer.scanning; taken = c.self.inside.taken; ended = option_map line_end c.self.inside.ended }) _
     (record { reading = c.take_piece.new.self.reading; scanning = c.take_piece.new.self.scanning; taken = c.self.inside.taken + length c.args.piece.now; ended = option_map line_end c.self.inside.ended }) _
     going c.take_piece.ensures.carries.counts c.take_piece.ensures.carries.stays c.take_piece.ensures.carries.framed.sound c.take_piece.ensures.carries.framed.room c.take_piece.ensures.carries.rises
-    c.args.piece.now going refl c.in-Ok.ensures.ok c.in-Ok.ensures.scanned)
+    c.args.piece.now going refl c.in-Ok.ensures.ok.advances c.in-Ok.ensures.ok.scanned)
 
 pub returns-in-Err-clause-feeds : goal.returns-in-Err-clause-feeds
 returns-in-Err-clause-feeds g c =
@@ -28,7 +28,7 @@ returns-in-Err-clause-feeds g c =
     (record { reading = c.self.inside.framer.reading; scanning = c.self.inside.framer.scanning; taken = c.self.inside.taken; ended = option_map line_end c.self.inside.ended }) _
     (record { reading = c.take_piece.new.self.reading; scanning = c.take_piece.new.self.scanning; taken = c.self.inside.taken; ended = Some c.in-Err.end }) _
     going c.take_piece.ensures.carries.counts c.take_piece.ensures.carries.stays c.take_piece.ensures.carries.framed.sound c.take_piece.ensures.carries.framed.room c.take_piece.ensures.carries.rises
-    c.args.piece.now c.in-Err.end refl (λ fault. c.take_piece.ensures.carries.cause (c.in-Err.is ∙ ap Err fault)) (λ lacks. c.take_piece.ensures.carries.memory (c.in-Err.is ∙ ap Err lacks)) c.in-Err.ensures.err c.in-Err.ensures.held c.in-Err.ensures.least)
+    c.args.piece.now c.in-Err.end refl (λ fault. c.take_piece.ensures.carries.cause (c.in-Err.is ∙ ap Err fault)) (λ lacks. c.take_piece.ensures.carries.memory (c.in-Err.is ∙ ap Err lacks)) c.in-Err.ensures.err.stops c.in-Err.ensures.err.held c.in-Err.ensures.least)
 
 pub returns-in-Ok-clause-reports : goal.returns-in-Ok-clause-reports
 returns-in-Ok-clause-reports g c = rw (← c.self.view_is) (λ p st going. c.take_piece.ensures.reports p (st.going going).0)

@@ -18,7 +18,7 @@ returns-clause-finished g c =
     (record { reading = c.self.inside.framer.reading; scanning = c.self.inside.framer.scanning; taken = c.self.inside.taken; ended = option_map line_end c.self.inside.ended }) _
     (record { reading = c.finish.new.self.reading; scanning = c.finish.new.self.scanning; taken = c.self.inside.taken; ended = Some (line_end c.after-end.result) }) _
     going c.finish.ensures.carries.counts c.finish.ensures.carries.stays c.finish.ensures.carries.framed.sound c.finish.ensures.carries.framed.room c.finish.ensures.carries.rises
-    (line_end c.after-end.result) c.finish.result refl c.after-end.ensures c.finish.ensures.carries.cause c.finish.ensures.memory c.finish.ensures.finishes c.finish.ensures.scanned c.finish.ensures.held)
+    (line_end c.after-end.result) c.finish.result refl c.after-end.ensures c.finish.ensures.carries.cause c.finish.ensures.memory c.finish.ensures.finishes.answers c.finish.ensures.finishes.scanned c.finish.ensures.finishes.held)
 
 pub returns-clause-reports : goal.returns-clause-reports
 returns-clause-reports g c = rw (← c.self.view_is) (λ p st going. c.finish.ensures.reports p (st.going going).0)
