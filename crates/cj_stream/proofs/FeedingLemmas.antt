@@ -250,8 +250,7 @@ module _ {S : Type 0} (law : SinkLaw S) (old : EngineState) (s : S) where
             let before = let k = first.sink p st going in rw first.unended at k in
             let reads = ((stands p st).going first.unended).0 in
             let same = let k = kept_first-same (rules_of old) (lines_of middle) (p ++ take n bytes) (drop n bytes) reads.lines in rw (whole p) at k in
-            rw none (Delivers-join law (rules_of old) (p ++ take n bytes) (p ++ bytes) 0 (lines_of middle)
-            (lines_of new) s m t new.ended refl same (rw none at before) (rw (whole p, first.rules) at after));
+            rw none (Delivers-join refl same (rw none at before) (rw (whole p, first.rules) at after));
       }
     where
       on-ok : {A B : Type 0} (r : Result (Unit {0}) End) → (A → B) → OnOk r A → OnOk r B

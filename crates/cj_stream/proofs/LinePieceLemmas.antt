@@ -71,8 +71,7 @@ module _ {S : Type 0} (law : SinkLaw S) (rules : Rules) (p : List ℕ) (n : ℕ)
         → TookWhole law (given_after p n (in_pieces rules pieces k) m) s t e
         → Delivers law (stretch rules (p ++ joined (take (k + 1) pieces)) n m) s t (Some e)
     Delivers-whole pieces k m e w =
-        Delivers-join law rules (p ++ joined (take k pieces)) (p ++ joined (take (k + 1) pieces)) n
-        (length (closed (p ++ joined (take k pieces)))) m s w.middle t (Some e)
+        Delivers-join
         (kept_first-either (joined (take (k + 1) pieces)) (joined (take k pieces))) (pieces-same pieces k) w.taken w.after
 
     -- all that is kept after them was taken, of a stream of which as much is kept as of these bytes

@@ -90,23 +90,23 @@ module _ {N : Type 0} (notes : N → Report → N → Type 0) (rules : Rules) wh
   pub Notes-none : (q : List ℕ) (i j : ℕ) (n m : N) → j ≡ i → m ≡ n → Notes notes (stretch rules q i j) n m
   Notes-none q i j n m e f = rw (e, f) (record { added = []; told = sym (append-nil (reported_first rules i q)); noted = refl })
 
-  pub Notes-then : (q : List ℕ) (i j k : ℕ) (n m o : N) → Notes notes (stretch rules q i j) n m
+  pub Notes-then : {q : List ℕ} {i j k : ℕ} {n m o : N} → Notes notes (stretch rules q i j) n m
       → Notes notes (stretch rules q j k) m o → Notes notes (stretch rules q i k) n o
-  Notes-then q i j k n m o a b = record {
+  Notes-then {q} {i} {j} {k} {n} {m} {o} a b = record {
     added = a.added ++ b.added;
     told = b.told ∙ (ap (λ z. z ++ b.added) a.told ∙ append_assoc (reported_first rules i q) a.added b.added);
     noted = Took-append notes n m o a.added b.added a.noted b.noted;
   }
 
   -- of another text with the same lines
-  pub Notes-over : (q r : List ℕ) (i j : ℕ) (n m : N) → reported_first rules i r ≡ reported_first rules i q → reported_first rules j r ≡ reported_first rules j q
+  pub Notes-over : {q r : List ℕ} {i j : ℕ} {n m : N} → reported_first rules i r ≡ reported_first rules i q → reported_first rules j r ≡ reported_first rules j q
       → Notes notes (stretch rules q i j) n m → Notes notes (stretch rules r i j) n m
-  Notes-over q r i j n m e f a = record { added = a.added; told = f ∙ (a.told ∙ ap (λ z. z ++ a.added) (sym e)); noted = a.noted }
+  Notes-over e f a = record { added = a.added; told = f ∙ (a.told ∙ ap (λ z. z ++ a.added) (sym e)); noted = a.noted }
 
   -- of a text that goes on
   pub Notes-more : (r more : List ℕ) (k : ℕ) (n m : N) → k ≡ length (closed r) → Notes notes (stretch rules r 0 k) n m
       → Notes notes (stretch rules (r ++ more) 0 k) n m
-  Notes-more r more k n m e a = Notes-over r (r ++ more) 0 k n m refl (reported_first-same rules k r more e) a
+  Notes-more r more k n m e a = Notes-over refl (reported_first-same rules k r more e) a
 
   -- of a header
   pub Notes-first : (q : List ℕ) (i k : ℕ) (n m : N) → i ≡ 0 → k ≤ 1 → refusal_in rules (take k (lines q)) ≡ None

@@ -120,4 +120,4 @@ module _ {S N : Type 0} (law : SinkLaw S) (notes : N → Report → N → Type 0
       (let z = reported_first-same (rules_of old) (lines_of middle) (p ++ take k bytes) (drop k bytes) read in rw text at z) in
       let none : reported_first (rules_of old) (lines_of old) (p ++ bytes) ≡ reported_first (rules_of old) (lines_of old) (p ++ take k bytes) = rw first refl in
       let rest = let z = later (p ++ take k bytes) now in rw (text, feeds.rules) at z in
-      Notes-then notes (rules_of old) (p ++ bytes) (lines_of old) (lines_of middle) count n n m (Notes-over notes (rules_of old) (p ++ take k bytes) (p ++ bytes) (lines_of old) (lines_of middle) n n none same head) rest
+      Notes-then notes (rules_of old) (Notes-over notes (rules_of old) none same head) rest

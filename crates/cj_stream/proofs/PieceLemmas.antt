@@ -48,10 +48,11 @@ module _ {S : Type 0} (law : SinkLaw S) where
     puts = Puts-none f.rules p (p ++ []) s (ap closed (append-nil p));
   }
 
-  pub Advances-then : (f g h : Reading) (s t u : S) (p a b : List ℕ) → Advances law (further p a) (with_sink f s)
-      (with_sink g t) → Advances law (further (p ++ a) b) (with_sink g t) (with_sink h u)
+  pub Advances-then : {f g h : Reading} {s t u : S} {p a b : List ℕ}
+      → Advances law (further p a) (with_sink f s) (with_sink g t)
+      → Advances law (further (p ++ a) b) (with_sink g t) (with_sink h u)
       → Advances law (further p (a ++ b)) (with_sink f s) (with_sink h u)
-  Advances-then f g h s t u p a b x y = record {
+  Advances-then {f} {g} {h} {s} {t} {u} {p} {a} {b} x y = record {
     rules = y.rules ∙ x.rules;
     reads = rw (← append_assoc p a b) y.reads;
     puts =
@@ -151,12 +152,13 @@ module _ {S : Type 0} (law : SinkLaw S) where
   Advances-line f g h s t p part r reads n st d ok =
       let a = Advances-stored f g s p part reads n st in
       let told = Settles-begun (is_lenient g) g h s t (begun (p ++ part)) true r a.reads.begun d in
-      Advances-then f g h s s t p part (10 ∷ []) a (settled g h s t (p ++ part) r a.reads told ok)
+      Advances-then a (settled g h s t (p ++ part) r a.reads told ok)
 
-  pub Stops-later : (f g h : Reading) (s t u : S) (p a b : List ℕ) (e : End) → Advances law (further p a)
-      (with_sink f s) (with_sink g t) → Stops law (further (p ++ a) b) (with_sink g t) e (with_sink h u)
+  pub Stops-later : {f g h : Reading} {s t u : S} {p a b : List ℕ} {e : End}
+      → Advances law (further p a) (with_sink f s) (with_sink g t)
+      → Stops law (further (p ++ a) b) (with_sink g t) e (with_sink h u)
       → Stops law (further p (a ++ b)) (with_sink f s) e (with_sink h u)
-  Stops-later f g h s t u p a b e x y = record {
+  Stops-later {f} {g} {h} {s} {t} {u} {p} {a} {b} x y = record {
     done = a ++ y.done;
     left = y.left;
     middle = y.middle;

@@ -38,12 +38,11 @@ Consumes-kept (Some a) (Some b) None x p q = absurd q
 Consumes-kept (Some a) (Some b) (Some c) x p q = p ∙ ap (λ z. x ++ z) (sym q)
 
 -- what a sink takes of two steps, one after the other
-pub Delivers-join : {S : Type 0} (law : SinkLaw S) (rules : Rules) (r q : List ℕ) (from n m : ℕ) (s t u : S)
-    (e : Option End)
-    → kept_first rules from q ≡ kept_first rules from r → kept_first rules n q ≡ kept_first rules n r
+pub Delivers-join : {S : Type 0} {law : SinkLaw S} {rules : Rules} {r q : List ℕ} {from n m : ℕ} {s t u : S}
+    {e : Option End} → kept_first rules from q ≡ kept_first rules from r → kept_first rules n q ≡ kept_first rules n r
     → Delivers law (stretch rules r from n) s t None → Delivers law (stretch rules q n m) t u e
     → Delivers law (stretch rules q from m) s u e
-Delivers-join law rules r q from n m s t u e first same h k = record {
+Delivers-join {S} {law} {rules} {r} {q} {from} {n} {m} {s} {t} {u} first same h k = record {
   added = h.added ++ k.added;
   middle = k.middle;
   kept = k.kept ∙ (ap (λ z. z ++ k.added) (same ∙ (h.kept ∙ ap (λ z. z ++ h.added) (sym first))) ∙ append_assoc (kept_first rules from q) h.added k.added);
@@ -52,10 +51,10 @@ Delivers-join law rules r q from n m s t u e first same h k = record {
   fault = k.fault;
 }
 
-pub Delivers-then : {S : Type 0} (law : SinkLaw S) (rules : Rules) (r q : List ℕ) (n m : ℕ) (s t u : S) (e : Option End)
-    → kept_first rules n q ≡ kept_first rules n r → Delivers law (stretch rules r 0 n) s t None
+pub Delivers-then : {S : Type 0} {law : SinkLaw S} {rules : Rules} {r q : List ℕ} {n m : ℕ} {s t u : S}
+    {e : Option End} → kept_first rules n q ≡ kept_first rules n r → Delivers law (stretch rules r 0 n) s t None
     → Delivers law (stretch rules q n m) t u e → Delivers law (stretch rules q 0 m) s u e
-Delivers-then law rules r q n m s t u e same h k = Delivers-join law rules r q 0 n m s t u e refl same h k
+Delivers-then same h k = Delivers-join refl same h k
 
 pub Ends-finished : (rules : Rules) (r : List ℕ) (n : ℕ) (at_end : Type 0) (e : End) → at_end → Concludes rules r n e → Ends rules r n at_end e
 Ends-finished rules r n at_end Complete h c = (c.0, c.1, h)

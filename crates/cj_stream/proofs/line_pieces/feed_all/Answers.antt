@@ -52,13 +52,12 @@ loop-taken-preserved g c =
           let sink = let z = feeds.sink (p ++ x) old.0 i.0 in rw (whole, i.1, feeds.unended) at z in
           rw more (
             (let z = feeds.stands (p ++ x) old.0 in rw (i.0, whole) at z),
-            Delivers-join g.S.LineSink.law (rules_of c.args.reader.now) (p ++ x) (p ++ (x ++ piece.now))
-                (lines_of c.args.reader.now) (lines_of c.loop-taken.reader) _ _ _ _ _
+            Delivers-join
                 (kept_first-either g.S.LineSink.law (rules_of c.args.reader.now) p (lines_of c.args.reader.now) first
                 c.args.sink.now c.args.sink.now (x ++ piece.now) x)
                 (let z = kept_first-same (rules_of c.args.reader.now) (lines_of c.loop-taken.reader) (p ++ x) piece.now (old.0.going i.0).0.lines in rw whole at z) old.1 sink,
-            Notes-then g.N.ReportSink.notes (rules_of c.args.reader.now) (p ++ (x ++ piece.now)) (lines_of c.args.reader.now) (lines_of c.loop-taken.reader) _ _ _ _
-                (Notes-over g.N.ReportSink.notes (rules_of c.args.reader.now) (p ++ x) (p ++ (x ++ piece.now)) _ _ _ _
+            Notes-then g.N.ReportSink.notes (rules_of c.args.reader.now)
+                (Notes-over g.N.ReportSink.notes (rules_of c.args.reader.now)
                 (reported_first-either g.N.ReportSink.notes (rules_of c.args.reader.now) p (lines_of c.args.reader.now) first c.args.reports.now c.args.reports.now (x ++ piece.now) x)
                 (let z = reported_first-same (rules_of c.args.reader.now) (lines_of c.loop-taken.reader) (p ++ x) piece.now (old.0.going i.0).0.lines in rw whole at z) old.2)
                 (let z = c.feed.ensures.reports (p ++ x) old.0 i.0 in rw (whole, i.1) at z),
@@ -136,8 +135,8 @@ returns-in-Err-clause-reports g c = λ p st.
     let old = i.4 p st in
     let next : (p ++ x) ++ piece.now ≡ p ++ joined (take (k + 1) (map (λ piece. piece.now) c.args.pieces.now)) = append_assoc p x piece.now ∙ ap (λ z. p ++ z) (sym more) in
     let first = (st.going c.requires.going).0.lines in
-    Notes-then g.N.ReportSink.notes (rules_of c.args.reader.now) (p ++ joined (take (k + 1) (map (λ piece. piece.now) c.args.pieces.now))) (lines_of c.args.reader.now) (lines_of c.loop-taken.reader) _ _ _ _
-    (Notes-over g.N.ReportSink.notes (rules_of c.args.reader.now) (p ++ x) (p ++ joined (take (k + 1) (map (λ piece. piece.now) c.args.pieces.now))) _ _ _ _
+    Notes-then g.N.ReportSink.notes (rules_of c.args.reader.now)
+    (Notes-over g.N.ReportSink.notes (rules_of c.args.reader.now)
     (reported_first-either g.N.ReportSink.notes (rules_of c.args.reader.now) p (lines_of c.args.reader.now) first c.args.reports.now c.args.reports.now _ x)
     (let z = reported_first-same (rules_of c.args.reader.now) (lines_of c.loop-taken.reader) (p ++ x) piece.now (old.0.going i.0).0.lines in rw next at z) old.2)
     (let z = c.feed.ensures.reports (p ++ x) old.0 i.0 in rw (next, i.1) at z)
@@ -221,7 +220,7 @@ returns-clause-reports g c = λ p st.
     let finished = c.finish-ended.ensures.finished in
     let old = i.4 p st in
     let now = c.finish-ended.ensures.reports (p ++ x) old.0 i.0 in
-    let z = Notes-then g.N.ReportSink.notes (rules_of c.args.reader.now) (p ++ x) (lines_of c.args.reader.now) (lines_of c.loop-taken.reader) (lines_of c.finish-ended.new.self) c.args.reports.now c.loop-taken.reports c.finish-ended.new.reports old.2 (rw i.1 at now) in
+    let z = Notes-then g.N.ReportSink.notes (rules_of c.args.reader.now) old.2 (rw i.1 at now) in
     rw same at z
 
 pub returns-clause-cause : goal.returns-clause-cause

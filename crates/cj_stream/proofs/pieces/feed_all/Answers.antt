@@ -62,7 +62,7 @@ returns-in-Err-clause-runs g c =
     })
     (let x = c.feed.ensures.feeds.sink r i.2 i.0 in
     let y = rw (i.1, c.in-Err.ensures.feeds.ended) at x in
-    Delivers-then g.S.LineSink.law _ r (r ++ piece.now) _ _ _ _ _ _ (kept_first-same _ (lines_of c.loop-taken.engine) r
+    Delivers-then (kept_first-same _ (lines_of c.loop-taken.engine) r
     piece.now (i.2.going i.0).0.lines) i.3 y))
 
 pub returns-in-Err-clause-taken : goal.returns-in-Err-clause-taken
@@ -93,12 +93,12 @@ loop-taken-preserved g c =
       let x = c.feed.ensures.feeds.stands r i.2 in rw more (rw i.0 at x),
       let x = c.feed.ensures.feeds.sink r i.2 i.0 in
           let y = rw (i.1, c.in_default.ensures.feeds.unended) at x in
-          rw more (Delivers-then g.S.LineSink.law _ r (r ++ piece.now) _ _ _ _ _ _ (kept_first-same _
+          rw more (Delivers-then (kept_first-same _
           (lines_of c.loop-taken.engine) r piece.now (i.2.going i.0).0.lines) i.3 y),
       omega (arith, i.4, c.feed.ensures.feeds.counts),
       let x = (c.in_default.ensures.feeds.going r i.2).good in rw more (rw (c.feed.ensures.feeds.rules, i.1) at x),
       let x = c.feed.ensures.reports r i.2 i.0 in
-          rw more (Notes-then g.N.ReportSink.notes _ (r ++ piece.now) 0 _ _ _ _ _ (Notes-more g.N.ReportSink.notes _ r piece.now _ _ _ (i.2.going i.0).0.lines i.6) (rw i.1 at x)),
+          rw more (Notes-then g.N.ReportSink.notes _ (Notes-more g.N.ReportSink.notes _ r piece.now _ _ _ (i.2.going i.0).0.lines i.6) (rw i.1 at x)),
     )
 
 pub returns-clause-fed : goal.returns-clause-fed
@@ -153,7 +153,7 @@ returns-clause-runs g c =
     })
     (let x = c.finish-ended.ensures.finished.sink r i.2 i.0 in
     let y = rw (i.1, c.finish-ended.ensures.finished.ended) at x in
-    Delivers-then g.S.LineSink.law _ r r _ _ _ _ _ _ refl i.3 y))
+    Delivers-then refl i.3 y))
 
 pub returns-clause-taken : goal.returns-clause-taken
 returns-clause-taken g c =
@@ -189,7 +189,7 @@ returns-in-Err-clause-noting g c =
     (Ends-fed _ (r ++ piece.now) _ (Unit {0}) c.in-Err.ended (let x = c.in-Err.ensures.feeds.told r i.2 i.0 in rw i.1 at x))
     (λ h. (c.feed.ensures.feeds.memory r i.2 i.0 (c.in-Err.is ∙ ap Err h)).0.none)
     (let x = c.feed.ensures.reports r i.2 i.0 in
-    Notes-then g.N.ReportSink.notes _ (r ++ piece.now) 0 _ _ _ _ _ (Notes-more g.N.ReportSink.notes _ r piece.now _ _ _ (i.2.going i.0).0.lines i.6) (rw i.1 at x)))
+    Notes-then g.N.ReportSink.notes _ (Notes-more g.N.ReportSink.notes _ r piece.now _ _ _ (i.2.going i.0).0.lines i.6) (rw i.1 at x)))
 
 pub returns-clause-noting : goal.returns-clause-noting
 returns-clause-noting g c =
@@ -205,7 +205,7 @@ returns-clause-noting g c =
     (let x = stands.counts.good in rw (c.finish-ended.ensures.finished.rules, i.1) at x)
     (Ends-finished _ r _ (Unit {0}) c.finish-ended.result tt (let x = c.finish-ended.ensures.finished.concludes r i.2 i.0 in rw i.1 at x))
     (λ h. absurd (c.finish-ended.ensures.finished.memory i.0 h))
-    (let x = c.finish-ended.ensures.reports r i.2 i.0 in Notes-then g.N.ReportSink.notes _ r 0 _ _ _ _ _ i.6 (rw i.1 at x)))
+    (let x = c.finish-ended.ensures.reports r i.2 i.0 in Notes-then g.N.ReportSink.notes _ i.6 (rw i.1 at x)))
 
 -- memory is refused before any line was dealt with
 pub returns-in-Err-clause-memory : goal.returns-in-Err-clause-memory

@@ -55,12 +55,12 @@ returns-in-Ok-eq0-clause-runs g c =
           })
           (let k = c.finish.ensures.finished.sink r i.5.2 i.2 in
           let j = rw (i.3, c.finish.ensures.finished.ended) at k in
-          Delivers-then g.S.LineSink.law _ r r _ _ _ _ _ _ refl i.5.3 j),
+          Delivers-then refl i.5.3 j),
       Noting-told g.N.ReportSink.notes (record { rules = rules_of c.args.engine.now; read = r; outcome = outcome_of c.finish.new.self c.finish.result }) (Unit {0}) c.args.reports.now c.finish.new.reports
           (let k = stands.counts.good in rw (c.finish.ensures.finished.rules, i.3) at k)
           (Ends-finished _ r _ (Unit {0}) c.finish.result tt (let k = c.finish.ensures.finished.concludes r i.5.2 i.2 in rw i.3 at k))
           (λ h. absurd (c.finish.ensures.finished.memory i.2 h))
-          (let k = c.finish.ensures.reports r i.5.2 i.2 in Notes-then g.N.ReportSink.notes _ r 0 _ _ _ _ _ i.5.5 (rw i.3 at k)),
+          (let k = c.finish.ensures.reports r i.5.2 i.2 in Notes-then g.N.ReportSink.notes _ i.5.5 (rw i.3 at k)),
       stops-after c.loop-i.engine.reading _ r [] (i.5.2.going i.2).0 i.3 (sym (append-nil r)) (last-none c.finish.result) (c.finish.ensures.finished.onward r i.5.2) (λ h. absurd (c.finish.ensures.finished.memory i.2 h))
           (let k = c.finish.ensures.finished.least r i.5.2 i.2 in rw i.3 at k) (begun-judged (record { rules = rules_of c.args.engine.now; read = r; outcome = outcome_of c.finish.new.self c.finish.result }) c.finish.result (unread-concludes _ r _ c.finish.result (c.finish.ensures.finished.concludes r i.5.2 i.2))),
     )
@@ -93,14 +93,14 @@ returns-in-Err-feed-clause-runs g c =
           })
           (let k = c.feed.ensures.feeds.sink r i.5.2 i.2 in
           let j = rw (i.3, c.in-Err-feed.ensures.feeds.ended) at k in
-          Delivers-then g.S.LineSink.law _ r (r ++ piece) _ _ _ _ _ _
+          Delivers-then
           (kept_first-same _ (lines_of e) r piece (i.5.2.going i.2).0.lines) i.5.3 j),
       Noting-told g.N.ReportSink.notes (record { rules = rules_of c.args.engine.now; read = r ++ piece; outcome = outcome_of c.feed.new.self c.in-Err-feed.end }) (Unit {0}) c.args.reports.now c.feed.new.reports
           (let k = stands.counts.good in rw (i.2, c.feed.ensures.feeds.rules, i.3) at k)
           (Ends-fed _ (r ++ piece) _ (Unit {0}) c.in-Err-feed.end (let k = c.in-Err-feed.ensures.feeds.told r i.5.2 i.2 in rw i.3 at k))
           (λ h. (c.feed.ensures.feeds.memory r i.5.2 i.2 (c.in-Err-feed.is ∙ ap Err h)).0.none)
           (let k = c.feed.ensures.reports r i.5.2 i.2 in
-          Notes-then g.N.ReportSink.notes _ (r ++ piece) 0 _ _ _ _ _ (Notes-more g.N.ReportSink.notes _ r piece _ _ _ (i.5.2.going i.2).0.lines i.5.5) (rw i.3 at k)),
+          Notes-then g.N.ReportSink.notes _ (Notes-more g.N.ReportSink.notes _ r piece _ _ _ (i.5.2.going i.2).0.lines i.5.5) (rw i.3 at k)),
       stops-after e.reading _ r piece (i.5.2.going i.2).0 i.3 refl
           (last-piece _ (r ++ piece) _ c.in-Err-feed.end piece (c.in-Err-feed.ensures.feeds.told r i.5.2 i.2) (omega (arith, c.in-Ok.ensures.bound.0, c.in-Ok.ensures.bound.1, c.read.auto.buffer, i.0)))
           (c.feed.ensures.feeds.onward r i.5.2)
@@ -138,11 +138,11 @@ loop-i-preserved g c =
         let k = c.feed.ensures.feeds.stands r i.5.2 in rw i.2 at k,
         let k = c.feed.ensures.feeds.sink r i.5.2 i.2 in
             let j = rw (i.3, c.in_default.ensures.feeds.unended) at k in
-            Delivers-then g.S.LineSink.law _ r (r ++ piece) _ _ _ _ _ _
+            Delivers-then
             (kept_first-same _ (lines_of e) r piece (i.5.2.going i.2).0.lines) i.5.3 j,
         omega (arith, i.5.4, grown),
         let k = c.feed.ensures.reports r i.5.2 i.2 in
-            Notes-then g.N.ReportSink.notes _ (r ++ piece) 0 _ _ _ _ _ (Notes-more g.N.ReportSink.notes _ r piece _ _ _ (i.5.2.going i.2).0.lines i.5.5) (rw i.3 at k),
+            Notes-then g.N.ReportSink.notes _ (Notes-more g.N.ReportSink.notes _ r piece _ _ _ (i.5.2.going i.2).0.lines i.5.5) (rw i.3 at k),
       ),
       c.read.ensures.failed ∙ ap is_err c.in-Ok.is,
       c.read.ensures.same_reference ∙ i.7,

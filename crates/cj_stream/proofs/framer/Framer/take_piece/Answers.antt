@@ -25,8 +25,7 @@ returns-in_err-take_line-clause-err g c =
     rw (p.1, p.2) (record {
       stops = λ q reads.
           let a = i.2.advances q reads in
-          rw i.1 (Stops-later g.S.LineSink.law c.args.self.now.reading c.loop-at.self.reading
-          c.take_line.new.self.reading c.args.sink.now c.loop-at.sink c.take_line.new.sink q i.0 rest _ a
+          rw i.1 (Stops-later g.S.LineSink.law a
           (rw found (stopped.stops (q ++ i.0) a.reads)));
       held = λ q reads s.
           let a = i.2.advances q reads in
@@ -57,9 +56,7 @@ loop-at-preserved g c =
         record {
           advances = λ q reads.
               let a = i.2.advances q reads in
-              Advances-then g.S.LineSink.law c.args.self.now.reading c.loop-at.self.reading
-              c.take_line.new.self.reading c.args.sink.now c.loop-at.sink c.take_line.new.sink q i.0
-              (take k rest ++ 10 ∷ []) a (c.in_ok-take_line.ensures.ok.advances (q ++ i.0) a.reads);
+              Advances-then g.S.LineSink.law a (c.in_ok-take_line.ensures.ok.advances (q ++ i.0) a.reads);
           scanned = λ q reads s.
               let a = i.2.advances q reads in
               scanned-then limits c.loop-at.self.reading.rules.limits q i.0 (take k rest ++ 10 ∷ [])
@@ -72,7 +69,7 @@ loop-at-preserved g c =
           let text : (q ++ i.0) ++ (take k c.loop-at.rest.now ++ 10 ∷ drop (k + 1) c.loop-at.rest.now) ≡ q ++ c.args.piece.now =
           append_assoc q i.0 (take k c.loop-at.rest.now ++ 10 ∷ drop (k + 1) c.loop-at.rest.now) ∙ ap (λ z. q ++ z) (ap (λ z. i.0 ++ z) (sym (lf_found rest k c.in-Some.ensures)) ∙ sym i.1) in
           let now = rw (text, c.loop-at.invariant.stays.rules) at (c.take_line.ensures.reports (q ++ i.0) (drop (k + 1) rest) (i.2.advances q reads).reads) in
-          Notes-then g.N.ReportSink.notes c.args.self.now.reading.rules (q ++ c.args.piece.now) _ _ _ _ _ _ (c.loop-at.invariant.reports q reads) now;
+          Notes-then g.N.ReportSink.notes c.args.self.now.reading.rules (c.loop-at.invariant.reports q reads) now;
     }
 
 pub returns-in_err-store-clause-err : goal.returns-in_err-store-clause-err
@@ -85,8 +82,7 @@ returns-in_err-store-clause-err g c =
     rw (p.1, p.2) (record {
       stops = λ q reads.
           let a = i.2.advances q reads in
-          rw (i.1, c.in_err-store.ensures.err) (Stops-later g.S.LineSink.law c.args.self.now.reading
-          c.loop-at.self.reading c.loop-at.self.reading c.args.sink.now c.loop-at.sink c.loop-at.sink q i.0 rest _ a
+          rw (i.1, c.in_err-store.ensures.err) (Stops-later g.S.LineSink.law a
           (Stops-unstored_last g.S.LineSink.law c.loop-at.self.reading c.loop-at.sink (q ++ i.0) rest _ a.reads none
           c.in_err-store.ensures.cause));
       held = λ q reads s. rw (i.1, c.in_err-store.ensures.err) (few-then limits limits q i.0 rest
@@ -103,8 +99,7 @@ returns-clause-ok g c =
     record {
       advances = λ q reads.
           let a = i.2.advances q reads in
-          rw i.1 (Advances-then g.S.LineSink.law c.args.self.now.reading c.loop-at.self.reading
-          c.store.new.self.reading c.args.sink.now c.loop-at.sink c.loop-at.sink q i.0 rest a
+          rw i.1 (Advances-then g.S.LineSink.law a
           (Advances-stored g.S.LineSink.law c.loop-at.self.reading c.store.new.self.reading c.loop-at.sink (q ++ i.0)
           rest a.reads none c.in_ok-store.ensures.ok));
       scanned = λ q reads s. rw i.1 (scanned-then limits limits q i.0 rest c.store.new.self.scanning refl
@@ -157,7 +152,7 @@ returns-in_err-take_line-clause-reports g c = λ q reads.
     let text : (q ++ i.0) ++ (take k c.loop-at.rest.now ++ 10 ∷ drop (k + 1) c.loop-at.rest.now) ≡ q ++ c.args.piece.now =
     append_assoc q i.0 (take k c.loop-at.rest.now ++ 10 ∷ drop (k + 1) c.loop-at.rest.now) ∙ ap (λ z. q ++ z) (ap (λ z. i.0 ++ z) (sym (lf_found rest k c.in-Some.ensures)) ∙ sym i.1) in
     let now = rw (text, c.loop-at.invariant.stays.rules) at (c.take_line.ensures.reports (q ++ i.0) (drop (k + 1) rest) (i.2.advances q reads).reads) in
-    Notes-then g.N.ReportSink.notes c.args.self.now.reading.rules (q ++ c.args.piece.now) _ _ _ _ _ _ (c.loop-at.invariant.reports q reads) now
+    Notes-then g.N.ReportSink.notes c.args.self.now.reading.rules (c.loop-at.invariant.reports q reads) now
 
 pub returns-in_err-store-clause-reports : goal.returns-in_err-store-clause-reports
 returns-in_err-store-clause-reports g c = λ q reads. rw c.in_err-store.ensures.err (c.loop-at.invariant.reports q reads)
