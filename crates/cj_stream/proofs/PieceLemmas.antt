@@ -40,9 +40,9 @@ module _ {S : Type 0} (law : SinkLaw S) where
         t u h.0 k.0 h.2 k.2,
   )
 
-  pub Advances-none : (f : Reading) (s : S) (p : List ℕ) → Reads f p → Advances law (further p []) (with_sink f s)
-      (with_sink f s)
-  Advances-none f s p h = record {
+  pub Advances-none : {f : Reading} {s : S} {p : List ℕ} → Reads f p
+      → Advances law (further p []) (with_sink f s) (with_sink f s)
+  Advances-none {f} {s} {p} h = record {
     rules = refl;
     reads = rw (append-nil p) h;
     puts = Puts-none f.rules p (p ++ []) s (ap closed (append-nil p));
@@ -60,9 +60,9 @@ module _ {S : Type 0} (law : SinkLaw S) where
         rw (← append_assoc p a b) (Puts-then f.rules p (p ++ a) ((p ++ a) ++ b) s t u x.puts k);
   }
 
-  pub Advances-stored : (f g : Reading) (s : S) (p part : List ℕ) → Reads f p → NoLf part → Stores f part g
+  pub Advances-stored : {f g : Reading} {s : S} {p part : List ℕ} → Reads f p → NoLf part → Stores f part g
       → Advances law (further p part) (with_sink f s) (with_sink g s)
-  Advances-stored f g s p part h n st = record {
+  Advances-stored {f} {g} {s} {p} {part} h n st = record {
     rules = st.rules;
     reads = Reads-stored f g p part h st n;
     puts = Puts-none f.rules p (p ++ part) s (closed-more p part n);
@@ -145,12 +145,13 @@ module _ {S : Type 0} (law : SinkLaw S) where
       (with_sink h t)) (sym (strict-first g first)) d
 
   -- a part and an LF
-  pub Advances-line : (f g h : Reading) (s t : S) (p part : List ℕ) (r : Result (Unit {0}) End) → Reads f p → NoLf part → Stores f part g
+  pub Advances-line : {f g h : Reading} {s t : S} {p part : List ℕ} {r : Result (Unit {0}) End} → Reads f p → NoLf part
+      → Stores f part g
       → Settles law (judged_next g (is_lenient g) (told_verdict g) (ended_line (begun_of g))) (with_sink g s) r
       (with_sink h t) → r ≡ Ok tt
       → Advances law (further p (part ++ 10 ∷ [])) (with_sink f s) (with_sink h t)
-  Advances-line f g h s t p part r reads n st d ok =
-      let a = Advances-stored f g s p part reads n st in
+  Advances-line {f} {g} {h} {s} {t} {p} {part} {r} reads n st d ok =
+      let a = Advances-stored {s = s} reads n st in
       let told = Settles-begun (is_lenient g) g h s t (begun (p ++ part)) true r a.reads.begun d in
       Advances-then a (settled g h s t (p ++ part) r a.reads told ok)
 
@@ -211,18 +212,18 @@ module _ {S : Type 0} (law : SinkLaw S) where
   }
 
   -- a part that is not stored, and an LF comes after it
-  pub Stops-unstored : (f : Reading) (s : S) (p part more : List ℕ) (e : End) → Reads f p → NoLf part
+  pub Stops-unstored : {f : Reading} {s : S} {p : List ℕ} (part more : List ℕ) {e : End} → Reads f p → NoLf part
       → Unstored f part e → Stops law (further p (part ++ 10 ∷ more)) (with_sink f s) e (with_sink f s)
-  Stops-unstored f s p part more e reads n u = stopped f s p (part ++ 10 ∷ more) e reads
+  Stops-unstored {f} {s} {p} part more {e} reads n u = stopped f s p (part ++ 10 ∷ more) e reads
       (Unstored-cause f s p part (p ++ (part ++ 10 ∷ more)) true e reads u (λ _. next))
     where
       next : IsNext f.rules.limits p (p ++ (part ++ 10 ∷ more)) (ended_line (begun p ++ part))
       next = let k = IsNext-ended f.rules.limits p part more n in rw (closed-more p part n) at k
 
   -- the last part is not stored
-  pub Stops-unstored_last : (f : Reading) (s : S) (p part : List ℕ) (e : End) → Reads f p → NoLf part
+  pub Stops-unstored_last : {f : Reading} {s : S} {p part : List ℕ} {e : End} → Reads f p → NoLf part
       → Unstored f part e → Stops law (further p part) (with_sink f s) e (with_sink f s)
-  Stops-unstored_last f s p part e reads n u = stopped f s p part e reads
+  Stops-unstored_last {f} {s} {p} {part} {e} reads n u = stopped f s p part e reads
       (Unstored-cause f s p part (p ++ part) false e reads u (λ long. IsNext-long f.rules.limits p part n long))
 
   good-bad : (r : Result (Unit {0}) End) (e : End) → r ≡ Ok tt → r ≡ Err e → ⊥
@@ -284,12 +285,13 @@ module _ {S : Type 0} (law : SinkLaw S) where
       )
 
   -- a part that is stored, and a line that is not dealt with
-  pub Stops-undealt : (f g h : Reading) (s t : S) (p part more : List ℕ) (r : Result (Unit {0}) End) (e : End) → Reads f p → NoLf part → Stores f part g
+  pub Stops-undealt : {f g h : Reading} {s t : S} {p part : List ℕ} (more : List ℕ) {r : Result (Unit {0}) End} {e : End}
+      → Reads f p → NoLf part → Stores f part g
       → Settles law (judged_next g (is_lenient g) (told_verdict g) (ended_line (begun_of g))) (with_sink g s) r
       (with_sink h t) → r ≡ Err e
       → Stops law (further p (part ++ 10 ∷ more)) (with_sink f s) e (with_sink h t)
-  Stops-undealt f g h s t p part more r e reads n st d err =
-      let a = Advances-stored f g s p part reads n st in
+  Stops-undealt {f} {g} {h} {s} {t} {p} {part} more {r} {e} reads n st d err =
+      let a = Advances-stored {s = s} reads n st in
       let told = Settles-begun (is_lenient g) g h s t (begun (p ++ part)) true r a.reads.begun d in
       let u = unsettled g h s t p part more r e n a.reads told err in
       record {

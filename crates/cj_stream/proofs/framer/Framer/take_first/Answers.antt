@@ -12,8 +12,7 @@ returns-in_err-store_first-clause-err g c =
     let p = err_from_is_err_and c.from_residual.result c.from_residual.ensures.1 in
     let f = c.args.self.now.reading in
     rw (p.1, p.2) (λ more. record {
-      stops = λ q reads. rw c.in_err-store_first.ensures.err (Stops-unstored g.S.LineSink.law f c.args.sink.now q
-          c.args.part.now more _ reads c.requires.one c.in_err-store_first.ensures.cause);
+      stops = λ q reads. rw c.in_err-store_first.ensures.err (Stops-unstored g.S.LineSink.law c.args.part.now more reads c.requires.one c.in_err-store_first.ensures.cause);
       held = λ q reads s. rw c.in_err-store_first.ensures.err (few-scanned f.rules.limits (closed q)
           c.args.self.now.scanning _ s (first-closed q (c.args.part.now ++ 10 ∷ more)));
     })
@@ -24,8 +23,7 @@ returns-in_err-settle_first-clause-err g c =
     let f = c.args.self.now.reading in
     let stored = c.in_ok-store_first.ensures.ok in
     rw (p.1, p.2) (λ more. record {
-      stops = λ q reads. Stops-undealt g.S.LineSink.law f c.store_first.new.self.reading
-          c.settle_first.new.self.reading c.args.sink.now c.settle_first.new.sink q c.args.part.now more _ _ reads
+      stops = λ q reads. Stops-undealt g.S.LineSink.law more reads
           c.requires.one stored (Settles-first g.S.LineSink.law c.store_first.new.self.reading
           c.settle_first.new.self.reading c.args.sink.now c.settle_first.new.sink _ _ c.settle_first.result
           (stored.lines ∙ c.requires.first) c.settle_first.ensures.settles) c.in_err-settle_first.was;
@@ -39,9 +37,7 @@ returns-clause-ok g c =
     let f = c.args.self.now.reading in
     let stored = c.in_ok-store_first.ensures.ok in
     record {
-      advances = λ q reads. Advances-line g.S.LineSink.law f c.store_first.new.self.reading
-          c.settle_first.new.self.reading c.args.sink.now c.settle_first.new.sink q c.args.part.now
-          c.settle_first.result reads c.requires.one stored (Settles-first g.S.LineSink.law
+      advances = λ q reads. Advances-line g.S.LineSink.law reads c.requires.one stored (Settles-first g.S.LineSink.law
           c.store_first.new.self.reading c.settle_first.new.self.reading c.args.sink.now c.settle_first.new.sink _ _
           c.settle_first.result (stored.lines ∙ c.requires.first) c.settle_first.ensures.settles)
           c.in_ok-settle_first.was;

@@ -16,8 +16,7 @@ returns-in_err-store_first-clause-err g c =
     let f = c.args.self.now.reading in
     let none = NoLf-not_found c.args.piece.now c.memchr.result c.memchr.ensures c.in_default.not-Some in
     rw (p.1, p.2) (record {
-      stops = λ q reads. rw c.in_err-store_first.ensures.err (Stops-unstored_last g.S.LineSink.law f c.args.sink.now q
-          c.args.piece.now _ reads none c.in_err-store_first.ensures.cause);
+      stops = λ q reads. rw c.in_err-store_first.ensures.err (Stops-unstored_last g.S.LineSink.law reads none c.in_err-store_first.ensures.cause);
       held = λ q reads s. rw c.in_err-store_first.ensures.err (few-scanned f.rules.limits (closed q)
           c.args.self.now.scanning _ s (first-closed q c.args.piece.now));
     })
@@ -37,7 +36,7 @@ returns-in_default-clause-ok g c =
     let all : take (length c.args.piece.now) c.args.piece.now ≡ c.args.piece.now = take_all (length piece) piece (omega arith) in
     subst (λ z. TakesAll g.S.LineSink.law z (with_sink c.args.self.now c.args.sink.now)
     (with_sink c.store_first.new.self c.args.sink.now)) (sym all) (record {
-      advances = λ q reads. Advances-stored g.S.LineSink.law f c.store_first.new.self.reading c.args.sink.now q piece
+      advances = λ q reads. Advances-stored g.S.LineSink.law
           reads none c.in_ok-store_first.ensures.ok;
       scanned = λ q reads s. scanned-begun f.rules.limits q piece c.args.self.now.scanning
           c.store_first.new.self.scanning none c.store_first.ensures.lists s;

@@ -12,8 +12,7 @@ returns-in_err-store-clause-err g c =
     let p = err_from_is_err_and c.from_residual.result c.from_residual.ensures.1 in
     let f = c.args.self.now.reading in
     rw (p.1, p.2) (λ more. record {
-      stops = λ q reads. rw c.in_err-store.ensures.err (Stops-unstored g.S.LineSink.law f c.args.sink.now q
-          c.args.part.now more _ reads c.requires.one c.in_err-store.ensures.cause);
+      stops = λ q reads. rw c.in_err-store.ensures.err (Stops-unstored g.S.LineSink.law c.args.part.now more reads c.requires.one c.in_err-store.ensures.cause);
       held = λ q reads s. rw c.in_err-store.ensures.err (few-scanned f.rules.limits (closed q)
           c.args.self.now.scanning _ s (first-closed q (c.args.part.now ++ 10 ∷ more)));
     })
@@ -23,8 +22,7 @@ returns-in_err-deal-clause-err g c =
     let p = err_from_is_err_and c.from_residual-in_err-deal.result c.from_residual-in_err-deal.ensures.1 in
     let f = c.args.self.now.reading in
     rw (p.1, p.2) (λ more. record {
-      stops = λ q reads. Stops-undealt g.S.LineSink.law f c.store.new.self.reading c.deal.new.self.reading
-          c.args.sink.now c.deal.new.sink q c.args.part.now more _ _ reads c.requires.one c.in_ok-store.ensures.ok
+      stops = λ q reads. Stops-undealt g.S.LineSink.law more reads c.requires.one c.in_ok-store.ensures.ok
           c.deal.ensures.settles c.in_err-deal.was;
       held = λ q reads s. few-line f c.store.new.self.reading q c.args.part.now c.args.self.now.scanning
           c.store.new.self.scanning c.deal.new.self.scanning reads c.requires.one c.in_ok-store.ensures.ok
@@ -35,8 +33,7 @@ pub returns-clause-ok : goal.returns-clause-ok
 returns-clause-ok g c =
     let f = c.args.self.now.reading in
     record {
-      advances = λ q reads. Advances-line g.S.LineSink.law f c.store.new.self.reading c.deal.new.self.reading
-          c.args.sink.now c.deal.new.sink q c.args.part.now c.deal.result reads c.requires.one
+      advances = λ q reads. Advances-line g.S.LineSink.law reads c.requires.one
           c.in_ok-store.ensures.ok c.deal.ensures.settles c.in_ok-deal.was;
       scanned = λ q reads s. scanned-line f c.store.new.self.reading q c.args.part.now c.args.self.now.scanning
           c.store.new.self.scanning c.deal.new.self.scanning reads c.requires.one c.in_ok-store.ensures.ok

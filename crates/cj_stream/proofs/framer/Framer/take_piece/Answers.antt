@@ -83,7 +83,7 @@ returns-in_err-store-clause-err g c =
       stops = λ q reads.
           let a = i.2.advances q reads in
           rw (i.1, c.in_err-store.ensures.err) (Stops-later g.S.LineSink.law a
-          (Stops-unstored_last g.S.LineSink.law c.loop-at.self.reading c.loop-at.sink (q ++ i.0) rest _ a.reads none
+          (Stops-unstored_last g.S.LineSink.law a.reads none
           c.in_err-store.ensures.cause));
       held = λ q reads s. rw (i.1, c.in_err-store.ensures.err) (few-then limits limits q i.0 rest
           c.loop-at.self.scanning refl (few-scanned limits (closed (q ++ i.0)) c.loop-at.self.scanning _
@@ -100,8 +100,7 @@ returns-clause-ok g c =
       advances = λ q reads.
           let a = i.2.advances q reads in
           rw i.1 (Advances-then g.S.LineSink.law a
-          (Advances-stored g.S.LineSink.law c.loop-at.self.reading c.store.new.self.reading c.loop-at.sink (q ++ i.0)
-          rest a.reads none c.in_ok-store.ensures.ok));
+          (Advances-stored g.S.LineSink.law a.reads none c.in_ok-store.ensures.ok));
       scanned = λ q reads s. rw i.1 (scanned-then limits limits q i.0 rest c.store.new.self.scanning refl
           (scanned-begun limits (q ++ i.0) rest c.loop-at.self.scanning c.store.new.self.scanning none
           c.store.ensures.lists (i.2.scanned q reads s)));
@@ -120,7 +119,7 @@ loop-at-init g c = record {
     [],
     refl,
     record {
-      advances = λ q reads. Advances-none g.S.LineSink.law c.args.self.now.reading c.args.sink.now q reads;
+      advances = λ q reads. Advances-none g.S.LineSink.law reads;
       scanned = λ q reads s. rw (append-nil q) s;
     },
   );
