@@ -1,13 +1,16 @@
 -- What the states of a stream promise of a piece and of the end, from what their framer did.
 use Rattle.std.proofs.Common.{◌≡◌, ◌≢◌, ℕ, ◌+◌, ◌≤◌, List, [], ◌++◌, length, take, drop, Option, Some, None, Result, Ok, Err, arith, refl, sym, ap, ◌∙◌, append_assoc, length-append, OnOk, IfErr, subst, cond}
-use Rattle.std.specs.Prelude.{is_none}
+use Rattle.std.specs.Prelude.{is_none, IsErrOf}
 use Rattle.std.proofs.lemmas.List.{append-nil, take-append-drop}
 use Rattle.cj_stream.specs.declared.ending.End.{End}
 use Rattle.cj_stream.specs.declared.ending.End.TheVariants.{Complete, WriteFault, Memory}
+use Rattle.cj_stream.specs.declared.ending.HeaderEnd.{HeaderEnd}
+use Rattle.cj_stream.specs.declared.ending.HeaderEnd.TheVariants.{Complete as HeaderComplete, Refused as HeaderRefused}
+use Rattle.cj_stream.specs.declared.ending.HeaderEnd.TheVariants.{WriteFault as HeaderWriteFault, Memory as HeaderMemory}
 use Rattle.cj_stream.specs.declared.ending.LineEnd.{LineEnd}
 use Rattle.cj_stream.specs.declared.ending.LineEnd.TheVariants.{Complete as LineComplete, Refused as LineRefused, WriteFault as LineWriteFault}
 use Rattle.cj_stream.specs.Bound.{contents, IsBelow}
-use Rattle.cj_stream.specs.Ending.{line_end}
+use Rattle.cj_stream.specs.Ending.{answer_of, header_end, line_end}
 use Rattle.cj_stream.specs.Engine.{EngineState, StandsFor, EngineFailsToGrow, given, rules_of, limits_of, lines_of, peaks_of, end_of}
 use Rattle.cj_stream.specs.Feeding.{Feeds, IsFinished}
 use Rattle.cj_stream.specs.Lines.{closed, first_content}
@@ -44,6 +47,19 @@ pub never-memory : (e : LineEnd) → line_end e ≢ Memory
 never-memory LineComplete h = cc
 never-memory (LineRefused line place reason) h = cc
 never-memory LineWriteFault h = cc
+
+-- and such an end of a reader of a header is one of a stream
+pub header-lacks : {T : Type 0} (r : Result T HeaderEnd) → IsErrOf (answer_of header_end r) Memory
+    → IsErrOf r HeaderMemory
+header-lacks (Ok x) h = cc
+header-lacks (Err HeaderComplete) h = cc
+header-lacks (Err (HeaderRefused line place reason)) h = cc
+header-lacks (Err HeaderWriteFault) h = cc
+header-lacks (Err HeaderMemory) h = refl
+
+pub never-lacks : {T : Type 0} (r : Result T LineEnd) → IsErrOf (answer_of line_end r) Memory → ⊥
+never-lacks (Ok x) h = cc
+never-lacks (Err e) h = never-memory e cc
 
 module _ {S : Type 0} (law : SinkLaw S) (old : EngineState) (s : S) where
   -- after an end, the same again

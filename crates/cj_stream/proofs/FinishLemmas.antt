@@ -9,6 +9,7 @@ use Rattle.cj_spans.specs.declared.reason.Reason.{Reason}
 use Rattle.cj_spans.specs.declared.reason.Reason.TheVariants.{NoHeader}
 use Rattle.cj_stream.specs.declared.ending.End.{End}
 use Rattle.cj_stream.specs.declared.ending.End.TheVariants.{Complete, Refused, ReadFault, ReadLimit, WriteFault, Memory}
+use Rattle.cj_stream.specs.Ending.{answer_of}
 use Rattle.cj_stream.specs.Lines.{Line, closed, begun, begun_after, first_content, ended_line, last_line, later_of, lines}
 use Rattle.cj_stream.specs.Item.{Item}
 use Rattle.cj_stream.specs.Verdict.{Rules, Verdict, Refuse, Blank, LeftOut, Valid, verdict, item_after, goes_on}
@@ -70,6 +71,16 @@ ok-then P Q (Err x) f h = h
 pub err-then : {T E : Type 0} (P Q : Type 0) (r : Result T E) → (P → Q) → OnErr r P → OnErr r Q
 err-then P Q (Ok x) f h = h
 err-then P Q (Err x) f h = f h
+
+-- the same of an answer whose end is seen as one of the stream
+pub ok-answer : {T E : Type 0} (ending : E → End) (P : Type 0) (r : Result T E) → OnOk r P → OnOk (answer_of ending r) P
+ok-answer ending P (Ok x) h = h
+ok-answer ending P (Err x) h = h
+
+pub err-answer : {T E : Type 0} (ending : E → End) (P : Type 0) (r : Result T E) → OnErr r P
+    → OnErr (answer_of ending r) P
+err-answer ending P (Ok x) h = h
+err-answer ending P (Err x) h = h
 
 -- a last line that is not empty was dealt with
 pub finishes-with : {S : Type 0} (law : SinkLaw S) (c : List ℕ) (f g : Reading) (s t : S) (r : Result (Unit {0}) End)

@@ -1,9 +1,8 @@
 -- What a framer is as one value, what always holds of it, and what each call that takes bytes or ends the stream
 -- carries on.
-use Rattle.std.specs.Prelude.{◌<◌, ◌≤◌, List, ◌++◌, ℕ, Result, OnOk, IfErr, IsErrOf, length}
+use Rattle.std.specs.Prelude.{◌<◌, ◌≤◌, List, ◌++◌, ℕ, Result, OnOk, IsErrOf, length}
 use Rattle.cj_stream.specs.declared.ending.End.{End}
 use Rattle.cj_stream.specs.declared.ending.End.TheVariants.{WriteFault, Memory}
-use Rattle.cj_stream.specs.Ending.{IsFirstEnd, IsLaterEnd}
 use Rattle.cj_stream.specs.Bound.{contents}
 use Rattle.cj_stream.specs.Lines.{closed, first_content}
 use Rattle.cj_stream.specs.Reading.{Reading, IsSound, Stays, Reads, further, Advances, Stops, Finishes}
@@ -30,10 +29,9 @@ pub record Carries {S T : Type 0} (law : SinkLaw S) (old : WithSink FramerState 
   pub framed : IsFramed new.state
   pub counts : law.failures old.sink ≤ law.failures new.sink
   pub cause : IsErrOf answer WriteFault → HasRisen (law.failures old.sink) (law.failures new.sink)
-  pub first : IfErr answer IsFirstEnd
   pub memory : IsErrOf answer Memory
       → ListsFailToGrow old.state.reading old.state.scanning new.state.reading new.state.scanning
-  pub late : 0 < old.state.reading.lines → IsReady new.state.reading new.state.scanning × IfErr answer IsLaterEnd
+  pub late : 0 < old.state.reading.lines → IsReady new.state.reading new.state.scanning
 
 -- these bytes were all taken: framer and sink have advanced over them, and what is held of trees is that of the lines
 -- that were dealt with

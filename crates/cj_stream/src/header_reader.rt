@@ -133,7 +133,6 @@ impl<'q> HeaderReader<'q> {
                 Ok(progress)
             }
             Err(end) => {
-                let end = HeaderEnd::of(end);
                 self.ended = Some(end);
                 Err(end)
             }

@@ -105,7 +105,6 @@ impl<'q> LineReader<'q> {
                 Ok(())
             }
             Err(end) => {
-                let end = LineEnd::of(end);
                 self.ended = Some(end);
                 Err(end)
             }

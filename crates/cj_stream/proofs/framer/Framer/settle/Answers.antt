@@ -1,4 +1,5 @@
 use Rattle.std.proofs.Common.{rules, inl, true, false, ◌≡◌, ◌+◌, ◌<◌, ◌∙◌, ap, refl, sym, subst, arith}
+use Rattle.cj_stream.specs.Ending.{answer_of, line_end}
 use Rattle.cj_stream.specs.declared.judge.Content.TheVariants.{BlankLine, Sound}
 use Rattle.cj_stream.specs.Item.{tree_of}
 use Rattle.cj_stream.specs.Reading.{Reading, begun_of, held_header, Settles, judged_next}
@@ -57,7 +58,6 @@ returns-in-BlankLine-clause-carries g c =
       framed = search rules;
       counts = search rules;
       cause = search rules;
-      first = search rules;
       memory = search rules;
       late = search rules;
     }
@@ -66,17 +66,17 @@ pub returns-in-Sound-clause-carries : goal.returns-in-Sound-clause-carries
 returns-in-Sound-clause-carries g c =
     let settles = subst (λ (x : Reading). Settles g.S.LineSink.law (judged_next x false (tree_verdict x.rules
     (x.lines + 1) (held_header x) (tree_of x.rules.limits.depth (begun_of x)))
-    (record { content = begun_of x; lf = c.args.lf })) (with_sink x c.args.sink.now) c.put_feature.result
+    (record { content = begun_of x; lf = c.args.lf })) (with_sink x c.args.sink.now)
+    (answer_of line_end c.put_feature.result)
     (with_sink c.put_feature.new.self.reading c.put_feature.new.sink)) c.judge.ensures.reading
     (inl c.put_feature.ensures.deals) in
     record {
       stays = Stays-settled g.S.LineSink.law _ c.args.self.now.reading c.put_feature.new.self.reading c.args.sink.now
-          c.put_feature.new.sink false _ c.put_feature.result settles;
+          c.put_feature.new.sink false _ (answer_of line_end c.put_feature.result) settles;
       rises = search rules;
       framed = search rules;
       counts = search rules;
       cause = search rules;
-      first = search rules;
       memory = search rules;
       late = search rules;
     }

@@ -1,5 +1,6 @@
-use Rattle.std.proofs.Common.{rules, true, false, ◌∙◌, ◌∷◌, ◌++◌}
+use Rattle.std.proofs.Common.{rules, ap, true, false, ◌∙◌, ◌∷◌, ◌++◌}
 use Rattle.std.proofs.lemmas.Result.{err_from_is_err_and}
+use Rattle.cj_stream.specs.Ending.{answer_of, header_end}
 use Rattle.cj_stream.specs.Lines.{closed}
 use Rattle.cj_stream.specs.Reading.{begun_of, next_item, told_verdict}
 use Rattle.cj_stream.proofs.PieceLemmas.{Stops-unstored, Stops-undealt, Settles-first, Advances-line}
@@ -25,8 +26,8 @@ returns-in_err-settle_first-clause-err g c =
     rw (p.1, p.2) (λ more. record {
       stops = λ q reads. Stops-undealt g.S.LineSink.law more reads
           c.requires.one stored (Settles-first g.S.LineSink.law c.store_first.new.self.reading
-          c.settle_first.new.self.reading c.args.sink.now c.settle_first.new.sink _ _ c.settle_first.result
-          (stored.lines ∙ c.requires.first) c.settle_first.ensures.settles) c.in_err-settle_first.was;
+          c.settle_first.new.self.reading c.args.sink.now c.settle_first.new.sink _ _ (answer_of header_end c.settle_first.result)
+          (stored.lines ∙ c.requires.first) c.settle_first.ensures.settles) (ap (answer_of header_end) c.in_err-settle_first.was);
       held = λ q reads s. few-line f c.store_first.new.self.reading q c.args.part.now c.args.self.now.scanning
           c.store_first.new.self.scanning c.settle_first.new.self.scanning reads c.requires.one stored
           c.store_first.ensures.lists s more c.settle_first.ensures.few;
@@ -39,8 +40,8 @@ returns-clause-ok g c =
     record {
       advances = λ q reads. Advances-line g.S.LineSink.law reads c.requires.one stored (Settles-first g.S.LineSink.law
           c.store_first.new.self.reading c.settle_first.new.self.reading c.args.sink.now c.settle_first.new.sink _ _
-          c.settle_first.result (stored.lines ∙ c.requires.first) c.settle_first.ensures.settles)
-          c.in_ok-settle_first.was;
+          (answer_of header_end c.settle_first.result) (stored.lines ∙ c.requires.first) c.settle_first.ensures.settles)
+          (ap (answer_of header_end) c.in_ok-settle_first.was);
       scanned = λ q reads s. scanned-line f c.store_first.new.self.reading q c.args.part.now c.args.self.now.scanning
           c.store_first.new.self.scanning c.settle_first.new.self.scanning reads c.requires.one stored
           c.store_first.ensures.lists s c.in_ok-settle_first.ensures.scanned;
@@ -62,7 +63,6 @@ returns-in_err-settle_first-clause-carries g c = record {
   framed = search rules;
   counts = search rules;
   cause = search rules;
-  first = search rules;
   memory = search rules;
   late = search rules;
 }
@@ -74,7 +74,6 @@ returns-clause-carries g c = record {
   framed = search rules;
   counts = search rules;
   cause = search rules;
-  first = search rules;
   memory = search rules;
   late = search rules;
 }

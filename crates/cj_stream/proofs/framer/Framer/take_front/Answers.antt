@@ -1,6 +1,7 @@
 use Rattle.std.proofs.Common.{◌≡◌, ◌+◌, ◌∙◌, length, take, drop, refl, sym, subst, arith}
 use Rattle.std.proofs.lemmas.Result.{err_from_is_err_and}
 use Rattle.std.proofs.lemmas.List.{take_all}
+use Rattle.cj_stream.specs.Ending.{header_end}
 use Rattle.cj_stream.specs.Lines.{closed}
 use Rattle.cj_stream.specs.Sink.{with_sink}
 use Rattle.cj_stream.proofs.PieceSlices.{lf_found, lf_front, NoLf-before, NoLf-not_found}
@@ -49,7 +50,7 @@ pub returns-in_err-take_first-clause-err : goal.returns-in_err-take_first-clause
 returns-in_err-take_first-clause-err g c =
     let p = err_from_is_err_and c.from_residual-in_err-take_first.result c.from_residual-in_err-take_first.ensures.1 in
     rw (p.1, p.2) (subst (λ z. TakesSome g.S.LineSink.law z (with_sink c.args.self.now c.args.sink.now)
-    c.in_err-take_first.field-0.0 (with_sink c.take_first.new.self c.take_first.new.sink))
+    (header_end c.in_err-take_first.field-0.0) (with_sink c.take_first.new.self c.take_first.new.sink))
     (sym (lf_found c.args.piece.now c.in-Some.at c.in-Some.ensures))
     (c.in_err-take_first.ensures.err (drop (c.in-Some.at + 1) c.args.piece.now)))
 

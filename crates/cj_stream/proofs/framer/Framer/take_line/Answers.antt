@@ -1,5 +1,6 @@
-use Rattle.std.proofs.Common.{rules, ◌∙◌, ◌∷◌, ◌++◌}
+use Rattle.std.proofs.Common.{rules, ap, ◌∙◌, ◌∷◌, ◌++◌}
 use Rattle.std.proofs.lemmas.Result.{err_from_is_err_and}
+use Rattle.cj_stream.specs.Ending.{answer_of, line_end}
 use Rattle.cj_stream.specs.Lines.{closed}
 use Rattle.cj_stream.proofs.NoteLemmas.{Notes-line, Notes-none}
 use Rattle.cj_stream.proofs.PieceLemmas.{Stops-unstored, Stops-undealt, Advances-line}
@@ -23,7 +24,7 @@ returns-in_err-deal-clause-err g c =
     let f = c.args.self.now.reading in
     rw (p.1, p.2) (λ more. record {
       stops = λ q reads. Stops-undealt g.S.LineSink.law more reads c.requires.one c.in_ok-store.ensures.ok
-          c.deal.ensures.settles c.in_err-deal.was;
+          c.deal.ensures.settles (ap (answer_of line_end) c.in_err-deal.was);
       held = λ q reads s. few-line f c.store.new.self.reading q c.args.part.now c.args.self.now.scanning
           c.store.new.self.scanning c.deal.new.self.scanning reads c.requires.one c.in_ok-store.ensures.ok
           c.store.ensures.lists s more c.deal.ensures.few;
@@ -34,7 +35,7 @@ returns-clause-ok g c =
     let f = c.args.self.now.reading in
     record {
       advances = λ q reads. Advances-line g.S.LineSink.law reads c.requires.one
-          c.in_ok-store.ensures.ok c.deal.ensures.settles c.in_ok-deal.was;
+          c.in_ok-store.ensures.ok c.deal.ensures.settles (ap (answer_of line_end) c.in_ok-deal.was);
       scanned = λ q reads s. scanned-line f c.store.new.self.reading q c.args.part.now c.args.self.now.scanning
           c.store.new.self.scanning c.deal.new.self.scanning reads c.requires.one c.in_ok-store.ensures.ok
           c.store.ensures.lists s c.in_ok-deal.ensures.scanned;
@@ -53,7 +54,6 @@ returns-in_err-deal-clause-carries g c = record {
   framed = search rules;
   counts = search rules;
   cause = search rules;
-  first = search rules;
   memory = search rules;
   late = search rules;
 }
@@ -65,7 +65,6 @@ returns-clause-carries g c = record {
   framed = search rules;
   counts = search rules;
   cause = search rules;
-  first = search rules;
   memory = search rules;
   late = search rules;
 }

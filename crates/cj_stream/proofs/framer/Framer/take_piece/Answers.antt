@@ -45,7 +45,7 @@ loop-at-preserved g c =
     record {
       stays = Stays-then _ _ _ c.loop-at.invariant.stays c.take_line.ensures.carries.stays;
       rises = Rises-then _ _ _ c.loop-at.invariant.rises c.take_line.ensures.carries.rises;
-      ready = (c.take_line.ensures.carries.late (omega (arith, c.requires.later, c.loop-at.invariant.grows))).0;
+      ready = c.take_line.ensures.carries.late (omega (arith, c.requires.later, c.loop-at.invariant.grows));
       few = omega (arith, left_length rest k c.in-Some.ensures, c.take_line.ensures.few, c.loop-at.invariant.few);
       grows = omega (arith, c.loop-at.invariant.grows, c.take_line.ensures.grows);
       counts = omega (arith, c.take_line.ensures.carries.counts, c.loop-at.invariant.counts);
