@@ -1,7 +1,7 @@
 -- Which count a sink that counts reports has of some.
 use Rattle.std.specs.Prelude.{◌≡◌, ℕ, ◌+◌, List, ◌++◌, length, take}
 use Rattle.cj_stream.specs.declared.ending.End.{End}
-use Rattle.cj_stream.specs.declared.ending.End.TheVariants.{Complete, Refused, ReadFault, ReadLimit, WriteFault, Memory}
+use Rattle.cj_stream.specs.declared.ending.End.TheVariants.{Complete, Refused, WriteFault, Memory}
 use Rattle.cj_stream.specs.declared.report_sink.CountReports.{CountReports}
 use Rattle.cj_stream.specs.declared.report_sink.Report.{Report}
 use Rattle.cj_stream.specs.Cut.{joined}
@@ -29,17 +29,15 @@ pub record CountsFirst (rs : List Report) (c : CountReports) : Type 0 where
 abbrev pub CountsReportsOfRun : Rules → List ℕ → End → CountReports → Type 0
 CountsReportsOfRun rules r Complete c = c ≡ count_of (reported rules r)
 CountsReportsOfRun rules r (Refused number place reason) c = c ≡ count_of (reported rules r)
-CountsReportsOfRun rules r ReadFault c = c ≡ count_of (reported rules (whole r))
-CountsReportsOfRun rules r ReadLimit c = c ≡ count_of (reported rules (whole r))
 CountsReportsOfRun rules r WriteFault c = CountsFirst (reported rules r) c
 CountsReportsOfRun rules r Memory c = c ≡ no_reports
+CountsReportsOfRun rules r cut_short c = c ≡ count_of (reported rules (whole r))
 
 -- the count of what is reported of a cut stream; or, after a write fault, of the first reports of the pieces that were
 -- given, of which n were wholly taken; and of nothing where memory was refused
 abbrev pub CountsReportsOfPieces : Rules → List (List ℕ) → ℕ → End → CountReports → Type 0
 CountsReportsOfPieces rules pieces n Complete c = c ≡ count_of (reported rules (joined pieces))
 CountsReportsOfPieces rules pieces n (Refused number place reason) c = c ≡ count_of (reported rules (joined pieces))
-CountsReportsOfPieces rules pieces n ReadFault c = ⊥
-CountsReportsOfPieces rules pieces n ReadLimit c = ⊥
 CountsReportsOfPieces rules pieces n WriteFault c = CountsFirst (reported rules (joined (take (n + 1) pieces))) c
 CountsReportsOfPieces rules pieces n Memory c = c ≡ no_reports
+CountsReportsOfPieces rules pieces n other c = ⊥

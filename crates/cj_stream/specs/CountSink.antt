@@ -4,7 +4,7 @@ use Rattle.std.specs.List.{filter}
 use Rattle.cj_spans.specs.Tree.{Tree}
 use Rattle.cj_stream.specs.declared.sink.CountSink.{CountSink}
 use Rattle.cj_stream.specs.declared.ending.End.{End}
-use Rattle.cj_stream.specs.declared.ending.End.TheVariants.{Complete, Refused, ReadFault, ReadLimit, WriteFault, Memory}
+use Rattle.cj_stream.specs.declared.ending.End.TheVariants.{Complete, Refused, WriteFault, Memory}
 use Rattle.cj_stream.specs.Lines.{whole}
 use Rattle.cj_stream.specs.Item.{Item, is_feature}
 use Rattle.cj_stream.specs.Verdict.{Rules, kept, ending}
@@ -54,10 +54,9 @@ pub record CountsFront (items first : List Item) (c : CountSink) : Type 0 where
 abbrev pub CountsRun : Rules → List ℕ → End → CountSink → Type 0
 CountsRun rules r Complete c = c ≡ counts_of (kept rules r)
 CountsRun rules r (Refused number place reason) c = c ≡ counts_of (kept rules r)
-CountsRun rules r ReadFault c = c ≡ counts_of (kept rules (whole r))
-CountsRun rules r ReadLimit c = c ≡ counts_of (kept rules (whole r))
 CountsRun rules r WriteFault c = ⊥
 CountsRun rules r Memory c = CountsFront (kept rules r) [] c
+CountsRun rules r cut_short c = c ≡ counts_of (kept rules (whole r))
 
 -- the count of what is kept of a cut stream, whose ending is the answer; or, where memory was refused, of a prefix of
 -- the pieces that were given, of which n were wholly taken
@@ -66,8 +65,6 @@ CountsPieces rules pieces n Complete c = (ending rules (joined pieces) ≡ Compl
     × (c ≡ counts_of (kept rules (joined pieces)))
 CountsPieces rules pieces n (Refused number place reason) c =
     (ending rules (joined pieces) ≡ Refused number place reason) × (c ≡ counts_of (kept rules (joined pieces)))
-CountsPieces rules pieces n ReadFault c = ⊥
-CountsPieces rules pieces n ReadLimit c = ⊥
-CountsPieces rules pieces n WriteFault c = ⊥
 CountsPieces rules pieces n Memory c =
     CountsFront (kept rules (joined (take (n + 1) pieces))) (kept rules (whole (joined (take n pieces)))) c
+CountsPieces rules pieces n other c = ⊥

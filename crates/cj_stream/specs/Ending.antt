@@ -1,7 +1,7 @@
 -- The ends of the two readers, seen as ends of a stream.
 use Rattle.std.specs.Prelude.{◌≡◌, ◌<◌, None}
 use Rattle.cj_stream.specs.declared.ending.End.{End}
-use Rattle.cj_stream.specs.declared.ending.End.TheVariants.{Complete, Refused, ReadFault, ReadLimit, WriteFault, Memory}
+use Rattle.cj_stream.specs.declared.ending.End.TheVariants.{Complete, Refused, WriteFault, Memory}
 use Rattle.cj_stream.specs.declared.ending.HeaderEnd.{HeaderEnd}
 use Rattle.cj_stream.specs.declared.ending.HeaderEnd.TheVariants.{Complete as HeaderComplete, Refused as HeaderRefused}
 use Rattle.cj_stream.specs.declared.ending.HeaderEnd.TheVariants.{WriteFault as HeaderWriteFault}
@@ -27,18 +27,15 @@ line_end LineWriteFault = WriteFault
 abbrev pub IsFirstEnd : End → Type 0
 IsFirstEnd Complete = Unit {0}
 IsFirstEnd (Refused number place reason) = Unit {0}
-IsFirstEnd ReadFault = ⊥
-IsFirstEnd ReadLimit = ⊥
 IsFirstEnd WriteFault = Unit {0}
 IsFirstEnd Memory = Unit {0}
+IsFirstEnd other = ⊥
 
 abbrev pub IsLaterEnd : End → Type 0
 IsLaterEnd Complete = Unit {0}
 IsLaterEnd (Refused number place reason) = Unit {0}
-IsLaterEnd ReadFault = ⊥
-IsLaterEnd ReadLimit = ⊥
 IsLaterEnd WriteFault = Unit {0}
-IsLaterEnd Memory = ⊥
+IsLaterEnd other = ⊥
 
 -- the first line was taken, and no end has come
 pub record IsAccepted (e : EngineState) : Type 0 where

@@ -8,7 +8,7 @@ use Rattle.cj_decimal.specs.Number.{Number}
 use Rattle.cj_decimal.specs.Word.{IsWordOf}
 use Rattle.cj_feature.specs.Shown.{transform_values}
 use Rattle.cj_stream.specs.declared.ending.End.{End}
-use Rattle.cj_stream.specs.declared.ending.End.TheVariants.{Complete, Refused, ReadFault, ReadLimit, WriteFault, Memory}
+use Rattle.cj_stream.specs.declared.ending.End.TheVariants.{Complete, Refused, WriteFault, Memory}
 use Rattle.cj_stream.specs.Cut.{joined}
 use Rattle.cj_stream.specs.Item.{Item, is_feature}
 use Rattle.cj_stream.specs.Lines.{whole}
@@ -124,10 +124,9 @@ pub record TalliesFront (items first : List Item) (t : Tally) : Type 0 where
 abbrev pub TalliesRun : Rules → List ℕ → End → Tally → Type 0
 TalliesRun rules r Complete t = IsTallyOf (kept rules r) t
 TalliesRun rules r (Refused number place reason) t = IsTallyOf (kept rules r) t
-TalliesRun rules r ReadFault t = IsTallyOf (kept rules (whole r)) t
-TalliesRun rules r ReadLimit t = IsTallyOf (kept rules (whole r)) t
 TalliesRun rules r WriteFault t = ⊥
 TalliesRun rules r Memory t = TalliesFront (kept rules r) [] t
+TalliesRun rules r cut_short t = IsTallyOf (kept rules (whole r)) t
 
 -- the tally of what is kept of a cut stream, whose ending is the answer; or, where memory was refused, of a prefix of
 -- the pieces that were given, of which n were wholly taken
@@ -136,8 +135,6 @@ TalliesPieces rules pieces n Complete t = (ending rules (joined pieces) ≡ Comp
     × IsTallyOf (kept rules (joined pieces)) t
 TalliesPieces rules pieces n (Refused number place reason) t =
     (ending rules (joined pieces) ≡ Refused number place reason) × IsTallyOf (kept rules (joined pieces)) t
-TalliesPieces rules pieces n ReadFault t = ⊥
-TalliesPieces rules pieces n ReadLimit t = ⊥
-TalliesPieces rules pieces n WriteFault t = ⊥
 TalliesPieces rules pieces n Memory t =
     TalliesFront (kept rules (joined (take (n + 1) pieces))) (kept rules (whole (joined (take n pieces)))) t
+TalliesPieces rules pieces n other t = ⊥
