@@ -137,14 +137,14 @@ pub record RunsNoting {N : Type 0} (notes : N → Report → N → Type 0) (run 
   pub reports : Notes notes (stretch run.rules run.read 0 run.outcome.lines) old new
   pub noted : NotesRun notes (stream_of run.rules run.read) run.outcome.ended old new
 
--- the bytes that a writer got of r, by the end of the run: the output of r, or of its whole lines where a read
--- failed, or a prefix of the output where a write failed or memory was refused
-abbrev pub Writes : Rules → List ℕ → End → Option (List ℕ) → Option (List ℕ) → Type 0
-Writes rules r Complete old new = Appends old new (output rules r)
-Writes rules r (Refused number place reason) old new = Appends old new (output rules r)
-Writes rules r WriteFault old new = AppendsPart old new (output rules r)
-Writes rules r Memory old new = AppendsPart old new (output rules r)
-Writes rules r cut_short old new = Appends old new (output rules (whole r))
+-- the bytes that a writer got of those that were read, by the end of the run: their output, or that of their whole
+-- lines where reading was cut short, or a prefix of the output where a write failed or memory was refused
+abbrev pub Writes : Stream → End → Option (List ℕ) → Option (List ℕ) → Type 0
+Writes r Complete old new = Appends old new (output r.rules r.bytes)
+Writes r (Refused number place reason) old new = Appends old new (output r.rules r.bytes)
+Writes r WriteFault old new = AppendsPart old new (output r.rules r.bytes)
+Writes r Memory old new = AppendsPart old new (output r.rules r.bytes)
+Writes r cut_short old new = Appends old new (output r.rules (whole r.bytes))
 
 -- the bytes that a writer got where the write of the line after these failed: their output, and a prefix of that line,
 -- which is kept
