@@ -28,7 +28,7 @@ use Rattle.cityseq_c.specs.declared.tally.Tally.{Tally}
 pub tallied : (rules : Rules) (text : List ℕ) (o : Outcome) (start t : Tallied) (old new : List Told)
     → Judged (never_fails Tallies) (stream_of rules text) o (lent start old) (lent t new) → start ≡ no_tally
     → (told : Tally) → IsTally t told → (start ≡ no_tally → Puts (never_fails Tallies) (stream_of rules text) Complete
-    start t → TalliesRun rules text Complete t)
+    start t → TalliesRun (stream_of rules text) Complete t)
     → IsUnhindered o.ended → IsTalliedOf rules text told
 tallied rules text o start t old new j fresh told same law free = record { tallied = t; all = law fresh (j.took free); told = same }
 

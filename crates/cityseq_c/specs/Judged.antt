@@ -15,10 +15,8 @@ use Rattle.cityseq_c.specs.declared.report_slice.Told.{Told}
 abbrev pub IsJudged : End → Type 0
 IsJudged Complete = Unit {0}
 IsJudged (Refused line place reason) = Unit {0}
-IsJudged ReadFault = ⊥
-IsJudged ReadLimit = ⊥
 IsJudged WriteFault = Unit {0}
-IsJudged Memory = ⊥
+IsJudged other = ⊥
 
 -- a run that read all of a text
 abbrev pub run_over : Rules → List ℕ → Outcome → Run

@@ -46,7 +46,8 @@ Appends-kept (Some a) (Some b) (Some c) x p q = q ∙ p
 AppendsPart-kept : (a b c : Option (List ℕ)) (x : List ℕ) → AppendsPart a b x → Keeps b c → AppendsPart a c x
 AppendsPart-kept a b c x p q = record { front = p.front; rest = p.rest; whole = p.whole; grows = Appends-kept a b c p.front p.grows q }
 
-Writes-kept : (rules : Rules) (r : List ℕ) (e : End) (a b c : Option (List ℕ)) → Writes rules r e a b → Keeps b c → Writes rules r e a c
+Writes-kept : (rules : Rules) (r : List ℕ) (e : End) (a b c : Option (List ℕ)) → Writes (stream_of rules r) e a b
+    → Keeps b c → Writes (stream_of rules r) e a c
 Writes-kept rules r Complete a b c h k = Appends-kept a b c _ h k
 Writes-kept rules r (Refused line place reason) a b c h k = Appends-kept a b c _ h k
 Writes-kept rules r ReadFault a b c h k = Appends-kept a b c _ h k

@@ -114,7 +114,7 @@ Answers (Check limits options) run told old new =
     SaysCheck (stream_of (all_under limits options) run.read) run.outcome.ended told old new
 Answers (Filter limits query options) run told old new =
     (told ≡ run.outcome.ended)
-    × Writes (rules_for limits query options) run.read run.outcome.ended old.bytes new.bytes
+    × Writes (stream_of (rules_for limits query options) run.read) run.outcome.ended old.bytes new.bytes
     × HeadlineOfRun Collects (run_of (Filter limits query options) run.read run.outcome) run.at_end (outputs old [])
     (outputs new run.reports)
     × WritesLines (up_to (rules_for limits query options) run.read run.outcome.lines) run.outcome.ended

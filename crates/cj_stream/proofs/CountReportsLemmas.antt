@@ -38,7 +38,7 @@ counts-lines rules q n c h = rw h.told (reports-all c h.added h.noted)
 
 -- what a run has counted, by its end
 pub counts-run : (rules : Rules) (r : List ℕ) (c : CountReports) (e : End) → NotesRun CountsReport (stream_of rules r) e
-    (no_reports) c → CountsReportsOfRun rules r e c
+    (no_reports) c → CountsReportsOfRun (stream_of rules r) e c
 counts-run rules r c Complete h = reports-all c (reported rules r) h
 counts-run rules r c (Refused number place reason) h = reports-all c (reported rules r) h
 counts-run rules r c ReadFault h = reports-all c (reported rules (whole r)) h
@@ -48,7 +48,8 @@ counts-run rules r c Memory h = h
 
 -- what was counted of pieces
 pub counts-pieces : (rules : Rules) (pieces : List (List ℕ)) (n : ℕ) (c : CountReports) (e : End)
-    → NotesPieces CountsReport (in_pieces rules pieces n) e (no_reports) c → CountsReportsOfPieces rules pieces n e c
+    → NotesPieces CountsReport (in_pieces rules pieces n) e (no_reports) c
+    → CountsReportsOfPieces (in_pieces rules pieces n) e c
 counts-pieces rules pieces n c Complete h = reports-all c (reported rules (joined pieces)) h
 counts-pieces rules pieces n c (Refused number place reason) h = reports-all c (reported rules (joined pieces)) h
 counts-pieces rules pieces n c ReadFault h = h

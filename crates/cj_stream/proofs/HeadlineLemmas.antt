@@ -61,7 +61,7 @@ module _ {N : Type 0} (notes : N → Report → N → Type 0) (a b : N) (rules :
 
   -- what a run over a writer tells is the headline, by its end
   ended : (e : End) (old new : Channel) → Ends rules r n at_end e → (e ≡ Complete → IsExact rules.limits r peaks)
-      → Writes rules r e old.bytes new.bytes → NotesRun notes (stream_of rules r) e a b
+      → Writes (stream_of rules r) e old.bytes new.bytes → NotesRun notes (stream_of rules r) e a b
       → (e ≡ WriteFault → HasRisen old.failures new.failures) → (rest : List ℕ) → (at_end → rest ≡ []) → IsUnread e
       → Headline notes (fate_of rules (r ++ rest) r e peaks) (outputs old a) (outputs new b)
   ended Complete old new ends exact w noted c rest all u =
@@ -101,7 +101,8 @@ module _ {N : Type 0} (notes : N → Report → N → Type 0) (a b : N) (rules :
 
 -- what a run over a writer tells is the headline
 pub Headline-run : {N : Type 0} (notes : N → Report → N → Type 0) (run : Run) (at_end : Type 0) (old new : Channel) (a b : N) → Account run at_end
-    → Writes run.rules run.read run.outcome.ended old.bytes new.bytes → NotesRun notes (stream_of run.rules run.read)
+    → Writes (stream_of run.rules run.read) run.outcome.ended old.bytes new.bytes
+    → NotesRun notes (stream_of run.rules run.read)
     run.outcome.ended a b
     → (run.outcome.ended ≡ WriteFault → HasRisen old.failures new.failures) → HeadlineOfRun notes run at_end
     (outputs old a) (outputs new b)

@@ -135,7 +135,8 @@ module _ {S : Type 0} (contents : S → Option (List ℕ)) where
 
   -- the bytes that a writer got, by the end of the run
   pub Writes-puts : (failures : S → ℕ) (rules : Rules) (r : List ℕ) (s t : S) (e : End)
-      → Puts (writes_law contents failures) (stream_of rules r) e s t → Writes rules r e (contents s) (contents t)
+      → Puts (writes_law contents failures) (stream_of rules r) e s t
+      → Writes (stream_of rules r) e (contents s) (contents t)
   Writes-puts failures rules r s t Complete h = Took-appends contents s t (kept rules r) h
   Writes-puts failures rules r s t (Refused number place reason) h = Took-appends contents s t (kept rules r) h
   Writes-puts failures rules r s t ReadFault h = Took-appends contents s t (kept rules (whole r)) h

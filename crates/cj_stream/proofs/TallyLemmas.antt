@@ -51,7 +51,7 @@ never (i ∷ is) m c k = k
 
 -- what a run has counted, by its end
 pub CountsRun-puts : (rules : Rules) (r : List ℕ) (c : CountSink) (e : End) → Puts (never_fails Counts)
-    (stream_of rules r) e (no_counts) c → CountsRun rules r e c
+    (stream_of rules r) e (no_counts) c → CountsRun (stream_of rules r) e c
 CountsRun-puts rules r c Complete h = counts-all c (kept rules r) h
 CountsRun-puts rules r c (Refused number place reason) h = counts-all c (kept rules r) h
 CountsRun-puts rules r c ReadFault h = counts-all c (kept rules (whole r)) h
@@ -61,7 +61,8 @@ CountsRun-puts rules r c Memory h = record { more = h.more; others = h.others; f
 
 -- what was counted of pieces
 pub CountsPieces-puts : (rules : Rules) (pieces : List (List ℕ)) (n : ℕ) (c : CountSink) (e : End)
-    → PutsPieces (never_fails Counts) (in_pieces rules pieces n) e (no_counts) c → CountsPieces rules pieces n e c
+    → PutsPieces (never_fails Counts) (in_pieces rules pieces n) e (no_counts) c
+    → CountsPieces (in_pieces rules pieces n) e c
 CountsPieces-puts rules pieces n c Complete h = (h.0, counts-all c (kept rules (joined pieces)) h.1)
 CountsPieces-puts rules pieces n c (Refused number place reason) h = (h.0, counts-all c (kept rules (joined pieces)) h.1)
 CountsPieces-puts rules pieces n c ReadFault h = h

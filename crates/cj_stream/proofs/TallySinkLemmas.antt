@@ -157,7 +157,7 @@ never (i ∷ is) m t k = k
 
 -- what a run has tallied, by its end
 pub TalliesRun-puts : (rules : Rules) (r : List ℕ) (start t : Tally) (e : End) → start ≡ no_tally
-    → Puts (never_fails Tallies) (stream_of rules r) e start t → TalliesRun rules r e t
+    → Puts (never_fails Tallies) (stream_of rules r) e start t → TalliesRun (stream_of rules r) e t
 TalliesRun-puts rules r start t Complete new h = tally-all start t (kept rules r) new h
 TalliesRun-puts rules r start t (Refused number place reason) new h = tally-all start t (kept rules r) new h
 TalliesRun-puts rules r start t ReadFault new h = tally-all start t (kept rules (whole r)) new h
@@ -167,7 +167,8 @@ TalliesRun-puts rules r start t Memory new h = record { more = h.more; others = 
 
 -- what was tallied of pieces
 pub TalliesPieces-puts : (rules : Rules) (pieces : List (List ℕ)) (n : ℕ) (start t : Tally) (e : End) → start ≡ no_tally
-    → PutsPieces (never_fails Tallies) (in_pieces rules pieces n) e start t → TalliesPieces rules pieces n e t
+    → PutsPieces (never_fails Tallies) (in_pieces rules pieces n) e start t
+    → TalliesPieces (in_pieces rules pieces n) e t
 TalliesPieces-puts rules pieces n start t Complete new h = (h.0, tally-all start t (kept rules (joined pieces)) new h.1)
 TalliesPieces-puts rules pieces n start t (Refused number place reason) new h = (h.0, tally-all start t (kept rules (joined pieces)) new h.1)
 TalliesPieces-puts rules pieces n start t ReadFault new h = h

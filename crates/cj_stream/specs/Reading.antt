@@ -10,7 +10,7 @@ use Rattle.cj_stream.specs.declared.desk.Desk.{Desk}
 use Rattle.cj_stream.specs.declared.store.Store.{Store}
 use Rattle.cj_spans.specs.declared.reason.Reason.TheVariants.{NoHeader, LineTooLong}
 use Rattle.cj_stream.specs.declared.ending.End.{End}
-use Rattle.cj_stream.specs.declared.ending.End.TheVariants.{Complete, Refused, ReadFault, ReadLimit, WriteFault, Memory}
+use Rattle.cj_stream.specs.declared.ending.End.TheVariants.{Refused, WriteFault, Memory}
 use Rattle.cj_stream.specs.Lines.{Line, lines, closed, begun, begun_later, ended_line, first_content, later_of}
 use Rattle.cj_stream.specs.Item.{Item, is_feature, tree_of, item_at}
 use Rattle.cj_stream.specs.Query.{rules_for}
@@ -241,18 +241,16 @@ lines_done at = map ended_line (closed at.done)
 
 -- why reading stopped there, and what the sink is then
 abbrev pub HasCause : {S : Type 0} → SinkLaw S → StopAt → S → S → End → Type 0
-HasCause law at s t Complete = ⊥
 HasCause law at s t (Refused number place reason) =
     (l : Line) × IsNext at.rules.limits at.done at.all l × (number ≡ at.lines + 1)
     × (verdict at.rules (lines_done at) l.content ≡ Refuse place reason) × (t ≡ s)
     × (goes_on at.rules number ≡ false)
-HasCause law at s t ReadFault = ⊥
-HasCause law at s t ReadLimit = ⊥
 HasCause law at s t WriteFault =
     (l : Line) × IsNext at.rules.limits at.done at.all l
     × (is_kept (verdict at.rules (lines_done at) l.content) ≡ true)
     × law.leaves s (item_after at.rules (lines_done at) l) t
 HasCause law at s t Memory = (t ≡ s) × LacksMemory at.rules at.all at.lines
+HasCause law at s t other = ⊥
 
 -- reading stopped within the further bytes
 pub record Stops {S : Type 0} (law : SinkLaw S) (bytes : Further) (old : WithSink Reading S) (end : End)

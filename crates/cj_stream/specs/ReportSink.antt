@@ -1,7 +1,7 @@
 -- What is reported of invalid lines, and what a sink of reports has noted of a stream.
 use Rattle.std.specs.Prelude.{◌≡◌, ◌+◌, ◌-◌, ◌^◌, List, [], ◌∷◌, ◌++◌, min}
 use Rattle.cj_stream.specs.declared.ending.End.{End}
-use Rattle.cj_stream.specs.declared.ending.End.TheVariants.{Complete, Refused, ReadFault, ReadLimit, WriteFault, Memory}
+use Rattle.cj_stream.specs.declared.ending.End.TheVariants.{Complete, Refused, WriteFault, Memory}
 use Rattle.cj_stream.specs.declared.report_sink.CountReports.{CountReports}
 use Rattle.cj_stream.specs.declared.report_sink.Report.{Report}
 use Rattle.cj_stream.specs.Cut.{InPieces, all_of, given_of}
@@ -28,19 +28,17 @@ pub record Notes {N : Type 0} (notes : N → Report → N → Type 0) (part : St
 abbrev pub NotesRun : {N : Type 0} → (N → Report → N → Type 0) → Stream → End → N → N → Type 0
 NotesRun notes r Complete n m = Took notes n (reported r.rules r.bytes) m
 NotesRun notes r (Refused number place reason) n m = Took notes n (reported r.rules r.bytes) m
-NotesRun notes r ReadFault n m = Took notes n (reported r.rules (whole r.bytes)) m
-NotesRun notes r ReadLimit n m = Took notes n (reported r.rules (whole r.bytes)) m
 NotesRun notes r WriteFault n m =
     TookFront notes (λ others a b. b ≡ a) (prefixes (reported r.rules r.bytes) []) n m
 NotesRun notes r Memory n m = m ≡ n
+NotesRun notes r cut_short n m = Took notes n (reported r.rules (whole r.bytes)) m
 
 -- what was noted of a cut stream: what is reported of all of it, or, after a write fault, a prefix of what is reported
 -- of the pieces that were given; and nothing where memory was refused
 abbrev pub NotesPieces : {N : Type 0} → (N → Report → N → Type 0) → InPieces → End → N → N → Type 0
 NotesPieces notes cut Complete n m = Took notes n (reported cut.rules (all_of cut)) m
 NotesPieces notes cut (Refused number place reason) n m = Took notes n (reported cut.rules (all_of cut)) m
-NotesPieces notes cut ReadFault n m = ⊥
-NotesPieces notes cut ReadLimit n m = ⊥
 NotesPieces notes cut WriteFault n m =
     TookFront notes (λ others a b. b ≡ a) (prefixes (reported cut.rules (given_of cut)) []) n m
 NotesPieces notes cut Memory n m = m ≡ n
+NotesPieces notes cut other n m = ⊥

@@ -189,9 +189,10 @@ pub fn good_lines_are_kept()
 /// A `CountSink` that starts at zero counts what it takes: in a run, given its end, and of pieces.
 pub fn puts_are_counted()
     ensures runs { (rules : Rules) (r : List ℕ) (e : End) (c : CountSink)
-        → Puts (never_fails Counts) (stream_of rules r) e no_counts c → CountsRun rules r e c }
+        → Puts (never_fails Counts) (stream_of rules r) e no_counts c → CountsRun (stream_of rules r) e c }
     ensures pieces { (rules : Rules) (pieces : List (List ℕ)) (n : ℕ) (e : End) (c : CountSink)
-        → PutsPieces (never_fails Counts) (in_pieces rules pieces n) e no_counts c → CountsPieces rules pieces n e c }
+        → PutsPieces (never_fails Counts) (in_pieces rules pieces n) e no_counts c
+        → CountsPieces (in_pieces rules pieces n) e c }
 {}
 
 /// A `CountReports` that starts at zero counts what it notes: of the first lines of a stream, in a
@@ -200,18 +201,19 @@ pub fn reports_are_counted()
     ensures lines { (rules : Rules) (q : List ℕ) (n : ℕ) (c : CountReports)
         → Notes CountsReport (stretch rules q 0 n) no_reports c → c ≡ count_of (reported_first rules n q) }
     ensures runs { (rules : Rules) (r : List ℕ) (e : End) (c : CountReports)
-        → NotesRun CountsReport (stream_of rules r) e no_reports c → CountsReportsOfRun rules r e c }
+        → NotesRun CountsReport (stream_of rules r) e no_reports c → CountsReportsOfRun (stream_of rules r) e c }
     ensures pieces { (rules : Rules) (pieces : List (List ℕ)) (n : ℕ) (e : End) (c : CountReports)
         → NotesPieces CountsReport (in_pieces rules pieces n) e no_reports c
-        → CountsReportsOfPieces rules pieces n e c }
+        → CountsReportsOfPieces (in_pieces rules pieces n) e c }
 {}
 
 /// A `TallySink` that starts empty tallies what it takes: in a run, given its end, and of pieces.
 pub fn puts_are_tallied()
     ensures runs { (rules : Rules) (r : List ℕ) (e : End) (start t : Tally) → start ≡ no_tally
-        → Puts (never_fails Tallies) (stream_of rules r) e start t → TalliesRun rules r e t }
+        → Puts (never_fails Tallies) (stream_of rules r) e start t → TalliesRun (stream_of rules r) e t }
     ensures pieces { (rules : Rules) (pieces : List (List ℕ)) (n : ℕ) (e : End) (start t : Tally) → start ≡ no_tally
-        → PutsPieces (never_fails Tallies) (in_pieces rules pieces n) e start t → TalliesPieces rules pieces n e t }
+        → PutsPieces (never_fails Tallies) (in_pieces rules pieces n) e start t
+        → TalliesPieces (in_pieces rules pieces n) e t }
 {}
 
 /// An `Output` writes what it takes: in a run, given its end and the lines that were dealt with,
@@ -219,7 +221,7 @@ pub fn puts_are_tallied()
 pub fn puts_are_written<W: Write + Drop, N: ReportSink>()
     ensures runs { (rules : Rules) (r : List ℕ) (e : End) (a b : Output W)
         → Puts (output_law W.contents) (stream_of rules r) e a b
-        → Writes rules r e (W.contents (output_writer a)) (W.contents (output_writer b)) }
+        → Writes (stream_of rules r) e (W.contents (output_writer a)) (W.contents (output_writer b)) }
     ensures lines { (run : Run) (left : Option (List ℕ)) (a b : Output W)
         → Runs (output_law W.contents) run (IsAtEnd left) a b
         → (run.outcome.ended ≡ End.Memory → run.outcome.lines ≡ 0)
