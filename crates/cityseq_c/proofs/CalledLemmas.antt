@@ -4,12 +4,11 @@ use Rattle.std.specs.Prelude.{IfOk, IfErr, OnErr, OnOk, is_ok}
 use Rattle.cj_stream.specs.declared.running.Outcome.{Outcome}
 use Rattle.cj_stream.specs.declared.ending.End.{End}
 use Rattle.cj_stream.specs.declared.ending.End.TheVariants.{Complete, Refused, ReadFault, ReadLimit, WriteFault, Memory as NoMemory}
-use Rattle.cj_stream.specs.Item.{Item}
-use Rattle.cj_stream.specs.Sink.{HasRisen}
-use Rattle.cj_stream.specs.Verdict.{Rules}
+use Rattle.cj_stream.specs.Sink.{HasRisen, SinkLaw}
+use Rattle.cj_stream.specs.Verdict.{Rules, stream_of}
 use Rattle.cityseq_c.specs.Answer.{answer_to, not_judged, status_of}
-use Rattle.cityseq_c.specs.Called.{Copied, Filters, Goes, IsUnjudged}
-use Rattle.cityseq_c.specs.Judged.{IsJudged, Judged}
+use Rattle.cityseq_c.specs.Called.{Copied, Filters, Goes, IsUnjudged, call}
+use Rattle.cityseq_c.specs.Judged.{IsJudged, Judged, lent}
 use Rattle.cityseq_c.specs.Query.{DeclinesCall}
 use Rattle.cityseq_c.specs.Request.{IsAsked}
 use Rattle.cityseq_c.specs.declared.answer.Answer.{Answer}
@@ -18,18 +17,25 @@ use Rattle.cityseq_c.specs.declared.request.NotJudged.{NotJudged}
 use Rattle.cityseq_c.specs.declared.request.NotJudged.TheVariants.{Fault, Memory}
 use Rattle.cityseq_c.specs.declared.request.Request.{Request}
 
-module _ {S : Type 0} (takes leaves : S → Item → S → Type 0) (r : Request) (header part : List ℕ) (s t : S) (old new : List Told) where
-  pub goes : (also : Rules → Outcome → Type 0) → ((rules : Rules) (o : Outcome) → Judged takes leaves rules (header ++ part) o s t old new → also rules o) → (went : Result Outcome NotJudged)
-      → IfOk went (λ o. (rules : Rules) × IsAsked r rules × Judged takes leaves rules (header ++ part) o s t old new)
-      → IfErr went (DeclinesCall r header part) → OnErr went ((t ≡ s) × (new ≡ old)) → Goes r header part old new also went
+module _ {S : Type 0} (law : SinkLaw S) (r : Request) (header part : List ℕ) (s t : S) (old new : List Told) where
+  pub goes : (also : Rules → Outcome → Type 0) → ((rules : Rules) (o : Outcome)
+      → Judged law (stream_of rules (header ++ part)) o (lent s old) (lent t new) → also rules o)
+      → (went : Result Outcome NotJudged)
+      → IfOk went (λ o. (rules : Rules) × IsAsked r rules × Judged law (stream_of rules (header ++ part)) o
+      (lent s old) (lent t new))
+      → IfErr went (DeclinesCall r header part) → OnErr went ((t ≡ s) × (new ≡ old))
+      → Goes (call r header part old new) also went
   goes also gives (Ok o) ok declined unread = (ok.0, ok.1, ok.2.tells, gives ok.0 o ok.2)
   goes also gives (Err why) ok declined unread = (declined, unread.1)
 
   -- the same where more is known of a call that was judged
-  pub goes-known : (Known : Type 0) (also : Rules → Outcome → Type 0) → (Known → (rules : Rules) (o : Outcome) → Judged takes leaves rules (header ++ part) o s t old new → also rules o)
+  pub goes-known : (Known : Type 0) (also : Rules → Outcome → Type 0) → (Known → (rules : Rules) (o : Outcome)
+      → Judged law (stream_of rules (header ++ part)) o (lent s old) (lent t new) → also rules o)
       → (went : Result Outcome NotJudged) → OnOk went Known
-      → IfOk went (λ o. (rules : Rules) × IsAsked r rules × Judged takes leaves rules (header ++ part) o s t old new)
-      → IfErr went (DeclinesCall r header part) → OnErr went ((t ≡ s) × (new ≡ old)) → Goes r header part old new also went
+      → IfOk went (λ o. (rules : Rules) × IsAsked r rules × Judged law (stream_of rules (header ++ part)) o
+      (lent s old) (lent t new))
+      → IfErr went (DeclinesCall r header part) → OnErr went ((t ≡ s) × (new ≡ old))
+      → Goes (call r header part old new) also went
   goes-known Known also gives (Ok o) known ok declined unread = (ok.0, ok.1, ok.2.tells, gives known ok.0 o ok.2)
   goes-known Known also gives (Err why) known ok declined unread = (declined, unread.1)
 
@@ -47,7 +53,9 @@ module _ {S : Type 0} (takes leaves : S → Item → S → Type 0) (r : Request)
 
   -- where nothing was judged the answer is a status and a code alone, and all is as it was
   pub unjudged : (went : Result Outcome NotJudged) (answer : Answer) (written : ℕ) → answer ≡ answer_to went written
-      → IfOk went (λ o. (rules : Rules) × IsAsked r rules × Judged takes leaves rules (header ++ part) o s t old new) → OnErr went ((t ≡ s) × (new ≡ old))
+      → IfOk went (λ o. (rules : Rules) × IsAsked r rules × Judged law (stream_of rules (header ++ part)) o
+      (lent s old) (lent t new))
+      → OnErr went ((t ≡ s) × (new ≡ old))
       → IsUnjudged answer → (answer ≡ not_judged answer.status answer.code) × (new ≡ old) × (t ≡ s)
   unjudged (Ok o) answer written is ok unread which =
       absurd (status-judged o.ended ok.2.tells.judged (let same : answer.status ≡ status_of o.ended = ap (λ a. a.status) is in rw same at which))
@@ -71,14 +79,15 @@ told-written (Err Memory) answer written is = is
 
 -- what else comes of a call that was judged counts for what it tells
 goes-told : (r : Request) (header part : List ℕ) (old new : List Told) (out : List ℕ) (written : ℕ) (answer : Answer) (went : Result Outcome NotJudged) → answer ≡ answer_to went written
-    → Goes r header part old new (λ rules o. Copied rules (header ++ part) out written o) went
-    → Goes r header part old new (λ rules o. Copied rules (header ++ part) out answer.written o) went
+    → Goes (call r header part old new) (λ rules o. Copied rules (header ++ part) out written o) went
+    → Goes (call r header part old new) (λ rules o. Copied rules (header ++ part) out answer.written o) went
 goes-told r header part old new out written answer (Ok o) is h =
     (h.0, h.1, h.2, subst (λ n. Copied h.0 (header ++ part) out n o) (sym (ap (λ a. a.written) is)) h.3)
 goes-told r header part old new out written answer (Err why) is h = h
 
 pub filters : (r : Request) (header part : List ℕ) (old new : List Told) (out : List ℕ) (written : ℕ) (answer : Answer) (went : Result Outcome NotJudged) → answer ≡ answer_to went written
-    → Goes r header part old new (λ rules o. Copied rules (header ++ part) out written o) went → Filters r header part out old new answer
+    → Goes (call r header part old new) (λ rules o. Copied rules (header ++ part) out written o) went
+    → Filters (call r header part old new) out answer
 filters r header part old new out written answer went is h = record {
   went = went;
   goes = goes-told r header part old new out written answer went is h;

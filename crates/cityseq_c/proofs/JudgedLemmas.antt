@@ -9,18 +9,19 @@ use Rattle.cj_stream.specs.declared.ending.End.{End}
 use Rattle.cj_stream.specs.declared.ending.End.TheVariants.{Complete, Refused, ReadFault, ReadLimit, WriteFault, Memory}
 use Rattle.cj_stream.specs.declared.running.Outcome.{Outcome}
 use Rattle.cj_stream.specs.Bound.{IsBounded, IsExact}
-use Rattle.cj_stream.specs.Cut.{joined, PutsPieces}
+use Rattle.cj_stream.specs.Cut.{joined, PutsPieces, in_pieces}
 use Rattle.cj_stream.specs.Engine.{Counts, Delivers, Faults}
 use Rattle.cj_stream.specs.Headline.{IsUnhindered}
-use Rattle.cj_stream.specs.Item.{Item, is_feature}
+use Rattle.cj_stream.specs.Item.{is_feature}
 use Rattle.cj_stream.specs.Lines.{Line, NoLf, ended_line, lines}
 use Rattle.cj_stream.specs.Parts.{headed}
 use Rattle.cj_stream.specs.ReportSink.{Notes}
 use Rattle.cj_stream.specs.Run.{CountsAll, Ends}
-use Rattle.cj_stream.specs.Sink.{Took}
-use Rattle.cj_stream.specs.Verdict.{Rules, ending, good, item_after, is_kept, kept, kept_from, reported, reported_first, reported_from, refusal_in, verdict}
+use Rattle.cj_stream.specs.Sink.{Took, SinkLaw}
+use Rattle.cj_stream.specs.Verdict.{Rules, ending, good, item_after, is_kept, kept, kept_from, reported, reported_first}
+use Rattle.cj_stream.specs.Verdict.{reported_from, refusal_in, verdict, stretch, up_to, stream_of}
 use Rattle.cj_stream.proofs.PartsLemmas.{first-headed, lines-headed}
-use Rattle.cityseq_c.specs.Judged.{IsJudged, Judged}
+use Rattle.cityseq_c.specs.Judged.{IsJudged, Judged, lent}
 use Rattle.cityseq_c.specs.ReportSlice.{count_of, noted_loan, noted_room, noted_text, Holds, NotesOne}
 use Rattle.cityseq_c.specs.Request.{AreCut}
 use Rattle.cityseq_c.specs.declared.report_slice.Noted.{Noted}
@@ -61,10 +62,11 @@ module _ (header part : List ℕ) (cut : AreCut header part) where
 -- ---- from a header to a part behind it
 
 -- what comes of the first n lines of what was given
-record OfFirst {S : Type 0} (takes leaves : S → Item → S → Type 0) (rules : Rules) (n features refusals : ℕ) (peaks : Peaks) (e : End) (s t : S) (a b : Noted) (q : List ℕ) : Type 0 where
+record OfFirst {S : Type 0} (law : SinkLaw S) (rules : Rules) (n features refusals : ℕ) (peaks : Peaks) (e : End)
+    (s t : S) (a b : Noted) (q : List ℕ) : Type 0 where
   bounded : IsBounded rules.limits q peaks
   counts : Counts rules q n features refusals
-  delivers : Delivers takes leaves rules q 0 n s t (Some e)
+  delivers : Delivers law (stretch rules q 0 n) s t (Some e)
   noted : Took NotesOne a (reported_first rules n q) b
 
 next-same : (x l : Line) (xs : List Line) (n : ℕ) → slice_get (x ∷ []) n ≡ Some l → slice_get (x ∷ xs) n ≡ Some l
@@ -94,8 +96,9 @@ module _ (rules : Rules) (h part : List ℕ) (free : NoLf h) (n : ℕ) (few : n 
     refused = x.refused ∙ ap (λ z. length (reported_from rules [] z)) (sym first-same);
   }
 
-  module _ {S : Type 0} (takes leaves : S → Item → S → Type 0) where
-    faults-more : (s t : S) (e : End) → Faults leaves rules (headed h []) n s t (Some e) → Faults leaves rules (headed h part) n s t (Some e)
+  module _ {S : Type 0} (law : SinkLaw S) where
+    faults-more : (s t : S) (e : End) → Faults law (up_to rules (headed h []) n) s t (Some e)
+        → Faults law (up_to rules (headed h part) n) s t (Some e)
     faults-more s t Complete x = x
     faults-more s t (Refused line place reason) x = x
     faults-more s t ReadFault x = x
@@ -105,10 +108,11 @@ module _ (rules : Rules) (h part : List ℕ) (free : NoLf h) (n : ℕ) (few : n 
       x.0,
       ap (λ z. slice_get z n) all ∙ next-same (ended_line h) x.0 (lines part) n (ap (λ z. slice_get z n) (sym front) ∙ x.1),
       ap (λ z. is_kept (verdict rules z x.0.content)) first-same ∙ x.2,
-      subst (λ z. leaves s (item_after rules z x.0) t) (sym first-same) x.3,
+      subst (λ z. law.leaves s (item_after rules z x.0) t) (sym first-same) x.3,
     )
 
-    delivers-more : (s t : S) (e : End) → Delivers takes leaves rules (headed h []) 0 n s t (Some e) → Delivers takes leaves rules (headed h part) 0 n s t (Some e)
+    delivers-more : (s t : S) (e : End) → Delivers law (stretch rules (headed h []) 0 n) s t (Some e)
+        → Delivers law (stretch rules (headed h part) 0 n) s t (Some e)
     delivers-more s t e x = record {
       added = x.added;
       middle = x.middle;
@@ -127,27 +131,31 @@ bounded-more limits h part peaks free x =
       depth = x.depth;
     }
 
-module _ {S : Type 0} (takes leaves : S → Item → S → Type 0) (rules : Rules) (n f r : ℕ) (peaks : Peaks) (e : End) (s t : S) (a b : Noted) where
-  first-more : (h part : List ℕ) → NoLf h → OfFirst takes leaves rules n f r peaks e s t a b (headed h []) → OfFirst takes leaves rules n f r peaks e s t a b (headed h part)
+module _ {S : Type 0} (law : SinkLaw S) (rules : Rules) (n f r : ℕ) (peaks : Peaks) (e : End) (s t : S)
+    (a b : Noted) where
+  first-more : (h part : List ℕ) → NoLf h → OfFirst law rules n f r peaks e s t a b (headed h [])
+      → OfFirst law rules n f r peaks e s t a b (headed h part)
   first-more h part free x =
       let few = x.counts.few in
       record {
         bounded = bounded-more rules.limits h part peaks free x.bounded;
         counts = counts-more rules h part free n few f r x.counts;
-        delivers = delivers-more rules h part free n few takes leaves s t e x.delivers;
+        delivers = delivers-more rules h part free n few law s t e x.delivers;
         noted = subst (λ z. Took NotesOne a z b) (ap (λ z. reported_from rules [] z) (sym (first-same rules h part free n few))) x.noted;
       }
 
-  first-text : (header part : List ℕ) → AreCut header part → (k : ℕ) → OfFirst takes leaves rules n f r peaks e s t a b (joined (take (k + 1) (header ∷ part ∷ [])))
-      → OfFirst takes leaves rules n f r peaks e s t a b (header ++ part)
+  first-text : (header part : List ℕ) → AreCut header part → (k : ℕ)
+      → OfFirst law rules n f r peaks e s t a b (joined (take (k + 1) (header ∷ part ∷ [])))
+      → OfFirst law rules n f r peaks e s t a b (header ++ part)
   first-text header part cut k x =
-      over-text header part cut (λ q. OfFirst takes leaves rules n f r peaks e s t a b q) k (λ h free y. first-more h part free y) x
+      over-text header part cut (λ q. OfFirst law rules n f r peaks e s t a b q) k
+      (λ h free y. first-more h part free y) x
 
 -- ---- how it ended
 
-module _ {S : Type 0} (takes leaves : S → Item → S → Type 0) (rules : Rules) (pieces : List (List ℕ)) (k : ℕ) (s t : S) where
+module _ {S : Type 0} (law : SinkLaw S) (rules : Rules) (pieces : List (List ℕ)) (k : ℕ) (s t : S) where
   -- no reader had a part in it
-  put-judged : (e : End) → e ≢ Memory → PutsPieces takes leaves rules pieces k e s t → IsJudged e
+  put-judged : (e : End) → e ≢ Memory → PutsPieces law (in_pieces rules pieces k) e s t → IsJudged e
   put-judged Complete granted h = tt
   put-judged (Refused line place reason) granted h = tt
   put-judged ReadFault granted h = h
@@ -156,7 +164,8 @@ module _ {S : Type 0} (takes leaves : S → Item → S → Type 0) (rules : Rule
   put-judged Memory granted h = absurd (granted refl)
 
   -- without a hindrance the end and what the sink took are those of the whole
-  put-all : (e : End) → PutsPieces takes leaves rules pieces k e s t → IsUnhindered e → (e ≡ ending rules (joined pieces)) × Took takes s (kept rules (joined pieces)) t
+  put-all : (e : End) → PutsPieces law (in_pieces rules pieces k) e s t → IsUnhindered e
+      → (e ≡ ending rules (joined pieces)) × Took law.takes s (kept rules (joined pieces)) t
   put-all Complete h free = (sym h.0, h.1)
   put-all (Refused line place reason) h free = (sym h.0, h.1)
   put-all ReadFault h free = absurd h
@@ -172,21 +181,22 @@ ends-all rules text n ReadLimit judged ends count = absurd judged
 ends-all rules text n WriteFault judged ends count = tt
 ends-all rules text n Memory judged ends count = absurd judged
 
-module _ {S : Type 0} (takes leaves : S → Item → S → Type 0) (rules : Rules) (header part : List ℕ) (cut : AreCut header part) (k : ℕ) (s t : S) (a b : Noted) (o : Outcome) (old new : List Told)
-    (granted : o.ended ≢ Memory) (puts : PutsPieces takes leaves rules (header ∷ part ∷ []) k o.ended s t)
+module _ {S : Type 0} (law : SinkLaw S) (rules : Rules) (header part : List ℕ) (cut : AreCut header part) (k : ℕ)
+    (s t : S) (a b : Noted) (o : Outcome) (old new : List Told)
+    (granted : o.ended ≢ Memory) (puts : PutsPieces law (in_pieces rules (header ∷ part ∷ []) k) o.ended s t)
     (counts_all : IsUnhindered o.ended → CountsAll rules (joined (header ∷ part ∷ [])) o)
     (exact_all : o.ended ≡ Complete → IsExact rules.limits (joined (header ∷ part ∷ [])) o.peaks)
     (bounded : IsBounded rules.limits (joined (take (k + 1) (header ∷ part ∷ []))) o.peaks)
     (counts : Counts rules (joined (take (k + 1) (header ∷ part ∷ []))) o.lines o.kept o.refused)
-    (delivers : Delivers takes leaves rules (joined (take (k + 1) (header ∷ part ∷ []))) 0 o.lines s t (Some o.ended))
-    (notes : Notes NotesOne rules (joined (take (k + 1) (header ∷ part ∷ []))) 0 o.lines a b)
+    (delivers : Delivers law (stretch rules (joined (take (k + 1) (header ∷ part ∷ []))) 0 o.lines) s t (Some o.ended))
+    (notes : Notes NotesOne (stretch rules (joined (take (k + 1) (header ∷ part ∷ []))) 0 o.lines) a b)
     (good_reported : (r : List ℕ) (n : ℕ) → n ≡ length (good rules r) → reported_first rules n r ≡ reported rules r)
-    (over : noted_text a ≡ header ++ part) (none : count_of a ≡ 0) (lent : noted_room a ≡ old) (back : noted_loan b ≡ noted_loan a → new ≡ noted_room b) where
+    (over : noted_text a ≡ header ++ part) (none : count_of a ≡ 0) (loan : noted_room a ≡ old) (back : noted_loan b ≡ noted_loan a → new ≡ noted_room b) where
   whole : joined (header ∷ part ∷ []) ≡ header ++ part
   whole = all-joined header part
 
-  of_first : OfFirst takes leaves rules o.lines o.kept o.refused o.peaks o.ended s t a b (header ++ part)
-  of_first = first-text takes leaves rules o.lines o.kept o.refused o.peaks o.ended s t a b header part cut k (record {
+  of_first : OfFirst law rules o.lines o.kept o.refused o.peaks o.ended s t a b (header ++ part)
+  of_first = first-text law rules o.lines o.kept o.refused o.peaks o.ended s t a b header part cut k (record {
     bounded = bounded;
     counts = counts;
     delivers = delivers;
@@ -194,19 +204,19 @@ module _ {S : Type 0} (takes leaves : S → Item → S → Type 0) (rules : Rule
   })
 
   judged-end : IsJudged o.ended
-  judged-end = put-judged takes leaves rules (header ∷ part ∷ []) k s t o.ended granted puts
+  judged-end = put-judged law rules (header ∷ part ∷ []) k s t o.ended granted puts
 
   ends : IsUnhindered o.ended → o.ended ≡ ending rules (header ++ part)
-  ends free = (put-all takes leaves rules (header ∷ part ∷ []) k s t o.ended puts free).0 ∙ ap (λ z. ending rules z) whole
+  ends free = (put-all law rules (header ∷ part ∷ []) k s t o.ended puts free).0 ∙ ap (λ z. ending rules z) whole
 
   counted : IsUnhindered o.ended → CountsAll rules (header ++ part) o
   counted free = subst (λ z. CountsAll rules z o) whole (counts_all free)
 
-  pub judged : Judged takes leaves rules (header ++ part) o s t old new
+  pub judged : Judged law (stream_of rules (header ++ part)) o (lent s old) (lent t new)
   judged =
       let first = all-held a b (reported_first rules o.lines (header ++ part)) none of_first.noted in
       let held : Holds (header ++ part) (reported_first rules o.lines (header ++ part)) old new =
-      subst (λ z. Holds z (reported_first rules o.lines (header ++ part)) old new) over (rw (back first.0, ← lent) first.1) in
+      subst (λ z. Holds z (reported_first rules o.lines (header ++ part)) old new) over (rw (back first.0, ← loan) first.1) in
       record {
         tells = record {
           judged = judged-end;
@@ -221,6 +231,7 @@ module _ {S : Type 0} (takes leaves : S → Item → S → Type 0) (rules : Rule
           reports = λ free. subst (λ z. Holds (header ++ part) z old new) (good_reported (header ++ part) o.lines (counted free).lines) held;
           first = held;
         };
-        took = λ free. subst (λ z. Took takes s (kept rules z) t) whole (put-all takes leaves rules (header ∷ part ∷ []) k s t o.ended puts free).1;
+        took = λ free. subst (λ z. Took law.takes s (kept rules z) t) whole
+            (put-all law rules (header ∷ part ∷ []) k s t o.ended puts free).1;
         delivers = of_first.delivers;
       }

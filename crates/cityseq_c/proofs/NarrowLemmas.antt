@@ -17,14 +17,16 @@ use Rattle.cj_stream.specs.declared.running.Outcome.{Outcome}
 use Rattle.cj_stream.specs.Bound.{contents, exact_peaks, greatest, held_length, is_legible, is_readable, is_text, of_first, tree_nest, tree_size, IsBounded, IsExact, IsBelow}
 use Rattle.cj_stream.specs.Engine.{Counts, Delivers, Faults}
 use Rattle.cj_stream.specs.Headline.{IsUnhindered}
-use Rattle.cj_stream.specs.Item.{Item, is_feature}
+use Rattle.cj_stream.specs.Item.{is_feature}
 use Rattle.cj_stream.specs.Lines.{Line, ended_line, later_of, lines, raw}
 use Rattle.cj_stream.specs.Run.{CountsAll, Ends}
-use Rattle.cj_stream.specs.Sink.{Took}
-use Rattle.cj_stream.specs.Verdict.{Rules, ending, ending_of, good, good_from, is_kept, item_after, kept, kept_first, kept_from, refusal_from, refusal_in, reported, reported_first, reported_from, text_verdict, verdict, verdict_at}
+use Rattle.cj_stream.specs.Sink.{Took, SinkLaw}
+use Rattle.cj_stream.specs.Verdict.{Rules, ending, ending_of, good, good_from, is_kept, item_after, kept, kept_first}
+use Rattle.cj_stream.specs.Verdict.{kept_from, refusal_from, refusal_in, reported, reported_first, reported_from}
+use Rattle.cj_stream.specs.Verdict.{text_verdict, verdict, verdict_at, stretch, up_to, stream_of}
 use Rattle.cj_stream.proofs.IsLinesLemmas.{lines-are_lines}
 use Rattle.cj_stream.proofs.PartsLemmas.{lines-headed}
-use Rattle.cityseq_c.specs.Judged.{IsJudged, Judged, Tells}
+use Rattle.cityseq_c.specs.Judged.{IsJudged, Judged, Tells, lent}
 use Rattle.cityseq_c.specs.ReportSlice.{Holds}
 use Rattle.cityseq_c.specs.Query.{DeclinesCall}
 use Rattle.cityseq_c.specs.Request.{AreCut, IsAsked, IsFit, needed_limits}
@@ -240,8 +242,9 @@ module _ (rules : Rules) (m : ℕ) (low : m ≤ rules.limits.line) where
     ends-text n WriteFault judged x = tt
     ends-text n NoMemory judged x = absurd judged
 
-    module _ {S : Type 0} (takes leaves : S → Item → S → Type 0) where
-      faults-text : (n : ℕ) (a b : S) (e : End) → Faults leaves narrow s n a b (Some e) → Faults leaves rules s n a b (Some e)
+    module _ {S : Type 0} (law : SinkLaw S) where
+      faults-text : (n : ℕ) (a b : S) (e : End) → Faults law (up_to narrow s n) a b (Some e)
+          → Faults law (up_to rules s n) a b (Some e)
       faults-text n a b Complete x = x
       faults-text n a b (Refused line place reason) x = x
       faults-text n a b ReadFault x = x
@@ -250,7 +253,8 @@ module _ (rules : Rules) (m : ℕ) (low : m ≤ rules.limits.line) where
       faults-text n a b WriteFault x =
           (x.0, x.1, ap is_kept (sym (verdict-same (take n (lines s)) x.0.content (short-at m n x.0 (lines s) short x.1))) ∙ x.2, x.3)
 
-      delivers-text : (from to : ℕ) (a b : S) (e : End) → Delivers takes leaves narrow s from to a b (Some e) → Delivers takes leaves rules s from to a b (Some e)
+      delivers-text : (from to : ℕ) (a b : S) (e : End) → Delivers law (stretch narrow s from to) a b (Some e)
+          → Delivers law (stretch rules s from to) a b (Some e)
       delivers-text from to a b e x = record {
         added = x.added;
         middle = x.middle;
@@ -259,7 +263,9 @@ module _ (rules : Rules) (m : ℕ) (low : m ≤ rules.limits.line) where
         fault = faults-text to x.middle b e x.fault;
       }
 
-      judged-text : (o : Outcome) (a b : S) (old new : List Told) → Judged takes leaves narrow s o a b old new → Judged takes leaves rules s o a b old new
+      judged-text : (o : Outcome) (a b : S) (old new : List Told)
+          → Judged law (stream_of narrow s) o (lent a old) (lent b new)
+          → Judged law (stream_of rules s) o (lent a old) (lent b new)
       judged-text o a b old new x =
           let t = x.tells in
           record {
@@ -276,14 +282,17 @@ module _ (rules : Rules) (m : ℕ) (low : m ≤ rules.limits.line) where
               reports = λ free. subst (λ z. Holds s z old new) reported-text (t.reports free);
               first = subst (λ z. Holds s z old new) (reported_first-text o.lines) t.first;
             };
-            took = λ free. subst (λ z. Took takes a z b) kept-text (x.took free);
+            took = λ free. subst (λ z. Took law.takes a z b) kept-text (x.took free);
             delivers = delivers-text 0 o.lines a b o.ended x.delivers;
           }
 
 -- a header and a part that were judged by the limits that they need are judged as by the limits that were asked for
-pub judged-as-asked : {S : Type 0} (takes leaves : S → Item → S → Type 0) (rules : Rules) (header part : List ℕ) (o : Outcome) (a b : S) (old new : List Told) → AreCut header part
-    → Judged takes leaves (record rules { limits = needed_limits rules.limits header part }) (header ++ part) o a b old new → Judged takes leaves rules (header ++ part) o a b old new
-judged-as-asked takes leaves rules header part o a b old new cut x = go (cases_lt longest rules.limits.line)
+pub judged-as-asked : {S : Type 0} (law : SinkLaw S) (rules : Rules) (header part : List ℕ) (o : Outcome) (a b : S)
+    (old new : List Told) → AreCut header part
+    → Judged law (stream_of (record rules { limits = needed_limits rules.limits header part }) (header ++ part)) o
+    (lent a old) (lent b new)
+    → Judged law (stream_of rules (header ++ part)) o (lent a old) (lent b new)
+judged-as-asked law rules header part o a b old new cut x = go (cases_lt longest rules.limits.line)
   where
     longest : ℕ
     longest = max 1 (max (length header) (length part))
@@ -291,21 +300,30 @@ judged-as-asked takes leaves rules header part o a b old new cut x = go (cases_l
     least : ℕ
     least = min rules.limits.line longest
 
-    go : (longest < rules.limits.line) ⊎ (rules.limits.line ≤ longest) → Judged takes leaves rules (header ++ part) o a b old new
+    go : (longest < rules.limits.line) ⊎ (rules.limits.line ≤ longest) → Judged law (stream_of rules (header ++ part)) o
+        (lent a old) (lent b new)
     go (inl fewer) =
         let low : least ≤ rules.limits.line = omega arith in
-        judged-text rules least low (header ++ part) (short-cut least header part cut (omega (arith, fewer)) (omega (arith, fewer))) takes leaves o a b old new x
+        judged-text rules least low (header ++ part) (short-cut least header part cut (omega (arith, fewer))
+        (omega (arith, fewer))) law o a b old new x
     go (inr enough) =
         let same : least ≡ rules.limits.line = min-eq_left enough in
-        subst (λ z. Judged takes leaves (record rules { limits = record { line = z; depth = rules.limits.depth } }) (header ++ part) o a b old new) same x
+        subst (λ z. Judged law (stream_of (record rules { limits = record { line = z; depth = rules.limits.depth } })
+        (header ++ part)) o (lent a old) (lent b new)) same x
 
-module _ {S : Type 0} (takes leaves : S → Item → S → Type 0) (r : Request) (header part : List ℕ) (a b : S) (old new : List Told) (fit : IsFit r header part) where
+module _ {S : Type 0} (law : SinkLaw S) (r : Request) (header part : List ℕ) (a b : S) (old new : List Told)
+    (fit : IsFit r header part) where
   -- so a call that judged by these answers by the rules of its request
   pub asked-ok : (rules used : Rules) (went : Result Outcome NotJudged) → IsAsked r rules → used ≡ record rules { limits = needed_limits rules.limits header part }
-      → IfOk went (λ o. Judged takes leaves used (header ++ part) o a b old new)
-      → IfOk went (λ o. (x : Rules) × IsAsked r x × Judged takes leaves x (header ++ part) o a b old new)
-  asked-ok rules used (Ok o) asked same judged =
-      (rules, asked, judged-as-asked takes leaves rules header part o a b old new fit.cut (subst (λ z. Judged takes leaves z (header ++ part) o a b old new) same judged))
+      → IfOk went (λ o. Judged law (stream_of used (header ++ part)) o (lent a old) (lent b new))
+      → IfOk went (λ o. (x : Rules) × IsAsked r x × Judged law (stream_of x (header ++ part)) o
+      (lent a old) (lent b new))
+  asked-ok rules used (Ok o) asked same judged = (
+    rules,
+    asked,
+    judged-as-asked law rules header part o a b old new fit.cut
+        (subst (λ z. Judged law (stream_of z (header ++ part)) o (lent a old) (lent b new)) same judged),
+  )
   asked-ok rules used (Err why) asked same judged = tt
 
   -- and it is declined for want of memory alone

@@ -7,13 +7,13 @@ use Rattle.cj_stream.specs.Engine.{Faults}
 use Rattle.cj_stream.specs.Headline.{IsUnhindered}
 use Rattle.cj_stream.specs.Item.{Item, raw_item}
 use Rattle.cj_stream.specs.Sink.{Took}
-use Rattle.cj_stream.specs.Verdict.{Rules, kept, kept_first, output}
+use Rattle.cj_stream.specs.Verdict.{Rules, kept, kept_first, output, up_to, stream_of}
 use Rattle.cj_stream.specs.declared.running.Outcome.{Outcome}
 use Rattle.cityseq_c.proofs.FitLemmas.{first-fits}
 use Rattle.cityseq_c.specs.Called.{Copied, IsFull, IsWritten}
-use Rattle.cityseq_c.specs.Judged.{Judged}
+use Rattle.cityseq_c.specs.Judged.{Judged, lent}
 use Rattle.cityseq_c.specs.declared.report_slice.Told.{Told}
-use Rattle.cityseq_c.specs.Room.{room_bytes, room_loan, written_of, in_room, GrowsBy, StaysAt}
+use Rattle.cityseq_c.specs.Room.{room_bytes, room_loan, written_of, in_room, room_law}
 use Rattle.cityseq_c.specs.declared.room.Room.{Room}
 
 -- items were written behind what was there
@@ -23,7 +23,7 @@ pub record Written (a b : Room) (xs : List Item) : Type 0 where
   pub count : written_of b ≡ written_of a + length (flat_map raw_item xs)
   pub bytes : in_room b ≡ in_room a ++ flat_map raw_item xs
 
-pub all-written : (a b : Room) (xs : List Item) → Took GrowsBy a xs b → Written a b xs
+pub all-written : (a b : Room) (xs : List Item) → Took room_law.takes a xs b → Written a b xs
 all-written a b [] h = rw h (record {
   loan = refl;
   size = refl;
@@ -41,13 +41,16 @@ all-written a b (x ∷ xs) h =
     }
 
 -- what is in room that was empty
-in-empty : (a b : Room) (xs : List Item) → Took GrowsBy a xs b → written_of a ≡ 0 → (written_of b ≡ length (flat_map raw_item xs)) × (in_room b ≡ flat_map raw_item xs)
+in-empty : (a b : Room) (xs : List Item) → Took room_law.takes a xs b → written_of a ≡ 0
+    → (written_of b ≡ length (flat_map raw_item xs)) × (in_room b ≡ flat_map raw_item xs)
 in-empty a b xs took none =
     let w = all-written a b xs took in
     (omega (arith, w.count, none), w.bytes ∙ ap (λ n. take n (room_bytes a) ++ flat_map raw_item xs) none)
 
 module _ (rules : Rules) (text : List ℕ) (o : Outcome) (a b : Room) (old new : List Told) (out : List ℕ) (written : ℕ)
-    (j : Judged GrowsBy StaysAt rules text o a b old new) (none : written_of a ≡ 0) (back : room_loan b ≡ room_loan a → out ≡ room_bytes b) (count : written ≡ written_of b) where
+    (j : Judged room_law (stream_of rules text) o (lent a old) (lent b new)) (none : written_of a ≡ 0)
+    (back : room_loan b ≡ room_loan a
+    → out ≡ room_bytes b) (count : written ≡ written_of b) where
   all-copied : IsUnhindered o.ended → IsWritten (output rules text) out written
   all-copied free =
       let took = j.took free in
@@ -60,7 +63,7 @@ module _ (rules : Rules) (text : List ℕ) (o : Outcome) (a b : Room) (old new :
   when-full : o.ended ≡ WriteFault → IsFull rules text out written o.lines
   when-full is =
       let d = j.delivers in
-      let fault = subst (λ e. Faults StaysAt rules text o.lines d.middle b (Some e)) is d.fault in
+      let fault = subst (λ e. Faults room_law (up_to rules text o.lines) d.middle b (Some e)) is d.fault in
       let items : d.added ≡ kept_first rules o.lines text = sym d.kept in
       let here = in-empty a d.middle d.added d.took none in
       let stays = fault.3 in

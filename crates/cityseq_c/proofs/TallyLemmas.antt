@@ -15,17 +15,20 @@ use Rattle.cj_stream.specs.Parts.{headed, wider, IsCut, JoinsTallies}
 use Rattle.cj_stream.specs.Tallied.{capped}
 use Rattle.cj_stream.specs.TallySink.{no_tally, last_shown, IsTallyOf, Tallies, TalliesRun, Tally as Tallied}
 use Rattle.cj_stream.specs.Lines.{ended_line, lines}
-use Rattle.cj_stream.specs.Verdict.{Rules, ending, item_after, kept, kept_from}
+use Rattle.cj_stream.specs.Verdict.{Rules, ending, item_after, kept, kept_from, stream_of}
+use Rattle.cj_stream.specs.Sink.{never_fails}
 use Rattle.cj_stream.proofs.PartsLemmas.{front-good, header-valid, kept-first}
 use Rattle.cityseq_c.specs.Called.{IsTalliedOf}
-use Rattle.cityseq_c.specs.Judged.{Judged}
+use Rattle.cityseq_c.specs.Judged.{Judged, lent}
 use Rattle.cityseq_c.specs.Tally.{AreShown, HasCounts, IsTally}
 use Rattle.cityseq_c.specs.declared.report_slice.Told.{Told}
 use Rattle.cityseq_c.specs.declared.tally.Tally.{Tally}
 
 -- without a hindrance the tally is that of all that is kept
-pub tallied : (rules : Rules) (text : List ℕ) (o : Outcome) (start t : Tallied) (old new : List Told) → Judged Tallies (λ a i b. ⊥) rules text o start t old new → start ≡ no_tally
-    → (told : Tally) → IsTally t told → (start ≡ no_tally → Puts Tallies (λ a i b. ⊥) rules text Complete start t → TalliesRun rules text Complete t)
+pub tallied : (rules : Rules) (text : List ℕ) (o : Outcome) (start t : Tallied) (old new : List Told)
+    → Judged (never_fails Tallies) (stream_of rules text) o (lent start old) (lent t new) → start ≡ no_tally
+    → (told : Tally) → IsTally t told → (start ≡ no_tally → Puts (never_fails Tallies) (stream_of rules text) Complete
+    start t → TalliesRun (stream_of rules text) Complete t)
     → IsUnhindered o.ended → IsTalliedOf rules text told
 tallied rules text o start t old new j fresh told same law free = record { tallied = t; all = law fresh (j.took free); told = same }
 

@@ -20,25 +20,39 @@ use Rattle.cityseq_c.specs.declared.request.NotJudged.{NotJudged}
 use Rattle.cityseq_c.specs.declared.request.Request.{Request}
 use Rattle.cityseq_c.specs.declared.tally.Tally.{Tally}
 
--- A call over a header and a part, by how it went: they were judged, as one stream, by the rules that were asked for,
--- and this is told of it, with what else comes of these; or nothing was read, for what is wrong or for want of memory,
--- and no room has changed.
-abbrev pub Goes : Request → List ℕ → List ℕ → List Told → List Told → (Rules → Outcome → Type 0)
-    → Result Outcome NotJudged → Type 0
-Goes r header part old new also (Ok outcome) =
-    (rules : Rules) × IsAsked r rules × Tells rules (header ++ part) outcome old new × also rules outcome
-Goes r header part old new also (Err why) = DeclinesCall r header part why × (new ≡ old)
+-- a call: the request, a header and a part, and the room for reports, before and after
+pub record Call : Type 0 where
+  pub request : Request
+  pub header : List ℕ
+  pub part : List ℕ
+  pub old : List Told
+  pub new : List Told
 
--- a call answers by how it went, where so many bytes of output were written
-pub record Calls (r : Request) (header part : List ℕ) (old new : List Told) (also : Rules → Outcome → Type 0)
-    (written : ℕ) (answer : Answer) : Type 0 where
+abbrev pub call : Request → List ℕ → List ℕ → List Told → List Told → Call
+call request header part old new =
+    record { request = request; header = header; part = part; old = old; new = new }
+
+-- the stream that is judged
+abbrev pub text_of : Call → List ℕ
+text_of c = c.header ++ c.part
+
+-- A call, by how it went: header and part were judged, as one stream, by the rules that were asked for, and this is
+-- told of it, with what else comes of these; or nothing was read, for what is wrong or for want of memory, and no room
+-- has changed.
+abbrev pub Goes : Call → (Rules → Outcome → Type 0) → Result Outcome NotJudged → Type 0
+Goes c also (Ok outcome) =
+    (rules : Rules) × IsAsked c.request rules × Tells rules (text_of c) outcome c.old c.new × also rules outcome
+Goes c also (Err why) = DeclinesCall c.request c.header c.part why × (c.new ≡ c.old)
+
+-- it answers by how it went, where so many bytes of output were written
+pub record Calls (c : Call) (also : Rules → Outcome → Type 0) (written : ℕ) (answer : Answer) : Type 0 where
   pub went : Result Outcome NotJudged
-  pub goes : Goes r header part old new also went
+  pub goes : Goes c also went
   pub told : answer ≡ answer_to went written
 
 -- a check
-abbrev pub Checks : Request → List ℕ → List ℕ → List Told → List Told → Answer → Type 0
-Checks r header part old new answer = Calls r header part old new (λ rules outcome. Unit {0}) 0 answer
+abbrev pub Checks : Call → Answer → Type 0
+Checks c answer = Calls c (λ rules outcome. Unit {0}) 0 answer
 
 -- these bytes were written to room, and so many they are
 pub record IsWritten (bytes out : List ℕ) (written : ℕ) : Type 0 where
@@ -61,10 +75,9 @@ pub record Copied (rules : Rules) (text out : List ℕ) (written : ℕ) (outcome
   pub enough : length text ≤ length out → outcome.ended ≢ WriteFault
 
 -- a filter, with what was lent for the output as it is then
-abbrev pub Filters : Request → List ℕ → List ℕ → List ℕ → List Told → List Told → Answer → Type 0
-Filters r header part out old new answer =
-    Calls r header part old new (λ rules outcome. Copied rules (header ++ part) out answer.written outcome)
-    answer.written answer
+abbrev pub Filters : Call → List ℕ → Answer → Type 0
+Filters c out answer =
+    Calls c (λ rules outcome. Copied rules (text_of c) out answer.written outcome) answer.written answer
 
 -- the tally is that of what is kept of a text
 pub record IsTalliedOf (rules : Rules) (text : List ℕ) (tally : Tally) : Type 0 where
@@ -73,18 +86,15 @@ pub record IsTalliedOf (rules : Rules) (text : List ℕ) (tally : Tally) : Type 
   pub told : IsTally tallied tally
 
 -- a tally
-abbrev pub TalliesPart : Request → List ℕ → List ℕ → Tally → List Told → List Told → Answer → Type 0
-TalliesPart r header part tally old new answer =
-    Calls r header part old new (λ rules outcome. IsUnhindered outcome.ended
-    → IsTalliedOf rules (header ++ part) tally) 0 answer
+abbrev pub TalliesPart : Call → Tally → Answer → Type 0
+TalliesPart c tally answer =
+    Calls c (λ rules outcome. IsUnhindered outcome.ended → IsTalliedOf rules (text_of c) tally) 0 answer
 
 -- nothing was judged: the request is wrong, or no memory was granted
 abbrev pub IsUnjudged : Answer → Type 0
 IsUnjudged answer = (answer.status ≡ 2) ⊎ (answer.status ≡ 5)
 
 -- records of features, in room that is as it was where nothing was judged
-abbrev pub Lists : Request → List ℕ → List ℕ → List FeatureRecord → List FeatureRecord → List Told → List Told
-    → Answer → Type 0
-Lists r header part before after old new answer =
-    Calls r header part old new (λ rules outcome. IsUnhindered outcome.ended
-    → HoldsRecords (spots rules (header ++ part)) before after) 0 answer
+abbrev pub Lists : Call → List FeatureRecord → List FeatureRecord → Answer → Type 0
+Lists c before after answer =
+    Calls c (λ rules outcome. IsUnhindered outcome.ended → HoldsRecords (spots rules (text_of c)) before after) 0 answer

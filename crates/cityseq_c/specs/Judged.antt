@@ -5,10 +5,9 @@ use Rattle.cj_stream.specs.declared.ending.End.TheVariants.{Complete, Refused, R
 use Rattle.cj_stream.specs.declared.running.Outcome.{Outcome}
 use Rattle.cj_stream.specs.Engine.{Delivers}
 use Rattle.cj_stream.specs.Headline.{IsUnhindered}
-use Rattle.cj_stream.specs.Item.{Item}
 use Rattle.cj_stream.specs.Run.{Account, CountsAll, Run}
-use Rattle.cj_stream.specs.Sink.{Took}
-use Rattle.cj_stream.specs.Verdict.{Rules, ending, kept, reported, reported_first}
+use Rattle.cj_stream.specs.Sink.{Took, SinkLaw}
+use Rattle.cj_stream.specs.Verdict.{Rules, Stream, ending, kept, reported, reported_first, stretch}
 use Rattle.cityseq_c.specs.ReportSlice.{Holds}
 use Rattle.cityseq_c.specs.declared.report_slice.Told.{Told}
 
@@ -16,10 +15,8 @@ use Rattle.cityseq_c.specs.declared.report_slice.Told.{Told}
 abbrev pub IsJudged : End → Type 0
 IsJudged Complete = Unit {0}
 IsJudged (Refused line place reason) = Unit {0}
-IsJudged ReadFault = ⊥
-IsJudged ReadLimit = ⊥
 IsJudged WriteFault = Unit {0}
-IsJudged Memory = ⊥
+IsJudged other = ⊥
 
 -- a run that read all of a text
 abbrev pub run_over : Rules → List ℕ → Outcome → Run
@@ -36,10 +33,17 @@ pub record Tells (rules : Rules) (text : List ℕ) (outcome : Outcome) (old new 
   pub reports : IsUnhindered outcome.ended → Holds text (reported rules text) old new
   pub first : Holds text (reported_first rules outcome.lines text) old new
 
+-- what is lent for the lines of a text: a sink for the kept ones, and room for reports
+pub record Lent (S : Type 0) : Type 0 where
+  pub sink : S
+  pub reports : List Told
+
+abbrev pub lent : {S : Type 0} → S → List Told → Lent S
+lent sink reports = record { sink = sink; reports = reports }
+
 -- a text was judged: what is told of it, and what a sink took: all that is kept of it, or that of the lines that were
 -- dealt with, and then what a fault may leave
-pub record Judged {S : Type 0} (takes leaves : S → Item → S → Type 0) (rules : Rules) (text : List ℕ)
-    (outcome : Outcome) (s t : S) (old new : List Told) : Type 0 where
-  pub tells : Tells rules text outcome old new
-  pub took : IsUnhindered outcome.ended → Took takes s (kept rules text) t
-  pub delivers : Delivers takes leaves rules text 0 outcome.lines s t (Some outcome.ended)
+pub record Judged {S : Type 0} (law : SinkLaw S) (text : Stream) (outcome : Outcome) (old new : Lent S) : Type 0 where
+  pub tells : Tells text.rules text.bytes outcome old.reports new.reports
+  pub took : IsUnhindered outcome.ended → Took law.takes old.sink (kept text.rules text.bytes) new.sink
+  pub delivers : Delivers law (stretch text.rules text.bytes 0 outcome.lines) old.sink new.sink (Some outcome.ended)

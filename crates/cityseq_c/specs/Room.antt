@@ -1,7 +1,7 @@
 -- What contracts see of bytes that are lent for an output.
 use Rattle.std.specs.Prelude.{◌≡◌, ℕ, ◌+◌, ◌<◌, List, ◌++◌, length, take}
-use Rattle.cj_stream.specs.Item.{Item, raw_item}
-use Rattle.cj_stream.specs.Sink.{HasRisen}
+use Rattle.cj_stream.specs.Item.{raw_item}
+use Rattle.cj_stream.specs.Sink.{SinkLaw, HasRisen}
 use Rattle.cityseq_c.specs.declared.room.Room.{Room}
 
 -- the bytes, which loan of them it is, how many of them are written, and how often a line did not fit
@@ -38,8 +38,9 @@ pub record Stays (a : Room) (bs : List ℕ) (b : Room) : Type 0 where
   pub failures : HasRisen (room_failures a) (room_failures b)
 
 -- the same of the bytes of an item
-abbrev pub GrowsBy : Room → Item → Room → Type 0
-GrowsBy a i b = Grows a (raw_item i) b
-
-abbrev pub StaysAt : Room → Item → Room → Type 0
-StaysAt a i b = Stays a (raw_item i) b
+abbrev pub room_law : SinkLaw Room
+room_law = record {
+  takes = λ a i b. Grows a (raw_item i) b;
+  leaves = λ a i b. Stays a (raw_item i) b;
+  failures = room_failures;
+}

@@ -2,8 +2,8 @@
 ghost use Rattle.std.specs.Prelude.{◌≡◌, ◌↔◌, ◌+◌, ◌++◌, ◌≤◌, ◌^◌, IsTrue, IfOk, IfErr, OnErr, OnOk, length};
 ghost use Rattle.cj_stream.specs.Engine.{IsFresh, rules_of};
 ghost use Rattle.cj_stream.specs.Sink.{HasRisen};
-ghost use Rattle.cj_stream.specs.Verdict.{Rules};
-ghost use Rattle.cityseq_c.specs.Judged.{Judged};
+ghost use Rattle.cj_stream.specs.Verdict.{Rules, stream_of};
+ghost use Rattle.cityseq_c.specs.Judged.{Judged, lent};
 ghost use Rattle.cityseq_c.specs.Query.{DeclinesCall};
 ghost use Rattle.cityseq_c.specs.Request.{AreCut, IsAsked, IsFit, needed_limits, options_of};
 
@@ -83,10 +83,10 @@ fn judge_stream<S: LineSink>(
     requires fresh { IsFresh engine.old }
     requires cut { AreCut header.now part.now }
     requires short { length header.now + length part.now ≤ 2 ^ 60 }
-    ensures ok { IfOk result (λ outcome. Judged S.takes S.leaves (rules_of engine.old) (header.now ++ part.now) outcome
-        sink.old sink.new reports.old reports.new) }
+    ensures ok { IfOk result (λ outcome. Judged S.law (stream_of (rules_of engine.old) (header.now ++ part.now)) outcome
+        (lent sink.old reports.old) (lent sink.new reports.new)) }
     ensures cause { IfOk result (λ outcome. outcome.ended ≡ End.WriteFault
-        → HasRisen (S.failures sink.old) (S.failures sink.new)) }
+        → HasRisen (S.law.failures sink.old) (S.law.failures sink.new)) }
     ensures memory { IfErr result (λ why. why ≡ NotJudged.Memory) }
     ensures unread { OnErr result ((sink.new ≡ sink.old) × (reports.new ≡ reports.old)) }
 {
@@ -121,10 +121,11 @@ pub fn judge<S: LineSink>(
     reports: &mut [Told],
 ) -> Result<Outcome, NotJudged>
     ensures ok { IfOk result (λ outcome. (rules : Rules) × IsAsked request.now rules
-        × Judged S.takes S.leaves rules (header.now ++ part.now) outcome sink.old sink.new reports.old reports.new) }
+        × Judged S.law (stream_of rules (header.now ++ part.now)) outcome (lent sink.old reports.old)
+        (lent sink.new reports.new)) }
     ensures fit { OnOk result (IsFit request.now header.now part.now) }
     ensures cause { IfOk result (λ outcome. outcome.ended ≡ End.WriteFault
-        → HasRisen (S.failures sink.old) (S.failures sink.new)) }
+        → HasRisen (S.law.failures sink.old) (S.law.failures sink.new)) }
     ensures declined { IfErr result (DeclinesCall request.now header.now part.now) }
     ensures unread { OnErr result ((sink.new ≡ sink.old) × (reports.new ≡ reports.old)) }
 {

@@ -29,7 +29,7 @@ ghost use Rattle.cj_stream.specs.Tallied.{capped};
 ghost use Rattle.cj_stream.specs.Verdict.{Rules, ending};
 ghost use Rattle.cj_stream.specs.declared.ending.End.{End};
 ghost use Rattle.cityseq_c.specs.Answer.{not_judged};
-ghost use Rattle.cityseq_c.specs.Called.{Checks, Filters, IsTalliedOf, IsUnjudged, Lists, TalliesPart};
+ghost use Rattle.cityseq_c.specs.Called.{Checks, Filters, IsTalliedOf, IsUnjudged, Lists, TalliesPart, call};
 ghost use Rattle.cityseq_c.specs.Cutting.{part_end};
 ghost use Rattle.cityseq_c.specs.Joined.{IsAnswerOf};
 ghost use Rattle.cityseq_c.specs.Memory.{memory_bytes};
@@ -95,7 +95,7 @@ pub extern "C" fn cityseq_check(
     request: &Request<'_>,
     reports: &mut [Told],
 ) -> Answer
-    ensures checks { Checks request.now header.now part.now reports.old reports.new result }
+    ensures checks { Checks (call request.now header.now part.now reports.old reports.new) result }
     ensures fits { result.status ≢ 4 }
     ensures unjudged { IsUnjudged result
         → (result ≡ not_judged result.status result.code) × (reports.new ≡ reports.old) }
@@ -117,7 +117,7 @@ pub extern "C" fn cityseq_filter(
     output: &mut [u8],
     reports: &mut [Told],
 ) -> Answer
-    ensures filters { Filters request.now header.now part.now output.new reports.old reports.new result }
+    ensures filters { Filters (call request.now header.now part.now reports.old reports.new) output.new result }
     ensures unjudged { IsUnjudged result → (result ≡ not_judged result.status result.code) × (reports.new ≡ reports.old)
         × (output.new ≡ output.old) }
 {
@@ -137,7 +137,7 @@ pub extern "C" fn cityseq_info(
     tally: &mut Tally,
     reports: &mut [Told],
 ) -> Answer
-    ensures tallies { TalliesPart request.now header.now part.now tally.new reports.old reports.new result }
+    ensures tallies { TalliesPart (call request.now header.now part.now reports.old reports.new) tally.new result }
     ensures fits { result.status ≢ 4 }
     ensures unjudged { IsUnjudged result → (result ≡ not_judged result.status result.code) × (reports.new ≡ reports.old)
         × (tally.new ≡ tally.old) }
@@ -162,7 +162,8 @@ pub extern "C" fn cityseq_features(
     records: &mut [FeatureRecord],
     reports: &mut [Told],
 ) -> Answer
-    ensures lists { Lists request.now header.now part.now records.old records.new reports.old reports.new result }
+    ensures lists { Lists (call request.now header.now part.now reports.old reports.new) records.old
+        records.new result }
     ensures fits { result.status ≢ 4 }
     ensures unjudged { IsUnjudged result → (result ≡ not_judged result.status result.code) × (reports.new ≡ reports.old)
         × (records.new ≡ records.old) }

@@ -72,13 +72,9 @@ impl<'a> Room<'a> {
 }
 
 impl LineSink for Room<'_> {
-    ghost use Rattle.cityseq_c.specs.Room.{GrowsBy, StaysAt, room_failures};
+    ghost use Rattle.cityseq_c.specs.Room.{room_law};
 
-    ghost takes = { GrowsBy };
-
-    ghost leaves = { StaysAt };
-
-    ghost failures = { room_failures };
+    ghost law = { room_law };
 
     fn header(&mut self, header: &Header<'_>, lf: bool) -> Result<(), WriteFault> {
         self.write_line(header.bytes(), lf)

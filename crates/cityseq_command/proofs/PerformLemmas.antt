@@ -9,17 +9,17 @@ use Rattle.cj_stream.specs.declared.output.WriteFault.{WriteFault as Unwritten}
 use Rattle.cj_stream.specs.declared.report_sink.Report.{Report}
 use Rattle.cj_stream.specs.declared.running.Outcome.{Outcome}
 use Rattle.cj_stream.specs.Engine.{Counts}
-use Rattle.cj_stream.specs.Headline.{Headline}
+use Rattle.cj_stream.specs.Headline.{Headline, fate_of, outputs}
 use Rattle.cj_stream.specs.Item.{is_feature}
 use Rattle.cj_stream.specs.Output.{Channel}
 use Rattle.cj_stream.specs.ReportSink.{Collects}
 use Rattle.cj_stream.specs.Run.{Run, Gave, IsReadWithin, RunsNoting, Writes, WritesLines}
 use Rattle.cj_stream.specs.Sink.{HasRisen, RisesOnErr, AppendsPart, Took}
-use Rattle.cj_stream.specs.Verdict.{Rules, good, kept, kept_first, reported, reported_first}
+use Rattle.cj_stream.specs.Verdict.{Rules, good, kept, kept_first, reported, reported_first, up_to, stream_of}
 use Rattle.cj_stream.specs.Bound.{exact_peaks}
 use Rattle.cj_stream.specs.TallySink.{Tally, IsTallyOf, no_tally}
 use Rattle.cj_stream.specs.Query.{rules_for}
-use Rattle.cityseq_command.specs.Performed.{end_of_writing, Says, SaysCheck, SaysSummary, Answers}
+use Rattle.cityseq_command.specs.Performed.{end_of_writing, Says, SaysCheck, SaysSummary, Answers, went}
 use Rattle.cityseq_command.specs.FaultLines.{Wrote}
 use Rattle.cityseq_command.specs.ReportWriter.{AreReported}
 use Rattle.cityseq_command.specs.declared.ask.Ask.{Ask}
@@ -46,7 +46,8 @@ Appends-kept (Some a) (Some b) (Some c) x p q = q ∙ p
 AppendsPart-kept : (a b c : Option (List ℕ)) (x : List ℕ) → AppendsPart a b x → Keeps b c → AppendsPart a c x
 AppendsPart-kept a b c x p q = record { front = p.front; rest = p.rest; whole = p.whole; grows = Appends-kept a b c p.front p.grows q }
 
-Writes-kept : (rules : Rules) (r : List ℕ) (e : End) (a b c : Option (List ℕ)) → Writes rules r e a b → Keeps b c → Writes rules r e a c
+Writes-kept : (rules : Rules) (r : List ℕ) (e : End) (a b c : Option (List ℕ)) → Writes (stream_of rules r) e a b
+    → Keeps b c → Writes (stream_of rules r) e a c
 Writes-kept rules r Complete a b c h k = Appends-kept a b c _ h k
 Writes-kept rules r (Refused line place reason) a b c h k = Appends-kept a b c _ h k
 Writes-kept rules r ReadFault a b c h k = Appends-kept a b c _ h k
@@ -54,7 +55,8 @@ Writes-kept rules r ReadLimit a b c h k = Appends-kept a b c _ h k
 Writes-kept rules r WriteFault a b c h k = AppendsPart-kept a b c _ h k
 Writes-kept rules r Memory a b c h k = AppendsPart-kept a b c _ h k
 
-WritesLines-kept : (rules : Rules) (r : List ℕ) (n : ℕ) (e : End) (a b c : Option (List ℕ)) → WritesLines rules r n e a b → Keeps b c → WritesLines rules r n e a c
+WritesLines-kept : (rules : Rules) (r : List ℕ) (n : ℕ) (e : End) (a b c : Option (List ℕ))
+    → WritesLines (up_to rules r n) e a b → Keeps b c → WritesLines (up_to rules r n) e a c
 WritesLines-kept rules r n Complete a b c h k = Appends-kept a b c _ h k
 WritesLines-kept rules r n (Refused line place reason) a b c h k = Appends-kept a b c _ h k
 WritesLines-kept rules r n ReadFault a b c h k = Appends-kept a b c _ h k
@@ -126,14 +128,14 @@ Reported-told notes run n m told collected = record { collected = collected; too
 -- a check or a summary after a complete run, of what that counted
 pub Says-check : (rules : Rules) (r : List ℕ) (n m k : ℕ) (written : Result (Unit {0}) Unwritten) (told : End) (old new : Channel)
     → n ≡ length (good rules r) → m ≡ length (filter is_feature (kept rules r)) → k ≡ length (reported rules r) → told ≡ end_of_writing written
-    → Wrote (check_text n m k) written old new → SaysCheck rules r Complete told old new
+    → Wrote (check_text n m k) written old new → SaysCheck (stream_of rules r) Complete told old new
 Says-check rules r n m k written told old new lines features refused tells wrote =
     let now : Wrote (check_text (length (good rules r)) (length (filter is_feature (kept rules r))) (length (reported rules r))) written old new = rw (← lines, ← features, ← refused) wrote in
     (written, tells, now)
 
 pub Says-summary : (rules : Rules) (r : List ℕ) (n : ℕ) (t : Tally) (peaks : Peaks) (written : Result (Unit {0}) Unwritten) (told : End) (old new : Channel)
     → n ≡ length (good rules r) → IsTallyOf (kept rules r) t → peaks ≡ exact_peaks rules.limits r → told ≡ end_of_writing written
-    → Wrote (summary_text n t peaks) written old new → SaysSummary rules r Complete told old new
+    → Wrote (summary_text n t peaks) written old new → SaysSummary (stream_of rules r) Complete told old new
 Says-summary rules r n t peaks written told old new lines tally held tells wrote = record {
   tally = t;
   counted = λ e. tally;
@@ -142,22 +144,28 @@ Says-summary rules r n t peaks written told old new lines tally held tells wrote
 }
 
 -- nothing was reported after a run that is not complete
-pub Says-no_summary : (rules : Rules) (r : List ℕ) (e : End) (a : Channel) → (e ≡ Complete → ⊥) → (e ≡ WriteFault → ⊥) → SaysSummary rules r e e a a
+pub Says-no_summary : (rules : Rules) (r : List ℕ) (e : End) (a : Channel) → (e ≡ Complete → ⊥) → (e ≡ WriteFault → ⊥)
+    → SaysSummary (stream_of rules r) e e a a
 Says-no_summary rules r e a other well = record {
   tally = no_tally;
   counted = λ is. absurd (other is);
   says = Says-nothing _ e a other well;
 }
 
-SaysSummary-kept : (rules : Rules) (r : List ℕ) (e told : End) (a b c : Channel) → SaysSummary rules r e told a b → Keeps b.bytes c.bytes → c.failures ≡ b.failures → SaysSummary rules r e told a c
+SaysSummary-kept : (rules : Rules) (r : List ℕ) (e told : End) (a b c : Channel)
+    → SaysSummary (stream_of rules r) e told a b → Keeps b.bytes c.bytes → c.failures ≡ b.failures
+    → SaysSummary (stream_of rules r) e told a c
 SaysSummary-kept rules r e told a b c says k f = record {
   tally = says.tally;
   counted = says.counted;
   says = Says-kept _ e told a b c says.says k f;
 }
 
-Headline-kept : {N : Type 0} (notes : N → Report → N → Type 0) (rules : Rules) (text given : List ℕ) (e : End) (peaks : Peaks) (a b c : Channel) (n m : N) → Headline notes rules text given e peaks a b n m
-    → Keeps b.bytes c.bytes → c.failures ≡ b.failures → Headline notes rules text given e peaks a c n m
+Headline-kept : {N : Type 0} (notes : N → Report → N → Type 0) (rules : Rules) (text given : List ℕ) (e : End)
+    (peaks : Peaks) (a b c : Channel) (n m : N) → Headline notes (fate_of rules text given e peaks)
+    (outputs a n) (outputs b m)
+    → Keeps b.bytes c.bytes → c.failures ≡ b.failures → Headline notes (fate_of rules text given e peaks)
+    (outputs a n) (outputs c m)
 Headline-kept notes rules text given e peaks a b c n m h k f = record {
   writes = λ u. Appends-kept a.bytes b.bytes c.bytes _ (h.writes u) k;
   gives = h.gives;
@@ -168,8 +176,9 @@ Headline-kept notes rules text given e peaks a b c n m h k f = record {
 }
 
 -- an answer stays where the writer keeps its bytes
-pub Answers-kept : (ask : Ask) (r : List ℕ) (at_end : Type 0) (outcome : Outcome) (reports : List Report) (told : End) (a b c : Channel) → Answers ask r at_end outcome reports told a b
-    → Keeps b.bytes c.bytes → c.failures ≡ b.failures → Answers ask r at_end outcome reports told a c
+pub Answers-kept : (ask : Ask) (r : List ℕ) (at_end : Type 0) (outcome : Outcome) (reports : List Report) (told : End)
+    (a b c : Channel) → Answers ask (went r at_end outcome reports) told a b
+    → Keeps b.bytes c.bytes → c.failures ≡ b.failures → Answers ask (went r at_end outcome reports) told a c
 Answers-kept (Check limits options) r at_end outcome reports told a b c says k f = Says-kept _ outcome.ended told a b c says k f
 Answers-kept (Filter limits query options) r at_end outcome reports told a b c says k f = (
   says.0,
@@ -194,7 +203,8 @@ Says-limit text ReadLimit told old new says is = refl
 Says-limit text WriteFault told old new says is = absurd says
 Says-limit text Memory told old new says is = sym says.0 ∙ is
 
-Answers-limit : (ask : Ask) (r : List ℕ) (at_end : Type 0) (outcome : Outcome) (reports : List Report) (told : End) (old new : Channel) → Answers ask r at_end outcome reports told old new
+Answers-limit : (ask : Ask) (r : List ℕ) (at_end : Type 0) (outcome : Outcome) (reports : List Report) (told : End)
+    (old new : Channel) → Answers ask (went r at_end outcome reports) told old new
     → told ≡ ReadLimit → outcome.ended ≡ ReadLimit
 Answers-limit (Check limits options) r at_end outcome reports told old new says is = Says-limit _ outcome.ended told old new says is
 Answers-limit (Filter limits query options) r at_end outcome reports told old new says is = sym says.0 ∙ is
@@ -208,6 +218,7 @@ limit-reads reads r e is w =
 
 -- of too few bytes it is never told that the reads ran out
 pub enough-told : (ask : Ask) (r : List ℕ) (at_end : Type 0) (outcome : Outcome) (reports : List Report) (told : End) (old new : Channel) (reads : ℕ)
-    → Answers ask r at_end outcome reports told old new → IsReadWithin reads r outcome.ended → length r < reads → told ≡ ReadLimit → ⊥
+    → Answers ask (went r at_end outcome reports) told old new → IsReadWithin reads r outcome.ended → length r < reads
+    → told ≡ ReadLimit → ⊥
 enough-told ask r at_end outcome reports told old new reads says within few is =
     omega (arith, few, limit-reads reads r outcome.ended (Answers-limit ask r at_end outcome reports told old new says is) within)

@@ -89,12 +89,16 @@ abbrev pub WroteAfter : Result (Unit {0}) Unwritten → List ℕ → Result (Uni
 WroteAfter (Ok x) text answer old new = Wrote text answer old new
 WroteAfter (Err f) text answer old new = (answer ≡ Err f) × (new ≡ old)
 
--- a run ended so, its output noted this of the flush after it, and this is shown: the run's end, or a write fault where
--- that flush failed; and the line of that end after a text that came before, of which standard error has taken all, or
--- a prefix where it failed
-pub record ShowsEnd (e : End) (before : List ℕ) (noted : Option (Result (Unit {0}) Unwritten)) (shown : Shown)
-    (old new : Channel) : Type 0 where
+-- standard output and standard error
+pub record Channels : Type 0 where
+  pub out : Channel
+  pub err : Channel
+
+-- a run ended so, its output was flushed, and this is shown: the run's end, or a write fault where that flush failed;
+-- and the line of that end after a text that came before, of which standard error has taken all, or a prefix where it
+-- failed
+pub record ShowsEnd (e : End) (before : List ℕ) (shown : Shown) (old new : Channels) : Type 0 where
   pub flushed : Result (Unit {0}) Unwritten
-  pub told : noted ≡ Some flushed
+  pub told : new.out.flushed ≡ Some flushed
   pub end : shown.end ≡ shown_end flushed e
-  pub line : Wrote (before ++ fault_line shown.end) shown.line old new
+  pub line : Wrote (before ++ fault_line shown.end) shown.line old.err new.err

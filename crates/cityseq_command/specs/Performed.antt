@@ -8,7 +8,7 @@ use Rattle.clap.specs.declared.error.kind.ErrorKind.TheVariants.{OutOfMemory, Di
 use Rattle.cj_budget.specs.Limits.{LimitPair}
 use Rattle.cj_stream.specs.Criteria.{everything}
 use Rattle.cj_stream.specs.Bound.{exact_peaks}
-use Rattle.cj_stream.specs.Headline.{HeadlineOfRun}
+use Rattle.cj_stream.specs.Headline.{HeadlineOfRun, Outputs, outputs}
 use Rattle.cj_stream.specs.Item.{is_feature}
 use Rattle.cj_stream.specs.Options.{OptionSet}
 use Rattle.cj_stream.specs.Query.{rules_for}
@@ -17,12 +17,13 @@ use Rattle.cj_stream.specs.Run.{Run, Account, IsReadWithin, RunsNoting, StopsInT
 use Rattle.cj_stream.specs.Output.{Channel}
 use Rattle.cj_stream.specs.Sink.{HasRisen}
 use Rattle.cj_stream.specs.TallySink.{Tally, IsTallyOf}
-use Rattle.cj_stream.specs.Verdict.{Rules, good, kept, reported}
+use Rattle.cj_stream.specs.Verdict.{Rules, Stream, good, kept, reported, stream_of, up_to}
 use Rattle.cj_stream.specs.declared.ending.End.{End}
 use Rattle.cj_stream.specs.declared.ending.End.TheVariants.{Complete, Refused, ReadFault, ReadLimit, WriteFault, Memory}
 use Rattle.cj_stream.specs.declared.output.WriteFault.{WriteFault as Unwritten}
 use Rattle.cj_stream.specs.declared.report_sink.Report.{Report}
 use Rattle.cj_stream.specs.declared.running.Outcome.{Outcome}
+pub use Rattle.cityseq_command.specs.FaultLines.{Channels}
 use Rattle.cityseq_command.specs.FaultLines.{ShowsEnd, Wrote, fault_line, limit_line, no_command_line, query_line}
 use Rattle.cityseq_command.specs.FaultLines.{status_of, status_after, status_of_query}
 use Rattle.cityseq_command.specs.ReportWriter.{AreReported, report_lines}
@@ -53,23 +54,19 @@ Says text WriteFault told old new = ⊥
 Says text Memory told old new = (told ≡ Memory) × Keeps old.bytes new.bytes
 
 -- of the bytes r: how many good lines they have, how many features, and how many lines are reported as refused
-abbrev pub SaysCheck : Rules → List ℕ → End → End → Channel → Channel → Type 0
-SaysCheck rules r e told old new =
-    Says (check_text (length (good rules r)) (length (filter is_feature (kept rules r))) (length (reported rules r))) e
-    told old new
+abbrev pub SaysCheck : Stream → End → End → Channel → Channel → Type 0
+SaysCheck r e told old new =
+    Says (check_text (length (good r.rules r.bytes)) (length (filter is_feature (kept r.rules r.bytes)))
+    (length (reported r.rules r.bytes))) e told old new
 
 -- of the bytes r: how many good lines they have, their tally, and what was held at most
-pub record SaysSummary (rules : Rules) (r : List ℕ) (e told : End) (old new : Channel) : Type 0 where
+pub record SaysSummary (r : Stream) (e told : End) (old new : Channel) : Type 0 where
   pub tally : Tally
-  pub counted : e ≡ Complete → IsTallyOf (kept rules r) tally
-  pub says : Says (summary_text (length (good rules r)) tally (exact_peaks rules.limits r)) e told old new
+  pub counted : e ≡ Complete → IsTallyOf (kept r.rules r.bytes) tally
+  pub says : Says (summary_text (length (good r.rules r.bytes)) tally (exact_peaks r.rules.limits r.bytes)) e told
+      old new
 
 -- ---- what is asked
-
--- standard output and standard error
-pub record Channels : Type 0 where
-  pub out : Channel
-  pub err : Channel
 
 -- the rules that lines are judged by
 abbrev pub all_under : LimitPair → OptionSet → Rules
@@ -91,51 +88,73 @@ TakesOptions (Info limits options) = (options.keep_going ≡ false) × (options.
 abbrev pub run_of : Ask → List ℕ → Outcome → Run
 run_of ask r outcome = record { rules = rules_of_ask ask; read = r; outcome = outcome }
 
--- What is written of the bytes r, over which a run went so, with these reports, and the end that is told of it. Of what
--- is copied the headline holds.
-abbrev pub Answers : Ask → List ℕ → Type 0 → Outcome → List Report → End → Channel → Channel → Type 0
-Answers (Check limits options) r at_end outcome reports told old new =
-    SaysCheck (all_under limits options) r outcome.ended told old new
-Answers (Filter limits query options) r at_end outcome reports told old new =
-    (told ≡ outcome.ended) × Writes (rules_for limits query options) r outcome.ended old.bytes new.bytes
-    × HeadlineOfRun Collects (run_of (Filter limits query options) r outcome) at_end old new [] reports
-    × WritesLines (rules_for limits query options) r outcome.lines outcome.ended old.bytes new.bytes
-Answers (Info limits options) r at_end outcome reports told old new =
-    SaysSummary (all_under limits options) r outcome.ended told old new
+-- what is asked, the bytes that were read for it, and what says that these are all there was
+pub record Asked : Type 1 where
+  pub ask : Ask
+  pub read : List ℕ
+  pub at_end : Type 0
+
+abbrev pub asked : Ask → List ℕ → Type 0 → Asked
+asked ask r at_end = record { ask = ask; read = r; at_end = at_end }
+
+-- how a run went: the bytes that it read, what says that these are all there was, its outcome, and its reports
+pub record Went : Type 1 where
+  pub read : List ℕ
+  pub at_end : Type 0
+  pub outcome : Outcome
+  pub reports : List Report
+
+abbrev pub went : List ℕ → Type 0 → Outcome → List Report → Went
+went r at_end outcome reports = record { read = r; at_end = at_end; outcome = outcome; reports = reports }
+
+-- What is written of the bytes over which a run went so, and the end that is told of it. Of what is copied the headline
+-- holds.
+abbrev pub Answers : Ask → Went → End → Channel → Channel → Type 0
+Answers (Check limits options) run told old new =
+    SaysCheck (stream_of (all_under limits options) run.read) run.outcome.ended told old new
+Answers (Filter limits query options) run told old new =
+    (told ≡ run.outcome.ended)
+    × Writes (stream_of (rules_for limits query options) run.read) run.outcome.ended old.bytes new.bytes
+    × HeadlineOfRun Collects (run_of (Filter limits query options) run.read run.outcome) run.at_end (outputs old [])
+    (outputs new run.reports)
+    × WritesLines (up_to (rules_for limits query options) run.read run.outcome.lines) run.outcome.ended
+    old.bytes new.bytes
+Answers (Info limits options) run told old new =
+    SaysSummary (stream_of (all_under limits options) run.read) run.outcome.ended told old new
 
 -- What is asked was done with bytes r that were read, but for what is said at its end: the account of the run over
 -- them, which stopped in time; its reports, which a sink of reports has taken; what standard output has got, and that a
 -- write to it failed where that is told; and how many lines were refused that reading went on after.
-pub record Does {N : Type 0} (notes : N → Report → N → Type 0) (ask : Ask) (r : List ℕ) (at_end : Type 0) (told : Told)
-    (old new : Channel) (n m : N) : Type 0 where
+pub record Does {N : Type 0} (notes : N → Report → N → Type 0) (of : Asked) (told : Told) (old new : Outputs N) :
+    Type 0 where
   pub outcome : Outcome
   pub refused : List Report
-  pub account : Account (run_of ask r outcome) at_end
-  pub stops : StopsInTime (run_of ask r outcome)
-  pub within : IsReadWithin (2 ^ 40) r outcome.ended
-  pub reported : AreReported notes (run_of ask r outcome) refused n m
-  pub answers : Answers ask r at_end outcome refused told.end old new
-  pub cause : told.end ≡ WriteFault → HasRisen old.failures new.failures
+  pub account : Account (run_of of.ask of.read outcome) of.at_end
+  pub stops : StopsInTime (run_of of.ask of.read outcome)
+  pub within : IsReadWithin (2 ^ 40) of.read outcome.ended
+  pub reported : AreReported notes (run_of of.ask of.read outcome) refused old.reports new.reports
+  pub answers : Answers of.ask (went of.read of.at_end outcome refused) told.end old.channel new.channel
+  pub cause : told.end ≡ WriteFault → HasRisen old.channel.failures new.channel.failures
   pub count : told.refused ≡ length refused
 
 -- What is asked was done with bytes r that were read: the account of the run over them, which stopped in time; that its
 -- reads ran out is never told of fewer than 2^40 bytes; its reports, of which there are none unless it goes on;
 -- what standard output has got, and that a write to it failed where that is told; what the flush answered, and standard
 -- error has got: the lines of the reports, and then that of the end; and the status.
-pub record Performs (ask : Ask) (r : List ℕ) (at_end : Type 0) (answer : ℕ) (old new : Channels) : Type 0 where
+pub record Performs (of : Asked) (answer : ℕ) (old new : Channels) : Type 0 where
   pub outcome : Outcome
   pub refused : List Report
   pub told : End
   pub shown : Shown
-  pub account : Account (run_of ask r outcome) at_end
-  pub stops : StopsInTime (run_of ask r outcome)
-  pub within : IsReadWithin (2 ^ 40) r outcome.ended
-  pub enough : length r < 2 ^ 40 → told ≢ ReadLimit
-  pub reported : RunsNoting Collects (run_of ask r outcome) [] refused
-  pub usual : (rules_of_ask ask).options.keep_going ≡ false → refused ≡ []
-  pub answers : Answers ask r at_end outcome refused told old.out new.out
+  pub account : Account (run_of of.ask of.read outcome) of.at_end
+  pub stops : StopsInTime (run_of of.ask of.read outcome)
+  pub within : IsReadWithin (2 ^ 40) of.read outcome.ended
+  pub enough : length of.read < 2 ^ 40 → told ≢ ReadLimit
+  pub reported : RunsNoting Collects (run_of of.ask of.read outcome) [] refused
+  pub usual : (rules_of_ask of.ask).options.keep_going ≡ false → refused ≡ []
+  pub answers : Answers of.ask (went of.read of.at_end outcome refused) told old.out new.out
   pub cause : told ≡ WriteFault → HasRisen old.out.failures new.out.failures
-  pub reports : ShowsEnd told (report_lines refused) new.out.flushed shown old.err new.err
+  pub reports : ShowsEnd told (report_lines refused) shown old new
   pub status : answer ≡ status_after (length refused) shown.end
 
 -- ---- other words
@@ -147,7 +166,7 @@ pub record TellsHelp (answer : ℕ) (old new : Channels) : Type 0 where
   pub told : End
   pub shown : Shown
   pub says : Says text Complete told old.out new.out
-  pub reports : ShowsEnd told [] new.out.flushed shown old.err new.err
+  pub reports : ShowsEnd told [] shown old new
   pub status : answer ≡ status_of shown.end
 
 -- standard error has got all of this line, or a prefix of it where it failed; and the answer is the status that is due

@@ -2,7 +2,8 @@
 ghost use Rattle.std.specs.Prelude.{◌≡◌, ℕ, List};
 ghost use Rattle.std.specs.Io.KnownBytes.{Consumes, IsAtEnd};
 ghost use Rattle.cj_stream.specs.Output.{channel};
-ghost use Rattle.cityseq_command.specs.Performed.{end_of_writing as told_after, Does, Performs, TakesOptions};
+ghost use Rattle.cityseq_command.specs.Performed.{end_of_writing as told_after, Does, Performs, TakesOptions, asked};
+ghost use Rattle.cj_stream.specs.Headline.{outputs};
 
 use crate::fault_lines::{show_after, status_after};
 use crate::report_writer::WriteReports;
@@ -53,8 +54,8 @@ fn check<R: Read, W: Write + Drop, N: ReportSink>(
     reports: &mut N,
 ) -> Told
     ensures { (r : List ℕ) × Consumes (R.remaining reader.old) (R.remaining reader.new) r
-        × Does N.notes (Ask.Check limits options) r (IsAtEnd (R.remaining reader.new)) result
-        (channel W.contents out.old) (channel W.contents out.new) reports.old reports.new }
+        × Does N.notes (asked (Ask.Check limits options) r (IsAtEnd (R.remaining reader.new))) result
+        (outputs (channel W.contents out.old) reports.old) (outputs (channel W.contents out.new) reports.new) }
 {
     let query = Query::all(alloc);
     let outcome = run(
@@ -91,8 +92,8 @@ fn info<R: Read, W: Write + Drop, N: ReportSink>(
 ) -> Told
     requires { TakesOptions (Ask.Info limits options) }
     ensures { (r : List ℕ) × Consumes (R.remaining reader.old) (R.remaining reader.new) r
-        × Does N.notes (Ask.Info limits options) r (IsAtEnd (R.remaining reader.new)) result
-        (channel W.contents out.old) (channel W.contents out.new) reports.old reports.new }
+        × Does N.notes (asked (Ask.Info limits options) r (IsAtEnd (R.remaining reader.new))) result
+        (outputs (channel W.contents out.old) reports.old) (outputs (channel W.contents out.new) reports.new) }
 {
     let query = Query::all(alloc);
     let mut tally = TallySink::new();
@@ -123,8 +124,8 @@ fn filter<R: Read, W: Write + Drop, N: ReportSink>(
     reports: &mut N,
 ) -> Told
     ensures { (r : List ℕ) × Consumes (R.remaining reader.old) (R.remaining reader.new) r
-        × Does N.notes (Ask.Filter limits query.now options) r (IsAtEnd (R.remaining reader.new)) result
-        (channel W.contents out.old) (channel W.contents out.new) reports.old reports.new }
+        × Does N.notes (asked (Ask.Filter limits query.now options) r (IsAtEnd (R.remaining reader.new))) result
+        (outputs (channel W.contents out.old) reports.old) (outputs (channel W.contents out.new) reports.new) }
 {
     laws::puts_are_written::<W, N>();
     laws::reports_are_collected::<W>();
@@ -145,8 +146,8 @@ fn answer<R: Read, W: Write + Drop, N: ReportSink>(
 ) -> Told
     requires { TakesOptions ask.now }
     ensures { (r : List ℕ) × Consumes (R.remaining reader.old) (R.remaining reader.new) r
-        × Does N.notes ask.now r (IsAtEnd (R.remaining reader.new)) result
-        (channel W.contents out.old) (channel W.contents out.new) reports.old reports.new }
+        × Does N.notes (asked ask.now r (IsAtEnd (R.remaining reader.new))) result
+        (outputs (channel W.contents out.old) reports.old) (outputs (channel W.contents out.new) reports.new) }
 {
     match ask {
         Ask::Check(limits, options) => check(alloc, *limits, *options, reader, out, reports),
@@ -170,7 +171,7 @@ pub fn perform<R: Read, W: Write + Drop, E: Write + Drop>(
 ) -> u8
     requires { TakesOptions ask.now }
     ensures { (r : List ℕ) × Consumes (R.remaining reader.old) (R.remaining reader.new) r
-        × Performs ask.now r (IsAtEnd (R.remaining reader.new)) result
+        × Performs (asked ask.now r (IsAtEnd (R.remaining reader.new))) result
         (record { out = channel W.contents out.old; err = channel E.contents err.old })
         (record { out = channel W.contents out.new; err = channel E.contents err.new }) }
 {

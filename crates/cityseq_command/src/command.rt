@@ -2,7 +2,7 @@
 ghost use Rattle.std.specs.Prelude.{◌≡◌, ◌⊎◌, ℕ, List, map, string_bytes};
 ghost use Rattle.std.specs.Io.KnownBytes.{Consumes, IsAtEnd};
 ghost use Rattle.cj_stream.specs.Output.{channel};
-ghost use Rattle.cityseq_command.specs.Performed.{Performs, Declines};
+ghost use Rattle.cityseq_command.specs.Performed.{Performs, Declines, asked};
 ghost use Rattle.cityseq_command.specs.Words.{AsksFor, MayDecline};
 ghost use Rattle.cityseq_command.specs.declared.ask.Ask.{Ask};
 ghost use Rattle.cityseq_command.specs.declared.asking.NoAsk.{NoAsk};
@@ -28,7 +28,7 @@ pub fn command<R: Read, W: Write + Drop, E: Write + Drop>(
 ) -> u8
     ensures { ((ask : Ask) × AsksFor (map string_bytes words.now) ask × (r : List ℕ)
         × Consumes (R.remaining reader.old) (R.remaining reader.new) r
-        × Performs ask r (IsAtEnd (R.remaining reader.new)) result
+        × Performs (asked ask r (IsAtEnd (R.remaining reader.new))) result
         (record { out = channel W.contents out.old; err = channel E.contents err.old })
         (record { out = channel W.contents out.new; err = channel E.contents err.new }))
         ⊎ ((reader.new ≡ reader.old) × (why : NoAsk) × MayDecline (map string_bytes words.now) why

@@ -5,11 +5,11 @@ use Rattle.cj_stream.specs.declared.ending.End.TheVariants.{Complete, Refused, R
 use Rattle.cj_stream.specs.declared.report_sink.CountReports.{CountReports}
 use Rattle.cj_stream.specs.declared.report_sink.Report.{Report}
 use Rattle.cj_stream.specs.CountReports.{count_of, no_reports, CountsFirst, CountsReportsOfRun, CountsReportsOfPieces}
-use Rattle.cj_stream.specs.Cut.{joined}
+use Rattle.cj_stream.specs.Cut.{joined, in_pieces}
 use Rattle.cj_stream.specs.Lines.{whole}
 use Rattle.cj_stream.specs.ReportSink.{CountsReport, Notes, NotesRun, NotesPieces}
-use Rattle.cj_stream.specs.Sink.{Took, TookFront}
-use Rattle.cj_stream.specs.Verdict.{Rules, reported, reported_first}
+use Rattle.cj_stream.specs.Sink.{Took, TookFront, prefixes}
+use Rattle.cj_stream.specs.Verdict.{Rules, reported, reported_first, stretch, stream_of}
 
 -- a sink that counted some reports goes up by them
 reports-more : (a b : CountReports) (rs : List Report) → a.reports ≤ 2 ^ 64 - 1 → Took CountsReport a rs b → b.reports ≡ min (a.reports + length rs) (2 ^ 64 - 1)
@@ -27,15 +27,18 @@ reports-all c rs took =
     counts
 
 -- of the first ones, where no more were noted
-reports-first : (rs : List Report) (c : CountReports) → TookFront CountsReport (λ others a b. b ≡ a) rs [] (no_reports) c → CountsFirst rs c
+reports-first : (rs : List Report) (c : CountReports) → TookFront CountsReport (λ others a b. b ≡ a) (prefixes rs [])
+    (no_reports) c → CountsFirst rs c
 reports-first rs c h = record { front = h.more; others = h.others; all = h.front; counts = reports-all c h.more (rw h.left h.took) }
 
 -- of lines, one after another
-pub counts-lines : (rules : Rules) (q : List ℕ) (n : ℕ) (c : CountReports) → Notes CountsReport rules q 0 n (no_reports) c → c ≡ count_of (reported_first rules n q)
+pub counts-lines : (rules : Rules) (q : List ℕ) (n : ℕ) (c : CountReports) → Notes CountsReport (stretch rules q 0 n)
+    (no_reports) c → c ≡ count_of (reported_first rules n q)
 counts-lines rules q n c h = rw h.told (reports-all c h.added h.noted)
 
 -- what a run has counted, by its end
-pub counts-run : (rules : Rules) (r : List ℕ) (c : CountReports) (e : End) → NotesRun CountsReport rules r e (no_reports) c → CountsReportsOfRun rules r e c
+pub counts-run : (rules : Rules) (r : List ℕ) (c : CountReports) (e : End) → NotesRun CountsReport (stream_of rules r) e
+    (no_reports) c → CountsReportsOfRun (stream_of rules r) e c
 counts-run rules r c Complete h = reports-all c (reported rules r) h
 counts-run rules r c (Refused number place reason) h = reports-all c (reported rules r) h
 counts-run rules r c ReadFault h = reports-all c (reported rules (whole r)) h
@@ -45,7 +48,8 @@ counts-run rules r c Memory h = h
 
 -- what was counted of pieces
 pub counts-pieces : (rules : Rules) (pieces : List (List ℕ)) (n : ℕ) (c : CountReports) (e : End)
-    → NotesPieces CountsReport rules pieces n e (no_reports) c → CountsReportsOfPieces rules pieces n e c
+    → NotesPieces CountsReport (in_pieces rules pieces n) e (no_reports) c
+    → CountsReportsOfPieces (in_pieces rules pieces n) e c
 counts-pieces rules pieces n c Complete h = reports-all c (reported rules (joined pieces)) h
 counts-pieces rules pieces n c (Refused number place reason) h = reports-all c (reported rules (joined pieces)) h
 counts-pieces rules pieces n c ReadFault h = h

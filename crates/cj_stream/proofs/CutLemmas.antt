@@ -9,12 +9,15 @@ use Rattle.cj_stream.specs.declared.ending.End.{End}
 use Rattle.cj_stream.specs.declared.ending.End.TheVariants.{Complete, Refused, ReadFault, ReadLimit, WriteFault, Memory}
 use Rattle.cj_stream.specs.Item.{Item}
 use Rattle.cj_stream.specs.Lines.{Line, NoLf, closed, begun, first_of, ended_line, last_line, lines, whole}
-use Rattle.cj_stream.specs.Verdict.{Rules, verdict, header_of, item_after, goes_on, refusal_of, refusal_in, refusal_from, good_from, kept_from, kept_first, kept, reported_from, reported, good, ending, judged, long_line}
-use Rattle.cj_stream.specs.Cut.{joined, PutsPieces, EndsAt, Copies, TookWhole, IsUnread}
+use Rattle.cj_stream.specs.Verdict.{Rules, verdict, header_of, item_after, goes_on, refusal_of, refusal_in}
+use Rattle.cj_stream.specs.Verdict.{refusal_from, good_from, kept_from, kept_first, kept, reported_from, reported, good}
+use Rattle.cj_stream.specs.Verdict.{ending, judged, long_line, stretch, up_to}
+use Rattle.cj_stream.specs.Cut.{joined, PutsPieces, EndsAt, Copies, TookWhole, IsUnread, in_pieces, given_after}
 use Rattle.cj_stream.specs.Engine.{EngineState, rules_of, lines_of, Delivers, Faults, Tells, Concludes}
 use Rattle.cj_stream.specs.Reading.{Reads}
 use Rattle.cj_stream.specs.Run.{Run, Runs}
-use Rattle.cj_stream.specs.Sink.{Took, LeavesNext}
+use Rattle.cj_stream.specs.Sink.{Took, LeavesNext, SinkLaw}
+use Rattle.cj_stream.specs.Output.{writes_law}
 use Rattle.cj_stream.proofs.JoinedLemmas.{joined-cut, joined-next}
 use Rattle.cj_stream.proofs.LineLemmas.{closed-then, begun-then, NoLf-begun, first_content-long}
 use Rattle.cj_stream.proofs.VerdictLemmas.{refusal-append, verdict-long}
@@ -23,7 +26,7 @@ use Rattle.cj_stream.proofs.ReadingLemmas.{map_lines-append, length-map_lines}
 use Rattle.cj_stream.proofs.GoodLemmas.{good-append, good-all, kept-next_line, kept-split}
 use Rattle.cj_stream.proofs.PieceLemmas.{Took-append}
 use Rattle.cj_stream.proofs.RunLemmas.{refusal-stays, ending-refused, kept_first-same, whole-good}
-use Rattle.cj_stream.proofs.OutputLemmas.{Took-appends, Took-all, kept-whole, writes, writes_part, front-bytes, next-bytes, no-bytes}
+use Rattle.cj_stream.proofs.OutputLemmas.{Took-appends, Took-all, kept-whole, writes_part, front-bytes, next-bytes, no-bytes}
 use Rattle.cj_stream.proofs.Apart.{none-some}
 
 -- a text that goes on: the lines that LF ended, and those of what had begun
@@ -145,37 +148,46 @@ kept-pieces rules pieces n good =
     let same = kept_first-same rules (length (closed q)) q next.0 refl in
     (whole_kept, rw next.1 (same ∙ whole_kept))
 
-module _ {S : Type 0} (takes leaves : S → Item → S → Type 0) (rules : Rules) (pieces : List (List ℕ)) (n : ℕ) (s t : S) (count features refused : ℕ) (peaks : Peaks) where
+module _ {S : Type 0} (law : SinkLaw S) (rules : Rules) (pieces : List (List ℕ)) (n : ℕ) (s t : S)
+    (count features refused : ℕ) (peaks : Peaks) where
   abbrev Given : End → Type 0
   Given e =
       let run : Run = record { rules = rules; read = joined (take (n + 1) pieces); outcome = record { lines = count; kept = features; refused = refused; peaks = peaks; ended = e } } in
-      Runs takes leaves run (joined (take (n + 1) pieces) ≡ joined pieces) s t
+      Runs law run (joined (take (n + 1) pieces) ≡ joined pieces) s t
 
   -- what a sink took of the lines that were dealt with before a fault
-  taken : (e : End) → TookWhole takes leaves rules [] 0 pieces n count s t e → (more : List Item) × (middle : S)
+  taken : (e : End) → TookWhole law (given_after [] 0 (in_pieces rules pieces n) count) s t e → (more : List Item)
+      × (middle : S)
       × (kept_first rules count (joined (take (n + 1) pieces)) ≡ kept rules (whole (joined (take n pieces))) ++ more)
-      × Took takes s (kept rules (whole (joined (take n pieces))) ++ more) middle × Faults leaves rules (joined (take (n + 1) pieces)) count middle t (Some e)
+      × Took law.takes s (kept rules (whole (joined (take n pieces))) ++ more) middle
+      × Faults law (up_to rules (joined (take (n + 1) pieces)) count) middle t (Some e)
   taken e k =
       let same = kept-pieces rules pieces n k.good in
       let first : k.taken.added ≡ kept rules (whole (joined (take n pieces))) = sym k.taken.kept ∙ same.0 in
-      let before = subst (λ z. Took takes s k.taken.added z) (sym k.taken.fault) k.taken.took in (
+      let before = subst (λ z. Took law.takes s k.taken.added z) (sym k.taken.fault) k.taken.took in (
         k.after.added,
         k.after.middle,
         k.after.kept ∙ ap (λ z. z ++ k.after.added) same.1,
-        rw (← first) (Took-append takes s k.middle k.after.middle k.taken.added k.after.added before k.after.took),
+        rw (← first) (Took-append law.takes s k.middle k.after.middle k.taken.added k.after.added before k.after.took),
         k.after.fault,
       )
 
   -- what a run over pieces has put
-  pub PutsPieces-runs : (e : End) → Given e → TookWhole takes leaves rules [] 0 pieces n count s t e → IsUnread e → PutsPieces takes leaves rules pieces n e s t
-  PutsPieces-runs Complete h k u = rw (← h.account.ends.2) (h.account.ends.0, Took-all takes leaves rules (joined (take (n + 1) pieces)) count s t Complete h.sink h.sink.fault h.account.ends.1)
+  pub PutsPieces-runs : (e : End) → Given e → TookWhole law (given_after [] 0 (in_pieces rules pieces n) count) s t e
+      → IsUnread e → PutsPieces law (in_pieces rules pieces n) e s t
+  PutsPieces-runs Complete h k u = rw (← h.account.ends.2) (
+    h.account.ends.0,
+    Took-all law rules
+        (joined (take (n + 1) pieces)) count s t Complete h.sink h.sink.fault h.account.ends.1,
+  )
   PutsPieces-runs (Refused number place reason) h k u = go h.account.ends.2
     where
-      all : Took takes s (kept rules (joined (take (n + 1) pieces))) t
-      all = Took-all takes leaves rules (joined (take (n + 1) pieces)) count s t (Refused number place reason) h.sink h.sink.fault h.account.ends.1
+      all : Took law.takes s (kept rules (joined (take (n + 1) pieces))) t
+      all = Took-all law rules (joined (take (n + 1) pieces)) count s t (Refused number place reason) h.sink
+          h.sink.fault h.account.ends.1
 
       go : (joined (take (n + 1) pieces) ≡ joined pieces) ⊎ (refusal_in rules (judged rules.limits (joined (take (n + 1) pieces))) ≡ Some (Refused number place reason))
-          → PutsPieces takes leaves rules pieces n (Refused number place reason) s t
+          → PutsPieces law (in_pieces rules pieces n) (Refused number place reason) s t
       go (inl same) = rw (← same) (h.account.ends.0, all)
       go (inr told) =
           let more = refused-more rules (joined (take (n + 1) pieces)) (joined (drop (n + 1) pieces)) (Refused number place reason) told in
@@ -209,15 +221,19 @@ module _ {S : Type 0} (takes leaves : S → Item → S → Type 0) (rules : Rule
       }
 
 -- a writer that was put the items of pieces
-pub Copies-puts : {S : Type 0} (contents : S → Option (List ℕ)) (rules : Rules) (pieces : List (List ℕ)) (n : ℕ) (s t : S) (e : End)
-    → PutsPieces (writes contents) (writes_part contents) rules pieces n e s t → Copies rules pieces n e (contents s) (contents t)
-Copies-puts contents rules pieces n s t Complete h = (h.0, Took-appends contents s t (kept rules (joined pieces)) h.1)
-Copies-puts contents rules pieces n s t (Refused number place reason) h = (h.0, Took-appends contents s t (kept rules (joined pieces)) h.1)
-Copies-puts contents rules pieces n s t ReadFault h = h
-Copies-puts contents rules pieces n s t ReadLimit h = h
-Copies-puts contents rules pieces n s t WriteFault h =
+pub Copies-puts : {S : Type 0} (contents : S → Option (List ℕ)) (failures : S → ℕ) (rules : Rules)
+    (pieces : List (List ℕ)) (n : ℕ) (s t : S) (e : End)
+    → PutsPieces (writes_law contents failures) (in_pieces rules pieces n) e s t → Copies (in_pieces rules pieces n) e
+    (contents s) (contents t)
+Copies-puts contents failures rules pieces n s t Complete h =
+    (h.0, Took-appends contents s t (kept rules (joined pieces)) h.1)
+Copies-puts contents failures rules pieces n s t (Refused number place reason) h =
+    (h.0, Took-appends contents s t (kept rules (joined pieces)) h.1)
+Copies-puts contents failures rules pieces n s t ReadFault h = h
+Copies-puts contents failures rules pieces n s t ReadLimit h = h
+Copies-puts contents failures rules pieces n s t WriteFault h =
     front-bytes contents (LeavesNext (writes_part contents)) (next-bytes contents) (kept rules (joined (take (n + 1) pieces))) (kept rules (whole (joined (take n pieces)))) s t h
-Copies-puts contents rules pieces n s t Memory h =
+Copies-puts contents failures rules pieces n s t Memory h =
     front-bytes contents (λ others a b. b ≡ a) (no-bytes contents) (kept rules (joined (take (n + 1) pieces))) (kept rules (whole (joined (take n pieces)))) s t h
 
 -- where a piece, or the end, ended it
@@ -263,10 +279,13 @@ unread-concludes rules q n WriteFault h = tt
 unread-concludes rules q n Memory h = tt
 
 -- what an engine that had read some pieces did with the next, or at the end
-pub TookWhole-left : {S : Type 0} (takes leaves : S → Item → S → Type 0) (e : EngineState) (rules : Rules) (before : List ℕ) (first : ℕ) (pieces : List (List ℕ)) (n count : ℕ) (s m t : S) (end : End)
-    → rules_of e ≡ rules → Reads e.reading (before ++ joined (take n pieces)) → Delivers takes leaves rules (before ++ joined (take n pieces)) first (lines_of e) s m None
-    → Delivers takes leaves rules (before ++ joined (take (n + 1) pieces)) (lines_of e) count m t (Some end) → TookWhole takes leaves rules before first pieces n count s t end
-TookWhole-left takes leaves e rules before first pieces n count s m t end same reads head tail = record {
+pub TookWhole-left : {S : Type 0} (law : SinkLaw S) (e : EngineState) (rules : Rules) (before : List ℕ) (first : ℕ)
+    (pieces : List (List ℕ)) (n count : ℕ) (s m t : S) (end : End)
+    → rules_of e ≡ rules → Reads e.reading (before ++ joined (take n pieces))
+    → Delivers law (stretch rules (before ++ joined (take n pieces)) first (lines_of e)) s m None
+    → Delivers law (stretch rules (before ++ joined (take (n + 1) pieces)) (lines_of e) count) m t (Some end)
+    → TookWhole law (given_after before first (in_pieces rules pieces n) count) s t end
+TookWhole-left law e rules before first pieces n count s m t end same reads head tail = record {
   middle = m;
   good = let x = (whole-good e (before ++ joined (take n pieces)) reads).0 in rw same at x;
   taken = rw (← reads.lines) head;

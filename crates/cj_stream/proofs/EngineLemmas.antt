@@ -7,13 +7,16 @@ use Rattle.cj_stream.specs.declared.ending.End.{End}
 use Rattle.cj_stream.specs.declared.ending.End.TheVariants.{Complete, Refused, ReadFault, ReadLimit, WriteFault, Memory}
 use Rattle.cj_stream.specs.Lines.{Line, closed, begun, ended_line, last_line, lines, first_content}
 use Rattle.cj_stream.specs.Item.{Item}
-use Rattle.cj_stream.specs.Verdict.{Rules, Refuse, verdict, header_of, goes_on, refusal_from, refusal_in, kept_from, judged, kept_first}
+use Rattle.cj_stream.specs.Verdict.{Rules, Refuse, verdict, header_of, goes_on, refusal_from, refusal_in, kept_from}
+use Rattle.cj_stream.specs.Verdict.{judged, kept_first, stretch, up_to}
 use Rattle.cj_budget.specs.Bounded.{IsWithin}
 use Rattle.cj_budget.specs.declared.limits.Peaks.{Peaks}
 use Rattle.cj_stream.specs.Bound.{bytes_bound, IsBelow, IsBounded}
 use Rattle.cj_stream.specs.Scanning.{Scanning, HasRoom, Scanned, HoldsFew}
-use Rattle.cj_stream.specs.Reading.{Reading, is_lenient, IsSound, Reads, kept_closed, Advances, IsNext, LacksMemory, HasCause, Stops}
+use Rattle.cj_stream.specs.Reading.{Reading, is_lenient, IsSound, Reads, kept_closed, Advances, IsNext, LacksMemory}
+use Rattle.cj_stream.specs.Reading.{HasCause, Stops, further, stop_at}
 use Rattle.cj_stream.specs.Engine.{EngineState, StandsFor, Counts, Going, Faults, Delivers, Tells, limits_of, held_by, peaks_of}
+use Rattle.cj_stream.specs.Sink.{SinkLaw, with_sink}
 use Rattle.cj_stream.proofs.LineLemmas.{closed-then, first_content-grows, none-from_length}
 use Rattle.cj_stream.proofs.IsLinesLemmas.{lines-whole}
 use Rattle.cj_stream.proofs.VerdictLemmas.{refusal-append, verdict-long}
@@ -113,26 +116,28 @@ next-refusal rules n place reason p q l h e good v on =
     let at : length (map ended_line (closed p)) + 1 ≡ n = omega (arith, length-map_lines (closed p), e) in
     rw (h.1, refusal-append rules [] (map ended_line (closed p)) (l ∷ h.0) good, v, at, on) refl
 
-pub Tells-cause : {S : Type 0} (leaves : S → Item → S → Type 0) (rules : Rules) (p q : List ℕ) (n : ℕ) (s t : S) (e : End) → n ≡ length (closed p)
-    → refusal_in rules (map ended_line (closed p)) ≡ None → HasCause leaves rules p q n s t e → Tells rules q n e
-Tells-cause leaves rules p q n s t Complete len good c = c
-Tells-cause leaves rules p q n s t (Refused number place reason) len good c =
+pub Tells-cause : {S : Type 0} (law : SinkLaw S) (rules : Rules) (p q : List ℕ) (n : ℕ) (s t : S) (e : End)
+    → n ≡ length (closed p)
+    → refusal_in rules (map ended_line (closed p)) ≡ None → HasCause law (stop_at rules p q n) s t e → Tells rules q n e
+Tells-cause law rules p q n s t Complete len good c = c
+Tells-cause law rules p q n s t (Refused number place reason) len good c =
     (next-refusal rules number place reason p q c.0 c.1 (omega (arith, c.2, len)) good c.3 c.5, c.2)
-Tells-cause leaves rules p q n s t ReadFault len good c = c
-Tells-cause leaves rules p q n s t ReadLimit len good c = c
-Tells-cause leaves rules p q n s t WriteFault len good c = tt
-Tells-cause leaves rules p q n s t Memory len good c = tt
+Tells-cause law rules p q n s t ReadFault len good c = c
+Tells-cause law rules p q n s t ReadLimit len good c = c
+Tells-cause law rules p q n s t WriteFault len good c = tt
+Tells-cause law rules p q n s t Memory len good c = tt
 
-pub Faults-cause : {S : Type 0} (leaves : S → Item → S → Type 0) (rules : Rules) (p q : List ℕ) (n : ℕ) (s t : S) (e : End) → n ≡ length (closed p)
-    → HasCause leaves rules p q n s t e → Faults leaves rules q n s t (Some e)
-Faults-cause leaves rules p q n s t Complete len c = absurd c
-Faults-cause leaves rules p q n s t (Refused number place reason) len c = c.4
-Faults-cause leaves rules p q n s t ReadFault len c = absurd c
-Faults-cause leaves rules p q n s t ReadLimit len c = absurd c
-Faults-cause leaves rules p q n s t WriteFault len c =
+pub Faults-cause : {S : Type 0} (law : SinkLaw S) (rules : Rules) (p q : List ℕ) (n : ℕ) (s t : S) (e : End)
+    → n ≡ length (closed p)
+    → HasCause law (stop_at rules p q n) s t e → Faults law (up_to rules q n) s t (Some e)
+Faults-cause law rules p q n s t Complete len c = absurd c
+Faults-cause law rules p q n s t (Refused number place reason) len c = c.4
+Faults-cause law rules p q n s t ReadFault len c = absurd c
+Faults-cause law rules p q n s t ReadLimit len c = absurd c
+Faults-cause law rules p q n s t WriteFault len c =
     let before = front-next rules.limits p q c.0 n c.1 len in
     (c.0, next-line rules.limits n p q c.0 c.1 len, rw before c.2, rw before c.3)
-Faults-cause leaves rules p q n s t Memory len c = c.0
+Faults-cause law rules p q n s t Memory len c = c.0
 
 -- what has begun, and is no end: it is within the limit, or reading goes on after it
 pub begun-good : (f : Reading) (q : List ℕ) → Reads f q → refusal_in f.rules (judged f.rules.limits q) ≡ None
@@ -172,14 +177,16 @@ StandsFor-reads e p taken s room h sc = record {
   going = λ _. (h, sc, taken);
 }
 
-module _ {S : Type 0} (takes leaves : S → Item → S → Type 0) where
-  pub Tells-stops : (f g : Reading) (s t : S) (p more : List ℕ) (e : End) → Stops takes leaves f s p more e g t → Tells f.rules (p ++ more) g.lines e
+module _ {S : Type 0} (law : SinkLaw S) where
+  pub Tells-stops : (f g : Reading) (s t : S) (p more : List ℕ) (e : End) → Stops law (further p more) (with_sink f s) e
+      (with_sink g t) → Tells f.rules (p ++ more) g.lines e
   Tells-stops f g s t p more e h =
       let good = rw h.rules at h.reads.good in
-      Tells-cause leaves f.rules (p ++ h.done) (p ++ more) g.lines h.middle t e h.reads.lines good h.cause
+      Tells-cause law f.rules (p ++ h.done) (p ++ more) g.lines h.middle t e h.reads.lines good h.cause
 
-  pub Delivers-advances : (f g : Reading) (s t : S) (p more : List ℕ) → Reads f p → Advances takes f s p more g t
-      → Delivers takes leaves f.rules (p ++ more) f.lines g.lines s t None
+  pub Delivers-advances : (f g : Reading) (s t : S) (p more : List ℕ) → Reads f p → Advances law (further p more)
+      (with_sink f s) (with_sink g t)
+      → Delivers law (stretch f.rules (p ++ more) f.lines g.lines) s t None
   Delivers-advances f g s t p more r h =
       let rules = f.rules in
       record {
@@ -195,8 +202,9 @@ module _ {S : Type 0} (takes leaves : S → Item → S → Type 0) where
       front_all : (rules : Rules) (n : ℕ) (q : List ℕ) → n ≡ length (closed q) → kept_first rules n q ≡ kept_closed rules q
       front_all rules n q e = let k = kept_first-front rules n q [] e in rw (append-nil q) at k
 
-  pub Delivers-stops : (f g : Reading) (s t : S) (p more : List ℕ) (e : End) → Reads f p → Stops takes leaves f s p more e g t
-      → Delivers takes leaves f.rules (p ++ more) f.lines g.lines s t (Some e)
+  pub Delivers-stops : (f g : Reading) (s t : S) (p more : List ℕ) (e : End) → Reads f p → Stops law (further p more)
+      (with_sink f s) e (with_sink g t)
+      → Delivers law (stretch f.rules (p ++ more) f.lines g.lines) s t (Some e)
   Delivers-stops f g s t p more e r h =
       let rules = f.rules in
       let whole : p ++ more ≡ (p ++ h.done) ++ h.left = ap (λ z. p ++ z) h.cut ∙ sym (append_assoc p h.done h.left) in
@@ -205,11 +213,12 @@ module _ {S : Type 0} (takes leaves : S → Item → S → Type 0) where
         middle = h.middle;
         kept = rw (kept_first-front rules f.lines p more r.lines, whole, kept_first-front rules g.lines (p ++ h.done) h.left h.reads.lines) h.puts.1;
         took = h.puts.2;
-        fault = (Faults-cause leaves rules (p ++ h.done) (p ++ more) g.lines h.middle t e h.reads.lines h.cause);
+        fault = (Faults-cause law rules (p ++ h.done) (p ++ more) g.lines h.middle t e h.reads.lines h.cause);
       }
 
   pub StandsFor-stops : (old new : EngineState) (s t : S) (p more : List ℕ) (e : End) → new.ended ≡ Some e → IsSound new.reading → HasRoom (limits_of new) new.scanning
-      → HoldsFew (limits_of new) (length (first_content (p ++ more))) new.scanning → Stops takes leaves old.reading s p more e new.reading t → StandsFor new (p ++ more)
+      → HoldsFew (limits_of new) (length (first_content (p ++ more))) new.scanning → Stops law (further p more)
+      (with_sink old.reading s) e (with_sink new.reading t) → StandsFor new (p ++ more)
   StandsFor-stops old new s t p more e ended sound room few h =
       let whole : p ++ more ≡ (p ++ h.done) ++ h.left = ap (λ z. p ++ z) h.cut ∙ sym (append_assoc p h.done h.left) in
       record {
@@ -224,9 +233,10 @@ none-added [] ys e = sym e
 none-added (x ∷ xs) ys e = cc
 
 -- what an end for want of memory tells: no line was dealt with, so the sink is as it was
-pub LacksMemory-stops : {S : Type 0} (takes leaves : S → Item → S → Type 0) (f g : Reading) (s t : S) (p more : List ℕ) (e : End) → Stops takes leaves f s p more e g t → e ≡ Memory
+pub LacksMemory-stops : {S : Type 0} (law : SinkLaw S) (f g : Reading) (s t : S) (p more : List ℕ) (e : End)
+    → Stops law (further p more) (with_sink f s) e (with_sink g t) → e ≡ Memory
     → LacksMemory f.rules (p ++ more) g.lines × (t ≡ s)
-LacksMemory-stops takes leaves f g s t p more e h m =
+LacksMemory-stops law f g s t p more e h m =
     let cause = rw m at h.cause in
     let none : closed (p ++ h.done) ≡ [] = none-from_length (closed (p ++ h.done)) (sym h.reads.lines ∙ cause.1.none) in
     let kept = rw none at h.puts.1 in

@@ -1,20 +1,22 @@
 -- What the states of a stream promise of a piece and of the end, from what their framer did.
 use Rattle.std.proofs.Common.{◌≡◌, ◌≢◌, ℕ, ◌+◌, ◌≤◌, List, [], ◌++◌, length, take, drop, Option, Some, None, Result, Ok, Err, arith, refl, sym, ap, ◌∙◌, append_assoc, length-append, OnOk, IfErr, subst, cond}
-use Rattle.std.specs.Prelude.{is_none}
+use Rattle.std.specs.Prelude.{is_none, IsErrOf}
 use Rattle.std.proofs.lemmas.List.{append-nil, take-append-drop}
 use Rattle.cj_stream.specs.declared.ending.End.{End}
 use Rattle.cj_stream.specs.declared.ending.End.TheVariants.{Complete, WriteFault, Memory}
+use Rattle.cj_stream.specs.declared.ending.HeaderEnd.{HeaderEnd}
+use Rattle.cj_stream.specs.declared.ending.HeaderEnd.TheVariants.{Complete as HeaderComplete, Refused as HeaderRefused}
+use Rattle.cj_stream.specs.declared.ending.HeaderEnd.TheVariants.{WriteFault as HeaderWriteFault, Memory as HeaderMemory}
 use Rattle.cj_stream.specs.declared.ending.LineEnd.{LineEnd}
 use Rattle.cj_stream.specs.declared.ending.LineEnd.TheVariants.{Complete as LineComplete, Refused as LineRefused, WriteFault as LineWriteFault}
 use Rattle.cj_stream.specs.Bound.{contents, IsBelow}
-use Rattle.cj_stream.specs.Ending.{line_end}
+use Rattle.cj_stream.specs.Ending.{answer_of, header_end, line_end}
 use Rattle.cj_stream.specs.Engine.{EngineState, StandsFor, EngineFailsToGrow, given, rules_of, limits_of, lines_of, peaks_of, end_of}
 use Rattle.cj_stream.specs.Feeding.{Feeds, IsFinished}
-use Rattle.cj_stream.specs.Item.{Item}
 use Rattle.cj_stream.specs.Lines.{closed, first_content}
-use Rattle.cj_stream.specs.Reading.{IsSound, Stays, Reads, Advances, Stops, Finishes}
+use Rattle.cj_stream.specs.Reading.{IsSound, Stays, Reads, Advances, Stops, Finishes, further}
 use Rattle.cj_stream.specs.Scanning.{HasRoom, Rises, Scanned, HoldsFew, HeldUntil}
-use Rattle.cj_stream.specs.Sink.{HasRisen}
+use Rattle.cj_stream.specs.Sink.{HasRisen, SinkLaw, with_sink}
 use Rattle.cj_stream.proofs.Apart.{some-none}
 use Rattle.cj_stream.proofs.EngineLemmas.{Tells-stops, Delivers-advances, Delivers-stops, LacksMemory-stops, StandsFor-reads, StandsFor-stops, Going-reads}
 use Rattle.cj_stream.proofs.LeastLemmas.{held-scanned, least-finished, least-read, least-until}
@@ -46,10 +48,23 @@ never-memory LineComplete h = cc
 never-memory (LineRefused line place reason) h = cc
 never-memory LineWriteFault h = cc
 
-module _ {S : Type 0} (takes leaves : S → Item → S → Type 0) (failures : S → ℕ) (old : EngineState) (s : S) where
+-- and such an end of a reader of a header is one of a stream
+pub header-lacks : {T : Type 0} (r : Result T HeaderEnd) → IsErrOf (answer_of header_end r) Memory
+    → IsErrOf r HeaderMemory
+header-lacks (Ok x) h = cc
+header-lacks (Err HeaderComplete) h = cc
+header-lacks (Err (HeaderRefused line place reason)) h = cc
+header-lacks (Err HeaderWriteFault) h = cc
+header-lacks (Err HeaderMemory) h = refl
+
+pub never-lacks : {T : Type 0} (r : Result T LineEnd) → IsErrOf (answer_of line_end r) Memory → ⊥
+never-lacks (Ok x) h = cc
+never-lacks (Err e) h = never-memory e cc
+
+module _ {S : Type 0} (law : SinkLaw S) (old : EngineState) (s : S) where
   -- after an end, the same again
   pub Feeds-again : (bytes : List ℕ) (e : End) (new : EngineState) (t : S) → old.ended ≡ Some e → new ≡ old → t ≡ s
-      → Feeds takes leaves failures old bytes (Err e) new s t
+      → Feeds law bytes (with_sink old s) (Err e) (with_sink new t)
   Feeds-again bytes e new t is same kept = rw (same, kept) (record {
     unended = tt;
     ended = is;
@@ -70,7 +85,8 @@ module _ {S : Type 0} (takes leaves : S → Item → S → Type 0) (failures : S
       after-end : (p bytes : List ℕ) → given old p bytes ≡ p
       after-end p bytes = ap (λ o. cond (is_none o) (p ++ bytes) p) is
 
-  pub IsFinished-again : (e : End) (new : EngineState) (t : S) → old.ended ≡ Some e → new ≡ old → t ≡ s → IsFinished takes leaves failures old e new s t
+  pub IsFinished-again : (e : End) (new : EngineState) (t : S) → old.ended ≡ Some e → new ≡ old → t ≡ s
+      → IsFinished law (with_sink old s) e (with_sink new t)
   IsFinished-again e new t is same kept = rw (same, kept) (record {
     ended = is;
     counts = omega arith;
@@ -86,16 +102,18 @@ module _ {S : Type 0} (takes leaves : S → Item → S → Type 0) (failures : S
     sink = λ p st going. absurd (not-going old.ended e is going);
   })
 
-  module _ (new : EngineState) (t : S) (going : old.ended ≡ None) (counts : failures s ≤ failures t) (stays : Stays old.reading new.reading)
+  module _ (new : EngineState) (t : S) (going : old.ended ≡ None) (counts : law.failures s ≤ law.failures t)
+      (stays : Stays old.reading new.reading)
       (sound : IsSound new.reading) (room : HasRoom (limits_of new) new.scanning) (rises : Rises old.scanning new.scanning) where
     limits : limits_of new ≡ limits_of old
     limits = ap (λ x. x.limits) stays.rules
 
     -- these bytes were read
     pub Feeds-advances : (bytes : List ℕ) → new.ended ≡ None → new.taken ≡ old.taken + length bytes
-        → ((p : List ℕ) → Reads old.reading p → Advances takes old.reading s p bytes new.reading t)
+        → ((p : List ℕ) → Reads old.reading p → Advances law (further p bytes) (with_sink old.reading s)
+        (with_sink new.reading t))
         → ((p : List ℕ) → Reads old.reading p → Scanned (limits_of old) (closed p) old.scanning → Scanned (limits_of old) (closed (p ++ bytes)) new.scanning)
-        → Feeds takes leaves failures old bytes (Ok tt) new s t
+        → Feeds law bytes (with_sink old s) (Ok tt) (with_sink new t)
     Feeds-advances bytes unended taken advances scanned = record {
       unended = unended;
       ended = tt;
@@ -124,15 +142,17 @@ module _ {S : Type 0} (takes leaves : S → Item → S → Type 0) (failures : S
       growth = λ _ none. absurd (fault-not_ok Memory none);
       sink = λ p st _.
           let reads = (st.going going).0 in
-          rw unended (Delivers-advances takes leaves old.reading new.reading s t p bytes reads (advances p reads));
+          rw unended (Delivers-advances law old.reading new.reading s t p bytes reads (advances p reads));
     }
 
     -- reading stopped within these bytes
-    pub Feeds-stops : (bytes : List ℕ) (e : End) → new.ended ≡ Some e → (e ≡ WriteFault → HasRisen (failures s) (failures t)) → (e ≡ Memory → EngineFailsToGrow old new)
-        → ((p : List ℕ) → Reads old.reading p → Stops takes leaves old.reading s p bytes e new.reading t)
+    pub Feeds-stops : (bytes : List ℕ) (e : End) → new.ended ≡ Some e
+        → (e ≡ WriteFault → HasRisen (law.failures s) (law.failures t)) → (e ≡ Memory → EngineFailsToGrow old new)
+        → ((p : List ℕ) → Reads old.reading p → Stops law (further p bytes) (with_sink old.reading s) e
+        (with_sink new.reading t))
         → ((p : List ℕ) → Reads old.reading p → Scanned (limits_of old) (closed p) old.scanning → HoldsFew (limits_of old) (length (first_content (p ++ bytes))) new.scanning)
         → ((p : List ℕ) → Reads old.reading p → Scanned (limits_of old) (closed p) old.scanning → HeldUntil (limits_of old) p bytes (lines_of new) new.scanning)
-        → Feeds takes leaves failures old bytes (Err e) new s t
+        → Feeds law bytes (with_sink old s) (Err e) (with_sink new t)
     Feeds-stops bytes e ended cause growth stops held least = record {
       unended = tt;
       ended = ended;
@@ -141,7 +161,8 @@ module _ {S : Type 0} (takes leaves : S → Item → S → Type 0) (failures : S
       rules = stays.rules;
       stands = λ p st.
           let reads = (st.going going).0 in
-          rw going (StandsFor-stops takes leaves old new s t p bytes e ended sound room (rw limits (held p reads (st.going going).1)) (stops p reads));
+          rw going (StandsFor-stops law old new s t p bytes e ended sound room
+          (rw limits (held p reads (st.going going).1)) (stops p reads));
       onward = λ p st.
           let reads = (st.going going).0 in
           omega (arith, reads.lines, (stops p reads).reads.lines, closed-grows p (stops p reads).done);
@@ -151,12 +172,13 @@ module _ {S : Type 0} (takes leaves : S → Item → S → Type 0) (failures : S
           let stop = stops p reads in
           least-until new (limits_of old) p bytes stop.done stop.left limits stop.cut stop.reads (least p reads (st.going going).1);
       going = tt;
-      told = λ p st _. Tells-stops takes leaves old.reading new.reading s t p bytes e (stops p (st.going going).0);
-      memory = λ p st _ none. LacksMemory-stops takes leaves old.reading new.reading s t p bytes e (stops p (st.going going).0) (err-is none);
+      told = λ p st _. Tells-stops law old.reading new.reading s t p bytes e (stops p (st.going going).0);
+      memory = λ p st _ none. LacksMemory-stops law old.reading new.reading s t p bytes e (stops p (st.going going).0)
+          (err-is none);
       growth = λ _ none. growth (err-is none);
       sink = λ p st _.
           let reads = (st.going going).0 in
-          rw ended (Delivers-stops takes leaves old.reading new.reading s t p bytes e reads (stops p reads));
+          rw ended (Delivers-stops law old.reading new.reading s t p bytes e reads (stops p reads));
     }
       where
         err-is : {x : End} → ◌≡◌ {A = Result (Unit {0}) End} (Err e) (Err x) → e ≡ x
@@ -164,11 +186,11 @@ module _ {S : Type 0} (takes leaves : S → Item → S → Type 0) (failures : S
 
     -- the end was come to, by what came of a last line
     pub IsFinished-finishes : (e : End) (r : Result (Unit {0}) End) → new.ended ≡ Some e → e ≡ end_of r
-        → (r ≡ Err WriteFault → HasRisen (failures s) (failures t)) → (r ≡ Err Memory → ⊥)
-        → ((p : List ℕ) → Reads old.reading p → Finishes takes leaves old.reading s p r new.reading t)
+        → (r ≡ Err WriteFault → HasRisen (law.failures s) (law.failures t)) → (r ≡ Err Memory → ⊥)
+        → ((p : List ℕ) → Reads old.reading p → Finishes law p (with_sink old.reading s) r (with_sink new.reading t))
         → OnOk r ((p : List ℕ) → Reads old.reading p → Scanned (limits_of old) (closed p) old.scanning → Scanned (limits_of old) (contents p) new.scanning)
         → ((p : List ℕ) → Reads old.reading p → Scanned (limits_of old) (closed p) old.scanning → HoldsFew (limits_of old) (length (first_content p)) new.scanning)
-        → IsFinished takes leaves failures old e new s t
+        → IsFinished law (with_sink old s) e (with_sink new t)
     IsFinished-finishes e r ended is cause memory finishes scanned held = record {
       ended = ended;
       counts = counts;
@@ -176,26 +198,29 @@ module _ {S : Type 0} (takes leaves : S → Item → S → Type 0) (failures : S
       rules = stays.rules;
       stands = λ p st.
           let reads = (st.going going).0 in
-          rw ended (StandsFor-finished takes leaves old.reading new.reading s t p reads r new.scanning new.taken e st.bounded.bytes (rw limits at room) (held p reads (st.going going).1) (finishes p reads));
+          rw ended (StandsFor-finished law old.reading new.reading s t p reads r new.scanning new.taken e
+          st.bounded.bytes (rw limits at room) (held p reads (st.going going).1) (finishes p reads));
       onward = λ p st.
           let reads = (st.going going).0 in
-          finishes-onward takes leaves old.reading new.reading s t p reads r (finishes p reads);
+          finishes-onward law old.reading new.reading s t p reads r (finishes p reads);
       rises = below-rises old new stays rises;
       least = λ p st _.
           let reads = (st.going going).0 in
-          least-finished takes leaves old new s t p r reads (finishes p reads) stays rises (st.going going).1 (scanned-ok r p reads (st.going going).1 scanned);
+          least-finished law old new s t p r reads (finishes p reads) stays rises (st.going going).1
+          (scanned-ok r p reads (st.going going).1 scanned);
       concludes = λ p st _.
           let reads = (st.going going).0 in
-          rw is (Finishes-concludes takes leaves old.reading new.reading s t p reads r (finishes p reads));
+          rw is (Finishes-concludes law old.reading new.reading s t p reads r (finishes p reads));
       exact = λ p st _ done.
           let reads = (st.going going).0 in
           let complete : end_of r ≡ Complete = sym is ∙ done in
-          let now = let k = rw (finished-ok takes leaves old.reading new.reading s t p reads r (finishes p reads) complete) at scanned in k p reads (st.going going).1 in
-          peaks-finished takes leaves old.reading new.reading s t p reads r new.scanning (finishes p reads) complete now;
+          let now = let k = rw (finished-ok law old.reading new.reading s t p reads r (finishes p reads) complete) at
+          scanned in k p reads (st.going going).1 in
+          peaks-finished law old.reading new.reading s t p reads r new.scanning (finishes p reads) complete now;
       memory = λ _ none. memory (faulty r Memory (λ h. cc) (sym is ∙ none));
       sink = λ p st _.
           let reads = (st.going going).0 in
-          rw (ended, is) (Finishes-delivers takes leaves old.reading new.reading s t p reads r (finishes p reads));
+          rw (ended, is) (Finishes-delivers law old.reading new.reading s t p reads r (finishes p reads));
     }
       where
         scanned-ok : (r : Result (Unit {0}) End) (p : List ℕ) → Reads old.reading p → Scanned (limits_of old) (closed p) old.scanning
@@ -210,8 +235,9 @@ module _ {S : Type 0} (takes leaves : S → Item → S → Type 0) (failures : S
 
   -- a piece of which the first part was read, and then the rest was given, is given
   pub Feeds-join : (bytes : List ℕ) (n : ℕ) (middle : EngineState) (m : S) (r : Result (Unit {0}) End) (new : EngineState) (t : S) → old.ended ≡ None → lines_of old ≡ 0
-      → (r ≡ Err Memory → ⊥) → Feeds takes leaves failures old (take n bytes) (Ok tt) middle s m → Feeds takes leaves failures middle (drop n bytes) r new m t
-      → Feeds takes leaves failures old bytes r new s t
+      → (r ≡ Err Memory → ⊥) → Feeds law (take n bytes) (with_sink old s) (Ok tt) (with_sink middle m)
+      → Feeds law (drop n bytes) (with_sink middle m) r (with_sink new t)
+      → Feeds law bytes (with_sink old s) r (with_sink new t)
   Feeds-join bytes n middle m r new t going none memory first second =
       let whole : (p : List ℕ) → (p ++ take n bytes) ++ drop n bytes ≡ p ++ bytes = λ p. append_assoc p (take n bytes) (drop n bytes) ∙ ap (λ z. p ++ z) (take-append-drop n bytes) in
       let stands : (p : List ℕ) → StandsFor old p → StandsFor middle (p ++ take n bytes) = λ p st. let k = first.stands p st in rw going at k in
@@ -240,7 +266,7 @@ module _ {S : Type 0} (takes leaves : S → Item → S → Type 0) (failures : S
             let before = let k = first.sink p st going in rw first.unended at k in
             let reads = ((stands p st).going first.unended).0 in
             let same = let k = kept_first-same (rules_of old) (lines_of middle) (p ++ take n bytes) (drop n bytes) reads.lines in rw (whole p) at k in
-            rw none (Delivers-join takes leaves (rules_of old) (p ++ take n bytes) (p ++ bytes) 0 (lines_of middle) (lines_of new) s m t new.ended refl same (rw none at before) (rw (whole p, first.rules) at after));
+            rw none (Delivers-join refl same (rw none at before) (rw (whole p, first.rules) at after));
       }
     where
       on-ok : {A B : Type 0} (r : Result (Unit {0}) End) → (A → B) → OnOk r A → OnOk r B
@@ -252,8 +278,9 @@ module _ {S : Type 0} (takes leaves : S → Item → S → Type 0) (failures : S
       if-err (Err e) f h = f e h
 
   -- how many bytes were taken by then tells nothing of what came after an end
-  pub Feeds-untaken : (bytes : List ℕ) (e : End) (new : EngineState) (t : S) (n : ℕ) → Feeds takes leaves failures old bytes (Err e) new s t
-      → Feeds takes leaves failures old bytes (Err e) (record new { taken = n }) s t
+  pub Feeds-untaken : (bytes : List ℕ) (e : End) (new : EngineState) (t : S) (n : ℕ) → Feeds law bytes (with_sink old s)
+      (Err e) (with_sink new t)
+      → Feeds law bytes (with_sink old s) (Err e) (with_sink (record new { taken = n }) t)
   Feeds-untaken bytes e new t n h = record {
     unended = tt;
     ended = h.ended;

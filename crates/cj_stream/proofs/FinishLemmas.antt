@@ -9,13 +9,18 @@ use Rattle.cj_spans.specs.declared.reason.Reason.{Reason}
 use Rattle.cj_spans.specs.declared.reason.Reason.TheVariants.{NoHeader}
 use Rattle.cj_stream.specs.declared.ending.End.{End}
 use Rattle.cj_stream.specs.declared.ending.End.TheVariants.{Complete, Refused, ReadFault, ReadLimit, WriteFault, Memory}
+use Rattle.cj_stream.specs.Ending.{answer_of}
 use Rattle.cj_stream.specs.Lines.{Line, closed, begun, begun_after, first_content, ended_line, last_line, later_of, lines}
 use Rattle.cj_stream.specs.Item.{Item}
-use Rattle.cj_stream.specs.Verdict.{Rules, Verdict, Refuse, Blank, LeftOut, Valid, verdict, item_after, goes_on, refusal_of, is_kept, refusal_in, refusal_from, kept_from, ending, ending_of, kept_first}
+use Rattle.cj_stream.specs.Verdict.{Rules, Verdict, Refuse, Blank, LeftOut, Valid, verdict, item_after, goes_on}
+use Rattle.cj_stream.specs.Verdict.{refusal_of, is_kept, refusal_in, refusal_from, kept_from, ending, ending_of}
+use Rattle.cj_stream.specs.Verdict.{kept_first, stretch, up_to}
 use Rattle.cj_stream.specs.Bound.{bytes_bound, greatest, held_length, contents, exact_peaks, IsExact}
-use Rattle.cj_stream.specs.Reading.{Reading, next_verdict, next_item, is_lenient, IsLeft, Refuses, Deals, Settles, Reads, Finishes, FinishesWith, Passes}
+use Rattle.cj_stream.specs.Reading.{Reading, next_verdict, next_item, is_lenient, IsLeft, Refuses, Deals, Settles}
+use Rattle.cj_stream.specs.Reading.{Reads, Finishes, FinishesWith, Passes, JudgedAs, judged_next}
 use Rattle.cj_stream.specs.Scanning.{Scanning, Scanned, ScansNext, HasRoom, HoldsFew}
 use Rattle.cj_stream.specs.Engine.{StandsFor, Counts, Faults, Delivers, Concludes, end_of}
+use Rattle.cj_stream.specs.Sink.{SinkLaw, with_sink}
 use Rattle.cj_stream.proofs.LineLemmas.{none-from_length, begun_after-empty}
 use Rattle.cj_stream.proofs.VerdictLemmas.{refusal-append, kept-append}
 use Rattle.cj_stream.proofs.ReadingLemmas.{length-map_lines, zero_or, next-verdict, next-item, kept-next, is_refused, refused-next, greatest-later, held-nothing}
@@ -67,25 +72,39 @@ pub err-then : {T E : Type 0} (P Q : Type 0) (r : Result T E) → (P → Q) → 
 err-then P Q (Ok x) f h = h
 err-then P Q (Err x) f h = f h
 
+-- the same of an answer whose end is seen as one of the stream
+pub ok-answer : {T E : Type 0} (ending : E → End) (P : Type 0) (r : Result T E) → OnOk r P → OnOk (answer_of ending r) P
+ok-answer ending P (Ok x) h = h
+ok-answer ending P (Err x) h = h
+
+pub err-answer : {T E : Type 0} (ending : E → End) (P : Type 0) (r : Result T E) → OnErr r P
+    → OnErr (answer_of ending r) P
+err-answer ending P (Ok x) h = h
+err-answer ending P (Err x) h = h
+
 -- a last line that is not empty was dealt with
-pub finishes-with : {S : Type 0} (takes leaves : S → Item → S → Type 0) (c : List ℕ) (f g : Reading) (s t : S) (r : Result (Unit {0}) End) → 0 < length c
-    → Settles takes leaves (is_lenient f) (next_verdict f c) (next_item f (record { content = c; lf = false })) f s r g t → FinishesWith takes leaves c f s r g t
-finishes-with takes leaves [] f g s t r some d = absurd (omega arith)
-finishes-with takes leaves (b ∷ c) f g s t r some d = d
+pub finishes-with : {S : Type 0} (law : SinkLaw S) (c : List ℕ) (f g : Reading) (s t : S) (r : Result (Unit {0}) End)
+    → 0 < length c
+    → Settles law (judged_next f (is_lenient f) (next_verdict f c) (record { content = c; lf = false })) (with_sink f s)
+    r (with_sink g t) → FinishesWith law c (with_sink f s) r (with_sink g t)
+finishes-with law [] f g s t r some d = absurd (omega arith)
+finishes-with law (b ∷ c) f g s t r some d = d
 
 -- a line that LF has not ended is never refused memory
-refused-memory : (on : Bool) (place : ℕ) (reason : Reason) (f g : Reading) (r : Result (Unit {0}) End) → Refuses on place reason f r g → r ≡ Err Memory → ⊥
+refused-memory : (on : Bool) (place : ℕ) (reason : Reason) (f g : Reading) (r : Result (Unit {0}) End)
+    → Refuses on (Refused (f.lines + 1) place reason) f r g → r ≡ Err Memory → ⊥
 refused-memory true place reason f g r d m = let ok : r ≡ Ok tt = d.0 in cc
 refused-memory false place reason f g r d m = let err : r ≡ Err (Refused (f.lines + 1) place reason) = d.0 in cc
 
-pub settles-memory : {S : Type 0} (takes leaves : S → Item → S → Type 0) (on : Bool) (v : Verdict) (i : Item) (f g : Reading) (s t : S) (r : Result (Unit {0}) End) → i.line.lf ≡ false
-    → Settles takes leaves on v i f s r g t → r ≡ Err Memory → ⊥
-settles-memory takes leaves on (Refuse place reason) i f g s t r open_end (inl d) m = refused-memory on place reason f g r d.0 m
-settles-memory takes leaves on Blank i f g s t r open_end (inl d) m = cc
-settles-memory takes leaves on LeftOut i f g s t r open_end (inl d) m = cc
-settles-memory takes leaves on Valid i f g s t (Ok x) open_end (inl d) m = cc
-settles-memory takes leaves on Valid i f g s t (Err x) open_end (inl d) m = let fault : x ≡ WriteFault = d.0 in cc
-settles-memory takes leaves on v i f g s t r open_end (inr m) e = let lf : i.line.lf ≡ true = m.5 in cc
+pub settles-memory : {S : Type 0} (law : SinkLaw S) (on : Bool) (v : Verdict) (i : Item) (f g : Reading) (s t : S)
+    (r : Result (Unit {0}) End) → i.line.lf ≡ false
+    → Settles law (JudgedAs (f.lines + 1) on v i) (with_sink f s) r (with_sink g t) → r ≡ Err Memory → ⊥
+settles-memory law on (Refuse place reason) i f g s t r open_end (inl d) m = refused-memory on place reason f g r d.0 m
+settles-memory law on Blank i f g s t r open_end (inl d) m = cc
+settles-memory law on LeftOut i f g s t r open_end (inl d) m = cc
+settles-memory law on Valid i f g s t (Ok x) open_end (inl d) m = cc
+settles-memory law on Valid i f g s t (Err x) open_end (inl d) m = let fault : x ≡ WriteFault = d.0 in cc
+settles-memory law on v i f g s t r open_end (inr m) e = let lf : i.line.lf ≡ true = m.5 in cc
 
 -- the lists after a last line was dealt with, and of a text without one
 pub scanned-last : (f : Reading) (p : List ℕ) (a b : Scanning) → Reads f p → 0 < length (begun p) → Scanned f.rules.limits (closed p) a → ScansNext f a b → Scanned f.rules.limits (contents p) b
@@ -102,7 +121,7 @@ scanned-closed limits p a e s = rw (e, contents-closed (closed p)) s
 abbrev unended : ℕ → List ℕ → Line
 unended b c = record { content = b ∷ c; lf = false }
 
-module _ {S : Type 0} (takes leaves : S → Item → S → Type 0) (f g : Reading) (s t : S) (p : List ℕ) (reads : Reads f p) where
+module _ {S : Type 0} (law : SinkLaw S) (f g : Reading) (s t : S) (p : List ℕ) (reads : Reads f p) where
   length-cs : length (map ended_line (closed p)) ≡ f.lines
   length-cs = length-map_lines (closed p) ∙ sym reads.lines
 
@@ -134,19 +153,22 @@ module _ {S : Type 0} (takes leaves : S → Item → S → Type 0) (f g : Readin
   last-lenient on is = rw length-cs is
 
   concluded-refused : (b : ℕ) (c : List ℕ) (place : ℕ) (reason : Reason) (on : Bool) (r : Result (Unit {0}) End) → begun p ≡ b ∷ c → verdict f.rules (map ended_line (closed p)) (b ∷ c) ≡ Refuse place reason
-      → is_lenient f ≡ on → Refuses on place reason f r g → Concluded f.rules p g.lines (end_of r)
+      → is_lenient f ≡ on → Refuses on (Refused (f.lines + 1) place reason) f r g → Concluded f.rules p g.lines
+      (end_of r)
   concluded-refused b c place reason true r e h is d = rw d.0 (ending-verdict b c e ∙ rw (h, last-lenient true is) refl, count-last b c e d.1.lines)
   concluded-refused b c place reason false r e h is d = rw d.0 (ending-verdict b c e ∙ rw (h, last-lenient false is, length-cs) refl, ap (λ x. x.lines + 1) (sym d.1))
 
   concluded-last : (b : ℕ) (c : List ℕ) (v : Verdict) (r : Result (Unit {0}) End) → begun p ≡ b ∷ c → verdict f.rules (map ended_line (closed p)) (b ∷ c) ≡ v
-      → Deals takes leaves (is_lenient f) v (next_item f (unended b c)) f s r g t → Concluded f.rules p g.lines (end_of r)
+      → Deals law (judged_next f (is_lenient f) v (unended b c)) (with_sink f s) r (with_sink g t)
+      → Concluded f.rules p g.lines (end_of r)
   concluded-last b c (Refuse place reason) r e h d = concluded-refused b c place reason (is_lenient f) r e h refl d.0
   concluded-last b c Blank r e h d = rw d.0 (ending-verdict b c e ∙ rw h refl, count-last b c e d.1.lines)
   concluded-last b c LeftOut r e h d = rw d.0 (ending-verdict b c e ∙ rw h refl, count-last b c e d.1.lines)
   concluded-last b c Valid (Ok x) e h d = (ending-verdict b c e ∙ rw h refl, count-last b c e d.0.lines)
   concluded-last b c Valid (Err x) e h d = rw d.0 tt
 
-  concluded-none : (r : Result (Unit {0}) End) → begun p ≡ [] → FinishesWith takes leaves [] f s r g t → Concluded f.rules p g.lines (end_of r)
+  concluded-none : (r : Result (Unit {0}) End) → begun p ≡ [] → FinishesWith law [] (with_sink f s) r (with_sink g t)
+      → Concluded f.rules p g.lines (end_of r)
   concluded-none r e d = go (zero_or f.lines)
     where
       go : (f.lines ≡ 0) ⊎ (0 < f.lines) → Concluded f.rules p g.lines (end_of r)
@@ -159,10 +181,12 @@ module _ {S : Type 0} (takes leaves : S → Item → S → Type 0) (f g : Readin
           let good : refusal_in f.rules (map ended_line (closed p) ++ []) ≡ None = rw (append-nil (map ended_line (closed p))) reads.good in
           rw (d.0, no, d.1, whole) (ending-some f.rules (map ended_line (closed p)) [] (omega (arith, length-cs)) ∙ rw good refl, rw (append-nil (map ended_line (closed p))) (sym length-cs))
 
-  pub Finishes-concludes : (r : Result (Unit {0}) End) → Finishes takes leaves f s p r g t → Concludes f.rules p g.lines (end_of r)
+  pub Finishes-concludes : (r : Result (Unit {0}) End) → Finishes law p (with_sink f s) r (with_sink g t)
+      → Concludes f.rules p g.lines (end_of r)
   Finishes-concludes r d = Concludes-concluded f.rules p g.lines (end_of r) (go (begun p) refl d)
     where
-      go : (x : List ℕ) → begun p ≡ x → FinishesWith takes leaves x f s r g t → Concluded f.rules p g.lines (end_of r)
+      go : (x : List ℕ) → begun p ≡ x → FinishesWith law x (with_sink f s) r (with_sink g t)
+          → Concluded f.rules p g.lines (end_of r)
       go [] e d = concluded-none r e d
       go (b ∷ c) e (inl d) = concluded-last b c _ r e (sym (next-verdict f p reads (b ∷ c))) d
       go (b ∷ c) e (inr m) = rw m.0 tt
@@ -187,22 +211,26 @@ module _ {S : Type 0} (takes leaves : S → Item → S → Type 0) (f g : Readin
       }
 
   counts-refused : (b : ℕ) (c : List ℕ) (place : ℕ) (reason : Reason) (on : Bool) (r : Result (Unit {0}) End) → begun p ≡ b ∷ c → verdict f.rules (map ended_line (closed p)) (b ∷ c) ≡ Refuse place reason
-      → is_lenient f ≡ on → Refuses on place reason f r g → Counts f.rules p g.lines g.kept g.refused
+      → is_lenient f ≡ on → Refuses on (Refused (f.lines + 1) place reason) f r g → Counts f.rules p g.lines g.kept
+      g.refused
   counts-refused b c place reason true r e h is d = counts-passed b c false true e d.1 (rw (h, last-lenient true is) refl) (rw h refl) (rw h refl)
   counts-refused b c place reason false r e h is d = counts-same d.1
 
   counts-last : (b : ℕ) (c : List ℕ) (v : Verdict) (r : Result (Unit {0}) End) → begun p ≡ b ∷ c → verdict f.rules (map ended_line (closed p)) (b ∷ c) ≡ v
-      → Deals takes leaves (is_lenient f) v (next_item f (unended b c)) f s r g t → Counts f.rules p g.lines g.kept g.refused
+      → Deals law (judged_next f (is_lenient f) v (unended b c)) (with_sink f s) r (with_sink g t)
+      → Counts f.rules p g.lines g.kept g.refused
   counts-last b c (Refuse place reason) r e h d = counts-refused b c place reason (is_lenient f) r e h refl d.0
   counts-last b c Blank r e h d = counts-passed b c false false e d.1 (rw h refl) (rw h refl) (rw h refl)
   counts-last b c LeftOut r e h d = counts-passed b c false false e d.1 (rw h refl) (rw h refl) (rw h refl)
   counts-last b c Valid (Ok x) e h d = counts-passed b c true false e d.0 (rw h refl) (rw h refl) (rw h refl)
   counts-last b c Valid (Err x) e h d = counts-left d.1
 
-  Counts-finished : (r : Result (Unit {0}) End) → Finishes takes leaves f s p r g t → Counts f.rules p g.lines g.kept g.refused
+  Counts-finished : (r : Result (Unit {0}) End) → Finishes law p (with_sink f s) r (with_sink g t)
+      → Counts f.rules p g.lines g.kept g.refused
   Counts-finished r d = go (begun p) refl d
     where
-      go : (x : List ℕ) → begun p ≡ x → FinishesWith takes leaves x f s r g t → Counts f.rules p g.lines g.kept g.refused
+      go : (x : List ℕ) → begun p ≡ x → FinishesWith law x (with_sink f s) r (with_sink g t)
+          → Counts f.rules p g.lines g.kept g.refused
       go [] e d = counts-same d.1
       go (b ∷ c) e (inl d) = counts-last b c _ r e (sym (next-verdict f p reads (b ∷ c))) d
       go (b ∷ c) e (inr m) = counts-left m.1
@@ -236,30 +264,34 @@ module _ {S : Type 0} (takes leaves : S → Item → S → Type 0) (f g : Readin
     onward = omega (arith, d.lines);
   }
 
-  settled-refused : (on : Bool) (place : ℕ) (reason : Reason) (r : Result (Unit {0}) End) → Refuses on place reason f r g → Settled
+  settled-refused : (on : Bool) (place : ℕ) (reason : Reason) (r : Result (Unit {0}) End)
+      → Refuses on (Refused (f.lines + 1) place reason) f r g → Settled
   settled-refused true place reason r d = settled-passed false true d.1
   settled-refused false place reason r d = settled-same d.1
 
-  settled-dealt : (l : Item) (v : Verdict) (r : Result (Unit {0}) End) → Deals takes leaves (is_lenient f) v l f s r g t → Settled
+  settled-dealt : (l : Item) (v : Verdict) (r : Result (Unit {0}) End)
+      → Deals law (JudgedAs (f.lines + 1) (is_lenient f) v l) (with_sink f s) r (with_sink g t) → Settled
   settled-dealt l (Refuse place reason) r d = settled-refused (is_lenient f) place reason r d.0
   settled-dealt l Blank r d = settled-passed false false d.1
   settled-dealt l LeftOut r d = settled-passed false false d.1
   settled-dealt l Valid (Ok x) d = settled-passed true false d.0
   settled-dealt l Valid (Err x) d = settled-left d.1
 
-  Settled-finished : (r : Result (Unit {0}) End) → Finishes takes leaves f s p r g t → Settled
+  Settled-finished : (r : Result (Unit {0}) End) → Finishes law p (with_sink f s) r (with_sink g t) → Settled
   Settled-finished r d = go (begun p) d
     where
-      go : (x : List ℕ) → FinishesWith takes leaves x f s r g t → Settled
+      go : (x : List ℕ) → FinishesWith law x (with_sink f s) r (with_sink g t) → Settled
       go [] d = settled-same d.1
       go (b ∷ c) (inl d) = settled-dealt (next_item f (unended b c)) _ r d
       go (b ∷ c) (inr m) = settled-left m.1
 
-  pub finishes-onward : (r : Result (Unit {0}) End) → Finishes takes leaves f s p r g t → f.lines ≤ g.lines
+  pub finishes-onward : (r : Result (Unit {0}) End) → Finishes law p (with_sink f s) r (with_sink g t)
+      → f.lines ≤ g.lines
   finishes-onward r d = (Settled-finished r d).onward
 
   pub StandsFor-finished : (r : Result (Unit {0}) End) (sc : Scanning) (n : ℕ) (e : End) → f.header.peak + f.line.peak ≤ bytes_bound f.rules.limits p → HasRoom f.rules.limits sc
-      → HoldsFew f.rules.limits (length (first_content p)) sc → Finishes takes leaves f s p r g t → StandsFor (record { reading = g; scanning = sc; taken = n; ended = Some e }) p
+      → HoldsFew f.rules.limits (length (first_content p)) sc → Finishes law p (with_sink f s) r (with_sink g t)
+      → StandsFor (record { reading = g; scanning = sc; taken = n; ended = Some e }) p
   StandsFor-finished r sc n e bounded room few d =
       let k = Settled-finished r d in
       let counts = Counts-finished r d in
@@ -287,7 +319,8 @@ module _ {S : Type 0} (takes leaves : S → Item → S → Type 0) (f g : Readin
       let line = rw (e, begun_after-empty (closed p)) at reads.line_peak in
       rw same (omega (arith, later, first, line, held-nothing f.rules.limits))
 
-  peak-refused : (b : ℕ) (c : List ℕ) (place : ℕ) (reason : Reason) (on : Bool) (r : Result (Unit {0}) End) → begun p ≡ b ∷ c → Refuses on place reason f r g → end_of r ≡ Complete
+  peak-refused : (b : ℕ) (c : List ℕ) (place : ℕ) (reason : Reason) (on : Bool) (r : Result (Unit {0}) End)
+      → begun p ≡ b ∷ c → Refuses on (Refused (f.lines + 1) place reason) f r g → end_of r ≡ Complete
       → g.header.peak + g.line.peak ≡ (exact_peaks f.rules.limits p).bytes
   peak-refused b c place reason true r e d done = peak-all false true b c e d.1
   peak-refused b c place reason false r e d done = absurd (clash (sym (ap end_of d.0) ∙ done))
@@ -295,7 +328,8 @@ module _ {S : Type 0} (takes leaves : S → Item → S → Type 0) (f g : Readin
       clash : Refused (f.lines + 1) place reason ≡ Complete → ⊥
       clash x = cc
 
-  peak-dealt : (b : ℕ) (c : List ℕ) (v : Verdict) (r : Result (Unit {0}) End) → begun p ≡ b ∷ c → Deals takes leaves (is_lenient f) v (next_item f (unended b c)) f s r g t → end_of r ≡ Complete
+  peak-dealt : (b : ℕ) (c : List ℕ) (v : Verdict) (r : Result (Unit {0}) End) → begun p ≡ b ∷ c
+      → Deals law (judged_next f (is_lenient f) v (unended b c)) (with_sink f s) r (with_sink g t) → end_of r ≡ Complete
       → g.header.peak + g.line.peak ≡ (exact_peaks f.rules.limits p).bytes
   peak-dealt b c (Refuse place reason) r e d done = peak-refused b c place reason (is_lenient f) r e d.0 done
   peak-dealt b c Blank r e d done = peak-all false false b c e d.1
@@ -306,10 +340,12 @@ module _ {S : Type 0} (takes leaves : S → Item → S → Type 0) (f g : Readin
       clash : WriteFault ≡ Complete → ⊥
       clash x = cc
 
-  pub peak-finished : (r : Result (Unit {0}) End) → Finishes takes leaves f s p r g t → end_of r ≡ Complete → g.header.peak + g.line.peak ≡ (exact_peaks f.rules.limits p).bytes
+  pub peak-finished : (r : Result (Unit {0}) End) → Finishes law p (with_sink f s) r (with_sink g t)
+      → end_of r ≡ Complete → g.header.peak + g.line.peak ≡ (exact_peaks f.rules.limits p).bytes
   peak-finished r d done = go (begun p) refl d
     where
-      go : (x : List ℕ) → begun p ≡ x → FinishesWith takes leaves x f s r g t → g.header.peak + g.line.peak ≡ (exact_peaks f.rules.limits p).bytes
+      go : (x : List ℕ) → begun p ≡ x → FinishesWith law x (with_sink f s) r (with_sink g t)
+          → g.header.peak + g.line.peak ≡ (exact_peaks f.rules.limits p).bytes
       go [] e d = peak-closed d.1 e
       go (b ∷ c) e (inl d) = peak-dealt b c _ r e d done
       go (b ∷ c) e (inr m) = absurd (clash (sym (ap end_of m.0) ∙ done))
@@ -318,7 +354,8 @@ module _ {S : Type 0} (takes leaves : S → Item → S → Type 0) (f g : Readin
           clash x = cc
 
   -- only an answer Ok makes a text complete
-  pub finished-ok : (r : Result (Unit {0}) End) → Finishes takes leaves f s p r g t → end_of r ≡ Complete → r ≡ Ok tt
+  pub finished-ok : (r : Result (Unit {0}) End) → Finishes law p (with_sink f s) r (with_sink g t) → end_of r ≡ Complete
+      → r ≡ Ok tt
   finished-ok r d done = go (begun p) r d done
     where
       refused : (n place : ℕ) (reason : Reason) (r : Result (Unit {0}) End) → r ≡ Err (Refused n place reason) → end_of r ≡ Complete → r ≡ Ok tt
@@ -329,11 +366,14 @@ module _ {S : Type 0} (takes leaves : S → Item → S → Type 0) (f g : Readin
       none true r e h = refused 1 0 NoHeader r e h
       none false r e h = e
 
-      refuses : (on : Bool) (place : ℕ) (reason : Reason) (r : Result (Unit {0}) End) → Refuses on place reason f r g → end_of r ≡ Complete → r ≡ Ok tt
+      refuses : (on : Bool) (place : ℕ) (reason : Reason) (r : Result (Unit {0}) End)
+          → Refuses on (Refused (f.lines + 1) place reason) f r g → end_of r ≡ Complete → r ≡ Ok tt
       refuses true place reason r d h = d.0
       refuses false place reason r d h = refused (f.lines + 1) place reason r d.0 h
 
-      dealt : (v : Verdict) (l : Item) (r : Result (Unit {0}) End) → Deals takes leaves (is_lenient f) v l f s r g t → end_of r ≡ Complete → r ≡ Ok tt
+      dealt : (v : Verdict) (l : Item) (r : Result (Unit {0}) End)
+          → Deals law (JudgedAs (f.lines + 1) (is_lenient f) v l) (with_sink f s) r (with_sink g t)
+          → end_of r ≡ Complete → r ≡ Ok tt
       dealt (Refuse place reason) l r d h = refuses (is_lenient f) place reason r d.0 h
       dealt Blank l r d h = d.0
       dealt LeftOut l r d h = d.0
@@ -344,13 +384,15 @@ module _ {S : Type 0} (takes leaves : S → Item → S → Type 0) (f g : Readin
       memory (Ok x) e h = refl
       memory (Err x) e h = cc
 
-      go : (x : List ℕ) (r : Result (Unit {0}) End) → FinishesWith takes leaves x f s r g t → end_of r ≡ Complete → r ≡ Ok tt
+      go : (x : List ℕ) (r : Result (Unit {0}) End) → FinishesWith law x (with_sink f s) r (with_sink g t)
+          → end_of r ≡ Complete → r ≡ Ok tt
       go [] r d h = none (eqb f.lines 0) r d.0 h
       go (b ∷ c) r (inl d) h = dealt _ (next_item f (unended b c)) r d h
       go (b ∷ c) r (inr m) h = memory r m.0 h
 
   -- and of all three counts
-  pub peaks-finished : (r : Result (Unit {0}) End) (sc : Scanning) → Finishes takes leaves f s p r g t → end_of r ≡ Complete → Scanned f.rules.limits (contents p) sc
+  pub peaks-finished : (r : Result (Unit {0}) End) (sc : Scanning) → Finishes law p (with_sink f s) r (with_sink g t)
+      → end_of r ≡ Complete → Scanned f.rules.limits (contents p) sc
       → IsExact f.rules.limits p (record { bytes = g.header.peak + g.line.peak; tokens = sc.header.peak + sc.line.peak; depth = sc.opened.peak })
   peaks-finished r sc d done k =
       let bytes = peak-finished r d done in
@@ -366,7 +408,8 @@ module _ {S : Type 0} (takes leaves : S → Item → S → Type 0) (f g : Readin
       let xs = map ended_line (closed p) in
       rw (take-last b c e, take-closed, kept-append f.rules [] xs (unended b c ∷ [])) refl
 
-  quiet : (x : End) → g.lines ≡ f.lines → Faults leaves f.rules p g.lines s t (Some x) → Delivers takes leaves f.rules p f.lines g.lines s t (Some x)
+  quiet : (x : End) → g.lines ≡ f.lines → Faults law (up_to f.rules p g.lines) s t (Some x)
+      → Delivers law (stretch f.rules p f.lines g.lines) s t (Some x)
   quiet x same fault = record {
     added = [];
     middle = s;
@@ -376,7 +419,7 @@ module _ {S : Type 0} (takes leaves : S → Item → S → Type 0) (f g : Readin
   }
 
   skipped : (b : ℕ) (c : List ℕ) (put refuses : Bool) → begun p ≡ b ∷ c → Passes put refuses f g → is_kept (verdict f.rules (map ended_line (closed p)) (b ∷ c)) ≡ false → t ≡ s
-      → Delivers takes leaves f.rules p f.lines g.lines s t (Some Complete)
+      → Delivers law (stretch f.rules p f.lines g.lines) s t (Some Complete)
   skipped b c put refuses e d unkept still = record {
     added = [];
     middle = s;
@@ -386,12 +429,14 @@ module _ {S : Type 0} (takes leaves : S → Item → S → Type 0) (f g : Readin
   }
 
   delivers-refused : (b : ℕ) (c : List ℕ) (place : ℕ) (reason : Reason) (on : Bool) (r : Result (Unit {0}) End) → begun p ≡ b ∷ c → verdict f.rules (map ended_line (closed p)) (b ∷ c) ≡ Refuse place reason
-      → Refuses on place reason f r g → t ≡ s → Delivers takes leaves f.rules p f.lines g.lines s t (Some (end_of r))
+      → Refuses on (Refused (f.lines + 1) place reason) f r g → t ≡ s → Delivers law (stretch f.rules p f.lines g.lines)
+      s t (Some (end_of r))
   delivers-refused b c place reason true r e h d still = rw d.0 (skipped b c false true e d.1 (rw h refl) still)
   delivers-refused b c place reason false r e h d still = rw d.0 (quiet (Refused (f.lines + 1) place reason) (ap (λ x. x.lines) d.1) still)
 
   delivers-last : (b : ℕ) (c : List ℕ) (v : Verdict) (r : Result (Unit {0}) End) → begun p ≡ b ∷ c → verdict f.rules (map ended_line (closed p)) (b ∷ c) ≡ v
-      → Deals takes leaves (is_lenient f) v (next_item f (unended b c)) f s r g t → Delivers takes leaves f.rules p f.lines g.lines s t (Some (end_of r))
+      → Deals law (judged_next f (is_lenient f) v (unended b c)) (with_sink f s) r (with_sink g t)
+      → Delivers law (stretch f.rules p f.lines g.lines) s t (Some (end_of r))
   delivers-last b c (Refuse place reason) r e h d = delivers-refused b c place reason (is_lenient f) r e h d.0 d.1
   delivers-last b c Blank r e h d = rw d.0 (skipped b c false false e d.1 (rw h refl) d.2)
   delivers-last b c LeftOut r e h d = rw d.0 (skipped b c false false e d.1 (rw h refl) d.2)
@@ -405,17 +450,20 @@ module _ {S : Type 0} (takes leaves : S → Item → S → Type 0) (f g : Readin
   delivers-last b c Valid (Err x) e h d = rw d.0 (quiet WriteFault (ap (λ x. x.lines) d.1.same)
       (unended b c, rw (d.1.same, lines-last b c e) (get-next (map ended_line (closed p)) [] (unended b c) f.lines (sym length-cs)), rw (d.1.same, take-closed, h) refl, rw (d.1.same, take-closed, ← next-item f p reads (unended b c)) d.2))
 
-  delivers-none : (r : Result (Unit {0}) End) → FinishesWith takes leaves [] f s r g t → Delivers takes leaves f.rules p f.lines g.lines s t (Some (end_of r))
+  delivers-none : (r : Result (Unit {0}) End) → FinishesWith law [] (with_sink f s) r (with_sink g t)
+      → Delivers law (stretch f.rules p f.lines g.lines) s t (Some (end_of r))
   delivers-none r d = go (zero_or f.lines)
     where
-      go : (f.lines ≡ 0) ⊎ (0 < f.lines) → Delivers takes leaves f.rules p f.lines g.lines s t (Some (end_of r))
+      go : (f.lines ≡ 0) ⊎ (0 < f.lines) → Delivers law (stretch f.rules p f.lines g.lines) s t (Some (end_of r))
       go (inl z) = let yes_none : eqb f.lines 0 ≡ true = grind (arith, nat_tests) in rw (d.0, yes_none) (quiet (Refused 1 0 NoHeader) (ap (λ x. x.lines) d.1) d.2)
       go (inr z) = let not_none : eqb f.lines 0 ≡ false = grind (arith, nat_tests) in rw (d.0, not_none) (quiet Complete (ap (λ x. x.lines) d.1) d.2)
 
-  pub Finishes-delivers : (r : Result (Unit {0}) End) → Finishes takes leaves f s p r g t → Delivers takes leaves f.rules p f.lines g.lines s t (Some (end_of r))
+  pub Finishes-delivers : (r : Result (Unit {0}) End) → Finishes law p (with_sink f s) r (with_sink g t)
+      → Delivers law (stretch f.rules p f.lines g.lines) s t (Some (end_of r))
   Finishes-delivers r d = go (begun p) refl d
     where
-      go : (x : List ℕ) → begun p ≡ x → FinishesWith takes leaves x f s r g t → Delivers takes leaves f.rules p f.lines g.lines s t (Some (end_of r))
+      go : (x : List ℕ) → begun p ≡ x → FinishesWith law x (with_sink f s) r (with_sink g t)
+          → Delivers law (stretch f.rules p f.lines g.lines) s t (Some (end_of r))
       go [] e d = delivers-none r d
       go (b ∷ c) e (inl d) = delivers-last b c _ r e (sym (next-verdict f p reads (b ∷ c))) d
       go (b ∷ c) e (inr m) = rw m.0 (quiet Memory (ap (λ x. x.lines) m.1.same) m.2)

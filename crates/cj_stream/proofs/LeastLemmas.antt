@@ -6,10 +6,10 @@ use Rattle.cj_budget.specs.Limits.{LimitPair}
 use Rattle.cj_stream.specs.Bound.{IsBelow, contents, exact_peaks, first_lines, greatest, held_length}
 use Rattle.cj_stream.specs.declared.ending.End.{End}
 use Rattle.cj_stream.specs.Engine.{EngineState, limits_of, lines_of, peaks_of}
-use Rattle.cj_stream.specs.Item.{Item}
 use Rattle.cj_stream.specs.Lines.{begun, begun_after, closed, ended_line, first_content, first_of, last_line, later_of, lines, raw, whole}
 use Rattle.cj_stream.specs.Reading.{Reading, Reads, Stays, Finishes, FinishesWith, is_lenient}
 use Rattle.cj_stream.specs.Scanning.{Scanning, Scanned, HeldAll, HeldUntil, Rises}
+use Rattle.cj_stream.specs.Sink.{SinkLaw, with_sink}
 use Rattle.cj_stream.proofs.EngineLemmas.{lines-front}
 use Rattle.cj_stream.proofs.FinishLemmas.{Finishes-concludes, contents-closed, contents-last, peaks-finished}
 use Rattle.cj_stream.proofs.GoodLemmas.{good-complete}
@@ -114,22 +114,25 @@ begun-held f q h =
 first-all : (n : ℕ) (p : List ℕ) → n ≡ length (lines p) → first_lines n p ≡ p
 first-all n p e = ap (λ ls. flat_map raw ls) (take_all n (lines p) (omega (arith, e))) ∙ (lines-are_lines p).joined
 
-module _ {S : Type 0} (takes leaves : S → Item → S → Type 0) where
+module _ {S : Type 0} (law : SinkLaw S) where
   -- an error leaves the count of lines
-  finished-err : (f g : Reading) (s t : S) (p : List ℕ) (e : End) → Finishes takes leaves f s p (Err e) g t → g.lines ≡ f.lines
+  finished-err : (f g : Reading) (s t : S) (p : List ℕ) (e : End) → Finishes law p (with_sink f s) (Err e)
+      (with_sink g t) → g.lines ≡ f.lines
   finished-err f g s t p e d = go (begun p) d
     where
-      go : (x : List ℕ) → FinishesWith takes leaves x f s (Err e) g t → g.lines ≡ f.lines
+      go : (x : List ℕ) → FinishesWith law x (with_sink f s) (Err e) (with_sink g t) → g.lines ≡ f.lines
       go [] d = ap (λ x. x.lines) d.1
-      go (b ∷ c) d = settled-err takes leaves (is_lenient f) _ _ f g s t e d
+      go (b ∷ c) d = settled-err law (is_lenient f) _ _ f g s t e d
 
-  pub least-finished : (old new : EngineState) (s t : S) (p : List ℕ) (r : Result (Unit {0}) End) → Reads old.reading p → Finishes takes leaves old.reading s p r new.reading t
+  pub least-finished : (old new : EngineState) (s t : S) (p : List ℕ) (r : Result (Unit {0}) End) → Reads old.reading p
+      → Finishes law p (with_sink old.reading s) r (with_sink new.reading t)
       → Stays old.reading new.reading → Rises old.scanning new.scanning → Scanned (limits_of old) (closed p) old.scanning → OnOk r (Scanned (limits_of old) (contents p) new.scanning)
       → IsBelow (exact_peaks (limits_of old) (first_lines (lines_of new) p)) (peaks_of new)
   least-finished old new s t p (Ok x) reads d stays rises k now =
-      let told = Finishes-concludes takes leaves old.reading new.reading s t p reads (Ok x) d in
+      let told = Finishes-concludes law old.reading new.reading s t p reads (Ok x) d in
       let all : lines_of new ≡ length (lines p) = told.1 ∙ ap length (good-complete old.reading.rules p told.0) in
-      rw (first-all (lines_of new) p all) (peaks-finished takes leaves old.reading new.reading s t p reads (Ok x) new.scanning d refl now).least
+      rw (first-all (lines_of new) p all) (peaks-finished law old.reading new.reading s t p reads (Ok x) new.scanning d
+      refl now).least
   least-finished old new s t p (Err e) reads d stays rises k now =
       let count : lines_of new ≡ length (closed p) = finished-err old.reading new.reading s t p e d ∙ reads.lines in
       let front : first_lines (lines_of new) p ≡ whole p = let x = first-front (lines_of new) p [] count in rw (append-nil p) at x in

@@ -9,16 +9,17 @@ use Rattle.cj_stream.specs.declared.ending.LineEnd.{LineEnd}
 use Rattle.cj_stream.specs.declared.ending.LineEnd.TheVariants.{Complete as LineComplete, Refused as LineRefused, WriteFault as LineWriteFault}
 use Rattle.cj_budget.specs.declared.limits.Peaks.{Peaks}
 use Rattle.cj_stream.specs.declared.report_sink.Report.{Report}
-use Rattle.cj_stream.specs.Cut.{joined}
+use Rattle.cj_stream.specs.Cut.{joined, in_pieces}
 use Rattle.cj_stream.specs.Ending.{line_end}
 use Rattle.cj_stream.specs.Item.{Item}
-use Rattle.cj_stream.specs.LinePieces.{reported_after, NotesLines}
+use Rattle.cj_stream.specs.LinePieces.{reported_after, NotesLines, later_pieces}
 use Rattle.cj_stream.specs.Lines.{Line, NoLf, closed, begun, ended_line, lines, whole}
-use Rattle.cj_stream.specs.Reading.{Reading, told_verdict, Stores, Settles, Reads}
+use Rattle.cj_stream.specs.Reading.{Reading, told_verdict, Stores, Settles, Reads, JudgedAs}
 use Rattle.cj_stream.specs.ReportSink.{Collects, Notes, NotesRun, NotesPieces}
 use Rattle.cj_stream.specs.Run.{Run, Ends, RunsNoting}
-use Rattle.cj_stream.specs.Sink.{Took}
-use Rattle.cj_stream.specs.Verdict.{Rules, Verdict, Refuse, Blank, LeftOut, Valid, verdict, refusal_in, judged, good, good_from, report_of, reported_from, reported, reported_first}
+use Rattle.cj_stream.specs.Sink.{Took, SinkLaw, with_sink}
+use Rattle.cj_stream.specs.Verdict.{Rules, Verdict, Refuse, Blank, LeftOut, Valid, verdict, refusal_in, judged, good}
+use Rattle.cj_stream.specs.Verdict.{good_from, report_of, reported_from, reported, reported_first, stretch, stream_of}
 use Rattle.cj_stream.proofs.Apart.{some-none}
 use Rattle.cj_stream.proofs.CutLemmas.{refused-more}
 use Rattle.cj_stream.proofs.EngineLemmas.{lines-front, take-front}
@@ -86,59 +87,67 @@ first-unreported rules (suc zero) q few h = go (lines q) h
 -- ---- what was noted
 
 module _ {N : Type 0} (notes : N → Report → N → Type 0) (rules : Rules) where
-  pub Notes-none : (q : List ℕ) (i j : ℕ) (n m : N) → j ≡ i → m ≡ n → Notes notes rules q i j n m
+  pub Notes-none : (q : List ℕ) (i j : ℕ) (n m : N) → j ≡ i → m ≡ n → Notes notes (stretch rules q i j) n m
   Notes-none q i j n m e f = rw (e, f) (record { added = []; told = sym (append-nil (reported_first rules i q)); noted = refl })
 
-  pub Notes-then : (q : List ℕ) (i j k : ℕ) (n m o : N) → Notes notes rules q i j n m → Notes notes rules q j k m o → Notes notes rules q i k n o
-  Notes-then q i j k n m o a b = record {
+  pub Notes-then : {q : List ℕ} {i j k : ℕ} {n m o : N} → Notes notes (stretch rules q i j) n m
+      → Notes notes (stretch rules q j k) m o → Notes notes (stretch rules q i k) n o
+  Notes-then {q} {i} {j} {k} {n} {m} {o} a b = record {
     added = a.added ++ b.added;
     told = b.told ∙ (ap (λ z. z ++ b.added) a.told ∙ append_assoc (reported_first rules i q) a.added b.added);
     noted = Took-append notes n m o a.added b.added a.noted b.noted;
   }
 
   -- of another text with the same lines
-  pub Notes-over : (q r : List ℕ) (i j : ℕ) (n m : N) → reported_first rules i r ≡ reported_first rules i q → reported_first rules j r ≡ reported_first rules j q
-      → Notes notes rules q i j n m → Notes notes rules r i j n m
-  Notes-over q r i j n m e f a = record { added = a.added; told = f ∙ (a.told ∙ ap (λ z. z ++ a.added) (sym e)); noted = a.noted }
+  pub Notes-over : {q r : List ℕ} {i j : ℕ} {n m : N} → reported_first rules i r ≡ reported_first rules i q → reported_first rules j r ≡ reported_first rules j q
+      → Notes notes (stretch rules q i j) n m → Notes notes (stretch rules r i j) n m
+  Notes-over e f a = record { added = a.added; told = f ∙ (a.told ∙ ap (λ z. z ++ a.added) (sym e)); noted = a.noted }
 
   -- of a text that goes on
-  pub Notes-more : (r more : List ℕ) (k : ℕ) (n m : N) → k ≡ length (closed r) → Notes notes rules r 0 k n m → Notes notes rules (r ++ more) 0 k n m
-  Notes-more r more k n m e a = Notes-over r (r ++ more) 0 k n m refl (reported_first-same rules k r more e) a
+  pub Notes-more : (r more : List ℕ) (k : ℕ) (n m : N) → k ≡ length (closed r) → Notes notes (stretch rules r 0 k) n m
+      → Notes notes (stretch rules (r ++ more) 0 k) n m
+  Notes-more r more k n m e a = Notes-over refl (reported_first-same rules k r more e) a
 
   -- of a header
-  pub Notes-first : (q : List ℕ) (i k : ℕ) (n m : N) → i ≡ 0 → k ≤ 1 → refusal_in rules (take k (lines q)) ≡ None → m ≡ n → Notes notes rules q i k n m
+  pub Notes-first : (q : List ℕ) (i k : ℕ) (n m : N) → i ≡ 0 → k ≤ 1 → refusal_in rules (take k (lines q)) ≡ None
+      → m ≡ n → Notes notes (stretch rules q i k) n m
   Notes-first q i k n m first few good same = rw (first, same) (record { added = []; told = first-unreported rules k q few good; noted = refl })
 
   -- what all was noted from the start
-  all-noted : (q : List ℕ) (k : ℕ) (n m : N) → (a : Notes notes rules q 0 k n m) → a.added ≡ reported_first rules k q
+  all-noted : (q : List ℕ) (k : ℕ) (n m : N) → (a : Notes notes (stretch rules q 0 k) n m)
+      → a.added ≡ reported_first rules k q
   all-noted q k n m a = sym a.told
 
-  module _ (r : List ℕ) (at_end : Type 0) (count : ℕ) (n m : N) (good_first : refusal_in rules (take count (lines r)) ≡ None) (a : Notes notes rules r 0 count n m) where
-    -- what was noted, by the end of a run
-    pub NotesRun-told : (e : End) → Ends rules r count at_end e → (e ≡ Memory → count ≡ 0) → NotesRun notes rules r e n m
-    NotesRun-told Complete ends none = rw (← reported_first-good rules count r ends.1, ← all-noted r count n m a) a.noted
-    NotesRun-told (Refused number place reason) ends none = rw (← reported_first-good rules count r ends.1, ← all-noted r count n m a) a.noted
-    NotesRun-told ReadFault ends none = rw (← reported-whole rules count r ends.0 ends.1, ← all-noted r count n m a) a.noted
-    NotesRun-told ReadLimit ends none = rw (← reported-whole rules count r ends.0 ends.1, ← all-noted r count n m a) a.noted
-    NotesRun-told WriteFault ends none =
-        let others = reported_from rules (take count (lines r)) (good_from rules (take count (lines r)) (drop count (lines r))) in
-        record {
-          more = a.added;
-          others = others;
-          middle = m;
-          front = reported-split rules count r good_first ∙ ap (λ z. z ++ others) a.told;
-          took = a.noted;
-          left = refl;
-        }
-    NotesRun-told Memory ends none =
-        let nothing : a.added ≡ [] = all-noted r count n m a ∙ ap (λ k. reported_first rules k r) (none refl) in
-        let k = rw nothing at a.noted in
-        k
+  module _ (r : List ℕ) (at_end : Type 0) (count : ℕ) (n m : N)
+      (good_first : refusal_in rules (take count (lines r)) ≡ None) (a : Notes notes (stretch rules r 0 count) n m)
+    where
+      -- what was noted, by the end of a run
+      pub NotesRun-told : (e : End) → Ends rules r count at_end e → (e ≡ Memory → count ≡ 0)
+          → NotesRun notes (stream_of rules r) e n m
+      NotesRun-told Complete ends none = rw (← reported_first-good rules count r ends.1, ← all-noted r count n m a) a.noted
+      NotesRun-told (Refused number place reason) ends none = rw (← reported_first-good rules count r ends.1, ← all-noted r count n m a) a.noted
+      NotesRun-told ReadFault ends none = rw (← reported-whole rules count r ends.0 ends.1, ← all-noted r count n m a) a.noted
+      NotesRun-told ReadLimit ends none = rw (← reported-whole rules count r ends.0 ends.1, ← all-noted r count n m a) a.noted
+      NotesRun-told WriteFault ends none =
+          let others = reported_from rules (take count (lines r)) (good_from rules (take count (lines r)) (drop count (lines r))) in
+          record {
+            more = a.added;
+            others = others;
+            middle = m;
+            front = reported-split rules count r good_first ∙ ap (λ z. z ++ others) a.told;
+            took = a.noted;
+            left = refl;
+          }
+      NotesRun-told Memory ends none =
+          let nothing : a.added ≡ [] = all-noted r count n m a ∙ ap (λ k. reported_first rules k r) (none refl) in
+          let k = rw nothing at a.noted in
+          k
 
   -- what was noted of pieces, by the end
   pub NotesPieces-told : (pieces : List (List ℕ)) (k count : ℕ) (n m : N) (e : End)
       → Ends rules (joined (take (k + 1) pieces)) count (joined (take (k + 1) pieces) ≡ joined pieces) e → (e ≡ ReadFault → ⊥) → (e ≡ ReadLimit → ⊥)
-      → NotesRun notes rules (joined (take (k + 1) pieces)) e n m → NotesPieces notes rules pieces k e n m
+      → NotesRun notes (stream_of rules (joined (take (k + 1) pieces))) e n m
+      → NotesPieces notes (in_pieces rules pieces k) e n m
   NotesPieces-told pieces k count n m Complete ends u v h = rw (← ends.2) h
   NotesPieces-told pieces k count n m (Refused number place reason) ends u v h = go ends.2
     where
@@ -162,7 +171,8 @@ module _ {N : Type 0} (notes : N → Report → N → Type 0) (rules : Rules) wh
     after-reported : (x : List ℕ) (xs : List Report) → reported rules (p ++ x) ≡ reported_first rules first (p ++ x) ++ xs → reported_after rules first (p ++ x) ≡ xs
     after-reported x xs h = rw h (drop-append_seam (reported_first rules first (p ++ x)) xs)
 
-    noted-after : (x y : List ℕ) (m : ℕ) (h : Notes notes rules (p ++ x) first m a b) → m ≡ length (good rules (p ++ x)) → reported rules (p ++ y) ≡ reported rules (p ++ x)
+    noted-after : (x y : List ℕ) (m : ℕ) (h : Notes notes (stretch rules (p ++ x) first m) a b)
+        → m ≡ length (good rules (p ++ x)) → reported rules (p ++ y) ≡ reported rules (p ++ x)
         → Took notes a (reported_after rules first (p ++ y)) b
     noted-after x y m h all same =
         let here : reported rules (p ++ x) ≡ reported_first rules first (p ++ x) ++ h.added = sym (reported_first-good rules m (p ++ x) all) ∙ h.told in
@@ -170,7 +180,7 @@ module _ {N : Type 0} (notes : N → Report → N → Type 0) (rules : Rules) wh
         rw (after-reported y h.added there) h.noted
 
     module _ (pieces : List (List ℕ)) (k m : ℕ) (good_first : refusal_in rules (take m (lines (p ++ joined (take (k + 1) pieces)))) ≡ None)
-        (h : Notes notes rules (p ++ joined (take (k + 1) pieces)) first m a b) where
+        (h : Notes notes (stretch rules (p ++ joined (take (k + 1) pieces)) first m) a b) where
       given : List ℕ
       given = joined (take (k + 1) pieces)
 
@@ -184,7 +194,7 @@ module _ {N : Type 0} (notes : N → Report → N → Type 0) (rules : Rules) wh
           let z = rw text at more in z.2
 
       pub lines-noted : (e : LineEnd) (peaks : Peaks) → Ends rules (p ++ joined (take (k + 1) pieces)) m (joined pieces ≡ joined (take (k + 1) pieces)) (line_end e)
-          → NotesLines notes rules p pieces first (record { taken = k; peaks = peaks; ended = e }) a b
+          → NotesLines notes (later_pieces rules p pieces first) (record { taken = k; peaks = peaks; ended = e }) a b
       lines-noted LineComplete peaks ends = record {
         noted = λ _. noted-after (joined (take (k + 1) pieces)) (joined pieces) m h ends.1 (rw ends.2 refl);
         fault = λ z. absurd (apart z);
@@ -221,7 +231,8 @@ module _ {N : Type 0} (notes : N → Report → N → Type 0) (rules : Rules) wh
 module _ {N : Type 0} (notes : N → Report → N → Type 0) where
   -- a part and an LF
   pub Notes-line : (f g h : Reading) (p part more : List ℕ) (n m : N) → Reads f p → NoLf part → Stores f part g → h.lines ≡ g.lines + 1
-      → Took notes n (report_of (g.lines + 1) (told_verdict g)) m → Notes notes f.rules (p ++ (part ++ 10 ∷ more)) f.lines h.lines n m
+      → Took notes n (report_of (g.lines + 1) (told_verdict g)) m
+      → Notes notes (stretch f.rules (p ++ (part ++ 10 ∷ more)) f.lines h.lines) n m
   Notes-line f g h p part more n m reads free st one noted =
       let now = Reads-stored f g p part reads st free in
       let xs = map ended_line (closed p) in
@@ -244,7 +255,7 @@ module _ {N : Type 0} (notes : N → Report → N → Type 0) where
 
   -- a last line
   pub Notes-last : (f g : Reading) (p : List ℕ) (n m : N) → Reads f p → 0 < length (begun p) → g.lines ≡ f.lines + 1
-      → Took notes n (report_of (f.lines + 1) (told_verdict f)) m → Notes notes f.rules p f.lines g.lines n m
+      → Took notes n (report_of (f.lines + 1) (told_verdict f)) m → Notes notes (stretch f.rules p f.lines g.lines) n m
   Notes-last f g p n m reads some one noted =
       let xs = map ended_line (closed p) in
       let told = told-verdict f (begun p) reads.begun ∙ next-verdict f p reads (begun p) in
@@ -267,16 +278,22 @@ module _ {N : Type 0} (notes : N → Report → N → Type 0) where
           rw (all, reported-append f.rules [] xs (l ∷ []), append-nil (report_of (length (map ended_line (closed p)) + 1) (verdict f.rules (map ended_line (closed p)) (b ∷ c))), told, at, e) refl
 
   -- what came of a last line
-  pub Notes-finished : {S : Type 0} (takes leaves : S → Item → S → Type 0) (on : Bool) (v : Verdict) (i : Item) (f g : Reading) (s t : S) (p : List ℕ) (n m : N) (r : Result (Unit {0}) End)
-      → Reads f p → 0 < length (begun p) → Settles takes leaves on v i f s r g t → OnOk r (g.lines ≡ f.lines + 1)
-      → OnOk r (Took notes n (report_of (f.lines + 1) (told_verdict f)) m) → OnErr r (m ≡ n) → Notes notes f.rules p f.lines g.lines n m
-  Notes-finished takes leaves on v i f g s t p n m (Ok x) reads some d one noted silent = Notes-last f g p n m reads some one noted
-  Notes-finished takes leaves on v i f g s t p n m (Err e) reads some d one noted silent =
-      Notes-none notes f.rules p f.lines g.lines n m (settled-err takes leaves on v i f g s t e d) silent
+  pub Notes-finished : {S : Type 0} (law : SinkLaw S) (on : Bool) (v : Verdict) (i : Item) (f g : Reading) (s t : S)
+      (p : List ℕ) (n m : N) (r : Result (Unit {0}) End)
+      → Reads f p → 0 < length (begun p) → Settles law (JudgedAs (f.lines + 1) on v i) (with_sink f s) r (with_sink g t)
+      → OnOk r (g.lines ≡ f.lines + 1)
+      → OnOk r (Took notes n (report_of (f.lines + 1) (told_verdict f)) m) → OnErr r (m ≡ n)
+      → Notes notes (stretch f.rules p f.lines g.lines) n m
+  Notes-finished law on v i f g s t p n m (Ok x) reads some d one noted silent = Notes-last f g p n m reads some one
+      noted
+  Notes-finished law on v i f g s t p n m (Err e) reads some d one noted silent =
+      Notes-none notes f.rules p f.lines g.lines n m (settled-err law on v i f g s t e d) silent
 
 -- a run by what was noted of its lines
 pub Noting-told : {N : Type 0} (notes : N → Report → N → Type 0) (run : Run) (at_end : Type 0) (n m : N) → refusal_in run.rules (take run.outcome.lines (lines run.read)) ≡ None
-    → Ends run.rules run.read run.outcome.lines at_end run.outcome.ended → (run.outcome.ended ≡ Memory → run.outcome.lines ≡ 0) → Notes notes run.rules run.read 0 run.outcome.lines n m
+    → Ends run.rules run.read run.outcome.lines at_end run.outcome.ended
+    → (run.outcome.ended ≡ Memory → run.outcome.lines ≡ 0)
+    → Notes notes (stretch run.rules run.read 0 run.outcome.lines) n m
     → RunsNoting notes run n m
 Noting-told notes run at_end n m good_first ends none a = record {
   reports = a;
@@ -312,5 +329,6 @@ pub Noting-memory : {N : Type 0} (notes : N → Report → N → Type 0) (rules 
 Noting-memory notes rules n = record { reports = Notes-none notes rules [] 0 0 n n refl refl; noted = refl }
 
 -- memory was refused: nothing was noted
-pub noted-none : {N : Type 0} (notes : N → Report → N → Type 0) (rules : Rules) (r : List ℕ) (n m : N) (e : End) → e ≡ Memory → NotesRun notes rules r e n m → m ≡ n
+pub noted-none : {N : Type 0} (notes : N → Report → N → Type 0) (rules : Rules) (r : List ℕ) (n m : N) (e : End)
+    → e ≡ Memory → NotesRun notes (stream_of rules r) e n m → m ≡ n
 noted-none notes rules r n m e is h = let k = rw is at h in k

@@ -7,11 +7,13 @@ use Rattle.cj_stream.specs.declared.ending.End.{End}
 use Rattle.cj_stream.specs.declared.ending.End.TheVariants.{Complete, Refused, ReadFault, ReadLimit, WriteFault, Memory}
 use Rattle.cj_stream.specs.Lines.{lines, whole, closed}
 use Rattle.cj_stream.specs.Item.{Item, raw_item}
-use Rattle.cj_stream.specs.Verdict.{Rules, refusal_in, good, good_from, kept_from, kept, kept_first, item_after, output_first}
+use Rattle.cj_stream.specs.Verdict.{Rules, refusal_in, good, good_from, kept_from, kept, kept_first, item_after}
+use Rattle.cj_stream.specs.Verdict.{output_first, stretch, up_to, stream_of}
 use Rattle.cj_stream.specs.Engine.{Counts, Delivers}
 use Rattle.cj_stream.specs.Cut.{AppendsMore}
 use Rattle.cj_stream.specs.Run.{Run, Account, Ends, Puts, Runs, Writes, WritesLines}
-use Rattle.cj_stream.specs.Sink.{Took, TookFront, LeavesNext, AppendsPart}
+use Rattle.cj_stream.specs.Sink.{Took, TookFront, LeavesNext, AppendsPart, SinkLaw, prefixes}
+use Rattle.cj_stream.specs.Output.{writes_law}
 use Rattle.cj_stream.proofs.IsLinesLemmas.{joined-append, lines-whole}
 use Rattle.cj_stream.proofs.ReadingLemmas.{length-map_lines}
 use Rattle.cj_stream.proofs.EngineLemmas.{kept_first-front}
@@ -38,17 +40,21 @@ Took-split step s t [] ys h = (s, refl, h)
 Took-split step s t (x ∷ xs) ys h = let later = Took-split step h.0 t xs ys h.2 in (later.0, (h.0, h.1, later.1), later.2)
 
 -- a sink that was given all good lines, and then left as it was
-pub Took-all : {S : Type 0} (takes leaves : S → Item → S → Type 0) (rules : Rules) (r : List ℕ) (n : ℕ) (s t : S) (e : End) (h : Delivers takes leaves rules r 0 n s t (Some e))
-    → t ≡ h.middle → n ≡ length (good rules r) → Took takes s (kept rules r) t
-Took-all takes leaves rules r n s t e h still all =
+pub Took-all : {S : Type 0} (law : SinkLaw S) (rules : Rules) (r : List ℕ) (n : ℕ) (s t : S) (e : End)
+    (h : Delivers law (stretch rules r 0 n) s t (Some e))
+    → t ≡ h.middle → n ≡ length (good rules r) → Took law.takes s (kept rules r) t
+Took-all law rules r n s t e h still all =
     let k : h.added ≡ kept rules r = sym h.kept ∙ kept_first-good rules n r all in
     rw (← k, still) h.took
 
-module _ {S : Type 0} (takes leaves : S → Item → S → Type 0) (rules : Rules) (r : List ℕ) (at_end : Type 0) (s t : S) (n features refusals : ℕ) where
+module _ {S : Type 0} (law : SinkLaw S) (rules : Rules) (r : List ℕ) (at_end : Type 0) (s t : S)
+    (n features refusals : ℕ) where
   -- what a sink took, by the end of the run
-  puts-told : (e : End) → Ends rules r n at_end e → Counts rules r n features refusals → Delivers takes leaves rules r 0 n s t (Some e) → Puts takes leaves rules r e s t
-  puts-told Complete ends counts d = Took-all takes leaves rules r n s t Complete d d.fault ends.1
-  puts-told (Refused number place reason) ends counts d = Took-all takes leaves rules r n s t (Refused number place reason) d d.fault ends.1
+  puts-told : (e : End) → Ends rules r n at_end e → Counts rules r n features refusals
+      → Delivers law (stretch rules r 0 n) s t (Some e) → Puts law (stream_of rules r) e s t
+  puts-told Complete ends counts d = Took-all law rules r n s t Complete d d.fault ends.1
+  puts-told (Refused number place reason) ends counts d = Took-all law rules r n s t (Refused number place reason) d
+      d.fault ends.1
   puts-told ReadFault ends counts d =
       let k : d.added ≡ kept rules (whole r) = sym d.kept ∙ kept-whole rules n r ends.0 ends.1 in
       rw (← k, d.fault) d.took
@@ -78,20 +84,23 @@ module _ {S : Type 0} (takes leaves : S → Item → S → Type 0) (rules : Rule
       }
 
 -- a run by its account and by what the sink took
-pub Runs-told : {S : Type 0} (takes leaves : S → Item → S → Type 0) (run : Run) (at_end : Type 0) (s t : S) → Account run at_end
-    → Delivers takes leaves run.rules run.read 0 run.outcome.lines s t (Some run.outcome.ended) → Runs takes leaves run at_end s t
-Runs-told takes leaves run at_end s t account sink = record {
+pub Runs-told : {S : Type 0} (law : SinkLaw S) (run : Run) (at_end : Type 0) (s t : S) → Account run at_end
+    → Delivers law (stretch run.rules run.read 0 run.outcome.lines) s t (Some run.outcome.ended)
+    → Runs law run at_end s t
+Runs-told law run at_end s t account sink = record {
   account = account;
   sink = sink;
-  puts = puts-told takes leaves run.rules run.read at_end s t run.outcome.lines run.outcome.kept run.outcome.refused run.outcome.ended account.ends account.counts sink;
+  puts = puts-told law run.rules run.read at_end s t run.outcome.lines run.outcome.kept run.outcome.refused
+      run.outcome.ended account.ends account.counts sink;
 }
 
 -- where memory was refused before any line was dealt with, the sink is as it was
-pub memory-sink : {S : Type 0} (takes leaves : S → Item → S → Type 0) (rules : Rules) (q : List ℕ) (n : ℕ) (s t : S) (e : End) → e ≡ Memory → n ≡ 0
-    → Delivers takes leaves rules q 0 n s t (Some e) → t ≡ s
-memory-sink takes leaves rules q n s t e is none h = go (rw (is, none) at h)
+pub memory-sink : {S : Type 0} (law : SinkLaw S) (rules : Rules) (q : List ℕ) (n : ℕ) (s t : S) (e : End) → e ≡ Memory
+    → n ≡ 0
+    → Delivers law (stretch rules q 0 n) s t (Some e) → t ≡ s
+memory-sink law rules q n s t e is none h = go (rw (is, none) at h)
   where
-    go : Delivers takes leaves rules q 0 0 s t (Some Memory) → t ≡ s
+    go : Delivers law (stretch rules q 0 0) s t (Some Memory) → t ≡ s
     go h = let took = rw (sym h.kept) at h.took in h.fault ∙ took
 
 module _ {S : Type 0} (contents : S → Option (List ℕ)) where
@@ -103,7 +112,7 @@ module _ {S : Type 0} (contents : S → Option (List ℕ)) where
 
   -- the bytes of a prefix of some items
   pub front-bytes : (then : List Item → S → S → Type 0) → ((others : List Item) (a b : S) → then others a b → AppendsPart (contents a) (contents b) (flat_map raw_item others))
-      → (all first : List Item) (s t : S) → TookFront writes then all first s t
+      → (all first : List Item) (s t : S) → TookFront writes then (prefixes all first) s t
       → AppendsPart (contents s) (contents t) (flat_map raw_item all) × AppendsMore (contents s) (contents t) (flat_map raw_item first)
   front-bytes then bytes all first s t h =
       let cut = Took-split writes s h.middle first h.more h.took in
@@ -125,29 +134,35 @@ module _ {S : Type 0} (contents : S → Option (List ℕ)) where
   no-bytes others a b h = rw h (record { front = []; rest = flat_map raw_item others; whole = refl; grows = Appends-nothing (contents a) })
 
   -- the bytes that a writer got, by the end of the run
-  pub Writes-puts : (rules : Rules) (r : List ℕ) (s t : S) (e : End) → Puts writes writes_part rules r e s t → Writes rules r e (contents s) (contents t)
-  Writes-puts rules r s t Complete h = Took-appends contents s t (kept rules r) h
-  Writes-puts rules r s t (Refused number place reason) h = Took-appends contents s t (kept rules r) h
-  Writes-puts rules r s t ReadFault h = Took-appends contents s t (kept rules (whole r)) h
-  Writes-puts rules r s t ReadLimit h = Took-appends contents s t (kept rules (whole r)) h
-  Writes-puts rules r s t WriteFault h = (front-bytes (LeavesNext writes_part) next-bytes (kept rules r) [] s t h).0
-  Writes-puts rules r s t Memory h = (front-bytes (λ others a b. b ≡ a) no-bytes (kept rules r) [] s t h).0
+  pub Writes-puts : (failures : S → ℕ) (rules : Rules) (r : List ℕ) (s t : S) (e : End)
+      → Puts (writes_law contents failures) (stream_of rules r) e s t
+      → Writes (stream_of rules r) e (contents s) (contents t)
+  Writes-puts failures rules r s t Complete h = Took-appends contents s t (kept rules r) h
+  Writes-puts failures rules r s t (Refused number place reason) h = Took-appends contents s t (kept rules r) h
+  Writes-puts failures rules r s t ReadFault h = Took-appends contents s t (kept rules (whole r)) h
+  Writes-puts failures rules r s t ReadLimit h = Took-appends contents s t (kept rules (whole r)) h
+  Writes-puts failures rules r s t WriteFault h = (front-bytes (LeavesNext writes_part) next-bytes (kept rules r) [] s t
+      h).0
+  Writes-puts failures rules r s t Memory h = (front-bytes (λ others a b. b ≡ a) no-bytes (kept rules r) [] s t h).0
 
   -- and by the lines that were dealt with
-  module _ (rules : Rules) (r : List ℕ) (n : ℕ) (s t : S) where
-    dealt-bytes : {e : End} (d : Delivers writes writes_part rules r 0 n s t (Some e)) → Appends (contents s) (contents d.middle) (output_first rules n r)
+  module _ (failures : S → ℕ) (rules : Rules) (r : List ℕ) (n : ℕ) (s t : S) where
+    dealt-bytes : {e : End} (d : Delivers (writes_law contents failures) (stretch rules r 0 n) s t (Some e))
+        → Appends (contents s) (contents d.middle) (output_first rules n r)
     dealt-bytes d =
         let all : kept_first rules n r ≡ d.added = d.kept in
         rw all (Took-appends contents s d.middle d.added d.took)
 
-    still-bytes : {e : End} (d : Delivers writes writes_part rules r 0 n s t (Some e)) → t ≡ d.middle → Appends (contents s) (contents t) (output_first rules n r)
+    still-bytes : {e : End} (d : Delivers (writes_law contents failures) (stretch rules r 0 n) s t (Some e))
+        → t ≡ d.middle → Appends (contents s) (contents t) (output_first rules n r)
     still-bytes d still = rw still (dealt-bytes d)
 
     none-kept : (a : Option (List ℕ)) → Keeps a a
     none-kept None = tt
     none-kept (Some x) = refl
 
-    pub WritesLines-told : (e : End) → (e ≡ Memory → n ≡ 0) → Delivers writes writes_part rules r 0 n s t (Some e) → WritesLines rules r n e (contents s) (contents t)
+    pub WritesLines-told : (e : End) → (e ≡ Memory → n ≡ 0) → Delivers (writes_law contents failures)
+        (stretch rules r 0 n) s t (Some e) → WritesLines (up_to rules r n) e (contents s) (contents t)
     WritesLines-told Complete none d = still-bytes d d.fault
     WritesLines-told (Refused number place reason) none d = still-bytes d d.fault
     WritesLines-told ReadFault none d = still-bytes d d.fault
@@ -165,5 +180,5 @@ module _ {S : Type 0} (contents : S → Option (List ℕ)) where
         }
     WritesLines-told Memory none d =
         let nothing : n ≡ 0 = none refl in
-        let same : t ≡ s = memory-sink writes writes_part rules r n s t Memory refl nothing d in
+        let same : t ≡ s = memory-sink (writes_law contents failures) rules r n s t Memory refl nothing d in
         (nothing, rw same (none-kept (contents s)))

@@ -9,11 +9,11 @@ use Rattle.cj_stream.specs.Ending.{IsAccepted}
 use Rattle.cj_stream.specs.declared.report_sink.Report.{Report}
 use Rattle.cj_stream.specs.Engine.{EngineState, StandsFor, rules_of, lines_of}
 use Rattle.cj_stream.specs.Feeding.{Feeds, IsFinished}
-use Rattle.cj_stream.specs.Item.{Item}
 use Rattle.cj_stream.specs.ReportSink.{Notes}
-use Rattle.cj_stream.specs.Verdict.{reported_first}
+use Rattle.cj_stream.specs.Verdict.{reported_first, stretch}
 use Rattle.cj_stream.proofs.NoteLemmas.{Notes-first, Notes-then, Notes-over, reported_first-same}
 use Rattle.cj_stream.specs.Phase.{state_of, seen, IsUnderWay}
+use Rattle.cj_stream.specs.Sink.{SinkLaw, with_sink}
 use Rattle.cj_stream.proofs.Apart.{some-none, false-true}
 use Rattle.cj_stream.proofs.FeedingLemmas.{Feeds-untaken}
 use Rattle.cj_stream.proofs.ReadingLemmas.{zero_or}
@@ -50,21 +50,24 @@ pub seen-taken : (held : Option Phase) (n : ℕ) (ended : Option End) → (seen 
 seen-taken (Some phase) n ended = refl
 seen-taken None n ended = refl
 
-module _ {S : Type 0} (takes leaves : S → Item → S → Type 0) (failures : S → ℕ) (self : EngineState) (held : Option Phase) (phase next : Phase) (n : ℕ) (ended : Option End) (s t : S)
+module _ {S : Type 0} (law : SinkLaw S) (self : EngineState) (held : Option Phase) (phase next : Phase) (n : ℕ)
+    (ended : Option End) (s t : S)
     (seen_is : self ≡ seen held n ended) (held_is : held ≡ Some phase) (none : ended ≡ None) (going : IsUnderWay phase n) where
   pub self-is : self ≡ state_of phase
   self-is = seen_is ∙ (rw held_is (seen-going phase n ended going none))
 
-  pub Feeds-goes_on : (bytes : List ℕ) (m : ℕ) → IsUnderWay next m → Feeds takes leaves failures (state_of phase) bytes (Ok tt) (state_of next) s t
-      → Feeds takes leaves failures self bytes (Ok tt) (record (state_of next) { taken = m; ended = ended }) s t
+  pub Feeds-goes_on : (bytes : List ℕ) (m : ℕ) → IsUnderWay next m → Feeds law bytes (with_sink (state_of phase) s)
+      (Ok tt) (with_sink (state_of next) t)
+      → Feeds law bytes (with_sink self s) (Ok tt) (with_sink (record (state_of next) { taken = m; ended = ended }) t)
   Feeds-goes_on bytes m later h = rw (self-is, seen-going next m ended later none) h
 
-  pub Feeds-ends : (bytes : List ℕ) (e : End) → Feeds takes leaves failures (state_of phase) bytes (Err e) (state_of next) s t
-      → Feeds takes leaves failures self bytes (Err e) (record (state_of next) { taken = n; ended = Some e }) s t
-  Feeds-ends bytes e h = rw (self-is, ← h.ended) (Feeds-untaken takes leaves failures (state_of phase) s bytes e (state_of next) t n h)
+  pub Feeds-ends : (bytes : List ℕ) (e : End) → Feeds law bytes (with_sink (state_of phase) s) (Err e)
+      (with_sink (state_of next) t)
+      → Feeds law bytes (with_sink self s) (Err e) (with_sink (record (state_of next) { taken = n; ended = Some e }) t)
+  Feeds-ends bytes e h = rw (self-is, ← h.ended) (Feeds-untaken law (state_of phase) s bytes e (state_of next) t n h)
 
-  pub IsFinished-ends : (e : End) → IsFinished takes leaves failures (state_of phase) e (state_of next) s t
-      → IsFinished takes leaves failures self e (record (state_of next) { taken = n; ended = Some e }) s t
+  pub IsFinished-ends : (e : End) → IsFinished law (with_sink (state_of phase) s) e (with_sink (state_of next) t)
+      → IsFinished law (with_sink self s) e (with_sink (record (state_of next) { taken = n; ended = Some e }) t)
   IsFinished-ends e h = rw self-is (record {
     ended = refl;
     counts = h.counts;
@@ -84,25 +87,30 @@ module _ {S : Type 0} (takes leaves : S → Item → S → Type 0) (failures : S
 
 -- ---- what is noted of a header: nothing
 
-module _ {S N : Type 0} (takes leaves : S → Item → S → Type 0) (failures : S → ℕ) (notes : N → Report → N → Type 0) (old : EngineState) (s : S) (going : old.ended ≡ None) (first : lines_of old ≡ 0) where
-  pub Notes-header : (bytes : List ℕ) (r : Result (Unit {0}) End) (new : EngineState) (t : S) (n : N) (p : List ℕ) → lines_of new ≤ 1 → Feeds takes leaves failures old bytes r new s t → StandsFor old p
-      → Notes notes (rules_of old) (p ++ bytes) (lines_of old) (lines_of new) n n
+module _ {S N : Type 0} (law : SinkLaw S) (notes : N → Report → N → Type 0) (old : EngineState) (s : S)
+    (going : old.ended ≡ None) (first : lines_of old ≡ 0) where
+  pub Notes-header : (bytes : List ℕ) (r : Result (Unit {0}) End) (new : EngineState) (t : S) (n : N) (p : List ℕ)
+      → lines_of new ≤ 1 → Feeds law bytes (with_sink old s) r (with_sink new t) → StandsFor old p
+      → Notes notes (stretch (rules_of old) (p ++ bytes) (lines_of old) (lines_of new)) n n
   Notes-header bytes r new t n p few feeds st =
       let now = let k = feeds.stands p st in rw going at k in
       let good = rw feeds.rules at now.counts.good in
       Notes-first notes (rules_of old) (p ++ bytes) (lines_of old) (lines_of new) n n first few good refl
 
-  pub Notes-header_finished : (e : End) (new : EngineState) (t : S) (n : N) (p : List ℕ) → lines_of new ≤ 1 → IsFinished takes leaves failures old e new s t → StandsFor old p
-      → Notes notes (rules_of old) p (lines_of old) (lines_of new) n n
+  pub Notes-header_finished : (e : End) (new : EngineState) (t : S) (n : N) (p : List ℕ) → lines_of new ≤ 1
+      → IsFinished law (with_sink old s) e (with_sink new t) → StandsFor old p
+      → Notes notes (stretch (rules_of old) p (lines_of old) (lines_of new)) n n
   Notes-header_finished e new t n p few finished st =
       let now = finished.stands p st in
       let good = rw finished.rules at now.counts.good in
       Notes-first notes (rules_of old) p (lines_of old) (lines_of new) n n first few good refl
 
   -- a piece of which the first part is of the header, and the rest of later lines
-  pub Notes-join : (bytes : List ℕ) (k : ℕ) (middle : EngineState) (t : S) (count : ℕ) (n m : N) (p : List ℕ) → lines_of middle ≤ 1 → Feeds takes leaves failures old (take k bytes) (Ok tt) middle s t
-      → ((q : List ℕ) → StandsFor middle q → Notes notes (rules_of middle) (q ++ drop k bytes) (lines_of middle) count n m) → StandsFor old p
-      → Notes notes (rules_of old) (p ++ bytes) (lines_of old) count n m
+  pub Notes-join : (bytes : List ℕ) (k : ℕ) (middle : EngineState) (t : S) (count : ℕ) (n m : N) (p : List ℕ)
+      → lines_of middle ≤ 1 → Feeds law (take k bytes) (with_sink old s) (Ok tt) (with_sink middle t)
+      → ((q : List ℕ) → StandsFor middle q
+      → Notes notes (stretch (rules_of middle) (q ++ drop k bytes) (lines_of middle) count) n m) → StandsFor old p
+      → Notes notes (stretch (rules_of old) (p ++ bytes) (lines_of old) count) n m
   Notes-join bytes k middle t count n m p few feeds later st =
       let text : (p ++ take k bytes) ++ drop k bytes ≡ p ++ bytes = append_assoc p (take k bytes) (drop k bytes) ∙ ap (λ z. p ++ z) (take-append-drop k bytes) in
       let now = let z = feeds.stands p st in rw going at z in
@@ -112,4 +120,4 @@ module _ {S N : Type 0} (takes leaves : S → Item → S → Type 0) (failures :
       (let z = reported_first-same (rules_of old) (lines_of middle) (p ++ take k bytes) (drop k bytes) read in rw text at z) in
       let none : reported_first (rules_of old) (lines_of old) (p ++ bytes) ≡ reported_first (rules_of old) (lines_of old) (p ++ take k bytes) = rw first refl in
       let rest = let z = later (p ++ take k bytes) now in rw (text, feeds.rules) at z in
-      Notes-then notes (rules_of old) (p ++ bytes) (lines_of old) (lines_of middle) count n n m (Notes-over notes (rules_of old) (p ++ take k bytes) (p ++ bytes) (lines_of old) (lines_of middle) n n none same head) rest
+      Notes-then notes (rules_of old) (Notes-over notes (rules_of old) none same head) rest

@@ -11,8 +11,10 @@ use Rattle.cj_stream.specs.declared.ending.End.TheVariants.{Refused, WriteFault,
 use Rattle.cj_stream.specs.Lines.{lines, closed, begun, ended_line, NoLf}
 use Rattle.cj_stream.specs.Item.{Item}
 use Rattle.cj_stream.specs.Verdict.{Rules, Verdict, Refuse, Blank, LeftOut, Valid, verdict, item_after, refusal_of, is_kept, long_line}
-use Rattle.cj_stream.specs.Reading.{Reading, begun_of, told_verdict, next_verdict, next_item, is_lenient, IsBegun, IsLeft, Unstored, Stores, Passes, Refuses, Deals, Settles, Reads, kept_closed, Puts, Advances, IsNext, HasCause, Stops}
-use Rattle.cj_stream.specs.Sink.{Took}
+use Rattle.cj_stream.specs.Reading.{Reading, begun_of, told_verdict, next_verdict, is_lenient, IsBegun}
+use Rattle.cj_stream.specs.Reading.{IsLeft, Unstored, Stores, Passes, Refuses, Deals, Settles, Reads, kept_closed}
+use Rattle.cj_stream.specs.Reading.{Advances, IsNext, HasCause, Stops, further, JudgedAs, judged_next, stop_at}
+use Rattle.cj_stream.specs.Sink.{Took, SinkLaw, with_sink, TookMore}
 use Rattle.cj_stream.proofs.LineLemmas.{closed-more, begun-more, closed-lf, begun-lf, none-from_length}
 use Rattle.cj_stream.proofs.VerdictLemmas.{verdict-long}
 use Rattle.cj_stream.proofs.ReadingLemmas.{left-same, strict-first, Reads-left, Reads-stored, Reads-passed, is_refused, held-whole, dropped-long, told-verdict, next-verdict, next-item, kept_closed-lf, map_lines-append}
@@ -23,23 +25,34 @@ pub Took-append : {S X : Type 0} (step : S → X → S → Type 0) (a b c : S) (
 Took-append step a b c [] ys h k = subst (λ z. Took step z ys c) h k
 Took-append step a b c (x ∷ xs) ys h k = (h.0, h.1, Took-append step h.0 b c xs ys h.2 k)
 
-module _ {S : Type 0} (takes leaves : S → Item → S → Type 0) where
-  pub Puts-none : (rules : Rules) (p q : List ℕ) (s : S) → closed q ≡ closed p → Puts takes rules p q s s
+module _ {S : Type 0} (law : SinkLaw S) where
+  pub Puts-none : (rules : Rules) (p q : List ℕ) (s : S) → closed q ≡ closed p
+      → TookMore law.takes (kept_closed rules p) (kept_closed rules q) s s
   Puts-none rules p q s e = ([], rw e (sym (append-nil (kept_closed rules p))), refl)
 
-  pub Puts-then : (rules : Rules) (p q r : List ℕ) (s t u : S) → Puts takes rules p q s t → Puts takes rules q r t u → Puts takes rules p r s u
-  Puts-then rules p q r s t u h k =
-      (h.0 ++ k.0, k.1 ∙ (ap (λ z. z ++ k.0) h.1 ∙ append_assoc (kept_closed rules p) h.0 k.0), Took-append takes s t u h.0 k.0 h.2 k.2)
+  pub Puts-then : (rules : Rules) (p q r : List ℕ) (s t u : S) → TookMore law.takes (kept_closed rules p)
+      (kept_closed rules q) s t → TookMore law.takes (kept_closed rules q) (kept_closed rules r) t u
+      → TookMore law.takes (kept_closed rules p) (kept_closed rules r) s u
+  Puts-then rules p q r s t u h k = (
+    h.0 ++ k.0,
+    k.1 ∙ (ap (λ z. z ++ k.0) h.1 ∙ append_assoc (kept_closed rules p) h.0 k.0),
+    Took-append law.takes s
+        t u h.0 k.0 h.2 k.2,
+  )
 
-  pub Advances-none : (f : Reading) (s : S) (p : List ℕ) → Reads f p → Advances takes f s p [] f s
-  Advances-none f s p h = record {
+  pub Advances-none : {f : Reading} {s : S} {p : List ℕ} → Reads f p
+      → Advances law (further p []) (with_sink f s) (with_sink f s)
+  Advances-none {f} {s} {p} h = record {
     rules = refl;
     reads = rw (append-nil p) h;
     puts = Puts-none f.rules p (p ++ []) s (ap closed (append-nil p));
   }
 
-  pub Advances-then : (f g h : Reading) (s t u : S) (p a b : List ℕ) → Advances takes f s p a g t → Advances takes g t (p ++ a) b h u → Advances takes f s p (a ++ b) h u
-  Advances-then f g h s t u p a b x y = record {
+  pub Advances-then : {f g h : Reading} {s t u : S} {p a b : List ℕ}
+      → Advances law (further p a) (with_sink f s) (with_sink g t)
+      → Advances law (further (p ++ a) b) (with_sink g t) (with_sink h u)
+      → Advances law (further p (a ++ b)) (with_sink f s) (with_sink h u)
+  Advances-then {f} {g} {h} {s} {t} {u} {p} {a} {b} x y = record {
     rules = y.rules ∙ x.rules;
     reads = rw (← append_assoc p a b) y.reads;
     puts =
@@ -47,8 +60,9 @@ module _ {S : Type 0} (takes leaves : S → Item → S → Type 0) where
         rw (← append_assoc p a b) (Puts-then f.rules p (p ++ a) ((p ++ a) ++ b) s t u x.puts k);
   }
 
-  pub Advances-stored : (f g : Reading) (s : S) (p part : List ℕ) → Reads f p → NoLf part → Stores f part g → Advances takes f s p part g s
-  Advances-stored f g s p part h n st = record {
+  pub Advances-stored : {f g : Reading} {s : S} {p part : List ℕ} → Reads f p → NoLf part → Stores f part g
+      → Advances law (further p part) (with_sink f s) (with_sink g s)
+  Advances-stored {f} {g} {s} {p} {part} h n st = record {
     rules = st.rules;
     reads = Reads-stored f g p part h st n;
     puts = Puts-none f.rules p (p ++ part) s (closed-more p part n);
@@ -56,7 +70,8 @@ module _ {S : Type 0} (takes leaves : S → Item → S → Type 0) where
 
   passed : (g h : Reading) (s t : S) (p : List ℕ) (put refuses : Bool) → Reads g p → Passes put refuses g h
       → refusal_of g.rules (g.lines + 1) (next_verdict g (begun p)) ≡ None → put ≡ is_kept (next_verdict g (begun p)) → refuses ≡ is_refused (next_verdict g (begun p))
-      → Took takes s (if put then item_after g.rules (map ended_line (closed p)) (ended_line (begun p)) ∷ [] else []) t → Advances takes g s p (10 ∷ []) h t
+      → Took law.takes s (if put then item_after g.rules (map ended_line (closed p)) (ended_line (begun p))
+      ∷ [] else []) t → Advances law (further p (10 ∷ [])) (with_sink g s) (with_sink h t)
   passed g h s t p put refuses r x fine k bad took = record {
     rules = x.rules;
     reads = Reads-passed g h p put refuses r x fine k bad;
@@ -68,12 +83,14 @@ module _ {S : Type 0} (takes leaves : S → Item → S → Type 0) where
 
   -- a refused line that reading goes on after
   gone-on : (g h : Reading) (s t : S) (p : List ℕ) (place : ℕ) (reason : Reason) (on : Bool) (r : Result (Unit {0}) End) → Reads g p → next_verdict g (begun p) ≡ Refuse place reason
-      → is_lenient g ≡ on → Refuses on place reason g r h → t ≡ s → r ≡ Ok tt → Advances takes g s p (10 ∷ []) h t
+      → is_lenient g ≡ on → Refuses on (Refused (g.lines + 1) place reason) g r h → t ≡ s → r ≡ Ok tt
+      → Advances law (further p (10 ∷ [])) (with_sink g s) (with_sink h t)
   gone-on g h s t p place reason true r reads e is d still ok = passed g h s t p false true reads d.1 (rw (e, is) refl) (rw e refl) (rw e refl) still
   gone-on g h s t p place reason false r reads e is d still ok = absurd (clash-err r _ d.0 ok)
 
   dealt : (g h : Reading) (s t : S) (p : List ℕ) (v : Verdict) (r : Result (Unit {0}) End) → Reads g p → next_verdict g (begun p) ≡ v
-      → Deals takes leaves (is_lenient g) v (next_item g (ended_line (begun p))) g s r h t → r ≡ Ok tt → Advances takes g s p (10 ∷ []) h t
+      → Deals law (judged_next g (is_lenient g) v (ended_line (begun p))) (with_sink g s) r (with_sink h t) → r ≡ Ok tt
+      → Advances law (further p (10 ∷ [])) (with_sink g s) (with_sink h t)
   dealt g h s t p (Refuse place reason) r reads e d ok = gone-on g h s t p place reason (is_lenient g) r reads e refl d.0 d.1 ok
   dealt g h s t p Blank r reads e d ok = passed g h s t p false false reads d.1 (rw e refl) (rw e refl) (rw e refl) d.2
   dealt g h s t p LeftOut r reads e d ok = passed g h s t p false false reads d.1 (rw e refl) (rw e refl) (rw e refl) d.2
@@ -83,48 +100,66 @@ module _ {S : Type 0} (takes leaves : S → Item → S → Type 0) where
       passed g h s t p true false reads d.0 (rw e refl) (rw e refl) (rw e refl) (t, rw (← is) d.1, refl)
 
   settled : (g h : Reading) (s t : S) (p : List ℕ) (r : Result (Unit {0}) End) → Reads g p
-      → Settles takes leaves (is_lenient g) (next_verdict g (begun p)) (next_item g (ended_line (begun p))) g s r h t → r ≡ Ok tt → Advances takes g s p (10 ∷ []) h t
+      → Settles law (judged_next g (is_lenient g) (next_verdict g (begun p)) (ended_line (begun p))) (with_sink g s) r
+      (with_sink h t) → r ≡ Ok tt → Advances law (further p (10 ∷ [])) (with_sink g s) (with_sink h t)
   settled g h s t p r reads (inl d) ok = dealt g h s t p _ r reads refl d ok
   settled g h s t p r reads (inr m) ok = absurd (clash-err r Memory m.0 ok)
 
   -- what came of the begun line, told by its content, of which nothing is known where it is dropped
   pub Settles-begun : (on : Bool) (g h : Reading) (s t : S) (c : List ℕ) (lf : Bool) (r : Result (Unit {0}) End) → IsBegun g c
-      → Settles takes leaves on (told_verdict g) (next_item g (record { content = begun_of g; lf = lf })) g s r h t
-      → Settles takes leaves on (next_verdict g c) (next_item g (record { content = c; lf = lf })) g s r h t
-  Settles-begun on g h s t c lf r is d = go g.dropped refl (subst (λ v. Settles takes leaves on v (next_item g (record { content = begun_of g; lf = lf })) g s r h t) (told-verdict g c is) d)
+      → Settles law (judged_next g on (told_verdict g) (record { content = begun_of g; lf = lf })) (with_sink g s) r
+      (with_sink h t)
+      → Settles law (judged_next g on (next_verdict g c) (record { content = c; lf = lf })) (with_sink g s) r
+      (with_sink h t)
+  Settles-begun on g h s t c lf r is d = go g.dropped refl
+      (subst (λ v. Settles law (judged_next g on v (record { content = begun_of g; lf = lf })) (with_sink g s) r
+      (with_sink h t)) (told-verdict g c is) d)
     where
-      no-item : (x : Item) (place : ℕ) (reason : Reason) (v : Verdict) → v ≡ Refuse place reason → Settles takes leaves on v x g s r h t
-          → Settles takes leaves on v (next_item g (record { content = c; lf = lf })) g s r h t
+      no-item : (x : Item) (place : ℕ) (reason : Reason) (v : Verdict) → v ≡ Refuse place reason
+          → Settles law (JudgedAs (g.lines + 1) on v x) (with_sink g s) r (with_sink h t)
+          → Settles law (judged_next g on v (record { content = c; lf = lf })) (with_sink g s) r (with_sink h t)
       no-item x place reason v e k = rw e (other (rw e at k))
         where
-          other : Settles takes leaves on (Refuse place reason) x g s r h t → Settles takes leaves on (Refuse place reason) (next_item g (record { content = c; lf = lf })) g s r h t
+          other : Settles law (JudgedAs (g.lines + 1) on (Refuse place reason) x) (with_sink g s) r (with_sink h t)
+              → Settles law (judged_next g on (Refuse place reason) (record { content = c; lf = lf })) (with_sink g s) r
+              (with_sink h t)
           other (inl d) = inl d
           other (inr m) = absurd (apart m.4)
             where
               apart : Refuse place reason ≡ Valid → ⊥
               apart z = cc
 
-      go : (b : Bool) → g.dropped ≡ b → Settles takes leaves on (next_verdict g c) (next_item g (record { content = begun_of g; lf = lf })) g s r h t
-          → Settles takes leaves on (next_verdict g c) (next_item g (record { content = c; lf = lf })) g s r h t
+      go : (b : Bool) → g.dropped ≡ b → Settles law (judged_next g on (next_verdict g c)
+          (record { content = begun_of g; lf = lf })) (with_sink g s) r (with_sink h t)
+          → Settles law (judged_next g on (next_verdict g c) (record { content = c; lf = lf })) (with_sink g s) r
+          (with_sink h t)
       go true dropped k = no-item _ g.rules.limits.line LineTooLong (next_verdict g c) (verdict-long g.rules _ _ c (dropped-long g c is dropped)) k
-      go false held k = subst (λ x. Settles takes leaves on (next_verdict g c) (next_item g (record { content = x; lf = lf })) g s r h t) (held-whole g c is held).0 k
+      go false held k = subst (λ x. Settles law (judged_next g on (next_verdict g c) (record { content = x; lf = lf }))
+          (with_sink g s) r (with_sink h t)) (held-whole g c is held).0 k
 
   -- what came of the first line, which nothing goes on after if it is refused
-  pub Settles-first : (g h : Reading) (s t : S) (v : Verdict) (i : Item) (r : Result (Unit {0}) End) → g.lines ≡ 0 → Settles takes leaves false v i g s r h t
-      → Settles takes leaves (is_lenient g) v i g s r h t
-  Settles-first g h s t v i r first d = subst (λ on. Settles takes leaves on v i g s r h t) (sym (strict-first g first)) d
+  pub Settles-first : (g h : Reading) (s t : S) (v : Verdict) (i : Item) (r : Result (Unit {0}) End) → g.lines ≡ 0
+      → Settles law (JudgedAs (g.lines + 1) false v i) (with_sink g s) r (with_sink h t)
+      → Settles law (JudgedAs (g.lines + 1) (is_lenient g) v i) (with_sink g s) r (with_sink h t)
+  Settles-first g h s t v i r first d = subst (λ on. Settles law (JudgedAs (g.lines + 1) on v i) (with_sink g s) r
+      (with_sink h t)) (sym (strict-first g first)) d
 
   -- a part and an LF
-  pub Advances-line : (f g h : Reading) (s t : S) (p part : List ℕ) (r : Result (Unit {0}) End) → Reads f p → NoLf part → Stores f part g
-      → Settles takes leaves (is_lenient g) (told_verdict g) (next_item g (ended_line (begun_of g))) g s r h t → r ≡ Ok tt
-      → Advances takes f s p (part ++ 10 ∷ []) h t
-  Advances-line f g h s t p part r reads n st d ok =
-      let a = Advances-stored f g s p part reads n st in
+  pub Advances-line : {f g h : Reading} {s t : S} {p part : List ℕ} {r : Result (Unit {0}) End} → Reads f p → NoLf part
+      → Stores f part g
+      → Settles law (judged_next g (is_lenient g) (told_verdict g) (ended_line (begun_of g))) (with_sink g s) r
+      (with_sink h t) → r ≡ Ok tt
+      → Advances law (further p (part ++ 10 ∷ [])) (with_sink f s) (with_sink h t)
+  Advances-line {f} {g} {h} {s} {t} {p} {part} {r} reads n st d ok =
+      let a = Advances-stored {s = s} reads n st in
       let told = Settles-begun (is_lenient g) g h s t (begun (p ++ part)) true r a.reads.begun d in
-      Advances-then f g h s s t p part (10 ∷ []) a (settled g h s t (p ++ part) r a.reads told ok)
+      Advances-then a (settled g h s t (p ++ part) r a.reads told ok)
 
-  pub Stops-later : (f g h : Reading) (s t u : S) (p a b : List ℕ) (e : End) → Advances takes f s p a g t → Stops takes leaves g t (p ++ a) b e h u → Stops takes leaves f s p (a ++ b) e h u
-  Stops-later f g h s t u p a b e x y = record {
+  pub Stops-later : {f g h : Reading} {s t u : S} {p a b : List ℕ} {e : End}
+      → Advances law (further p a) (with_sink f s) (with_sink g t)
+      → Stops law (further (p ++ a) b) (with_sink g t) e (with_sink h u)
+      → Stops law (further p (a ++ b)) (with_sink f s) e (with_sink h u)
+  Stops-later {f} {g} {h} {s} {t} {u} {p} {a} {b} x y = record {
     done = a ++ y.done;
     left = y.left;
     middle = y.middle;
@@ -156,13 +191,15 @@ module _ {S : Type 0} (takes leaves : S → Item → S → Type 0) where
 
   Unstored-cause : (f : Reading) (s : S) (p part q : List ℕ) (lf : Bool) (e : End) → Reads f p → Unstored f part e
       → (f.rules.limits.line < length (begun p ++ part) → IsNext f.rules.limits p q (record { content = begun p ++ part; lf = lf }))
-      → HasCause leaves f.rules p q f.lines s s e
+      → HasCause law (stop_at f.rules p q f.lines) s s e
   Unstored-cause f s p part q lf e reads d next =
       let whole = held-whole f (begun p) reads.begun d.3 in
       let long : f.rules.limits.line < length (begun p ++ part) = omega (arith, length-append (begun p) part, ap length whole.0, d.1) in
       rw d.0 (record { content = begun p ++ part; lf = lf }, next long, refl, verdict-long f.rules _ _ (begun p ++ part) long, refl, d.2)
 
-  stopped : (f : Reading) (s : S) (p more : List ℕ) (e : End) → Reads f p → HasCause leaves f.rules p (p ++ more) f.lines s s e → Stops takes leaves f s p more e f s
+  stopped : (f : Reading) (s : S) (p more : List ℕ) (e : End) → Reads f p
+      → HasCause law (stop_at f.rules p (p ++ more) f.lines) s s e → Stops law (further p more) (with_sink f s) e
+      (with_sink f s)
   stopped f s p more e reads cause = record {
     done = [];
     left = more;
@@ -175,16 +212,18 @@ module _ {S : Type 0} (takes leaves : S → Item → S → Type 0) where
   }
 
   -- a part that is not stored, and an LF comes after it
-  pub Stops-unstored : (f : Reading) (s : S) (p part more : List ℕ) (e : End) → Reads f p → NoLf part → Unstored f part e → Stops takes leaves f s p (part ++ 10 ∷ more) e f s
-  Stops-unstored f s p part more e reads n u = stopped f s p (part ++ 10 ∷ more) e reads
+  pub Stops-unstored : {f : Reading} {s : S} {p : List ℕ} (part more : List ℕ) {e : End} → Reads f p → NoLf part
+      → Unstored f part e → Stops law (further p (part ++ 10 ∷ more)) (with_sink f s) e (with_sink f s)
+  Stops-unstored {f} {s} {p} part more {e} reads n u = stopped f s p (part ++ 10 ∷ more) e reads
       (Unstored-cause f s p part (p ++ (part ++ 10 ∷ more)) true e reads u (λ _. next))
     where
       next : IsNext f.rules.limits p (p ++ (part ++ 10 ∷ more)) (ended_line (begun p ++ part))
       next = let k = IsNext-ended f.rules.limits p part more n in rw (closed-more p part n) at k
 
   -- the last part is not stored
-  pub Stops-unstored_last : (f : Reading) (s : S) (p part : List ℕ) (e : End) → Reads f p → NoLf part → Unstored f part e → Stops takes leaves f s p part e f s
-  Stops-unstored_last f s p part e reads n u = stopped f s p part e reads
+  pub Stops-unstored_last : {f : Reading} {s : S} {p part : List ℕ} {e : End} → Reads f p → NoLf part
+      → Unstored f part e → Stops law (further p part) (with_sink f s) e (with_sink f s)
+  Stops-unstored_last {f} {s} {p} {part} {e} reads n u = stopped f s p part e reads
       (Unstored-cause f s p part (p ++ part) false e reads u (λ long. IsNext-long f.rules.limits p part n long))
 
   good-bad : (r : Result (Unit {0}) End) (e : End) → r ≡ Ok tt → r ≡ Err e → ⊥
@@ -192,8 +231,9 @@ module _ {S : Type 0} (takes leaves : S → Item → S → Type 0) where
 
   -- a refused line that is the end
   unforgiven : (g h : Reading) (s t : S) (p part more : List ℕ) (place : ℕ) (reason : Reason) (on : Bool) (r : Result (Unit {0}) End) (e : End) → NoLf part → Reads g (p ++ part)
-      → next_verdict g (begun (p ++ part)) ≡ Refuse place reason → is_lenient g ≡ on → Refuses on place reason g r h → t ≡ s → r ≡ Err e
-      → IsLeft g h × HasCause leaves g.rules (p ++ part) (p ++ (part ++ 10 ∷ more)) g.lines s t e
+      → next_verdict g (begun (p ++ part)) ≡ Refuse place reason → is_lenient g ≡ on
+      → Refuses on (Refused (g.lines + 1) place reason) g r h → t ≡ s → r ≡ Err e
+      → IsLeft g h × HasCause law (stop_at g.rules (p ++ part) (p ++ (part ++ 10 ∷ more)) g.lines) s t e
   unforgiven g h s t p part more place reason true r e n reads is on d still err = absurd (good-bad r e d.0 err)
   unforgiven g h s t p part more place reason false r e n reads is on d still err =
       let same : e ≡ Refused (g.lines + 1) place reason = cc in
@@ -202,8 +242,10 @@ module _ {S : Type 0} (takes leaves : S → Item → S → Type 0) where
 
   -- a line that has begun, and was not dealt with: g has read p, whose last bytes they are
   undealt : (g h : Reading) (s t : S) (p part more : List ℕ) (v : Verdict) (r : Result (Unit {0}) End) (e : End) → NoLf part → Reads g (p ++ part)
-      → next_verdict g (begun (p ++ part)) ≡ v → Deals takes leaves (is_lenient g) v (next_item g (ended_line (begun (p ++ part)))) g s r h t → r ≡ Err e
-      → IsLeft g h × HasCause leaves g.rules (p ++ part) (p ++ (part ++ 10 ∷ more)) g.lines s t e
+      → next_verdict g (begun (p ++ part)) ≡ v
+      → Deals law (judged_next g (is_lenient g) v (ended_line (begun (p ++ part)))) (with_sink g s) r (with_sink h t)
+      → r ≡ Err e
+      → IsLeft g h × HasCause law (stop_at g.rules (p ++ part) (p ++ (part ++ 10 ∷ more)) g.lines) s t e
   undealt g h s t p part more (Refuse place reason) r e n reads is d err = unforgiven g h s t p part more place reason (is_lenient g) r e n reads is refl d.0 d.1 err
   undealt g h s t p part more Blank r e n reads is d err = absurd (good-bad r e d.0 err)
   undealt g h s t p part more LeftOut r e n reads is d err = absurd (good-bad r e d.0 err)
@@ -216,12 +258,14 @@ module _ {S : Type 0} (takes leaves : S → Item → S → Type 0) where
       let b = begun-more p part n in
       let told : is_kept (verdict g.rules (map ended_line (closed (p ++ part))) (begun (p ++ part))) ≡ true = ap is_kept (sym (next-verdict g (p ++ part) reads (begun (p ++ part))) ∙ is) in
       let item = next-item g (p ++ part) reads (ended_line (begun (p ++ part))) in
-      let left : leaves s (item_after g.rules (map ended_line (closed (p ++ part))) (ended_line (begun (p ++ part)))) t = rw (← item) d.2 in
+      let left : law.leaves s (item_after g.rules (map ended_line (closed (p ++ part)))
+      (ended_line (begun (p ++ part)))) t = rw (← item) d.2 in
       (d.1, rw same (ended_line (begun p ++ part), IsNext-ended g.rules.limits p part more n, rw b at told, rw b at left))
 
   unsettled : (g h : Reading) (s t : S) (p part more : List ℕ) (r : Result (Unit {0}) End) (e : End) → NoLf part → Reads g (p ++ part)
-      → Settles takes leaves (is_lenient g) (next_verdict g (begun (p ++ part))) (next_item g (ended_line (begun (p ++ part)))) g s r h t → r ≡ Err e
-      → IsLeft g h × HasCause leaves g.rules (p ++ part) (p ++ (part ++ 10 ∷ more)) g.lines s t e
+      → Settles law (judged_next g (is_lenient g) (next_verdict g (begun (p ++ part))) (ended_line (begun (p ++ part))))
+      (with_sink g s) r (with_sink h t) → r ≡ Err e
+      → IsLeft g h × HasCause law (stop_at g.rules (p ++ part) (p ++ (part ++ 10 ∷ more)) g.lines) s t e
   unsettled g h s t p part more r e n reads (inl d) err = undealt g h s t p part more _ r e n reads refl d err
   unsettled g h s t p part more r e n reads (inr m) err =
       let same : e ≡ Memory = cc in
@@ -241,11 +285,13 @@ module _ {S : Type 0} (takes leaves : S → Item → S → Type 0) where
       )
 
   -- a part that is stored, and a line that is not dealt with
-  pub Stops-undealt : (f g h : Reading) (s t : S) (p part more : List ℕ) (r : Result (Unit {0}) End) (e : End) → Reads f p → NoLf part → Stores f part g
-      → Settles takes leaves (is_lenient g) (told_verdict g) (next_item g (ended_line (begun_of g))) g s r h t → r ≡ Err e
-      → Stops takes leaves f s p (part ++ 10 ∷ more) e h t
-  Stops-undealt f g h s t p part more r e reads n st d err =
-      let a = Advances-stored f g s p part reads n st in
+  pub Stops-undealt : {f g h : Reading} {s t : S} {p part : List ℕ} (more : List ℕ) {r : Result (Unit {0}) End} {e : End}
+      → Reads f p → NoLf part → Stores f part g
+      → Settles law (judged_next g (is_lenient g) (told_verdict g) (ended_line (begun_of g))) (with_sink g s) r
+      (with_sink h t) → r ≡ Err e
+      → Stops law (further p (part ++ 10 ∷ more)) (with_sink f s) e (with_sink h t)
+  Stops-undealt {f} {g} {h} {s} {t} {p} {part} more {r} {e} reads n st d err =
+      let a = Advances-stored {s = s} reads n st in
       let told = Settles-begun (is_lenient g) g h s t (begun (p ++ part)) true r a.reads.begun d in
       let u = unsettled g h s t p part more r e n a.reads told err in
       record {

@@ -6,14 +6,14 @@ use Rattle.std.specs.Io.KnownBytes.{Consumes, Keeps}
 use Rattle.cj_stream.specs.declared.ending.End.{End}
 use Rattle.cj_stream.specs.declared.ending.End.TheVariants.{Complete, Refused, ReadFault, ReadLimit, WriteFault, Memory}
 use Rattle.cj_stream.specs.Lines.{Line, closed, last_line, lines, whole}
-use Rattle.cj_stream.specs.Item.{Item}
-use Rattle.cj_stream.specs.Verdict.{Rules, verdict, refusal_of, refusal_in, refusal_from, judged, ending, ending_of, kept_first}
+use Rattle.cj_stream.specs.Verdict.{Rules, verdict, refusal_of, refusal_in, refusal_from, judged, ending, ending_of}
+use Rattle.cj_stream.specs.Verdict.{kept_first, stretch, up_to}
 use Rattle.cj_stream.specs.Engine.{EngineState, StandsFor, Counts, Delivers, Faults, Concludes, Tells, rules_of, limits_of, lines_of, peaks_of}
 use Rattle.cj_stream.specs.Reading.{Reading, Reads}
 use Rattle.cj_stream.specs.Run.{Run, Ends, Gave, HeldBegun, IsLastRead, IsReadWithin, LacksRoom, Runs, StopsInTime, outcome_of}
 use Rattle.cj_stream.specs.Bound.{IsBelow, exact_peaks, first_lines}
 use Rattle.cj_stream.specs.Scanning.{Scanned}
-use Rattle.cj_stream.specs.Sink.{HasRisen, Took}
+use Rattle.cj_stream.specs.Sink.{HasRisen, Took, SinkLaw}
 use Rattle.cj_stream.specs.Cut.{IsUnread}
 use Rattle.cj_stream.proofs.PieceLemmas.{Took-append}
 use Rattle.cj_stream.proofs.EngineLemmas.{begun-good, judged-front, kept_first-front}
@@ -38,20 +38,23 @@ Consumes-kept (Some a) (Some b) None x p q = absurd q
 Consumes-kept (Some a) (Some b) (Some c) x p q = p ∙ ap (λ z. x ++ z) (sym q)
 
 -- what a sink takes of two steps, one after the other
-pub Delivers-join : {S : Type 0} (takes leaves : S → Item → S → Type 0) (rules : Rules) (r q : List ℕ) (from n m : ℕ) (s t u : S) (e : Option End)
-    → kept_first rules from q ≡ kept_first rules from r → kept_first rules n q ≡ kept_first rules n r
-    → Delivers takes leaves rules r from n s t None → Delivers takes leaves rules q n m t u e → Delivers takes leaves rules q from m s u e
-Delivers-join takes leaves rules r q from n m s t u e first same h k = record {
+pub Delivers-join : {S : Type 0} {law : SinkLaw S} {rules : Rules} {r q : List ℕ} {from n m : ℕ} {s t u : S}
+    {e : Option End} → kept_first rules from q ≡ kept_first rules from r → kept_first rules n q ≡ kept_first rules n r
+    → Delivers law (stretch rules r from n) s t None → Delivers law (stretch rules q n m) t u e
+    → Delivers law (stretch rules q from m) s u e
+Delivers-join {S} {law} {rules} {r} {q} {from} {n} {m} {s} {t} {u} first same h k = record {
   added = h.added ++ k.added;
   middle = k.middle;
   kept = k.kept ∙ (ap (λ z. z ++ k.added) (same ∙ (h.kept ∙ ap (λ z. z ++ h.added) (sym first))) ∙ append_assoc (kept_first rules from q) h.added k.added);
-  took = Took-append takes s t k.middle h.added k.added (subst (λ z. Took takes s h.added z) (sym h.fault) h.took) k.took;
+  took = Took-append law.takes s t k.middle h.added k.added
+      (subst (λ z. Took law.takes s h.added z) (sym h.fault) h.took) k.took;
   fault = k.fault;
 }
 
-pub Delivers-then : {S : Type 0} (takes leaves : S → Item → S → Type 0) (rules : Rules) (r q : List ℕ) (n m : ℕ) (s t u : S) (e : Option End)
-    → kept_first rules n q ≡ kept_first rules n r → Delivers takes leaves rules r 0 n s t None → Delivers takes leaves rules q n m t u e → Delivers takes leaves rules q 0 m s u e
-Delivers-then takes leaves rules r q n m s t u e same h k = Delivers-join takes leaves rules r q 0 n m s t u e refl same h k
+pub Delivers-then : {S : Type 0} {law : SinkLaw S} {rules : Rules} {r q : List ℕ} {n m : ℕ} {s t u : S}
+    {e : Option End} → kept_first rules n q ≡ kept_first rules n r → Delivers law (stretch rules r 0 n) s t None
+    → Delivers law (stretch rules q n m) t u e → Delivers law (stretch rules q 0 m) s u e
+Delivers-then same h k = Delivers-join refl same h k
 
 pub Ends-finished : (rules : Rules) (r : List ℕ) (n : ℕ) (at_end : Type 0) (e : End) → at_end → Concludes rules r n e → Ends rules r n at_end e
 Ends-finished rules r n at_end Complete h c = (c.0, c.1, h)
@@ -99,9 +102,10 @@ kept_first-same rules n r more e =
     kept_first-front rules n r more e ∙ sym (rw (append-nil r) at k)
 
 -- a step that keeps the sink as it is, with an end
-pub Delivers-ended : {S : Type 0} (takes leaves : S → Item → S → Type 0) (rules : Rules) (r : List ℕ) (n : ℕ) (s t : S) (e : End)
-    → ((m u : S) → u ≡ m → Faults leaves rules r n m u (Some e)) → Delivers takes leaves rules r 0 n s t None → Delivers takes leaves rules r 0 n s t (Some e)
-Delivers-ended takes leaves rules r n s t e still h = record {
+pub Delivers-ended : {S : Type 0} (law : SinkLaw S) (rules : Rules) (r : List ℕ) (n : ℕ) (s t : S) (e : End)
+    → ((m u : S) → u ≡ m → Faults law (up_to rules r n) m u (Some e)) → Delivers law (stretch rules r 0 n) s t None
+    → Delivers law (stretch rules r 0 n) s t (Some e)
+Delivers-ended law rules r n s t e still h = record {
   added = h.added;
   middle = h.middle;
   kept = h.kept;
@@ -110,12 +114,15 @@ Delivers-ended takes leaves rules r n s t e still h = record {
 }
 
 -- a run that is left between two pieces, with an end that keeps the sink as it is
-pub Runs-left : {S : Type 0} (takes leaves : S → Item → S → Type 0) (e : EngineState) (r : List ℕ) (at_end : Type 0) (s t : S) (end : End)
-    → (end ≡ Complete → ⊥) → Ends (rules_of e) r (lines_of e) at_end end → ((m u : S) → u ≡ m → Faults leaves (rules_of e) r (lines_of e) m u (Some end))
-    → StandsFor e r → Delivers takes leaves (rules_of e) r 0 (lines_of e) s t None → Runs takes leaves (record { rules = rules_of e; read = r; outcome = outcome_of e end }) at_end s t
-Runs-left takes leaves e r at_end s t end other ends still stands h = Runs-told takes leaves (record { rules = rules_of e; read = r; outcome = outcome_of e end }) at_end s t
+pub Runs-left : {S : Type 0} (law : SinkLaw S) (e : EngineState) (r : List ℕ) (at_end : Type 0) (s t : S) (end : End)
+    → (end ≡ Complete → ⊥) → Ends (rules_of e) r (lines_of e) at_end end → ((m u : S) → u ≡ m
+    → Faults law (up_to (rules_of e) r (lines_of e)) m u (Some end))
+    → StandsFor e r → Delivers law (stretch (rules_of e) r 0 (lines_of e)) s t None
+    → Runs law (record { rules = rules_of e; read = r; outcome = outcome_of e end }) at_end s t
+Runs-left law e r at_end s t end other ends still stands h = Runs-told law
+    (record { rules = rules_of e; read = r; outcome = outcome_of e end }) at_end s t
     (record { bounded = stands.bounded; exact = λ x. absurd (other x); counts = stands.counts; ends = ends })
-    (Delivers-ended takes leaves (rules_of e) r (lines_of e) s t end still h)
+    (Delivers-ended law (rules_of e) r (lines_of e) s t end still h)
 
 -- a count that rose in the last of some calls rose in all of them
 pub HasRisen-after : (a b c : ℕ) → a ≤ b → HasRisen b c → HasRisen a c
@@ -131,9 +138,20 @@ pub Consumes-none : (a : Option (List ℕ)) → Consumes a a []
 Consumes-none None = tt
 Consumes-none (Some a) = refl
 
-pub Runs-memory : {S : Type 0} (takes leaves : S → Item → S → Type 0) (rules : Rules) (at_end : Type 0) (s : S)
-    → Runs takes leaves (record { rules = rules; read = []; outcome = record { lines = 0; kept = 0; refused = 0; peaks = record { bytes = 0; tokens = 0; depth = 0 }; ended = Memory } }) at_end s s
-Runs-memory takes leaves rules at_end s = record {
+pub Runs-memory : {S : Type 0} (law : SinkLaw S) (rules : Rules) (at_end : Type 0) (s : S)
+    → Runs law (record {
+      rules = rules;
+      read = [];
+      outcome = record {
+        lines = 0;
+        kept = 0;
+        refused = 0;
+        peaks =
+            record { bytes = 0; tokens = 0; depth = 0 };
+        ended = Memory;
+      };
+    }) at_end s s
+Runs-memory law rules at_end s = record {
   account = record {
     bounded = record { bytes = omega arith; tokens = omega arith; depth = omega arith };
     exact = λ e. cc;

@@ -18,7 +18,8 @@ use Rattle.cj_stream.specs.declared.judge.Content.{Content}
 use Rattle.cj_stream.specs.declared.judge.Content.TheVariants.{Faulty, BlankLine, Sound}
 use Rattle.cj_stream.specs.Lines.{closed, begun, first_of, first_content, NoLf}
 use Rattle.cj_stream.specs.Bound.{is_text, tree_size, tree_nest, is_spelled, is_readable}
-use Rattle.cj_stream.specs.Scanning.{Scanning, HasRoom, IsReady, IsStill, HasHeld, are_readable, Scanned, ScansNext, HoldsFew, HoldsFewNext, Rises, Judges, JudgesLine, Forgets}
+use Rattle.cj_stream.specs.Scanning.{Scanning, HasRoom, IsReady, IsStill, HasHeld, are_readable, Scanned, ScansNext}
+use Rattle.cj_stream.specs.Scanning.{HoldsFew, HoldsFewNext, Rises, Judges, JudgesLine, Forgets, tree_lists}
 use Rattle.cj_stream.specs.Verdict.{is_blank_byte}
 use Rattle.cj_stream.specs.Judging.{Misreads}
 use Rattle.cj_stream.specs.Reading.{Reading, begun_of, Fits, Drops, StaysDropped, Stores, Passes, Reads}
@@ -175,7 +176,7 @@ module _ (c : List ℕ) (a b : BoundedList Token) (x y : BoundedList ℕ) where
     few = λ w. omega arith;
   })
 
-  pub kept-judges : (r : Content) → Judges c a b x y r → Kept
+  pub kept-judges : (r : Content) → Judges c (tree_lists a x) (tree_lists b y) r → Kept
   kept-judges BlankLine h = kept-same h.0 h.1
   kept-judges Sound h = kept-law h.1
   kept-judges (Faulty place reason) h = kept-law h

@@ -6,13 +6,13 @@ use Rattle.cj_spans.specs.Tree.{Tree}
 use Rattle.cj_stream.specs.declared.sink.CountSink.{CountSink}
 use Rattle.cj_stream.specs.declared.ending.End.{End}
 use Rattle.cj_stream.specs.declared.ending.End.TheVariants.{Complete, Refused, ReadFault, ReadLimit, WriteFault, Memory}
-use Rattle.cj_stream.specs.Cut.{joined, PutsPieces}
+use Rattle.cj_stream.specs.Cut.{joined, PutsPieces, in_pieces}
 use Rattle.cj_stream.specs.Item.{Item, is_feature}
 use Rattle.cj_stream.specs.Lines.{whole}
 use Rattle.cj_stream.specs.Run.{Puts}
-use Rattle.cj_stream.specs.Sink.{Took, LeavesNext}
+use Rattle.cj_stream.specs.Sink.{Took, LeavesNext, never_fails}
 use Rattle.cj_stream.specs.CountSink.{Counts, CountsBy, is_header, no_counts, counts_of, CountsRun, CountsPieces}
-use Rattle.cj_stream.specs.Verdict.{Rules, kept}
+use Rattle.cj_stream.specs.Verdict.{Rules, kept, stream_of}
 
 -- both counts are those of another sink
 both : (a b : CountSink) → a.headers ≡ b.headers → a.features ≡ b.features → a ≡ b
@@ -50,7 +50,8 @@ never [] m c k = k
 never (i ∷ is) m c k = k
 
 -- what a run has counted, by its end
-pub CountsRun-puts : (rules : Rules) (r : List ℕ) (c : CountSink) (e : End) → Puts Counts (λ a i b. ⊥) rules r e (no_counts) c → CountsRun rules r e c
+pub CountsRun-puts : (rules : Rules) (r : List ℕ) (c : CountSink) (e : End) → Puts (never_fails Counts)
+    (stream_of rules r) e (no_counts) c → CountsRun (stream_of rules r) e c
 CountsRun-puts rules r c Complete h = counts-all c (kept rules r) h
 CountsRun-puts rules r c (Refused number place reason) h = counts-all c (kept rules r) h
 CountsRun-puts rules r c ReadFault h = counts-all c (kept rules (whole r)) h
@@ -60,7 +61,8 @@ CountsRun-puts rules r c Memory h = record { more = h.more; others = h.others; f
 
 -- what was counted of pieces
 pub CountsPieces-puts : (rules : Rules) (pieces : List (List ℕ)) (n : ℕ) (c : CountSink) (e : End)
-    → PutsPieces Counts (λ a i b. ⊥) rules pieces n e (no_counts) c → CountsPieces rules pieces n e c
+    → PutsPieces (never_fails Counts) (in_pieces rules pieces n) e (no_counts) c
+    → CountsPieces (in_pieces rules pieces n) e c
 CountsPieces-puts rules pieces n c Complete h = (h.0, counts-all c (kept rules (joined pieces)) h.1)
 CountsPieces-puts rules pieces n c (Refused number place reason) h = (h.0, counts-all c (kept rules (joined pieces)) h.1)
 CountsPieces-puts rules pieces n c ReadFault h = h

@@ -9,15 +9,15 @@ use Rattle.cj_decimal.specs.Number.{Number}
 use Rattle.cj_feature.specs.Shown.{transform_values}
 use Rattle.cj_stream.specs.declared.ending.End.{End}
 use Rattle.cj_stream.specs.declared.ending.End.TheVariants.{Complete, Refused, ReadFault, ReadLimit, WriteFault, Memory}
-use Rattle.cj_stream.specs.Cut.{joined, PutsPieces}
+use Rattle.cj_stream.specs.Cut.{joined, PutsPieces, in_pieces}
 use Rattle.cj_stream.specs.Item.{Item, is_feature}
 use Rattle.cj_stream.specs.Lines.{whole}
 use Rattle.cj_stream.specs.Run.{Puts}
-use Rattle.cj_stream.specs.Sink.{Took, LeavesNext}
+use Rattle.cj_stream.specs.Sink.{Took, LeavesNext, never_fails}
 use Rattle.cj_stream.specs.CountSink.{is_header}
 use Rattle.cj_stream.specs.Tallied.{capped, how_often, type_numbers, lod_classes, numbers_on, beside, over_features}
 use Rattle.cj_stream.specs.TallySink.{Tally, no_tally, Widens, Shows, TalliesBy, Tallies, IsTallyOf, TalliesRun, TalliesPieces}
-use Rattle.cj_stream.specs.Verdict.{Rules, kept}
+use Rattle.cj_stream.specs.Verdict.{Rules, kept, stream_of}
 use Rattle.cj_stream.proofs.Ranges.{Widens-no, Widens-two}
 
 -- ---- counts
@@ -156,7 +156,8 @@ never [] m t k = k
 never (i ∷ is) m t k = k
 
 -- what a run has tallied, by its end
-pub TalliesRun-puts : (rules : Rules) (r : List ℕ) (start t : Tally) (e : End) → start ≡ no_tally → Puts Tallies (λ a i b. ⊥) rules r e start t → TalliesRun rules r e t
+pub TalliesRun-puts : (rules : Rules) (r : List ℕ) (start t : Tally) (e : End) → start ≡ no_tally
+    → Puts (never_fails Tallies) (stream_of rules r) e start t → TalliesRun (stream_of rules r) e t
 TalliesRun-puts rules r start t Complete new h = tally-all start t (kept rules r) new h
 TalliesRun-puts rules r start t (Refused number place reason) new h = tally-all start t (kept rules r) new h
 TalliesRun-puts rules r start t ReadFault new h = tally-all start t (kept rules (whole r)) new h
@@ -166,7 +167,8 @@ TalliesRun-puts rules r start t Memory new h = record { more = h.more; others = 
 
 -- what was tallied of pieces
 pub TalliesPieces-puts : (rules : Rules) (pieces : List (List ℕ)) (n : ℕ) (start t : Tally) (e : End) → start ≡ no_tally
-    → PutsPieces Tallies (λ a i b. ⊥) rules pieces n e start t → TalliesPieces rules pieces n e t
+    → PutsPieces (never_fails Tallies) (in_pieces rules pieces n) e start t
+    → TalliesPieces (in_pieces rules pieces n) e t
 TalliesPieces-puts rules pieces n start t Complete new h = (h.0, tally-all start t (kept rules (joined pieces)) new h.1)
 TalliesPieces-puts rules pieces n start t (Refused number place reason) new h = (h.0, tally-all start t (kept rules (joined pieces)) new h.1)
 TalliesPieces-puts rules pieces n start t ReadFault new h = h

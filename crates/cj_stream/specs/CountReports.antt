@@ -1,13 +1,13 @@
 -- Which count a sink that counts reports has of some.
-use Rattle.std.specs.Prelude.{◌≡◌, ℕ, ◌+◌, List, ◌++◌, length, take}
+use Rattle.std.specs.Prelude.{◌≡◌, List, ◌++◌, length}
 use Rattle.cj_stream.specs.declared.ending.End.{End}
-use Rattle.cj_stream.specs.declared.ending.End.TheVariants.{Complete, Refused, ReadFault, ReadLimit, WriteFault, Memory}
+use Rattle.cj_stream.specs.declared.ending.End.TheVariants.{Complete, Refused, WriteFault, Memory}
 use Rattle.cj_stream.specs.declared.report_sink.CountReports.{CountReports}
 use Rattle.cj_stream.specs.declared.report_sink.Report.{Report}
-use Rattle.cj_stream.specs.Cut.{joined}
+use Rattle.cj_stream.specs.Cut.{InPieces, all_of, given_of}
 use Rattle.cj_stream.specs.Lines.{whole}
 use Rattle.cj_stream.specs.Tallied.{capped}
-use Rattle.cj_stream.specs.Verdict.{Rules, reported}
+use Rattle.cj_stream.specs.Verdict.{Stream, reported}
 
 -- how many reports there are, up to the greatest u64
 abbrev pub count_of : List Report → CountReports
@@ -24,22 +24,20 @@ pub record CountsFirst (rs : List Report) (c : CountReports) : Type 0 where
   pub all : rs ≡ front ++ others
   pub counts : c ≡ count_of front
 
--- the count of what is reported of the bytes r that a run read, by its end; of their whole lines where a read failed or
--- the reads ran out, of the first reports where a write failed, and of nothing where memory was refused
-abbrev pub CountsReportsOfRun : Rules → List ℕ → End → CountReports → Type 0
-CountsReportsOfRun rules r Complete c = c ≡ count_of (reported rules r)
-CountsReportsOfRun rules r (Refused number place reason) c = c ≡ count_of (reported rules r)
-CountsReportsOfRun rules r ReadFault c = c ≡ count_of (reported rules (whole r))
-CountsReportsOfRun rules r ReadLimit c = c ≡ count_of (reported rules (whole r))
-CountsReportsOfRun rules r WriteFault c = CountsFirst (reported rules r) c
-CountsReportsOfRun rules r Memory c = c ≡ no_reports
+-- the count of what is reported of the bytes that a run read, by its end; of their whole lines where reading was cut
+-- short, of the first reports where a write failed, and of nothing where memory was refused
+abbrev pub CountsReportsOfRun : Stream → End → CountReports → Type 0
+CountsReportsOfRun r Complete c = c ≡ count_of (reported r.rules r.bytes)
+CountsReportsOfRun r (Refused number place reason) c = c ≡ count_of (reported r.rules r.bytes)
+CountsReportsOfRun r WriteFault c = CountsFirst (reported r.rules r.bytes) c
+CountsReportsOfRun r Memory c = c ≡ no_reports
+CountsReportsOfRun r cut_short c = c ≡ count_of (reported r.rules (whole r.bytes))
 
 -- the count of what is reported of a cut stream; or, after a write fault, of the first reports of the pieces that were
--- given, of which n were wholly taken; and of nothing where memory was refused
-abbrev pub CountsReportsOfPieces : Rules → List (List ℕ) → ℕ → End → CountReports → Type 0
-CountsReportsOfPieces rules pieces n Complete c = c ≡ count_of (reported rules (joined pieces))
-CountsReportsOfPieces rules pieces n (Refused number place reason) c = c ≡ count_of (reported rules (joined pieces))
-CountsReportsOfPieces rules pieces n ReadFault c = ⊥
-CountsReportsOfPieces rules pieces n ReadLimit c = ⊥
-CountsReportsOfPieces rules pieces n WriteFault c = CountsFirst (reported rules (joined (take (n + 1) pieces))) c
-CountsReportsOfPieces rules pieces n Memory c = c ≡ no_reports
+-- given; and of nothing where memory was refused
+abbrev pub CountsReportsOfPieces : InPieces → End → CountReports → Type 0
+CountsReportsOfPieces cut Complete c = c ≡ count_of (reported cut.rules (all_of cut))
+CountsReportsOfPieces cut (Refused number place reason) c = c ≡ count_of (reported cut.rules (all_of cut))
+CountsReportsOfPieces cut WriteFault c = CountsFirst (reported cut.rules (given_of cut)) c
+CountsReportsOfPieces cut Memory c = c ≡ no_reports
+CountsReportsOfPieces cut other c = ⊥

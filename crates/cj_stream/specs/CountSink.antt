@@ -1,14 +1,14 @@
 -- What an item makes of a sink that counts, and which count some items have.
-use Rattle.std.specs.Prelude.{◌≡◌, ℕ, ◌+◌, ◌-◌, ◌^◌, List, [], ◌++◌, Bool, not, length, min, take, Option, Some, None}
+use Rattle.std.specs.Prelude.{◌≡◌, ℕ, ◌+◌, ◌-◌, ◌^◌, List, [], ◌++◌, Bool, not, length, min, Option, Some, None}
 use Rattle.std.specs.List.{filter}
 use Rattle.cj_spans.specs.Tree.{Tree}
 use Rattle.cj_stream.specs.declared.sink.CountSink.{CountSink}
 use Rattle.cj_stream.specs.declared.ending.End.{End}
-use Rattle.cj_stream.specs.declared.ending.End.TheVariants.{Complete, Refused, ReadFault, ReadLimit, WriteFault, Memory}
+use Rattle.cj_stream.specs.declared.ending.End.TheVariants.{Complete, Refused, WriteFault, Memory}
 use Rattle.cj_stream.specs.Lines.{whole}
 use Rattle.cj_stream.specs.Item.{Item, is_feature}
-use Rattle.cj_stream.specs.Verdict.{Rules, kept, ending}
-use Rattle.cj_stream.specs.Cut.{joined}
+use Rattle.cj_stream.specs.Verdict.{Stream, kept, ending}
+use Rattle.cj_stream.specs.Cut.{InPieces, all_of, given_of, taken_of}
 
 -- the count of nothing
 abbrev pub no_counts : CountSink
@@ -49,25 +49,21 @@ pub record CountsFront (items first : List Item) (c : CountSink) : Type 0 where
   pub front : items ≡ (first ++ more) ++ others
   pub counts : c ≡ counts_of (first ++ more)
 
--- the count of what is kept of the bytes r that a run read, by its end; of their whole lines where a read failed, and
+-- the count of what is kept of the bytes that a run read, by its end; of their whole lines where a read failed, and
 -- of a prefix where memory was refused. A count never fails.
-abbrev pub CountsRun : Rules → List ℕ → End → CountSink → Type 0
-CountsRun rules r Complete c = c ≡ counts_of (kept rules r)
-CountsRun rules r (Refused number place reason) c = c ≡ counts_of (kept rules r)
-CountsRun rules r ReadFault c = c ≡ counts_of (kept rules (whole r))
-CountsRun rules r ReadLimit c = c ≡ counts_of (kept rules (whole r))
-CountsRun rules r WriteFault c = ⊥
-CountsRun rules r Memory c = CountsFront (kept rules r) [] c
+abbrev pub CountsRun : Stream → End → CountSink → Type 0
+CountsRun r Complete c = c ≡ counts_of (kept r.rules r.bytes)
+CountsRun r (Refused number place reason) c = c ≡ counts_of (kept r.rules r.bytes)
+CountsRun r WriteFault c = ⊥
+CountsRun r Memory c = CountsFront (kept r.rules r.bytes) [] c
+CountsRun r cut_short c = c ≡ counts_of (kept r.rules (whole r.bytes))
 
 -- the count of what is kept of a cut stream, whose ending is the answer; or, where memory was refused, of a prefix of
--- the pieces that were given, of which n were wholly taken
-abbrev pub CountsPieces : Rules → List (List ℕ) → ℕ → End → CountSink → Type 0
-CountsPieces rules pieces n Complete c = (ending rules (joined pieces) ≡ Complete)
-    × (c ≡ counts_of (kept rules (joined pieces)))
-CountsPieces rules pieces n (Refused number place reason) c =
-    (ending rules (joined pieces) ≡ Refused number place reason) × (c ≡ counts_of (kept rules (joined pieces)))
-CountsPieces rules pieces n ReadFault c = ⊥
-CountsPieces rules pieces n ReadLimit c = ⊥
-CountsPieces rules pieces n WriteFault c = ⊥
-CountsPieces rules pieces n Memory c =
-    CountsFront (kept rules (joined (take (n + 1) pieces))) (kept rules (whole (joined (take n pieces)))) c
+-- the pieces that were given
+abbrev pub CountsPieces : InPieces → End → CountSink → Type 0
+CountsPieces cut Complete c = (ending cut.rules (all_of cut) ≡ Complete)
+    × (c ≡ counts_of (kept cut.rules (all_of cut)))
+CountsPieces cut (Refused number place reason) c =
+    (ending cut.rules (all_of cut) ≡ Refused number place reason) × (c ≡ counts_of (kept cut.rules (all_of cut)))
+CountsPieces cut Memory c = CountsFront (kept cut.rules (given_of cut)) (kept cut.rules (whole (taken_of cut))) c
+CountsPieces cut other c = ⊥

@@ -1,7 +1,7 @@
 -- The ends of the two readers, seen as ends of a stream.
-use Rattle.std.specs.Prelude.{◌≡◌, ◌<◌, None}
+use Rattle.std.specs.Prelude.{◌≡◌, ◌<◌, None, Result, Ok, Err}
 use Rattle.cj_stream.specs.declared.ending.End.{End}
-use Rattle.cj_stream.specs.declared.ending.End.TheVariants.{Complete, Refused, ReadFault, ReadLimit, WriteFault, Memory}
+use Rattle.cj_stream.specs.declared.ending.End.TheVariants.{Complete, Refused, WriteFault, Memory}
 use Rattle.cj_stream.specs.declared.ending.HeaderEnd.{HeaderEnd}
 use Rattle.cj_stream.specs.declared.ending.HeaderEnd.TheVariants.{Complete as HeaderComplete, Refused as HeaderRefused}
 use Rattle.cj_stream.specs.declared.ending.HeaderEnd.TheVariants.{WriteFault as HeaderWriteFault}
@@ -23,22 +23,10 @@ line_end LineComplete = Complete
 line_end (LineRefused line place reason) = Refused line place reason
 line_end LineWriteFault = WriteFault
 
--- the ends that come without a reader: of the first line, and of a later one
-abbrev pub IsFirstEnd : End → Type 0
-IsFirstEnd Complete = Unit {0}
-IsFirstEnd (Refused number place reason) = Unit {0}
-IsFirstEnd ReadFault = ⊥
-IsFirstEnd ReadLimit = ⊥
-IsFirstEnd WriteFault = Unit {0}
-IsFirstEnd Memory = Unit {0}
-
-abbrev pub IsLaterEnd : End → Type 0
-IsLaterEnd Complete = Unit {0}
-IsLaterEnd (Refused number place reason) = Unit {0}
-IsLaterEnd ReadFault = ⊥
-IsLaterEnd ReadLimit = ⊥
-IsLaterEnd WriteFault = Unit {0}
-IsLaterEnd Memory = ⊥
+-- what a call of a reader answers, with its end seen as an end of the stream
+abbrev pub answer_of : {T E : Type 0} → (E → End) → Result T E → Result T End
+answer_of ending (Ok x) = Ok x
+answer_of ending (Err e) = Err (ending e)
 
 -- the first line was taken, and no end has come
 pub record IsAccepted (e : EngineState) : Type 0 where

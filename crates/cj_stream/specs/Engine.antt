@@ -4,15 +4,15 @@ use Rattle.std.specs.Prelude.{if◌then◌else◌, length, take, slice_get}
 use Rattle.cj_budget.specs.Limits.{LimitPair}
 use Rattle.cj_budget.specs.declared.limits.Peaks.{Peaks}
 use Rattle.cj_stream.specs.declared.ending.End.{End}
-use Rattle.cj_stream.specs.declared.ending.End.TheVariants.{Complete, Refused, ReadFault, ReadLimit, WriteFault, Memory}
+use Rattle.cj_stream.specs.declared.ending.End.TheVariants.{Complete, Refused, WriteFault, Memory}
 use Rattle.cj_stream.specs.Lines.{Line, closed, lines, whole, first_content, begun_later}
 use Rattle.cj_stream.specs.Item.{Item}
 use Rattle.cj_stream.specs.Verdict.{Rules, refusal_in, judged, verdict, item_after, is_kept, good, ending, kept_first}
-use Rattle.cj_stream.specs.Verdict.{features_first, reported_first}
+use Rattle.cj_stream.specs.Verdict.{features_first, reported_first, UpTo, up_to, Stretch}
 use Rattle.cj_stream.specs.Bound.{IsBounded, IsBelow, of_first, tree_size}
 use Rattle.cj_stream.specs.Reading.{Reading, Reads, stored}
 use Rattle.cj_stream.specs.Scanning.{Scanning, Scanned, ListsFailToGrow}
-use Rattle.cj_stream.specs.Sink.{Took}
+use Rattle.cj_stream.specs.Sink.{SinkLaw, Took}
 
 -- what a contract sees of an engine: the bytes and the tokens that it holds of a stream, the bytes it has taken, and
 -- the end it has come to
@@ -79,27 +79,21 @@ IsFresh e = StandsFor e [] × (e.ended ≡ None)
 abbrev pub given : EngineState → List ℕ → List ℕ → List ℕ
 given e p piece = if is_none e.ended then p ++ piece else p
 
--- what a fault on the line after n may leave, if the end is a write fault, and else nothing
-abbrev pub Faults : {S : Type 0} → (S → Item → S → Type 0) → Rules → List ℕ → ℕ → S → S → Option End → Type 0
-Faults leaves rules q n s t None = t ≡ s
-Faults leaves rules q n s t (Some WriteFault) =
-    (l : Line) × (slice_get (lines q) n ≡ Some l) × (is_kept (verdict rules (take n (lines q)) l.content) ≡ true)
-    × leaves s (item_after rules (take n (lines q)) l) t
-Faults leaves rules q n s t (Some Complete) = t ≡ s
-Faults leaves rules q n s t (Some (Refused number place reason)) = t ≡ s
-Faults leaves rules q n s t (Some ReadFault) = t ≡ s
-Faults leaves rules q n s t (Some ReadLimit) = t ≡ s
-Faults leaves rules q n s t (Some Memory) = t ≡ s
+-- what a fault on the line after these may leave, if the end is a write fault, and else nothing
+abbrev pub Faults : {S : Type 0} → SinkLaw S → UpTo → S → S → Option End → Type 0
+Faults law first s t (Some WriteFault) =
+    (l : Line) × (slice_get (lines first.bytes) first.lines ≡ Some l)
+    × (is_kept (verdict first.rules (take first.lines (lines first.bytes)) l.content) ≡ true)
+    × law.leaves s (item_after first.rules (take first.lines (lines first.bytes)) l) t
+Faults law first s t other = t ≡ s
 
--- the sink has taken the kept ones of the lines of q from one count to another, and after a write fault what that
--- leaves
-pub record Delivers {S : Type 0} (takes leaves : S → Item → S → Type 0) (rules : Rules) (q : List ℕ) (from to : ℕ)
-    (s t : S) (ended : Option End) : Type 0 where
+-- the sink has taken the kept ones of these lines, and after a write fault what that leaves
+pub record Delivers {S : Type 0} (law : SinkLaw S) (part : Stretch) (s t : S) (ended : Option End) : Type 0 where
   pub added : List Item
   pub middle : S
-  pub kept : kept_first rules to q ≡ kept_first rules from q ++ added
-  pub took : Took takes s added middle
-  pub fault : Faults leaves rules q to middle t ended
+  pub kept : kept_first part.rules part.to part.bytes ≡ kept_first part.rules part.from part.bytes ++ added
+  pub took : Took law.takes s added middle
+  pub fault : Faults law (up_to part.rules part.bytes part.to) middle t ended
 
 -- nothing that could be judged of these bytes was the end: all whole lines are dealt with, and what is held are the
 -- bytes of the first line and of the begun one, unless that is too long, and the tokens of the first line if it is
@@ -115,23 +109,20 @@ pub record Going (e : EngineState) (q : List ℕ) : Type 0 where
 
 -- what an end tells of the lines of q that can be judged, after n of them
 abbrev pub Tells : Rules → List ℕ → ℕ → End → Type 0
-Tells rules q n Complete = ⊥
 Tells rules q n (Refused number place reason) =
     (refusal_in rules (judged rules.limits q) ≡ Some (Refused number place reason)) × (number ≡ n + 1)
-Tells rules q n ReadFault = ⊥
-Tells rules q n ReadLimit = ⊥
 Tells rules q n WriteFault = Unit {0}
 Tells rules q n Memory = Unit {0}
+Tells rules q n other = ⊥
 
 -- what the end of a stream tells of it, after n of its lines: its ending, after all good lines
 abbrev pub Concludes : Rules → List ℕ → ℕ → End → Type 0
 Concludes rules p n Complete = (ending rules p ≡ Complete) × (n ≡ length (good rules p))
 Concludes rules p n (Refused number place reason) = (ending rules p ≡ Refused number place reason)
     × (n ≡ length (good rules p))
-Concludes rules p n ReadFault = ⊥
-Concludes rules p n ReadLimit = ⊥
 Concludes rules p n WriteFault = Unit {0}
 Concludes rules p n Memory = Unit {0}
+Concludes rules p n other = ⊥
 
 -- the end of a stream, by what came of its last line
 abbrev pub end_of : Result (Unit {0}) End → End

@@ -3,8 +3,8 @@ use Rattle.std.specs.Prelude.{ℕ, List, Option, Result}
 use Rattle.std.specs.Io.KnownBytes.{Appends}
 use Rattle.cj_stream.specs.declared.output.Output.{Output}
 use Rattle.cj_stream.specs.declared.output.WriteFault.{WriteFault}
-use Rattle.cj_stream.specs.Item.{Item, raw_item}
-use Rattle.cj_stream.specs.Sink.{AppendsPart}
+use Rattle.cj_stream.specs.Item.{raw_item}
+use Rattle.cj_stream.specs.Sink.{SinkLaw, AppendsPart}
 
 -- the writer
 abbrev pub output_writer : {W : Type 0} → Output W → W
@@ -31,10 +31,14 @@ channel contents o = record {
   flushed = flush_answer o;
 }
 
--- what an item makes of an output: the bytes that its writer holds grow by the bytes of the item
-abbrev pub WritesItem : {W : Type 0} → (W → Option (List ℕ)) → Output W → Item → Output W → Type 0
-WritesItem contents a i b = Appends (contents (output_writer a)) (contents (output_writer b)) (raw_item i)
+-- the law of a sink that writes: the bytes that it holds grow by those of an item, and a fault leaves a prefix of these
+abbrev pub writes_law : {S : Type 0} → (S → Option (List ℕ)) → (S → ℕ) → SinkLaw S
+writes_law contents failures = record {
+  takes = λ a i b. Appends (contents a) (contents b) (raw_item i);
+  leaves = λ a i b. AppendsPart (contents a) (contents b) (raw_item i);
+  failures = failures;
+}
 
--- what a fault may leave of it: they grow by a prefix of those
-abbrev pub WritesPart : {W : Type 0} → (W → Option (List ℕ)) → Output W → Item → Output W → Type 0
-WritesPart contents a i b = AppendsPart (contents (output_writer a)) (contents (output_writer b)) (raw_item i)
+-- that of an output, which writes to its writer
+abbrev pub output_law : {W : Type 0} → (W → Option (List ℕ)) → SinkLaw (Output W)
+output_law contents = writes_law (λ o. contents (output_writer o)) output_failures

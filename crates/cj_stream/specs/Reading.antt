@@ -8,17 +8,16 @@ use Rattle.cj_budget.specs.Bounded.{BoundedList, IsWithin, Becomes}
 use Rattle.cj_budget.specs.Limits.{LimitPair, InLine}
 use Rattle.cj_stream.specs.declared.desk.Desk.{Desk}
 use Rattle.cj_stream.specs.declared.store.Store.{Store}
-use Rattle.cj_spans.specs.declared.reason.Reason.{Reason}
 use Rattle.cj_spans.specs.declared.reason.Reason.TheVariants.{NoHeader, LineTooLong}
 use Rattle.cj_stream.specs.declared.ending.End.{End}
-use Rattle.cj_stream.specs.declared.ending.End.TheVariants.{Complete, Refused, ReadFault, ReadLimit, WriteFault, Memory}
+use Rattle.cj_stream.specs.declared.ending.End.TheVariants.{Refused, WriteFault, Memory}
 use Rattle.cj_stream.specs.Lines.{Line, lines, closed, begun, begun_later, ended_line, first_content, later_of}
 use Rattle.cj_stream.specs.Item.{Item, is_feature, tree_of, item_at}
 use Rattle.cj_stream.specs.Query.{rules_for}
 use Rattle.cj_stream.specs.Verdict.{Rules, Verdict, Refuse, Blank, LeftOut, Valid, tree_verdict, verdict_at, verdict}
 use Rattle.cj_stream.specs.Verdict.{item_after, is_kept, goes_on, refusal_in, kept_from, reported_from, judged}
 use Rattle.cj_stream.specs.Bound.{greatest, held_length}
-use Rattle.cj_stream.specs.Sink.{Took}
+use Rattle.cj_stream.specs.Sink.{SinkLaw, WithSink, TookMore}
 
 -- the rules, the content of the first line, the content of a later line that has begun, how many lines were dealt with,
 -- how many features were kept and how many lines refused, and whether the begun line is dropped since it is too long
@@ -141,26 +140,43 @@ pub record IsLeft (f g : Reading) : Type 0 where
   pub room : IsTrue f.line.reserved → IsTrue g.line.reserved
   pub same : g ≡ widened f g.line.reserved g.line.failed_growths
 
--- a line was refused: where reading goes on after it, it is dealt with, and else it is the end
-abbrev pub Refuses : Bool → ℕ → Reason → Reading → Result (Unit {0}) End → Reading → Type 0
-Refuses true place reason f r g = (r ≡ Ok tt) × Passes false true f g
-Refuses false place reason f r g = (r ≡ Err (Refused (f.lines + 1) place reason)) × (g ≡ f)
+-- what a line is judged as: its number, whether reading goes on after it if it is refused, the verdict on it, and the
+-- item that it is
+pub data JudgedLine : Type 0 where
+  JudgedAs : ℕ → Bool → Verdict → Item → JudgedLine
 
--- what comes of a line with this verdict, where reading goes on after a refused one, or not
-abbrev pub Deals : {S : Type 0} → (S → Item → S → Type 0) → (S → Item → S → Type 0) → Bool → Verdict → Item → Reading
-    → S → Result (Unit {0}) End → Reading → S → Type 0
-Deals takes leaves on (Refuse place reason) i f s r g t = Refuses on place reason f r g × (t ≡ s)
-Deals takes leaves on Blank i f s r g t = (r ≡ Ok tt) × Passes false false f g × (t ≡ s)
-Deals takes leaves on LeftOut i f s r g t = (r ≡ Ok tt) × Passes false false f g × (t ≡ s)
-Deals takes leaves on Valid i f s r g t =
-    MatchResult r (λ _. Passes true false f g × takes s i t) (λ e. (e ≡ WriteFault) × IsLeft f g × leaves s i t)
+-- the line that comes next; and the begun line, with or without LF
+abbrev pub judged_next : Reading → Bool → Verdict → Line → JudgedLine
+judged_next f on v l = JudgedAs (f.lines + 1) on v (next_item f l)
+
+abbrev pub judged_begun : Reading → Bool → Verdict → Bool → JudgedLine
+judged_begun f on v lf = judged_next f on v (record { content = begun_of f; lf = lf })
+
+-- a line was refused, which would be this end: where reading goes on after it, it is dealt with, and else it is the end
+abbrev pub Refuses : Bool → End → Reading → Result (Unit {0}) End → Reading → Type 0
+Refuses true e old answer new = (answer ≡ Ok tt) × Passes false true old new
+Refuses false e old answer new = (answer ≡ Err e) × (new ≡ old)
+
+-- what comes of a line, by its verdict
+abbrev pub Deals : {S : Type 0} → SinkLaw S → JudgedLine → WithSink Reading S → Result (Unit {0}) End
+    → WithSink Reading S → Type 0
+Deals law (JudgedAs number on (Refuse place reason) i) old answer new =
+    Refuses on (Refused number place reason) old.state answer new.state × (new.sink ≡ old.sink)
+Deals law (JudgedAs number on Blank i) old answer new =
+    (answer ≡ Ok tt) × Passes false false old.state new.state × (new.sink ≡ old.sink)
+Deals law (JudgedAs number on LeftOut i) old answer new =
+    (answer ≡ Ok tt) × Passes false false old.state new.state × (new.sink ≡ old.sink)
+Deals law (JudgedAs number on Valid i) old answer new =
+    MatchResult answer (λ _. Passes true false old.state new.state × law.takes old.sink i new.sink)
+    (λ e. (e ≡ WriteFault) × IsLeft old.state new.state × law.leaves old.sink i new.sink)
 
 -- what comes of a line with this verdict, or no memory was granted for later lines, and nothing comes of it; so it is
 -- only with a valid first line that LF ended
-abbrev pub Settles : {S : Type 0} → (S → Item → S → Type 0) → (S → Item → S → Type 0) → Bool → Verdict → Item → Reading
-    → S → Result (Unit {0}) End → Reading → S → Type 0
-Settles takes leaves on v i f s r g t = Deals takes leaves on v i f s r g t
-    ⊎ ((r ≡ Err Memory) × IsLeft f g × (t ≡ s) × (f.lines ≡ 0) × (v ≡ Valid) × (i.line.lf ≡ true))
+abbrev pub Settles : {S : Type 0} → SinkLaw S → JudgedLine → WithSink Reading S → Result (Unit {0}) End
+    → WithSink Reading S → Type 0
+Settles law (JudgedAs number on v i) old answer new = Deals law (JudgedAs number on v i) old answer new
+    ⊎ ((answer ≡ Err Memory) × IsLeft old.state new.state × (new.sink ≡ old.sink) × (old.state.lines ≡ 0)
+    × (v ≡ Valid) × (i.line.lf ≡ true))
 
 -- these bytes have been read, and no line of them was the end
 pub record Reads (f : Reading) (p : List ℕ) : Type 0 where
@@ -182,17 +198,20 @@ pub record Reads (f : Reading) (p : List ℕ) : Type 0 where
 abbrev pub kept_closed : Rules → List ℕ → List Item
 kept_closed rules s = kept_from rules [] (map ended_line (closed s))
 
--- the sink has taken the kept lines of q that are not of p
-abbrev pub Puts : {S : Type 0} → (S → Item → S → Type 0) → Rules → List ℕ → List ℕ → S → S → Type 0
-Puts takes rules p q s t = (added : List Item) × (kept_closed rules q ≡ kept_closed rules p ++ added)
-    × Took takes s added t
+-- bytes that have been read, and further ones
+pub record Further : Type 0 where
+  pub read : List ℕ
+  pub more : List ℕ
 
--- these bytes more have been read too, and the sink has what is kept of them
-pub record Advances {S : Type 0} (takes : S → Item → S → Type 0) (f : Reading) (s : S) (p more : List ℕ) (g : Reading)
-    (t : S) : Type 0 where
-  pub rules : g.rules ≡ f.rules
-  pub reads : Reads g (p ++ more)
-  pub puts : Puts takes f.rules p (p ++ more) s t
+abbrev pub further : List ℕ → List ℕ → Further
+further read more = record { read = read; more = more }
+
+-- the further bytes have been read too, and the sink has what is kept of them
+pub record Advances {S : Type 0} (law : SinkLaw S) (bytes : Further) (old new : WithSink Reading S) : Type 0 where
+  pub rules : new.state.rules ≡ old.state.rules
+  pub reads : Reads new.state (bytes.read ++ bytes.more)
+  pub puts : TookMore law.takes (kept_closed old.state.rules bytes.read)
+      (kept_closed old.state.rules (bytes.read ++ bytes.more)) old.sink new.sink
 
 -- this line comes after those that LF ended in p, of the lines of q that can be judged
 abbrev pub IsNext : LimitPair → List ℕ → List ℕ → Line → Type 0
@@ -206,31 +225,46 @@ pub record LacksMemory (rules : Rules) (q : List ℕ) (n : ℕ) : Type 0 where
   pub first : slice_get (lines q) 0 ≡ Some (ended_line header)
   pub valid : verdict rules [] header ≡ Valid
 
--- why reading stopped after the lines that LF ended in p, of q, and what the sink is then
-abbrev pub HasCause : {S : Type 0} → (S → Item → S → Type 0) → Rules → List ℕ → List ℕ → ℕ → S → S → End → Type 0
-HasCause leaves rules p q n s t Complete = ⊥
-HasCause leaves rules p q n s t (Refused number place reason) =
-    (l : Line) × IsNext rules.limits p q l × (number ≡ n + 1)
-    × (verdict rules (map ended_line (closed p)) l.content ≡ Refuse place reason) × (t ≡ s)
-    × (goes_on rules number ≡ false)
-HasCause leaves rules p q n s t ReadFault = ⊥
-HasCause leaves rules p q n s t ReadLimit = ⊥
-HasCause leaves rules p q n s t WriteFault =
-    (l : Line) × IsNext rules.limits p q l × (is_kept (verdict rules (map ended_line (closed p)) l.content) ≡ true)
-    × leaves s (item_after rules (map ended_line (closed p)) l) t
-HasCause leaves rules p q n s t Memory = (t ≡ s) × LacksMemory rules q n
+-- where reading stopped: after the lines that LF ended in these bytes, of all bytes, which are so many lines
+pub record StopAt : Type 0 where
+  pub rules : Rules
+  pub done : List ℕ
+  pub all : List ℕ
+  pub lines : ℕ
 
--- reading stopped within these bytes
-pub record Stops {S : Type 0} (takes leaves : S → Item → S → Type 0) (f : Reading) (s : S) (p more : List ℕ) (e : End)
-    (g : Reading) (t : S) : Type 0 where
+abbrev pub stop_at : Rules → List ℕ → List ℕ → ℕ → StopAt
+stop_at rules done all n = record { rules = rules; done = done; all = all; lines = n }
+
+-- the lines that were dealt with there
+abbrev pub lines_done : StopAt → List Line
+lines_done at = map ended_line (closed at.done)
+
+-- why reading stopped there, and what the sink is then
+abbrev pub HasCause : {S : Type 0} → SinkLaw S → StopAt → S → S → End → Type 0
+HasCause law at s t (Refused number place reason) =
+    (l : Line) × IsNext at.rules.limits at.done at.all l × (number ≡ at.lines + 1)
+    × (verdict at.rules (lines_done at) l.content ≡ Refuse place reason) × (t ≡ s)
+    × (goes_on at.rules number ≡ false)
+HasCause law at s t WriteFault =
+    (l : Line) × IsNext at.rules.limits at.done at.all l
+    × (is_kept (verdict at.rules (lines_done at) l.content) ≡ true)
+    × law.leaves s (item_after at.rules (lines_done at) l) t
+HasCause law at s t Memory = (t ≡ s) × LacksMemory at.rules at.all at.lines
+HasCause law at s t other = ⊥
+
+-- reading stopped within the further bytes
+pub record Stops {S : Type 0} (law : SinkLaw S) (bytes : Further) (old : WithSink Reading S) (end : End)
+    (new : WithSink Reading S) : Type 0 where
   pub done : List ℕ
   pub left : List ℕ
   pub middle : S
-  pub cut : more ≡ done ++ left
-  pub rules : g.rules ≡ f.rules
-  pub reads : Reads g (p ++ done)
-  pub puts : Puts takes f.rules p (p ++ done) s middle
-  pub cause : HasCause leaves f.rules (p ++ done) (p ++ more) g.lines middle t e
+  pub cut : bytes.more ≡ done ++ left
+  pub rules : new.state.rules ≡ old.state.rules
+  pub reads : Reads new.state (bytes.read ++ done)
+  pub puts : TookMore law.takes (kept_closed old.state.rules bytes.read)
+      (kept_closed old.state.rules (bytes.read ++ done)) old.sink middle
+  pub cause : HasCause law
+      (stop_at old.state.rules (bytes.read ++ done) (bytes.read ++ bytes.more) new.state.lines) middle new.sink end
 
 -- what stays, whatever comes of some bytes: the rules, and peaks that never fall
 pub record Stays (f g : Reading) : Type 0 where
@@ -239,14 +273,15 @@ pub record Stays (f g : Reading) : Type 0 where
   pub line_rises : f.line.peak ≤ g.line.peak
 
 -- what comes of the end of a stream, where this is the begun line: of a last line, and of a stream without one
-abbrev pub FinishesWith : {S : Type 0} → (S → Item → S → Type 0) → (S → Item → S → Type 0) → List ℕ → Reading → S
-    → Result (Unit {0}) End → Reading → S → Type 0
-FinishesWith takes leaves [] f s r g t = (r ≡ (if f.lines == 0 then Err (Refused 1 0 NoHeader) else Ok tt))
-    × (g ≡ f) × (t ≡ s)
-FinishesWith takes leaves (b ∷ c) f s r g t =
-    Settles takes leaves (is_lenient f) (next_verdict f (b ∷ c))
-    (next_item f (record { content = b ∷ c; lf = false })) f s r g t
+abbrev pub FinishesWith : {S : Type 0} → SinkLaw S → List ℕ → WithSink Reading S → Result (Unit {0}) End
+    → WithSink Reading S → Type 0
+FinishesWith law [] old answer new =
+    (answer ≡ (if old.state.lines == 0 then Err (Refused 1 0 NoHeader) else Ok tt))
+    × (new.state ≡ old.state) × (new.sink ≡ old.sink)
+FinishesWith law (b ∷ c) old answer new =
+    Settles law (judged_next old.state (is_lenient old.state) (next_verdict old.state (b ∷ c))
+    (record { content = b ∷ c; lf = false })) old answer new
 
-abbrev pub Finishes : {S : Type 0} → (S → Item → S → Type 0) → (S → Item → S → Type 0) → Reading → S → List ℕ
-    → Result (Unit {0}) End → Reading → S → Type 0
-Finishes takes leaves f s p r g t = FinishesWith takes leaves (begun p) f s r g t
+abbrev pub Finishes : {S : Type 0} → SinkLaw S → List ℕ → WithSink Reading S → Result (Unit {0}) End
+    → WithSink Reading S → Type 0
+Finishes law p old answer new = FinishesWith law (begun p) old answer new

@@ -8,14 +8,14 @@ use Rattle.cj_stream.specs.declared.ending.End.TheVariants.{Complete, Refused, R
 use Rattle.cj_stream.specs.declared.report_sink.Report.{Report}
 use Rattle.cj_stream.specs.declared.running.Outcome.{Outcome}
 use Rattle.cj_stream.specs.Lines.{Line, lines, raw, whole}
-use Rattle.cj_stream.specs.Item.{Item, is_feature}
+use Rattle.cj_stream.specs.Item.{is_feature}
 use Rattle.cj_stream.specs.Verdict.{Rules, refusal_in, judged, good, is_kept, kept, ending, output, output_first}
-use Rattle.cj_stream.specs.Verdict.{reported, verdict}
+use Rattle.cj_stream.specs.Verdict.{reported, verdict, Stream, stream_of, UpTo, stretch}
 use Rattle.cj_stream.specs.Bound.{IsBelow, IsBounded, IsExact, exact_peaks, first_lines}
 use Rattle.cj_stream.specs.Engine.{EngineState, Counts, Delivers, lines_of, refused_of, peaks_of}
 use Rattle.cj_stream.specs.Reading.{LacksMemory}
 use Rattle.cj_stream.specs.ReportSink.{Notes, NotesRun}
-use Rattle.cj_stream.specs.Sink.{Took, TookFront, LeavesNext, AppendsPart}
+use Rattle.cj_stream.specs.Sink.{SinkLaw, Took, prefixes, TookFront, LeavesNext, AppendsPart}
 
 -- a run: the rules that its lines are judged by, the bytes that it read, and how it went
 pub record Run : Type 0 where
@@ -34,16 +34,16 @@ outcome_of e end = record {
 }
 
 -- what the end of a run tells of the bytes r that it read, after n of their lines; `at_end` says that r is all there
--- was. A line is refused before that only if LF ended it or it is too long.
+-- was. A line is refused before that only if LF ended it or it is too long. Reading was cut short where a read failed,
+-- or the reads ran out.
 abbrev pub Ends : Rules → List ℕ → ℕ → Type 0 → End → Type 0
 Ends rules r n at_end Complete = (ending rules r ≡ Complete) × (n ≡ length (good rules r)) × at_end
 Ends rules r n at_end (Refused number place reason) =
     (ending rules r ≡ Refused number place reason) × (n ≡ length (good rules r))
     × (at_end ⊎ (refusal_in rules (judged rules.limits r) ≡ Some (Refused number place reason)))
-Ends rules r n at_end ReadFault = (refusal_in rules (lines (whole r)) ≡ None) × (n ≡ length (lines (whole r)))
-Ends rules r n at_end ReadLimit = (refusal_in rules (lines (whole r)) ≡ None) × (n ≡ length (lines (whole r)))
 Ends rules r n at_end WriteFault = Unit {0}
 Ends rules r n at_end Memory = Unit {0}
+Ends rules r n at_end cut_short = (refusal_in rules (lines (whole r)) ≡ None) × (n ≡ length (lines (whole r)))
 
 -- the account of a run: so many lines were dealt with, so many features kept and lines refused, no more was held, and
 -- it ended so; what it held at most is exact where it is complete; `at_end` says that what it read is all there was
@@ -60,17 +60,16 @@ pub record CountsAll (rules : Rules) (s : List ℕ) (outcome : Outcome) : Type 0
   pub kept : outcome.kept ≡ length (filter is_feature (kept rules s))
   pub refused : outcome.refused ≡ length (reported rules s)
 
--- what a sink took of the bytes r, by the end of the run: what is kept of them, or of their whole lines where a read
--- failed or the reads ran out; or a prefix of that, and then what a failed step of the next one may leave, or nothing
--- more where memory was refused
-abbrev pub Puts : {S : Type 0} → (S → Item → S → Type 0) → (S → Item → S → Type 0) → Rules → List ℕ → End → S
-    → S → Type 0
-Puts takes leaves rules r Complete s t = Took takes s (kept rules r) t
-Puts takes leaves rules r (Refused number place reason) s t = Took takes s (kept rules r) t
-Puts takes leaves rules r ReadFault s t = Took takes s (kept rules (whole r)) t
-Puts takes leaves rules r ReadLimit s t = Took takes s (kept rules (whole r)) t
-Puts takes leaves rules r WriteFault s t = TookFront takes (LeavesNext leaves) (kept rules r) [] s t
-Puts takes leaves rules r Memory s t = TookFront takes (λ others a b. b ≡ a) (kept rules r) [] s t
+-- what a sink took of the bytes that were read, by the end of the run: what is kept of them, or of their whole lines
+-- where a read failed or the reads ran out; or a prefix of that, and then what a failed step of the next one may leave,
+-- or nothing more where memory was refused
+abbrev pub Puts : {S : Type 0} → SinkLaw S → Stream → End → S → S → Type 0
+Puts law r Complete s t = Took law.takes s (kept r.rules r.bytes) t
+Puts law r (Refused number place reason) s t = Took law.takes s (kept r.rules r.bytes) t
+Puts law r WriteFault s t =
+    TookFront law.takes (LeavesNext law.leaves) (prefixes (kept r.rules r.bytes) []) s t
+Puts law r Memory s t = TookFront law.takes (λ others a b. b ≡ a) (prefixes (kept r.rules r.bytes) []) s t
+Puts law r cut_short s t = Took law.takes s (kept r.rules (whole r.bytes)) t
 
 -- of so many reads n gave bytes, by the end: not the one that found the end of the input, nor the one that failed; and
 -- all, where the reads ran out
@@ -91,12 +90,10 @@ pub record IsReadWithin (reads : ℕ) (r : List ℕ) (end : End) : Type 0 where
 
 -- the last bytes that a run read, by its end: those of one read, or none where no bytes gave the end
 abbrev pub IsLastRead : End → List ℕ → Type 0
-IsLastRead Complete last = last ≡ []
 IsLastRead (Refused number place reason) last = length last ≤ 8192
-IsLastRead ReadFault last = last ≡ []
-IsLastRead ReadLimit last = last ≡ []
 IsLastRead WriteFault last = length last ≤ 8192
 IsLastRead Memory last = length last ≤ 8192
+IsLastRead other last = last ≡ []
 
 -- why memory was refused to a run: nothing was read yet, nor held; or the first line is valid, LF ended it, and no line
 -- was dealt with
@@ -110,10 +107,9 @@ LacksRoom run =
 abbrev pub HeldBegun : Run → End → Type 0
 HeldBegun run Complete = Unit {0}
 HeldBegun run (Refused number place reason) = Unit {0}
-HeldBegun run ReadFault = (exact_peaks run.rules.limits run.read).bytes ≤ run.outcome.peaks.bytes
-HeldBegun run ReadLimit = (exact_peaks run.rules.limits run.read).bytes ≤ run.outcome.peaks.bytes
 HeldBegun run WriteFault = Unit {0}
 HeldBegun run Memory = Unit {0}
+HeldBegun run cut_short = (exact_peaks run.rules.limits run.read).bytes ≤ run.outcome.peaks.bytes
 
 -- A run stops in time. Before its last read nothing that can be judged of what it had read was refused; and all whole
 -- lines were dealt with, so no write had failed, and no memory was refused. After a read fault, and where the reads ran
@@ -131,44 +127,39 @@ pub record StopsInTime (run : Run) : Type 0 where
 
 -- a run from one state of a sink to another: its account, and what the sink took, by the lines that were dealt with and
 -- by the end
-pub record Runs {S : Type 0} (takes leaves : S → Item → S → Type 0) (run : Run) (at_end : Type 0) (old new : S) :
-    Type 0 where
+pub record Runs {S : Type 0} (law : SinkLaw S) (run : Run) (at_end : Type 0) (old new : S) : Type 0 where
   pub account : Account run at_end
-  pub sink : Delivers takes leaves run.rules run.read 0 run.outcome.lines old new (Some run.outcome.ended)
-  pub puts : Puts takes leaves run.rules run.read run.outcome.ended old new
+  pub sink : Delivers law (stretch run.rules run.read 0 run.outcome.lines) old new (Some run.outcome.ended)
+  pub puts : Puts law (stream_of run.rules run.read) run.outcome.ended old new
 
 -- and from one state of a sink of reports to another: what it noted, by the lines and by the end
 pub record RunsNoting {N : Type 0} (notes : N → Report → N → Type 0) (run : Run) (old new : N) : Type 0 where
-  pub reports : Notes notes run.rules run.read 0 run.outcome.lines old new
-  pub noted : NotesRun notes run.rules run.read run.outcome.ended old new
+  pub reports : Notes notes (stretch run.rules run.read 0 run.outcome.lines) old new
+  pub noted : NotesRun notes (stream_of run.rules run.read) run.outcome.ended old new
 
--- the bytes that a writer got of r, by the end of the run: the output of r, or of its whole lines where a read
--- failed, or a prefix of the output where a write failed or memory was refused
-abbrev pub Writes : Rules → List ℕ → End → Option (List ℕ) → Option (List ℕ) → Type 0
-Writes rules r Complete old new = Appends old new (output rules r)
-Writes rules r (Refused number place reason) old new = Appends old new (output rules r)
-Writes rules r ReadFault old new = Appends old new (output rules (whole r))
-Writes rules r ReadLimit old new = Appends old new (output rules (whole r))
-Writes rules r WriteFault old new = AppendsPart old new (output rules r)
-Writes rules r Memory old new = AppendsPart old new (output rules r)
+-- the bytes that a writer got of those that were read, by the end of the run: their output, or that of their whole
+-- lines where reading was cut short, or a prefix of the output where a write failed or memory was refused
+abbrev pub Writes : Stream → End → Option (List ℕ) → Option (List ℕ) → Type 0
+Writes r Complete old new = Appends old new (output r.rules r.bytes)
+Writes r (Refused number place reason) old new = Appends old new (output r.rules r.bytes)
+Writes r WriteFault old new = AppendsPart old new (output r.rules r.bytes)
+Writes r Memory old new = AppendsPart old new (output r.rules r.bytes)
+Writes r cut_short old new = Appends old new (output r.rules (whole r.bytes))
 
--- the bytes that a writer got of r where the write of the line after n lines failed: the output of those, and a prefix
--- of that line, which is kept
-pub record WritesNext (rules : Rules) (r : List ℕ) (n : ℕ) (old new : Option (List ℕ)) : Type 0 where
+-- the bytes that a writer got where the write of the line after these failed: their output, and a prefix of that line,
+-- which is kept
+pub record WritesNext (first : UpTo) (old new : Option (List ℕ)) : Type 0 where
   pub line : Line
-  pub next : slice_get (lines r) n ≡ Some line
-  pub kept : is_kept (verdict rules (take n (lines r)) line.content) ≡ true
+  pub next : slice_get (lines first.bytes) first.lines ≡ Some line
+  pub kept : is_kept (verdict first.rules (take first.lines (lines first.bytes)) line.content) ≡ true
   pub front : List ℕ
   pub rest : List ℕ
   pub cut : raw line ≡ front ++ rest
-  pub grows : Appends old new (output_first rules n r ++ front)
+  pub grows : Appends old new (output_first first.rules first.lines first.bytes ++ front)
 
--- the same by the lines that were dealt with: the output of n lines of r, and a prefix of the next one where its write
--- failed; and where memory was refused nothing, of no line
-abbrev pub WritesLines : Rules → List ℕ → ℕ → End → Option (List ℕ) → Option (List ℕ) → Type 0
-WritesLines rules r n Complete old new = Appends old new (output_first rules n r)
-WritesLines rules r n (Refused number place reason) old new = Appends old new (output_first rules n r)
-WritesLines rules r n ReadFault old new = Appends old new (output_first rules n r)
-WritesLines rules r n ReadLimit old new = Appends old new (output_first rules n r)
-WritesLines rules r n WriteFault old new = WritesNext rules r n old new
-WritesLines rules r n Memory old new = (n ≡ 0) × Keeps old new
+-- the same by the lines that were dealt with: their output, and a prefix of the next one where its write failed; and
+-- where memory was refused nothing, of no line
+abbrev pub WritesLines : UpTo → End → Option (List ℕ) → Option (List ℕ) → Type 0
+WritesLines first WriteFault old new = WritesNext first old new
+WritesLines first Memory old new = (first.lines ≡ 0) × Keeps old new
+WritesLines first other old new = Appends old new (output_first first.rules first.lines first.bytes)

@@ -93,25 +93,35 @@ pub record Rises (old new : Scanning) : Type 0 where
   pub line : old.line.peak ≤ new.line.peak
   pub opened : old.opened.peak ≤ new.opened.peak
 
+-- the tokens of a line, and its open containers
+pub record TreeLists : Type 0 where
+  pub tokens : BoundedList Token
+  pub opened : BoundedList ℕ
+
+abbrev pub tree_lists : BoundedList Token → BoundedList ℕ → TreeLists
+tree_lists tokens opened = record { tokens = tokens; opened = opened }
+
 -- the lists have taken the tree that a content spells
-pub record HoldsTree (c : List ℕ) (old new : BoundedList Token) (old_open new_open : BoundedList ℕ) : Type 0 where
+pub record HoldsTree (c : List ℕ) (old new : TreeLists) : Type 0 where
   pub text : is_utf8 c ≡ true
-  pub count : length new.elements ≡ judged_size (judgement c old_open.limit)
-  pub peak : new.peak ≡ max old.peak (judged_size (judgement c old_open.limit))
-  pub closed : new_open.elements ≡ []
-  pub opened_peak : new_open.peak ≡ max old_open.peak (judged_nest (judgement c old_open.limit))
+  pub count : length new.tokens.elements ≡ judged_size (judgement c old.opened.limit)
+  pub peak : new.tokens.peak ≡ max old.tokens.peak (judged_size (judgement c old.opened.limit))
+  pub closed : new.opened.elements ≡ []
+  pub opened_peak : new.opened.peak ≡ max old.opened.peak (judged_nest (judgement c old.opened.limit))
 
 -- what judging a content makes of the lists: nothing where it is blank; its tree where it is JSON; and in any other
 -- case no more than the law of a scan allows
-abbrev pub Judges : List ℕ → BoundedList Token → BoundedList Token → BoundedList ℕ → BoundedList ℕ → Content → Type 0
-Judges c old new old_open new_open BlankLine = (new ≡ old) × (new_open ≡ old_open)
-Judges c old new old_open new_open Sound = HoldsTree c old new old_open new_open × KeepsLaw c old new old_open new_open
-Judges c old new old_open new_open (Faulty place reason) = KeepsLaw c old new old_open new_open
+abbrev pub Judges : List ℕ → TreeLists → TreeLists → Content → Type 0
+Judges c old new BlankLine = (new.tokens ≡ old.tokens) × (new.opened ≡ old.opened)
+Judges c old new Sound = HoldsTree c old new × KeepsLaw c old.tokens new.tokens old.opened new.opened
+Judges c old new (Faulty place reason) = KeepsLaw c old.tokens new.tokens old.opened new.opened
 
 -- the first line goes into the lists that are kept, a later one into the others
 pub record JudgesLine (lines : ℕ) (c : List ℕ) (old new : Scanning) (x : Content) : Type 0 where
-  pub first : lines ≡ 0 → Judges c old.header new.header old.opened new.opened x × (new.line ≡ old.line)
-  pub later : 0 < lines → Judges c old.line new.line old.opened new.opened x × (new.header ≡ old.header)
+  pub first : lines ≡ 0
+      → Judges c (tree_lists old.header old.opened) (tree_lists new.header new.opened) x × (new.line ≡ old.line)
+  pub later : 0 < lines
+      → Judges c (tree_lists old.line old.opened) (tree_lists new.line new.opened) x × (new.header ≡ old.header)
 
 -- the lists that the next line goes into have room for their limits, so it takes no memory
 pub record IsReady (f : Reading) (s : Scanning) : Type 0 where

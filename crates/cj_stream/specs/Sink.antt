@@ -1,7 +1,26 @@
--- What calls of a sink do to it, one after another.
+-- The law of a sink, and what its calls do to it, one after another.
 use Rattle.std.specs.Prelude.{◌≡◌, ℕ, List, [], ◌∷◌, ◌++◌, Option, Result, Ok, Err}
 use Rattle.std.specs.Io.KnownBytes.{Appends}
+use Rattle.cj_stream.specs.Item.{Item}
 pub use Rattle.cj_budget.specs.Counts.{HasRisen, counted}
+
+-- the law of a sink: what one whole item makes of it, what a fault may leave of it, and how often its device has failed
+pub record SinkLaw (S : Type 0) : Type 1 where
+  pub takes : S → Item → S → Type 0
+  pub leaves : S → Item → S → Type 0
+  pub failures : S → ℕ
+
+-- the law of a sink that never fails
+abbrev pub never_fails : {S : Type 0} → (S → Item → S → Type 0) → SinkLaw S
+never_fails takes = record { takes = takes; leaves = λ old i new. ⊥; failures = λ s. 0 }
+
+-- what is held of a stream, and the sink that its lines go to
+pub record WithSink (X S : Type 0) : Type 0 where
+  pub state : X
+  pub sink : S
+
+abbrev pub with_sink : {X S : Type 0} → X → S → WithSink X S
+with_sink x s = record { state = x; sink = s }
 
 -- a count of failures after a call that answered so: it stays where the call succeeded, and has risen where it failed
 abbrev pub RisesOnErr : {T E : Type 0} → Result T E → ℕ → ℕ → Type 0
@@ -13,19 +32,31 @@ abbrev pub Took : {S X : Type 0} → (S → X → S → Type 0) → S → List X
 Took step old [] new = new ≡ old
 Took {S} step old (x ∷ xs) new = (between : S) × step old x between × Took step between xs new
 
+-- it had taken some items, and has now taken these others, which begin with them
+abbrev pub TookMore : {S X : Type 0} → (S → X → S → Type 0) → List X → List X → S → S → Type 0
+TookMore {S} {X} step before after old new = (added : List X) × (after ≡ before ++ added) × Took step old added new
+
 -- what a failed step may leave, by the first of those that were to come
 abbrev pub LeavesNext : {S X : Type 0} → (S → X → S → Type 0) → List X → S → S → Type 0
 LeavesNext leaves [] old new = ⊥
 LeavesNext leaves (x ∷ xs) old new = leaves old x new
 
--- a prefix of these made steps, with all of the first of them, and then this happened, by those that were to come
-pub record TookFront {S X : Type 0} (takes : S → X → S → Type 0) (then : List X → S → S → Type 0) (all first : List X)
+-- the prefixes of some items that have all of the first of them
+pub record Prefixes (X : Type 0) : Type 0 where
+  pub all : List X
+  pub first : List X
+
+abbrev pub prefixes : {X : Type 0} → List X → List X → Prefixes X
+prefixes all first = record { all = all; first = first }
+
+-- one of these prefixes made steps, and then this happened, by the items that were to come
+pub record TookFront {S X : Type 0} (takes : S → X → S → Type 0) (then : List X → S → S → Type 0) (of : Prefixes X)
     (old new : S) : Type 0 where
   pub more : List X
   pub others : List X
   pub middle : S
-  pub front : all ≡ (first ++ more) ++ others
-  pub took : Took takes old (first ++ more) middle
+  pub front : of.all ≡ (of.first ++ more) ++ others
+  pub took : Took takes old (of.first ++ more) middle
   pub left : then others middle new
 
 -- the known bytes grow by a prefix of bs

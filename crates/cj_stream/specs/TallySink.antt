@@ -1,6 +1,6 @@
 -- What contracts see of a tally, what an item makes of it, and which tally some items have.
 use Rattle.std.specs.Prelude.{◌≡◌, ℕ, ◌+◌, ◌<◌, ◌≤◌, List, [], ◌++◌, Option, Some, None, ℤ, get_or, map, option_map}
-use Rattle.std.specs.Prelude.{codes, pos, replicate, take}
+use Rattle.std.specs.Prelude.{codes, pos, replicate}
 use Rattle.std.specs.List.{filter, last_or}
 use Rattle.std.specs.Str.{chars}
 use Rattle.cj_spans.specs.Tree.{Tree}
@@ -8,13 +8,13 @@ use Rattle.cj_decimal.specs.Number.{Number}
 use Rattle.cj_decimal.specs.Word.{IsWordOf}
 use Rattle.cj_feature.specs.Shown.{transform_values}
 use Rattle.cj_stream.specs.declared.ending.End.{End}
-use Rattle.cj_stream.specs.declared.ending.End.TheVariants.{Complete, Refused, ReadFault, ReadLimit, WriteFault, Memory}
-use Rattle.cj_stream.specs.Cut.{joined}
+use Rattle.cj_stream.specs.declared.ending.End.TheVariants.{Complete, Refused, WriteFault, Memory}
+use Rattle.cj_stream.specs.Cut.{InPieces, all_of, given_of, taken_of}
 use Rattle.cj_stream.specs.Item.{Item, is_feature}
 use Rattle.cj_stream.specs.Lines.{whole}
 use Rattle.cj_stream.specs.CountSink.{one_more, is_header, how_many}
 use Rattle.cj_stream.specs.Tallied.{capped, how_often, type_numbers, lod_classes, numbers_on, IsRange, over_features}
-use Rattle.cj_stream.specs.Verdict.{Rules, kept, ending}
+use Rattle.cj_stream.specs.Verdict.{Stream, kept, ending}
 
 -- how many features there are; how many city objects of each type, by its number, and how many geometries of each LoD
 -- class; the least and the greatest number of a vertex on each axis; and the numbers of the header's transform
@@ -119,25 +119,20 @@ pub record TalliesFront (items first : List Item) (t : Tally) : Type 0 where
   pub front : items ≡ (first ++ more) ++ others
   pub tally : IsTallyOf (first ++ more) t
 
--- the tally of what is kept of the bytes r that a run read, by its end; of their whole lines where a read failed, and
+-- the tally of what is kept of the bytes that a run read, by its end; of their whole lines where a read failed, and
 -- of a prefix where memory was refused. A tally never fails.
-abbrev pub TalliesRun : Rules → List ℕ → End → Tally → Type 0
-TalliesRun rules r Complete t = IsTallyOf (kept rules r) t
-TalliesRun rules r (Refused number place reason) t = IsTallyOf (kept rules r) t
-TalliesRun rules r ReadFault t = IsTallyOf (kept rules (whole r)) t
-TalliesRun rules r ReadLimit t = IsTallyOf (kept rules (whole r)) t
-TalliesRun rules r WriteFault t = ⊥
-TalliesRun rules r Memory t = TalliesFront (kept rules r) [] t
+abbrev pub TalliesRun : Stream → End → Tally → Type 0
+TalliesRun r Complete t = IsTallyOf (kept r.rules r.bytes) t
+TalliesRun r (Refused number place reason) t = IsTallyOf (kept r.rules r.bytes) t
+TalliesRun r WriteFault t = ⊥
+TalliesRun r Memory t = TalliesFront (kept r.rules r.bytes) [] t
+TalliesRun r cut_short t = IsTallyOf (kept r.rules (whole r.bytes)) t
 
 -- the tally of what is kept of a cut stream, whose ending is the answer; or, where memory was refused, of a prefix of
--- the pieces that were given, of which n were wholly taken
-abbrev pub TalliesPieces : Rules → List (List ℕ) → ℕ → End → Tally → Type 0
-TalliesPieces rules pieces n Complete t = (ending rules (joined pieces) ≡ Complete)
-    × IsTallyOf (kept rules (joined pieces)) t
-TalliesPieces rules pieces n (Refused number place reason) t =
-    (ending rules (joined pieces) ≡ Refused number place reason) × IsTallyOf (kept rules (joined pieces)) t
-TalliesPieces rules pieces n ReadFault t = ⊥
-TalliesPieces rules pieces n ReadLimit t = ⊥
-TalliesPieces rules pieces n WriteFault t = ⊥
-TalliesPieces rules pieces n Memory t =
-    TalliesFront (kept rules (joined (take (n + 1) pieces))) (kept rules (whole (joined (take n pieces)))) t
+-- the pieces that were given
+abbrev pub TalliesPieces : InPieces → End → Tally → Type 0
+TalliesPieces cut Complete t = (ending cut.rules (all_of cut) ≡ Complete) × IsTallyOf (kept cut.rules (all_of cut)) t
+TalliesPieces cut (Refused number place reason) t =
+    (ending cut.rules (all_of cut) ≡ Refused number place reason) × IsTallyOf (kept cut.rules (all_of cut)) t
+TalliesPieces cut Memory t = TalliesFront (kept cut.rules (given_of cut)) (kept cut.rules (whole (taken_of cut))) t
+TalliesPieces cut other t = ⊥

@@ -208,3 +208,32 @@ features_first rules n s = filter is_feature (kept_first rules n s)
 -- what is reported of the first n lines
 abbrev pub reported_first : Rules → ℕ → List ℕ → List Report
 reported_first rules n s = reported_from rules [] (take n (lines s))
+
+-- ---- streams and their lines
+
+-- bytes, and the rules that their lines are judged by
+pub record Stream : Type 0 where
+  pub rules : Rules
+  pub bytes : List ℕ
+
+abbrev pub stream_of : Rules → List ℕ → Stream
+stream_of rules s = record { rules = rules; bytes = s }
+
+-- the first lines of them, so many
+pub record UpTo : Type 0 where
+  pub rules : Rules
+  pub bytes : List ℕ
+  pub lines : ℕ
+
+abbrev pub up_to : Rules → List ℕ → ℕ → UpTo
+up_to rules s n = record { rules = rules; bytes = s; lines = n }
+
+-- their lines from one count of lines to another
+pub record Stretch : Type 0 where
+  pub rules : Rules
+  pub bytes : List ℕ
+  pub from : ℕ
+  pub to : ℕ
+
+abbrev pub stretch : Rules → List ℕ → ℕ → ℕ → Stretch
+stretch rules s from to = record { rules = rules; bytes = s; from = from; to = to }

@@ -8,23 +8,25 @@
 //! functions that use them. A view borrows the lists, so they change only after the call of the
 //! sink. A line's number is the number of lines before it plus one, so the header has number 1.
 ghost use Rattle.std.specs.Prelude.{◌≡◌, ◌+◌, ◌<◌, ◌≤◌, ◌^◌, ◌/◌, List, length, [], OnOk, OnErr, IfOk, IfErr, IsErrOf};
-ghost use Rattle.std.specs.Prelude.{MatchResult, IsTrue, None, Some};
+ghost use Rattle.std.specs.Prelude.{MatchResult, IsTrue, None, Some, false};
 ghost use Rattle.cj_budget.specs.Bounded.{IsNew, Becomes};
 ghost use Rattle.cj_budget.specs.Limits.{InLine};
 ghost use Rattle.cj_spans.specs.Marks.{AreUnmarked};
-ghost use Rattle.cj_stream.specs.Ending.{IsLaterEnd};
+ghost use Rattle.cj_stream.specs.Ending.{answer_of, header_end, line_end};
 ghost use Rattle.cj_stream.specs.Item.{tree_of, item_at};
 ghost use Rattle.cj_stream.specs.Sink.{HasRisen};
 ghost use Rattle.cj_stream.specs.Verdict.{Valid, refusal_of, tree_verdict};
+ghost use Rattle.cj_stream.specs.Reading.{JudgedAs};
 
-use crate::ending::End;
+use crate::ending::{HeaderEnd, LineEnd};
 use crate::judge::{Content, judge};
 use crate::options::Options;
+use crate::output::WriteFault;
 use crate::query::Query;
 use crate::sink::LineSink;
 use cj_budget::{Bounded, Limits, Stack};
 use cj_feature::{Header, HeaderParts, check_feature, check_header, mark_reached};
-use cj_spans::{Doc, Finding, Token};
+use cj_spans::{Doc, Token};
 use std::alloc::Global;
 
 /// What lines are judged by, and what they are judged with.
@@ -103,7 +105,7 @@ impl<'q> Desk<'q> {
 
     /// Judges the tree of the first line. Returns the parts of a valid header, or the end that its
     /// least finding makes.
-    pub fn check_first(&self, content: &[u8]) -> Result<HeaderParts, End>
+    pub fn check_first(&self, content: &[u8]) -> Result<HeaderParts, HeaderEnd>
         requires shows { ShowsTree content.now self.now.limits.depth self.now.header_tokens.elements }
         ensures ok { IfOk result (λ header_parts. IsHeaderOf (tree_of self.now.limits.depth content.now)
             (rules_for self.now.limits self.now.query.now self.now.options) header_parts) }
@@ -112,12 +114,16 @@ impl<'q> Desk<'q> {
         ensures refused { IfErr result (λ e. refusal_of
             (rules_for self.now.limits self.now.query.now self.now.options) 1
             (tree_verdict (rules_for self.now.limits self.now.query.now self.now.options) 1
-            (tree_of self.now.limits.depth content.now) (tree_of self.now.limits.depth content.now)) ≡ Some e) }
+            (tree_of self.now.limits.depth content.now) (tree_of self.now.limits.depth content.now)) ≡ Some (header_end e)) }
     {
         let doc = Doc::of(content, self.header_tokens.as_slice());
         match check_header(doc, self.query.wants_box()) {
             Ok(header) => Ok(header.parts()),
-            Err(finding) => Err(refused(1, finding)),
+            Err(finding) => Err(HeaderEnd::Refused {
+                line: 1,
+                place: finding.place,
+                reason: finding.reason,
+            }),
         }
     }
 
@@ -128,17 +134,17 @@ impl<'q> Desk<'q> {
         header_parts: HeaderParts,
         lf: bool,
         sink: &mut S,
-    ) -> Result<(), End>
+    ) -> Result<(), WriteFault>
         requires shows { ShowsTree content.now self.old.limits.depth self.old.header_tokens.elements }
         requires header_parts { IsHeaderOf (tree_of self.old.limits.depth content.now)
             (rules_for self.old.limits self.old.query.now self.old.options) header_parts }
-        ensures counts { S.failures sink.old ≤ S.failures sink.new }
-        ensures cause { IsErrOf result End.WriteFault → HasRisen (S.failures sink.old) (S.failures sink.new) }
+        ensures counts { S.law.failures sink.old ≤ S.law.failures sink.new }
+        ensures cause { OnErr result (HasRisen (S.law.failures sink.old) (S.law.failures sink.new)) }
         ensures puts { MatchResult result
-            (λ _. S.takes sink.old (item_at self.old.limits.depth 1 (tree_of self.old.limits.depth content.now)
+            (λ _. S.law.takes sink.old (item_at self.old.limits.depth 1 (tree_of self.old.limits.depth content.now)
             (record { content = content.now; lf = lf })) sink.new)
-            (λ e. (e ≡ End.WriteFault) × S.leaves sink.old (item_at self.old.limits.depth 1
-            (tree_of self.old.limits.depth content.now) (record { content = content.now; lf = lf })) sink.new) }
+            (λ e. S.law.leaves sink.old (item_at self.old.limits.depth 1 (tree_of self.old.limits.depth content.now)
+            (record { content = content.now; lf = lf })) sink.new) }
         ensures same { OnErr result (self.new ≡ self.old) }
         ensures rest { OnOk result (self.new ≡ record self.old { header_parts = self.new.header_parts }) }
         ensures keeps { OnOk result (KeepsHeader content.now
@@ -147,9 +153,7 @@ impl<'q> Desk<'q> {
     {
         let doc = Doc::of(content, self.header_tokens.as_slice());
         let header = Header::of(doc, header_parts);
-        if sink.header(&header, lf).is_err() {
-            return Err(End::WriteFault);
-        }
+        sink.header(&header, lf)?;
         let header_parts = header.parts();
         self.header_parts = Some(header_parts);
         Ok(())
@@ -181,21 +185,20 @@ impl<'q> Desk<'q> {
         content: &[u8],
         lf: bool,
         sink: &mut S,
-    ) -> Result<bool, End>
+    ) -> Result<bool, LineEnd>
         requires countable { before < 2 ^ 62 }
         requires later { 0 < before }
         requires shows { ShowsTree content.now self.now.limits.depth self.now.line_tokens.elements }
         requires marks { HasMarks content.now self.now.limits self.now.options self.now.line_tokens.elements }
         requires keeps { KeepsHeader first.now (rules_for self.now.limits self.now.query.now self.now.options)
             self.now.header_tokens.elements self.now.header_parts }
-        ensures counts { S.failures sink.old ≤ S.failures sink.new }
-        ensures cause { IsErrOf result End.WriteFault → HasRisen (S.failures sink.old) (S.failures sink.new) }
-        ensures hands { Hands S.takes S.leaves
+        ensures counts { S.law.failures sink.old ≤ S.law.failures sink.new }
+        ensures cause { IsErrOf result LineEnd.WriteFault → HasRisen (S.law.failures sink.old) (S.law.failures sink.new) }
+        ensures hands { Hands S.law (JudgedAs (before + 1) false
             (tree_verdict (rules_for self.now.limits self.now.query.now self.now.options) (before + 1)
-            (tree_of self.now.limits.depth first.now) (tree_of self.now.limits.depth content.now)) (before + 1)
+            (tree_of self.now.limits.depth first.now) (tree_of self.now.limits.depth content.now))
             (item_at self.now.limits.depth (before + 1) (tree_of self.now.limits.depth first.now)
-            (record { content = content.now; lf = lf })) sink.old result sink.new }
-        ensures end { IfErr result IsLaterEnd }
+            (record { content = content.now; lf = lf }))) sink.old (answer_of line_end result) sink.new }
     {
         let Some(header_parts) = &self.header_parts else {
             unreachable!()
@@ -205,13 +208,19 @@ impl<'q> Desk<'q> {
         let doc = Doc::of(content, self.line_tokens.as_slice());
         let feature = match check_feature(doc, &header, self.options.asks_for_trees()) {
             Ok(feature) => feature,
-            Err(finding) => return Err(refused(before + 1, finding)),
+            Err(finding) => {
+                return Err(LineEnd::Refused {
+                    line: before + 1,
+                    place: finding.place,
+                    reason: finding.reason,
+                });
+            }
         };
         if self.query.holds(&feature, &header) == self.options.excludes() {
             return Ok(false);
         }
         if sink.put(&feature, lf).is_err() {
-            return Err(End::WriteFault);
+            return Err(LineEnd::WriteFault);
         }
         Ok(true)
     }
@@ -223,16 +232,5 @@ impl<'q> Desk<'q> {
     {
         self.line_tokens.clear();
         self.opened.clear();
-    }
-}
-
-/// Returns the end that a finding on a line makes.
-fn refused(line: u64, finding: Finding) -> End
-    ensures { result ≡ End.Refused line finding.place finding.reason }
-{
-    End::Refused {
-        line,
-        place: finding.place,
-        reason: finding.reason,
     }
 }

@@ -1,6 +1,6 @@
 //! How a stream ends, and how its two readers end.
-ghost use Rattle.std.specs.Prelude.{◌≡◌, IfErr};
-ghost use Rattle.cj_stream.specs.Ending.{header_end, line_end, IsFirstEnd, IsLaterEnd};
+ghost use Rattle.std.specs.Prelude.{◌≡◌};
+ghost use Rattle.cj_stream.specs.Ending.{answer_of, header_end, line_end};
 ghost use Rattle.cj_stream.specs.Engine.{end_of};
 
 use cj_spans::Reason;
@@ -59,70 +59,25 @@ pub enum LineEnd {
 }
 
 impl HeaderEnd {
-    /// Returns an end of the first line as an end of the reader of a header.
-    pub(crate) fn of(end: End) -> HeaderEnd
-        requires { IsFirstEnd end }
-        ensures { header_end result ≡ end }
-    {
-        match end {
-            End::Complete => HeaderEnd::Complete,
-            End::Refused {
-                line,
-                place,
-                reason,
-            } => HeaderEnd::Refused {
-                line,
-                place,
-                reason,
-            },
-            End::WriteFault => HeaderEnd::WriteFault,
-            End::Memory => HeaderEnd::Memory,
-            End::ReadFault | End::ReadLimit => unreachable!(),
-        }
-    }
-
     /// Returns how the reader of a header ends, given the result of the first line.
-    pub(crate) fn after(answer: Result<(), End>) -> HeaderEnd
-        requires { IfErr answer IsFirstEnd }
-        ensures { header_end result ≡ end_of answer }
+    pub(crate) fn after(answer: Result<(), HeaderEnd>) -> HeaderEnd
+        ensures { header_end result ≡ end_of (answer_of header_end answer) }
     {
         match answer {
             Ok(()) => HeaderEnd::Complete,
-            Err(end) => HeaderEnd::of(end),
+            Err(end) => end,
         }
     }
 }
 
 impl LineEnd {
-    /// Returns an end of a later line as an end of the reader of lines.
-    pub(crate) fn of(end: End) -> LineEnd
-        requires { IsLaterEnd end }
-        ensures { line_end result ≡ end }
-    {
-        match end {
-            End::Complete => LineEnd::Complete,
-            End::Refused {
-                line,
-                place,
-                reason,
-            } => LineEnd::Refused {
-                line,
-                place,
-                reason,
-            },
-            End::WriteFault => LineEnd::WriteFault,
-            End::ReadFault | End::ReadLimit | End::Memory => unreachable!(),
-        }
-    }
-
     /// Returns how the reader of lines ends, given the result of the last line.
-    pub(crate) fn after(answer: Result<(), End>) -> LineEnd
-        requires { IfErr answer IsLaterEnd }
-        ensures { line_end result ≡ end_of answer }
+    pub(crate) fn after(answer: Result<(), LineEnd>) -> LineEnd
+        ensures { line_end result ≡ end_of (answer_of line_end answer) }
     {
         match answer {
             Ok(()) => LineEnd::Complete,
-            Err(end) => LineEnd::of(end),
+            Err(end) => end,
         }
     }
 }

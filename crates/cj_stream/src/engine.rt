@@ -15,6 +15,8 @@ ghost use Rattle.cj_stream.specs.Phase.{state_of, IsUnderWay};
 ghost use Rattle.cj_stream.specs.Query.{rules_for};
 ghost use Rattle.cj_stream.specs.Engine.{StandsFor, rules_of, lines_of, refused_of, held_by, peaks_of};
 ghost use Rattle.cj_stream.specs.ReportSink.{Notes};
+ghost use Rattle.cj_stream.specs.Sink.{with_sink};
+ghost use Rattle.cj_stream.specs.Verdict.{stretch};
 
 use crate::ending::End;
 use crate::header_reader::HeaderReader;
@@ -48,11 +50,11 @@ impl<'q> Phase<'q> {
         requires going { IsUnderWay self (state_of self).taken }
         requires small { (state_of self).taken + length piece.now ≤ 2 ^ 60 }
         ensures going { OnOk result.1 (IsUnderWay result.0 ((state_of self.entry).taken + length piece.now)) }
-        ensures feeds { Feeds S.takes S.leaves S.failures (state_of self.entry) piece.now result.1 (state_of result.0)
-            sink.old sink.new }
+        ensures feeds { Feeds S.law piece.now (with_sink (state_of self.entry) sink.old) result.1
+            (with_sink (state_of result.0) sink.new) }
         ensures reports { (p : List ℕ) → StandsFor (state_of self.entry) p
-            → Notes N.notes (rules_of (state_of self.entry))
-            (p ++ piece.now) (lines_of (state_of self.entry)) (lines_of (state_of result.0)) reports.old reports.new }
+            → Notes N.notes (stretch (rules_of (state_of self.entry)) (p ++ piece.now) (lines_of (state_of self.entry))
+            (lines_of (state_of result.0))) reports.old reports.new }
         ensures late { 0 < lines_of (state_of self.entry) → result.1 ≢ Err End.Memory }
         ensures none { result.1 ≡ Err End.Memory → lines_of (state_of result.0) ≡ 0 }
     {
@@ -65,11 +67,11 @@ impl<'q> Phase<'q> {
     /// Ends the stream.
     fn finish<S: LineSink, N: ReportSink>(&mut self, sink: &mut S, reports: &mut N) -> End
         requires going { IsUnderWay self.old (state_of self.old).taken }
-        ensures finished { IsFinished S.takes S.leaves S.failures (state_of self.old) result (state_of self.new)
-            sink.old sink.new }
+        ensures finished { IsFinished S.law (with_sink (state_of self.old) sink.old) result
+            (with_sink (state_of self.new) sink.new) }
         ensures reports { (p : List ℕ) → StandsFor (state_of self.old) p
-            → Notes N.notes (rules_of (state_of self.old)) p
-            (lines_of (state_of self.old)) (lines_of (state_of self.new)) reports.old reports.new }
+            → Notes N.notes (stretch (rules_of (state_of self.old)) p (lines_of (state_of self.old))
+            (lines_of (state_of self.new))) reports.old reports.new }
     {
         match self {
             Phase::Header(header) => End::from(header.finish(sink)),
@@ -150,9 +152,9 @@ impl<'q> Engine<'q> {
 
         // What the result says of all bytes so far, and of the sinks.
         ensures reports { (p : List ℕ) → StandsFor self.old p → self.old.ended ≡ None
-            → Notes N.notes (rules_of self.old)
-            (p ++ piece.now) (lines_of self.old) (lines_of self.new) reports.old reports.new }
-        ensures feeds { Feeds S.takes S.leaves S.failures self.old piece.now result self.new sink.old sink.new }
+            → Notes N.notes (stretch (rules_of self.old) (p ++ piece.now) (lines_of self.old) (lines_of self.new))
+            reports.old reports.new }
+        ensures feeds { Feeds S.law piece.now (with_sink self.old sink.old) result (with_sink self.new sink.new) }
     {
         if let Some(end) = self.ended {
             return Err(end);
@@ -180,9 +182,9 @@ impl<'q> Engine<'q> {
             (result ≡ e) × (self.new ≡ self.old) × (sink.new ≡ sink.old) × (reports.new ≡ reports.old) }
         ensures untaken { self.new.taken ≡ self.old.taken }
         ensures reports { (p : List ℕ) → StandsFor self.old p → self.old.ended ≡ None
-            → Notes N.notes (rules_of self.old) p
-            (lines_of self.old) (lines_of self.new) reports.old reports.new }
-        ensures finished { IsFinished S.takes S.leaves S.failures self.old result self.new sink.old sink.new }
+            → Notes N.notes (stretch (rules_of self.old) p (lines_of self.old) (lines_of self.new))
+            reports.old reports.new }
+        ensures finished { IsFinished S.law (with_sink self.old sink.old) result (with_sink self.new sink.new) }
     {
         if let Some(end) = self.ended {
             return end;
@@ -273,10 +275,11 @@ fn feed_header<'q, S: LineSink, N: ReportSink>(
     requires going { header.ended ≡ None }
     requires unaccepted { ¬ IsAccepted header }
     ensures going { OnOk result.1 (IsUnderWay result.0 (header.entry.taken + length piece.now)) }
-    ensures feeds { Feeds S.takes S.leaves S.failures header.entry piece.now result.1 (state_of result.0)
-        sink.old sink.new }
-    ensures reports { (p : List ℕ) → StandsFor header.entry p → Notes N.notes (rules_of header.entry) (p ++ piece.now)
-        (lines_of header.entry) (lines_of (state_of result.0)) reports.old reports.new }
+    ensures feeds { Feeds S.law piece.now (with_sink header.entry sink.old) result.1
+        (with_sink (state_of result.0) sink.new) }
+    ensures reports { (p : List ℕ) → StandsFor header.entry p
+        → Notes N.notes (stretch (rules_of header.entry) (p ++ piece.now) (lines_of header.entry)
+        (lines_of (state_of result.0))) reports.old reports.new }
     ensures none { result.1 ≡ Err End.Memory → lines_of (state_of result.0) ≡ 0 }
 {
     let used = match header.feed(piece, sink) {
@@ -297,10 +300,11 @@ fn feed_lines<'q, S: LineSink, N: ReportSink>(
     requires small { lines.taken + length piece.now ≤ 2 ^ 60 }
     requires going { lines.ended ≡ None }
     ensures going { OnOk result.1 (IsUnderWay result.0 (lines.entry.taken + length piece.now)) }
-    ensures feeds { Feeds S.takes S.leaves S.failures lines.entry piece.now result.1 (state_of result.0)
-        sink.old sink.new }
-    ensures reports { (p : List ℕ) → StandsFor lines.entry p → Notes N.notes (rules_of lines.entry) (p ++ piece.now)
-        (lines_of lines.entry) (lines_of (state_of result.0)) reports.old reports.new }
+    ensures feeds { Feeds S.law piece.now (with_sink lines.entry sink.old) result.1
+        (with_sink (state_of result.0) sink.new) }
+    ensures reports { (p : List ℕ) → StandsFor lines.entry p
+        → Notes N.notes (stretch (rules_of lines.entry) (p ++ piece.now) (lines_of lines.entry)
+        (lines_of (state_of result.0))) reports.old reports.new }
     ensures granted { result.1 ≢ Err End.Memory }
 {
     match lines.feed(piece, sink, reports) {

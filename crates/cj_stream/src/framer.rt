@@ -27,27 +27,28 @@ ghost use Rattle.std.specs.Prelude.{◌≡◌, ◌+◌, ◌^◌, ◌<◌, ◌≤
 ghost use Rattle.std.specs.Prelude.{if◌then◌else◌, OnOk, OnErr, IfOk, IfErr, IsErrOf, IsTrue, Some};
 ghost use Rattle.cj_budget.specs.Bounded.{IsWithin};
 ghost use Rattle.cj_spans.specs.Marks.{AreUnmarked};
-ghost use Rattle.cj_stream.specs.Bound.{contents};
-ghost use Rattle.cj_stream.specs.Carrying.{IsFramed, Carries};
-ghost use Rattle.cj_stream.specs.Ending.{IsFirstEnd, IsLaterEnd};
-ghost use Rattle.cj_stream.specs.Lines.{newline, NoLf, closed, first_of, first_content};
+ghost use Rattle.cj_stream.specs.Carrying.{IsFramed, Carries, TakesAll, TakesSome, FinishesAll};
+ghost use Rattle.cj_stream.specs.Ending.{answer_of, header_end, line_end};
+ghost use Rattle.cj_stream.specs.Lines.{newline, NoLf, closed};
 ghost use Rattle.cj_stream.specs.Front.{IsFront};
 ghost use Rattle.cj_stream.specs.Item.{tree_of};
 ghost use Rattle.cj_stream.specs.Judging.{Says, Misreads, ShowsTree, IsHeaderOf};
 ghost use Rattle.cj_stream.specs.Query.{rules_for};
-ghost use Rattle.cj_stream.specs.Reading.{begun_of, begun_verdict, told_verdict, next_item, is_lenient, IsLeft, Stores};
-ghost use Rattle.cj_stream.specs.Reading.{Unstored, Passes, Deals, Settles, Reads, Advances, Stops, Stays, Finishes};
+ghost use Rattle.cj_stream.specs.Reading.{begun_of, begun_verdict, told_verdict, is_lenient, IsLeft, Stores};
+ghost use Rattle.cj_stream.specs.Reading.{Unstored, Passes, Deals, Settles, Reads, Stays};
+ghost use Rattle.cj_stream.specs.Reading.{judged_begun};
 ghost use Rattle.cj_stream.specs.ReportSink.{Notes};
-ghost use Rattle.cj_stream.specs.Scanning.{Scanning, IsReady, IsStill, ListsFailToGrow, Scanned, ScansNext, HoldsFew};
+ghost use Rattle.cj_stream.specs.Scanning.{Scanning, IsReady, IsStill, ListsFailToGrow, Scanned, ScansNext};
 ghost use Rattle.cj_stream.specs.Scanning.{HoldsFewNext, HeldUntil, JudgesLine, Forgets};
-ghost use Rattle.cj_stream.specs.Sink.{HasRisen, Took};
-ghost use Rattle.cj_stream.specs.Verdict.{Valid, report_of};
+ghost use Rattle.cj_stream.specs.Sink.{HasRisen, Took, with_sink};
+ghost use Rattle.cj_stream.specs.Verdict.{Valid, report_of, stretch};
 
 use crate::desk::Desk;
-use crate::ending::End;
+use crate::ending::{HeaderEnd, LineEnd};
 use crate::header_reader::Progress;
 use crate::judge::Content;
 use crate::options::Options;
+use crate::output::WriteFault;
 use crate::query::Query;
 use crate::report_sink::{Report, ReportSink};
 use crate::sink::LineSink;
@@ -140,13 +141,13 @@ impl<'q> Framer<'q> {
         self.desk.options.keeps_going()
     }
 
-    /// Returns the end at the begun line if it is too long.
-    fn too_long(&self) -> End
+    /// Returns the end at the begun line, a later one, if it is too long.
+    fn too_long(&self) -> LineEnd
         requires countable { self.now.reading.lines < 2 ^ 62 }
-        ensures { result ≡ End.Refused (self.now.reading.lines + 1) self.now.reading.rules.limits.line
+        ensures { result ≡ LineEnd.Refused (self.now.reading.lines + 1) self.now.reading.rules.limits.line
             Reason.LineTooLong }
     {
-        End::Refused {
+        LineEnd::Refused {
             line: self.store.lines + 1,
             place: self.desk.limits.line(),
             reason: Reason::LineTooLong,
@@ -154,13 +155,13 @@ impl<'q> Framer<'q> {
     }
 
     /// Stores a part of the first line. Rejects the line if this part makes it too long.
-    fn store_first(&mut self, part: &[u8]) -> Result<(), End>
+    fn store_first(&mut self, part: &[u8]) -> Result<(), HeaderEnd>
         requires first { self.old.reading.lines ≡ 0 }
         requires undropped { self.old.reading.dropped ≡ false }
         requires ready { IsReady self.old.reading self.old.scanning }
         ensures ok { OnOk result (Stores self.old.reading part.now self.new.reading) }
         ensures err { OnErr result (self.new ≡ self.old) }
-        ensures cause { IfErr result (λ e. Unstored self.old.reading part.now e) }
+        ensures cause { IfErr result (λ e. Unstored self.old.reading part.now (header_end e)) }
         ensures stays { Stays self.old.reading self.new.reading }
         ensures lists { self.new.scanning ≡ self.old.scanning }
         ensures undropped { self.new.reading.dropped ≡ false }
@@ -169,19 +170,23 @@ impl<'q> Framer<'q> {
     {
         match self.store.add(part) {
             Ok(()) => Ok(()),
-            Err(TooLong) => Err(self.too_long()),
+            Err(TooLong) => Err(HeaderEnd::Refused {
+                line: 1,
+                place: self.desk.limits.line(),
+                reason: Reason::LineTooLong,
+            }),
         }
     }
 
     /// Stores a part of a later line, unless the line is being dropped. If this part makes the line
     /// too long, the line is dropped or rejected.
-    fn store(&mut self, part: &[u8]) -> Result<(), End>
+    fn store(&mut self, part: &[u8]) -> Result<(), LineEnd>
         requires countable { self.old.reading.lines < 2 ^ 62 }
         requires later { 0 < self.old.reading.lines }
         requires ready { IsReady self.old.reading self.old.scanning }
         ensures ok { OnOk result (Stores self.old.reading part.now self.new.reading) }
         ensures err { OnErr result (self.new ≡ self.old) }
-        ensures cause { IfErr result (λ e. Unstored self.old.reading part.now e) }
+        ensures cause { IfErr result (λ e. Unstored self.old.reading part.now (line_end e)) }
         ensures stays { Stays self.old.reading self.new.reading }
         ensures lists { self.new.scanning ≡ self.old.scanning }
         ensures framed { IsFramed self.new }
@@ -276,21 +281,20 @@ impl<'q> Framer<'q> {
         header_parts: HeaderParts,
         lf: bool,
         sink: &mut S,
-    ) -> Result<(), End>
+    ) -> Result<(), HeaderEnd>
         requires first { self.old.reading.lines ≡ 0 }
         requires shows { ShowsTree (begun_of self.old.reading) self.old.reading.rules.limits.depth
             self.old.scanning.header.elements }
         requires header_parts { IsHeaderOf (tree_of self.old.reading.rules.limits.depth (begun_of self.old.reading))
             self.old.reading.rules header_parts }
-        ensures counts { S.failures sink.old ≤ S.failures sink.new }
-        ensures cause { IsErrOf result End.WriteFault → HasRisen (S.failures sink.old) (S.failures sink.new) }
-        ensures deals { Deals S.takes S.leaves false Valid
-            (next_item self.old.reading (record { content = begun_of self.old.reading; lf = lf }))
-            self.old.reading sink.old result self.new.reading sink.new }
+        ensures counts { S.law.failures sink.old ≤ S.law.failures sink.new }
+        ensures cause { IsErrOf result HeaderEnd.WriteFault → HasRisen (S.law.failures sink.old) (S.law.failures sink.new) }
+        ensures deals { Deals S.law (judged_begun self.old.reading false Valid lf)
+            (with_sink self.old.reading sink.old) (answer_of header_end result) (with_sink self.new.reading sink.new) }
         ensures forgets { OnOk result (Forgets self.old.scanning self.new.scanning) }
         ensures same { OnErr result (self.new.scanning ≡ self.old.scanning) }
         ensures framed { IsFramed self.new }
-        ensures end { IfErr result (λ e. e ≡ End.WriteFault) }
+        ensures end { IfErr result (λ e. e ≡ HeaderEnd.WriteFault) }
     {
         let content = self.store.header.as_slice();
         match self.desk.put_first(content, header_parts, lf, sink) {
@@ -299,28 +303,26 @@ impl<'q> Framer<'q> {
                 self.desk.forget();
                 Ok(())
             }
-            Err(end) => Err(end),
+            Err(WriteFault) => Err(HeaderEnd::WriteFault),
         }
     }
 
     /// Judges the tree of the first line, and puts it to the sink if it is a valid header. If LF
     /// ended the line, memory for later lines is reserved first.
-    fn put_header<S: LineSink>(&mut self, lf: bool, sink: &mut S) -> Result<(), End>
+    fn put_header<S: LineSink>(&mut self, lf: bool, sink: &mut S) -> Result<(), HeaderEnd>
         requires first { self.old.reading.lines ≡ 0 }
         requires ready { IsReady self.old.reading self.old.scanning }
         requires shows { ShowsTree (begun_of self.old.reading) self.old.reading.rules.limits.depth
             self.old.scanning.header.elements }
-        ensures counts { S.failures sink.old ≤ S.failures sink.new }
-        ensures cause { IsErrOf result End.WriteFault → HasRisen (S.failures sink.old) (S.failures sink.new) }
-        ensures settles { Settles S.takes S.leaves false (begun_verdict self.old.reading)
-            (next_item self.old.reading (record { content = begun_of self.old.reading; lf = lf }))
-            self.old.reading sink.old result self.new.reading sink.new }
+        ensures counts { S.law.failures sink.old ≤ S.law.failures sink.new }
+        ensures cause { IsErrOf result HeaderEnd.WriteFault → HasRisen (S.law.failures sink.old) (S.law.failures sink.new) }
+        ensures settles { Settles S.law (judged_begun self.old.reading false (begun_verdict self.old.reading) lf)
+            (with_sink self.old.reading sink.old) (answer_of header_end result) (with_sink self.new.reading sink.new) }
         ensures forgets { OnOk result (Forgets self.old.scanning self.new.scanning) }
         ensures still { OnErr result (IsStill self.old.scanning self.new.scanning) }
         ensures framed { IsFramed self.new }
         ensures ready { OnOk result (IsTrue lf → IsReady self.new.reading self.new.scanning) }
-        ensures end { IfErr result IsFirstEnd }
-        ensures memory { IsErrOf result End.Memory → ListsFailToGrow self.old.reading self.old.scanning
+        ensures memory { IsErrOf result HeaderEnd.Memory → ListsFailToGrow self.old.reading self.old.scanning
             self.new.reading self.new.scanning }
     {
         let header_parts = match self.desk.check_first(self.store.header.as_slice()) {
@@ -332,30 +334,28 @@ impl<'q> Framer<'q> {
         }
         match self.make_room() {
             Ok(()) => self.put_first(header_parts, lf, sink),
-            Err(NoMemory) => Err(End::Memory),
+            Err(NoMemory) => Err(HeaderEnd::Memory),
         }
     }
 
     /// Judges the tree of a later line, and puts it to the sink if it is a valid feature to keep.
     /// The query and the options decide that.
-    fn put_feature<S: LineSink>(&mut self, lf: bool, sink: &mut S) -> Result<(), End>
+    fn put_feature<S: LineSink>(&mut self, lf: bool, sink: &mut S) -> Result<(), LineEnd>
         requires countable { self.old.reading.lines < 2 ^ 62 }
         requires later { 0 < self.old.reading.lines }
         requires ready { IsReady self.old.reading self.old.scanning }
         requires shows { ShowsTree (begun_of self.old.reading) self.old.reading.rules.limits.depth
             self.old.scanning.line.elements }
         requires unmarked { AreUnmarked self.old.scanning.line.elements }
-        ensures counts { S.failures sink.old ≤ S.failures sink.new }
-        ensures cause { IsErrOf result End.WriteFault → HasRisen (S.failures sink.old) (S.failures sink.new) }
-        ensures deals { Deals S.takes S.leaves false (begun_verdict self.old.reading)
-            (next_item self.old.reading (record { content = begun_of self.old.reading; lf = lf }))
-            self.old.reading sink.old result self.new.reading sink.new }
+        ensures counts { S.law.failures sink.old ≤ S.law.failures sink.new }
+        ensures cause { IsErrOf result LineEnd.WriteFault → HasRisen (S.law.failures sink.old) (S.law.failures sink.new) }
+        ensures deals { Deals S.law (judged_begun self.old.reading false (begun_verdict self.old.reading) lf)
+            (with_sink self.old.reading sink.old) (answer_of line_end result) (with_sink self.new.reading sink.new) }
         ensures forgets { OnOk result (Forgets self.old.scanning self.new.scanning) }
         ensures still { OnErr result (IsStill self.old.scanning self.new.scanning) }
         ensures failed_growths { self.new.scanning.line.failed_growths ≡ self.old.scanning.line.failed_growths }
         ensures framed { IsFramed self.new }
         ensures ready { IsReady self.new.reading self.new.scanning }
-        ensures end { IfErr result IsLaterEnd }
     {
         let first = self.store.header.as_slice();
         let content = self.store.line.as_slice();
@@ -374,23 +374,22 @@ impl<'q> Framer<'q> {
 
     /// Judges the first line, and puts it to the sink if it is a valid header. The first line is
     /// never treated as blank.
-    fn settle_first<S: LineSink>(&mut self, lf: bool, sink: &mut S) -> Result<(), End>
+    fn settle_first<S: LineSink>(&mut self, lf: bool, sink: &mut S) -> Result<(), HeaderEnd>
         requires ready { IsReady self.old.reading self.old.scanning }
         requires first { self.old.reading.lines ≡ 0 }
         requires undropped { self.old.reading.dropped ≡ false }
-        ensures carries { Carries S.failures self.old self.new result sink.old sink.new }
+        ensures carries { Carries S.law (with_sink self.old sink.old) (answer_of header_end result) (with_sink self.new sink.new) }
         ensures one { OnOk result (self.new.reading.lines ≡ 1) }
         ensures none { OnErr result (self.new.reading.lines ≡ 0) }
         ensures lines { self.new.reading.lines ≤ 1 }
-        ensures settles { Settles S.takes S.leaves false (told_verdict self.old.reading)
-            (next_item self.old.reading (record { content = begun_of self.old.reading; lf = lf }))
-            self.old.reading sink.old result self.new.reading sink.new }
+        ensures settles { Settles S.law (judged_begun self.old.reading false (told_verdict self.old.reading) lf)
+            (with_sink self.old.reading sink.old) (answer_of header_end result) (with_sink self.new.reading sink.new) }
         ensures ready { OnOk result (IsTrue lf → IsReady self.new.reading self.new.scanning) }
         ensures scanned { OnOk result (ScansNext self.old.reading self.old.scanning self.new.scanning) }
         ensures few { HoldsFewNext self.old.reading self.old.scanning self.new.scanning }
     {
         match self.judge() {
-            Content::Faulty { place, reason } => Err(End::Refused {
+            Content::Faulty { place, reason } => Err(HeaderEnd::Refused {
                 line: 1,
                 place,
                 reason,
@@ -402,16 +401,15 @@ impl<'q> Framer<'q> {
 
     /// Judges the begun later line, and puts it to the sink if it is kept. A dropped line is too
     /// long.
-    fn settle<S: LineSink>(&mut self, lf: bool, sink: &mut S) -> Result<(), End>
+    fn settle<S: LineSink>(&mut self, lf: bool, sink: &mut S) -> Result<(), LineEnd>
         requires ready { IsReady self.old.reading self.old.scanning }
         requires countable { self.old.reading.lines < 2 ^ 62 }
         requires later { 0 < self.old.reading.lines }
-        ensures carries { Carries S.failures self.old self.new result sink.old sink.new }
+        ensures carries { Carries S.law (with_sink self.old sink.old) (answer_of line_end result) (with_sink self.new sink.new) }
         ensures one { OnOk result (self.new.reading.lines ≡ self.old.reading.lines + 1) }
         ensures grows { self.old.reading.lines ≤ self.new.reading.lines }
-        ensures settles { Settles S.takes S.leaves false (told_verdict self.old.reading)
-            (next_item self.old.reading (record { content = begun_of self.old.reading; lf = lf }))
-            self.old.reading sink.old result self.new.reading sink.new }
+        ensures settles { Settles S.law (judged_begun self.old.reading false (told_verdict self.old.reading) lf)
+            (with_sink self.old.reading sink.old) (answer_of line_end result) (with_sink self.new.reading sink.new) }
         ensures scanned { OnOk result (ScansNext self.old.reading self.old.scanning self.new.scanning) }
         ensures few { HoldsFewNext self.old.reading self.old.scanning self.new.scanning }
         ensures left { OnErr result ((s : Scanning) → Forgets self.new.scanning s
@@ -421,7 +419,7 @@ impl<'q> Framer<'q> {
             return Err(self.too_long());
         }
         match self.judge() {
-            Content::Faulty { place, reason } => Err(End::Refused {
+            Content::Faulty { place, reason } => Err(LineEnd::Refused {
                 line: self.lines() + 1,
                 place,
                 reason,
@@ -441,16 +439,15 @@ impl<'q> Framer<'q> {
         lf: bool,
         sink: &mut S,
         reports: &mut N,
-    ) -> Result<(), End>
+    ) -> Result<(), LineEnd>
         requires ready { IsReady self.old.reading self.old.scanning }
         requires countable { self.old.reading.lines < 2 ^ 62 }
         requires later { 0 < self.old.reading.lines }
-        ensures carries { Carries S.failures self.old self.new result sink.old sink.new }
+        ensures carries { Carries S.law (with_sink self.old sink.old) (answer_of line_end result) (with_sink self.new sink.new) }
         ensures one { OnOk result (self.new.reading.lines ≡ self.old.reading.lines + 1) }
         ensures grows { self.old.reading.lines ≤ self.new.reading.lines }
-        ensures settles { Settles S.takes S.leaves (is_lenient self.old.reading) (told_verdict self.old.reading)
-            (next_item self.old.reading (record { content = begun_of self.old.reading; lf = lf }))
-            self.old.reading sink.old result self.new.reading sink.new }
+        ensures settles { Settles S.law (judged_begun self.old.reading (is_lenient self.old.reading) (told_verdict self.old.reading) lf)
+            (with_sink self.old.reading sink.old) (answer_of line_end result) (with_sink self.new.reading sink.new) }
         ensures scanned { OnOk result (ScansNext self.old.reading self.old.scanning self.new.scanning) }
         ensures few { HoldsFewNext self.old.reading self.old.scanning self.new.scanning }
         ensures noted { OnOk result (Took N.notes reports.old
@@ -459,7 +456,7 @@ impl<'q> Framer<'q> {
     {
         match self.settle(lf, sink) {
             Err(
-                End::Refused {
+                LineEnd::Refused {
                     line,
                     place,
                     reason,
@@ -478,30 +475,20 @@ impl<'q> Framer<'q> {
     }
 
     /// Takes the last part of the first line, up to its LF.
-    fn take_first<S: LineSink>(&mut self, part: &[u8], sink: &mut S) -> Result<(), End>
+    fn take_first<S: LineSink>(&mut self, part: &[u8], sink: &mut S) -> Result<(), HeaderEnd>
         requires ready { IsReady self.old.reading self.old.scanning }
         requires first { self.old.reading.lines ≡ 0 }
         requires undropped { self.old.reading.dropped ≡ false }
         requires one { NoLf part.now }
-        ensures carries { Carries S.failures self.old self.new result sink.old sink.new }
+        ensures carries { Carries S.law (with_sink self.old sink.old) (answer_of header_end result) (with_sink self.new sink.new) }
         ensures few { self.new.reading.lines ≤ 1 }
         ensures one { OnOk result (self.new.reading.lines ≡ 1) }
         ensures none { OnErr result (self.new.reading.lines ≡ 0) }
-        ensures ok { OnOk result ((p : List ℕ) → Reads self.old.reading p →
-            Advances S.takes self.old.reading sink.old p (part.now ++ newline ∷ []) self.new.reading sink.new) }
-        ensures err { IfErr result (λ e. (p more : List ℕ) → Reads self.old.reading p →
-            Stops S.takes S.leaves self.old.reading sink.old p (part.now ++ newline ∷ more) e
-            self.new.reading sink.new) }
+        ensures ok { OnOk result (TakesAll S.law (part.now ++ newline ∷ []) (with_sink self.old sink.old)
+            (with_sink self.new sink.new)) }
+        ensures err { IfErr result (λ e. (more : List ℕ)
+            → TakesSome S.law (part.now ++ newline ∷ more) (with_sink self.old sink.old) (header_end e) (with_sink self.new sink.new)) }
         ensures ready { OnOk result (IsReady self.new.reading self.new.scanning) }
-        ensures scanned { OnOk result
-            ((p : List ℕ) → Reads self.old.reading p
-            → Scanned self.old.reading.rules.limits (closed p) self.old.scanning
-            → Scanned self.old.reading.rules.limits (closed (p ++ (part.now ++ newline ∷ []))) self.new.scanning) }
-        ensures held { OnErr result
-            ((p more : List ℕ) → Reads self.old.reading p
-            → Scanned self.old.reading.rules.limits (closed p) self.old.scanning
-            → HoldsFew self.old.reading.rules.limits (length (first_content (p ++ (part.now ++ newline ∷ more))))
-            self.new.scanning) }
         ensures undealt { OnErr result (self.new.reading.lines ≡ self.old.reading.lines) }
     {
         self.store_first(part)?;
@@ -515,32 +502,23 @@ impl<'q> Framer<'q> {
         part: &[u8],
         sink: &mut S,
         reports: &mut N,
-    ) -> Result<(), End>
+    ) -> Result<(), LineEnd>
         requires ready { IsReady self.old.reading self.old.scanning }
         requires countable { self.old.reading.lines < 2 ^ 62 }
         requires later { 0 < self.old.reading.lines }
         requires one { NoLf part.now }
-        ensures carries { Carries S.failures self.old self.new result sink.old sink.new }
+        ensures carries { Carries S.law (with_sink self.old sink.old) (answer_of line_end result) (with_sink self.new sink.new) }
         ensures few { self.new.reading.lines ≤ self.old.reading.lines + 1 }
         ensures grows { self.old.reading.lines ≤ self.new.reading.lines }
         ensures one { OnOk result (self.new.reading.lines ≡ self.old.reading.lines + 1) }
-        ensures ok { OnOk result ((p : List ℕ) → Reads self.old.reading p →
-            Advances S.takes self.old.reading sink.old p (part.now ++ newline ∷ []) self.new.reading sink.new) }
-        ensures err { IfErr result (λ e. (p more : List ℕ) → Reads self.old.reading p →
-            Stops S.takes S.leaves self.old.reading sink.old p (part.now ++ newline ∷ more) e
-            self.new.reading sink.new) }
-        ensures scanned { OnOk result
-            ((p : List ℕ) → Reads self.old.reading p
-            → Scanned self.old.reading.rules.limits (closed p) self.old.scanning
-            → Scanned self.old.reading.rules.limits (closed (p ++ (part.now ++ newline ∷ []))) self.new.scanning) }
-        ensures held { OnErr result
-            ((p more : List ℕ) → Reads self.old.reading p
-            → Scanned self.old.reading.rules.limits (closed p) self.old.scanning
-            → HoldsFew self.old.reading.rules.limits (length (first_content (p ++ (part.now ++ newline ∷ more))))
-            self.new.scanning) }
+        ensures ok { OnOk result (TakesAll S.law (part.now ++ newline ∷ []) (with_sink self.old sink.old)
+            (with_sink self.new sink.new)) }
+        ensures err { IfErr result (λ e. (more : List ℕ)
+            → TakesSome S.law (part.now ++ newline ∷ more) (with_sink self.old sink.old) (line_end e) (with_sink self.new sink.new)) }
         ensures undealt { OnErr result (self.new.reading.lines ≡ self.old.reading.lines) }
-        ensures reports { (p more : List ℕ) → Reads self.old.reading p → Notes N.notes self.old.reading.rules
-            (p ++ (part.now ++ newline ∷ more)) self.old.reading.lines self.new.reading.lines reports.old reports.new }
+        ensures reports { (p more : List ℕ) → Reads self.old.reading p
+            → Notes N.notes (stretch self.old.reading.rules (p ++ (part.now ++ newline ∷ more)) self.old.reading.lines
+            self.new.reading.lines) reports.old reports.new }
     {
         self.store(part)?;
         self.deal(true, sink, reports)?;
@@ -550,7 +528,11 @@ impl<'q> Framer<'q> {
     /// Takes a piece of the stream up to and including the first LF, and deals with the first line.
     /// If the piece has no LF, takes all of it. It reports nothing, since an invalid first line is
     /// the end.
-    pub fn take_front<S: LineSink>(&mut self, piece: &[u8], sink: &mut S) -> Result<Progress, End>
+    pub fn take_front<S: LineSink>(
+        &mut self,
+        piece: &[u8],
+        sink: &mut S,
+    ) -> Result<Progress, HeaderEnd>
         requires ready { IsReady self.old.reading self.old.scanning }
         requires first { self.old.reading.lines ≡ 0 }
         requires undropped { self.old.reading.dropped ≡ false }
@@ -559,19 +541,12 @@ impl<'q> Framer<'q> {
         ensures none { OnErr result (self.new.reading.lines ≡ 0) }
         ensures few { self.new.reading.lines ≤ 1 }
         ensures undropped { IfOk result (λ t. t.accepted ≡ false → self.new.reading.dropped ≡ false) }
-        ensures carries { Carries S.failures self.old self.new result sink.old sink.new }
-        ensures ok { IfOk result (λ t. (p : List ℕ) → Reads self.old.reading p →
-            Advances S.takes self.old.reading sink.old p (take t.used piece.now) self.new.reading sink.new) }
-        ensures err { IfErr result (λ e. (p : List ℕ) → Reads self.old.reading p →
-            Stops S.takes S.leaves self.old.reading sink.old p piece.now e self.new.reading sink.new) }
+        ensures carries { Carries S.law (with_sink self.old sink.old) (answer_of header_end result) (with_sink self.new sink.new) }
+        ensures ok { IfOk result (λ t. TakesAll S.law (take t.used piece.now) (with_sink self.old sink.old)
+            (with_sink self.new sink.new)) }
+        ensures err { IfErr result (λ e. TakesSome S.law piece.now (with_sink self.old sink.old) (header_end e)
+            (with_sink self.new sink.new)) }
         ensures ready { OnOk result (IsReady self.new.reading self.new.scanning) }
-        ensures scanned { IfOk result (λ t.
-            (p : List ℕ) → Reads self.old.reading p → Scanned self.old.reading.rules.limits (closed p) self.old.scanning
-            → Scanned self.old.reading.rules.limits (closed (p ++ take t.used piece.now)) self.new.scanning) }
-        ensures held { OnErr result
-            ((p : List ℕ) → Reads self.old.reading p
-            → Scanned self.old.reading.rules.limits (closed p) self.old.scanning
-            → HoldsFew self.old.reading.rules.limits (length (first_content (p ++ piece.now))) self.new.scanning) }
         ensures least { OnErr result
             ((p : List ℕ) → Reads self.old.reading p
             → Scanned self.old.reading.rules.limits (closed p) self.old.scanning
@@ -597,32 +572,23 @@ impl<'q> Framer<'q> {
         piece: &[u8],
         sink: &mut S,
         reports: &mut N,
-    ) -> Result<(), End>
+    ) -> Result<(), LineEnd>
         requires ready { IsReady self.old.reading self.old.scanning }
         requires countable { self.old.reading.lines + length piece.now < 2 ^ 62 }
         requires later { 0 < self.old.reading.lines }
-        ensures carries { Carries S.failures self.old self.new result sink.old sink.new }
+        ensures carries { Carries S.law (with_sink self.old sink.old) (answer_of line_end result) (with_sink self.new sink.new) }
         ensures few { self.new.reading.lines ≤ self.old.reading.lines + length piece.now }
         ensures grows { self.old.reading.lines ≤ self.new.reading.lines }
-        ensures ok { OnOk result ((p : List ℕ) → Reads self.old.reading p →
-            Advances S.takes self.old.reading sink.old p piece.now self.new.reading sink.new) }
-        ensures err { IfErr result (λ e. (p : List ℕ) → Reads self.old.reading p →
-            Stops S.takes S.leaves self.old.reading sink.old p piece.now e self.new.reading sink.new) }
-        ensures scanned { OnOk result
-            ((p : List ℕ) → Reads self.old.reading p
-            → Scanned self.old.reading.rules.limits (closed p) self.old.scanning
-            → Scanned self.old.reading.rules.limits (closed (p ++ piece.now)) self.new.scanning) }
-        ensures held { OnErr result
-            ((p : List ℕ) → Reads self.old.reading p
-            → Scanned self.old.reading.rules.limits (closed p) self.old.scanning
-            → HoldsFew self.old.reading.rules.limits (length (first_content (p ++ piece.now))) self.new.scanning) }
+        ensures ok { OnOk result (TakesAll S.law piece.now (with_sink self.old sink.old) (with_sink self.new sink.new)) }
+        ensures err { IfErr result (λ e. TakesSome S.law piece.now (with_sink self.old sink.old) (line_end e)
+            (with_sink self.new sink.new)) }
         ensures least { OnErr result
             ((p : List ℕ) → Reads self.old.reading p
             → Scanned self.old.reading.rules.limits (closed p) self.old.scanning
             → HeldUntil self.old.reading.rules.limits p piece.now self.new.reading.lines self.new.scanning) }
         ensures reports { (p : List ℕ) → Reads self.old.reading p
-            → Notes N.notes self.old.reading.rules (p ++ piece.now)
-            self.old.reading.lines self.new.reading.lines reports.old reports.new }
+            → Notes N.notes (stretch self.old.reading.rules (p ++ piece.now) self.old.reading.lines
+            self.new.reading.lines) reports.old reports.new }
     {
         let mut rest = piece;
         while let Some(at) = memchr(b'\n', rest) {
@@ -634,27 +600,19 @@ impl<'q> Framer<'q> {
     }
 
     /// Deals with a first line that has no LF, and with a stream that has no line.
-    pub fn finish_first<S: LineSink>(&mut self, sink: &mut S) -> Result<(), End>
+    pub fn finish_first<S: LineSink>(&mut self, sink: &mut S) -> Result<(), HeaderEnd>
         requires ready { IsReady self.old.reading self.old.scanning }
         requires first { self.old.reading.lines ≡ 0 }
         requires undropped { self.old.reading.dropped ≡ false }
-        ensures carries { Carries S.failures self.old self.new result sink.old sink.new }
+        ensures carries { Carries S.law (with_sink self.old sink.old) (answer_of header_end result) (with_sink self.new sink.new) }
         ensures few { self.new.reading.lines ≤ 1 }
-        ensures memory { IsErrOf result End.Memory → ⊥ }
-        ensures finishes { (p : List ℕ) → Reads self.old.reading p →
-            Finishes S.takes S.leaves self.old.reading sink.old p result self.new.reading sink.new }
-        ensures scanned { OnOk result
-            ((p : List ℕ) → Reads self.old.reading p
-            → Scanned self.old.reading.rules.limits (closed p) self.old.scanning
-            → Scanned self.old.reading.rules.limits (contents p) self.new.scanning) }
-        ensures held { (p : List ℕ) → Reads self.old.reading p
-            → Scanned self.old.reading.rules.limits (closed p) self.old.scanning
-            → HoldsFew self.old.reading.rules.limits (length (first_content p)) self.new.scanning }
+        ensures memory { IsErrOf result HeaderEnd.Memory → ⊥ }
+        ensures finishes { FinishesAll S.law (with_sink self.old sink.old) (answer_of header_end result) (with_sink self.new sink.new) }
     {
         if self.has_begun() {
             return self.settle_first(false, sink);
         }
-        Err(End::Refused {
+        Err(HeaderEnd::Refused {
             line: 1,
             place: 0,
             reason: Reason::NoHeader,
@@ -666,25 +624,17 @@ impl<'q> Framer<'q> {
         &mut self,
         sink: &mut S,
         reports: &mut N,
-    ) -> Result<(), End>
+    ) -> Result<(), LineEnd>
         requires ready { IsReady self.old.reading self.old.scanning }
         requires countable { self.old.reading.lines < 2 ^ 62 }
         requires later { 0 < self.old.reading.lines }
-        ensures carries { Carries S.failures self.old self.new result sink.old sink.new }
+        ensures carries { Carries S.law (with_sink self.old sink.old) (answer_of line_end result) (with_sink self.new sink.new) }
         ensures few { self.new.reading.lines ≤ self.old.reading.lines + 1 }
         ensures grows { self.old.reading.lines ≤ self.new.reading.lines }
-        ensures memory { IsErrOf result End.Memory → ⊥ }
-        ensures finishes { (p : List ℕ) → Reads self.old.reading p →
-            Finishes S.takes S.leaves self.old.reading sink.old p result self.new.reading sink.new }
-        ensures scanned { OnOk result
-            ((p : List ℕ) → Reads self.old.reading p
-            → Scanned self.old.reading.rules.limits (closed p) self.old.scanning
-            → Scanned self.old.reading.rules.limits (contents p) self.new.scanning) }
-        ensures held { (p : List ℕ) → Reads self.old.reading p
-            → Scanned self.old.reading.rules.limits (closed p) self.old.scanning
-            → HoldsFew self.old.reading.rules.limits (length (first_content p)) self.new.scanning }
-        ensures reports { (p : List ℕ) → Reads self.old.reading p → Notes N.notes self.old.reading.rules p
-            self.old.reading.lines self.new.reading.lines reports.old reports.new }
+        ensures finishes { FinishesAll S.law (with_sink self.old sink.old) (answer_of line_end result) (with_sink self.new sink.new) }
+        ensures reports { (p : List ℕ) → Reads self.old.reading p
+            → Notes N.notes (stretch self.old.reading.rules p self.old.reading.lines self.new.reading.lines)
+            reports.old reports.new }
     {
         if self.has_begun() {
             return self.deal(false, sink, reports);

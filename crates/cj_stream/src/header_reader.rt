@@ -15,6 +15,7 @@ ghost use Rattle.cj_stream.specs.Front.{IsFront};
 ghost use Rattle.cj_stream.specs.Query.{rules_for};
 ghost use Rattle.cj_stream.specs.Scanning.{IsReady};
 ghost use Rattle.cj_stream.specs.Engine.{StandsFor, rules_of, lines_of, refused_of, held_by, peaks_of};
+ghost use Rattle.cj_stream.specs.Sink.{with_sink};
 
 use crate::ending::HeaderEnd;
 use crate::framer::Framer;
@@ -118,9 +119,10 @@ impl<'q> HeaderReader<'q> {
         // What the result says of the sink and of all bytes so far. These end with the bytes that
         // were used, or with the whole piece if the stream ended in it.
         ensures feeds { MatchResult result
-            (λ t. Feeds S.takes S.leaves S.failures self.old (take t.used piece.now) (Ok tt) self.new sink.old sink.new)
-            (λ e. Feeds S.takes S.leaves S.failures self.old piece.now (Err (header_end e)) self.new
-            sink.old sink.new) }
+            (λ t. Feeds S.law (take t.used piece.now) (with_sink self.old sink.old) (Ok tt)
+            (with_sink self.new sink.new))
+            (λ e. Feeds S.law piece.now (with_sink self.old sink.old) (Err (header_end e))
+            (with_sink self.new sink.new)) }
     {
         if let Some(end) = self.ended {
             return Err(end);
@@ -131,7 +133,6 @@ impl<'q> HeaderReader<'q> {
                 Ok(progress)
             }
             Err(end) => {
-                let end = HeaderEnd::of(end);
                 self.ended = Some(end);
                 Err(end)
             }
@@ -145,8 +146,8 @@ impl<'q> HeaderReader<'q> {
             (result ≡ e) × (self.new ≡ self.old) × (sink.new ≡ sink.old) }
         ensures untaken { self.new.taken ≡ self.old.taken }
         ensures few { lines_of self.new ≤ 1 }
-        ensures finished { IsFinished S.takes S.leaves S.failures self.old (header_end result) self.new
-            sink.old sink.new }
+        ensures finished { IsFinished S.law (with_sink self.old sink.old) (header_end result)
+            (with_sink self.new sink.new) }
     {
         if let Some(end) = self.ended {
             return end;

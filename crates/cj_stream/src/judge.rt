@@ -5,7 +5,7 @@ ghost use Rattle.std.specs.Prelude.{◌≡◌, ◌≤◌, ◌+◌, ◌/◌, leng
 ghost use Rattle.std.specs.List.{list_all};
 ghost use Rattle.cj_stream.specs.Verdict.{is_blank_byte, is_blank_line};
 ghost use Rattle.cj_stream.specs.Judging.{Says, Misreads, ShowsTree};
-ghost use Rattle.cj_stream.specs.Scanning.{Judges};
+ghost use Rattle.cj_stream.specs.Scanning.{Judges, tree_lists};
 ghost use Rattle.cj_spans.specs.Marks.{AreUnmarked};
 
 use cj_budget::{Bounded, Stack};
@@ -56,7 +56,7 @@ pub fn judge(
     ensures tree { result ≡ Content.Sound → ShowsTree content.now opened.old.limit tokens.new.elements }
     ensures unmarked { result ≡ Content.Sound → AreUnmarked tokens.new.elements }
     ensures unreadable { Misreads number content.now opened.old.limit result }
-    ensures lists { Judges content.now tokens.old tokens.new opened.old opened.new result }
+    ensures lists { Judges content.now (tree_lists tokens.old opened.old) (tree_lists tokens.new opened.new) result }
     ensures reserved { IsTrue tokens.new.reserved × IsTrue opened.new.reserved }
 {
     if is_blank(number, content) {

@@ -19,23 +19,23 @@ ghost use Rattle.cj_budget.specs.declared.limits.Peaks.{Peaks};
 ghost use Rattle.cj_stream.specs.Bound.{IsExact, exact_peaks};
 ghost use Rattle.cj_stream.specs.CountReports.{count_of, no_reports, CountsReportsOfRun, CountsReportsOfPieces};
 ghost use Rattle.cj_stream.specs.CountSink.{no_counts, Counts, CountsRun, CountsPieces};
-ghost use Rattle.cj_stream.specs.Cut.{joined, Copies, PutsPieces};
+ghost use Rattle.cj_stream.specs.Cut.{joined, Copies, PutsPieces, in_pieces};
 ghost use Rattle.cj_stream.specs.Ending.{line_end};
-ghost use Rattle.cj_stream.specs.Headline.{HeadlineOfRun};
+ghost use Rattle.cj_stream.specs.Headline.{HeadlineOfRun, outputs};
 ghost use Rattle.cj_stream.specs.IsGood.{AreGood, EndsAfter};
 ghost use Rattle.cj_stream.specs.IsLines.{IsLines, IsWhole};
 ghost use Rattle.cj_stream.specs.Item.{is_feature};
 ghost use Rattle.cj_stream.specs.Lines.{Line, NoLf, ended_line, later_of, lines, whole};
-ghost use Rattle.cj_stream.specs.Output.{output_writer, output_failures, channel, WritesItem, WritesPart};
+ghost use Rattle.cj_stream.specs.Output.{output_writer, output_failures, channel, output_law};
 ghost use Rattle.cj_stream.specs.Parts.{headed, IsCut, AreComplete, moved_end, moved_report, greater_peaks};
 ghost use Rattle.cj_stream.specs.Parts.{JoinsTallies};
 ghost use Rattle.cj_stream.specs.ReportSink.{Collects, CountsReport, Notes, NotesRun, NotesPieces};
 ghost use Rattle.cj_stream.specs.Run.{Account, Puts, Run, Runs, RunsNoting, Writes, WritesLines};
 ghost use Rattle.cj_stream.specs.Selection.{LeavesKept, all_lines, staying};
-ghost use Rattle.cj_stream.specs.Sink.{HasRisen};
+ghost use Rattle.cj_stream.specs.Sink.{HasRisen, never_fails};
 ghost use Rattle.cj_stream.specs.TallySink.{Tally, no_tally, Tallies, IsTallyOf, TalliesRun, TalliesPieces};
 ghost use Rattle.cj_stream.specs.Verdict.{Rules, refusal_in, good, kept, kept_first, reported, reported_first, output};
-ghost use Rattle.cj_stream.specs.Verdict.{ending};
+ghost use Rattle.cj_stream.specs.Verdict.{ending, stretch, up_to, stream_of};
 ghost use Rattle.cj_stream.specs.declared.ending.End.{End};
 ghost use Rattle.cj_stream.specs.declared.ending.LineEnd.{LineEnd};
 ghost use Rattle.cj_stream.specs.declared.output.Output.{Output};
@@ -189,49 +189,53 @@ pub fn good_lines_are_kept()
 /// A `CountSink` that starts at zero counts what it takes: in a run, given its end, and of pieces.
 pub fn puts_are_counted()
     ensures runs { (rules : Rules) (r : List ℕ) (e : End) (c : CountSink)
-        → Puts Counts (λ a i b. ⊥) rules r e no_counts c → CountsRun rules r e c }
+        → Puts (never_fails Counts) (stream_of rules r) e no_counts c → CountsRun (stream_of rules r) e c }
     ensures pieces { (rules : Rules) (pieces : List (List ℕ)) (n : ℕ) (e : End) (c : CountSink)
-        → PutsPieces Counts (λ a i b. ⊥) rules pieces n e no_counts c → CountsPieces rules pieces n e c }
+        → PutsPieces (never_fails Counts) (in_pieces rules pieces n) e no_counts c
+        → CountsPieces (in_pieces rules pieces n) e c }
 {}
 
 /// A `CountReports` that starts at zero counts what it notes: of the first lines of a stream, in a
 /// run, given its end, and of pieces.
 pub fn reports_are_counted()
     ensures lines { (rules : Rules) (q : List ℕ) (n : ℕ) (c : CountReports)
-        → Notes CountsReport rules q 0 n no_reports c → c ≡ count_of (reported_first rules n q) }
+        → Notes CountsReport (stretch rules q 0 n) no_reports c → c ≡ count_of (reported_first rules n q) }
     ensures runs { (rules : Rules) (r : List ℕ) (e : End) (c : CountReports)
-        → NotesRun CountsReport rules r e no_reports c → CountsReportsOfRun rules r e c }
+        → NotesRun CountsReport (stream_of rules r) e no_reports c → CountsReportsOfRun (stream_of rules r) e c }
     ensures pieces { (rules : Rules) (pieces : List (List ℕ)) (n : ℕ) (e : End) (c : CountReports)
-        → NotesPieces CountsReport rules pieces n e no_reports c → CountsReportsOfPieces rules pieces n e c }
+        → NotesPieces CountsReport (in_pieces rules pieces n) e no_reports c
+        → CountsReportsOfPieces (in_pieces rules pieces n) e c }
 {}
 
 /// A `TallySink` that starts empty tallies what it takes: in a run, given its end, and of pieces.
 pub fn puts_are_tallied()
     ensures runs { (rules : Rules) (r : List ℕ) (e : End) (start t : Tally) → start ≡ no_tally
-        → Puts Tallies (λ a i b. ⊥) rules r e start t → TalliesRun rules r e t }
+        → Puts (never_fails Tallies) (stream_of rules r) e start t → TalliesRun (stream_of rules r) e t }
     ensures pieces { (rules : Rules) (pieces : List (List ℕ)) (n : ℕ) (e : End) (start t : Tally) → start ≡ no_tally
-        → PutsPieces Tallies (λ a i b. ⊥) rules pieces n e start t → TalliesPieces rules pieces n e t }
+        → PutsPieces (never_fails Tallies) (in_pieces rules pieces n) e start t
+        → TalliesPieces (in_pieces rules pieces n) e t }
 {}
 
 /// An `Output` writes what it takes: in a run, given its end and the lines that were dealt with,
 /// and of pieces. The headline holds for a run, with the cause of a write fault.
 pub fn puts_are_written<W: Write + Drop, N: ReportSink>()
     ensures runs { (rules : Rules) (r : List ℕ) (e : End) (a b : Output W)
-        → Puts (WritesItem W.contents) (WritesPart W.contents) rules r e a b
-        → Writes rules r e (W.contents (output_writer a)) (W.contents (output_writer b)) }
+        → Puts (output_law W.contents) (stream_of rules r) e a b
+        → Writes (stream_of rules r) e (W.contents (output_writer a)) (W.contents (output_writer b)) }
     ensures lines { (run : Run) (left : Option (List ℕ)) (a b : Output W)
-        → Runs (WritesItem W.contents) (WritesPart W.contents) run (IsAtEnd left) a b
+        → Runs (output_law W.contents) run (IsAtEnd left) a b
         → (run.outcome.ended ≡ End.Memory → run.outcome.lines ≡ 0)
-        → WritesLines run.rules run.read run.outcome.lines run.outcome.ended
-        (W.contents (output_writer a)) (W.contents (output_writer b)) }
+        → WritesLines (up_to run.rules run.read run.outcome.lines) run.outcome.ended (W.contents (output_writer a))
+        (W.contents (output_writer b)) }
     ensures headline { (run : Run) (left : Option (List ℕ)) (a b : Output W) (n m : N)
-        → Runs (WritesItem W.contents) (WritesPart W.contents) run (IsAtEnd left) a b
+        → Runs (output_law W.contents) run (IsAtEnd left) a b
         → RunsNoting N.notes run n m
         → (run.outcome.ended ≡ End.WriteFault → HasRisen (output_failures a) (output_failures b))
-        → HeadlineOfRun N.notes run (IsAtEnd left) (channel W.contents a) (channel W.contents b) n m }
+        → HeadlineOfRun N.notes run (IsAtEnd left) (outputs (channel W.contents a) n)
+        (outputs (channel W.contents b) m) }
     ensures pieces { (rules : Rules) (pieces : List (List ℕ)) (n : ℕ) (e : End) (a b : Output W)
-        → PutsPieces (WritesItem W.contents) (WritesPart W.contents) rules pieces n e a b
-        → Copies rules pieces n e (W.contents (output_writer a)) (W.contents (output_writer b)) }
+        → PutsPieces (output_law W.contents) (in_pieces rules pieces n) e a b
+        → Copies (in_pieces rules pieces n) e (W.contents (output_writer a)) (W.contents (output_writer b)) }
 {}
 
 /// The reports of a run are the list of what is reported of the lines that it dealt with. A sink
@@ -241,11 +245,11 @@ pub fn reports_are_collected<W: Write + Drop>()
         → (run.outcome.ended ≡ End.Memory → run.outcome.lines ≡ 0)
         → RunsNoting Collects run [] (reported_first run.rules run.outcome.lines run.read) }
     ensures headline { (run : Run) (left : Option (List ℕ)) (a b : Output W)
-        → Runs (WritesItem W.contents) (WritesPart W.contents) run (IsAtEnd left) a b
+        → Runs (output_law W.contents) run (IsAtEnd left) a b
         → (run.outcome.ended ≡ End.Memory → run.outcome.lines ≡ 0)
         → (run.outcome.ended ≡ End.WriteFault → HasRisen (output_failures a) (output_failures b))
-        → HeadlineOfRun Collects run (IsAtEnd left) (channel W.contents a) (channel W.contents b)
-        [] (reported_first run.rules run.outcome.lines run.read) }
+        → HeadlineOfRun Collects run (IsAtEnd left) (outputs (channel W.contents a) []) (outputs (channel W.contents b)
+        (reported_first run.rules run.outcome.lines run.read)) }
 {}
 
 /// The end of a reader of lines, seen as an end of the stream, is never `End::Memory`.

@@ -3,14 +3,17 @@
 //! It says of the bytes after the header what `pieces` says of a whole stream. It has no case for a
 //! lack of memory.
 ghost use Rattle.std.specs.Prelude.{◌≡◌, ◌+◌, ◌++◌, ◌≤◌, ◌^◌, ℕ, List, None, Some, length, map, take};
-ghost use Rattle.cj_stream.specs.Cut.{joined, TookWhole, Fed};
+ghost use Rattle.cj_stream.specs.Cut.{joined, TookWhole, Fed, in_pieces, given_after};
 ghost use Rattle.cj_stream.specs.Ending.{line_end};
 ghost use Rattle.cj_stream.specs.Engine.{Delivers, StandsFor, rules_of, lines_of};
 ghost use Rattle.cj_stream.specs.LinePieces.{pieces_outcome, PutsLines, NotesLines, CopiesLines, HeadlineOfLines};
-ghost use Rattle.cj_stream.specs.Output.{output_writer, channel, WritesItem, WritesPart};
+ghost use Rattle.cj_stream.specs.LinePieces.{later_pieces};
+ghost use Rattle.cj_stream.specs.Output.{output_writer, channel, output_law};
 ghost use Rattle.cj_stream.specs.ReportSink.{Notes};
 ghost use Rattle.cj_stream.specs.Run.{Ends};
 ghost use Rattle.cj_stream.specs.Sink.{HasRisen};
+ghost use Rattle.cj_stream.specs.Verdict.{stretch};
+ghost use Rattle.cj_stream.specs.Headline.{fate_of, outputs};
 
 use crate::ending::LineEnd;
 use crate::line_reader::LineReader;
@@ -47,13 +50,15 @@ fn feed_all<S: LineSink, N: ReportSink>(
         (p ++ joined (take (result.taken + 1) (map (λ piece. piece.now) pieces.now))) (lines_of reader.new)
         (joined (map (λ piece. piece.now) pieces.now)
         ≡ joined (take (result.taken + 1) (map (λ piece. piece.now) pieces.now))) (line_end result.ended) }
-    ensures taken { (p : List ℕ) → StandsFor reader.old p → TookWhole S.takes S.leaves (rules_of reader.old) p
-        (lines_of reader.old) (map (λ piece. piece.now) pieces.now) result.taken (lines_of reader.new)
-        sink.old sink.new (line_end result.ended) }
-    ensures reports { (p : List ℕ) → StandsFor reader.old p → Notes N.notes (rules_of reader.old)
+    ensures taken { (p : List ℕ) → StandsFor reader.old p
+        → TookWhole S.law (given_after p (lines_of reader.old) (in_pieces (rules_of reader.old)
+        (map (λ piece. piece.now) pieces.now) result.taken) (lines_of reader.new)) sink.old sink.new
+        (line_end result.ended) }
+    ensures reports { (p : List ℕ) → StandsFor reader.old p
+        → Notes N.notes (stretch (rules_of reader.old)
         (p ++ joined (take (result.taken + 1) (map (λ piece. piece.now) pieces.now))) (lines_of reader.old)
-        (lines_of reader.new) reports.old reports.new }
-    ensures cause { result.ended ≡ LineEnd.WriteFault → HasRisen (S.failures sink.old) (S.failures sink.new) }
+        (lines_of reader.new)) reports.old reports.new }
+    ensures cause { result.ended ≡ LineEnd.WriteFault → HasRisen (S.law.failures sink.old) (S.law.failures sink.new) }
 {
     for (taken, piece) in pieces.iter().enumerate() {
         if let Err(ended) = reader.feed(piece, sink, reports) {
@@ -92,17 +97,21 @@ pub fn put_lines<S: LineSink, N: ReportSink>(
     requires short { reader.old.taken + length (joined (map (λ piece. piece.now) pieces.now)) ≤ 2 ^ 60 }
     ensures fed { (p : List ℕ) → StandsFor reader.old p → Fed (rules_of reader.old) p
         (map (λ piece. piece.now) pieces.now) (pieces_outcome result) reader.new }
-    ensures puts { (p : List ℕ) → StandsFor reader.old p → PutsLines S.takes S.leaves (rules_of reader.old) p
-        (map (λ piece. piece.now) pieces.now) (lines_of reader.old) result sink.old sink.new }
-    ensures notes { (p : List ℕ) → StandsFor reader.old p → NotesLines N.notes (rules_of reader.old) p
-        (map (λ piece. piece.now) pieces.now) (lines_of reader.old) result reports.old reports.new }
-    ensures sink { (p : List ℕ) → StandsFor reader.old p → Delivers S.takes S.leaves (rules_of reader.old)
+    ensures puts { (p : List ℕ) → StandsFor reader.old p
+        → PutsLines S.law (later_pieces (rules_of reader.old) p (map (λ piece. piece.now) pieces.now)
+        (lines_of reader.old)) result sink.old sink.new }
+    ensures notes { (p : List ℕ) → StandsFor reader.old p
+        → NotesLines N.notes (later_pieces (rules_of reader.old) p (map (λ piece. piece.now) pieces.now)
+        (lines_of reader.old)) result reports.old reports.new }
+    ensures sink { (p : List ℕ) → StandsFor reader.old p
+        → Delivers S.law (stretch (rules_of reader.old)
         (p ++ joined (take (result.taken + 1) (map (λ piece. piece.now) pieces.now))) (lines_of reader.old)
-        (lines_of reader.new) sink.old sink.new (Some (line_end result.ended)) }
-    ensures reports { (p : List ℕ) → StandsFor reader.old p → Notes N.notes (rules_of reader.old)
+        (lines_of reader.new)) sink.old sink.new (Some (line_end result.ended)) }
+    ensures reports { (p : List ℕ) → StandsFor reader.old p
+        → Notes N.notes (stretch (rules_of reader.old)
         (p ++ joined (take (result.taken + 1) (map (λ piece. piece.now) pieces.now))) (lines_of reader.old)
-        (lines_of reader.new) reports.old reports.new }
-    ensures cause { result.ended ≡ LineEnd.WriteFault → HasRisen (S.failures sink.old) (S.failures sink.new) }
+        (lines_of reader.new)) reports.old reports.new }
+    ensures cause { result.ended ≡ LineEnd.WriteFault → HasRisen (S.law.failures sink.old) (S.law.failures sink.new) }
 {
     feed_all(reader, pieces, sink, reports)
 }
@@ -129,20 +138,23 @@ pub fn headline_of_lines<W: Write + Drop, N: ReportSink>(
     requires going { reader.old.ended ≡ None }
     requires short { reader.old.taken + length (joined (map (λ piece. piece.now) pieces.now)) ≤ 2 ^ 60 }
     ensures headline { let cut = map (λ piece. piece.now) pieces.now in
-        (p : List ℕ) → StandsFor reader.old p → HeadlineOfLines N.notes (rules_of reader.old) (p ++ joined cut)
-        (p ++ joined (take (result.taken + 1) cut)) (lines_of reader.old) result.ended result.peaks
-        (channel W.contents sink.old) (channel W.contents sink.new) reports.old reports.new }
+        (p : List ℕ) → StandsFor reader.old p
+        → HeadlineOfLines N.notes (lines_of reader.old) (fate_of (rules_of reader.old) (p ++ joined cut)
+        (p ++ joined (take (result.taken + 1) cut)) result.ended result.peaks)
+        (outputs (channel W.contents sink.old) reports.old) (outputs (channel W.contents sink.new) reports.new) }
     ensures fed { (p : List ℕ) → StandsFor reader.old p → Fed (rules_of reader.old) p
         (map (λ piece. piece.now) pieces.now) (pieces_outcome result) reader.new }
-    ensures copies { (p : List ℕ) → StandsFor reader.old p → CopiesLines (rules_of reader.old) p
-        (map (λ piece. piece.now) pieces.now) (lines_of reader.old) result
-        (W.contents (output_writer sink.old)) (W.contents (output_writer sink.new)) }
-    ensures sink { (p : List ℕ) → StandsFor reader.old p → Delivers (WritesItem W.contents) (WritesPart W.contents)
-        (rules_of reader.old) (p ++ joined (take (result.taken + 1) (map (λ piece. piece.now) pieces.now)))
-        (lines_of reader.old) (lines_of reader.new) sink.old sink.new (Some (line_end result.ended)) }
-    ensures reports { (p : List ℕ) → StandsFor reader.old p → Notes N.notes (rules_of reader.old)
+    ensures copies { (p : List ℕ) → StandsFor reader.old p
+        → CopiesLines (later_pieces (rules_of reader.old) p (map (λ piece. piece.now) pieces.now) (lines_of reader.old))
+        result (W.contents (output_writer sink.old)) (W.contents (output_writer sink.new)) }
+    ensures sink { (p : List ℕ) → StandsFor reader.old p
+        → Delivers (output_law W.contents) (stretch (rules_of reader.old)
         (p ++ joined (take (result.taken + 1) (map (λ piece. piece.now) pieces.now))) (lines_of reader.old)
-        (lines_of reader.new) reports.old reports.new }
+        (lines_of reader.new)) sink.old sink.new (Some (line_end result.ended)) }
+    ensures reports { (p : List ℕ) → StandsFor reader.old p
+        → Notes N.notes (stretch (rules_of reader.old)
+        (p ++ joined (take (result.taken + 1) (map (λ piece. piece.now) pieces.now))) (lines_of reader.old)
+        (lines_of reader.new)) reports.old reports.new }
 {
     put_lines(reader, pieces, sink, reports)
 }

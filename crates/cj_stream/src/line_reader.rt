@@ -10,6 +10,8 @@ ghost use Rattle.cj_stream.specs.Feeding.{Feeds, IsFinished};
 ghost use Rattle.cj_stream.specs.Scanning.{IsReady};
 ghost use Rattle.cj_stream.specs.Engine.{EngineState, StandsFor, rules_of, lines_of, refused_of, held_by, peaks_of};
 ghost use Rattle.cj_stream.specs.ReportSink.{Notes};
+ghost use Rattle.cj_stream.specs.Sink.{with_sink};
+ghost use Rattle.cj_stream.specs.Verdict.{stretch};
 
 use crate::ending::LineEnd;
 use crate::framer::Framer;
@@ -87,11 +89,12 @@ impl<'q> LineReader<'q> {
 
         // What the result says of all bytes so far, and of the sinks.
         ensures reports { (p : List ℕ) → StandsFor self.old p → self.old.ended ≡ None
-            → Notes N.notes (rules_of self.old)
-            (p ++ piece.now) (lines_of self.old) (lines_of self.new) reports.old reports.new }
+            → Notes N.notes (stretch (rules_of self.old) (p ++ piece.now) (lines_of self.old) (lines_of self.new))
+            reports.old reports.new }
         ensures feeds { MatchResult result
-            (λ _. Feeds S.takes S.leaves S.failures self.old piece.now (Ok tt) self.new sink.old sink.new)
-            (λ e. Feeds S.takes S.leaves S.failures self.old piece.now (Err (line_end e)) self.new sink.old sink.new) }
+            (λ _. Feeds S.law piece.now (with_sink self.old sink.old) (Ok tt) (with_sink self.new sink.new))
+            (λ e. Feeds S.law piece.now (with_sink self.old sink.old) (Err (line_end e))
+            (with_sink self.new sink.new)) }
     {
         if let Some(end) = self.ended {
             return Err(end);
@@ -102,7 +105,6 @@ impl<'q> LineReader<'q> {
                 Ok(())
             }
             Err(end) => {
-                let end = LineEnd::of(end);
                 self.ended = Some(end);
                 Err(end)
             }
@@ -116,10 +118,10 @@ impl<'q> LineReader<'q> {
         ensures untaken { self.new.taken ≡ self.old.taken }
         ensures reserved { IsReady self.new.reading self.new.scanning × (0 < lines_of self.new) }
         ensures reports { (p : List ℕ) → StandsFor self.old p → self.old.ended ≡ None
-            → Notes N.notes (rules_of self.old) p
-            (lines_of self.old) (lines_of self.new) reports.old reports.new }
-        ensures finished { IsFinished S.takes S.leaves S.failures self.old (line_end result) self.new
-            sink.old sink.new }
+            → Notes N.notes (stretch (rules_of self.old) p (lines_of self.old) (lines_of self.new))
+            reports.old reports.new }
+        ensures finished { IsFinished S.law (with_sink self.old sink.old) (line_end result)
+            (with_sink self.new sink.new) }
     {
         if let Some(end) = self.ended {
             return end;

@@ -172,13 +172,9 @@ impl<W: Write + Drop> Output<W> {
 pub type WriteSink<W> = Output<W>;
 
 impl<W: Write + Drop> LineSink for Output<W> {
-    ghost use Rattle.cj_stream.specs.Output.{output_writer, output_failures, WritesItem, WritesPart};
+    ghost use Rattle.cj_stream.specs.Output.{output_writer, output_failures, output_law};
 
-    ghost takes = { WritesItem W.contents };
-
-    ghost leaves = { WritesPart W.contents };
-
-    ghost failures = { output_failures };
+    ghost law = { output_law W.contents };
 
     fn header(&mut self, header: &Header<'_>, lf: bool) -> Result<(), WriteFault>
         ensures ok { OnOk result

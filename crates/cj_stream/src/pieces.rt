@@ -2,13 +2,14 @@
 //!
 //! What is held does not depend on the cut, as each line is put together in the engine's own list.
 ghost use Rattle.std.specs.Prelude.{◌≡◌, ◌+◌, ◌≤◌, ◌^◌, [], Some, length, map, take};
-ghost use Rattle.cj_stream.specs.Cut.{joined, Copies, PutsPieces, TookWhole, Fed};
+ghost use Rattle.cj_stream.specs.Cut.{joined, Copies, PutsPieces, TookWhole, Fed, in_pieces, given_after};
 ghost use Rattle.cj_stream.specs.Engine.{Delivers, IsFresh, rules_of, lines_of};
-ghost use Rattle.cj_stream.specs.Headline.{Headline, IsUnhindered};
-ghost use Rattle.cj_stream.specs.Output.{output_writer, channel, WritesItem, WritesPart};
+ghost use Rattle.cj_stream.specs.Headline.{Headline, IsUnhindered, fate_of, outputs};
+ghost use Rattle.cj_stream.specs.Output.{output_writer, channel, output_law};
 ghost use Rattle.cj_stream.specs.ReportSink.{Notes, NotesPieces};
 ghost use Rattle.cj_stream.specs.Run.{CountsAll, Runs, RunsNoting, outcome_of};
 ghost use Rattle.cj_stream.specs.Sink.{HasRisen};
+ghost use Rattle.cj_stream.specs.Verdict.{stretch};
 
 use crate::ending::End;
 use crate::engine::Engine;
@@ -41,16 +42,15 @@ fn feed_all<S: LineSink, N: ReportSink>(
     requires short { length (joined (map (λ piece. piece.now) pieces.now)) ≤ 2 ^ 60 }
     ensures fed { Fed (rules_of engine.old) [] (map (λ piece. piece.now) pieces.now) result engine.new }
     ensures runs { let given = joined (take (result.taken + 1) (map (λ piece. piece.now) pieces.now)) in
-        Runs S.takes S.leaves
-        (record { rules = rules_of engine.old; read = given; outcome = outcome_of engine.new result.ended })
+        Runs S.law (record { rules = rules_of engine.old; read = given; outcome = outcome_of engine.new result.ended })
         (given ≡ joined (map (λ piece. piece.now) pieces.now)) sink.old sink.new }
     ensures noting { let given = joined (take (result.taken + 1) (map (λ piece. piece.now) pieces.now)) in
         RunsNoting N.notes
         (record { rules = rules_of engine.old; read = given; outcome = outcome_of engine.new result.ended })
         reports.old reports.new }
-    ensures taken { TookWhole S.takes S.leaves (rules_of engine.old) [] 0 (map (λ piece. piece.now) pieces.now)
-        result.taken (lines_of engine.new) sink.old sink.new result.ended }
-    ensures cause { result.ended ≡ End.WriteFault → HasRisen (S.failures sink.old) (S.failures sink.new) }
+    ensures taken { TookWhole S.law (given_after [] 0 (in_pieces (rules_of engine.old)
+        (map (λ piece. piece.now) pieces.now) result.taken) (lines_of engine.new)) sink.old sink.new result.ended }
+    ensures cause { result.ended ≡ End.WriteFault → HasRisen (S.law.failures sink.old) (S.law.failures sink.new) }
     ensures memory { result.ended ≡ End.Memory → (lines_of engine.new ≡ 0) × (sink.new ≡ sink.old)
         × (reports.new ≡ reports.old) }
 {
@@ -92,19 +92,19 @@ pub fn put_pieces<S: LineSink, N: ReportSink>(
     requires fresh { IsFresh engine.old }
     requires short { length (joined (map (λ piece. piece.now) pieces.now)) ≤ 2 ^ 60 }
     ensures fed { Fed (rules_of engine.old) [] (map (λ piece. piece.now) pieces.now) result engine.new }
-    ensures puts { PutsPieces S.takes S.leaves (rules_of engine.old) (map (λ piece. piece.now) pieces.now)
-        result.taken result.ended sink.old sink.new }
-    ensures notes { NotesPieces N.notes (rules_of engine.old) (map (λ piece. piece.now) pieces.now)
-        result.taken result.ended reports.old reports.new }
-    ensures sink { Delivers S.takes S.leaves (rules_of engine.old)
-        (joined (take (result.taken + 1) (map (λ piece. piece.now) pieces.now))) 0 (lines_of engine.new)
+    ensures puts { PutsPieces S.law (in_pieces (rules_of engine.old) (map (λ piece. piece.now) pieces.now) result.taken)
+        result.ended sink.old sink.new }
+    ensures notes { NotesPieces N.notes (in_pieces (rules_of engine.old) (map (λ piece. piece.now) pieces.now)
+        result.taken) result.ended reports.old reports.new }
+    ensures sink { Delivers S.law (stretch (rules_of engine.old)
+        (joined (take (result.taken + 1) (map (λ piece. piece.now) pieces.now))) 0 (lines_of engine.new))
         sink.old sink.new (Some result.ended) }
-    ensures reports { Notes N.notes (rules_of engine.old)
-        (joined (take (result.taken + 1) (map (λ piece. piece.now) pieces.now))) 0 (lines_of engine.new)
+    ensures reports { Notes N.notes (stretch (rules_of engine.old)
+        (joined (take (result.taken + 1) (map (λ piece. piece.now) pieces.now))) 0 (lines_of engine.new))
         reports.old reports.new }
     ensures counts { IsUnhindered result.ended → CountsAll (rules_of engine.old)
         (joined (map (λ piece. piece.now) pieces.now)) (outcome_of engine.new result.ended) }
-    ensures cause { result.ended ≡ End.WriteFault → HasRisen (S.failures sink.old) (S.failures sink.new) }
+    ensures cause { result.ended ≡ End.WriteFault → HasRisen (S.law.failures sink.old) (S.law.failures sink.new) }
     ensures memory { result.ended ≡ End.Memory → (lines_of engine.new ≡ 0) × (sink.new ≡ sink.old)
         × (reports.new ≡ reports.old) }
 {
@@ -139,16 +139,17 @@ pub fn headline<W: Write + Drop, N: ReportSink>(
     requires fresh { IsFresh engine.old }
     requires short { length (joined (map (λ piece. piece.now) pieces.now)) ≤ 2 ^ 60 }
     ensures headline { let cut = map (λ piece. piece.now) pieces.now in
-        Headline N.notes (rules_of engine.old) (joined cut) (joined (take (result.taken + 1) cut)) result.ended
-        result.peaks (channel W.contents sink.old) (channel W.contents sink.new) reports.old reports.new }
+        Headline N.notes (fate_of (rules_of engine.old) (joined cut) (joined (take (result.taken + 1) cut)) result.ended
+        result.peaks) (outputs (channel W.contents sink.old) reports.old)
+        (outputs (channel W.contents sink.new) reports.new) }
     ensures fed { Fed (rules_of engine.old) [] (map (λ piece. piece.now) pieces.now) result engine.new }
-    ensures copies { Copies (rules_of engine.old) (map (λ piece. piece.now) pieces.now) result.taken result.ended
-        (W.contents (output_writer sink.old)) (W.contents (output_writer sink.new)) }
-    ensures sink { Delivers (WritesItem W.contents) (WritesPart W.contents) (rules_of engine.old)
-        (joined (take (result.taken + 1) (map (λ piece. piece.now) pieces.now))) 0 (lines_of engine.new)
+    ensures copies { Copies (in_pieces (rules_of engine.old) (map (λ piece. piece.now) pieces.now) result.taken)
+        result.ended (W.contents (output_writer sink.old)) (W.contents (output_writer sink.new)) }
+    ensures sink { Delivers (output_law W.contents) (stretch (rules_of engine.old)
+        (joined (take (result.taken + 1) (map (λ piece. piece.now) pieces.now))) 0 (lines_of engine.new))
         sink.old sink.new (Some result.ended) }
-    ensures reports { Notes N.notes (rules_of engine.old)
-        (joined (take (result.taken + 1) (map (λ piece. piece.now) pieces.now))) 0 (lines_of engine.new)
+    ensures reports { Notes N.notes (stretch (rules_of engine.old)
+        (joined (take (result.taken + 1) (map (λ piece. piece.now) pieces.now))) 0 (lines_of engine.new))
         reports.old reports.new }
     ensures memory { result.ended ≡ End.Memory → (lines_of engine.new ≡ 0) × (sink.new ≡ sink.old)
         × (reports.new ≡ reports.old) }

@@ -91,14 +91,13 @@ fn drive<R: Read, S: LineSink, N: ReportSink>(
     ensures runs { (r : List ℕ)
         × Consumes (R.remaining (source_reader source.old)) (R.remaining (source_reader source.new)) r
         × IsReadWithin reads r result
-        × Runs S.takes S.leaves
-        (record { rules = rules_of engine.old; read = r; outcome = outcome_of engine.new result })
+        × Runs S.law (record { rules = rules_of engine.old; read = r; outcome = outcome_of engine.new result })
         (IsAtEnd (R.remaining (source_reader source.new))) sink.old sink.new
         × RunsNoting N.notes
         (record { rules = rules_of engine.old; read = r; outcome = outcome_of engine.new result })
         reports.old reports.new
         × StopsInTime (record { rules = rules_of engine.old; read = r; outcome = outcome_of engine.new result }) }
-    ensures cause { result ≡ End.WriteFault → HasRisen (S.failures sink.old) (S.failures sink.new) }
+    ensures cause { result ≡ End.WriteFault → HasRisen (S.law.failures sink.old) (S.law.failures sink.new) }
     ensures none { reads ≡ 0 → (source_reader source.new ≡ source_reader source.old) × (sink.new ≡ sink.old)
         × (result ≡ End.ReadLimit) × (reports.new ≡ reports.old) }
     ensures reads { reads_of source.new ≤ reads }
@@ -136,12 +135,12 @@ pub fn run<R: Read, S: LineSink, N: ReportSink>(
 ) -> Outcome
     ensures runs { (r : List ℕ) × Consumes (R.remaining reader.old) (R.remaining reader.new) r
         × IsReadWithin (2 ^ 40) r result.ended
-        × Runs S.takes S.leaves (record { rules = rules_for limits query.now options; read = r; outcome = result })
+        × Runs S.law (record { rules = rules_for limits query.now options; read = r; outcome = result })
         (IsAtEnd (R.remaining reader.new)) sink.old sink.new
         × RunsNoting N.notes (record { rules = rules_for limits query.now options; read = r; outcome = result })
         reports.old reports.new
         × StopsInTime (record { rules = rules_for limits query.now options; read = r; outcome = result }) }
-    ensures cause { result.ended ≡ End.WriteFault → HasRisen (S.failures sink.old) (S.failures sink.new) }
+    ensures cause { result.ended ≡ End.WriteFault → HasRisen (S.law.failures sink.old) (S.law.failures sink.new) }
     ensures enough { IfSome (R.remaining reader.old) (λ bytes. length bytes < 2 ^ 40 → result.ended ≢ End.ReadLimit) }
     ensures memory { result.ended ≡ End.Memory → (result.lines ≡ 0) × (sink.new ≡ sink.old)
         × (reports.new ≡ reports.old) }
@@ -173,12 +172,12 @@ pub fn run_within<R: Read, S: LineSink, N: ReportSink>(
     requires few { reads ≤ 2 ^ 40 }
     ensures runs { (r : List ℕ) × Consumes (R.remaining reader.old) (R.remaining reader.new) r
         × IsReadWithin reads r result.ended
-        × Runs S.takes S.leaves (record { rules = rules_for limits query.now options; read = r; outcome = result })
+        × Runs S.law (record { rules = rules_for limits query.now options; read = r; outcome = result })
         (IsAtEnd (R.remaining reader.new)) sink.old sink.new
         × RunsNoting N.notes (record { rules = rules_for limits query.now options; read = r; outcome = result })
         reports.old reports.new
         × StopsInTime (record { rules = rules_for limits query.now options; read = r; outcome = result }) }
-    ensures cause { result.ended ≡ End.WriteFault → HasRisen (S.failures sink.old) (S.failures sink.new) }
+    ensures cause { result.ended ≡ End.WriteFault → HasRisen (S.law.failures sink.old) (S.law.failures sink.new) }
     ensures enough { IfSome (R.remaining reader.old) (λ bytes. length bytes < reads → result.ended ≢ End.ReadLimit) }
     ensures none { reads ≡ 0 → (reader.new ≡ reader.old) × (sink.new ≡ sink.old) × (reports.new ≡ reports.old)
         × ((result.ended ≡ End.ReadLimit) ⊎ (result.ended ≡ End.Memory)) × (result.lines ≡ 0) × (result.kept ≡ 0) }

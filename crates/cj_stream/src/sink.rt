@@ -1,11 +1,11 @@
 //! Where the kept lines go: the trait of a sink, one sink that ignores, and one that counts.
 //!
 //! A sink borrows views of the engine's own lists, so it copies what it wants to keep. Contracts
-//! describe any sink by the three ghost members of [`LineSink`]. [`crate::Output`] is the sink that
-//! writes, and [`crate::TallySink`] the one that tallies.
+//! describe any sink by its law, the ghost member of [`LineSink`]. [`crate::Output`] is the sink
+//! that writes, and [`crate::TallySink`] the one that tallies.
 ghost use Rattle.std.specs.Prelude.{◌≡◌, ◌≤◌, ℕ, OnOk, OnErr};
-ghost use Rattle.cj_stream.specs.Item.{Item, header_item, feature_item};
-ghost use Rattle.cj_stream.specs.Sink.{HasRisen};
+ghost use Rattle.cj_stream.specs.Item.{header_item, feature_item};
+ghost use Rattle.cj_stream.specs.Sink.{SinkLaw, HasRisen, never_fails};
 
 use crate::output::WriteFault;
 use cj_feature::{Feature, Header};
@@ -14,28 +14,23 @@ use cj_feature::{Feature, Header};
 ///
 /// An implementation must return a fault only if the count of device failures rose in that call.
 pub trait LineSink {
-    /// What one whole item makes of the sink.
-    ghost takes: { Self → Item → Self → Type 0 };
-
-    /// What a fault may leave of it.
-    ghost leaves: { Self → Item → Self → Type 0 };
-
-    /// How often its device has failed.
-    ghost failures: { Self → ℕ };
+    /// Its law: what one whole item makes of the sink, what a fault may leave of it, and how often
+    /// its device has failed.
+    ghost law: { SinkLaw Self };
 
     /// Takes the header. `lf` says whether LF ended its line.
     fn header(&mut self, header: &Header<'_>, lf: bool) -> Result<(), WriteFault>
-        ensures ok { OnOk result (takes self.old (header_item header.now lf) self.new) }
-        ensures fault { OnErr result (leaves self.old (header_item header.now lf) self.new) }
-        ensures cause { OnErr result (HasRisen (failures self.old) (failures self.new)) }
-        ensures counts { failures self.old ≤ failures self.new };
+        ensures ok { OnOk result (law.takes self.old (header_item header.now lf) self.new) }
+        ensures fault { OnErr result (law.leaves self.old (header_item header.now lf) self.new) }
+        ensures cause { OnErr result (HasRisen (law.failures self.old) (law.failures self.new)) }
+        ensures counts { law.failures self.old ≤ law.failures self.new };
 
     /// Takes a feature. `lf` says whether LF ended its line.
     fn put(&mut self, feature: &Feature<'_>, lf: bool) -> Result<(), WriteFault>
-        ensures ok { OnOk result (takes self.old (feature_item feature.now lf) self.new) }
-        ensures fault { OnErr result (leaves self.old (feature_item feature.now lf) self.new) }
-        ensures cause { OnErr result (HasRisen (failures self.old) (failures self.new)) }
-        ensures counts { failures self.old ≤ failures self.new };
+        ensures ok { OnOk result (law.takes self.old (feature_item feature.now lf) self.new) }
+        ensures fault { OnErr result (law.leaves self.old (feature_item feature.now lf) self.new) }
+        ensures cause { OnErr result (HasRisen (law.failures self.old) (law.failures self.new)) }
+        ensures counts { law.failures self.old ≤ law.failures self.new };
 }
 
 /// Takes everything, keeps nothing and never fails. It suits a run whose outcome is all that
@@ -44,11 +39,7 @@ pub trait LineSink {
 pub struct IgnoreSink;
 
 impl LineSink for IgnoreSink {
-    ghost takes = { λ a i b. b ≡ a };
-
-    ghost leaves = { λ a i b. ⊥ };
-
-    ghost failures = { λ s. 0 };
+    ghost law = { never_fails (λ a i b. b ≡ a) };
 
     fn header(&mut self, _header: &Header<'_>, _lf: bool) -> Result<(), WriteFault> {
         Ok(())
@@ -71,11 +62,7 @@ pub struct CountSink {
 impl LineSink for CountSink {
     ghost use Rattle.cj_stream.specs.CountSink.{Counts};
 
-    ghost takes = { Counts };
-
-    ghost leaves = { λ a i b. ⊥ };
-
-    ghost failures = { λ s. 0 };
+    ghost law = { never_fails Counts };
 
     fn header(&mut self, _header: &Header<'_>, _lf: bool) -> Result<(), WriteFault> {
         self.headers = self.headers.saturating_add(1);

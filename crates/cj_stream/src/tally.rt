@@ -3,7 +3,7 @@ ghost use Rattle.std.specs.Prelude.{◌≡◌, ◌<◌, ◌≤◌, ℕ, None, On
 ghost use Rattle.cj_geometry.specs.ObjectTypes.{row_at};
 ghost use Rattle.cj_stream.specs.Item.{header_item, feature_item};
 ghost use Rattle.cj_stream.specs.Parts.{JoinsTallies};
-ghost use Rattle.cj_stream.specs.Sink.{HasRisen};
+ghost use Rattle.cj_stream.specs.Sink.{HasRisen, never_fails};
 ghost use Rattle.cj_stream.specs.TallySink.{no_tally};
 
 mod adding;
@@ -182,11 +182,7 @@ impl TallySink {
 impl LineSink for TallySink {
     ghost use Rattle.cj_stream.specs.TallySink.{Tallies};
 
-    ghost takes = { Tallies };
-
-    ghost leaves = { λ a i b. ⊥ };
-
-    ghost failures = { λ s. 0 };
+    ghost law = { never_fails Tallies };
 
     fn header(&mut self, header: &Header<'_>, _lf: bool) -> Result<(), WriteFault> {
         self.scale = Some(header.scale());

@@ -6,7 +6,8 @@ returns-clause-checks c =
     let j = c.judge.ensures in
     record {
       went = c.judge.result;
-      goes = goes _ _ c.args.request.now c.args.header.now c.args.part.now _ _ c.args.reports.now c.judge.new.reports (λ rules o. Unit {0}) (λ rules o judged. tt) c.judge.result j.ok j.declined j.unread;
+      goes = goes _ c.args.request.now c.args.header.now c.args.part.now _ _ c.args.reports.now c.judge.new.reports
+          (λ rules o. Unit {0}) (λ rules o judged. tt) c.judge.result j.ok j.declined j.unread;
       told = c.of.ensures;
     }
 
@@ -16,5 +17,6 @@ returns-clause-fits c = never-full c.judge.result c.of.result 0 c.of.ensures c.j
 pub returns-clause-unjudged : goal.returns-clause-unjudged
 returns-clause-unjudged c which =
     let j = c.judge.ensures in
-    let same = unjudged _ _ c.args.request.now c.args.header.now c.args.part.now _ _ c.args.reports.now c.judge.new.reports c.judge.result c.of.result 0 c.of.ensures j.ok j.unread which in
+    let same = unjudged _ c.args.request.now c.args.header.now c.args.part.now _ _ c.args.reports.now
+    c.judge.new.reports c.judge.result c.of.result 0 c.of.ensures j.ok j.unread which in
     (same.0, same.1)

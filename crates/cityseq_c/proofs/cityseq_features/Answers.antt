@@ -1,5 +1,6 @@
 use Rattle.std.proofs.Common.{◌++◌, sym, ap, ◌∙◌}
 use Rattle.cj_stream.specs.Headline.{IsUnhindered}
+use Rattle.cj_stream.specs.Sink.{never_fails}
 use Rattle.cityseq_c.specs.Features.{HoldsRecords, ListsItem, listed_loan, listed_room, spots}
 use Rattle.cityseq_c.specs.Request.{IsFit}
 use Rattle.cityseq_c.proofs.CalledLemmas.{goes-known, never-full, unjudged}
@@ -17,7 +18,8 @@ returns-clause-lists c =
     let t = c.judge.new.sink in
     record {
       went = c.judge.result;
-      goes = goes-known ListsItem (λ a i b. ⊥) c.args.request.now header part s t c.args.reports.now c.judge.new.reports
+      goes = goes-known (never_fails ListsItem) c.args.request.now header part s t c.args.reports.now
+          c.judge.new.reports
           (IsFit c.args.request.now header part) (λ rules o. IsUnhindered o.ended → HoldsRecords (spots rules (header ++ part)) before after)
           (λ fit rules o judged free. recorded rules header part s t before after fit.cut (judged.took free)
           c.new-listed.ensures.count c.new-listed.ensures.room c.new-listed.ensures.place (λ loan. c.records-1.given.1.1 (sym c.new-listed.ensures.loan ∙ sym loan)))
@@ -33,7 +35,8 @@ returns-clause-unjudged c which =
     let j = c.judge.ensures in
     let s = c.new-listed.result in
     let t = c.judge.new.sink in
-    let same = unjudged ListsItem (λ a i b. ⊥) c.args.request.now c.args.header.now c.args.part.now s t c.args.reports.now c.judge.new.reports c.judge.result c.of.result 0 c.of.ensures j.ok j.unread which in (
+    let same = unjudged (never_fails ListsItem) c.args.request.now c.args.header.now c.args.part.now s t
+    c.args.reports.now c.judge.new.reports c.judge.result c.of.result 0 c.of.ensures j.ok j.unread which in (
       same.0,
       same.1,
       c.records-1.given.1.1 (sym c.new-listed.ensures.loan ∙ sym (ap listed_loan same.2)) ∙ (ap listed_room same.2 ∙ c.new-listed.ensures.room),

@@ -1,6 +1,6 @@
 use Rattle.std.proofs.Common.{◌++◌, sym, ap, ◌∙◌}
 use Rattle.cityseq_c.specs.Called.{Copied}
-use Rattle.cityseq_c.specs.Room.{GrowsBy, StaysAt, room_bytes, room_loan}
+use Rattle.cityseq_c.specs.Room.{room_law, room_bytes, room_loan}
 use Rattle.cityseq_c.proofs.CalledLemmas.{filters, goes, unjudged}
 use Rattle.cityseq_c.proofs.RoomLemmas.{copied}
 use Rattle.cityseq_c.proofs.cityseq_filter.Goals as goal
@@ -16,7 +16,7 @@ returns-clause-filters c =
     let b = c.judge-judged.new.sink in
     let new = c.judge-judged.new.reports in
     filters c.args.request.now header part c.args.reports.now new out written c.of.result c.judge-judged.result c.of.ensures
-    (goes GrowsBy StaysAt c.args.request.now header part a b c.args.reports.now new
+    (goes room_law c.args.request.now header part a b c.args.reports.now new
     (λ rules o. Copied rules (header ++ part) out written o)
     (λ rules o judged. copied rules (header ++ part) o a b c.args.reports.now new out written judged
     c.new-room.ensures.written (λ loan. c.output-1.given.1.1 (sym c.new-room.ensures.loan ∙ sym loan)) c.written.ensures)
@@ -27,7 +27,9 @@ returns-clause-unjudged c which =
     let j = c.judge-judged.ensures in
     let a = c.new-room.result in
     let b = c.judge-judged.new.sink in
-    let same = unjudged GrowsBy StaysAt c.args.request.now c.args.header.now c.args.part.now a b c.args.reports.now c.judge-judged.new.reports c.judge-judged.result c.of.result c.written.result c.of.ensures j.ok j.unread which in (
+    let same = unjudged room_law c.args.request.now c.args.header.now c.args.part.now a b c.args.reports.now
+    c.judge-judged.new.reports c.judge-judged.result c.of.result c.written.result c.of.ensures j.ok
+    j.unread which in (
       same.0,
       same.1,
       c.output-1.given.1.1 (sym c.new-room.ensures.loan ∙ sym (ap room_loan same.2)) ∙ (ap room_bytes same.2 ∙ c.new-room.ensures.bytes),

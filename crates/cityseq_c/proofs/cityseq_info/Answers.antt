@@ -3,6 +3,7 @@ use Rattle.std.specs.Prelude.{OnOk}
 use Rattle.cj_stream.specs.Headline.{IsUnhindered}
 use Rattle.cj_stream.specs.TallySink.{Tallies}
 use Rattle.cj_stream.specs.declared.ending.End.TheVariants.{Complete}
+use Rattle.cj_stream.specs.Sink.{never_fails}
 use Rattle.cityseq_c.specs.Called.{IsTalliedOf}
 use Rattle.cityseq_c.specs.Tally.{IsTally}
 use Rattle.cityseq_c.proofs.CalledLemmas.{goes-known, known-ok, never-full, unknown-err}
@@ -25,7 +26,8 @@ returns-clause-tallies c =
     ] in
     record {
       went = went;
-      goes = goes-known Tallies (λ a i b. ⊥) c.args.request.now header part c.new-sink.result sink c.args.reports.now c.judge-judged.new.reports
+      goes = goes-known (never_fails Tallies) c.args.request.now header part c.new-sink.result sink c.args.reports.now
+          c.judge-judged.new.reports
           (IsTally sink told) (λ rules o. IsUnhindered o.ended → IsTalliedOf rules (header ++ part) told)
           (λ same rules o judged free. tallied rules (header ++ part) o c.new-sink.result sink c.args.reports.now c.judge-judged.new.reports judged c.new-sink.ensures told same
           (λ fresh puts. c.puts_are_tallied.ensures.runs rules (header ++ part) Complete c.new-sink.result sink fresh puts) free)

@@ -37,12 +37,9 @@ impl<'a> Listed<'a> {
 
 impl LineSink for Listed<'_> {
     ghost use Rattle.cityseq_c.specs.Features.{ListsItem};
+    ghost use Rattle.cj_stream.specs.Sink.{never_fails};
 
-    ghost takes = { ListsItem };
-
-    ghost leaves = { λ a i b. ⊥ };
-
-    ghost failures = { λ s. 0 };
+    ghost law = { never_fails ListsItem };
 
     fn header(&mut self, _header: &Header<'_>, _lf: bool) -> Result<(), WriteFault> {
         Ok(())

@@ -88,11 +88,7 @@ fn feature_note(alloc: Global, feature: &Feature, lf: bool) -> Result<String, Al
 impl LineSink for NoteSink {
     ghost use Rattle.std.specs.Prelude.{⊤};
 
-    ghost takes = { λ a i b. ⊤ };
-
-    ghost leaves = { λ a i b. ⊤ };
-
-    ghost failures = { λ s. 0 };
+    ghost law = { record { takes = λ a i b. ⊤; leaves = λ a i b. ⊤; failures = λ s. 0 } };
 
     fn header(&mut self, header: &Header<'_>, lf: bool) -> Result<(), WriteFault> {
         self.note(header_note(self.alloc, header, lf));

@@ -124,11 +124,7 @@ fn types_note(alloc: Global, tally: &TallySink, feature: &Feature) -> Result<Str
 impl LineSink for TypesSink {
     ghost use Rattle.std.specs.Prelude.{⊤};
 
-    ghost takes = { λ a i b. ⊤ };
-
-    ghost leaves = { λ a i b. ⊤ };
-
-    ghost failures = { λ s. 0 };
+    ghost law = { record { takes = λ a i b. ⊤; leaves = λ a i b. ⊤; failures = λ s. 0 } };
 
     fn header(&mut self, _header: &Header<'_>, _lf: bool) -> Result<(), WriteFault> {
         Ok(())

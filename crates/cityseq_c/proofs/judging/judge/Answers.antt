@@ -18,7 +18,8 @@ pub returns-clause-ok : goal.returns-clause-ok
 returns-clause-ok g c =
     let fit = c.in_ok-limits.ensures.ok.0 in
     let rules : Rules = record { limits = c.in_ok-limits.limits; criteria = criteria c.in_ok-query.query; options = c.options.result } in
-    asked-ok g.S.LineSink.takes g.S.LineSink.leaves c.args.request.now c.args.header.now c.args.part.now c.args.sink.now c.judge_stream.new.sink
+    asked-ok g.S.LineSink.law c.args.request.now c.args.header.now c.args.part.now c.args.sink.now
+    c.judge_stream.new.sink
     c.args.reports.now c.judge_stream.new.reports fit rules (rules_of c.in-Ok.engine) c.judge_stream.result
     (record { limits = c.in_ok-limits.ensures.ok.1; criteria = c.in_ok-query.ensures.ok; options = c.options.ensures })
     (c.in-Ok.ensures.empty.1 ∙ ap (λ l. rules_for l c.in_ok-query.query c.options.result) c.limits_needed-needed.ensures)
@@ -31,5 +32,6 @@ returns-clause-fit g c =
 
 pub returns-clause-declined : goal.returns-clause-declined
 returns-clause-declined g c =
-    declined-memory g.S.LineSink.takes g.S.LineSink.leaves c.args.request.now c.args.header.now c.args.part.now c.args.sink.now c.judge_stream.new.sink
+    declined-memory g.S.LineSink.law c.args.request.now c.args.header.now c.args.part.now c.args.sink.now
+    c.judge_stream.new.sink
     c.args.reports.now c.judge_stream.new.reports c.in_ok-limits.ensures.ok.0 c.judge_stream.result c.judge_stream.ensures.memory

@@ -11,7 +11,8 @@ returns g c =
     let put = c.put_pieces-outcome.result in
     let o : Outcome = record { lines = c.lines.result; kept = c.kept.result; refused = c.refused.result; peaks = put.peaks; ended = put.ended } in
     record {
-      ok = judged g.S.LineSink.takes g.S.LineSink.leaves rules c.args.header.now c.args.part.now c.requires.cut put.taken c.args.sink.now c.put_pieces-outcome.new.sink
+      ok = judged g.S.LineSink.law rules c.args.header.now c.args.part.now c.requires.cut put.taken c.args.sink.now
+          c.put_pieces-outcome.new.sink
           c.new-noted.result c.put_pieces-outcome.new.reports o c.args.reports.now c.reports-1.given.0
           c.in_default.not-Memory e.puts (λ free. rw (c.lines.ensures, c.kept.ensures, c.refused.ensures, e.fed.peaks) (e.counts free)) e.fed.exact e.fed.bounded
           (rw (c.lines.ensures, c.kept.ensures, c.refused.ensures) e.fed.counts) (rw c.lines.ensures e.sink) (rw c.lines.ensures e.reports)

@@ -1,21 +1,25 @@
 use Rattle.std.specs.Io.KnownBytes.{IsAtEnd}
-use Rattle.cj_stream.specs.Output.{output_writer, channel}
+use Rattle.cj_stream.specs.Output.{output_writer, channel, output_failures}
 use Rattle.cj_stream.proofs.CutLemmas.{Copies-puts}
 use Rattle.cj_stream.proofs.HeadlineLemmas.{Headline-run}
 use Rattle.cj_stream.proofs.OutputLemmas.{Writes-puts, WritesLines-told}
 use Rattle.cj_stream.proofs.laws.puts_are_written.Goals as goal
 
 pub returns-clause-runs : goal.returns-clause-runs
-returns-clause-runs g c = λ rules r e a b puts. Writes-puts (λ o. g.W.Write.contents (output_writer o)) rules r a b e puts
+returns-clause-runs g c = λ rules r e a b puts. Writes-puts (λ o. g.W.Write.contents (output_writer o)) output_failures
+    rules r a b e puts
 
 pub returns-clause-lines : goal.returns-clause-lines
 returns-clause-lines g c = λ run left a b runs none.
-    WritesLines-told (λ o. g.W.Write.contents (output_writer o)) run.rules run.read run.outcome.lines a b run.outcome.ended none runs.sink
+    WritesLines-told (λ o. g.W.Write.contents (output_writer o)) output_failures run.rules run.read run.outcome.lines a
+    b run.outcome.ended none runs.sink
 
 pub returns-clause-headline : goal.returns-clause-headline
 returns-clause-headline g c = λ run left a b n m runs noting cause.
     Headline-run g.N.ReportSink.notes run (IsAtEnd left) (channel g.W.Write.contents a) (channel g.W.Write.contents b) n m runs.account
-    (Writes-puts (λ o. g.W.Write.contents (output_writer o)) run.rules run.read a b run.outcome.ended runs.puts) noting.noted cause
+    (Writes-puts (λ o. g.W.Write.contents (output_writer o)) output_failures run.rules run.read a b run.outcome.ended
+    runs.puts) noting.noted cause
 
 pub returns-clause-pieces : goal.returns-clause-pieces
-returns-clause-pieces g c = λ rules pieces n e a b puts. Copies-puts (λ o. g.W.Write.contents (output_writer o)) rules pieces n a b e puts
+returns-clause-pieces g c = λ rules pieces n e a b puts. Copies-puts (λ o. g.W.Write.contents (output_writer o))
+    output_failures rules pieces n a b e puts

@@ -1,14 +1,15 @@
-use Rattle.std.proofs.Common.{[], ◌≡◌, ◌+◌, ◌++◌, ◌∙◌, length, take, map, get_or, sym, ap, arith, append_assoc, length-append, Err}
-use Rattle.std.proofs.lemmas.List.{length-map}
+use Rattle.std.proofs.Common.{[], ◌≡◌, ◌+◌, ◌++◌, ◌∙◌, length, take, map, get_or, refl, sym, ap, arith, append_assoc, length-append, Err}
+use Rattle.std.proofs.lemmas.List.{append-nil, length-map}
 use Rattle.cj_stream.specs.Cut.{joined}
 use Rattle.cj_stream.specs.Ending.{line_end}
 use Rattle.cj_stream.specs.Engine.{rules_of, lines_of}
+use Rattle.cj_stream.specs.Verdict.{kept_first}
 use Rattle.cj_stream.proofs.CutLemmas.{TookWhole-left, EndsAt-told, EndsAt-concludes}
 use Rattle.cj_stream.proofs.EngineLemmas.{Going-reads}
 use Rattle.cj_stream.proofs.FeedingLemmas.{never-memory}
 use Rattle.cj_stream.proofs.JoinedLemmas.{joined-more, joined-short, joined-all}
 use Rattle.cj_stream.proofs.LinePieceLemmas.{kept_first-either}
-use Rattle.cj_stream.proofs.NoteLemmas.{Notes-then, Notes-over, reported_first-either, reported_first-same}
+use Rattle.cj_stream.proofs.NoteLemmas.{Notes-none, Notes-then, Notes-over, reported_first-either, reported_first-same}
 use Rattle.cj_stream.proofs.RunLemmas.{Delivers-join, kept_first-same, Ends-finished, Ends-fed, HasRisen-after, told-not_complete}
 use Rattle.cj_stream.proofs.line_pieces.feed_all.Goals as goal
 
@@ -16,6 +17,21 @@ pub feed-requires : goal.feed-requires
 feed-requires g c =
     let i = c.loop-taken.invariant in
     omega (arith, i.2, joined-short (λ piece. piece.now) c.args.pieces.now c.loop-taken.taken (record { ref_ptr = (0, 0); now = [] }) (omega arith), c.requires.short)
+
+pub loop-taken-init : goal.loop-taken-init
+loop-taken-init g c =
+    let reader = c.args.reader.now in
+    let kept = kept_first (rules_of reader) (lines_of reader) in (
+      c.requires.going,
+      refl,
+      omega arith,
+      omega arith,
+      λ p st. rw (append-nil p) (
+        st,
+        record { added = []; middle = c.args.sink.now; kept = sym (append-nil (kept p)); took = refl; fault = refl },
+        Notes-none g.N.ReportSink.notes (rules_of reader) p (lines_of reader) (lines_of reader) _ _ refl refl,
+      ),
+    )
 
 pub loop-taken-preserved : goal.loop-taken-preserved
 loop-taken-preserved g c =
@@ -36,11 +52,12 @@ loop-taken-preserved g c =
           let sink = let z = feeds.sink (p ++ x) old.0 i.0 in rw (whole, i.1, feeds.unended) at z in
           rw more (
             (let z = feeds.stands (p ++ x) old.0 in rw (i.0, whole) at z),
-            Delivers-join g.S.LineSink.takes g.S.LineSink.leaves (rules_of c.args.reader.now) (p ++ x) (p ++ (x ++ piece.now)) (lines_of c.args.reader.now) (lines_of c.loop-taken.reader) _ _ _ _ _
-                (kept_first-either g.S.LineSink.takes g.S.LineSink.leaves (rules_of c.args.reader.now) p (lines_of c.args.reader.now) first c.args.sink.now c.args.sink.now (x ++ piece.now) x)
+            Delivers-join
+                (kept_first-either g.S.LineSink.law (rules_of c.args.reader.now) p (lines_of c.args.reader.now) first
+                c.args.sink.now c.args.sink.now (x ++ piece.now) x)
                 (let z = kept_first-same (rules_of c.args.reader.now) (lines_of c.loop-taken.reader) (p ++ x) piece.now (old.0.going i.0).0.lines in rw whole at z) old.1 sink,
-            Notes-then g.N.ReportSink.notes (rules_of c.args.reader.now) (p ++ (x ++ piece.now)) (lines_of c.args.reader.now) (lines_of c.loop-taken.reader) _ _ _ _
-                (Notes-over g.N.ReportSink.notes (rules_of c.args.reader.now) (p ++ x) (p ++ (x ++ piece.now)) _ _ _ _
+            Notes-then g.N.ReportSink.notes (rules_of c.args.reader.now)
+                (Notes-over g.N.ReportSink.notes (rules_of c.args.reader.now)
                 (reported_first-either g.N.ReportSink.notes (rules_of c.args.reader.now) p (lines_of c.args.reader.now) first c.args.reports.now c.args.reports.now (x ++ piece.now) x)
                 (let z = reported_first-same (rules_of c.args.reader.now) (lines_of c.loop-taken.reader) (p ++ x) piece.now (old.0.going i.0).0.lines in rw whole at z) old.2)
                 (let z = c.feed.ensures.reports (p ++ x) old.0 i.0 in rw (whole, i.1) at z),
@@ -102,7 +119,8 @@ returns-in-Err-clause-taken g c = λ p st.
     let feeds = c.in-Err.ensures.feeds in
     let old = i.4 p st in
     let next : (p ++ x) ++ piece.now ≡ p ++ joined (take (k + 1) (map (λ piece. piece.now) c.args.pieces.now)) = append_assoc p x piece.now ∙ ap (λ z. p ++ z) (sym more) in
-    TookWhole-left g.S.LineSink.takes g.S.LineSink.leaves c.loop-taken.reader (rules_of c.args.reader.now) p (lines_of c.args.reader.now) pieces k (lines_of c.feed.new.self) c.args.sink.now c.loop-taken.sink c.feed.new.sink (line_end c.in-Err.ended)
+    TookWhole-left g.S.LineSink.law c.loop-taken.reader (rules_of c.args.reader.now) p (lines_of c.args.reader.now)
+    pieces k (lines_of c.feed.new.self) c.args.sink.now c.loop-taken.sink c.feed.new.sink (line_end c.in-Err.ended)
     i.1 (old.0.going i.0).0 old.1 (let z = feeds.sink (p ++ x) old.0 i.0 in rw (next, i.1, feeds.ended) at z)
 
 pub returns-in-Err-clause-reports : goal.returns-in-Err-clause-reports
@@ -117,8 +135,8 @@ returns-in-Err-clause-reports g c = λ p st.
     let old = i.4 p st in
     let next : (p ++ x) ++ piece.now ≡ p ++ joined (take (k + 1) (map (λ piece. piece.now) c.args.pieces.now)) = append_assoc p x piece.now ∙ ap (λ z. p ++ z) (sym more) in
     let first = (st.going c.requires.going).0.lines in
-    Notes-then g.N.ReportSink.notes (rules_of c.args.reader.now) (p ++ joined (take (k + 1) (map (λ piece. piece.now) c.args.pieces.now))) (lines_of c.args.reader.now) (lines_of c.loop-taken.reader) _ _ _ _
-    (Notes-over g.N.ReportSink.notes (rules_of c.args.reader.now) (p ++ x) (p ++ joined (take (k + 1) (map (λ piece. piece.now) c.args.pieces.now))) _ _ _ _
+    Notes-then g.N.ReportSink.notes (rules_of c.args.reader.now)
+    (Notes-over g.N.ReportSink.notes (rules_of c.args.reader.now)
     (reported_first-either g.N.ReportSink.notes (rules_of c.args.reader.now) p (lines_of c.args.reader.now) first c.args.reports.now c.args.reports.now _ x)
     (let z = reported_first-same (rules_of c.args.reader.now) (lines_of c.loop-taken.reader) (p ++ x) piece.now (old.0.going i.0).0.lines in rw next at z) old.2)
     (let z = c.feed.ensures.reports (p ++ x) old.0 i.0 in rw (next, i.1) at z)
@@ -185,7 +203,9 @@ returns-clause-taken g c = λ p st.
     let old = i.4 p st in
     let whole = joined-all (length c.args.pieces.now) pieces (omega (arith, length-map c.args.pieces.now (λ piece. piece.now))) in
     let taken : joined (take k (map (λ piece. piece.now) c.args.pieces.now)) ≡ joined (take (length c.args.pieces.now) (map (λ piece. piece.now) c.args.pieces.now)) = all ∙ sym whole in
-    TookWhole-left g.S.LineSink.takes g.S.LineSink.leaves c.loop-taken.reader (rules_of c.args.reader.now) p (lines_of c.args.reader.now) pieces (length c.args.pieces.now) (lines_of c.finish-ended.new.self) c.args.sink.now c.loop-taken.sink c.finish-ended.new.sink (line_end c.finish-ended.result)
+    TookWhole-left g.S.LineSink.law c.loop-taken.reader (rules_of c.args.reader.now) p (lines_of c.args.reader.now)
+    pieces (length c.args.pieces.now) (lines_of c.finish-ended.new.self) c.args.sink.now c.loop-taken.sink
+    c.finish-ended.new.sink (line_end c.finish-ended.result)
     i.1 (let z = (old.0.going i.0).0 in rw taken at z) (let z = old.1 in rw taken at z) (let z = finished.sink (p ++ x) old.0 i.0 in rw (same, i.1, finished.ended) at z)
 
 pub returns-clause-reports : goal.returns-clause-reports
@@ -200,7 +220,7 @@ returns-clause-reports g c = λ p st.
     let finished = c.finish-ended.ensures.finished in
     let old = i.4 p st in
     let now = c.finish-ended.ensures.reports (p ++ x) old.0 i.0 in
-    let z = Notes-then g.N.ReportSink.notes (rules_of c.args.reader.now) (p ++ x) (lines_of c.args.reader.now) (lines_of c.loop-taken.reader) (lines_of c.finish-ended.new.self) c.args.reports.now c.loop-taken.reports c.finish-ended.new.reports old.2 (rw i.1 at now) in
+    let z = Notes-then g.N.ReportSink.notes (rules_of c.args.reader.now) old.2 (rw i.1 at now) in
     rw same at z
 
 pub returns-clause-cause : goal.returns-clause-cause

@@ -1,13 +1,15 @@
 use Rattle.std.proofs.Common.{map, ap}
 use Rattle.cj_stream.specs.Ending.{line_end}
 use Rattle.cj_stream.specs.Engine.{rules_of, lines_of}
-use Rattle.cj_stream.specs.Output.{output_writer}
+use Rattle.cj_stream.specs.Output.{output_writer, output_failures}
 use Rattle.cj_stream.proofs.LinePieceLemmas.{CopiesLines-puts}
 use Rattle.cj_stream.proofs.line_pieces.headline_of_lines.Goals as goal
 
 pub returns-clause-copies : goal.returns-clause-copies
 returns-clause-copies g c = λ p st.
-    CopiesLines-puts (λ s. g.W.Write.contents (output_writer s)) (rules_of c.args.reader.now) p (map (λ piece. piece.now) c.args.pieces.now) (lines_of c.args.reader.now) c.put_lines.result c.args.sink.now c.put_lines.new.sink (c.put_lines.ensures.puts p st)
+    CopiesLines-puts (λ s. g.W.Write.contents (output_writer s)) output_failures (rules_of c.args.reader.now) p
+    (map (λ piece. piece.now) c.args.pieces.now) (lines_of c.args.reader.now) c.put_lines.result c.args.sink.now
+    c.put_lines.new.sink (c.put_lines.ensures.puts p st)
 
 pub returns-clause-headline : goal.returns-clause-headline
 returns-clause-headline g c = λ p st.

@@ -10,7 +10,9 @@ returns-clause-puts g c = λ p st.
     let e = c.feed_all.ensures in
     let r = c.feed_all.result in
     let n = c.feed_all.new.reader in
-    lines-put g.S.LineSink.takes g.S.LineSink.leaves (rules_of c.args.reader.now) p (lines_of c.args.reader.now) (st.going c.requires.going).0.lines c.args.sink.now c.feed_all.new.sink (map (λ piece. piece.now) c.args.pieces.now)
+    lines-put g.S.LineSink.law (rules_of c.args.reader.now) p (lines_of c.args.reader.now)
+    (st.going c.requires.going).0.lines c.args.sink.now c.feed_all.new.sink
+    (map (λ piece. piece.now) c.args.pieces.now)
     r.taken (lines_of n) n.reading.kept n.reading.refused (e.fed p st).counts r.ended r.peaks (e.ends p st) (e.taken p st)
 
 pub returns-clause-notes : goal.returns-clause-notes
@@ -23,5 +25,7 @@ returns-clause-notes g c = λ p st.
 pub returns-clause-sink : goal.returns-clause-sink
 returns-clause-sink g c = λ p st.
     let r = c.feed_all.result in
-    Delivers-whole g.S.LineSink.takes g.S.LineSink.leaves (rules_of c.args.reader.now) p (lines_of c.args.reader.now) (st.going c.requires.going).0.lines c.args.sink.now c.feed_all.new.sink (map (λ piece. piece.now) c.args.pieces.now)
+    Delivers-whole g.S.LineSink.law (rules_of c.args.reader.now) p (lines_of c.args.reader.now)
+    (st.going c.requires.going).0.lines c.args.sink.now c.feed_all.new.sink
+    (map (λ piece. piece.now) c.args.pieces.now)
     r.taken (lines_of c.feed_all.new.reader) (line_end r.ended) (c.feed_all.ensures.taken p st)

@@ -48,7 +48,12 @@ returns-in-Err-clause-runs g c =
     let r = joined (take k (map (λ piece. piece.now) c.args.pieces.now)) in
     let more = joined-more (λ piece. piece.now) c.args.pieces.now k (record { ref_ptr = (0, 0); now = [] }) (omega arith) in
     let stands = c.feed.ensures.feeds.stands r i.2 in
-    rw more (Runs-told g.S.LineSink.takes g.S.LineSink.leaves (record { rules = rules_of c.args.engine.now; read = r ++ piece.now; outcome = outcome_of c.feed.new.self c.in-Err.ended }) _ c.args.sink.now c.feed.new.sink
+    rw more (Runs-told g.S.LineSink.law (record {
+      rules = rules_of c.args.engine.now;
+      read = r ++ piece.now;
+      outcome =
+          outcome_of c.feed.new.self c.in-Err.ended;
+    }) _ c.args.sink.now c.feed.new.sink
     (record {
       bounded = let x = stands.bounded in rw (i.0, c.feed.ensures.feeds.rules, i.1) at x;
       exact = λ h. absurd (told-not_complete (rules_of c.loop-taken.engine) (r ++ piece.now) (lines_of c.feed.new.self) c.in-Err.ended (c.in-Err.ensures.feeds.told r i.2 i.0) h);
@@ -57,7 +62,8 @@ returns-in-Err-clause-runs g c =
     })
     (let x = c.feed.ensures.feeds.sink r i.2 i.0 in
     let y = rw (i.1, c.in-Err.ensures.feeds.ended) at x in
-    Delivers-then g.S.LineSink.takes g.S.LineSink.leaves _ r (r ++ piece.now) _ _ _ _ _ _ (kept_first-same _ (lines_of c.loop-taken.engine) r piece.now (i.2.going i.0).0.lines) i.3 y))
+    Delivers-then (kept_first-same _ (lines_of c.loop-taken.engine) r
+    piece.now (i.2.going i.0).0.lines) i.3 y))
 
 pub returns-in-Err-clause-taken : goal.returns-in-Err-clause-taken
 returns-in-Err-clause-taken g c =
@@ -68,7 +74,9 @@ returns-in-Err-clause-taken g c =
     let more = joined-more (λ piece. piece.now) c.args.pieces.now k (record { ref_ptr = (0, 0); now = [] }) (omega arith) in
     let x = c.feed.ensures.feeds.sink r i.2 i.0 in
     let y = rw (i.1, c.in-Err.ensures.feeds.ended) at x in
-    TookWhole-left g.S.LineSink.takes g.S.LineSink.leaves c.loop-taken.engine (rules_of c.args.engine.now) [] 0 (map (λ piece. piece.now) c.args.pieces.now) k (lines_of c.feed.new.self) c.args.sink.now c.loop-taken.sink c.feed.new.sink c.in-Err.ended i.1 (i.2.going i.0).0 i.3 (rw more y)
+    TookWhole-left g.S.LineSink.law c.loop-taken.engine (rules_of c.args.engine.now) [] 0
+    (map (λ piece. piece.now) c.args.pieces.now) k (lines_of c.feed.new.self) c.args.sink.now c.loop-taken.sink
+    c.feed.new.sink c.in-Err.ended i.1 (i.2.going i.0).0 i.3 (rw more y)
 
 pub returns-in-Err-clause-cause : goal.returns-in-Err-clause-cause
 returns-in-Err-clause-cause g c = λ e. HasRisen-after _ _ _ c.loop-taken.invariant.4 (c.feed.ensures.feeds.cause c.loop-taken.invariant.0 (c.in-Err.is ∙ ap Err e))
@@ -85,11 +93,12 @@ loop-taken-preserved g c =
       let x = c.feed.ensures.feeds.stands r i.2 in rw more (rw i.0 at x),
       let x = c.feed.ensures.feeds.sink r i.2 i.0 in
           let y = rw (i.1, c.in_default.ensures.feeds.unended) at x in
-          rw more (Delivers-then g.S.LineSink.takes g.S.LineSink.leaves _ r (r ++ piece.now) _ _ _ _ _ _ (kept_first-same _ (lines_of c.loop-taken.engine) r piece.now (i.2.going i.0).0.lines) i.3 y),
+          rw more (Delivers-then (kept_first-same _
+          (lines_of c.loop-taken.engine) r piece.now (i.2.going i.0).0.lines) i.3 y),
       omega (arith, i.4, c.feed.ensures.feeds.counts),
       let x = (c.in_default.ensures.feeds.going r i.2).good in rw more (rw (c.feed.ensures.feeds.rules, i.1) at x),
       let x = c.feed.ensures.reports r i.2 i.0 in
-          rw more (Notes-then g.N.ReportSink.notes _ (r ++ piece.now) 0 _ _ _ _ _ (Notes-more g.N.ReportSink.notes _ r piece.now _ _ _ (i.2.going i.0).0.lines i.6) (rw i.1 at x)),
+          rw more (Notes-then g.N.ReportSink.notes _ (Notes-more g.N.ReportSink.notes _ r piece.now _ _ _ (i.2.going i.0).0.lines i.6) (rw i.1 at x)),
     )
 
 pub returns-clause-fed : goal.returns-clause-fed
@@ -130,7 +139,12 @@ returns-clause-runs g c =
     let given = joined-all (length c.args.pieces.now + 1) pieces (omega (arith, length-map c.args.pieces.now (λ piece. piece.now))) in
     let same : joined (take (length c.args.pieces.now + 1) (map (λ piece. piece.now) c.args.pieces.now)) ≡ joined (take k (map (λ piece. piece.now) c.args.pieces.now)) = given ∙ sym all in
     let stands = c.finish-ended.ensures.finished.stands r i.2 in
-    rw same (Runs-told g.S.LineSink.takes g.S.LineSink.leaves (record { rules = rules_of c.args.engine.now; read = r; outcome = outcome_of c.finish-ended.new.self c.finish-ended.result }) _ c.args.sink.now c.finish-ended.new.sink
+    rw same (Runs-told g.S.LineSink.law (record {
+      rules = rules_of c.args.engine.now;
+      read = r;
+      outcome = outcome_of
+          c.finish-ended.new.self c.finish-ended.result;
+    }) _ c.args.sink.now c.finish-ended.new.sink
     (record {
       bounded = let x = stands.bounded in rw (c.finish-ended.ensures.finished.rules, i.1) at x;
       exact = λ h. let x = c.finish-ended.ensures.finished.exact r i.2 i.0 h in rw i.1 at x;
@@ -139,7 +153,7 @@ returns-clause-runs g c =
     })
     (let x = c.finish-ended.ensures.finished.sink r i.2 i.0 in
     let y = rw (i.1, c.finish-ended.ensures.finished.ended) at x in
-    Delivers-then g.S.LineSink.takes g.S.LineSink.leaves _ r r _ _ _ _ _ _ refl i.3 y))
+    Delivers-then refl i.3 y))
 
 pub returns-clause-taken : goal.returns-clause-taken
 returns-clause-taken g c =
@@ -154,7 +168,10 @@ returns-clause-taken g c =
     let taken : joined (take (length c.args.pieces.now) (map (λ piece. piece.now) c.args.pieces.now)) ≡ joined (take k (map (λ piece. piece.now) c.args.pieces.now)) = whole ∙ sym all in
     let x = c.finish-ended.ensures.finished.sink r i.2 i.0 in
     let y = rw (i.1, c.finish-ended.ensures.finished.ended) at x in
-    TookWhole-left g.S.LineSink.takes g.S.LineSink.leaves c.loop-taken.engine (rules_of c.args.engine.now) [] 0 (map (λ piece. piece.now) c.args.pieces.now) (length c.args.pieces.now) (lines_of c.finish-ended.new.self) c.args.sink.now c.loop-taken.sink c.finish-ended.new.sink c.finish-ended.result i.1 (rw taken (i.2.going i.0).0) (rw taken i.3) (rw same y)
+    TookWhole-left g.S.LineSink.law c.loop-taken.engine (rules_of c.args.engine.now) [] 0
+    (map (λ piece. piece.now) c.args.pieces.now) (length c.args.pieces.now) (lines_of c.finish-ended.new.self)
+    c.args.sink.now c.loop-taken.sink c.finish-ended.new.sink c.finish-ended.result i.1 (rw taken (i.2.going i.0).0)
+    (rw taken i.3) (rw same y)
 
 pub returns-clause-cause : goal.returns-clause-cause
 returns-clause-cause g c = λ e. HasRisen-after _ _ _ c.loop-taken.invariant.4 (c.finish-ended.ensures.finished.cause c.loop-taken.invariant.0 e)
@@ -172,7 +189,7 @@ returns-in-Err-clause-noting g c =
     (Ends-fed _ (r ++ piece.now) _ (Unit {0}) c.in-Err.ended (let x = c.in-Err.ensures.feeds.told r i.2 i.0 in rw i.1 at x))
     (λ h. (c.feed.ensures.feeds.memory r i.2 i.0 (c.in-Err.is ∙ ap Err h)).0.none)
     (let x = c.feed.ensures.reports r i.2 i.0 in
-    Notes-then g.N.ReportSink.notes _ (r ++ piece.now) 0 _ _ _ _ _ (Notes-more g.N.ReportSink.notes _ r piece.now _ _ _ (i.2.going i.0).0.lines i.6) (rw i.1 at x)))
+    Notes-then g.N.ReportSink.notes _ (Notes-more g.N.ReportSink.notes _ r piece.now _ _ _ (i.2.going i.0).0.lines i.6) (rw i.1 at x)))
 
 pub returns-clause-noting : goal.returns-clause-noting
 returns-clause-noting g c =
@@ -188,14 +205,19 @@ returns-clause-noting g c =
     (let x = stands.counts.good in rw (c.finish-ended.ensures.finished.rules, i.1) at x)
     (Ends-finished _ r _ (Unit {0}) c.finish-ended.result tt (let x = c.finish-ended.ensures.finished.concludes r i.2 i.0 in rw i.1 at x))
     (λ h. absurd (c.finish-ended.ensures.finished.memory i.0 h))
-    (let x = c.finish-ended.ensures.reports r i.2 i.0 in Notes-then g.N.ReportSink.notes _ r 0 _ _ _ _ _ i.6 (rw i.1 at x)))
+    (let x = c.finish-ended.ensures.reports r i.2 i.0 in Notes-then g.N.ReportSink.notes _ i.6 (rw i.1 at x)))
 
 -- memory is refused before any line was dealt with
 pub returns-in-Err-clause-memory : goal.returns-in-Err-clause-memory
 returns-in-Err-clause-memory g c = λ lacks.
     let i = c.loop-taken.invariant in
-    let none = (c.feed.ensures.feeds.memory (joined (take c.loop-taken.taken (map (λ piece. piece.now) c.args.pieces.now))) i.2 i.0 (c.in-Err.is ∙ ap Err lacks)).0.none in
-    (none, memory-sink g.S.LineSink.takes g.S.LineSink.leaves _ _ _ _ _ _ lacks none (returns-in-Err-clause-runs g c).sink, noted-none g.N.ReportSink.notes (rules_of c.args.engine.now) (joined (take (c.loop-taken.taken + 1) (map (λ piece. piece.now) c.args.pieces.now))) _ _ _ lacks (returns-in-Err-clause-noting g c).noted)
+    let none = (c.feed.ensures.feeds.memory (joined (take c.loop-taken.taken (map (λ piece. piece.now) c.args.pieces.now))) i.2 i.0 (c.in-Err.is ∙ ap Err lacks)).0.none in (
+      none,
+      memory-sink g.S.LineSink.law _ _ _ _ _ _ lacks none (returns-in-Err-clause-runs g c).sink,
+      noted-none
+          g.N.ReportSink.notes (rules_of c.args.engine.now) (joined (take (c.loop-taken.taken + 1)
+          (map (λ piece. piece.now) c.args.pieces.now))) _ _ _ lacks (returns-in-Err-clause-noting g c).noted,
+    )
 
 pub returns-clause-memory : goal.returns-clause-memory
 returns-clause-memory g c = λ lacks. absurd (c.finish-ended.ensures.finished.memory c.loop-taken.invariant.0 lacks)

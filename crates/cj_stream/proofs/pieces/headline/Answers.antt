@@ -1,6 +1,6 @@
 use Rattle.std.proofs.Common.{map}
 use Rattle.cj_stream.specs.Engine.{rules_of}
-use Rattle.cj_stream.specs.Output.{output_writer}
+use Rattle.cj_stream.specs.Output.{output_writer, output_failures}
 use Rattle.cj_stream.proofs.CutLemmas.{Copies-puts}
 use Rattle.cj_stream.proofs.HeadlineLemmas.{Copies-writes, Copies-ends, NotesPieces-gives}
 use Rattle.cj_stream.proofs.pieces.headline.Goals as goal
@@ -10,7 +10,8 @@ returns-clause-headline g c =
     let rules = rules_of c.args.engine.now in
     let pieces = map (λ piece. piece.now) c.args.pieces.now in
     let r = c.put_pieces.result in
-    let e = Copies-puts (λ s. g.W.Write.contents (output_writer s)) rules pieces r.taken c.args.sink.now c.put_pieces.new.sink r.ended c.put_pieces.ensures.puts in
+    let e = Copies-puts (λ s. g.W.Write.contents (output_writer s)) output_failures rules pieces r.taken c.args.sink.now
+    c.put_pieces.new.sink r.ended c.put_pieces.ensures.puts in
     record {
       writes = Copies-writes rules pieces r.taken _ _ r.ended e;
       gives = NotesPieces-gives g.N.ReportSink.notes rules pieces r.taken c.args.reports.now c.put_pieces.new.reports r.ended c.put_pieces.ensures.notes;
@@ -22,4 +23,6 @@ returns-clause-headline g c =
 
 pub returns-clause-copies : goal.returns-clause-copies
 returns-clause-copies g c =
-    Copies-puts (λ s. g.W.Write.contents (output_writer s)) (rules_of c.args.engine.now) (map (λ piece. piece.now) c.args.pieces.now) c.put_pieces.result.taken c.args.sink.now c.put_pieces.new.sink c.put_pieces.result.ended c.put_pieces.ensures.puts
+    Copies-puts (λ s. g.W.Write.contents (output_writer s)) output_failures (rules_of c.args.engine.now)
+    (map (λ piece. piece.now) c.args.pieces.now) c.put_pieces.result.taken c.args.sink.now c.put_pieces.new.sink
+    c.put_pieces.result.ended c.put_pieces.ensures.puts

@@ -9,7 +9,8 @@ pub returns-clause-puts : goal.returns-clause-puts
 returns-clause-puts g c =
     let e = c.feed_all.ensures in
     let pieces = map (λ piece. piece.now) c.args.pieces.now in
-    PutsPieces-runs g.S.LineSink.takes g.S.LineSink.leaves (rules_of c.args.engine.now) (map (λ piece. piece.now) c.args.pieces.now) c.feed_all.result.taken c.args.sink.now c.feed_all.new.sink _ _ _ _ c.feed_all.result.ended e.runs e.taken
+    PutsPieces-runs g.S.LineSink.law (rules_of c.args.engine.now) (map (λ piece. piece.now) c.args.pieces.now)
+    c.feed_all.result.taken c.args.sink.now c.feed_all.new.sink _ _ _ _ c.feed_all.result.ended e.runs e.taken
     (unread-at (rules_of c.args.engine.now) [] pieces c.feed_all.result.taken c.feed_all.result.ended e.fed.at)
 
 pub returns-clause-notes : goal.returns-clause-notes

@@ -24,8 +24,12 @@ returns g c =
             counts.1,
           );
       memory = λ lacks.
-          let none = c.lines.ensures ∙ c.drive-ended.ensures.memory lacks in
-          (none, memory-sink g.S.LineSink.takes g.S.LineSink.leaves _ runs.0 _ _ _ _ lacks none runs.3.sink, noted-none g.N.ReportSink.notes _ runs.0 _ _ _ lacks runs.4.noted);
+          let none = c.lines.ensures ∙ c.drive-ended.ensures.memory lacks in (
+            none,
+            memory-sink g.S.LineSink.law _ runs.0 _ _ _ _ lacks none runs.3.sink,
+            noted-none g.N.ReportSink.notes _
+                runs.0 _ _ _ lacks runs.4.noted,
+          );
     }
 
 pub returns-in-Err : goal.returns-in-Err
@@ -34,7 +38,7 @@ returns-in-Err g c = record {
     [],
     Consumes-none _,
     unread-memory _ _ (ap (λ o. o.ended) c.without_memory.ensures),
-    rw c.without_memory.ensures (Runs-memory g.S.LineSink.takes g.S.LineSink.leaves _ _ c.args.sink.now),
+    rw c.without_memory.ensures (Runs-memory g.S.LineSink.law _ _ c.args.sink.now),
     rw c.without_memory.ensures (Noting-memory g.N.ReportSink.notes _ c.args.reports.now),
     rw c.without_memory.ensures (Stops-memory _),
   );

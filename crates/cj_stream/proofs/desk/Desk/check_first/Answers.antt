@@ -1,4 +1,4 @@
-use Rattle.std.proofs.Common.{◌≡◌, sym, ap, subst, Some}
+use Rattle.std.proofs.Common.{◌≡◌, refl, sym, subst, Some}
 use Rattle.cj_spans.specs.Finding.{IsLeast}
 use Rattle.cj_spans.specs.View.{document}
 use Rattle.cj_feature.specs.Header.{header as header_findings}
@@ -18,4 +18,4 @@ returns-in-Err-clause-refused c =
     subst (λ b. IsLeast (header_findings b (document c.of-doc.result)) (Some c.in-Err.finding)) c.wants_box.ensures c.in-Err.ensures.verdict in
     let least : IsLeast (findings rules 1 t t) (Some c.in-Err.finding) =
     subst (λ u. IsLeast (header_findings (needs_box rules.criteria) u) (Some c.in-Err.finding)) (sym shown) found in
-    rw (tree-refused rules 1 t t c.in-Err.finding least) (ap Some (sym c.refused.ensures))
+    rw (tree-refused rules 1 t t c.in-Err.finding least) refl

@@ -1,4 +1,4 @@
-use Rattle.std.proofs.Common.{◌≡◌, ◌+◌, ◌∙◌, ℕ, ap, refl, subst, eqb, false, arith, Some, Err}
+use Rattle.std.proofs.Common.{◌≡◌, ◌+◌, ◌∙◌, ℕ, refl, subst, eqb, false, arith, Some}
 use Rattle.std.proofs.lemmas.Bool.Decides.{nat_tests}
 use Rattle.cj_spans.specs.Finding.{IsLeast}
 use Rattle.cj_spans.specs.View.{document}
@@ -23,4 +23,4 @@ returns-in-Err-clause-hands g c =
     subst (λ u. IsLeast (feature_findings u (document c.of-doc.result) rules.options.tree) (Some c.in-Err.finding)) header (rw c.asks_for_trees.ensures at c.in-Err.ensures.verdict) in
     let least : IsLeast (findings rules n h t) (Some c.in-Err.finding) =
     rw later (subst (λ u. IsLeast (feature_findings h u rules.options.tree) (Some c.in-Err.finding)) shown found) in
-    rw (tree-refused rules n h t c.in-Err.finding least) (ap Err c.refused.ensures, refl)
+    rw (tree-refused rules n h t c.in-Err.finding least) (refl, refl)

@@ -1,33 +1,43 @@
-use Rattle.std.proofs.Common.{◌∙◌, false, sym}
+use Rattle.std.proofs.Common.{rules, ℕ, List, ◌∙◌, false, sym}
+use Rattle.cj_stream.specs.Ending.{answer_of, line_end}
 use Rattle.cj_stream.specs.Lines.{begun}
-use Rattle.cj_stream.specs.Reading.{is_lenient}
-use Rattle.cj_stream.proofs.FinishLemmas.{ok-then, finishes-with, scanned-last, scanned-closed}
+use Rattle.cj_stream.specs.Reading.{is_lenient, Reads}
+use Rattle.cj_stream.proofs.FinishLemmas.{err-answer, ok-answer, ok-then, finishes-with, scanned-last, scanned-closed}
 use Rattle.cj_stream.proofs.NoteLemmas.{Notes-finished}
 use Rattle.cj_stream.proofs.PieceLemmas.{Settles-begun}
 use Rattle.cj_stream.proofs.ReadingLemmas.{has-begun, held-whole}
 use Rattle.cj_stream.proofs.framer.Framer.finish.Goals as goal
 
 pub returns-then-has_begun-clause-finishes : goal.returns-then-has_begun-clause-finishes
-returns-then-has_begun-clause-finishes g c = λ p reads.
+returns-then-has_begun-clause-finishes g c =
     let f = c.args.self.now.reading in
-    let some = has-begun f (begun p) reads.begun (c.has_begun.ensures.some c.if-has_begun.true) in
-    finishes-with g.S.LineSink.takes g.S.LineSink.leaves (begun p) f c.deal.new.self.reading c.args.sink.now c.deal.new.sink c.deal.result some
-    (Settles-begun g.S.LineSink.takes g.S.LineSink.leaves (is_lenient f) f c.deal.new.self.reading c.args.sink.now c.deal.new.sink (begun p) false c.deal.result reads.begun c.deal.ensures.settles)
-
-pub returns-then-has_begun-clause-scanned : goal.returns-then-has_begun-clause-scanned
-returns-then-has_begun-clause-scanned g c =
-    let f = c.args.self.now.reading in
-    ok-then _ _ c.deal.result (λ deal p reads s. scanned-last f p c.args.self.now.scanning c.deal.new.self.scanning reads (has-begun f (begun p) reads.begun (c.has_begun.ensures.some c.if-has_begun.true)) s deal) c.deal.ensures.scanned
+    let some = λ (p : List ℕ) (reads : Reads c.args.self.now.reading p). has-begun f (begun p) reads.begun
+    (c.has_begun.ensures.some c.if-has_begun.true) in
+    record {
+      answers = λ p reads. finishes-with g.S.LineSink.law (begun p) f c.deal.new.self.reading c.args.sink.now
+          c.deal.new.sink (answer_of line_end c.deal.result) (some p reads) (Settles-begun g.S.LineSink.law (is_lenient f) f
+          c.deal.new.self.reading c.args.sink.now c.deal.new.sink (begun p) false (answer_of line_end c.deal.result) reads.begun
+          c.deal.ensures.settles);
+      scanned = ok-answer line_end _ c.deal.result (ok-then _ _ c.deal.result (λ deal p reads s. scanned-last f p c.args.self.now.scanning
+          c.deal.new.self.scanning reads (some p reads) s deal) c.deal.ensures.scanned);
+      held = search rules;
+    }
 
 pub returns-then-has_begun-clause-reports : goal.returns-then-has_begun-clause-reports
 returns-then-has_begun-clause-reports g c = λ p reads.
     let f = c.args.self.now.reading in
     let some = has-begun f (begun p) reads.begun (c.has_begun.ensures.some c.if-has_begun.true) in
-    Notes-finished g.N.ReportSink.notes g.S.LineSink.takes g.S.LineSink.leaves _ _ _ f c.deal.new.self.reading c.args.sink.now c.deal.new.sink p c.args.reports.now c.deal.new.reports c.deal.result
-    reads some c.deal.ensures.settles c.deal.ensures.one c.deal.ensures.noted c.deal.ensures.silent
+    Notes-finished g.N.ReportSink.notes g.S.LineSink.law _ _ _ f c.deal.new.self.reading c.args.sink.now c.deal.new.sink
+    p c.args.reports.now c.deal.new.reports (answer_of line_end c.deal.result)
+    reads some c.deal.ensures.settles (ok-answer line_end _ c.deal.result c.deal.ensures.one) (ok-answer line_end _ c.deal.result c.deal.ensures.noted)
+    (err-answer line_end _ c.deal.result c.deal.ensures.silent)
 
-pub returns-clause-scanned : goal.returns-clause-scanned
-returns-clause-scanned g c = λ p reads s.
-    let none = c.has_begun.ensures.none c.if-has_begun.false in
-    let nothing = sym (held-whole c.args.self.now.reading (begun p) reads.begun none.1).0 ∙ none.0 in
-    scanned-closed c.args.self.now.reading.rules.limits p c.args.self.now.scanning nothing s
+pub returns-clause-finishes : goal.returns-clause-finishes
+returns-clause-finishes g c = record {
+  answers = search rules;
+  scanned = λ p reads s.
+      let none = c.has_begun.ensures.none c.if-has_begun.false in
+      let nothing = sym (held-whole c.args.self.now.reading (begun p) reads.begun none.1).0 ∙ none.0 in
+      scanned-closed c.args.self.now.reading.rules.limits p c.args.self.now.scanning nothing s;
+  held = search rules;
+}

@@ -1,20 +1,25 @@
-use Rattle.std.proofs.Common.{false}
+use Rattle.std.proofs.Common.{List, ℕ, rules, false}
+use Rattle.cj_stream.specs.Ending.{answer_of, header_end}
 use Rattle.cj_stream.specs.Lines.{begun}
-use Rattle.cj_stream.specs.Reading.{is_lenient}
-use Rattle.cj_stream.proofs.FinishLemmas.{ok-then, finishes-with, scanned-last}
+use Rattle.cj_stream.specs.Reading.{is_lenient, Reads}
+use Rattle.cj_stream.proofs.FinishLemmas.{ok-answer, ok-then, finishes-with, scanned-last}
 use Rattle.cj_stream.proofs.PieceLemmas.{Settles-begun, Settles-first}
 use Rattle.cj_stream.proofs.ReadingLemmas.{has-begun}
 use Rattle.cj_stream.proofs.framer.Framer.finish_first.Goals as goal
 
 pub returns-then-has_begun-clause-finishes : goal.returns-then-has_begun-clause-finishes
-returns-then-has_begun-clause-finishes g c = λ p reads.
+returns-then-has_begun-clause-finishes g c =
     let f = c.args.self.now.reading in
-    let some = has-begun f (begun p) reads.begun (c.has_begun.ensures.some c.if-has_begun.true) in
-    let settles = Settles-first g.S.LineSink.takes g.S.LineSink.leaves f c.settle_first.new.self.reading c.args.sink.now c.settle_first.new.sink _ _ c.settle_first.result c.requires.first c.settle_first.ensures.settles in
-    finishes-with g.S.LineSink.takes g.S.LineSink.leaves (begun p) f c.settle_first.new.self.reading c.args.sink.now c.settle_first.new.sink c.settle_first.result some
-    (Settles-begun g.S.LineSink.takes g.S.LineSink.leaves (is_lenient f) f c.settle_first.new.self.reading c.args.sink.now c.settle_first.new.sink (begun p) false c.settle_first.result reads.begun settles)
-
-pub returns-then-has_begun-clause-scanned : goal.returns-then-has_begun-clause-scanned
-returns-then-has_begun-clause-scanned g c =
-    let f = c.args.self.now.reading in
-    ok-then _ _ c.settle_first.result (λ settled p reads s. scanned-last f p c.args.self.now.scanning c.settle_first.new.self.scanning reads (has-begun f (begun p) reads.begun (c.has_begun.ensures.some c.if-has_begun.true)) s settled) c.settle_first.ensures.scanned
+    let some = λ (p : List ℕ) (reads : Reads c.args.self.now.reading p). has-begun f (begun p) reads.begun
+    (c.has_begun.ensures.some c.if-has_begun.true) in
+    let settles = Settles-first g.S.LineSink.law f c.settle_first.new.self.reading c.args.sink.now
+    c.settle_first.new.sink _ _ (answer_of header_end c.settle_first.result) c.requires.first c.settle_first.ensures.settles in
+    record {
+      answers = λ p reads. finishes-with g.S.LineSink.law (begun p) f c.settle_first.new.self.reading
+          c.args.sink.now c.settle_first.new.sink (answer_of header_end c.settle_first.result) (some p reads)
+          (Settles-begun g.S.LineSink.law (is_lenient f) f c.settle_first.new.self.reading c.args.sink.now
+          c.settle_first.new.sink (begun p) false (answer_of header_end c.settle_first.result) reads.begun settles);
+      scanned = ok-answer header_end _ c.settle_first.result (ok-then _ _ c.settle_first.result (λ settled p reads s. scanned-last f p c.args.self.now.scanning
+          c.settle_first.new.self.scanning reads (some p reads) s settled) c.settle_first.ensures.scanned);
+      held = search rules;
+    }

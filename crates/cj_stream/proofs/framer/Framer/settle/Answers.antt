@@ -1,9 +1,11 @@
 use Rattle.std.proofs.Common.{rules, inl, true, false, ◌≡◌, ◌+◌, ◌<◌, ◌∙◌, ap, refl, sym, subst, arith}
+use Rattle.cj_stream.specs.Ending.{answer_of, line_end}
 use Rattle.cj_stream.specs.declared.judge.Content.TheVariants.{BlankLine, Sound}
 use Rattle.cj_stream.specs.Item.{tree_of}
-use Rattle.cj_stream.specs.Reading.{Reading, begun_of, held_header, next_item, Settles}
+use Rattle.cj_stream.specs.Reading.{Reading, begun_of, held_header, Settles, judged_next}
 use Rattle.cj_stream.specs.Scanning.{Forgets, IsStill}
 use Rattle.cj_stream.specs.Verdict.{verdict_at, tree_verdict, Blank}
+use Rattle.cj_stream.specs.Sink.{with_sink}
 use Rattle.cj_stream.proofs.BlankLemmas.{blank-tree}
 use Rattle.cj_stream.proofs.FinishLemmas.{ok-then, err-then}
 use Rattle.cj_stream.proofs.ReadingLemmas.{dropped-long}
@@ -56,22 +58,25 @@ returns-in-BlankLine-clause-carries g c =
       framed = search rules;
       counts = search rules;
       cause = search rules;
-      first = search rules;
       memory = search rules;
       late = search rules;
     }
 
 pub returns-in-Sound-clause-carries : goal.returns-in-Sound-clause-carries
 returns-in-Sound-clause-carries g c =
-    let settles = subst (λ (x : Reading). Settles g.S.LineSink.takes g.S.LineSink.leaves false (tree_verdict x.rules (x.lines + 1) (held_header x) (tree_of x.rules.limits.depth (begun_of x)))
-    (next_item x (record { content = begun_of x; lf = c.args.lf })) x c.args.sink.now c.put_feature.result c.put_feature.new.self.reading c.put_feature.new.sink) c.judge.ensures.reading (inl c.put_feature.ensures.deals) in
+    let settles = subst (λ (x : Reading). Settles g.S.LineSink.law (judged_next x false (tree_verdict x.rules
+    (x.lines + 1) (held_header x) (tree_of x.rules.limits.depth (begun_of x)))
+    (record { content = begun_of x; lf = c.args.lf })) (with_sink x c.args.sink.now)
+    (answer_of line_end c.put_feature.result)
+    (with_sink c.put_feature.new.self.reading c.put_feature.new.sink)) c.judge.ensures.reading
+    (inl c.put_feature.ensures.deals) in
     record {
-      stays = Stays-settled g.S.LineSink.takes g.S.LineSink.leaves _ c.args.self.now.reading c.put_feature.new.self.reading c.args.sink.now c.put_feature.new.sink false _ c.put_feature.result settles;
+      stays = Stays-settled g.S.LineSink.law _ c.args.self.now.reading c.put_feature.new.self.reading c.args.sink.now
+          c.put_feature.new.sink false _ (answer_of line_end c.put_feature.result) settles;
       rises = search rules;
       framed = search rules;
       counts = search rules;
       cause = search rules;
-      first = search rules;
       memory = search rules;
       late = search rules;
     }

@@ -1,25 +1,26 @@
-use Rattle.std.proofs.Common.{◌≡◌, ◌++◌, ◌+◌, ◌∙◌, length, take, drop, refl, sym, subst, arith}
+use Rattle.std.proofs.Common.{◌≡◌, ◌+◌, ◌∙◌, length, take, drop, refl, sym, subst, arith}
 use Rattle.std.proofs.lemmas.Result.{err_from_is_err_and}
 use Rattle.std.proofs.lemmas.List.{take_all}
-use Rattle.cj_stream.specs.Lines.{closed, first_content}
-use Rattle.cj_stream.specs.Reading.{Advances, Stops}
-use Rattle.cj_stream.specs.Scanning.{Scanned, HoldsFew}
+use Rattle.cj_stream.specs.Ending.{header_end}
+use Rattle.cj_stream.specs.Lines.{closed}
+use Rattle.cj_stream.specs.Sink.{with_sink}
 use Rattle.cj_stream.proofs.PieceSlices.{lf_found, lf_front, NoLf-before, NoLf-not_found}
 use Rattle.cj_stream.proofs.PieceLemmas.{Stops-unstored_last, Advances-stored}
 use Rattle.cj_stream.proofs.ScanningLemmas.{Rises-same, few-scanned, first-closed, scanned-begun}
 use Rattle.cj_stream.proofs.LeastLemmas.{held-now}
+use Rattle.cj_stream.specs.Carrying.{TakesAll, TakesSome}
 use Rattle.cj_stream.proofs.framer.Framer.take_front.Goals as goal
 
 pub returns-in_err-store_first-clause-err : goal.returns-in_err-store_first-clause-err
 returns-in_err-store_first-clause-err g c =
     let p = err_from_is_err_and c.from_residual.result c.from_residual.ensures.1 in
-    rw (p.1, p.2) (λ q reads. rw c.in_err-store_first.ensures.err (Stops-unstored_last g.S.LineSink.takes g.S.LineSink.leaves c.args.self.now.reading c.args.sink.now q c.args.piece.now _ reads
-    (NoLf-not_found c.args.piece.now c.memchr.result c.memchr.ensures c.in_default.not-Some) c.in_err-store_first.ensures.cause))
-
-pub returns-in_err-store_first-clause-held : goal.returns-in_err-store_first-clause-held
-returns-in_err-store_first-clause-held g c =
-    let p = err_from_is_err_and c.from_residual.result c.from_residual.ensures.1 in
-    rw p.1 (λ q reads s. rw c.in_err-store_first.ensures.err (few-scanned c.args.self.now.reading.rules.limits (closed q) c.args.self.now.scanning _ s (first-closed q c.args.piece.now)))
+    let f = c.args.self.now.reading in
+    let none = NoLf-not_found c.args.piece.now c.memchr.result c.memchr.ensures c.in_default.not-Some in
+    rw (p.1, p.2) (record {
+      stops = λ q reads. rw c.in_err-store_first.ensures.err (Stops-unstored_last g.S.LineSink.law reads none c.in_err-store_first.ensures.cause);
+      held = λ q reads s. rw c.in_err-store_first.ensures.err (few-scanned f.rules.limits (closed q)
+          c.args.self.now.scanning _ s (first-closed q c.args.piece.now));
+    })
 
 pub returns-in_default-clause-front : goal.returns-in_default-clause-front
 returns-in_default-clause-front g c = record {
@@ -29,18 +30,18 @@ returns-in_default-clause-front g c = record {
 }
 
 pub returns-in_default-clause-ok : goal.returns-in_default-clause-ok
-returns-in_default-clause-ok g c = λ q reads.
-    let all : take (length c.args.piece.now) c.args.piece.now ≡ c.args.piece.now = take_all (length c.args.piece.now) c.args.piece.now (omega arith) in
-    subst (λ z. Advances g.S.LineSink.takes c.args.self.now.reading c.args.sink.now q z c.store_first.new.self.reading c.args.sink.now) (sym all)
-    (Advances-stored g.S.LineSink.takes g.S.LineSink.leaves c.args.self.now.reading c.store_first.new.self.reading c.args.sink.now q c.args.piece.now reads
-    (NoLf-not_found c.args.piece.now c.memchr.result c.memchr.ensures c.in_default.not-Some) c.in_ok-store_first.ensures.ok)
-
-pub returns-in_default-clause-scanned : goal.returns-in_default-clause-scanned
-returns-in_default-clause-scanned g c = λ q reads s.
-    let all : take (length c.args.piece.now) c.args.piece.now ≡ c.args.piece.now = take_all (length c.args.piece.now) c.args.piece.now (omega arith) in
-    subst (λ z. Scanned c.args.self.now.reading.rules.limits (closed (q ++ z)) c.store_first.new.self.scanning) (sym all)
-    (scanned-begun c.args.self.now.reading.rules.limits q c.args.piece.now c.args.self.now.scanning c.store_first.new.self.scanning
-    (NoLf-not_found c.args.piece.now c.memchr.result c.memchr.ensures c.in_default.not-Some) c.store_first.ensures.lists s)
+returns-in_default-clause-ok g c =
+    let f = c.args.self.now.reading in
+    let piece = c.args.piece.now in
+    let none = NoLf-not_found piece c.memchr.result c.memchr.ensures c.in_default.not-Some in
+    let all : take (length c.args.piece.now) c.args.piece.now ≡ c.args.piece.now = take_all (length piece) piece (omega arith) in
+    subst (λ z. TakesAll g.S.LineSink.law z (with_sink c.args.self.now c.args.sink.now)
+    (with_sink c.store_first.new.self c.args.sink.now)) (sym all) (record {
+      advances = λ q reads. Advances-stored g.S.LineSink.law
+          reads none c.in_ok-store_first.ensures.ok;
+      scanned = λ q reads s. scanned-begun f.rules.limits q piece c.args.self.now.scanning
+          c.store_first.new.self.scanning none c.store_first.ensures.lists s;
+    })
 
 pub take_first-requires-clause-one : goal.take_first-requires-clause-one
 take_first-requires-clause-one g c = NoLf-before c.args.piece.now c.in-Some.at c.in-Some.ensures
@@ -48,16 +49,10 @@ take_first-requires-clause-one g c = NoLf-before c.args.piece.now c.in-Some.at c
 pub returns-in_err-take_first-clause-err : goal.returns-in_err-take_first-clause-err
 returns-in_err-take_first-clause-err g c =
     let p = err_from_is_err_and c.from_residual-in_err-take_first.result c.from_residual-in_err-take_first.ensures.1 in
-    rw (p.1, p.2) (λ q reads.
-    subst (λ z. Stops g.S.LineSink.takes g.S.LineSink.leaves c.args.self.now.reading c.args.sink.now q z c.in_err-take_first.field-0.0 c.take_first.new.self.reading c.take_first.new.sink)
-    (sym (lf_found c.args.piece.now c.in-Some.at c.in-Some.ensures)) (c.in_err-take_first.ensures.err q (drop (c.in-Some.at + 1) c.args.piece.now) reads))
-
-pub returns-in_err-take_first-clause-held : goal.returns-in_err-take_first-clause-held
-returns-in_err-take_first-clause-held g c =
-    let p = err_from_is_err_and c.from_residual-in_err-take_first.result c.from_residual-in_err-take_first.ensures.1 in
-    rw p.1 (λ q reads s.
-    subst (λ z. HoldsFew c.args.self.now.reading.rules.limits (length (first_content (q ++ z))) c.take_first.new.self.scanning)
-    (sym (lf_found c.args.piece.now c.in-Some.at c.in-Some.ensures)) (c.in_err-take_first.ensures.held q (drop (c.in-Some.at + 1) c.args.piece.now) reads s))
+    rw (p.1, p.2) (subst (λ z. TakesSome g.S.LineSink.law z (with_sink c.args.self.now c.args.sink.now)
+    (header_end c.in_err-take_first.field-0.0) (with_sink c.take_first.new.self c.take_first.new.sink))
+    (sym (lf_found c.args.piece.now c.in-Some.at c.in-Some.ensures))
+    (c.in_err-take_first.ensures.err (drop (c.in-Some.at + 1) c.args.piece.now)))
 
 pub returns-in_err-store_first-clause-least : goal.returns-in_err-store_first-clause-least
 returns-in_err-store_first-clause-least g c =
@@ -77,11 +72,7 @@ returns-clause-front g c = record {
 }
 
 pub returns-clause-ok : goal.returns-clause-ok
-returns-clause-ok g c = λ q reads.
-    subst (λ z. Advances g.S.LineSink.takes c.args.self.now.reading c.args.sink.now q z c.take_first.new.self.reading c.take_first.new.sink)
-    (sym (lf_front c.args.piece.now c.in-Some.at c.in-Some.ensures)) (c.in_ok-take_first.ensures.ok q reads)
-
-pub returns-clause-scanned : goal.returns-clause-scanned
-returns-clause-scanned g c = λ q reads s.
-    subst (λ z. Scanned c.args.self.now.reading.rules.limits (closed (q ++ z)) c.take_first.new.self.scanning)
-    (sym (lf_front c.args.piece.now c.in-Some.at c.in-Some.ensures)) (c.in_ok-take_first.ensures.scanned q reads s)
+returns-clause-ok g c =
+    subst (λ z. TakesAll g.S.LineSink.law z (with_sink c.args.self.now c.args.sink.now)
+    (with_sink c.take_first.new.self c.take_first.new.sink))
+    (sym (lf_front c.args.piece.now c.in-Some.at c.in-Some.ensures)) c.in_ok-take_first.ensures.ok

@@ -17,12 +17,23 @@ pub returns-in_err-take_line-clause-err : goal.returns-in_err-take_line-clause-e
 returns-in_err-take_line-clause-err g c =
     let p = err_from_is_err_and c.from_residual.result c.from_residual.ensures.1 in
     let i = c.loop-at.invariant.read in
-    rw (p.1, p.2) (λ q reads.
-    let a = i.2 q reads in
     let rest = c.loop-at.rest.now in
-    let s = c.in_err-take_line.ensures.err (q ++ i.0) (drop (c.in-Some.at + 1) rest) a.reads in
-    rw (i.1) (Stops-later g.S.LineSink.takes g.S.LineSink.leaves c.args.self.now.reading c.loop-at.self.reading c.take_line.new.self.reading c.args.sink.now c.loop-at.sink c.take_line.new.sink q i.0 rest _ a
-    (rw (lf_found rest c.in-Some.at c.in-Some.ensures) s)))
+    let limits = c.args.self.now.reading.rules.limits in
+    let same = ap (λ x. x.limits) c.loop-at.invariant.stays.rules in
+    let found = lf_found rest c.in-Some.at c.in-Some.ensures in
+    let stopped = c.in_err-take_line.ensures.err (drop (c.in-Some.at + 1) rest) in
+    rw (p.1, p.2) (record {
+      stops = λ q reads.
+          let a = i.2.advances q reads in
+          rw i.1 (Stops-later g.S.LineSink.law a
+          (rw found (stopped.stops (q ++ i.0) a.reads)));
+      held = λ q reads s.
+          let a = i.2.advances q reads in
+          let held = stopped.held (q ++ i.0) a.reads (scanned-under limits c.loop-at.self.reading.rules.limits
+          (closed (q ++ i.0)) c.loop-at.self.scanning same (i.2.scanned q reads s)) in
+          rw i.1 (few-then limits c.loop-at.self.reading.rules.limits q i.0 rest c.take_line.new.self.scanning same
+          (rw found held));
+    })
 
 pub loop-at-preserved : goal.loop-at-preserved
 loop-at-preserved g c =
@@ -34,7 +45,7 @@ loop-at-preserved g c =
     record {
       stays = Stays-then _ _ _ c.loop-at.invariant.stays c.take_line.ensures.carries.stays;
       rises = Rises-then _ _ _ c.loop-at.invariant.rises c.take_line.ensures.carries.rises;
-      ready = (c.take_line.ensures.carries.late (omega (arith, c.requires.later, c.loop-at.invariant.grows))).0;
+      ready = c.take_line.ensures.carries.late (omega (arith, c.requires.later, c.loop-at.invariant.grows));
       few = omega (arith, left_length rest k c.in-Some.ensures, c.take_line.ensures.few, c.loop-at.invariant.few);
       grows = omega (arith, c.loop-at.invariant.grows, c.take_line.ensures.grows);
       counts = omega (arith, c.take_line.ensures.carries.counts, c.loop-at.invariant.counts);
@@ -42,39 +53,58 @@ loop-at-preserved g c =
       read = (
         i.0 ++ (take k rest ++ 10 ∷ []),
         piece_more c.args.piece.now i.0 rest k i.1 c.in-Some.ensures,
-        λ q reads.
-            let a = i.2 q reads in
-            Advances-then g.S.LineSink.takes g.S.LineSink.leaves c.args.self.now.reading c.loop-at.self.reading c.take_line.new.self.reading c.args.sink.now c.loop-at.sink c.take_line.new.sink q i.0 (take k rest ++ 10 ∷ []) a
-            (c.in_ok-take_line.ensures.ok (q ++ i.0) a.reads),
-        λ q reads s.
-            let a = i.2 q reads in
-            scanned-then limits c.loop-at.self.reading.rules.limits q i.0 (take k rest ++ 10 ∷ []) c.take_line.new.self.scanning same
-            (c.in_ok-take_line.ensures.scanned (q ++ i.0) a.reads (scanned-under limits c.loop-at.self.reading.rules.limits (closed (q ++ i.0)) c.loop-at.self.scanning same (i.3 q reads s))),
+        record {
+          advances = λ q reads.
+              let a = i.2.advances q reads in
+              Advances-then g.S.LineSink.law a (c.in_ok-take_line.ensures.ok.advances (q ++ i.0) a.reads);
+          scanned = λ q reads s.
+              let a = i.2.advances q reads in
+              scanned-then limits c.loop-at.self.reading.rules.limits q i.0 (take k rest ++ 10 ∷ [])
+              c.take_line.new.self.scanning same (c.in_ok-take_line.ensures.ok.scanned (q ++ i.0) a.reads
+              (scanned-under limits c.loop-at.self.reading.rules.limits (closed (q ++ i.0)) c.loop-at.self.scanning same
+              (i.2.scanned q reads s)));
+        },
       );
       reports = λ q reads.
           let text : (q ++ i.0) ++ (take k c.loop-at.rest.now ++ 10 ∷ drop (k + 1) c.loop-at.rest.now) ≡ q ++ c.args.piece.now =
           append_assoc q i.0 (take k c.loop-at.rest.now ++ 10 ∷ drop (k + 1) c.loop-at.rest.now) ∙ ap (λ z. q ++ z) (ap (λ z. i.0 ++ z) (sym (lf_found rest k c.in-Some.ensures)) ∙ sym i.1) in
-          let now = rw (text, c.loop-at.invariant.stays.rules) at (c.take_line.ensures.reports (q ++ i.0) (drop (k + 1) rest) (i.2 q reads).reads) in
-          Notes-then g.N.ReportSink.notes c.args.self.now.reading.rules (q ++ c.args.piece.now) _ _ _ _ _ _ (c.loop-at.invariant.reports q reads) now;
+          let now = rw (text, c.loop-at.invariant.stays.rules) at (c.take_line.ensures.reports (q ++ i.0) (drop (k + 1) rest) (i.2.advances q reads).reads) in
+          Notes-then g.N.ReportSink.notes c.args.self.now.reading.rules (c.loop-at.invariant.reports q reads) now;
     }
 
 pub returns-in_err-store-clause-err : goal.returns-in_err-store-clause-err
 returns-in_err-store-clause-err g c =
     let p = err_from_is_err_and c.from_residual-in_err-store.result c.from_residual-in_err-store.ensures.1 in
     let i = c.loop-at.invariant.read in
-    rw (p.1, p.2) (λ q reads.
-    let a = i.2 q reads in
     let rest = c.loop-at.rest.now in
-    rw (i.1, c.in_err-store.ensures.err) (Stops-later g.S.LineSink.takes g.S.LineSink.leaves c.args.self.now.reading c.loop-at.self.reading c.loop-at.self.reading c.args.sink.now c.loop-at.sink c.loop-at.sink q i.0 rest _ a
-    (Stops-unstored_last g.S.LineSink.takes g.S.LineSink.leaves c.loop-at.self.reading c.loop-at.sink (q ++ i.0) rest _ a.reads (NoLf-not_found rest c.memchr.result c.memchr.ensures c.in_default.not-Some) c.in_err-store.ensures.cause)))
+    let limits = c.args.self.now.reading.rules.limits in
+    let none = NoLf-not_found rest c.memchr.result c.memchr.ensures c.in_default.not-Some in
+    rw (p.1, p.2) (record {
+      stops = λ q reads.
+          let a = i.2.advances q reads in
+          rw (i.1, c.in_err-store.ensures.err) (Stops-later g.S.LineSink.law a
+          (Stops-unstored_last g.S.LineSink.law a.reads none
+          c.in_err-store.ensures.cause));
+      held = λ q reads s. rw (i.1, c.in_err-store.ensures.err) (few-then limits limits q i.0 rest
+          c.loop-at.self.scanning refl (few-scanned limits (closed (q ++ i.0)) c.loop-at.self.scanning _
+          (i.2.scanned q reads s) (first-closed (q ++ i.0) rest)));
+    })
 
 pub returns-clause-ok : goal.returns-clause-ok
-returns-clause-ok g c = λ q reads.
+returns-clause-ok g c =
     let i = c.loop-at.invariant.read in
-    let a = i.2 q reads in
     let rest = c.loop-at.rest.now in
-    rw i.1 (Advances-then g.S.LineSink.takes g.S.LineSink.leaves c.args.self.now.reading c.loop-at.self.reading c.store.new.self.reading c.args.sink.now c.loop-at.sink c.loop-at.sink q i.0 rest a
-    (Advances-stored g.S.LineSink.takes g.S.LineSink.leaves c.loop-at.self.reading c.store.new.self.reading c.loop-at.sink (q ++ i.0) rest a.reads (NoLf-not_found rest c.memchr.result c.memchr.ensures c.in_default.not-Some) c.in_ok-store.ensures.ok))
+    let limits = c.args.self.now.reading.rules.limits in
+    let none = NoLf-not_found rest c.memchr.result c.memchr.ensures c.in_default.not-Some in
+    record {
+      advances = λ q reads.
+          let a = i.2.advances q reads in
+          rw i.1 (Advances-then g.S.LineSink.law a
+          (Advances-stored g.S.LineSink.law a.reads none c.in_ok-store.ensures.ok));
+      scanned = λ q reads s. rw i.1 (scanned-then limits limits q i.0 rest c.store.new.self.scanning refl
+          (scanned-begun limits (q ++ i.0) rest c.loop-at.self.scanning c.store.new.self.scanning none
+          c.store.ensures.lists (i.2.scanned q reads s)));
+    }
 
 pub loop-at-init : goal.loop-at-init
 loop-at-init g c = record {
@@ -88,33 +118,13 @@ loop-at-init g c = record {
   read = (
     [],
     refl,
-    λ q reads. Advances-none g.S.LineSink.takes g.S.LineSink.leaves c.args.self.now.reading c.args.sink.now q reads,
-    λ q reads s. rw (append-nil q) s,
+    record {
+      advances = λ q reads. Advances-none g.S.LineSink.law reads;
+      scanned = λ q reads s. rw (append-nil q) s;
+    },
   );
   reports = λ q reads. Notes-none g.N.ReportSink.notes c.args.self.now.reading.rules (q ++ c.args.piece.now) _ _ _ _ refl refl;
 }
-
-pub returns-in_err-take_line-clause-held : goal.returns-in_err-take_line-clause-held
-returns-in_err-take_line-clause-held g c =
-    let p = err_from_is_err_and c.from_residual.result c.from_residual.ensures.1 in
-    let i = c.loop-at.invariant.read in
-    rw p.1 (λ q reads s.
-    let a = i.2 q reads in
-    let rest = c.loop-at.rest.now in
-    let limits = c.args.self.now.reading.rules.limits in
-    let same = ap (λ x. x.limits) c.loop-at.invariant.stays.rules in
-    let held = c.in_err-take_line.ensures.held (q ++ i.0) (drop (c.in-Some.at + 1) rest) a.reads (scanned-under limits c.loop-at.self.reading.rules.limits (closed (q ++ i.0)) c.loop-at.self.scanning same (i.3 q reads s)) in
-    rw i.1 (few-then limits c.loop-at.self.reading.rules.limits q i.0 rest c.take_line.new.self.scanning same (rw (lf_found rest c.in-Some.at c.in-Some.ensures) held)))
-
-pub returns-in_err-store-clause-held : goal.returns-in_err-store-clause-held
-returns-in_err-store-clause-held g c =
-    let p = err_from_is_err_and c.from_residual-in_err-store.result c.from_residual-in_err-store.ensures.1 in
-    let i = c.loop-at.invariant.read in
-    rw p.1 (λ q reads s.
-    let rest = c.loop-at.rest.now in
-    let limits = c.args.self.now.reading.rules.limits in
-    rw (i.1, c.in_err-store.ensures.err) (few-then limits limits q i.0 rest c.loop-at.self.scanning refl
-    (few-scanned limits (closed (q ++ i.0)) c.loop-at.self.scanning _ (i.3 q reads s) (first-closed (q ++ i.0) rest))))
 
 pub returns-in_err-take_line-clause-least : goal.returns-in_err-take_line-clause-least
 returns-in_err-take_line-clause-least g c =
@@ -122,8 +132,8 @@ returns-in_err-take_line-clause-least g c =
     let i = c.loop-at.invariant.read in
     rw p.1 (λ q reads s.
     let limits = c.args.self.now.reading.rules.limits in
-    let count = c.in_err-take_line.ensures.undealt ∙ (i.2 q reads).reads.lines in
-    rw i.1 (held-until limits q i.0 c.loop-at.rest.now _ c.loop-at.self.scanning c.take_line.new.self.scanning count (i.3 q reads s) c.take_line.ensures.carries.rises))
+    let count = c.in_err-take_line.ensures.undealt ∙ (i.2.advances q reads).reads.lines in
+    rw i.1 (held-until limits q i.0 c.loop-at.rest.now _ c.loop-at.self.scanning c.take_line.new.self.scanning count (i.2.scanned q reads s) c.take_line.ensures.carries.rises))
 
 pub returns-in_err-store-clause-least : goal.returns-in_err-store-clause-least
 returns-in_err-store-clause-least g c =
@@ -131,15 +141,7 @@ returns-in_err-store-clause-least g c =
     let i = c.loop-at.invariant.read in
     rw p.1 (λ q reads s.
     let limits = c.args.self.now.reading.rules.limits in
-    rw (i.1, c.in_err-store.ensures.err) (held-until limits q i.0 c.loop-at.rest.now _ c.loop-at.self.scanning c.loop-at.self.scanning (i.2 q reads).reads.lines (i.3 q reads s) (Rises-same _ _ refl)))
-
-pub returns-clause-scanned : goal.returns-clause-scanned
-returns-clause-scanned g c = λ q reads s.
-    let i = c.loop-at.invariant.read in
-    let rest = c.loop-at.rest.now in
-    let limits = c.args.self.now.reading.rules.limits in
-    rw i.1 (scanned-then limits limits q i.0 rest c.store.new.self.scanning refl
-    (scanned-begun limits (q ++ i.0) rest c.loop-at.self.scanning c.store.new.self.scanning (NoLf-not_found rest c.memchr.result c.memchr.ensures c.in_default.not-Some) c.store.ensures.lists (i.3 q reads s)))
+    rw (i.1, c.in_err-store.ensures.err) (held-until limits q i.0 c.loop-at.rest.now _ c.loop-at.self.scanning c.loop-at.self.scanning (i.2.advances q reads).reads.lines (i.2.scanned q reads s) (Rises-same _ _ refl)))
 
 pub returns-in_err-take_line-clause-reports : goal.returns-in_err-take_line-clause-reports
 returns-in_err-take_line-clause-reports g c = λ q reads.
@@ -148,8 +150,8 @@ returns-in_err-take_line-clause-reports g c = λ q reads.
     let k = c.in-Some.at in
     let text : (q ++ i.0) ++ (take k c.loop-at.rest.now ++ 10 ∷ drop (k + 1) c.loop-at.rest.now) ≡ q ++ c.args.piece.now =
     append_assoc q i.0 (take k c.loop-at.rest.now ++ 10 ∷ drop (k + 1) c.loop-at.rest.now) ∙ ap (λ z. q ++ z) (ap (λ z. i.0 ++ z) (sym (lf_found rest k c.in-Some.ensures)) ∙ sym i.1) in
-    let now = rw (text, c.loop-at.invariant.stays.rules) at (c.take_line.ensures.reports (q ++ i.0) (drop (k + 1) rest) (i.2 q reads).reads) in
-    Notes-then g.N.ReportSink.notes c.args.self.now.reading.rules (q ++ c.args.piece.now) _ _ _ _ _ _ (c.loop-at.invariant.reports q reads) now
+    let now = rw (text, c.loop-at.invariant.stays.rules) at (c.take_line.ensures.reports (q ++ i.0) (drop (k + 1) rest) (i.2.advances q reads).reads) in
+    Notes-then g.N.ReportSink.notes c.args.self.now.reading.rules (c.loop-at.invariant.reports q reads) now
 
 pub returns-in_err-store-clause-reports : goal.returns-in_err-store-clause-reports
 returns-in_err-store-clause-reports g c = λ q reads. rw c.in_err-store.ensures.err (c.loop-at.invariant.reports q reads)

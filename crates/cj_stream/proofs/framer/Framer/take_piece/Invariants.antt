@@ -1,8 +1,10 @@
 use Rattle.std.proofs.Common.{◌≡◌, ◌+◌, ◌≤◌, ◌++◌, ℕ, List, length}
-use Rattle.cj_stream.specs.Lines.{closed}
-use Rattle.cj_stream.specs.Reading.{Reads, Stays, Advances}
+use Rattle.cj_stream.specs.Carrying.{TakesAll}
+use Rattle.cj_stream.specs.Reading.{Reads, Stays}
 use Rattle.cj_stream.specs.ReportSink.{Notes}
-use Rattle.cj_stream.specs.Scanning.{Scanned, IsReady, Rises}
+use Rattle.cj_stream.specs.Scanning.{IsReady, Rises}
+use Rattle.cj_stream.specs.Sink.{with_sink}
+use Rattle.cj_stream.specs.Verdict.{stretch}
 use Rattle.cj_stream.proofs.framer.Framer.take_piece.Given as goal
 
 abbrev pub invariant-loop-at : goal.invariant-loop-at
@@ -12,11 +14,13 @@ invariant-loop-at g l = record {
   ready : IsReady l.self.reading l.self.scanning;
   few : l.self.reading.lines + length l.rest ≤ l.initial.self.reading.lines + length l.piece;
   grows : l.initial.self.reading.lines ≤ l.self.reading.lines;
-  counts : g.S.LineSink.failures l.initial.sink ≤ g.S.LineSink.failures l.sink;
+  counts : g.S.LineSink.law.failures l.initial.sink ≤ g.S.LineSink.law.failures l.sink;
   failed_growths : l.self.reading.lines ≡ 0 → (l.self.reading.line.failed_growths ≡ l.initial.self.reading.line.failed_growths) × (l.self.scanning.line.failed_growths ≡ l.initial.self.scanning.line.failed_growths);
-  read : (done : List ℕ) × (l.piece ≡ done ++ l.rest) × ((p : List ℕ) → Reads l.initial.self.reading p → Advances g.S.LineSink.takes l.initial.self.reading l.initial.sink p done l.self.reading l.sink)
-      × ((p : List ℕ) → Reads l.initial.self.reading p → Scanned l.initial.self.reading.rules.limits (closed p) l.initial.self.scanning → Scanned l.initial.self.reading.rules.limits (closed (p ++ done)) l.self.scanning);
-  reports : (p : List ℕ) → Reads l.initial.self.reading p → Notes g.N.ReportSink.notes l.initial.self.reading.rules (p ++ l.piece) l.initial.self.reading.lines l.self.reading.lines l.initial.reports l.reports;
+  read : (done : List ℕ) × (l.piece ≡ done ++ l.rest)
+      × TakesAll g.S.LineSink.law done (with_sink l.initial.self l.initial.sink) (with_sink l.self l.sink);
+  reports : (p : List ℕ) → Reads l.initial.self.reading p → Notes g.N.ReportSink.notes
+      (stretch l.initial.self.reading.rules (p ++ l.piece) l.initial.self.reading.lines l.self.reading.lines)
+      l.initial.reports l.reports;
 }
 
 abbrev pub decreases-loop-at : goal.decreases-loop-at
