@@ -443,7 +443,8 @@ impl<'q> Framer<'q> {
         ensures carries { Carries S.law (with_sink self.old sink.old) result (with_sink self.new sink.new) }
         ensures one { OnOk result (self.new.reading.lines ≡ self.old.reading.lines + 1) }
         ensures grows { self.old.reading.lines ≤ self.new.reading.lines }
-        ensures settles { Settles S.law (judged_begun self.old.reading (is_lenient self.old.reading) (told_verdict self.old.reading) lf)
+        ensures settles { Settles S.law
+            (judged_begun self.old.reading (is_lenient self.old.reading) (told_verdict self.old.reading) lf)
             (with_sink self.old.reading sink.old) result (with_sink self.new.reading sink.new) }
         ensures scanned { OnOk result (ScansNext self.old.reading self.old.scanning self.new.scanning) }
         ensures few { HoldsFewNext self.old.reading self.old.scanning self.new.scanning }
@@ -484,7 +485,8 @@ impl<'q> Framer<'q> {
         ensures ok { OnOk result (TakesAll S.law (part.now ++ newline ∷ []) (with_sink self.old sink.old)
             (with_sink self.new sink.new)) }
         ensures err { IfErr result (λ e. (more : List ℕ)
-            → TakesSome S.law (part.now ++ newline ∷ more) (with_sink self.old sink.old) e (with_sink self.new sink.new)) }
+            → TakesSome S.law (part.now ++ newline ∷ more) (with_sink self.old sink.old) e
+            (with_sink self.new sink.new)) }
         ensures ready { OnOk result (IsReady self.new.reading self.new.scanning) }
         ensures undealt { OnErr result (self.new.reading.lines ≡ self.old.reading.lines) }
     {
@@ -511,7 +513,8 @@ impl<'q> Framer<'q> {
         ensures ok { OnOk result (TakesAll S.law (part.now ++ newline ∷ []) (with_sink self.old sink.old)
             (with_sink self.new sink.new)) }
         ensures err { IfErr result (λ e. (more : List ℕ)
-            → TakesSome S.law (part.now ++ newline ∷ more) (with_sink self.old sink.old) e (with_sink self.new sink.new)) }
+            → TakesSome S.law (part.now ++ newline ∷ more) (with_sink self.old sink.old) e
+            (with_sink self.new sink.new)) }
         ensures undealt { OnErr result (self.new.reading.lines ≡ self.old.reading.lines) }
         ensures reports { (p more : List ℕ) → Reads self.old.reading p
             → Notes N.notes (stretch self.old.reading.rules (p ++ (part.now ++ newline ∷ more)) self.old.reading.lines
@@ -572,7 +575,8 @@ impl<'q> Framer<'q> {
         ensures carries { Carries S.law (with_sink self.old sink.old) result (with_sink self.new sink.new) }
         ensures few { self.new.reading.lines ≤ self.old.reading.lines + length piece.now }
         ensures grows { self.old.reading.lines ≤ self.new.reading.lines }
-        ensures ok { OnOk result (TakesAll S.law piece.now (with_sink self.old sink.old) (with_sink self.new sink.new)) }
+        ensures ok { OnOk result
+            (TakesAll S.law piece.now (with_sink self.old sink.old) (with_sink self.new sink.new)) }
         ensures err { IfErr result (λ e. TakesSome S.law piece.now (with_sink self.old sink.old) e
             (with_sink self.new sink.new)) }
         ensures least { OnErr result
