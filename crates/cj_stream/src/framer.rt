@@ -288,7 +288,8 @@ impl<'q> Framer<'q> {
         requires header_parts { IsHeaderOf (tree_of self.old.reading.rules.limits.depth (begun_of self.old.reading))
             self.old.reading.rules header_parts }
         ensures counts { S.law.failures sink.old ≤ S.law.failures sink.new }
-        ensures cause { IsErrOf result HeaderEnd.WriteFault → HasRisen (S.law.failures sink.old) (S.law.failures sink.new) }
+        ensures cause { IsErrOf result HeaderEnd.WriteFault
+            → HasRisen (S.law.failures sink.old) (S.law.failures sink.new) }
         ensures deals { Deals S.law (judged_begun self.old.reading false Valid lf)
             (with_sink self.old.reading sink.old) (answer_of header_end result) (with_sink self.new.reading sink.new) }
         ensures forgets { OnOk result (Forgets self.old.scanning self.new.scanning) }
@@ -315,7 +316,8 @@ impl<'q> Framer<'q> {
         requires shows { ShowsTree (begun_of self.old.reading) self.old.reading.rules.limits.depth
             self.old.scanning.header.elements }
         ensures counts { S.law.failures sink.old ≤ S.law.failures sink.new }
-        ensures cause { IsErrOf result HeaderEnd.WriteFault → HasRisen (S.law.failures sink.old) (S.law.failures sink.new) }
+        ensures cause { IsErrOf result HeaderEnd.WriteFault
+            → HasRisen (S.law.failures sink.old) (S.law.failures sink.new) }
         ensures settles { Settles S.law (judged_begun self.old.reading false (begun_verdict self.old.reading) lf)
             (with_sink self.old.reading sink.old) (answer_of header_end result) (with_sink self.new.reading sink.new) }
         ensures forgets { OnOk result (Forgets self.old.scanning self.new.scanning) }
@@ -348,7 +350,8 @@ impl<'q> Framer<'q> {
             self.old.scanning.line.elements }
         requires unmarked { AreUnmarked self.old.scanning.line.elements }
         ensures counts { S.law.failures sink.old ≤ S.law.failures sink.new }
-        ensures cause { IsErrOf result LineEnd.WriteFault → HasRisen (S.law.failures sink.old) (S.law.failures sink.new) }
+        ensures cause { IsErrOf result LineEnd.WriteFault
+            → HasRisen (S.law.failures sink.old) (S.law.failures sink.new) }
         ensures deals { Deals S.law (judged_begun self.old.reading false (begun_verdict self.old.reading) lf)
             (with_sink self.old.reading sink.old) (answer_of line_end result) (with_sink self.new.reading sink.new) }
         ensures forgets { OnOk result (Forgets self.old.scanning self.new.scanning) }
@@ -378,7 +381,8 @@ impl<'q> Framer<'q> {
         requires ready { IsReady self.old.reading self.old.scanning }
         requires first { self.old.reading.lines ≡ 0 }
         requires undropped { self.old.reading.dropped ≡ false }
-        ensures carries { Carries S.law (with_sink self.old sink.old) (answer_of header_end result) (with_sink self.new sink.new) }
+        ensures carries { Carries S.law (with_sink self.old sink.old) (answer_of header_end result)
+            (with_sink self.new sink.new) }
         ensures one { OnOk result (self.new.reading.lines ≡ 1) }
         ensures none { OnErr result (self.new.reading.lines ≡ 0) }
         ensures lines { self.new.reading.lines ≤ 1 }
@@ -405,7 +409,8 @@ impl<'q> Framer<'q> {
         requires ready { IsReady self.old.reading self.old.scanning }
         requires countable { self.old.reading.lines < 2 ^ 62 }
         requires later { 0 < self.old.reading.lines }
-        ensures carries { Carries S.law (with_sink self.old sink.old) (answer_of line_end result) (with_sink self.new sink.new) }
+        ensures carries { Carries S.law (with_sink self.old sink.old) (answer_of line_end result)
+            (with_sink self.new sink.new) }
         ensures one { OnOk result (self.new.reading.lines ≡ self.old.reading.lines + 1) }
         ensures grows { self.old.reading.lines ≤ self.new.reading.lines }
         ensures settles { Settles S.law (judged_begun self.old.reading false (told_verdict self.old.reading) lf)
@@ -443,10 +448,12 @@ impl<'q> Framer<'q> {
         requires ready { IsReady self.old.reading self.old.scanning }
         requires countable { self.old.reading.lines < 2 ^ 62 }
         requires later { 0 < self.old.reading.lines }
-        ensures carries { Carries S.law (with_sink self.old sink.old) (answer_of line_end result) (with_sink self.new sink.new) }
+        ensures carries { Carries S.law (with_sink self.old sink.old) (answer_of line_end result)
+            (with_sink self.new sink.new) }
         ensures one { OnOk result (self.new.reading.lines ≡ self.old.reading.lines + 1) }
         ensures grows { self.old.reading.lines ≤ self.new.reading.lines }
-        ensures settles { Settles S.law (judged_begun self.old.reading (is_lenient self.old.reading) (told_verdict self.old.reading) lf)
+        ensures settles { Settles S.law
+            (judged_begun self.old.reading (is_lenient self.old.reading) (told_verdict self.old.reading) lf)
             (with_sink self.old.reading sink.old) (answer_of line_end result) (with_sink self.new.reading sink.new) }
         ensures scanned { OnOk result (ScansNext self.old.reading self.old.scanning self.new.scanning) }
         ensures few { HoldsFewNext self.old.reading self.old.scanning self.new.scanning }
@@ -480,14 +487,16 @@ impl<'q> Framer<'q> {
         requires first { self.old.reading.lines ≡ 0 }
         requires undropped { self.old.reading.dropped ≡ false }
         requires one { NoLf part.now }
-        ensures carries { Carries S.law (with_sink self.old sink.old) (answer_of header_end result) (with_sink self.new sink.new) }
+        ensures carries { Carries S.law (with_sink self.old sink.old) (answer_of header_end result)
+            (with_sink self.new sink.new) }
         ensures few { self.new.reading.lines ≤ 1 }
         ensures one { OnOk result (self.new.reading.lines ≡ 1) }
         ensures none { OnErr result (self.new.reading.lines ≡ 0) }
         ensures ok { OnOk result (TakesAll S.law (part.now ++ newline ∷ []) (with_sink self.old sink.old)
             (with_sink self.new sink.new)) }
         ensures err { IfErr result (λ e. (more : List ℕ)
-            → TakesSome S.law (part.now ++ newline ∷ more) (with_sink self.old sink.old) (header_end e) (with_sink self.new sink.new)) }
+            → TakesSome S.law (part.now ++ newline ∷ more) (with_sink self.old sink.old) (header_end e)
+            (with_sink self.new sink.new)) }
         ensures ready { OnOk result (IsReady self.new.reading self.new.scanning) }
         ensures undealt { OnErr result (self.new.reading.lines ≡ self.old.reading.lines) }
     {
@@ -507,14 +516,16 @@ impl<'q> Framer<'q> {
         requires countable { self.old.reading.lines < 2 ^ 62 }
         requires later { 0 < self.old.reading.lines }
         requires one { NoLf part.now }
-        ensures carries { Carries S.law (with_sink self.old sink.old) (answer_of line_end result) (with_sink self.new sink.new) }
+        ensures carries { Carries S.law (with_sink self.old sink.old) (answer_of line_end result)
+            (with_sink self.new sink.new) }
         ensures few { self.new.reading.lines ≤ self.old.reading.lines + 1 }
         ensures grows { self.old.reading.lines ≤ self.new.reading.lines }
         ensures one { OnOk result (self.new.reading.lines ≡ self.old.reading.lines + 1) }
         ensures ok { OnOk result (TakesAll S.law (part.now ++ newline ∷ []) (with_sink self.old sink.old)
             (with_sink self.new sink.new)) }
         ensures err { IfErr result (λ e. (more : List ℕ)
-            → TakesSome S.law (part.now ++ newline ∷ more) (with_sink self.old sink.old) (line_end e) (with_sink self.new sink.new)) }
+            → TakesSome S.law (part.now ++ newline ∷ more) (with_sink self.old sink.old) (line_end e)
+            (with_sink self.new sink.new)) }
         ensures undealt { OnErr result (self.new.reading.lines ≡ self.old.reading.lines) }
         ensures reports { (p more : List ℕ) → Reads self.old.reading p
             → Notes N.notes (stretch self.old.reading.rules (p ++ (part.now ++ newline ∷ more)) self.old.reading.lines
@@ -541,7 +552,8 @@ impl<'q> Framer<'q> {
         ensures none { OnErr result (self.new.reading.lines ≡ 0) }
         ensures few { self.new.reading.lines ≤ 1 }
         ensures undropped { IfOk result (λ t. t.accepted ≡ false → self.new.reading.dropped ≡ false) }
-        ensures carries { Carries S.law (with_sink self.old sink.old) (answer_of header_end result) (with_sink self.new sink.new) }
+        ensures carries { Carries S.law (with_sink self.old sink.old) (answer_of header_end result)
+            (with_sink self.new sink.new) }
         ensures ok { IfOk result (λ t. TakesAll S.law (take t.used piece.now) (with_sink self.old sink.old)
             (with_sink self.new sink.new)) }
         ensures err { IfErr result (λ e. TakesSome S.law piece.now (with_sink self.old sink.old) (header_end e)
@@ -576,10 +588,12 @@ impl<'q> Framer<'q> {
         requires ready { IsReady self.old.reading self.old.scanning }
         requires countable { self.old.reading.lines + length piece.now < 2 ^ 62 }
         requires later { 0 < self.old.reading.lines }
-        ensures carries { Carries S.law (with_sink self.old sink.old) (answer_of line_end result) (with_sink self.new sink.new) }
+        ensures carries { Carries S.law (with_sink self.old sink.old) (answer_of line_end result)
+            (with_sink self.new sink.new) }
         ensures few { self.new.reading.lines ≤ self.old.reading.lines + length piece.now }
         ensures grows { self.old.reading.lines ≤ self.new.reading.lines }
-        ensures ok { OnOk result (TakesAll S.law piece.now (with_sink self.old sink.old) (with_sink self.new sink.new)) }
+        ensures ok { OnOk result
+            (TakesAll S.law piece.now (with_sink self.old sink.old) (with_sink self.new sink.new)) }
         ensures err { IfErr result (λ e. TakesSome S.law piece.now (with_sink self.old sink.old) (line_end e)
             (with_sink self.new sink.new)) }
         ensures least { OnErr result
@@ -604,10 +618,12 @@ impl<'q> Framer<'q> {
         requires ready { IsReady self.old.reading self.old.scanning }
         requires first { self.old.reading.lines ≡ 0 }
         requires undropped { self.old.reading.dropped ≡ false }
-        ensures carries { Carries S.law (with_sink self.old sink.old) (answer_of header_end result) (with_sink self.new sink.new) }
+        ensures carries { Carries S.law (with_sink self.old sink.old) (answer_of header_end result)
+            (with_sink self.new sink.new) }
         ensures few { self.new.reading.lines ≤ 1 }
         ensures memory { IsErrOf result HeaderEnd.Memory → ⊥ }
-        ensures finishes { FinishesAll S.law (with_sink self.old sink.old) (answer_of header_end result) (with_sink self.new sink.new) }
+        ensures finishes { FinishesAll S.law (with_sink self.old sink.old) (answer_of header_end result)
+            (with_sink self.new sink.new) }
     {
         if self.has_begun() {
             return self.settle_first(false, sink);
@@ -628,10 +644,12 @@ impl<'q> Framer<'q> {
         requires ready { IsReady self.old.reading self.old.scanning }
         requires countable { self.old.reading.lines < 2 ^ 62 }
         requires later { 0 < self.old.reading.lines }
-        ensures carries { Carries S.law (with_sink self.old sink.old) (answer_of line_end result) (with_sink self.new sink.new) }
+        ensures carries { Carries S.law (with_sink self.old sink.old) (answer_of line_end result)
+            (with_sink self.new sink.new) }
         ensures few { self.new.reading.lines ≤ self.old.reading.lines + 1 }
         ensures grows { self.old.reading.lines ≤ self.new.reading.lines }
-        ensures finishes { FinishesAll S.law (with_sink self.old sink.old) (answer_of line_end result) (with_sink self.new sink.new) }
+        ensures finishes { FinishesAll S.law (with_sink self.old sink.old) (answer_of line_end result)
+            (with_sink self.new sink.new) }
         ensures reports { (p : List ℕ) → Reads self.old.reading p
             → Notes N.notes (stretch self.old.reading.rules p self.old.reading.lines self.new.reading.lines)
             reports.old reports.new }

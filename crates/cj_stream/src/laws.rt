@@ -19,7 +19,7 @@ ghost use Rattle.cj_budget.specs.declared.limits.Peaks.{Peaks};
 ghost use Rattle.cj_stream.specs.Bound.{IsExact, exact_peaks};
 ghost use Rattle.cj_stream.specs.CountReports.{count_of, no_reports, CountsReportsOfRun, CountsReportsOfPieces};
 ghost use Rattle.cj_stream.specs.CountSink.{no_counts, Counts, CountsRun, CountsPieces};
-ghost use Rattle.cj_stream.specs.Cut.{joined, Copies, PutsPieces, in_pieces};
+ghost use Rattle.cj_stream.specs.Cut.{joined, Copies, PutsPieces, InPieces};
 ghost use Rattle.cj_stream.specs.Ending.{line_end};
 ghost use Rattle.cj_stream.specs.Headline.{HeadlineOfRun, outputs};
 ghost use Rattle.cj_stream.specs.IsGood.{AreGood, EndsAfter};
@@ -35,7 +35,7 @@ ghost use Rattle.cj_stream.specs.Selection.{LeavesKept, all_lines, staying};
 ghost use Rattle.cj_stream.specs.Sink.{HasRisen, never_fails};
 ghost use Rattle.cj_stream.specs.TallySink.{Tally, no_tally, Tallies, IsTallyOf, TalliesRun, TalliesPieces};
 ghost use Rattle.cj_stream.specs.Verdict.{Rules, refusal_in, good, kept, kept_first, reported, reported_first, output};
-ghost use Rattle.cj_stream.specs.Verdict.{ending, stretch, up_to, stream_of};
+ghost use Rattle.cj_stream.specs.Verdict.{ending, stretch, up_to, Stream};
 ghost use Rattle.cj_stream.specs.declared.ending.End.{End};
 ghost use Rattle.cj_stream.specs.declared.ending.LineEnd.{LineEnd};
 ghost use Rattle.cj_stream.specs.declared.output.Output.{Output};
@@ -188,11 +188,10 @@ pub fn good_lines_are_kept()
 
 /// A `CountSink` that starts at zero counts what it takes: in a run, given its end, and of pieces.
 pub fn puts_are_counted()
-    ensures runs { (rules : Rules) (r : List ℕ) (e : End) (c : CountSink)
-        → Puts (never_fails Counts) (stream_of rules r) e no_counts c → CountsRun (stream_of rules r) e c }
-    ensures pieces { (rules : Rules) (pieces : List (List ℕ)) (n : ℕ) (e : End) (c : CountSink)
-        → PutsPieces (never_fails Counts) (in_pieces rules pieces n) e no_counts c
-        → CountsPieces (in_pieces rules pieces n) e c }
+    ensures runs { (r : Stream) (e : End) (c : CountSink)
+        → Puts (never_fails Counts) r e no_counts c → CountsRun r e c }
+    ensures pieces { (cut : InPieces) (e : End) (c : CountSink)
+        → PutsPieces (never_fails Counts) cut e no_counts c → CountsPieces cut e c }
 {}
 
 /// A `CountReports` that starts at zero counts what it notes: of the first lines of a stream, in a
@@ -200,28 +199,25 @@ pub fn puts_are_counted()
 pub fn reports_are_counted()
     ensures lines { (rules : Rules) (q : List ℕ) (n : ℕ) (c : CountReports)
         → Notes CountsReport (stretch rules q 0 n) no_reports c → c ≡ count_of (reported_first rules n q) }
-    ensures runs { (rules : Rules) (r : List ℕ) (e : End) (c : CountReports)
-        → NotesRun CountsReport (stream_of rules r) e no_reports c → CountsReportsOfRun (stream_of rules r) e c }
-    ensures pieces { (rules : Rules) (pieces : List (List ℕ)) (n : ℕ) (e : End) (c : CountReports)
-        → NotesPieces CountsReport (in_pieces rules pieces n) e no_reports c
-        → CountsReportsOfPieces (in_pieces rules pieces n) e c }
+    ensures runs { (r : Stream) (e : End) (c : CountReports)
+        → NotesRun CountsReport r e no_reports c → CountsReportsOfRun r e c }
+    ensures pieces { (cut : InPieces) (e : End) (c : CountReports)
+        → NotesPieces CountsReport cut e no_reports c → CountsReportsOfPieces cut e c }
 {}
 
 /// A `TallySink` that starts empty tallies what it takes: in a run, given its end, and of pieces.
 pub fn puts_are_tallied()
-    ensures runs { (rules : Rules) (r : List ℕ) (e : End) (start t : Tally) → start ≡ no_tally
-        → Puts (never_fails Tallies) (stream_of rules r) e start t → TalliesRun (stream_of rules r) e t }
-    ensures pieces { (rules : Rules) (pieces : List (List ℕ)) (n : ℕ) (e : End) (start t : Tally) → start ≡ no_tally
-        → PutsPieces (never_fails Tallies) (in_pieces rules pieces n) e start t
-        → TalliesPieces (in_pieces rules pieces n) e t }
+    ensures runs { (r : Stream) (e : End) (start t : Tally) → start ≡ no_tally
+        → Puts (never_fails Tallies) r e start t → TalliesRun r e t }
+    ensures pieces { (cut : InPieces) (e : End) (start t : Tally) → start ≡ no_tally
+        → PutsPieces (never_fails Tallies) cut e start t → TalliesPieces cut e t }
 {}
 
 /// An `Output` writes what it takes: in a run, given its end and the lines that were dealt with,
 /// and of pieces. The headline holds for a run, with the cause of a write fault.
 pub fn puts_are_written<W: Write + Drop, N: ReportSink>()
-    ensures runs { (rules : Rules) (r : List ℕ) (e : End) (a b : Output W)
-        → Puts (output_law W.contents) (stream_of rules r) e a b
-        → Writes (stream_of rules r) e (W.contents (output_writer a)) (W.contents (output_writer b)) }
+    ensures runs { (r : Stream) (e : End) (a b : Output W) → Puts (output_law W.contents) r e a b
+        → Writes r e (W.contents (output_writer a)) (W.contents (output_writer b)) }
     ensures lines { (run : Run) (left : Option (List ℕ)) (a b : Output W)
         → Runs (output_law W.contents) run (IsAtEnd left) a b
         → (run.outcome.ended ≡ End.Memory → run.outcome.lines ≡ 0)
@@ -233,9 +229,8 @@ pub fn puts_are_written<W: Write + Drop, N: ReportSink>()
         → (run.outcome.ended ≡ End.WriteFault → HasRisen (output_failures a) (output_failures b))
         → HeadlineOfRun N.notes run (IsAtEnd left) (outputs (channel W.contents a) n)
         (outputs (channel W.contents b) m) }
-    ensures pieces { (rules : Rules) (pieces : List (List ℕ)) (n : ℕ) (e : End) (a b : Output W)
-        → PutsPieces (output_law W.contents) (in_pieces rules pieces n) e a b
-        → Copies (in_pieces rules pieces n) e (W.contents (output_writer a)) (W.contents (output_writer b)) }
+    ensures pieces { (cut : InPieces) (e : End) (a b : Output W) → PutsPieces (output_law W.contents) cut e a b
+        → Copies cut e (W.contents (output_writer a)) (W.contents (output_writer b)) }
 {}
 
 /// The reports of a run are the list of what is reported of the lines that it dealt with. A sink

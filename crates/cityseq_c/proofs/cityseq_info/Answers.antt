@@ -4,6 +4,7 @@ use Rattle.cj_stream.specs.Headline.{IsUnhindered}
 use Rattle.cj_stream.specs.TallySink.{Tallies}
 use Rattle.cj_stream.specs.declared.ending.End.TheVariants.{Complete}
 use Rattle.cj_stream.specs.Sink.{never_fails}
+use Rattle.cj_stream.specs.Verdict.{stream_of}
 use Rattle.cityseq_c.specs.Called.{IsTalliedOf}
 use Rattle.cityseq_c.specs.Tally.{IsTally}
 use Rattle.cityseq_c.proofs.CalledLemmas.{goes-known, known-ok, never-full, unknown-err}
@@ -30,7 +31,7 @@ returns-clause-tallies c =
           c.judge-judged.new.reports
           (IsTally sink told) (λ rules o. IsUnhindered o.ended → IsTalliedOf rules (header ++ part) told)
           (λ same rules o judged free. tallied rules (header ++ part) o c.new-sink.result sink c.args.reports.now c.judge-judged.new.reports judged c.new-sink.ensures told same
-          (λ fresh puts. c.puts_are_tallied.ensures.runs rules (header ++ part) Complete c.new-sink.result sink fresh puts) free)
+          (λ fresh puts. c.puts_are_tallied.ensures.runs (stream_of rules (header ++ part)) Complete c.new-sink.result sink fresh puts) free)
           went known j.ok j.declined j.unread;
       told = c.of-2.ensures;
     }

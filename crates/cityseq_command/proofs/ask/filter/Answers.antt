@@ -1,6 +1,6 @@
 use Rattle.std.proofs.Common.{refl}
 use Rattle.cj_stream.specs.Query.{rules_for}
-use Rattle.cj_stream.specs.Verdict.{reported_first}
+use Rattle.cj_stream.specs.Verdict.{reported_first, stream_of}
 use Rattle.cityseq_command.specs.Performed.{run_of}
 use Rattle.cityseq_command.specs.declared.ask.Ask.TheVariants.{Filter}
 use Rattle.cityseq_command.proofs.PerformLemmas.{Reported-told}
@@ -12,7 +12,7 @@ returns g c =
     let left = g.R.Read.remaining c.run-outcome.new.reader in
     let run = run_of (Filter c.args.limits c.args.query.now c.args.options) e.0 c.run-outcome.result in
     let law = c.reports_are_collected.ensures in
-    let writes = c.puts_are_written.ensures.runs _ e.0 c.run-outcome.result.ended c.args.out.now c.run-outcome.new.sink e.3.puts in
+    let writes = c.puts_are_written.ensures.runs (stream_of _ e.0) c.run-outcome.result.ended c.args.out.now c.run-outcome.new.sink e.3.puts in
     let dealt = c.puts_are_written.ensures.lines run left c.args.out.now c.run-outcome.new.sink e.3 (λ none. (c.run-outcome.ensures.memory none).0) in
     let headline = law.headline run left c.args.out.now c.run-outcome.new.sink e.3 (λ none. (c.run-outcome.ensures.memory none).0) c.run-outcome.ensures.cause in
     let collected = law.runs run left e.3.account (λ none. (c.run-outcome.ensures.memory none).0) in (

@@ -2,7 +2,7 @@ use Rattle.std.proofs.Common.{◌≡◌, ap}
 use Rattle.cj_stream.specs.declared.ending.End.TheVariants.{Complete}
 use Rattle.cj_stream.specs.Output.{channel}
 use Rattle.cj_stream.specs.Query.{rules_for}
-use Rattle.cj_stream.specs.Verdict.{reported_first}
+use Rattle.cj_stream.specs.Verdict.{reported_first, stream_of}
 use Rattle.cityseq_command.specs.Performed.{all_under, run_of}
 use Rattle.cityseq_command.specs.declared.ask.Ask.TheVariants.{Info}
 use Rattle.cityseq_command.proofs.PerformLemmas.{Says-summary, Says-no_summary, Reported-told, cause-text, no_fault}
@@ -14,7 +14,7 @@ returns-in-Complete g c =
     let e = rw rules at c.run-outcome.ensures.runs in
     let all = all_under c.args.limits c.args.options in
     let ends = rw c.in-Complete.is at e.3.account.ends in
-    let tally = c.puts_are_tallied.ensures.runs all e.0 Complete _ _ c.new-tally.ensures (rw c.in-Complete.is at e.3.puts) in
+    let tally = c.puts_are_tallied.ensures.runs (stream_of all e.0) Complete _ _ c.new-tally.ensures (rw c.in-Complete.is at e.3.puts) in
     let peaks = c.first_invalid_line_is_the_end.ensures.peaks all e.0 c.run-outcome.result.peaks c.requires.0 ends.0 (e.3.account.exact c.in-Complete.is) in
     let collected = c.reports_are_collected.ensures.runs (run_of (Info c.args.limits c.args.options) e.0 c.run-outcome.result) (g.R.Read.remaining c.run-outcome.new.reader) e.3.account
     (λ none. (c.run-outcome.ensures.memory none).0) in

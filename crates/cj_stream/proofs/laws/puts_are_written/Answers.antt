@@ -6,8 +6,8 @@ use Rattle.cj_stream.proofs.OutputLemmas.{Writes-puts, WritesLines-told}
 use Rattle.cj_stream.proofs.laws.puts_are_written.Goals as goal
 
 pub returns-clause-runs : goal.returns-clause-runs
-returns-clause-runs g c = λ rules r e a b puts. Writes-puts (λ o. g.W.Write.contents (output_writer o)) output_failures
-    rules r a b e puts
+returns-clause-runs g c = λ r e a b puts. Writes-puts (λ o. g.W.Write.contents (output_writer o)) output_failures
+    r.rules r.bytes a b e puts
 
 pub returns-clause-lines : goal.returns-clause-lines
 returns-clause-lines g c = λ run left a b runs none.
@@ -21,5 +21,5 @@ returns-clause-headline g c = λ run left a b n m runs noting cause.
     runs.puts) noting.noted cause
 
 pub returns-clause-pieces : goal.returns-clause-pieces
-returns-clause-pieces g c = λ rules pieces n e a b puts. Copies-puts (λ o. g.W.Write.contents (output_writer o))
-    output_failures rules pieces n a b e puts
+returns-clause-pieces g c = λ cut e a b puts. Copies-puts (λ o. g.W.Write.contents (output_writer o)) output_failures
+    cut.rules cut.pieces cut.taken a b e puts

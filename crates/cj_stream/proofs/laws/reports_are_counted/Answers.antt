@@ -5,7 +5,7 @@ pub returns-clause-lines : goal.returns-clause-lines
 returns-clause-lines c = λ rules q n t notes. counts-lines rules q n t notes
 
 pub returns-clause-runs : goal.returns-clause-runs
-returns-clause-runs c = λ rules r e t notes. counts-run rules r t e notes
+returns-clause-runs c = λ r e t notes. counts-run r.rules r.bytes t e notes
 
 pub returns-clause-pieces : goal.returns-clause-pieces
-returns-clause-pieces c = λ rules pieces n e t notes. counts-pieces rules pieces n t e notes
+returns-clause-pieces c = λ cut e t notes. counts-pieces cut.rules cut.pieces cut.taken t e notes
