@@ -213,4 +213,3 @@ of-name n t small h = of-text object_types (chars (row_numbered n).name) t (text
 
 pub of-name-type : (o : ObjectType) (t : Tree) → has_text (chars (row_at o).name) t ≡ true → row_of t ≡ Some (row_at o)
 of-name-type o t h = of-name (number_of o) t (number-below o) h
-

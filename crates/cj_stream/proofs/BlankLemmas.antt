@@ -44,10 +44,6 @@ not-at (b ∷ s) zero x h e k =
     clash z = cc
 not-at (b ∷ s) (suc i) x h e k = not-at s i x (and-both (is_blank_byte b) (list_all is_blank_byte s) h).1 e k
 
-true_false : (x : Bool) → x ≡ true → x ≡ false → ⊥
-true_false true a b = cc
-true_false false a b = cc
-
 digit-not : (b : ℕ) → 48 ≤ b → is_blank_byte b ≡ true → ⊥
 digit-not b low h = go (eqb b 32) (eqb b 9) (eqb b 13) refl refl refl h
   where

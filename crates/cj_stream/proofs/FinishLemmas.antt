@@ -90,22 +90,6 @@ pub finishes-with : {S : Type 0} (law : SinkLaw S) (c : List ℕ) (f g : Reading
 finishes-with law [] f g s t r some d = absurd (omega arith)
 finishes-with law (b ∷ c) f g s t r some d = d
 
--- a line that LF has not ended is never refused memory
-refused-memory : (on : Bool) (place : ℕ) (reason : Reason) (f g : Reading) (r : Result (Unit {0}) End)
-    → Refuses on (Refused (f.lines + 1) place reason) f r g → r ≡ Err Memory → ⊥
-refused-memory true place reason f g r d m = let ok : r ≡ Ok tt = d.0 in cc
-refused-memory false place reason f g r d m = let err : r ≡ Err (Refused (f.lines + 1) place reason) = d.0 in cc
-
-pub settles-memory : {S : Type 0} (law : SinkLaw S) (on : Bool) (v : Verdict) (i : Item) (f g : Reading) (s t : S)
-    (r : Result (Unit {0}) End) → i.line.lf ≡ false
-    → Settles law (JudgedAs (f.lines + 1) on v i) (with_sink f s) r (with_sink g t) → r ≡ Err Memory → ⊥
-settles-memory law on (Refuse place reason) i f g s t r open_end (inl d) m = refused-memory on place reason f g r d.0 m
-settles-memory law on Blank i f g s t r open_end (inl d) m = cc
-settles-memory law on LeftOut i f g s t r open_end (inl d) m = cc
-settles-memory law on Valid i f g s t (Ok x) open_end (inl d) m = cc
-settles-memory law on Valid i f g s t (Err x) open_end (inl d) m = let fault : x ≡ WriteFault = d.0 in cc
-settles-memory law on v i f g s t r open_end (inr m) e = let lf : i.line.lf ≡ true = m.5 in cc
-
 -- the lists after a last line was dealt with, and of a text without one
 pub scanned-last : (f : Reading) (p : List ℕ) (a b : Scanning) → Reads f p → 0 < length (begun p) → Scanned f.rules.limits (closed p) a → ScansNext f a b → Scanned f.rules.limits (contents p) b
 scanned-last f p a b reads some s deal = go (begun p) some (deal (closed p) (begun p) (sym reads.lines) reads.begun s)

@@ -37,8 +37,3 @@ joined-short now xs i d h =
     let front = joined (take i (map now xs)) in
     let piece = now (get_or xs i d) in
     omega (arith, ap length (joined-more now xs i d h), length-append front piece, ap length (joined-cut (i + 1) (map now xs)), length-append (joined (take (i + 1) (map now xs))) (joined (drop (i + 1) (map now xs))))
-
--- all pieces: those before one, that one, and those after it
-pub joined-at : {A : Type 0} (now : A → List ℕ) (xs : List A) (i : ℕ) (d : A) → i < length xs
-    → joined (map now xs) ≡ (joined (take i (map now xs)) ++ now (get_or xs i d)) ++ joined (drop (i + 1) (map now xs))
-joined-at now xs i d h = sym (joined-cut (i + 1) (map now xs)) ∙ ap (λ z. z ++ joined (drop (i + 1) (map now xs))) (joined-more now xs i d h)

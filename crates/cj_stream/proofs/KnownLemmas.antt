@@ -1,7 +1,6 @@
 -- Known bytes that grow twice.
-use Rattle.std.proofs.Common.{◌≡◌, ℕ, Result, Ok, Err, Bool, true, false, ◌∷◌, List, [], ◌++◌, ◌-◌, ◌≤◌, length, take, drop, arith, length-drop, Option, Some, None, sym, ap, ◌∙◌, append_assoc}
-use Rattle.std.specs.Prelude.{OnErr, OnOk}
-use Rattle.cj_stream.specs.Lines.{raw}
+use Rattle.std.proofs.Common.{◌≡◌, ℕ, Result, Ok, Err, List, [], ◌++◌, ◌-◌, ◌≤◌, length, take, drop, arith, length-drop, Option, Some, None, sym, ap, ◌∙◌, append_assoc}
+use Rattle.std.specs.Prelude.{OnErr}
 use Rattle.std.proofs.lemmas.List.{append-nil, take-append-drop, take_all}
 use Rattle.std.specs.Io.KnownBytes.{Appends}
 use Rattle.cj_stream.specs.Sink.{AppendsPart}
@@ -27,10 +26,6 @@ pub on_err_any : {T E P : Type 0} (r : Result T E) → P → OnErr r P
 on_err_any (Ok x) p = tt
 on_err_any (Err x) p = p
 
-pub on_ok_any : {T E P : Type 0} (r : Result T E) → P → OnOk r P
-on_ok_any (Ok x) p = p
-on_ok_any (Err x) p = tt
-
 -- some bytes, and then a prefix of others
 pub AppendsPart-after : (a b c : Option (List ℕ)) (x y : List ℕ) → Appends a b x → AppendsPart b c y → AppendsPart a c (x ++ y)
 AppendsPart-after a b c x y p q = record {
@@ -48,13 +43,3 @@ AppendsPart-front a b x y q = record {
   whole = ap (λ z. z ++ y) q.whole ∙ append_assoc q.front q.rest y;
   grows = q.grows;
 }
-
--- a fault in the content of a line
-pub AppendsPart-raw : (a b : Option (List ℕ)) (content : List ℕ) (lf : Bool) → AppendsPart a b content → AppendsPart a b (raw (record { content = content; lf = lf }))
-AppendsPart-raw a b content true q = AppendsPart-front a b content (10 ∷ []) q
-AppendsPart-raw a b content false q = q
-
--- all of some bytes, or a prefix of them
-pub AppendsPart-either : {T E : Type 0} (r : Result T E) (a b : Option (List ℕ)) (x : List ℕ) → OnOk r (Appends a b x) → OnErr r (AppendsPart a b x) → AppendsPart a b x
-AppendsPart-either (Ok y) a b x p q = record { front = x; rest = []; whole = sym (append-nil x); grows = p }
-AppendsPart-either (Err y) a b x p q = q

@@ -13,7 +13,7 @@ use Rattle.cj_spans.specs.Tree.{Tree}
 use Rattle.cj_stream.specs.Item.{Item, is_feature, item_at, tree_of}
 use Rattle.cj_stream.specs.Verdict.{Rules, Verdict, Refuse, Blank, LeftOut, Valid, verdict_at, tree_verdict, verdict, header_of, item_after, goes_on, refusal_of, report_of, is_kept, kept_from, reported_from}
 use Rattle.cj_stream.specs.Bound.{greatest, held_length}
-use Rattle.cj_stream.specs.Reading.{Reading, begun_of, begun_verdict, told_verdict, held_header, next_verdict, next_item, is_lenient, stored, IsBegun, widened, IsLeft, Fits, Drops, StaysDropped, Stores, Passes, Reads, kept_closed}
+use Rattle.cj_stream.specs.Reading.{Reading, begun_of, begun_verdict, told_verdict, held_header, next_verdict, next_item, is_lenient, stored, IsBegun, IsLeft, Fits, Drops, StaysDropped, Stores, Passes, Reads, kept_closed}
 use Rattle.cj_stream.proofs.LineLemmas.{closed-more, begun-more, closed-lf, begun-lf, first_of-some, first_of-lf, begun_after-some, begun_after-empty, none-from_length}
 use Rattle.cj_stream.proofs.VerdictLemmas.{verdict-first, verdict-long, before-more, refusal-append, kept-append}
 
@@ -257,31 +257,6 @@ module _ (f g : Reading) (p part : List ℕ) (h : Reads f p) (s : Stores f part 
 
 pub left-same : (f g : Reading) → g ≡ f → IsLeft f g
 left-same f g e = rw e (record { room = λ x. x; same = refl })
-
--- what is dealt with after more room was made, and no growth failed
-pub passed-left : (put refused : Bool) (f g h : Reading) → IsLeft f g → g.line.failed_growths ≡ f.line.failed_growths → Passes put refused g h → Passes put refused f h
-passed-left put refused f g h left none x = go (rw left.same at x)
-  where
-    go : Passes put refused (widened f g.line.reserved g.line.failed_growths) h → Passes put refused f h
-    go x = record {
-      rules = x.rules;
-      lines = x.lines;
-      kept = x.kept;
-      refused = x.refused;
-      dropped = x.dropped;
-      header = x.header;
-      line = record {
-        elements = x.line.elements;
-        limit = x.line.limit;
-        peak = x.line.peak;
-        room = λ r. x.line.room (left.room r);
-        failed_growths = x.line.failed_growths ∙ none;
-        within = x.line.within;
-      };
-    }
-
-pub left-then : (f g h : Reading) → IsLeft f g → IsLeft g h → IsLeft f h
-left-then f g h a b = record { room = λ r. b.room (a.room r); same = b.same ∙ ap (λ x. widened x h.line.reserved h.line.failed_growths) a.same }
 
 pub Reads-left : (f g : Reading) (p : List ℕ) → IsLeft f g → Reads f p → Reads g p
 Reads-left f g p left h = rw left.same (record {

@@ -1,7 +1,7 @@
 -- What is held of the trees of lines, from line to line.
-use Rattle.std.proofs.Common.{◌≡◌, ℕ, ◌+◌, ◌*◌, ◌<◌, ◌≤◌, ◌⊎◌, inl, inr, max, suc, List, [], ◌∷◌, ◌++◌, Bool, true, false, ltb, length, Result, Ok, Err, arith, refl, sym, ap, subst, ◌∙◌, append_assoc}
+use Rattle.std.proofs.Common.{◌≡◌, ℕ, ◌+◌, ◌*◌, ◌<◌, ◌≤◌, ◌⊎◌, inl, inr, max, suc, List, [], ◌∷◌, ◌++◌, Bool, true, false, ltb, length, arith, refl, sym, ap, subst, ◌∙◌, append_assoc}
 use Rattle.std.specs.List.{list_all}
-use Rattle.std.specs.Prelude.{OnErr, IsTrue, ◌&&◌}
+use Rattle.std.specs.Prelude.{◌&&◌}
 use Rattle.std.specs.Str.{is_utf8}
 use Rattle.std.proofs.lemmas.Bool.{ltb-true}
 use Rattle.std.proofs.lemmas.Bool.Decides.{nat_tests}
@@ -18,13 +18,13 @@ use Rattle.cj_stream.specs.declared.judge.Content.{Content}
 use Rattle.cj_stream.specs.declared.judge.Content.TheVariants.{Faulty, BlankLine, Sound}
 use Rattle.cj_stream.specs.Lines.{closed, begun, first_of, first_content, NoLf}
 use Rattle.cj_stream.specs.Bound.{is_text, tree_size, tree_nest, is_spelled, is_readable}
-use Rattle.cj_stream.specs.Scanning.{Scanning, HasRoom, IsReady, IsStill, HasHeld, are_readable, Scanned, ScansNext}
+use Rattle.cj_stream.specs.Scanning.{Scanning, HasRoom, IsStill, HasHeld, are_readable, Scanned, ScansNext}
 use Rattle.cj_stream.specs.Scanning.{HoldsFew, HoldsFewNext, Rises, Judges, JudgesLine, Forgets, tree_lists}
 use Rattle.cj_stream.specs.Verdict.{is_blank_byte}
 use Rattle.cj_stream.specs.Judging.{Misreads}
-use Rattle.cj_stream.specs.Reading.{Reading, begun_of, Fits, Drops, StaysDropped, Stores, Passes, Reads}
+use Rattle.cj_stream.specs.Reading.{Reading, begun_of, Stores, Reads}
 use Rattle.cj_stream.proofs.LineLemmas.{not_true, closed-more, begun-more, closed-lf, first_content-grows}
-use Rattle.cj_stream.proofs.ReadingLemmas.{zero_or, true-false, goes_on-later, greatest-append, held-whole, IsBegun-stored}
+use Rattle.cj_stream.proofs.ReadingLemmas.{zero_or, true-false, greatest-append, held-whole, IsBegun-stored}
 use Rattle.cj_stream.proofs.VerdictLemmas.{and-both}
 
 pub Rises-same : (f g : Scanning) → g ≡ f → Rises f g
@@ -37,51 +37,7 @@ Rises-then f g h a b = record {
   opened = omega (arith, a.opened, b.opened);
 }
 
--- ---- lists that are emptied
-
-pub room-forgets : (limits : LimitPair) (f g : Scanning) → HasRoom limits f → Forgets f g → HasRoom limits g
-room-forgets limits f g r k = record {
-  range = r.range;
-  header = rw k.header r.header;
-  line = k.line.limit ∙ r.line;
-  opened = k.opened.limit ∙ r.opened;
-  header_within = rw k.header r.header_within;
-  line_within = k.line.within;
-  opened_within = k.opened.within;
-}
-
-pub rises-forgets : (f g : Scanning) → Forgets f g → Rises f g
-rises-forgets f g k = record {
-  header = rw k.header (omega arith);
-  line = omega (arith, k.line.peak);
-  opened = omega (arith, k.opened.peak);
-}
-
 -- ---- lists of which nothing has changed but the room for later lines and its failed growths
-
-pub still-same : (f g : Scanning) → g ≡ f → IsStill f g
-still-same f g e = rw e (record { room = λ r. r; count = refl; same = refl })
-
-pub still-err : {T E : Type 0} (f g : Scanning) (r : Result T E) → OnErr r (g ≡ f) → OnErr r (IsStill f g)
-still-err f g (Ok x) h = h
-still-err f g (Err x) h = still-same f g h
-
-pub room-still : (limits : LimitPair) (f g : Scanning) → IsStill f g → HasRoom limits f → HasRoom limits g
-room-still limits f g still r = rw still.same (record {
-  range = r.range;
-  header = r.header;
-  line = r.line;
-  opened = r.opened;
-  header_within = r.header_within;
-  line_within = record { below_peak = omega (arith, still.count, r.line_within.below_peak); below_limit = r.line_within.below_limit };
-  opened_within = r.opened_within;
-})
-
-pub rises-still : (f g : Scanning) → IsStill f g → Rises f g
-rises-still f g still = rw still.same (record { header = omega arith; line = omega arith; opened = omega arith })
-
-pub few-still : (limits : LimitPair) (h : ℕ) (f g : Scanning) → IsStill f g → HoldsFew limits h f → HoldsFew limits h g
-few-still limits h f g still few = rw still.same few
 
 pub forgets-still : (f g h : Scanning) → IsStill f g → g.line.failed_growths ≡ f.line.failed_growths → Forgets g h → Forgets f h
 forgets-still f g h still none k = go (rw still.same at k)
@@ -100,46 +56,10 @@ forgets-still f g h still none k = go (rw still.same at k)
       opened = k.opened;
     }
 
-pub still-then : (f g h : Scanning) → IsStill f g → IsStill g h → IsStill f h
-still-then f g h a b = record {
-  room = λ r. b.room (a.room r);
-  count = b.count ∙ a.count;
-  same = b.same ∙ ap (λ (x : Scanning). record x { line = record x.line { elements = h.line.elements; reserved = h.line.reserved; failed_growths = h.line.failed_growths } }) a.same;
-}
-
 -- tokens that are the same but for their marks are as many
 pub length-bare : (ts : List Token) → length (bare ts) ≡ length ts
 length-bare [] = refl
 length-bare (t ∷ ts) = ap suc (length-bare ts)
-
--- ---- room for the next line
-
--- once a line was dealt with, where there is room for a later one
-pub ready-passed : (put refuses : Bool) (f g : Reading) (s t : Scanning) → IsTrue f.line.reserved → IsTrue s.line.reserved → IsTrue s.opened.reserved → Passes put refuses f g → Forgets s t → IsReady g t
-ready-passed put refuses f g s t bytes tokens opened x k = record {
-  first = λ z. absurd (omega (arith, z, x.lines));
-  later = λ _. (x.line.room bytes, k.line.room tokens);
-  opened = k.opened.room opened;
-}
-
-pub ready-stored : (f g : Reading) (part : List ℕ) (s : Scanning) → Stores f part g → IsReady f s → IsReady g s
-ready-stored f g part s st r = go st.grows
-  where
-    later-now : 0 < g.lines → 0 < f.lines
-    later-now z = rw st.lines at z
-
-    go : Fits f part g ⊎ Drops f part g ⊎ StaysDropped f g → IsReady g s
-    go (inl w) = record {
-      first = λ z. let now = sym st.lines ∙ z in ((w.first now).0.room (r.first now).0, (r.first now).1);
-      later = λ z. let now = later-now z in ((w.later now).0.room (r.later now).0, (r.later now).1);
-      opened = r.opened;
-    }
-    go (inr (inl w)) = record {
-      first = λ z. let later = goes_on-later f.rules f.lines w.lenient in absurd (omega (arith, z, st.lines));
-      later = λ z. let now = later-now z in (w.line.room (r.later now).0, (r.later now).1);
-      opened = r.opened;
-    }
-    go (inr (inr w)) = rw w.1 r
 
 -- ---- lists that judging has changed
 
@@ -228,21 +148,6 @@ module _ (limits : LimitPair) (n : ℕ) (c : List ℕ) (f g : Scanning) (r : Con
 
 pub few-scanned : (limits : LimitPair) (cs : List (List ℕ)) (f : Scanning) (h : ℕ) → Scanned limits cs f → length (first_of cs []) ≤ h → HoldsFew limits h f
 few-scanned limits cs f h s le = omega (arith, s.header_law, s.line_law, le)
-
-pub few-judges : (limits : LimitPair) (cs : List (List ℕ)) (c : List ℕ) (f g : Scanning) (r : Content) → HasRoom limits f → length c ≤ limits.line
-    → Scanned limits cs f → JudgesLine (length cs) c f g r → HoldsFew limits (length (first_of cs c)) g
-few-judges limits [] c f g r room short s j =
-    let k = kept-judges c f.header g.header f.opened g.opened r (j.first refl).0 in
-    let line : g.line.peak ≡ f.line.peak = ap (λ z. z.peak) (j.first refl).1 in
-    omega (arith, k.few room.opened_within, s.header_peak, s.line_peak.exact refl, line, room.opened, short)
-few-judges limits (d ∷ ds) c f g r room short s j =
-    let k = kept-judges c f.line g.line f.opened g.opened r (j.later (omega arith)).0 in
-    let header : g.header.peak ≡ f.header.peak = ap (λ z. z.peak) (j.later (omega arith)).1 in
-    omega (arith, k.few room.opened_within, s.header_law, s.line_law, header, room.opened, short)
-
--- more lists after less
-pub few-forgets : (limits : LimitPair) (h : ℕ) (f g : Scanning) → Forgets f g → HoldsFew limits h f → HoldsFew limits h g
-few-forgets limits h f g k s = let header : g.header.peak ≡ f.header.peak = ap (λ z. z.peak) k.header in omega (arith, header, k.line.peak, s)
 
 -- ---- a line that was dealt with
 
