@@ -209,7 +209,7 @@ module _ {S : Type 0} (law : SinkLaw S) (f g : Reading) (s t : S) (p : List ℕ)
   counts-last b c Valid (Ok x) e h d = counts-passed b c true false e d.0 (rw h refl) (rw h refl) (rw h refl)
   counts-last b c Valid (Err x) e h d = counts-left d.1
 
-  Counts-finished : (r : Result (Unit {0}) End) → Finishes law p (with_sink f s) r (with_sink g t)
+  pub Counts-finished : (r : Result (Unit {0}) End) → Finishes law p (with_sink f s) r (with_sink g t)
       → Counts f.rules p g.lines g.kept g.refused
   Counts-finished r d = go (begun p) refl d
     where

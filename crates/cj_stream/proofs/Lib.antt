@@ -5,6 +5,7 @@ pub mod BoundRowLemmas
 pub mod BoxLemmas
 pub mod BoxRowLemmas
 pub mod BoxTextLemmas
+pub mod CarryingLemmas
 pub mod ChoiceRowLemmas
 pub mod CountReportsLemmas
 pub mod CountRowLemmas
@@ -35,7 +36,6 @@ pub mod NoteLemmas
 pub mod OutcomeLemmas
 pub mod OutputLemmas
 pub mod PartsLemmas
-pub mod PhaseLemmas
 pub mod PieceLemmas
 pub mod PieceSlices
 pub mod QueryRowLemmas

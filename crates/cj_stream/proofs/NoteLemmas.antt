@@ -22,7 +22,7 @@ use Rattle.cj_stream.specs.Verdict.{Rules, Verdict, Refuse, Blank, LeftOut, Vali
 use Rattle.cj_stream.specs.Verdict.{good_from, report_of, reported_from, reported, reported_first, stretch, stream_of}
 use Rattle.cj_stream.proofs.Apart.{some-none}
 use Rattle.cj_stream.proofs.CutLemmas.{refused-more}
-use Rattle.cj_stream.proofs.EngineLemmas.{lines-front, take-front}
+use Rattle.cj_stream.proofs.EngineLemmas.{lines-front, take-front, Counts-front}
 use Rattle.cj_stream.proofs.GoodLemmas.{good-take, good-append, good-all}
 use Rattle.cj_stream.proofs.IsLinesLemmas.{lines-whole}
 use Rattle.cj_stream.proofs.JoinedLemmas.{joined-cut}
@@ -229,6 +229,17 @@ module _ {N : Type 0} (notes : N → Report → N → Type 0) (rules : Rules) wh
 -- ---- one line
 
 module _ {N : Type 0} (notes : N → Report → N → Type 0) where
+  -- a front with the header, and then what comes after it
+  pub Notes-header : (f g : Reading) (p front rest : List ℕ) (k : ℕ) (n m : N) → f.lines ≡ 0 → g.lines ≤ 1
+      → g.rules ≡ f.rules → Reads g (p ++ front)
+      → Notes notes (stretch g.rules ((p ++ front) ++ rest) g.lines k) n m
+      → Notes notes (stretch f.rules (p ++ (front ++ rest)) f.lines k) n m
+  Notes-header f g p front rest k n m first few under reads later =
+      let good = (Counts-front g (p ++ front) rest reads).good in
+      let now = Notes-first notes g.rules ((p ++ front) ++ rest) f.lines g.lines n n first few good refl in
+      let all = Notes-then notes g.rules now later in
+      rw (under, append_assoc p front rest) at all
+
   -- a part and an LF
   pub Notes-line : (f g h : Reading) (p part more : List ℕ) (n m : N) → Reads f p → NoLf part → Stores f part g → h.lines ≡ g.lines + 1
       → Took notes n (report_of (g.lines + 1) (told_verdict g)) m

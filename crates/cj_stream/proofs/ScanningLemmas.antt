@@ -340,18 +340,6 @@ module _ (f g : Reading) (p part : List ℕ) (now mid new : Scanning) (reads : R
       let j = rw st.rules at k in
       few-more f.rules.limits (length (first_of (closed p) (begun p ++ part))) (length (first_content (p ++ (part ++ 10 ∷ more)))) new (first-part p part more n) j
 
--- ---- one part of a text after another
-
-pub scanned-then : (limits now : LimitPair) (p a b : List ℕ) (f : Scanning) → now ≡ limits → Scanned now (closed ((p ++ a) ++ b)) f → Scanned limits (closed (p ++ (a ++ b))) f
-scanned-then limits now p a b f e s = let k = rw (e, append_assoc p a b) at s in k
-
-pub few-then : (limits now : LimitPair) (p a b : List ℕ) (f : Scanning) → now ≡ limits → HoldsFew now (length (first_content ((p ++ a) ++ b))) f
-    → HoldsFew limits (length (first_content (p ++ (a ++ b)))) f
-few-then limits now p a b f e s = let k = rw (e, append_assoc p a b) at s in k
-
-pub scanned-under : (limits now : LimitPair) (cs : List (List ℕ)) (f : Scanning) → now ≡ limits → Scanned limits cs f → Scanned now cs f
-scanned-under limits now cs f e s = rw e s
-
 -- bytes without LF end no line
 pub scanned-begun : (limits : LimitPair) (p part : List ℕ) (f g : Scanning) → NoLf part → g ≡ f → Scanned limits (closed p) f → Scanned limits (closed (p ++ part)) g
 scanned-begun limits p part f g n e s = rw (closed-more p part n, e) s

@@ -5,6 +5,7 @@ use Rattle.cj_budget.specs.Limits.{LimitPair}
 use Rattle.cj_budget.specs.declared.limits.Peaks.{Peaks}
 use Rattle.cj_stream.specs.declared.ending.End.{End}
 use Rattle.cj_stream.specs.declared.ending.End.TheVariants.{Complete, Refused, WriteFault, Memory}
+use Rattle.cj_stream.specs.Carrying.{FramerState}
 use Rattle.cj_stream.specs.Lines.{Line, closed, lines, whole, first_content, begun_later}
 use Rattle.cj_stream.specs.Item.{Item}
 use Rattle.cj_stream.specs.Verdict.{Rules, refusal_in, judged, verdict, item_after, is_kept, good, ending, kept_first}
@@ -21,6 +22,10 @@ pub record EngineState : Type 0 where
   pub scanning : Scanning
   pub taken : ℕ
   pub ended : Option End
+
+-- what is seen of a framer, of the bytes it has taken, and of the end it has come to
+abbrev pub state : FramerState → ℕ → Option End → EngineState
+state f taken ended = record { reading = f.reading; scanning = f.scanning; taken = taken; ended = ended }
 
 -- the rules that it judges by, and the limits among them
 abbrev pub rules_of : EngineState → Rules

@@ -31,7 +31,6 @@ pub mod Lines
 pub mod Options
 pub mod Output
 pub mod Parts
-pub mod Phase
 pub mod Query
 pub mod QueryRows
 pub mod Reading

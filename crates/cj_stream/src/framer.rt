@@ -18,13 +18,13 @@
 //! those of later lines, when LF has ended a valid first line, before the sink gets it. So the
 //! lists for the next line have their memory (`IsReady`), and no other function allocates. The
 //! first line has functions of its own (`take_front`, `finish_first`). So those for later lines
-//! (`take_piece`, `finish`) call nothing that may allocate.
+//! (`take_piece`, `finish`) call nothing that may allocate. `take` chooses by the number of lines.
 //!
 //! If `make_room` fails, or the sink fails after it, only this memory and the count of failed
 //! growths change (`IsLeft`, `IsStill`). Each list counts the growths that failed. An end
 //! reports a lack of memory only if such a count has risen.
 ghost use Rattle.std.specs.Prelude.{◌≡◌, ◌+◌, ◌^◌, ◌<◌, ◌≤◌, ℕ, List, [], ◌∷◌, ◌++◌, ◌⊎◌, true, false, length, take};
-ghost use Rattle.std.specs.Prelude.{if◌then◌else◌, OnOk, OnErr, IfOk, IfErr, IsErrOf, IsTrue, Some};
+ghost use Rattle.std.specs.Prelude.{if◌then◌else◌, OnOk, OnErr, IfOk, IfErr, IsErrOf, IsTrue, Some, Err};
 ghost use Rattle.cj_budget.specs.Bounded.{IsWithin};
 ghost use Rattle.cj_spans.specs.Marks.{AreUnmarked};
 ghost use Rattle.cj_stream.specs.Carrying.{IsFramed, Carries, TakesAll, TakesSome, FinishesAll};
@@ -44,7 +44,7 @@ ghost use Rattle.cj_stream.specs.Sink.{HasRisen, Took, with_sink};
 ghost use Rattle.cj_stream.specs.Verdict.{Valid, report_of, stretch};
 
 use crate::desk::Desk;
-use crate::ending::{HeaderEnd, LineEnd};
+use crate::ending::{End, HeaderEnd, LineEnd};
 use crate::header_reader::Progress;
 use crate::judge::Content;
 use crate::options::Options;
@@ -610,6 +610,46 @@ impl<'q> Framer<'q> {
             rest = &rest[at + 1..];
         }
         self.store(rest)?;
+        Ok(())
+    }
+
+    /// Takes a piece of the stream, and deals with each line that ends in it. If no line was dealt
+    /// with before, the first one is the header.
+    pub fn take<S: LineSink, N: ReportSink>(
+        &mut self,
+        piece: &[u8],
+        sink: &mut S,
+        reports: &mut N,
+    ) -> Result<(), End>
+        requires ready { IsReady self.old.reading self.old.scanning }
+        requires countable { self.old.reading.lines + length piece.now < 2 ^ 62 }
+        requires undropped { self.old.reading.lines ≡ 0 → self.old.reading.dropped ≡ false }
+        ensures carries { Carries S.law (with_sink self.old sink.old) result (with_sink self.new sink.new) }
+        ensures ready { OnOk result (IsReady self.new.reading self.new.scanning) }
+        ensures few { OnOk result (self.new.reading.lines ≤ self.old.reading.lines + length piece.now) }
+        ensures undropped { OnOk result (self.new.reading.lines ≡ 0 → self.new.reading.dropped ≡ false) }
+        ensures none { result ≡ Err End.Memory → (self.old.reading.lines ≡ 0) × (self.new.reading.lines ≡ 0) }
+        ensures ok { OnOk result
+            (TakesAll S.law piece.now (with_sink self.old sink.old) (with_sink self.new sink.new)) }
+        ensures err { IfErr result (λ e. TakesSome S.law piece.now (with_sink self.old sink.old) e
+            (with_sink self.new sink.new)) }
+        ensures least { OnErr result
+            ((p : List ℕ) → Reads self.old.reading p
+            → Scanned self.old.reading.rules.limits (closed p) self.old.scanning
+            → HeldUntil self.old.reading.rules.limits p piece.now self.new.reading.lines self.new.scanning) }
+        ensures reports { (p : List ℕ) → Reads self.old.reading p
+            → Notes N.notes (stretch self.old.reading.rules (p ++ piece.now) self.old.reading.lines
+            self.new.reading.lines) reports.old reports.new }
+    {
+        if self.lines() > 0 {
+            self.take_piece(piece, sink, reports)?;
+            return Ok(());
+        }
+        let progress = self.take_front(piece, sink)?;
+        if !progress.accepted {
+            return Ok(());
+        }
+        self.take_piece(&piece[progress.used..], sink, reports)?;
         Ok(())
     }
 

@@ -51,18 +51,12 @@ impl<'q> Model for HeaderReader<'q> {
     ghost use Rattle.std.specs.Prelude.{◌≡◌, ◌≤◌, ◌^◌, None, Some, false, option_map};
     ghost use Rattle.cj_stream.specs.Ending.{header_end};
     ghost use Rattle.cj_stream.specs.Scanning.{IsReady};
-    ghost use Rattle.cj_stream.specs.Engine.{EngineState};
+    ghost use Rattle.cj_stream.specs.Engine.{EngineState, state};
     ghost use Rattle.cj_stream.specs.declared.ending.HeaderEnd.TheVariants.{Memory};
 
     ghost Value = { EngineState };
 
-    ghost view = { λ e. record {
-      reading = e.framer.reading;
-      scanning = e.framer.scanning;
-      taken = e.taken;
-      ended
-          = option_map header_end e.ended;
-    } };
+    ghost view = { λ e. state e.framer e.taken (option_map header_end e.ended) };
 
     ghost invariant = { λ e. (e.framer.reading.lines ≤ 1) × (e.ended ≡ None → e.framer.reading.lines ≤ e.taken)
         × (e.taken ≤ 2 ^ 60) × (e.ended ≡ None → IsReady e.framer.reading e.framer.scanning)

@@ -41,8 +41,8 @@
 //! - `options`: how a stream is read and judged ([`Options`]).
 //! - `report_sink`: the trait of a sink of reports ([`ReportSink`]), one that counts and one that
 //!   ignores.
-//! - `engine`: the stream so far ([`Engine`]), in one of two states: `header_reader`
-//!   ([`HeaderReader`]) and `line_reader` ([`LineReader`]).
+//! - `engine`: the stream so far ([`Engine`]), in one of two states. `header_reader`
+//!   ([`HeaderReader`]) and `line_reader` ([`LineReader`]) are the same two as types.
 //! - `ending`: how a stream ended ([`End`]).
 //! - `framer`: cuts lines and deals with each.
 //! - `store`: keeps the bytes of a line until it is whole.

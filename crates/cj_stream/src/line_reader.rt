@@ -34,17 +34,11 @@ impl<'q> Model for LineReader<'q> {
     ghost use Rattle.std.specs.Prelude.{◌≡◌, ◌≤◌, ◌<◌, ◌^◌, None, option_map};
     ghost use Rattle.cj_stream.specs.Ending.{line_end};
     ghost use Rattle.cj_stream.specs.Scanning.{IsReady};
-    ghost use Rattle.cj_stream.specs.Engine.{EngineState};
+    ghost use Rattle.cj_stream.specs.Engine.{EngineState, state};
 
     ghost Value = { EngineState };
 
-    ghost view = { λ e. record {
-      reading = e.framer.reading;
-      scanning = e.framer.scanning;
-      taken = e.taken;
-      ended
-          = option_map line_end e.ended;
-    } };
+    ghost view = { λ e. state e.framer e.taken (option_map line_end e.ended) };
 
     ghost invariant = { λ e. (0 < e.framer.reading.lines) × (e.ended ≡ None → e.framer.reading.lines ≤ e.taken)
         × (e.taken ≤ 2 ^ 60) × IsReady e.framer.reading e.framer.scanning };

@@ -1,18 +1,35 @@
-use Rattle.std.proofs.Common.{sym}
-use Rattle.cj_stream.proofs.PhaseLemmas.{self-is, IsFinished-ends}
+use Rattle.std.proofs.Common.{◌∙◌, refl, arith}
+use Rattle.cj_stream.specs.Ending.{answer_of, header_end, line_end}
+use Rattle.cj_stream.proofs.FeedingLemmas.{header-lacks, never-lacks, IsFinished-finishes}
+use Rattle.cj_stream.proofs.FinishLemmas.{Counts-finished}
+use Rattle.cj_stream.proofs.NoteLemmas.{Notes-first}
+use Rattle.cj_stream.proofs.engine.Engine.finish.Goals.{then-lines-gt0, else-lines-gt0}
 use Rattle.cj_stream.proofs.engine.Engine.finish.Goals as goal
 
 pub returns-clause-finished : goal.returns-clause-finished
 returns-clause-finished g c =
-    let going = let k = c.self.invariant.1 c.in_default.is in rw c.in-Some-phase.is at k in
-    IsFinished-ends g.S.LineSink.law c.args.self.now c.self.inside.phase c.in-Some-phase.phase c.finish-end.new.self
-    c.self.inside.taken c.self.inside.ended c.args.sink.now c.finish-end.new.sink
-    (sym c.self.view_is) c.in-Some-phase.is c.in_default.is going c.finish-end.result c.finish-end.ensures.finished
+    elim c.if-lines-gt0.branch [
+      | then-lines-gt0 w ↦ rw (← c.self.view_is, c.in_default.is, w.self-inside-is, w.sink-is)
+          (IsFinished-finishes g.S.LineSink.law c.self.inside.framer w.finish.new.self _ _ c.self.inside.taken
+          (answer_of line_end w.finish.result) _ (w.end-is ∙ (w.from-end.ensures ∙ w.after.ensures))
+          w.finish.ensures.carries (never-lacks w.finish.result) w.finish.ensures.finishes)
+      | else-lines-gt0 w ↦ rw (← c.self.view_is, c.in_default.is, w.self-inside-is, w.sink-is)
+          (IsFinished-finishes g.S.LineSink.law c.self.inside.framer w.finish_first.new.self _ _ c.self.inside.taken
+          (answer_of header_end w.finish_first.result) _
+          (w.end-is ∙ (w.from-end-else-lines-gt0.ensures ∙ w.after-else-lines-gt0.ensures))
+          w.finish_first.ensures.carries (λ h. w.finish_first.ensures.memory (header-lacks w.finish_first.result h))
+          w.finish_first.ensures.finishes)
+    ]
 
 pub returns-clause-reports : goal.returns-clause-reports
-returns-clause-reports g c = λ p st none.
-    let going = let k = c.self.invariant.1 c.in_default.is in rw c.in-Some-phase.is at k in
-    let same = self-is g.S.LineSink.law c.args.self.now c.self.inside.phase c.in-Some-phase.phase c.finish-end.new.self
-    c.self.inside.taken c.self.inside.ended c.args.sink.now c.finish-end.new.sink
-    (sym c.self.view_is) c.in-Some-phase.is c.in_default.is going in
-    rw same (c.finish-end.ensures.reports p (rw same at st))
+returns-clause-reports g c =
+    elim c.if-lines-gt0.branch [
+      | then-lines-gt0 w ↦ rw (← c.self.view_is, w.self-inside-is, w.reports-is)
+          (λ p st going. w.finish.ensures.reports p (st.going going).0)
+      | else-lines-gt0 w ↦ rw (← c.self.view_is, w.self-inside-is, w.reports-is) (λ p st going.
+          let counts = Counts-finished g.S.LineSink.law c.self.inside.framer.reading w.finish_first.new.self.reading
+          c.args.sink.now w.finish_first.new.sink p (st.going going).0 (answer_of header_end w.finish_first.result)
+          (w.finish_first.ensures.finishes.answers p (st.going going).0) in
+          Notes-first g.N.ReportSink.notes c.self.inside.framer.reading.rules p _ _ _ _
+          (omega (arith, w.if-lines-gt0.false, c.lines.ensures)) w.finish_first.ensures.few counts.good refl)
+    ]

@@ -5,9 +5,10 @@ use Rattle.cj_stream.specs.Lines.{closed}
 use Rattle.cj_stream.proofs.LeastLemmas.{held-until}
 use Rattle.cj_stream.proofs.NoteLemmas.{Notes-none, Notes-then}
 use Rattle.cj_stream.proofs.PieceSlices.{lf_found, NoLf-before, NoLf-not_found, left_length, piece_more}
-use Rattle.cj_stream.proofs.PieceLemmas.{Stops-later, Stops-unstored_last, Advances-none, Advances-then, Advances-stored}
+use Rattle.cj_stream.proofs.CarryingLemmas.{TakesAll-then, TakesSome-then}
+use Rattle.cj_stream.proofs.PieceLemmas.{Stops-unstored_last, Advances-none, Advances-stored}
 use Rattle.cj_stream.proofs.StaysLemmas.{Stays-then, Stays-same}
-use Rattle.cj_stream.proofs.ScanningLemmas.{few-scanned, first-closed, few-then, scanned-then, scanned-under, scanned-begun, Rises-then, Rises-same}
+use Rattle.cj_stream.proofs.ScanningLemmas.{few-scanned, first-closed, scanned-begun, Rises-then, Rises-same}
 use Rattle.cj_stream.proofs.framer.Framer.take_piece.Goals as goal
 
 pub take_line-requires-clause-one : goal.take_line-requires-clause-one
@@ -17,31 +18,15 @@ pub returns-in_err-take_line-clause-err : goal.returns-in_err-take_line-clause-e
 returns-in_err-take_line-clause-err g c =
     let p = err_from_is_err_and c.from_residual.result c.from_residual.ensures.1 in
     let i = c.loop-at.invariant.read in
-    let rest = c.loop-at.rest.now in
-    let limits = c.args.self.now.reading.rules.limits in
-    let same = ap (λ x. x.limits) c.loop-at.invariant.stays.rules in
-    let found = lf_found rest c.in-Some.at c.in-Some.ensures in
-    let stopped = c.in_err-take_line.ensures.err (drop (c.in-Some.at + 1) rest) in
-    rw (p.1, p.2) (record {
-      stops = λ q reads.
-          let a = i.2.advances q reads in
-          rw i.1 (Stops-later g.S.LineSink.law a
-          (rw found (stopped.stops (q ++ i.0) a.reads)));
-      held = λ q reads s.
-          let a = i.2.advances q reads in
-          let held = stopped.held (q ++ i.0) a.reads (scanned-under limits c.loop-at.self.reading.rules.limits
-          (closed (q ++ i.0)) c.loop-at.self.scanning same (i.2.scanned q reads s)) in
-          rw i.1 (few-then limits c.loop-at.self.reading.rules.limits q i.0 rest c.take_line.new.self.scanning same
-          (rw found held));
-    })
+    let stopped = c.in_err-take_line.ensures.err (drop (c.in-Some.at + 1) c.loop-at.rest.now) in
+    rw (p.1, p.2, i.1) (TakesSome-then g.S.LineSink.law i.2
+    (rw (← lf_found c.loop-at.rest.now c.in-Some.at c.in-Some.ensures) at stopped))
 
 pub loop-at-preserved : goal.loop-at-preserved
 loop-at-preserved g c =
     let i = c.loop-at.invariant.read in
     let rest = c.loop-at.rest.now in
     let k = c.in-Some.at in
-    let limits = c.args.self.now.reading.rules.limits in
-    let same = ap (λ x. x.limits) c.loop-at.invariant.stays.rules in
     record {
       stays = Stays-then _ _ _ c.loop-at.invariant.stays c.take_line.ensures.carries.stays;
       rises = Rises-then _ _ _ c.loop-at.invariant.rises c.take_line.ensures.carries.rises;
@@ -53,17 +38,7 @@ loop-at-preserved g c =
       read = (
         i.0 ++ (take k rest ++ 10 ∷ []),
         piece_more c.args.piece.now i.0 rest k i.1 c.in-Some.ensures,
-        record {
-          advances = λ q reads.
-              let a = i.2.advances q reads in
-              Advances-then g.S.LineSink.law a (c.in_ok-take_line.ensures.ok.advances (q ++ i.0) a.reads);
-          scanned = λ q reads s.
-              let a = i.2.advances q reads in
-              scanned-then limits c.loop-at.self.reading.rules.limits q i.0 (take k rest ++ 10 ∷ [])
-              c.take_line.new.self.scanning same (c.in_ok-take_line.ensures.ok.scanned (q ++ i.0) a.reads
-              (scanned-under limits c.loop-at.self.reading.rules.limits (closed (q ++ i.0)) c.loop-at.self.scanning same
-              (i.2.scanned q reads s)));
-        },
+        TakesAll-then g.S.LineSink.law i.2 c.in_ok-take_line.ensures.ok,
       );
       reports = λ q reads.
           let text : (q ++ i.0) ++ (take k c.loop-at.rest.now ++ 10 ∷ drop (k + 1) c.loop-at.rest.now) ≡ q ++ c.args.piece.now =
@@ -77,34 +52,23 @@ returns-in_err-store-clause-err g c =
     let p = err_from_is_err_and c.from_residual-in_err-store.result c.from_residual-in_err-store.ensures.1 in
     let i = c.loop-at.invariant.read in
     let rest = c.loop-at.rest.now in
-    let limits = c.args.self.now.reading.rules.limits in
     let none = NoLf-not_found rest c.memchr.result c.memchr.ensures c.in_default.not-Some in
-    rw (p.1, p.2) (record {
-      stops = λ q reads.
-          let a = i.2.advances q reads in
-          rw (i.1, c.in_err-store.ensures.err) (Stops-later g.S.LineSink.law a
-          (Stops-unstored_last g.S.LineSink.law a.reads none
-          c.in_err-store.ensures.cause));
-      held = λ q reads s. rw (i.1, c.in_err-store.ensures.err) (few-then limits limits q i.0 rest
-          c.loop-at.self.scanning refl (few-scanned limits (closed (q ++ i.0)) c.loop-at.self.scanning _
-          (i.2.scanned q reads s) (first-closed (q ++ i.0) rest)));
-    })
+    rw (p.1, p.2, i.1, c.in_err-store.ensures.err) (TakesSome-then g.S.LineSink.law i.2 (record {
+      stops = λ q reads. Stops-unstored_last g.S.LineSink.law reads none c.in_err-store.ensures.cause;
+      held = λ q reads s. few-scanned c.loop-at.self.reading.rules.limits (closed q) c.loop-at.self.scanning _ s
+          (first-closed q rest);
+    }))
 
 pub returns-clause-ok : goal.returns-clause-ok
 returns-clause-ok g c =
     let i = c.loop-at.invariant.read in
     let rest = c.loop-at.rest.now in
-    let limits = c.args.self.now.reading.rules.limits in
     let none = NoLf-not_found rest c.memchr.result c.memchr.ensures c.in_default.not-Some in
-    record {
-      advances = λ q reads.
-          let a = i.2.advances q reads in
-          rw i.1 (Advances-then g.S.LineSink.law a
-          (Advances-stored g.S.LineSink.law a.reads none c.in_ok-store.ensures.ok));
-      scanned = λ q reads s. rw i.1 (scanned-then limits limits q i.0 rest c.store.new.self.scanning refl
-          (scanned-begun limits (q ++ i.0) rest c.loop-at.self.scanning c.store.new.self.scanning none
-          c.store.ensures.lists (i.2.scanned q reads s)));
-    }
+    rw i.1 (TakesAll-then g.S.LineSink.law i.2 (record {
+      advances = λ q reads. Advances-stored g.S.LineSink.law reads none c.in_ok-store.ensures.ok;
+      scanned = λ q reads s. scanned-begun c.loop-at.self.reading.rules.limits q rest c.loop-at.self.scanning
+          c.store.new.self.scanning none c.store.ensures.lists s;
+    }))
 
 pub loop-at-init : goal.loop-at-init
 loop-at-init g c = record {

@@ -1,4 +1,4 @@
-use Rattle.std.proofs.Common.{◌≡◌, ap, ◌+◌, length, refl, ◌∙◌, Some, None, Err}
+use Rattle.std.proofs.Common.{ap, refl}
 use Rattle.std.specs.Prelude.{option_map}
 use Rattle.cj_stream.specs.Ending.{line_end, answer_of}
 use Rattle.cj_stream.proofs.EngineLemmas.{none_from_not_some}
@@ -12,23 +12,16 @@ returns-in-Some-clause-feeds g c =
 
 pub returns-in-Ok-clause-feeds : goal.returns-in-Ok-clause-feeds
 returns-in-Ok-clause-feeds g c =
-    let not_ended : c.self.inside.ended ≡ None = none_from_not_some c.self.inside.ended c.in_default.not-Some in
-    let going : option_map line_end c.self.inside.ended ≡ None = ap (option_map line_end) not_ended in
-    rw (← c.self.view_is) (Feeds-advances g.S.LineSink.law
-    (record { reading = c.self.inside.framer.reading; scanning = c.self.inside.framer.scanning; taken = c.self.inside.taken; ended = option_map line_end c.self.inside.ended }) _
-    (record { reading = c.take_piece.new.self.reading; scanning = c.take_piece.new.self.scanning; taken = c.self.inside.taken + length c.args.piece.now; ended = option_map line_end c.self.inside.ended }) _
-    going c.take_piece.ensures.carries.counts c.take_piece.ensures.carries.stays c.take_piece.ensures.carries.framed.sound c.take_piece.ensures.carries.framed.room c.take_piece.ensures.carries.rises
-    c.args.piece.now going refl c.in-Ok.ensures.ok.advances c.in-Ok.ensures.ok.scanned)
+    rw (← c.self.view_is, none_from_not_some c.self.inside.ended c.in_default.not-Some)
+    (Feeds-advances g.S.LineSink.law c.self.inside.framer c.take_piece.new.self _ _ c.self.inside.taken _
+    c.take_piece.ensures.carries c.args.piece.now _ refl c.in-Ok.ensures.ok)
 
 pub returns-in-Err-clause-feeds : goal.returns-in-Err-clause-feeds
 returns-in-Err-clause-feeds g c =
-    let not_ended : c.self.inside.ended ≡ None = none_from_not_some c.self.inside.ended c.in_default.not-Some in
-    let going : option_map line_end c.self.inside.ended ≡ None = ap (option_map line_end) not_ended in
-    rw (← c.self.view_is) (Feeds-stops g.S.LineSink.law
-    (record { reading = c.self.inside.framer.reading; scanning = c.self.inside.framer.scanning; taken = c.self.inside.taken; ended = option_map line_end c.self.inside.ended }) _
-    (record { reading = c.take_piece.new.self.reading; scanning = c.take_piece.new.self.scanning; taken = c.self.inside.taken; ended = Some (line_end c.in-Err.end) }) _
-    going c.take_piece.ensures.carries.counts c.take_piece.ensures.carries.stays c.take_piece.ensures.carries.framed.sound c.take_piece.ensures.carries.framed.room c.take_piece.ensures.carries.rises
-    c.args.piece.now (line_end c.in-Err.end) refl (λ fault. c.take_piece.ensures.carries.cause (ap (answer_of line_end) c.in-Err.is ∙ ap Err fault)) (λ lacks. c.take_piece.ensures.carries.memory (ap (answer_of line_end) c.in-Err.is ∙ ap Err lacks)) c.in-Err.ensures.err.stops c.in-Err.ensures.err.held c.in-Err.ensures.least)
+    rw (← c.self.view_is, none_from_not_some c.self.inside.ended c.in_default.not-Some)
+    (Feeds-stops g.S.LineSink.law c.self.inside.framer c.take_piece.new.self _ _ c.self.inside.taken _
+    c.take_piece.ensures.carries c.args.piece.now (line_end c.in-Err.end) (ap (answer_of line_end) c.in-Err.is)
+    c.in-Err.ensures.err c.in-Err.ensures.least)
 
 pub returns-in-Ok-clause-reports : goal.returns-in-Ok-clause-reports
 returns-in-Ok-clause-reports g c = rw (← c.self.view_is) (λ p st going. c.take_piece.ensures.reports p (st.going going).0)

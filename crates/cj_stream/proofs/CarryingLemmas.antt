@@ -1,0 +1,57 @@
+-- What a framer carries on where some bytes come after others that were all taken.
+use Rattle.std.proofs.Common.{◌≡◌, ℕ, List, ◌++◌, sym, ap, ◌∙◌, append_assoc}
+use Rattle.cj_stream.specs.declared.ending.End.{End}
+use Rattle.cj_stream.specs.Carrying.{FramerState, TakesAll, TakesSome}
+use Rattle.cj_stream.specs.Lines.{closed}
+use Rattle.cj_stream.specs.Reading.{Reads, further, Advances}
+use Rattle.cj_stream.specs.Scanning.{Scanning, Scanned, HeldUntil}
+use Rattle.cj_stream.specs.Sink.{SinkLaw, with_sink}
+use Rattle.cj_stream.proofs.PieceLemmas.{Advances-then, Stops-later}
+
+module _ {S : Type 0} (law : SinkLaw S) {f g : FramerState} {s t : S} {bytes : List ℕ}
+    (all : TakesAll law bytes (with_sink f s) (with_sink g t)) where
+  limits : (p : List ℕ) → Reads f.reading p → g.reading.rules.limits ≡ f.reading.rules.limits
+  limits p reads = ap (λ r. r.limits) (all.advances p reads).rules
+
+  scanned : (p : List ℕ) → Reads f.reading p → Scanned f.reading.rules.limits (closed p) f.scanning
+      → Scanned g.reading.rules.limits (closed (p ++ bytes)) g.scanning
+  scanned p reads k = rw (limits p reads) (all.scanned p reads k)
+
+  pub TakesAll-then : {more : List ℕ} {h : FramerState} {u : S} → TakesAll law more (with_sink g t) (with_sink h u)
+      → TakesAll law (bytes ++ more) (with_sink f s) (with_sink h u)
+  TakesAll-then {more} rest = record {
+    advances = λ p reads.
+        let a = all.advances p reads in
+        Advances-then law a (rest.advances (p ++ bytes) a.reads);
+    scanned = λ p reads k.
+        let z = rest.scanned (p ++ bytes) (all.advances p reads).reads (scanned p reads k) in
+        rw (limits p reads, append_assoc p bytes more) at z;
+  }
+
+  pub TakesSome-then : {more : List ℕ} {h : FramerState} {u : S} {e : End}
+      → TakesSome law more (with_sink g t) e (with_sink h u)
+      → TakesSome law (bytes ++ more) (with_sink f s) e (with_sink h u)
+  TakesSome-then {more} rest = record {
+    stops = λ p reads.
+        let a = all.advances p reads in
+        Stops-later law a (rest.stops (p ++ bytes) a.reads);
+    held = λ p reads k.
+        let z = rest.held (p ++ bytes) (all.advances p reads).reads (scanned p reads k) in
+        rw (limits p reads, append_assoc p bytes more) at z;
+  }
+
+  -- how much of trees was held by n lines
+  pub HeldUntil-then : (more : List ℕ) (n : ℕ) (now : Scanning)
+      → ((q : List ℕ) → Reads g.reading q → Scanned g.reading.rules.limits (closed q) g.scanning
+      → HeldUntil g.reading.rules.limits q more n now)
+      → (p : List ℕ) → Reads f.reading p → Scanned f.reading.rules.limits (closed p) f.scanning
+      → HeldUntil f.reading.rules.limits p (bytes ++ more) n now
+  HeldUntil-then more n now rest p reads k =
+      let x = let z = rest (p ++ bytes) (all.advances p reads).reads (scanned p reads k) in rw (limits p reads) at z in
+      record {
+        done = bytes ++ x.done;
+        left = x.left;
+        cut = ap (λ z. bytes ++ z) x.cut ∙ sym (append_assoc bytes x.done x.left);
+        lines = rw (← append_assoc p bytes x.done) x.lines;
+        held = rw (← append_assoc p bytes x.done) x.held;
+      }
