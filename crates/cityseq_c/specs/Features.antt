@@ -10,9 +10,11 @@ use Rattle.cj_feature.specs.Walks.{object_geometries}
 use Rattle.cj_stream.specs.Criteria.{objects_of}
 use Rattle.cj_stream.specs.Item.{Item, is_feature}
 use Rattle.cj_stream.specs.Lines.{Line, raw, lines, later_of}
-use Rattle.cj_stream.specs.Tallied.{IsRange, beside, capped, how_often, lod_classes, numbers_on, type_numbers}
+use Rattle.cj_stream.specs.Tallied.{IsRange, beside, capped, class_count, how_often, lod_classes, numbers_on}
+use Rattle.cj_stream.specs.Tallied.{type_numbers}
 use Rattle.cj_stream.specs.Verdict.{Rules, good, is_kept, verdict, item_after}
 use Rattle.cityseq_c.specs.Tally.{range_of}
+use Rattle.cj_geometry.specs.ObjectTypes.{type_count}
 use Rattle.cityseq_c.specs.declared.features.record_of.FeatureRecord.{FeatureRecord}
 use Rattle.cityseq_c.specs.declared.features.listed.Listed.{Listed}
 use Rattle.cityseq_c.specs.declared.features.cursor.Cursor.{Cursor}
@@ -80,8 +82,8 @@ pub record IsRecordOf (x : Spot) (f : FeatureRecord) : Type 0 where
   pub id : HasId x.item f
   pub objects : f.objects ≡ capped (length (objects_of x.item.tree))
   pub geometries : f.geometries ≡ capped (length (flat_map object_geometries (objects_of x.item.tree)))
-  pub types : f.types ≡ bits (is_among (type_numbers x.item.tree)) 33
-  pub lods : f.lods ≡ bits (is_among (classes_of x.item)) 6
+  pub types : f.types ≡ bits (is_among (type_numbers x.item.tree)) type_count
+  pub lods : f.lods ≡ bits (is_among (classes_of x.item)) class_count
   pub ranges : (axis : ℕ) → axis < 3 → HasRange x.item f axis
 
 -- room has the records of the first of these spots, as many as fit, and is else as it was

@@ -54,7 +54,7 @@ mod tests;
 mod words;
 
 use answer::Answer;
-use cj_stream::{IgnoreSink, TallySink, laws};
+use cj_stream::{IgnoreSink, TallySink, VERSION, laws};
 use features::{FeatureRecord, Listed};
 use finder::Finder;
 use judging::{are_cut, judge};
@@ -73,9 +73,6 @@ const STACK_OF_SHORT_LINES: usize = 131_072;
 
 /// The same under any other.
 const STACK: usize = 2_097_152;
-
-/// The version of the library.
-const VERSION: &str = "0.2.0";
 
 /// Returns the number of the interface. An interface with other declarations in `c/cityseq.h` has
 /// another number.

@@ -3,7 +3,7 @@ ghost use Rattle.std.specs.Prelude.{◌≡◌};
 ghost use Rattle.cityseq_c.specs.Tally.{AreShown, IsDecimal, IsTally, range_of as range_told, range_by};
 
 use cj_decimal::Decimal;
-use cj_stream::{TallySink, laws};
+use cj_stream::{LOD_CLASSES, ObjectType, TallySink, laws};
 
 /// The least and the greatest whole number on an axis.
 #[repr(C)]
@@ -31,9 +31,9 @@ pub struct Number {
 pub struct Tally {
     pub features: u64,
     /// The number of city objects of each type, by the type's number.
-    pub types: [u64; 33],
+    pub types: [u64; ObjectType::COUNT],
     /// The number of geometries in each LoD class: 0 to 4, and 5 for any other.
-    pub lods: [u64; 6],
+    pub lods: [u64; LOD_CLASSES],
     /// The vertices on x, y and z, as the features have them.
     pub ranges: [Range; 3],
     /// 1 if the header is valid. Else 0, and so are the numbers below.

@@ -4,7 +4,8 @@ ghost use Rattle.std.specs.Io.KnownBytes.{Appends};
 ghost use Rattle.cj_stream.specs.Sink.{AppendsPart, RisesOnErr};
 ghost use Rattle.cj_stream.specs.Output.{channel, output_writer, output_failures};
 ghost use Rattle.cityseq_command.specs.FaultLines.{Wrote};
-ghost use Rattle.cityseq_command.specs.Summary.{check_text, numbers_line, power_text, types_text, class_names, lods_text};
+ghost use Rattle.cityseq_command.specs.Summary.{check_text, numbers_line, power_text, types_text, class_names};
+ghost use Rattle.cityseq_command.specs.Summary.{lods_text};
 ghost use Rattle.cityseq_command.specs.Summary.{range_line, ranges_text, tally_text, peaks_text, summary_text};
 ghost use Rattle.cityseq_command.specs.Text.{text_line, count_line, counted};
 
@@ -12,12 +13,9 @@ use crate::fault_lines::{write_text, write_texts};
 use cj_budget::Peaks;
 use cj_decimal::Decimal;
 use cj_geometry::ObjectType;
-use cj_stream::{Output, TallySink, WriteFault};
+use cj_stream::{LOD_CLASSES, Output, TallySink, WriteFault};
 use itoa::Buffer;
 use std::io::Write;
-
-/// How many LoD classes a tally has.
-const CLASSES: u8 = 6;
 
 /// Writes the line of `check`: how many lines were dealt with, and how many features are among
 /// them. If lines are invalid, it has their number too.
@@ -198,7 +196,7 @@ fn class_name(class: u8) -> &'static str
 fn write_lods<W: Write + Drop>(out: &mut Output<W>, tally: &TallySink) -> Result<(), WriteFault>
     ensures { Wrote (lods_text tally.now) result (channel W.contents out.old) (channel W.contents out.new) }
 {
-    for class in 0..CLASSES {
+    for class in 0..LOD_CLASSES as u8 {
         write_counted(out, "lod", class_name(class), tally.by_lod(class))?;
     }
     Ok(())

@@ -10,12 +10,9 @@ ghost use Rattle.cityseq_command.specs.Words.{texts_in, HasNumber, HasLimits, De
 ghost use Rattle.cityseq_command.specs.Words.{HasFilterOptions, HasInfoOptions};
 
 use cj_budget::{LimitFault, Limits, USUAL_DEPTH, USUAL_LINE};
-use cj_stream::Options;
+use cj_stream::{Options, VERSION};
 use clap::{Arg, ArgAction, ArgMatches, Command, Error, value_parser};
 use std::alloc::{AllocError, Global};
-
-/// The version that `--version` prints.
-const VERSION: &str = "0.2.0";
 
 /// The names of the options in `clap`.
 const LINE_LIMIT: &str = "line-limit";

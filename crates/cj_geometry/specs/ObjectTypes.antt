@@ -4,6 +4,7 @@ use Rattle.std.specs.Str.{chars, bytes_eq}
 use Rattle.cj_spans.specs.Tree.{Tree}
 use Rattle.cj_spans.specs.Parts.{has_text}
 use Rattle.cj_geometry.specs.declared.object_type.ObjectType.{ObjectType}
+use Rattle.cj_geometry.specs.declared.object_type.TheConstants.ObjectType.{COUNT}
 use Rattle.cj_geometry.specs.declared.object_type.ObjectType.TheVariants.{Bridge, Building, CityFurniture}
 use Rattle.cj_geometry.specs.declared.object_type.ObjectType.TheVariants.{CityObjectGroup, GenericCityObject, LandUse}
 use Rattle.cj_geometry.specs.declared.object_type.ObjectType.TheVariants.{OtherConstruction, PlantCover, Railway, Road}
@@ -17,6 +18,10 @@ use Rattle.cj_geometry.specs.declared.object_type.ObjectType.TheVariants.{Buildi
 use Rattle.cj_geometry.specs.declared.object_type.ObjectType.TheVariants.{BuildingUnit, TunnelConstructiveElement}
 use Rattle.cj_geometry.specs.declared.object_type.ObjectType.TheVariants.{TunnelFurniture, TunnelHollowSpace}
 use Rattle.cj_geometry.specs.declared.object_type.ObjectType.TheVariants.{TunnelInstallation, TunnelPart}
+
+-- how many types there are
+abbrev pub type_count : ℕ
+type_count = COUNT
 
 -- a name, whether a type of this name is of the second level, and its number
 pub record ObjectRow : Type 0 where

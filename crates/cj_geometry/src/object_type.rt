@@ -48,9 +48,12 @@ pub enum ObjectType {
 }
 
 impl ObjectType {
+    /// The number of types.
+    pub const COUNT: usize = 33;
+
     /// Returns all types, in the order of the table.
     #[tactic(auto, unfolding(crate::specs::ObjectTypes::object_types))]
-    pub fn all() -> [ObjectType; 33]
+    pub fn all() -> [ObjectType; ObjectType::COUNT]
         ensures { map row_at result ≡ object_types }
     {
         [
@@ -179,7 +182,7 @@ impl ObjectType {
     /// Returns its number, from 0 to 32, in the order of the table.
     pub fn number(self) -> u8
         ensures number { result ≡ (row_at self).number }
-        ensures below { result < 33 }
+        ensures below { result < ObjectType.COUNT }
     {
         self as u8
     }

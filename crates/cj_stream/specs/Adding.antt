@@ -1,12 +1,12 @@
 -- What is asked once a part is set or grows: the other parts stay.
 use Rattle.std.specs.Prelude.{ℕ, List, [], ◌∷◌, ◌++◌, Bool, true, false, replicate, slice_set, Option, Some, unwrap_or}
 use Rattle.std.specs.Prelude.{option_and_then}
-use Rattle.cj_geometry.specs.ObjectTypes.{ObjectRow, row_named}
+use Rattle.cj_geometry.specs.ObjectTypes.{ObjectRow, row_named, type_count}
 use Rattle.cj_stream.specs.Criteria.{Criteria, Box}
 
 -- no flag of a type is set
 abbrev pub no_types : List Bool
-no_types = replicate 33 false
+no_types = replicate type_count false
 
 -- one more text at the end of a part, which is empty before where it was not set
 abbrev pub with_text : List ℕ → Option (List (List ℕ)) → Option (List (List ℕ))

@@ -5,10 +5,11 @@ use Rattle.std.specs.List.{filter, flat_map}
 use Rattle.cj_spans.specs.Tree.{Tree}
 use Rattle.cj_spans.specs.Parts.{first_code_of}
 use Rattle.cj_geometry.specs.Lod.{lod}
-use Rattle.cj_geometry.specs.ObjectTypes.{ObjectRow}
+use Rattle.cj_geometry.specs.ObjectTypes.{ObjectRow, type_count}
 use Rattle.cj_feature.specs.Feature.{templates_of}
 use Rattle.cj_feature.specs.Typed.{type_row, number_on}
 use Rattle.cj_feature.specs.Walks.{object_geometries}
+use Rattle.cj_stream.specs.declared.tally.TheConstants.{LOD_CLASSES}
 use Rattle.cj_stream.specs.Criteria.{objects_of, vertices_of}
 use Rattle.cj_stream.specs.Item.{Item}
 
@@ -24,9 +25,9 @@ how_often n ns = length (filter (nat_eq n) ns)
 
 -- ---- types of city objects
 
--- the number of a row; 33 where there is none
+-- the number of a row; their number where there is none
 abbrev pub row_number : Option ObjectRow → ℕ
-row_number None = 33
+row_number None = type_count
 row_number (Some r) = r.number
 
 -- the numbers of the types of a feature's city objects
@@ -34,6 +35,10 @@ abbrev pub type_numbers : Tree → List ℕ
 type_numbers t = map (λ m. row_number (type_row m.1)) (objects_of t)
 
 -- ---- classes of LoDs
+
+-- how many classes there are
+abbrev pub class_count : ℕ
+class_count = LOD_CLASSES
 
 -- the class of a first character: 0 to 4 for `0` to `4`; 5, other, for any other one and for none
 abbrev pub class_by : Option ℕ → ℕ

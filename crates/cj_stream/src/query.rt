@@ -28,16 +28,13 @@ use ids::{Ids, add_id};
 use std::alloc::Global;
 use texts::add_text;
 
-/// The number of types of city objects.
-const TYPES: usize = 33;
-
 /// Selects features: a feature is selected if it satisfies each part that is set. The query counts
 /// its growths that failed.
 #[derive(Drop)]
 pub struct Query {
     alloc: Global,
     ids: Option<Ids>,
-    types: Option<[bool; TYPES]>,
+    types: Option<[bool; ObjectType::COUNT]>,
     lods: Option<Vec<String>>,
     bounds: Option<Bounds>,
     failed_growths: Refusals,
@@ -86,7 +83,7 @@ impl Query {
         ensures asks { criteria self.new ≡ record (criteria self.old) { types = Some no_types } }
         ensures failed_growths { failed_growths_of self.new ≡ failed_growths_of self.old }
     {
-        self.types = Some([false; TYPES]);
+        self.types = Some([false; ObjectType::COUNT]);
     }
 
     /// Sets the part on LoDs to an empty list, in place of an earlier one. Until an LoD is added,
@@ -146,7 +143,7 @@ impl Query {
         let Some(object_type) = ObjectType::named(name) else {
             return Err(QueryFault::UnknownTypeName);
         };
-        let mut types = self.types.unwrap_or([false; TYPES]);
+        let mut types = self.types.unwrap_or([false; ObjectType::COUNT]);
         types[object_type.number() as usize] = true;
         self.types = Some(types);
         Ok(())

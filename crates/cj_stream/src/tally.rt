@@ -20,7 +20,7 @@ use joining::{add_counts, join_ranges};
 use std::marker::Model;
 
 /// The number of LoD classes: 0 to 4, and other.
-const CLASSES: usize = 6;
+pub const LOD_CLASSES: usize = 6;
 
 /// Tallies the kept features of a stream. It counts features, city objects by type, and geometries
 /// by LoD class. It has the least and greatest vertex coordinate on each axis, and the numbers of
@@ -28,8 +28,8 @@ const CLASSES: usize = 6;
 #[derive(Clone, Copy, Debug)]
 pub struct TallySink {
     features: u64,
-    types: [u64; 33],
-    lods: [u64; CLASSES],
+    types: [u64; ObjectType::COUNT],
+    lods: [u64; LOD_CLASSES],
     ranges: [Option<(i64, i64)>; 3],
     scale: Option<[Decimal; 3]>,
     translate: Option<[Decimal; 3]>,
@@ -66,8 +66,8 @@ impl TallySink {
     {
         TallySink {
             features: 0,
-            types: [0; 33],
-            lods: [0; CLASSES],
+            types: [0; ObjectType::COUNT],
+            lods: [0; LOD_CLASSES],
             ranges: [None; 3],
             scale: None,
             translate: None,
@@ -78,8 +78,8 @@ impl TallySink {
     /// elsewhere can be continued.
     pub fn of_counts(
         features: u64,
-        types: [u64; 33],
-        lods: [u64; CLASSES],
+        types: [u64; ObjectType::COUNT],
+        lods: [u64; LOD_CLASSES],
         ranges: [Option<(i64, i64)>; 3],
     ) -> TallySink
         ensures { result ≡ record {
@@ -116,14 +116,14 @@ impl TallySink {
     }
 
     /// Returns the number of city objects of each type, by the type's number.
-    pub fn types(&self) -> [u64; 33]
+    pub fn types(&self) -> [u64; ObjectType::COUNT]
         ensures { result ≡ self.now.types }
     {
         self.types
     }
 
     /// Returns the number of geometries in each LoD class, as [`TallySink::by_lod`] counts them.
-    pub fn lods(&self) -> [u64; CLASSES]
+    pub fn lods(&self) -> [u64; LOD_CLASSES]
         ensures { result ≡ self.now.lods }
     {
         self.lods

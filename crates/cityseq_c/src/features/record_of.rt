@@ -9,7 +9,7 @@ ghost use Rattle.cj_stream.specs.Tallied.{capped, lod_classes, type_numbers};
 ghost use Rattle.cityseq_c.specs.Features.{IsRecordOf, bits, is_among};
 
 use crate::tally::{Range, range_of};
-use cj_stream::{Feature, count_lods, widen_all};
+use cj_stream::{Feature, LOD_CLASSES, ObjectType, count_lods, widen_all};
 
 /// A kept feature, as C has it.
 #[repr(C)]
@@ -41,7 +41,7 @@ pub struct FeatureRecord {
 /// them has the type of number n. The count stops at 2^64 - 1.
 fn tally_objects(feature: &Feature) -> (u64, u64)
     ensures count { result.0 ≡ capped (length (objects_of (feature_tree feature.now))) }
-    ensures types { result.1 ≡ bits (is_among (type_numbers (feature_tree feature.now))) 33 }
+    ensures types { result.1 ≡ bits (is_among (type_numbers (feature_tree feature.now))) ObjectType.COUNT }
 {
     let mut count = 0u64;
     let mut types = 0u64;
@@ -83,9 +83,10 @@ fn bits_of(counts: &[u64]) -> u64
 /// has an LoD of class n. The count stops at 2^64 - 1.
 fn tally_geometries(feature: &Feature) -> (u64, u64)
     ensures count { result.0 ≡ capped (length (flat_map object_geometries (objects_of (feature_tree feature.now)))) }
-    ensures lods { result.1 ≡ bits (is_among (lod_classes (feature_header feature.now) (feature_tree feature.now))) 6 }
+    ensures lods { result.1
+        ≡ bits (is_among (lod_classes (feature_header feature.now) (feature_tree feature.now))) LOD_CLASSES }
 {
-    let mut counts = [0; 6];
+    let mut counts = [0; LOD_CLASSES];
     count_lods(&mut counts, feature);
     (sum_of(&counts), bits_of(&counts))
 }

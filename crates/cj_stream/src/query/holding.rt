@@ -8,7 +8,7 @@ ghost use Rattle.cj_stream.specs.Criteria.{has_lod as lod_holds};
 
 use crate::query::ids::Ids;
 use cj_feature::{Feature, Header};
-use cj_geometry::{Lods, lod_of};
+use cj_geometry::{Lods, ObjectType, lod_of};
 use cj_spans::Node;
 
 /// Returns whether the text of a node is one of these.
@@ -31,7 +31,7 @@ pub fn has_id(ids: &Ids, feature: &Feature) -> bool
 }
 
 /// Returns whether the type of some city object is one of these.
-pub fn has_type(types: &[bool; 33], feature: &Feature) -> bool
+pub fn has_type(types: &[bool; ObjectType::COUNT], feature: &Feature) -> bool
     ensures { result ≡ type_holds types.now (feature_tree feature.now) }
 {
     for object in feature.objects() {

@@ -8,11 +8,11 @@ ghost use Rattle.cj_feature.specs.Walks.{vertices_left};
 ghost use Rattle.cj_stream.specs.Tallied.{class_of as lod_class, type_numbers, lod_classes, numbers_on};
 ghost use Rattle.cj_stream.specs.TallySink.{AreWordsOf, RangesFront, RisesBy, Widens, WidensWords};
 
-use super::CLASSES;
+use super::LOD_CLASSES;
 use super::joining::join_ranges;
 use cj_decimal::word_value;
 use cj_feature::{Feature, Vertices};
-use cj_geometry::{Lods, lod_of};
+use cj_geometry::{Lods, ObjectType, lod_of};
 use cj_spans::Node;
 
 /// The class of an LoD that does not begin with `0` to `4`, and of a missing LoD.
@@ -26,7 +26,7 @@ const LAST: u32 = 52;
 /// Returns the class of an LoD, if there is one.
 fn class_of(lod: Option<Node>) -> usize
     ensures class { result ≡ lod_class (option_map tree lod.entry) }
-    ensures below { result < CLASSES }
+    ensures below { result < LOD_CLASSES }
 {
     match lod {
         Some(node) => match node.first_code() {
@@ -38,8 +38,8 @@ fn class_of(lod: Option<Node>) -> usize
 }
 
 /// Counts the city objects of a feature by their types.
-pub fn count_types(counts: &mut [u64; 33], feature: &Feature)
-    ensures { RisesBy 33 counts.old (type_numbers (feature_tree feature.now)) counts.new }
+pub fn count_types(counts: &mut [u64; ObjectType::COUNT], feature: &Feature)
+    ensures { RisesBy ObjectType.COUNT counts.old (type_numbers (feature_tree feature.now)) counts.new }
 {
     for object in feature.objects() {
         let number = object.object_type.number() as usize;
@@ -48,8 +48,8 @@ pub fn count_types(counts: &mut [u64; 33], feature: &Feature)
 }
 
 /// Counts the geometries of a feature by LoD class. It looks up each LoD on its own.
-fn count_alone(counts: &mut [u64; CLASSES], feature: &Feature)
-    ensures { RisesBy CLASSES counts.old (lod_classes (feature_header feature.now) (feature_tree feature.now))
+fn count_alone(counts: &mut [u64; LOD_CLASSES], feature: &Feature)
+    ensures { RisesBy LOD_CLASSES counts.old (lod_classes (feature_header feature.now) (feature_tree feature.now))
         counts.new }
 {
     let templates = feature.templates();
@@ -62,8 +62,8 @@ fn count_alone(counts: &mut [u64; CLASSES], feature: &Feature)
 /// Does the same, and keeps the results of earlier look-ups. They take some 8 KiB of the stack,
 /// which takes time to fill.
 #[inline(never)]
-fn count_together(counts: &mut [u64; CLASSES], feature: &Feature)
-    ensures { RisesBy CLASSES counts.old (lod_classes (feature_header feature.now) (feature_tree feature.now))
+fn count_together(counts: &mut [u64; LOD_CLASSES], feature: &Feature)
+    ensures { RisesBy LOD_CLASSES counts.old (lod_classes (feature_header feature.now) (feature_tree feature.now))
         counts.new }
 {
     let mut lods = Lods::beside(feature.templates());
@@ -74,8 +74,9 @@ fn count_together(counts: &mut [u64; CLASSES], feature: &Feature)
 }
 
 /// Counts the geometries of a feature by LoD class, as [`crate::TallySink::by_lod`] does.
-pub fn count_lods(counts: &mut [u64; 6], feature: &Feature)
-    ensures { RisesBy 6 counts.old (lod_classes (feature_header feature.now) (feature_tree feature.now)) counts.new }
+pub fn count_lods(counts: &mut [u64; LOD_CLASSES], feature: &Feature)
+    ensures { RisesBy LOD_CLASSES counts.old (lod_classes (feature_header feature.now) (feature_tree feature.now))
+        counts.new }
 {
     if feature.templates().is_empty() {
         count_alone(counts, feature);
