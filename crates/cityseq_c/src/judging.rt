@@ -96,13 +96,7 @@ fn judge_stream<S: LineSink>(
     if let End::Memory = outcome.ended {
         return Err(NotJudged::Memory);
     }
-    Ok(Outcome {
-        lines: engine.lines(),
-        kept: engine.kept(),
-        refused: engine.refused(),
-        peaks: outcome.peaks,
-        ended: outcome.ended,
-    })
+    Ok(Outcome::of(engine, outcome.ended))
 }
 
 /// Judges a header and a part, which are one stream, as a request asks. It puts the header and the

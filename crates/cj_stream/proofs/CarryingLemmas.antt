@@ -3,7 +3,7 @@ use Rattle.std.proofs.Common.{◌≡◌, ℕ, List, ◌++◌, sym, ap, ◌∙◌
 use Rattle.cj_stream.specs.declared.ending.End.{End}
 use Rattle.cj_stream.specs.Carrying.{FramerState, TakesAll, TakesSome}
 use Rattle.cj_stream.specs.Lines.{closed}
-use Rattle.cj_stream.specs.Reading.{Reads, further, Advances}
+use Rattle.cj_stream.specs.Reading.{Reads}
 use Rattle.cj_stream.specs.Scanning.{Scanning, Scanned, HeldUntil}
 use Rattle.cj_stream.specs.Sink.{SinkLaw, with_sink}
 use Rattle.cj_stream.proofs.PieceLemmas.{Advances-then, Stops-later}

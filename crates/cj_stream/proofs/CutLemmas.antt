@@ -3,7 +3,6 @@ use Rattle.std.proofs.Common.{◌≡◌, ℕ, ◌+◌, ◌<◌, ◌≤◌, ◌�
 use Rattle.std.specs.Prelude.{is_some}
 use Rattle.std.proofs.lemmas.List.{append-nil}
 use Rattle.std.proofs.lemmas.Bool.{ltb-true}
-use Rattle.cj_budget.specs.declared.limits.Peaks.{Peaks}
 use Rattle.cj_spans.specs.declared.reason.Reason.TheVariants.{LineTooLong}
 use Rattle.cj_stream.specs.declared.ending.End.{End}
 use Rattle.cj_stream.specs.declared.ending.End.TheVariants.{Complete, Refused, ReadFault, ReadLimit, WriteFault, Memory}
@@ -13,9 +12,9 @@ use Rattle.cj_stream.specs.Verdict.{Rules, verdict, header_of, item_after, goes_
 use Rattle.cj_stream.specs.Verdict.{refusal_from, good_from, kept_from, kept_first, kept, reported_from, reported, good}
 use Rattle.cj_stream.specs.Verdict.{ending, judged, long_line, stretch, up_to}
 use Rattle.cj_stream.specs.Cut.{joined, PutsPieces, EndsAt, Copies, TookWhole, IsUnread, in_pieces, given_after}
-use Rattle.cj_stream.specs.Engine.{EngineState, rules_of, lines_of, Delivers, Faults, Tells, Concludes}
+use Rattle.cj_stream.specs.Engine.{EngineState, Counts, rules_of, lines_of, Delivers, Faults, Tells, Concludes}
 use Rattle.cj_stream.specs.Reading.{Reads}
-use Rattle.cj_stream.specs.Run.{Run, Runs}
+use Rattle.cj_stream.specs.Run.{Ends}
 use Rattle.cj_stream.specs.Sink.{Took, LeavesNext, SinkLaw}
 use Rattle.cj_stream.specs.Output.{writes_law}
 use Rattle.cj_stream.proofs.JoinedLemmas.{joined-cut, joined-next}
@@ -149,12 +148,7 @@ kept-pieces rules pieces n good =
     (whole_kept, rw next.1 (same ∙ whole_kept))
 
 module _ {S : Type 0} (law : SinkLaw S) (rules : Rules) (pieces : List (List ℕ)) (n : ℕ) (s t : S)
-    (count features refused : ℕ) (peaks : Peaks) where
-  abbrev Given : End → Type 0
-  Given e =
-      let run : Run = record { rules = rules; read = joined (take (n + 1) pieces); outcome = record { lines = count; kept = features; refused = refused; peaks = peaks; ended = e } } in
-      Runs law run (joined (take (n + 1) pieces) ≡ joined pieces) s t
-
+    (count features refusals : ℕ) (counts : Counts rules (joined (take (n + 1) pieces)) count features refusals) where
   -- what a sink took of the lines that were dealt with before a fault
   taken : (e : End) → TookWhole law (given_after [] 0 (in_pieces rules pieces n) count) s t e → (more : List Item)
       × (middle : S)
@@ -172,33 +166,34 @@ module _ {S : Type 0} (law : SinkLaw S) (rules : Rules) (pieces : List (List ℕ
         k.after.fault,
       )
 
-  -- what a run over pieces has put
-  pub PutsPieces-runs : (e : End) → Given e → TookWhole law (given_after [] 0 (in_pieces rules pieces n) count) s t e
+  -- what was put, by the end
+  pub PutsPieces-ends : (e : End)
+      → Ends rules (joined (take (n + 1) pieces)) count (joined (take (n + 1) pieces) ≡ joined pieces) e
+      → Delivers law (stretch rules (joined (take (n + 1) pieces)) 0 count) s t (Some e)
+      → TookWhole law (given_after [] 0 (in_pieces rules pieces n) count) s t e
       → IsUnread e → PutsPieces law (in_pieces rules pieces n) e s t
-  PutsPieces-runs Complete h k u = rw (← h.account.ends.2) (
-    h.account.ends.0,
-    Took-all law rules
-        (joined (take (n + 1) pieces)) count s t Complete h.sink h.sink.fault h.account.ends.1,
+  PutsPieces-ends Complete ends d k u = rw (← ends.2) (
+    ends.0,
+    Took-all law rules (joined (take (n + 1) pieces)) count s t Complete d d.fault ends.1,
   )
-  PutsPieces-runs (Refused number place reason) h k u = go h.account.ends.2
+  PutsPieces-ends (Refused number place reason) ends d k u = go ends.2
     where
       all : Took law.takes s (kept rules (joined (take (n + 1) pieces))) t
-      all = Took-all law rules (joined (take (n + 1) pieces)) count s t (Refused number place reason) h.sink
-          h.sink.fault h.account.ends.1
+      all = Took-all law rules (joined (take (n + 1) pieces)) count s t (Refused number place reason) d d.fault ends.1
 
       go : (joined (take (n + 1) pieces) ≡ joined pieces) ⊎ (refusal_in rules (judged rules.limits (joined (take (n + 1) pieces))) ≡ Some (Refused number place reason))
           → PutsPieces law (in_pieces rules pieces n) (Refused number place reason) s t
-      go (inl same) = rw (← same) (h.account.ends.0, all)
+      go (inl same) = rw (← same) (ends.0, all)
       go (inr told) =
           let more = refused-more rules (joined (take (n + 1) pieces)) (joined (drop (n + 1) pieces)) (Refused number place reason) told in
           rw (← joined-cut (n + 1) pieces) (more.0, rw more.1 all)
-  PutsPieces-runs ReadFault h k u = absurd u
-  PutsPieces-runs ReadLimit h k u = absurd u
-  PutsPieces-runs WriteFault h k u =
+  PutsPieces-ends ReadFault ends d k u = absurd u
+  PutsPieces-ends ReadLimit ends d k u = absurd u
+  PutsPieces-ends WriteFault ends d k u =
       let r = joined (take (n + 1) pieces) in
       let took = taken WriteFault k in
       let fault = took.4 in
-      let next = kept-next_line rules count r fault.0 h.account.counts.good fault.1 fault.2 in
+      let next = kept-next_line rules count r fault.0 counts.good fault.1 fault.2 in
       record {
         more = took.0;
         others = item_after rules (take count (lines r)) fault.0 ∷ next.0;
@@ -207,7 +202,7 @@ module _ {S : Type 0} (law : SinkLaw S) (rules : Rules) (pieces : List (List ℕ
         took = took.3;
         left = fault.3;
       }
-  PutsPieces-runs Memory h k u =
+  PutsPieces-ends Memory ends d k u =
       let r = joined (take (n + 1) pieces) in
       let took = taken Memory k in
       let others : List Item = kept_from rules (take count (lines r)) (good_from rules (take count (lines r)) (drop count (lines r))) in
@@ -215,7 +210,7 @@ module _ {S : Type 0} (law : SinkLaw S) (rules : Rules) (pieces : List (List ℕ
         more = took.0;
         others = others;
         middle = took.1;
-        front = kept-split rules count r h.account.counts.good ∙ ap (λ z. z ++ others) took.2;
+        front = kept-split rules count r counts.good ∙ ap (λ z. z ++ others) took.2;
         took = took.3;
         left = took.4;
       }

@@ -1,5 +1,5 @@
 -- What the states of a stream promise of a piece and of the end, from what their framer did.
-use Rattle.std.proofs.Common.{◌≡◌, ◌≢◌, ℕ, ◌+◌, ◌≤◌, List, [], ◌++◌, length, Option, Some, None, Result, Ok, Err, arith, refl, sym, ap, ◌∙◌, length-append, OnOk, subst, cond}
+use Rattle.std.proofs.Common.{◌≡◌, ◌≢◌, ℕ, ◌+◌, List, [], ◌++◌, length, Option, Some, None, Result, Ok, Err, arith, refl, sym, ap, ◌∙◌, length-append, OnOk, subst, cond}
 use Rattle.std.specs.Prelude.{is_none, IsErrOf}
 use Rattle.std.proofs.lemmas.List.{append-nil}
 use Rattle.cj_stream.specs.declared.ending.End.{End}
@@ -35,7 +35,7 @@ below-same : (e : EngineState) → IsBelow (peaks_of e) (peaks_of e)
 below-same e = record { bytes = omega arith; tokens = omega arith; depth = omega arith }
 
 -- no end of a reader of lines is want of memory
-pub never-memory : (e : LineEnd) → line_end e ≢ Memory
+never-memory : (e : LineEnd) → line_end e ≢ Memory
 never-memory LineComplete h = cc
 never-memory (LineRefused line place reason) h = cc
 never-memory LineWriteFault h = cc
@@ -152,8 +152,9 @@ module _ {S : Type 0} (law : SinkLaw S) (old new : FramerState) (s t : S) (n : �
     counts = carries.counts;
     cause = λ _ fault. carries.cause (is ∙ ap Err (err-is fault));
     rules = carries.stays.rules;
-    stands = λ p st. StandsFor-stops law (state old n None) (state new n (Some e)) s t p bytes e refl carries.framed.sound
-        carries.framed.room (rw limits (some.held p (st.going refl).0 (st.going refl).1)) (stop p st);
+    stands = λ p st. StandsFor-stops law (state old n None) (state new n (Some e)) s t p bytes e refl
+        carries.framed.sound carries.framed.room
+        (rw limits (some.held p (st.going refl).0 (st.going refl).1)) (stop p st);
     onward = λ p st.
         omega (arith, (st.going refl).0.lines, (stop p st).reads.lines, closed-grows p (stop p st).done);
     rises = below-rises;

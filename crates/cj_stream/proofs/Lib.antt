@@ -15,6 +15,7 @@ pub mod DeviceLemmas
 pub mod EngineLemmas
 pub mod FeedingLemmas
 pub mod FinishLemmas
+pub mod GivingLemmas
 pub mod GoodLemmas
 pub mod GoingRowLemmas
 pub mod HeadlineLemmas

@@ -88,24 +88,26 @@ module _ {S : Type 0} (law : SinkLaw S) (rules : Rules) (p : List ℕ) (n : ℕ)
       given = joined (take (k + 1) pieces)
 
       -- these pieces are all, or a line of them is refused: then as much is kept of the whole stream, and it ends so
-      whole-refused : (e : End) → (joined pieces ≡ given) ⊎ (refusal_in rules (judged rules.limits (p ++ given)) ≡ Some e) → ending rules (p ++ given) ≡ e
+      whole-refused : (e : End)
+          → (given ≡ joined pieces) ⊎ (refusal_in rules (judged rules.limits (p ++ given)) ≡ Some e)
+          → ending rules (p ++ given) ≡ e
           → (ending rules (p ++ joined pieces) ≡ e) × (kept rules (p ++ joined pieces) ≡ kept rules (p ++ given))
-      whole-refused e (inl same) ends = rw same (ends, refl)
+      whole-refused e (inl same) ends = rw (← same) (ends, refl)
       whole-refused e (inr h) ends =
           let more = refused-more rules (p ++ given) (joined (drop (k + 1) pieces)) e h in
           let text : (p ++ given) ++ joined (drop (k + 1) pieces) ≡ p ++ joined pieces = append_assoc p given (joined (drop (k + 1) pieces)) ∙ ap (λ z. p ++ z) (joined-cut (k + 1) pieces) in
           let z = rw text at more in (z.0, z.1)
 
       -- what a sink took of pieces, by the end
-      pub lines-put : (e : LineEnd) (peaks : Peaks) → Ends rules (p ++ given) m (joined pieces ≡ given) (line_end e)
+      pub lines-put : (e : LineEnd) (peaks : Peaks) → Ends rules (p ++ given) m (given ≡ joined pieces) (line_end e)
           → TookWhole law (given_after p n (in_pieces rules pieces k) m) s t (line_end e)
           → PutsLines law (later_pieces rules p pieces n) (record { taken = k; peaks = peaks; ended = e }) s t
       lines-put LineComplete peaks ends w =
           let d = Delivers-whole pieces k m Complete w in
           let same = ends.2 in
           record {
-            ends = λ _. rw same (sym ends.0);
-            took = λ _. took-after given (joined pieces) m Complete d d.fault ends.1 (rw same refl);
+            ends = λ _. rw (← same) (sym ends.0);
+            took = λ _. took-after given (joined pieces) m Complete d d.fault ends.1 (rw (← same) refl);
             fault = λ h. absurd (apart h);
           }
         where

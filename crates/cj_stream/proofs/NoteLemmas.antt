@@ -184,19 +184,19 @@ module _ {N : Type 0} (notes : N → Report → N → Type 0) (rules : Rules) wh
       given : List ℕ
       given = joined (take (k + 1) pieces)
 
-      same-refused : (e : End) → (joined pieces ≡ joined (take (k + 1) pieces)) ⊎ (refusal_in rules (judged rules.limits (p ++ joined (take (k + 1) pieces))) ≡ Some e)
+      same-refused : (e : End) → (joined (take (k + 1) pieces) ≡ joined pieces) ⊎ (refusal_in rules (judged rules.limits (p ++ joined (take (k + 1) pieces))) ≡ Some e)
           → reported rules (p ++ joined pieces) ≡ reported rules (p ++ joined (take (k + 1) pieces))
-      same-refused e (inl same) = rw same refl
+      same-refused e (inl same) = rw (← same) refl
       same-refused e (inr told) =
           let given = joined (take (k + 1) pieces) in
           let more = refused-more rules (p ++ given) (joined (drop (k + 1) pieces)) e told in
           let text : (p ++ given) ++ joined (drop (k + 1) pieces) ≡ p ++ joined pieces = append_assoc p given (joined (drop (k + 1) pieces)) ∙ ap (λ z. p ++ z) (joined-cut (k + 1) pieces) in
           let z = rw text at more in z.2
 
-      pub lines-noted : (e : LineEnd) (peaks : Peaks) → Ends rules (p ++ joined (take (k + 1) pieces)) m (joined pieces ≡ joined (take (k + 1) pieces)) (line_end e)
+      pub lines-noted : (e : LineEnd) (peaks : Peaks) → Ends rules (p ++ joined (take (k + 1) pieces)) m (joined (take (k + 1) pieces) ≡ joined pieces) (line_end e)
           → NotesLines notes (later_pieces rules p pieces first) (record { taken = k; peaks = peaks; ended = e }) a b
       lines-noted LineComplete peaks ends = record {
-        noted = λ _. noted-after (joined (take (k + 1) pieces)) (joined pieces) m h ends.1 (rw ends.2 refl);
+        noted = λ _. noted-after (joined (take (k + 1) pieces)) (joined pieces) m h ends.1 (rw (← ends.2) refl);
         fault = λ z. absurd (apart z);
       }
         where

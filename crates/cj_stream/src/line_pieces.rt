@@ -48,8 +48,8 @@ fn feed_all<S: LineSink, N: ReportSink>(
         (map (λ piece. piece.now) pieces.now) (pieces_outcome result) reader.new }
     ensures ends { (p : List ℕ) → StandsFor reader.old p → Ends (rules_of reader.old)
         (p ++ joined (take (result.taken + 1) (map (λ piece. piece.now) pieces.now))) (lines_of reader.new)
-        (joined (map (λ piece. piece.now) pieces.now)
-        ≡ joined (take (result.taken + 1) (map (λ piece. piece.now) pieces.now))) (line_end result.ended) }
+        (joined (take (result.taken + 1) (map (λ piece. piece.now) pieces.now))
+        ≡ joined (map (λ piece. piece.now) pieces.now)) (line_end result.ended) }
     ensures taken { (p : List ℕ) → StandsFor reader.old p
         → TookWhole S.law (given_after p (lines_of reader.old) (in_pieces (rules_of reader.old)
         (map (λ piece. piece.now) pieces.now) result.taken) (lines_of reader.new)) sink.old sink.new

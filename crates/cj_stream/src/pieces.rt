@@ -7,7 +7,7 @@ ghost use Rattle.cj_stream.specs.Engine.{Delivers, IsFresh, rules_of, lines_of};
 ghost use Rattle.cj_stream.specs.Headline.{Headline, IsUnhindered, fate_of, outputs};
 ghost use Rattle.cj_stream.specs.Output.{output_writer, channel, output_law};
 ghost use Rattle.cj_stream.specs.ReportSink.{Notes, NotesPieces};
-ghost use Rattle.cj_stream.specs.Run.{CountsAll, Runs, RunsNoting, outcome_of};
+ghost use Rattle.cj_stream.specs.Run.{CountsAll, Ends, outcome_of};
 ghost use Rattle.cj_stream.specs.Sink.{HasRisen};
 ghost use Rattle.cj_stream.specs.Verdict.{stretch};
 
@@ -41,18 +41,15 @@ fn feed_all<S: LineSink, N: ReportSink>(
     requires fresh { IsFresh engine.old }
     requires short { length (joined (map (λ piece. piece.now) pieces.now)) ≤ 2 ^ 60 }
     ensures fed { Fed (rules_of engine.old) [] (map (λ piece. piece.now) pieces.now) result engine.new }
-    ensures runs { let given = joined (take (result.taken + 1) (map (λ piece. piece.now) pieces.now)) in
-        Runs S.law (record { rules = rules_of engine.old; read = given; outcome = outcome_of engine.new result.ended })
-        (given ≡ joined (map (λ piece. piece.now) pieces.now)) sink.old sink.new }
-    ensures noting { let given = joined (take (result.taken + 1) (map (λ piece. piece.now) pieces.now)) in
-        RunsNoting N.notes
-        (record { rules = rules_of engine.old; read = given; outcome = outcome_of engine.new result.ended })
-        reports.old reports.new }
+    ensures ends { let given = joined (take (result.taken + 1) (map (λ piece. piece.now) pieces.now)) in
+        Ends (rules_of engine.old) given (lines_of engine.new) (given ≡ joined (map (λ piece. piece.now) pieces.now))
+        result.ended }
     ensures taken { TookWhole S.law (given_after [] 0 (in_pieces (rules_of engine.old)
         (map (λ piece. piece.now) pieces.now) result.taken) (lines_of engine.new)) sink.old sink.new result.ended }
+    ensures reports { Notes N.notes (stretch (rules_of engine.old)
+        (joined (take (result.taken + 1) (map (λ piece. piece.now) pieces.now))) 0 (lines_of engine.new))
+        reports.old reports.new }
     ensures cause { result.ended ≡ End.WriteFault → HasRisen (S.law.failures sink.old) (S.law.failures sink.new) }
-    ensures memory { result.ended ≡ End.Memory → (lines_of engine.new ≡ 0) × (sink.new ≡ sink.old)
-        × (reports.new ≡ reports.old) }
 {
     for (taken, piece) in pieces.iter().enumerate() {
         if let Err(ended) = engine.feed(piece, sink, reports) {

@@ -45,6 +45,19 @@ pub struct Outcome {
 }
 
 impl Outcome {
+    /// Returns the outcome of a run that left its engine like this and ended so.
+    pub fn of(engine: &Engine, ended: End) -> Outcome
+        ensures { result ≡ outcome_of engine.now ended }
+    {
+        Outcome {
+            lines: engine.lines(),
+            kept: engine.kept(),
+            refused: engine.refused(),
+            peaks: engine.peaks(),
+            ended,
+        }
+    }
+
     /// Returns the outcome of a run whose allocation failed before the first read.
     fn without_memory() -> Outcome
         ensures { result
@@ -191,11 +204,5 @@ pub fn run_within<R: Read, S: LineSink, N: ReportSink>(
     let mut buffer = [0u8; PIECE_LENGTH];
     let mut source = Source::new(reader);
     let ended = drive(&mut engine, &mut buffer, &mut source, sink, reports, reads);
-    Outcome {
-        lines: engine.lines(),
-        kept: engine.kept(),
-        refused: engine.refused(),
-        peaks: engine.peaks(),
-        ended,
-    }
+    Outcome::of(&engine, ended)
 }

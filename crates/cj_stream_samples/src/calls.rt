@@ -147,17 +147,6 @@ pub fn ran_to<S: LineSink>(alloc: Global, text: &[u8], step: usize, sink: &mut S
     ran(alloc, &mut reader, sink, &mut NoReports, &reading)
 }
 
-/// Returns what an engine counted of a stream that ended like this.
-fn told(engine: &Engine, peaks: Peaks, ended: End) -> Outcome {
-    Outcome {
-        lines: engine.lines(),
-        kept: engine.kept(),
-        refused: engine.refused(),
-        peaks,
-        ended,
-    }
-}
-
 /// Gives a text to an engine, cut in two at this place.
 pub fn given<N: ReportSink>(
     alloc: Global,
@@ -173,5 +162,5 @@ pub fn given<N: ReportSink>(
     let pieces = [&text[..at], &text[at..]];
     let mut engine = Engine::open(alloc, reading.limits, reading.query, reading.options)?;
     let copied = headline(&mut engine, &pieces, sink, reports);
-    Ok(told(&engine, copied.peaks, copied.ended))
+    Ok(Outcome::of(&engine, copied.ended))
 }

@@ -1,29 +1,38 @@
-use Rattle.std.proofs.Common.{[], map}
-use Rattle.cj_stream.specs.Engine.{rules_of}
-use Rattle.cj_stream.proofs.CutLemmas.{PutsPieces-runs, unread-at}
-use Rattle.cj_stream.proofs.NoteLemmas.{NotesPieces-told}
+use Rattle.std.proofs.Common.{[], ◌+◌, map, take, refl}
+use Rattle.cj_stream.specs.Cut.{joined}
+use Rattle.cj_stream.specs.Engine.{rules_of, lines_of}
+use Rattle.cj_stream.proofs.CutLemmas.{PutsPieces-ends, unread-at}
+use Rattle.cj_stream.proofs.LinePieceLemmas.{Delivers-whole}
+use Rattle.cj_stream.proofs.NoteLemmas.{NotesRun-told, NotesPieces-told, noted-none}
+use Rattle.cj_stream.proofs.RunLemmas.{memory-sink}
 use Rattle.cj_stream.proofs.WholeCounts.{CountsAll-ends}
 use Rattle.cj_stream.proofs.pieces.put_pieces.Goals as goal
 
-pub returns-clause-puts : goal.returns-clause-puts
-returns-clause-puts g c =
+pub returns : goal.returns
+returns g c =
     let e = c.feed_all.ensures in
+    let r = c.feed_all.result in
+    let rules = rules_of c.args.engine.now in
     let pieces = map (λ piece. piece.now) c.args.pieces.now in
-    PutsPieces-runs g.S.LineSink.law (rules_of c.args.engine.now) (map (λ piece. piece.now) c.args.pieces.now)
-    c.feed_all.result.taken c.args.sink.now c.feed_all.new.sink _ _ _ _ c.feed_all.result.ended e.runs e.taken
-    (unread-at (rules_of c.args.engine.now) [] pieces c.feed_all.result.taken c.feed_all.result.ended e.fed.at)
-
-pub returns-clause-notes : goal.returns-clause-notes
-returns-clause-notes g c =
-    let e = c.feed_all.ensures in
-    let pieces = map (λ piece. piece.now) c.args.pieces.now in
-    let u = unread-at (rules_of c.args.engine.now) [] pieces c.feed_all.result.taken c.feed_all.result.ended e.fed.at in
-    NotesPieces-told g.N.ReportSink.notes (rules_of c.args.engine.now) (map (λ piece. piece.now) c.args.pieces.now) c.feed_all.result.taken _ c.args.reports.now c.feed_all.new.reports c.feed_all.result.ended e.runs.account.ends
-    (λ h. let k = rw h at u in k) (λ h. let k = rw h at u in k) e.noting.noted
-
-pub returns-clause-counts : goal.returns-clause-counts
-returns-clause-counts g c free =
-    let e = c.feed_all.ensures in
-    let pieces = map (λ piece. piece.now) c.args.pieces.now in
-    CountsAll-ends (rules_of c.args.engine.now) _ _ _ _ pieces c.feed_all.result.taken c.feed_all.result.ended e.runs.account.counts e.runs.account.ends
-    (unread-at (rules_of c.args.engine.now) [] pieces c.feed_all.result.taken c.feed_all.result.ended e.fed.at) free
+    let given = joined (take (c.feed_all.result.taken + 1) (map (λ piece. piece.now) c.args.pieces.now)) in
+    let unread = unread-at rules [] pieces r.taken r.ended e.fed.at in
+    let sink = Delivers-whole g.S.LineSink.law rules [] 0 refl c.args.sink.now c.feed_all.new.sink pieces r.taken
+    (lines_of c.feed_all.new.engine) r.ended e.taken in
+    let noted = NotesRun-told g.N.ReportSink.notes rules given _ _ _ _ e.fed.counts.good e.reports r.ended e.ends
+    (λ lacks. (e.fed.memory lacks).none) in
+    record {
+      fed = e.fed;
+      puts = PutsPieces-ends g.S.LineSink.law rules pieces r.taken _ _ _ _ _ e.fed.counts r.ended e.ends sink e.taken
+          unread;
+      notes = NotesPieces-told g.N.ReportSink.notes rules pieces r.taken _ _ _ r.ended e.ends
+          (λ h. let k = rw h at unread in k) (λ h. let k = rw h at unread in k) noted;
+      sink = sink;
+      reports = e.reports;
+      counts = CountsAll-ends rules _ _ _ _ pieces r.taken r.ended e.fed.counts e.ends unread;
+      cause = e.cause;
+      memory = λ lacks. (
+        (e.fed.memory lacks).none,
+        memory-sink g.S.LineSink.law rules given _ _ _ r.ended lacks (e.fed.memory lacks).none sink,
+        noted-none g.N.ReportSink.notes rules given _ _ r.ended lacks noted,
+      );
+    }

@@ -8,8 +8,8 @@ use Rattle.cj_stream.proofs.running.run_within.Goals as goal
 pub returns : goal.returns
 returns g c =
     let back : c.reader-1.given.0 ≡ source_reader c.drive-ended.new.source = c.reader-1.given.1 (sym c.new-source.ensures.same_reference ∙ sym c.drive-ended.ensures.same_reference) in
-    let runs = rw (c.new-source.ensures.reader, ← back, ← c.lines.ensures, ← c.kept.ensures, ← c.refused.ensures, ← c.peaks.ensures, c.in-Ok.ensures.empty.1) at c.drive-ended.ensures.runs in
-    record {
+    let runs = rw (c.new-source.ensures.reader, ← back, c.in-Ok.ensures.empty.1) at c.drive-ended.ensures.runs in
+    rw c.of.ensures (record {
       runs = runs;
       cause = c.drive-ended.ensures.cause;
       enough = enough-reads _ _ _ runs.0 _ runs.1 runs.2;
@@ -24,13 +24,13 @@ returns g c =
             counts.1,
           );
       memory = λ lacks.
-          let none = c.lines.ensures ∙ c.drive-ended.ensures.memory lacks in (
+          let none = c.drive-ended.ensures.memory lacks in (
             none,
             memory-sink g.S.LineSink.law _ runs.0 _ _ _ _ lacks none runs.3.sink,
             noted-none g.N.ReportSink.notes _
                 runs.0 _ _ _ lacks runs.4.noted,
           );
-    }
+    })
 
 pub returns-in-Err : goal.returns-in-Err
 returns-in-Err g c = record {

@@ -1,4 +1,4 @@
-use Rattle.std.proofs.Common.{ap, ◌+◌, take, length-take, arith, refl}
+use Rattle.std.proofs.Common.{ap, take, length-take, arith, refl}
 use Rattle.std.specs.Prelude.{option_map}
 use Rattle.cj_stream.specs.Ending.{header_end, answer_of}
 use Rattle.cj_stream.proofs.EngineLemmas.{none_from_not_some}

@@ -1,0 +1,169 @@
+-- Pieces that were given one after another, to an engine or to a reader of lines, until it ended.
+use Rattle.std.proofs.Common.{◌≡◌, ℕ, ◌+◌, ◌≤◌, List, [], ◌++◌, length, take, None, Ok, Err, refl, sym, ap, ◌∙◌, arith, append_assoc}
+use Rattle.std.proofs.lemmas.List.{append-nil}
+use Rattle.cj_stream.specs.declared.ending.End.{End}
+use Rattle.cj_stream.specs.declared.pieces.PiecesOutcome.{PiecesOutcome}
+use Rattle.cj_stream.specs.declared.report_sink.Report.{Report}
+use Rattle.cj_stream.specs.Cut.{joined, Fed, TookWhole, in_pieces, given_after}
+use Rattle.cj_stream.specs.Engine.{EngineState, StandsFor, Delivers, rules_of, lines_of, peaks_of}
+use Rattle.cj_stream.specs.Feeding.{Feeds, IsFinished}
+use Rattle.cj_stream.specs.Lines.{closed}
+use Rattle.cj_stream.specs.ReportSink.{Notes}
+use Rattle.cj_stream.specs.Run.{Ends}
+use Rattle.cj_stream.specs.Sink.{SinkLaw, with_sink}
+use Rattle.cj_stream.specs.Verdict.{Rules, refusal_in, judged, stretch}
+use Rattle.cj_stream.proofs.CutLemmas.{TookWhole-left, EndsAt-told, EndsAt-concludes}
+use Rattle.cj_stream.proofs.EngineLemmas.{Going-reads}
+use Rattle.cj_stream.proofs.JoinedLemmas.{joined-all}
+use Rattle.cj_stream.proofs.LinePieceLemmas.{kept_first-either}
+use Rattle.cj_stream.proofs.NoteLemmas.{Notes-none, Notes-then, Notes-over, reported_first-either, reported_first-same}
+use Rattle.cj_stream.proofs.RunLemmas.{Delivers-join, kept_first-same, Ends-finished, Ends-fed, told-not_complete}
+
+-- after the first lines of a stream, so many, which are those of p
+module _ {S N : Type 0} (law : SinkLaw S) (notes : N → Report → N → Type 0) (rules : Rules) (p : List ℕ) (first : ℕ)
+    (pieces : List (List ℕ)) where
+  -- so many of the pieces were given, and none of them ended it
+  pub record IsGiven (k : ℕ) (e : EngineState) (s t : S) (n m : N) : Type 0 where
+    pub behind : first ≡ length (closed p)
+    pub going : e.ended ≡ None
+    pub under : rules_of e ≡ rules
+    pub stands : StandsFor e (p ++ joined (take k pieces))
+    pub took : Delivers law (stretch rules (p ++ joined (take k pieces)) first (lines_of e)) s t None
+    pub noted : Notes notes (stretch rules (p ++ joined (take k pieces)) first (lines_of e)) n m
+
+  -- it was given pieces until it ended, so many of which were wholly taken
+  pub record IsGivenAll (o : PiecesOutcome) (e : EngineState) (s t : S) (n m : N) : Type 0 where
+    pub fed : Fed rules p pieces o e
+    pub ends : Ends rules (p ++ joined (take (o.taken + 1) pieces)) (lines_of e)
+        (joined (take (o.taken + 1) pieces) ≡ joined pieces) o.ended
+    pub taken : TookWhole law (given_after p first (in_pieces rules pieces o.taken) (lines_of e)) s t o.ended
+    pub noted : Notes notes (stretch rules (p ++ joined (take (o.taken + 1) pieces)) first (lines_of e)) n m
+
+  pub Given-none : (e : EngineState) (s : S) (n : N) → e.ended ≡ None → rules_of e ≡ rules → lines_of e ≡ first
+      → StandsFor e p → IsGiven 0 e s s n n
+  Given-none e s n going under none st = record {
+    behind = sym none ∙ (st.going going).0.lines;
+    going = going;
+    under = under;
+    stands = rw (append-nil p) st;
+    took = record { added = []; middle = s; kept = rw none (sym (append-nil _)); took = refl; fault = refl };
+    noted = Notes-none notes rules _ first (lines_of e) n n none refl;
+  }
+
+  module _ {k : ℕ} {e : EngineState} {s t : S} {n m : N} (given : IsGiven k e s t n m) where
+    good : refusal_in rules (judged rules.limits (p ++ joined (take k pieces))) ≡ None
+    good =
+        let st = given.stands.going given.going in
+        let z = (Going-reads e (p ++ joined (take k pieces)) st.0 st.1).good in
+        rw given.under at z
+
+    -- the next piece
+    module _ (piece : List ℕ) (next : joined (take (k + 1) pieces) ≡ joined (take k pieces) ++ piece)
+        (f : EngineState) (u : S) (l : N)
+        (reports : (q : List ℕ) → StandsFor e q → e.ended ≡ None
+        → Notes notes (stretch (rules_of e) (q ++ piece) (lines_of e) (lines_of f)) m l) where
+      text : (p ++ joined (take k pieces)) ++ piece ≡ p ++ joined (take (k + 1) pieces)
+      text = append_assoc p (joined (take k pieces)) piece ∙ ap (λ z. p ++ z) (sym next)
+
+      read : lines_of e ≡ length (closed (p ++ joined (take k pieces)))
+      read = (given.stands.going given.going).0.lines
+
+      noted : Notes notes (stretch rules (p ++ joined (take (k + 1) pieces)) first (lines_of f)) n l
+      noted =
+          let z = reports (p ++ joined (take k pieces)) given.stands given.going in
+          let same = reported_first-same rules (lines_of e) (p ++ joined (take k pieces)) piece read in
+          let before = Notes-over notes rules (reported_first-either notes rules p first given.behind n n _ _)
+          (rw text at same) given.noted in
+          Notes-then notes rules before (rw (text, given.under) at z)
+
+      pub Given-next : Feeds law piece (with_sink e t) (Ok tt) (with_sink f u) → IsGiven (k + 1) f s u n l
+      Given-next feeds = record {
+        behind = given.behind;
+        going = feeds.unended;
+        under = feeds.rules ∙ given.under;
+        stands = let z = feeds.stands (p ++ joined (take k pieces)) given.stands in rw (given.going, text) at z;
+        took =
+            let z = feeds.sink (p ++ joined (take k pieces)) given.stands given.going in
+            let same = kept_first-same rules (lines_of e) (p ++ joined (take k pieces)) piece read in
+            Delivers-join (kept_first-either law rules p first given.behind s s _ _) (rw text at same) given.took
+            (rw (text, given.under, feeds.unended) at z);
+        noted = noted;
+      }
+
+      pub Given-fed : (x : End) → k ≤ length pieces → f.taken ≡ e.taken
+          → Feeds law piece (with_sink e t) (Err x) (with_sink f u)
+          → IsGivenAll (record { taken = k; peaks = peaks_of f; ended = x }) f s u n l
+      Given-fed x few taken feeds =
+          let q = p ++ joined (take k pieces) in
+          let st = given.stands.going given.going in
+          let after = p ++ joined (take (k + 1) pieces) in
+          let told = let z = feeds.told q given.stands given.going in rw (text, given.under) at z in
+          let stands = let z = feeds.stands q given.stands in rw (given.going, text) at z in
+          record {
+            fed = record {
+              under = feeds.rules ∙ given.under;
+              ended = feeds.ended;
+              few = few;
+              good = good;
+              at = EndsAt-told rules p pieces k (lines_of f) x told;
+              used = taken ∙ st.2;
+              counts = let z = stands.counts in rw (feeds.rules, given.under) at z;
+              memory = λ h.
+                  let z = (feeds.memory q given.stands given.going (ap Err h)).0 in
+                  rw (text, given.under) at z;
+              peaks = refl;
+              held = stands.held;
+              bounded = let z = stands.bounded in rw (feeds.rules, given.under) at z;
+              exact = λ h. absurd (told-not_complete rules after (lines_of f) x told h);
+            };
+            ends = Ends-fed rules after (lines_of f) (joined (take (k + 1) pieces) ≡ joined pieces) x told;
+            taken =
+                let z = feeds.sink q given.stands given.going in
+                TookWhole-left law e rules p first pieces k (lines_of f) s t u x given.under st.0 given.took
+                (rw (text, given.under, feeds.ended) at z);
+            noted = noted;
+          }
+
+    -- the end, after all pieces
+    pub Given-finished : (i : ℕ) (x : End) (f : EngineState) (u : S) (l : N) → k ≡ i → i ≡ length pieces
+        → f.taken ≡ e.taken
+        → ((q : List ℕ) → StandsFor e q → e.ended ≡ None
+        → Notes notes (stretch (rules_of e) q (lines_of e) (lines_of f)) m l)
+        → IsFinished law (with_sink e t) x (with_sink f u)
+        → IsGivenAll (record { taken = i; peaks = peaks_of f; ended = x }) f s u n l
+    Given-finished i x f u l all_given all_pieces taken reports finished =
+        let last : k ≡ length pieces = all_given ∙ all_pieces in
+        let q = p ++ joined (take k pieces) in
+        let after = p ++ joined (take (k + 1) pieces) in
+        let st = given.stands.going given.going in
+        let all = joined-all k pieces (omega (arith, last)) in
+        let given_all = joined-all (k + 1) pieces (omega (arith, last)) in
+        let same : joined (take k pieces) ≡ joined (take (k + 1) pieces) = all ∙ sym given_all in
+        let concludes = let z = finished.concludes q given.stands given.going in rw (same, given.under) at z in
+        let stands = let z = finished.stands q given.stands in rw same at z in
+        rw (← all_given) (record {
+          fed = record {
+            under = finished.rules ∙ given.under;
+            ended = finished.ended;
+            few = omega (arith, last);
+            good = good;
+            at = EndsAt-concludes rules p pieces k after (lines_of f) x last concludes;
+            used = taken ∙ st.2;
+            counts = let z = stands.counts in rw (finished.rules, given.under) at z;
+            memory = λ h. absurd (finished.memory given.going h);
+            peaks = refl;
+            held = stands.held;
+            bounded = let z = stands.bounded in rw (finished.rules, given.under) at z;
+            exact = λ h. let z = finished.exact q given.stands given.going h in rw (all, given.under) at z;
+          };
+          ends = Ends-finished rules after (lines_of f) (joined (take (k + 1) pieces) ≡ joined pieces) x given_all
+              concludes;
+          taken =
+              let z = finished.sink q given.stands given.going in
+              TookWhole-left law e rules p first pieces k (lines_of f) s t u x given.under st.0 given.took
+              (rw (same, given.under, finished.ended) at z);
+          noted =
+              let z = reports q given.stands given.going in
+              let w = Notes-then notes rules given.noted (rw given.under at z) in
+              rw same at w;
+        })
