@@ -11,8 +11,9 @@ ghost use Rattle.cj_geometry.specs.Rule.{needs, may_have};
 ghost use Rattle.cj_feature.specs.Feature.{object_type, geometries, texts, second_level, city_object, city_objects};
 ghost use Rattle.cj_feature.specs.Links.{is_part as is_part_of, object_links, links};
 
-use crate::member::check_there;
-use cj_geometry::rule::{add, check_array, check_names, check_object, check_text, needed};
+use cj_geometry::rule::{
+    add, check_array, check_names, check_object, check_text, check_there, needed,
+};
 use cj_geometry::{ObjectType, Templates, check_geometry};
 use cj_spans::{Kind, Least, Node, Reason};
 

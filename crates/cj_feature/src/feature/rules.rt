@@ -23,10 +23,11 @@ use crate::feature::links::check_links;
 use crate::feature::objects::check_city_objects_member;
 use crate::feature::search::reached::check_reached;
 use crate::header::Header;
-use crate::member::{check_name_member, check_there};
+use crate::member::check_name_member;
 use cj_geometry::Templates;
 use cj_geometry::rule::{
-    add, check_array, check_names, check_object, check_whole, count_wholes, is_short_triple,
+    add, check_array, check_names, check_object, check_there, check_whole, count_wholes,
+    is_short_triple,
 };
 use cj_spans::{Doc, Finding, Least, Node, Reason};
 
