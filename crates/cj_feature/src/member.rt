@@ -12,15 +12,6 @@ ghost use Rattle.cj_feature.specs.Header.{is_named, has_member_named};
 use cj_geometry::rule::{add, count_items, needed};
 use cj_spans::{Kind, Least, Node, Reason};
 
-/// Checks that the object has this member. The caller has looked it up.
-pub fn check_there(object: Node, member: Option<Node>, found: &mut Least)
-    ensures { found.new ≡ least found.old (missing (tree object.entry) (option_map tree member.entry)) }
-{
-    if member.is_none() {
-        add(object, Reason::MissingMember, found);
-    }
-}
-
 /// Checks that the value is this text. Another text has `reason`.
 #[inline(always)]
 fn check_name(node: Node, text: &str, reason: Reason, found: &mut Least)

@@ -1,6 +1,7 @@
 pub mod Digits
 pub mod Distinct
 pub mod Grammars
+pub mod Initials
 pub mod ListSteps
 pub mod Neighbours
 pub mod Numbers

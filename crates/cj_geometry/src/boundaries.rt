@@ -1,12 +1,13 @@
 //! Boundaries: lists of some depth, and below them indices of vertices.
-ghost use Rattle.std.specs.Prelude.{◌≡◌, codes};
+ghost use Rattle.std.specs.Prelude.{◌≡◌, codes, option_map};
 ghost use Rattle.std.specs.Str.{chars};
 ghost use Rattle.cj_spans.specs.Finding.{least};
+ghost use Rattle.cj_spans.specs.Parts.{member_of};
 ghost use Rattle.cj_spans.specs.View.{tree};
 ghost use Rattle.cj_geometry.specs.Rule.{needs};
 ghost use Rattle.cj_geometry.specs.Geometry.{shape};
 
-use crate::rule::{Bound, add, check_index_below, count_indices, needed};
+use crate::rule::{Bound, add, check_index_below, check_there, count_indices};
 use cj_spans::{Kind, Least, Node, Reason};
 
 /// Checks that the value is a list of indices of vertices: the lowest level, with nearly all
@@ -75,12 +76,20 @@ fn check_shape(node: Node, depth: u8, vertices: Bound, found: &mut Least)
     }
 }
 
-/// Checks that the geometry has boundaries of this depth.
-pub fn check_boundaries(object: Node, depth: u8, vertices: Option<u64>, found: &mut Least)
+/// Checks that the geometry has boundaries, and that they are of this depth.
+pub fn check_boundaries(
+    object: Node,
+    boundaries: Option<Node>,
+    depth: u8,
+    vertices: Option<u64>,
+    found: &mut Least,
+)
+    requires { option_map tree boundaries ≡ member_of (chars (codes "boundaries")) (tree object) }
     ensures { found.new
         ≡ least found.old (needs (chars (codes "boundaries")) (shape vertices depth) (tree object.entry)) }
 {
-    if let Some(boundaries) = needed(object, "boundaries", found) {
+    check_there(object, boundaries, found);
+    if let Some(boundaries) = boundaries {
         check_shape(boundaries, depth, Bound::of(vertices), found);
     }
 }

@@ -9,8 +9,8 @@ ghost use Rattle.cj_geometry.specs.Geometry.{part_rules, form_rules, typed_rules
 use crate::boundaries::check_boundaries;
 use crate::form::{Form, form_of};
 use crate::instance::check_instance;
-use crate::rule::{add, check_names, check_object, check_text_member, needed};
-use crate::semantics::check_semantics_member;
+use crate::rule::{add, check_names, check_object, check_text_there, needed};
+use crate::semantics::check_semantics_if;
 use crate::templates::Templates;
 use cj_spans::{Kind, Least, Node, Reason};
 
@@ -24,9 +24,10 @@ fn check_parts(
 )
     ensures { found.new ≡ least found.old (part_rules vertices depth values (tree object.entry)) }
 {
-    check_text_member(object, "lod", found);
-    check_boundaries(object, depth, vertices, found);
-    check_semantics_member(object, values, found);
+    let (lod, boundaries, semantics) = object.get_three("lod", "boundaries", "semantics");
+    check_text_there(object, lod, found);
+    check_boundaries(object, boundaries, depth, vertices, found);
+    check_semantics_if(semantics, boundaries, values, found);
 }
 
 /// Checks the rules of the geometry's type. The second node is the name of the type.

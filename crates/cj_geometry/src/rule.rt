@@ -34,7 +34,7 @@ mod order;
 
 pub use array::{check_length, count_items};
 use cj_spans::{Finding, Kind, Least, Node, Reason};
-pub use member::{check_text_member, needed};
+pub use member::{check_text_member, check_text_there, check_there, needed};
 pub use names::check_names;
 pub use number::{
     Bound, check_index, check_index_below, check_number, check_whole, count_indices, count_wholes,

@@ -4,6 +4,7 @@ ghost use Rattle.std.specs.List.{flat_map};
 ghost use Rattle.std.specs.Str.{chars};
 ghost use Rattle.cj_spans.specs.Finding.{least};
 ghost use Rattle.cj_spans.specs.Parts.{items_of, member_of};
+ghost use Rattle.cj_spans.specs.Tree.{Tree};
 ghost use Rattle.cj_spans.specs.View.{tree};
 ghost use Rattle.cj_geometry.specs.Rule.{needs};
 ghost use Rattle.cj_geometry.specs.Geometry.{first_part, other_parts, left_of, parts_of, other_count, entry, values};
@@ -184,15 +185,22 @@ fn check_semantics(node: Node, boundaries: Option<Node>, depth: u8, found: &mut 
     }
 }
 
-/// Checks the semantics of a geometry, if it has any and its type has values of a depth.
-pub fn check_semantics_member(object: Node, values: Option<u8>, found: &mut Least)
-    ensures { found.new ≡ least found.old (semantics_if values (tree object.entry)) }
+/// Checks the semantics of a geometry with these boundaries, if it has any and its type has values
+/// of a depth.
+pub fn check_semantics_if(
+    semantics: Option<Node>,
+    boundaries: Option<Node>,
+    values: Option<u8>,
+    found: &mut Least,
+)
+    ensures { (g : Tree) → option_map tree semantics.entry ≡ member_of (chars (codes "semantics")) g
+        → option_map tree boundaries.entry ≡ member_of (chars (codes "boundaries")) g
+        → found.new ≡ least found.old (semantics_if values g) }
 {
     let Some(depth) = values else {
         return;
     };
-    match object.get("semantics") {
-        Some(value) => check_semantics(value, object.get("boundaries"), depth, found),
-        None => {}
+    if let Some(value) = semantics {
+        check_semantics(value, boundaries, depth, found);
     }
 }

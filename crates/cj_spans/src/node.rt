@@ -382,7 +382,8 @@ impl<'a> Node<'a> {
 }
 
 impl<'a> Node<'a> {
-    ghost use Rattle.std.specs.Prelude.{option_map, IfSome, ◌↔◌};
+    ghost use Rattle.std.specs.Prelude.{option_map, IfSome, ◌↔◌, None, cond};
+    ghost use Rattle.std.specs.Option.{option_or};
     ghost use Rattle.std.specs.Str.{chars};
     ghost use Rattle.cj_spans.specs.Parts.{text_of, are_same_texts, has_text, first_code_of, member_of};
     ghost use Rattle.cj_spans.specs.Decoding.{code_points_left};
@@ -538,6 +539,49 @@ impl<'a> Node<'a> {
             }
         }
         None
+    }
+
+    /// Returns the value of the first member with this name: that of an earlier one, or this one if its
+    /// name has this text.
+    #[inline(always)]
+    fn first_of(
+        earlier: Option<Node<'a>>,
+        key: Node<'a>,
+        value: Node<'a>,
+        name: &str,
+    ) -> Option<Node<'a>>
+        ensures { result ≡ option_or earlier.entry
+            (cond (has_text (chars name.now) (tree key.entry)) (Some value.entry) None) }
+    {
+        if earlier.is_none() && key.text_is(name) {
+            Some(value)
+        } else {
+            earlier
+        }
+    }
+
+    /// Returns what [`Node::get`] returns for each of three names, by one walk.
+    #[inline(always)]
+    pub fn get_three(
+        self,
+        a: &str,
+        b: &str,
+        c: &str,
+    ) -> (Option<Node<'a>>, Option<Node<'a>>, Option<Node<'a>>)
+        ensures first { option_map tree result.0 ≡ member_of (chars a.now) (tree self.entry) }
+        ensures second { option_map tree result.1 ≡ member_of (chars b.now) (tree self.entry) }
+        ensures third { option_map tree result.2 ≡ member_of (chars c.now) (tree self.entry) }
+        ensures sources { IfSome result.0 (λ n. source_of n ≡ source_of self.entry)
+            × IfSome result.1 (λ n. source_of n ≡ source_of self.entry)
+            × IfSome result.2 (λ n. source_of n ≡ source_of self.entry) }
+    {
+        let (mut first, mut second, mut third) = (None, None, None);
+        for (key, value) in self.members() {
+            first = Node::first_of(first, key, value, a);
+            second = Node::first_of(second, key, value, b);
+            third = Node::first_of(third, key, value, c);
+        }
+        (first, second, third)
     }
 }
 

@@ -9,7 +9,7 @@ ghost use Rattle.cj_geometry.specs.Rule.{of_kind};
 ghost use Rattle.cj_feature.specs.Feature.{id_in, id_rule};
 ghost use Rattle.cj_feature.specs.Links.{is_known as is_known_in};
 
-use cj_geometry::rule::{add, needed};
+use cj_geometry::rule::{add, check_there};
 use cj_spans::{Kind, Least, Node, Reason};
 
 /// Returns whether a city object has the text as its name. It compares the names one after another.
@@ -51,12 +51,15 @@ fn check_id(id: Node, objects: Option<Node>, found: &mut Least)
     }
 }
 
-/// Checks that the feature has an id, and that it is the name of one of its city objects.
-pub fn check_id_member(object: Node, objects: Option<Node>, found: &mut Least)
-    requires { option_map tree objects ≡ member_of (chars (codes "CityObjects")) (tree object) }
+/// Checks that the feature has an id, and that it is the name of one of its city objects. The
+/// caller has looked up both.
+pub fn check_id_member(object: Node, id: Option<Node>, objects: Option<Node>, found: &mut Least)
+    requires id { option_map tree id ≡ member_of (chars (codes "id")) (tree object) }
+    requires objects { option_map tree objects ≡ member_of (chars (codes "CityObjects")) (tree object) }
     ensures { found.new ≡ least found.old (id_rule (tree object.entry)) }
 {
-    if let Some(id) = needed(object, "id", found) {
+    check_there(object, id, found);
+    if let Some(id) = id {
         check_id(id, objects, found);
     }
 }

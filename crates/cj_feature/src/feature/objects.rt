@@ -7,12 +7,13 @@ ghost use Rattle.cj_spans.specs.Parts.{member_of};
 ghost use Rattle.cj_spans.specs.View.{tree};
 ghost use Rattle.cj_geometry.specs.Given.{given};
 ghost use Rattle.cj_geometry.specs.ObjectTypes.{row_at, row_of, is_second_level as is_second_level_of};
-ghost use Rattle.cj_geometry.specs.Rule.{needs, may_have};
+ghost use Rattle.cj_geometry.specs.Rule.{if_there, needs};
 ghost use Rattle.cj_feature.specs.Feature.{object_type, geometries, texts, second_level, city_object, city_objects};
 ghost use Rattle.cj_feature.specs.Links.{is_part as is_part_of, object_links, links};
 
-use crate::member::check_there;
-use cj_geometry::rule::{add, check_array, check_names, check_object, check_text, needed};
+use cj_geometry::rule::{
+    add, check_array, check_names, check_object, check_text, check_there, needed,
+};
 use cj_geometry::{ObjectType, Templates, check_geometry};
 use cj_spans::{Kind, Least, Node, Reason};
 
@@ -67,17 +68,17 @@ fn check_geometries(node: Node, vertices: Option<u64>, templates: Templates, fou
 }
 
 /// Checks the geometries of a city object, if it has any.
-fn check_geometry_member(
-    object: Node,
+fn check_geometries_if(
+    geometry: Option<Node>,
     vertices: Option<u64>,
     templates: Templates,
     found: &mut Least,
 )
     ensures { found.new
         ≡ least found.old
-        (may_have (chars (codes "geometry")) (geometries vertices (given templates.entry)) (tree object.entry)) }
+        (if_there (geometries vertices (given templates.entry)) (option_map tree geometry.entry)) }
 {
-    if let Some(value) = object.get("geometry") {
+    if let Some(value) = geometry {
         check_geometries(value, vertices, templates, found);
     }
 }
@@ -93,19 +94,13 @@ fn check_texts(node: Node, found: &mut Least)
     }
 }
 
-/// Checks the member with this name, if the city object has one: it is an array of texts. Returns
-/// whether it has one.
+/// Checks a member, if the city object has it: it is an array of texts.
 #[inline(always)]
-fn check_texts_member(object: Node, name: &str, found: &mut Least) -> bool
-    ensures none { result ≡ false → member_of (chars name.now) (tree object.entry) ≡ None }
-    ensures found { found.new ≡ least found.old (may_have (chars name.now) texts (tree object.entry)) }
+fn check_texts_if(member: Option<Node>, found: &mut Least)
+    ensures { found.new ≡ least found.old (if_there texts (option_map tree member.entry)) }
 {
-    match object.get(name) {
-        Some(value) => {
-            check_texts(value, found);
-            true
-        }
-        None => false,
+    if let Some(value) = member {
+        check_texts(value, found);
     }
 }
 
@@ -146,11 +141,12 @@ fn check_city_object(
     if check_object(node, found) {
         check_names(node, found);
         let second = check_type_member(node, found);
-        check_geometry_member(node, vertices, templates, found);
-        let children = check_texts_member(node, "children", found);
-        let parents = check_texts_member(node, "parents", found);
+        let (geometry, children, parents) = node.get_three("geometry", "children", "parents");
+        check_geometries_if(geometry, vertices, templates, found);
+        check_texts_if(children, found);
+        check_texts_if(parents, found);
         check_second_level(node, second, found);
-        children | parents
+        children.is_some() | parents.is_some()
     } else {
         true
     }

@@ -23,10 +23,11 @@ use crate::feature::links::check_links;
 use crate::feature::objects::check_city_objects_member;
 use crate::feature::search::reached::check_reached;
 use crate::header::Header;
-use crate::member::{check_name_member, check_there};
+use crate::member::check_name_member;
 use cj_geometry::Templates;
 use cj_geometry::rule::{
-    add, check_array, check_names, check_object, check_whole, count_wholes, is_short_triple,
+    add, check_array, check_names, check_object, check_there, check_whole, count_wholes,
+    is_short_triple,
 };
 use cj_spans::{Doc, Finding, Least, Node, Reason};
 
@@ -111,28 +112,57 @@ fn check_links_if(linked: bool, objects: Option<Node>, found: &mut Least)
     }
 }
 
+/// Members of a feature, each if it is there.
+#[derive(Clone, Copy)]
+struct Members<'a> {
+    id: Option<Node<'a>>,
+    objects: Option<Node<'a>>,
+    vertices: Option<Node<'a>>,
+}
+
+/// Returns these members of a feature.
+#[inline(always)]
+fn members_of<'a>(node: Node<'a>) -> Members<'a>
+    ensures id { option_map tree result.id ≡ member_of (chars (codes "id")) (tree node.entry) }
+    ensures objects { option_map tree result.objects ≡ member_of (chars (codes "CityObjects")) (tree node.entry) }
+    ensures source { IfSome result.objects (λ n. IsBeside node.entry n) }
+    ensures vertices { option_map tree result.vertices ≡ member_of (chars (codes "vertices")) (tree node.entry) }
+{
+    let (id, objects, vertices) = node.get_three("id", "CityObjects", "vertices");
+    Members {
+        id,
+        objects,
+        vertices,
+    }
+}
+
 /// Checks that the value is a feature, with these members and templates. If required, it checks
 /// that the city objects are connected. Vertices come before the city objects, which need their
 /// number.
 fn check_root(
     node: Node,
-    objects: Option<Node>,
-    vertices: Option<Node>,
+    members: Members,
     templates: Templates,
     connected: bool,
     found: &mut Least,
 )
-    requires objects { option_map tree objects ≡ member_of (chars (codes "CityObjects")) (tree node) }
-    requires source { IfSome objects (λ n. IsBeside node n) }
-    requires vertices { option_map tree vertices ≡ member_of (chars (codes "vertices")) (tree node) }
+    requires id { option_map tree members.id ≡ member_of (chars (codes "id")) (tree node) }
+    requires objects { option_map tree members.objects ≡ member_of (chars (codes "CityObjects")) (tree node) }
+    requires source { IfSome members.objects (λ n. IsBeside node n) }
+    requires vertices { option_map tree members.vertices ≡ member_of (chars (codes "vertices")) (tree node) }
     requires marks { IsTrue connected → AreMarks (tree node) (line_of node) (tokens_in (source_of node)) }
     ensures { found.new
         ≡ least found.old (of_kind is_object (feature_rules (given templates.entry) connected) (tree node.entry)) }
 {
     if check_object(node, found) {
+        let Members {
+            id,
+            objects,
+            vertices,
+        } = members;
         check_names(node, found);
         check_name_member(node, "type", "CityJSONFeature", Reason::WrongType, found);
-        check_id_member(node, objects, found);
+        check_id_member(node, id, objects, found);
         let count = check_vertices_member(node, vertices, found);
         let linked = check_city_objects_member(node, objects, count, templates, found);
         check_links_if(linked, objects, found);
@@ -161,13 +191,19 @@ pub fn check_feature<'a>(
     ensures header { IfOk result (λ f. feature_header f ≡ header_tree header.now) }
 {
     let root = doc.root();
-    let objects = root.get("CityObjects");
-    let vertices = root.get("vertices");
+    let members = members_of(root);
     let templates = header.templates();
     let mut found = Least::new();
-    check_root(root, objects, vertices, templates, tree, &mut found);
+    check_root(root, members, templates, tree, &mut found);
     match found.get() {
         Some(finding) => Err(finding),
-        None => Ok(Feature::of(doc, header.doc(), objects, vertices, templates)),
+        None => {
+            let Members {
+                id: _,
+                objects,
+                vertices,
+            } = members;
+            Ok(Feature::of(doc, header.doc(), objects, vertices, templates))
+        }
     }
 }

@@ -1,5 +1,5 @@
 //! Members of an object.
-ghost use Rattle.std.specs.Prelude.{◌≡◌, option_map, IfSome};
+ghost use Rattle.std.specs.Prelude.{◌≡◌, ℕ, List, option_map, IfSome};
 ghost use Rattle.std.specs.Str.{chars};
 ghost use Rattle.cj_spans.specs.Finding.{least};
 ghost use Rattle.cj_spans.specs.Kinds.{is_text};
@@ -19,10 +19,29 @@ pub fn needed<'a>(object: Node<'a>, name: &str, found: &mut Least) -> Option<Nod
     ensures found { found.new ≡ least found.old (missing (tree object.entry) (option_map tree result)) }
 {
     let value = object.get(name);
-    if value.is_none() {
+    check_there(object, value, found);
+    value
+}
+
+/// Checks that the object has this member. The caller has looked it up.
+pub fn check_there(object: Node, member: Option<Node>, found: &mut Least)
+    ensures { found.new ≡ least found.old (missing (tree object.entry) (option_map tree member.entry)) }
+{
+    if member.is_none() {
         add(object, Reason::MissingMember, found);
     }
-    value
+}
+
+/// Checks that the object has this member, and that it is a string. The caller has looked it up.
+#[inline(always)]
+pub fn check_text_there(object: Node, member: Option<Node>, found: &mut Least)
+    ensures { (name : List ℕ) → option_map tree member.entry ≡ member_of name (tree object.entry)
+        → found.new ≡ least found.old (needs name (of_kind is_text nothing) (tree object.entry)) }
+{
+    check_there(object, member, found);
+    if let Some(value) = member {
+        check_text(value, found);
+    }
 }
 
 /// Checks that the object has a member with this name, and that it is a string.
@@ -30,7 +49,5 @@ pub fn needed<'a>(object: Node<'a>, name: &str, found: &mut Least) -> Option<Nod
 pub fn check_text_member(object: Node, name: &str, found: &mut Least)
     ensures { found.new ≡ least found.old (needs (chars name.now) (of_kind is_text nothing) (tree object.entry)) }
 {
-    if let Some(value) = needed(object, name, found) {
-        check_text(value, found);
-    }
+    check_text_there(object, object.get(name), found);
 }

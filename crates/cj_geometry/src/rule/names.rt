@@ -10,7 +10,7 @@
 //! So n names take about n / `KEPT` walks and n * log n comparisons, for any texts in any order. No
 //! memory is allocated. The arrays use 12 KiB of the stack for up to 1,000 names. They use 72 KiB
 //! for an object of up to 64 KiB, and 512 KiB for a longer one.
-ghost use Rattle.std.specs.Prelude.{◌≡◌, ◌<◌, ◌≤◌, ◌^◌, [], length, take, Some, IsSome, IfSome, All};
+ghost use Rattle.std.specs.Prelude.{◌≡◌, ◌<◌, ◌≤◌, ◌^◌, [], length, take, true, Some, IsSome, IfSome, All};
 ghost use Rattle.std.specs.List.Sorted.{IsPermutation};
 ghost use Rattle.cj_spans.specs.Finding.{least};
 ghost use Rattle.cj_spans.specs.Parts.{members_of, AreInOrder};
@@ -29,6 +29,12 @@ const FEW: usize = 48;
 /// An object of more names than `FEW` has more values and names than this: itself, and two for each
 /// member.
 const FEW_SIZE: u32 = 97;
+
+/// An object of at least this size may have three members or more.
+const LEAST_SIZE: u32 = 7;
+
+/// How many numbers the first characters of names are told apart by.
+const SLOTS: usize = 64;
 
 /// At most this number of names are sorted in the small array.
 const SOME: usize = 1_000;
@@ -61,13 +67,43 @@ fn check_later(name: Node, rest: Members, found: &mut Least)
 }
 
 /// The names of an object are distinct. Each is compared with each later one.
-#[inline(always)]
-fn check_few(object: Node, found: &mut Least)
+fn check_pairs(object: Node, found: &mut Least)
     ensures { found.new ≡ least found.old (distinct (tree object.entry)) }
 {
     let mut rest = object.members();
     while let Some((name, _)) = rest.next() {
         check_later(name, rest, found);
+    }
+}
+
+/// Returns whether the names of an object begin with characters that all have different numbers
+/// below `SLOTS`. Then the names are distinct.
+#[inline(always)]
+fn begin_apart(object: Node) -> bool
+    ensures { result ≡ true → distinct (tree object.entry) ≡ [] }
+{
+    let mut taken = [false; SLOTS];
+    for (name, _) in object.members() {
+        let Some(code) = name.first_code() else {
+            return false;
+        };
+        let slot = (code % SLOTS as u32) as usize;
+        if taken[slot] {
+            return false;
+        }
+        taken[slot] = true;
+    }
+    true
+}
+
+/// The names of an object are distinct. Most begin with different characters. Else each is compared
+/// with each later one.
+#[inline(always)]
+fn check_few(object: Node, found: &mut Least)
+    ensures { found.new ≡ least found.old (distinct (tree object.entry)) }
+{
+    if object.size() < LEAST_SIZE || !begin_apart(object) {
+        check_pairs(object, found);
     }
 }
 

@@ -1,6 +1,6 @@
 use Rattle.cj_spans.specs.View.{members_left, trees}
 use Rattle.cj_geometry.proofs.Sequences.{names-on}
-use Rattle.cj_geometry.proofs.rule.names.check_few.Goals as goal
+use Rattle.cj_geometry.proofs.rule.names.check_pairs.Goals as goal
 
 pub loop-name-preserved : goal.loop-name-preserved
 loop-name-preserved c =

@@ -1,0 +1,27 @@
+use Rattle.std.proofs.Common.{◌∙◌}
+use Rattle.std.specs.Str.{chars}
+use Rattle.cj_spans.specs.View.{members_left}
+use Rattle.cj_spans.proofs.FirstNamed.{first-on, first-source}
+use Rattle.cj_spans.proofs.node.Node.get_three.Goals as goal
+
+pub loop-key-preserved : goal.loop-key-preserved
+loop-key-preserved c =
+    let i = c.loop-key.invariant in
+    let y = c.in-Some.ensures.steps in
+    let key = c.in-Some.key in
+    let value = c.in-Some.value in
+    let whole = c.args.self in
+    let left = members_left c.loop-key.key-iterator in
+    let rest = members_left c.next.new.self in
+    let of_line = y.4.1 ∙ i.source in
+    record {
+      source = y.3 ∙ i.source;
+      first = first-on (chars c.args.a.now) c.loop-key.first c.first_of-first.result key value left rest _ i.first y.0 c.first_of-first.ensures;
+      second = first-on (chars c.args.b.now) c.loop-key.second c.first_of-second.result key value left rest _ i.second y.0 c.first_of-second.ensures;
+      third = first-on (chars c.args.c.now) c.loop-key.third c.first_of-third.result key value left rest _ i.third y.0 c.first_of-third.ensures;
+      sources = (
+        first-source (chars c.args.a.now) c.loop-key.first c.first_of-first.result key value whole i.sources.0 of_line c.first_of-first.ensures,
+        first-source (chars c.args.b.now) c.loop-key.second c.first_of-second.result key value whole i.sources.1 of_line c.first_of-second.ensures,
+        first-source (chars c.args.c.now) c.loop-key.third c.first_of-third.result key value whole i.sources.2 of_line c.first_of-third.ensures,
+      );
+    }
