@@ -541,22 +541,49 @@ impl<'a> Node<'a> {
         None
     }
 
-    /// Returns the value of the first member with this name: that of an earlier one, or this one if its
-    /// name has this text.
+    /// Keeps the value of a member, if no earlier one was kept.
     #[inline(always)]
-    fn first_of(
-        earlier: Option<Node<'a>>,
-        key: Node<'a>,
-        value: Node<'a>,
-        name: &str,
-    ) -> Option<Node<'a>>
-        ensures { result ≡ option_or earlier.entry
-            (cond (has_text (chars name.now) (tree key.entry)) (Some value.entry) None) }
+    fn keep_first(kept: &mut Option<Node<'a>>, value: Node<'a>)
+        ensures { kept.new ≡ option_or kept.old (Some value.entry) }
     {
-        if earlier.is_none() && key.text_is(name) {
-            Some(value)
-        } else {
-            earlier
+        if kept.is_none() {
+            *kept = Some(value);
+        }
+    }
+
+    /// Keeps the value of a member for each of three names that is its own, if no earlier member
+    /// was kept for that name.
+    #[inline(always)]
+    fn keep_three(
+        member: (Node<'a>, Node<'a>),
+        a: &str,
+        b: &str,
+        c: &str,
+        kept: &mut ThreeMembers<'a>,
+    )
+        ensures first { kept.new.first ≡ option_or kept.old.first
+            (cond (has_text (chars a.now) (tree member.entry.0)) (Some member.entry.1) None) }
+        ensures second { kept.new.second ≡ option_or kept.old.second
+            (cond (has_text (chars b.now) (tree member.entry.0)) (Some member.entry.1) None) }
+        ensures third { kept.new.third ≡ option_or kept.old.third
+            (cond (has_text (chars c.now) (tree member.entry.0)) (Some member.entry.1) None) }
+    {
+        let (key, value) = member;
+        if key.text_is(a) {
+            Node::keep_first(&mut kept.first, value);
+            if key.text_is(b) {
+                Node::keep_first(&mut kept.second, value);
+            }
+            if key.text_is(c) {
+                Node::keep_first(&mut kept.third, value);
+            }
+        } else if key.text_is(b) {
+            Node::keep_first(&mut kept.second, value);
+            if key.text_is(c) {
+                Node::keep_first(&mut kept.third, value);
+            }
+        } else if key.text_is(c) {
+            Node::keep_first(&mut kept.third, value);
         }
     }
 
@@ -575,14 +602,24 @@ impl<'a> Node<'a> {
             × IfSome result.1 (λ n. source_of n ≡ source_of self.entry)
             × IfSome result.2 (λ n. source_of n ≡ source_of self.entry) }
     {
-        let (mut first, mut second, mut third) = (None, None, None);
+        let mut kept = ThreeMembers {
+            first: None,
+            second: None,
+            third: None,
+        };
         for (key, value) in self.members() {
-            first = Node::first_of(first, key, value, a);
-            second = Node::first_of(second, key, value, b);
-            third = Node::first_of(third, key, value, c);
+            Node::keep_three((key, value), a, b, c, &mut kept);
         }
-        (first, second, third)
+        (kept.first, kept.second, kept.third)
     }
+}
+
+/// What a walk has kept of three members.
+#[derive(Clone, Copy)]
+struct ThreeMembers<'a> {
+    first: Option<Node<'a>>,
+    second: Option<Node<'a>>,
+    third: Option<Node<'a>>,
 }
 
 impl<'a> Iterator for Items<'a> {

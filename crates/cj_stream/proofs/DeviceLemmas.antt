@@ -1,9 +1,10 @@
 -- What the answers of devices say of an end.
-use Rattle.std.proofs.Common.{◌≡◌, Bool, true, false, subst}
+use Rattle.std.proofs.Common.{◌≡◌, ℕ, zero, suc, Bool, true, false, Result, Ok, Err, subst}
 use Rattle.std.specs.Prelude.{◌↔◌, IsTrue}
 use Rattle.cj_stream.specs.declared.ending.End.{End}
 use Rattle.cj_stream.specs.declared.ending.End.TheVariants.{ReadFault, ReadLimit}
 use Rattle.cj_stream.specs.Cut.{IsUnread}
+use Rattle.cj_stream.specs.Device.{taken_by}
 
 -- where no read has failed, an end that no reader makes is no read fault
 pub unfailed-end : (failed : Bool) (e : End) → failed ≡ false → IsUnread e → IsTrue failed ↔ (e ≡ ReadFault)
@@ -18,3 +19,9 @@ unfailed-limit false f = (λ t. cc, λ is. cc)
 -- such an end is none by the number of reads
 pub unread-limit : {P : Type 0} (e : End) → IsUnread e → e ≡ ReadLimit → P
 unread-limit e u is = absurd (subst IsUnread is u)
+
+-- a write took as many bytes as it answered
+pub taken-is : {E : Type 0} (r : Result ℕ E) (n : ℕ) → taken_by r ≡ Ok n → r ≡ Ok n
+taken-is (Ok zero) n e = cc
+taken-is (Ok (suc m)) n e = cc
+taken-is (Err x) n e = cc

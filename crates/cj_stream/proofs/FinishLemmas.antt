@@ -67,11 +67,6 @@ pub ok-then : {T E : Type 0} (P Q : Type 0) (r : Result T E) → (P → Q) → O
 ok-then P Q (Ok x) f h = f h
 ok-then P Q (Err x) f h = h
 
--- and of an error
-pub err-then : {T E : Type 0} (P Q : Type 0) (r : Result T E) → (P → Q) → OnErr r P → OnErr r Q
-err-then P Q (Ok x) f h = h
-err-then P Q (Err x) f h = f h
-
 -- the same of an answer whose end is seen as one of the stream
 pub ok-answer : {T E : Type 0} (ending : E → End) (P : Type 0) (r : Result T E) → OnOk r P → OnOk (answer_of ending r) P
 ok-answer ending P (Ok x) h = h

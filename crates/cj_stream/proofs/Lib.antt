@@ -47,6 +47,7 @@ pub mod RunLemmas
 pub mod ScanningLemmas
 pub mod SelectionLemmas
 pub mod StaysLemmas
+pub mod TakingLemmas
 pub mod TallyLemmas
 pub mod TallyPartsLemmas
 pub mod TallySinkLemmas

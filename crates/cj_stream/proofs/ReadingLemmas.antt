@@ -10,10 +10,10 @@ use Rattle.cj_spans.specs.declared.reason.Reason.TheVariants.{LineTooLong}
 use Rattle.cj_stream.specs.Lines.{Line, closed, begun, begun_after, begun_later, ended_line, first_of, first_content, later_of, NoLf}
 use Rattle.std.specs.List.{filter}
 use Rattle.cj_spans.specs.Tree.{Tree}
-use Rattle.cj_stream.specs.Item.{Item, is_feature, item_at, tree_of}
-use Rattle.cj_stream.specs.Verdict.{Rules, Verdict, Refuse, Blank, LeftOut, Valid, verdict_at, tree_verdict, verdict, header_of, item_after, goes_on, refusal_of, report_of, is_kept, kept_from, reported_from}
+use Rattle.cj_stream.specs.Item.{Item, is_feature, item_at}
+use Rattle.cj_stream.specs.Verdict.{Rules, Verdict, Refuse, Blank, LeftOut, Valid, verdict_at, verdict, header_of, item_after, goes_on, refusal_of, report_of, is_kept, kept_from, reported_from}
 use Rattle.cj_stream.specs.Bound.{greatest, held_length}
-use Rattle.cj_stream.specs.Reading.{Reading, begun_of, begun_verdict, told_verdict, held_header, next_verdict, next_item, is_lenient, stored, IsBegun, IsLeft, Fits, Drops, StaysDropped, Stores, Passes, Reads, kept_closed}
+use Rattle.cj_stream.specs.Reading.{Reading, begun_of, told_verdict, held_header, next_verdict, next_item, is_lenient, stored, IsBegun, IsLeft, Fits, Drops, StaysDropped, Stores, Passes, Reads, kept_closed}
 use Rattle.cj_stream.proofs.LineLemmas.{closed-more, begun-more, closed-lf, begun-lf, first_of-some, first_of-lf, begun_after-some, begun_after-empty, none-from_length}
 use Rattle.cj_stream.proofs.VerdictLemmas.{verdict-first, verdict-long, before-more, refusal-append, kept-append}
 
@@ -26,11 +26,6 @@ begun_of-first f h = rw h refl
 
 pub begun_of-later : (f : Reading) → 0 < f.lines → begun_of f ≡ f.line.elements
 begun_of-later f h = let e : eqb f.lines 0 ≡ false = grind (arith, nat_tests) in rw e refl
-
--- the verdict on the first line, where it is a JSON text, is by its own tree
-pub begun_verdict-first : (f : Reading) → f.lines ≡ 0
-    → begun_verdict f ≡ tree_verdict f.rules 1 (tree_of f.rules.limits.depth f.header.elements) (tree_of f.rules.limits.depth f.header.elements)
-begun_verdict-first f h = rw h refl
 
 -- nothing goes on after the first line, if it is refused
 pub strict-first : (f : Reading) → f.lines ≡ 0 → is_lenient f ≡ false

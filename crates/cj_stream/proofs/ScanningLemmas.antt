@@ -1,30 +1,23 @@
 -- What is held of the trees of lines, from line to line.
-use Rattle.std.proofs.Common.{◌≡◌, ℕ, ◌+◌, ◌*◌, ◌<◌, ◌≤◌, ◌⊎◌, inl, inr, max, suc, List, [], ◌∷◌, ◌++◌, Bool, true, false, ltb, length, arith, refl, sym, ap, subst, ◌∙◌, append_assoc}
+use Rattle.std.proofs.Common.{◌≡◌, ℕ, ◌<◌, ◌≤◌, max, suc, List, [], ◌∷◌, ◌++◌, Bool, true, false, ltb, length, arith, refl, sym, ap, subst, ◌∙◌, append_assoc}
 use Rattle.std.specs.List.{list_all}
 use Rattle.std.specs.Prelude.{◌&&◌}
 use Rattle.std.specs.Str.{is_utf8}
-use Rattle.std.proofs.lemmas.Bool.{ltb-true}
 use Rattle.std.proofs.lemmas.Bool.Decides.{nat_tests}
 use Rattle.std.proofs.lemmas.List.Folds.{list_all-append}
-use Rattle.cj_budget.specs.Bounded.{BoundedList, IsWithin}
 use Rattle.cj_budget.specs.Limits.{LimitPair}
 use Rattle.cj_spans.specs.declared.token.Token.{Token}
 use Rattle.cj_spans.specs.Marks.{bare}
 use Rattle.cj_spans.specs.Judgement.{Judgement, spelled, broken, sunk, judged_size, judged_nest}
-use Rattle.cj_spans.specs.declared.reason.Reason.{Reason}
 use Rattle.cj_spans.specs.Scan.{KeepsLaw}
 use Rattle.cj_spans.proofs.Judgements.{judgement}
-use Rattle.cj_stream.specs.declared.judge.Content.{Content}
-use Rattle.cj_stream.specs.declared.judge.Content.TheVariants.{Faulty, BlankLine, Sound}
 use Rattle.cj_stream.specs.Lines.{closed, begun, first_of, first_content, NoLf}
-use Rattle.cj_stream.specs.Bound.{is_text, tree_size, tree_nest, is_spelled, is_readable}
-use Rattle.cj_stream.specs.Scanning.{Scanning, HasRoom, IsStill, HasHeld, are_readable, Scanned, ScansNext}
-use Rattle.cj_stream.specs.Scanning.{HoldsFew, HoldsFewNext, Rises, Judges, JudgesLine, Forgets, tree_lists}
+use Rattle.cj_stream.specs.Bound.{tree_size, tree_nest, is_spelled, is_readable}
+use Rattle.cj_stream.specs.Scanning.{Scanning, HasRoom, HasHeld, are_readable, Scanned, ScansNext, HoldsFew, HoldsFewNext, Rises, ScansLine, Forgets}
 use Rattle.cj_stream.specs.Verdict.{is_blank_byte}
-use Rattle.cj_stream.specs.Judging.{Misreads}
 use Rattle.cj_stream.specs.Reading.{Reading, begun_of, Stores, Reads}
-use Rattle.cj_stream.proofs.LineLemmas.{not_true, closed-more, begun-more, closed-lf, first_content-grows}
-use Rattle.cj_stream.proofs.ReadingLemmas.{zero_or, true-false, greatest-append, held-whole, IsBegun-stored}
+use Rattle.cj_stream.proofs.LineLemmas.{closed-more, begun-more, closed-lf, first_content-grows}
+use Rattle.cj_stream.proofs.ReadingLemmas.{true-false, greatest-append, held-whole, dropped-long, IsBegun-stored}
 use Rattle.cj_stream.proofs.VerdictLemmas.{and-both}
 
 pub Rises-same : (f g : Scanning) → g ≡ f → Rises f g
@@ -37,112 +30,10 @@ Rises-then f g h a b = record {
   opened = omega (arith, a.opened, b.opened);
 }
 
--- ---- lists of which nothing has changed but the room for later lines and its failed growths
-
-pub forgets-still : (f g h : Scanning) → IsStill f g → g.line.failed_growths ≡ f.line.failed_growths → Forgets g h → Forgets f h
-forgets-still f g h still none k = go (rw still.same at k)
-  where
-    go : Forgets (record f { line = record f.line { elements = g.line.elements; reserved = g.line.reserved; failed_growths = g.line.failed_growths } }) h → Forgets f h
-    go k = record {
-      header = k.header;
-      line = record {
-        elements = k.line.elements;
-        limit = k.line.limit;
-        peak = k.line.peak;
-        room = λ r. k.line.room (still.room r);
-        failed_growths = k.line.failed_growths ∙ none;
-        within = k.line.within;
-      };
-      opened = k.opened;
-    }
-
 -- tokens that are the same but for their marks are as many
 pub length-bare : (ts : List Token) → length (bare ts) ≡ length ts
 length-bare [] = refl
 length-bare (t ∷ ts) = ap suc (length-bare ts)
-
--- ---- lists that judging has changed
-
-module _ (c : List ℕ) (a b : BoundedList Token) (x y : BoundedList ℕ) where
-  -- what stays of two lists, whatever is answered
-  pub record Kept : Type 0 where
-    pub limit : b.limit ≡ a.limit
-    pub within : IsWithin a → IsWithin b
-    pub peak : a.peak ≤ b.peak
-    pub opened_limit : y.limit ≡ x.limit
-    pub opened_within : IsWithin x → IsWithin y
-    pub opened_peak : x.peak ≤ y.peak
-    pub few : IsWithin x → 2 * b.peak ≤ max (2 * a.peak) (length c + x.limit + 1)
-
-  kept-law : KeepsLaw c a b x y → Kept
-  kept-law k = record {
-    limit = k.token_limit;
-    within = λ w. k.tokens_within;
-    peak = omega (arith, k.token_peak);
-    opened_limit = k.stack_limit;
-    opened_within = λ w. k.stack_within;
-    opened_peak = k.stack_peak;
-    few = λ w. omega (arith, k.law, k.token_peak, k.stack_within.below_peak, k.stack_within.below_limit, k.stack_limit);
-  }
-
-  kept-same : b ≡ a → y ≡ x → Kept
-  kept-same e f = rw (e, f) (record {
-    limit = refl;
-    within = λ w. w;
-    peak = omega arith;
-    opened_limit = refl;
-    opened_within = λ w. w;
-    opened_peak = omega arith;
-    few = λ w. omega arith;
-  })
-
-  pub kept-judges : (r : Content) → Judges c (tree_lists a x) (tree_lists b y) r → Kept
-  kept-judges BlankLine h = kept-same h.0 h.1
-  kept-judges Sound h = kept-law h.1
-  kept-judges (Faulty place reason) h = kept-law h
-
--- a number of lines, told otherwise
-pub judges-at : (n m : ℕ) (c : List ℕ) (f g : Scanning) (r : Content) → m ≡ n → JudgesLine n c f g r → JudgesLine m c f g r
-judges-at n m c f g r e h = rw e h
-
-module _ (limits : LimitPair) (n : ℕ) (c : List ℕ) (f g : Scanning) (r : Content) where
-  pub room-judges : HasRoom limits f → JudgesLine n c f g r → HasRoom limits g
-  room-judges room j = go (zero_or n)
-    where
-      go : (n ≡ 0) ⊎ (0 < n) → HasRoom limits g
-      go (inl z) =
-          let k = kept-judges c f.header g.header f.opened g.opened r (j.first z).0 in
-          record {
-            range = room.range;
-            header = k.limit ∙ room.header;
-            line = rw (j.first z).1 room.line;
-            opened = k.opened_limit ∙ room.opened;
-            header_within = k.within room.header_within;
-            line_within = rw (j.first z).1 room.line_within;
-            opened_within = k.opened_within room.opened_within;
-          }
-      go (inr z) =
-          let k = kept-judges c f.line g.line f.opened g.opened r (j.later z).0 in
-          record {
-            range = room.range;
-            header = rw (j.later z).1 room.header;
-            line = k.limit ∙ room.line;
-            opened = k.opened_limit ∙ room.opened;
-            header_within = rw (j.later z).1 room.header_within;
-            line_within = k.within room.line_within;
-            opened_within = k.opened_within room.opened_within;
-          }
-
-  pub rises-judges : JudgesLine n c f g r → Rises f g
-  rises-judges j = go (zero_or n)
-    where
-      go : (n ≡ 0) ⊎ (0 < n) → Rises f g
-      go (inl z) =
-          let k = kept-judges c f.header g.header f.opened g.opened r (j.first z).0 in
-          record { header = k.peak; line = rw (j.first z).1 (omega arith); opened = k.opened_peak }
-      go (inr z) =
-          let k = kept-judges c f.line g.line f.opened g.opened r (j.later z).0 in
-          record { header = rw (j.later z).1 (omega arith); line = k.peak; opened = k.opened_peak }
 
 -- ---- within the bound
 
@@ -155,6 +46,9 @@ few-scanned limits cs f h s le = omega (arith, s.header_law, s.line_law, le)
 held-exact : (all : Bool) (n peak : ℕ) → peak ≡ n → HasHeld all n peak
 held-exact all n peak e = record { least = omega (arith, e); exact = λ _. e }
 
+held-at : {all : Bool} {n peak now : ℕ} → HasHeld all n peak → now ≡ peak → HasHeld all n now
+held-at h e = rw e h
+
 -- the later lines of some, and one more, can be read: so they can, and so can it
 readable-more : (limits : LimitPair) (ds : List (List ℕ)) (c : List ℕ) → list_all (is_readable limits) (ds ++ c ∷ []) ≡ true
     → (list_all (is_readable limits) ds ≡ true) × (is_readable limits c ≡ true)
@@ -162,20 +56,14 @@ readable-more limits ds c h =
     let both = and-both (list_all (is_readable limits) ds) (list_all (is_readable limits) (c ∷ [])) (sym (list_all-append (is_readable limits) ds (c ∷ [])) ∙ h) in
     (both.0, (and-both (is_readable limits c) true both.1).0)
 
-module _ (limits : LimitPair) (d : List ℕ) (ds : List (List ℕ)) (c : List ℕ) (n peak now m next : ℕ) where
-  -- a line more that can be read: the greater of what was held and of what it holds
-  held-more : HasHeld (are_readable limits (d ∷ ds)) n peak → now ≡ max peak m → next ≡ max n m → HasHeld (are_readable limits (d ∷ ds ++ c ∷ [])) next now
-  held-more h e f = record {
-    least = omega (arith, h.least, e, f);
-    exact = λ all. omega (arith, h.exact (readable-more limits ds c all).0, e, f);
-  }
-
-  -- and one that cannot
-  held-unread : HasHeld (are_readable limits (d ∷ ds)) n peak → peak ≤ now → next ≡ n → is_readable limits c ≡ false → HasHeld (are_readable limits (d ∷ ds ++ c ∷ [])) next now
-  held-unread h e f bad = record {
-    least = omega (arith, h.least, e, f);
-    exact = λ all. absurd (true-false (is_readable limits c) (readable-more limits ds c all).1 bad);
-  }
+-- a later line more: the greater of what was held and of what it holds
+held-more : (limits : LimitPair) (d : List ℕ) (ds : List (List ℕ)) (c : List ℕ) (n peak now m next : ℕ)
+    → HasHeld (are_readable limits (d ∷ ds)) n peak → HasHeld (is_readable limits c) (max peak m) now
+    → next ≡ max n m → HasHeld (are_readable limits (d ∷ ds ++ c ∷ [])) next now
+held-more limits d ds c n peak now m next h k e = record {
+  least = omega (arith, h.least, k.least, e);
+  exact = λ all. let both = readable-more limits ds c all in omega (arith, h.exact both.0, k.exact both.1, e);
+}
 
 -- a content that is none that can be read has no tree
 pub record IsUnread (limits : LimitPair) (c : List ℕ) : Type 0 where
@@ -202,102 +90,70 @@ unread-told limits c blank bad = go (ltb limits.line (length c)) (is_utf8 c) (is
     go false true true l t s h = cc
     go false true false l t s h = let k = unspelled (judgement c limits.depth) s in record { bad = rw (l, t, blank, s) refl; size = rw (l, t) k.0; nest = rw (l, t) k.1 }
 
-module _ (limits : LimitPair) (c : List ℕ) (f g h : Scanning) (k : Forgets g h) where
-  module _ (room : HasRoom limits f) (short : length c ≤ limits.line) where
-    text-is : is_utf8 c ≡ true → is_text limits c ≡ true
-    text-is u =
-        let fits : ltb limits.line (length c) ≡ false = not_true (ltb limits.line (length c)) (λ y. let long = ltb-true limits.line (length c) y in absurd (omega arith)) in
-        rw (fits, u) refl
+-- ---- a later line that was scanned
 
-    size-is : is_utf8 c ≡ true → judged_size (judgement c f.opened.limit) ≡ tree_size limits c
-    size-is u = rw (text-is u, room.opened) refl
+-- nothing was held of it
+pub scans-none : (limits : LimitPair) (c : List ℕ) (f g : Scanning) → g ≡ f
+    → (tree_size limits c ≡ 0) × (tree_nest limits c ≡ 0) → ScansLine limits c f g
+scans-none limits c f g same zero = rw same (record {
+  header = refl;
+  line = held-exact _ _ _ (omega (arith, zero.0));
+  opened = held-exact _ _ _ (omega (arith, zero.1));
+  law = omega arith;
+})
 
-    nest-is : is_utf8 c ≡ true → judged_nest (judgement c f.opened.limit) ≡ tree_nest limits c
-    nest-is u = rw (text-is u, room.opened) refl
+-- it cannot be read
+pub scans-unread : (limits : LimitPair) (c : List ℕ) (f g : Scanning) → HasRoom limits f → length c ≤ limits.line
+    → g.header ≡ f.header → KeepsLaw c f.line g.line f.opened g.opened → IsUnread limits c
+    → ScansLine limits c f g
+scans-unread limits c f g room short same k u = record {
+  header = same;
+  line = record { least = omega (arith, u.size, k.token_peak); exact = unread };
+  opened = record { least = omega (arith, u.nest, k.stack_peak); exact = unread };
+  law = omega (
+    arith,
+    k.law,
+    k.token_peak,
+    k.stack_within.below_peak,
+    k.stack_within.below_limit,
+    k.stack_limit,
+    room.opened,
+    short,
+  );
+}
+  where
+    unread : {P : Type 0} → is_readable limits c ≡ true → P
+    unread r = absurd (true-false (is_readable limits c) r u.bad)
 
-    pub scanned-valid : (cs : List (List ℕ)) → Scanned limits cs f → JudgesLine (length cs) c f g Sound → Scanned limits (cs ++ c ∷ []) h
-    scanned-valid [] s j =
-        let t = (j.first refl).0.0 in
-        let law = (j.first refl).0.1 in
-        let line : g.line.peak ≡ f.line.peak = ap (λ z. z.peak) (j.first refl).1 in
-        let size : judged_size (judgement c f.opened.limit) ≡ tree_size limits c = size-is t.text in
-        let header : h.header.peak ≡ g.header.peak = ap (λ z. z.peak) k.header in
-        let none : length g.opened.elements ≡ 0 = ap length t.closed in
-        record {
-          header = ap (λ z. length z.elements) k.header ∙ (t.count ∙ size);
-          header_peak = omega (arith, header, t.peak, size, s.header_peak);
-          line = k.line.elements;
-          line_peak = held-exact true 0 h.line.peak (omega (arith, k.line.peak, line, s.line_peak.exact refl));
-          opened = k.opened.elements;
-          opened_peak = held-exact true (max (tree_nest limits c) 0) h.opened.peak (omega (arith, k.opened.peak, t.opened_peak, nest-is t.text, s.opened_peak.exact refl));
-          header_law = omega (arith, header, t.peak, t.count, s.header_peak, law.law, none, short);
-          line_law = omega (arith, k.line.peak, line, s.line_peak.exact refl);
-        }
-    scanned-valid (d ∷ ds) s j =
-        let t = (j.later (omega arith)).0.0 in
-        let law = (j.later (omega arith)).0.1 in
-        let same = (j.later (omega arith)).1 in
-        let size : judged_size (judgement c f.opened.limit) ≡ tree_size limits c = size-is t.text in
-        let none : length g.opened.elements ≡ 0 = ap length t.closed in
-        record {
-          header = ap (λ z. length z.elements) (k.header ∙ same) ∙ s.header;
-          header_peak = ap (λ z. z.peak) (k.header ∙ same) ∙ s.header_peak;
-          line = k.line.elements;
-          line_peak = held-more limits d ds c _ f.line.peak h.line.peak (tree_size limits c) _ s.line_peak (omega (arith, k.line.peak, t.peak, size)) (greatest-append (tree_size limits) ds c);
-          opened = k.opened.elements;
-          opened_peak = held-more limits d ds c _ f.opened.peak h.opened.peak (tree_nest limits c) _ s.opened_peak (omega (arith, k.opened.peak, t.opened_peak, nest-is t.text)) (greatest-append (tree_nest limits) (d ∷ ds) c);
-          header_law = rw (k.header, same) s.header_law;
-          line_law = omega (arith, k.line.peak, t.peak, t.count, law.law, none, s.line_law, short);
-        }
+-- it was dealt with
+scanned-later : (limits : LimitPair) (c : List ℕ) (f g h : Scanning) → Forgets g h → ScansLine limits c f g
+    → (cs : List (List ℕ)) → 0 < length cs → Scanned limits cs f → Scanned limits (cs ++ c ∷ []) h
+scanned-later limits c f g h k line [] later s = absurd (omega arith)
+scanned-later limits c f g h k line (d ∷ ds) later s = record {
+  header = ap (λ z. length z.elements) (k.header ∙ line.header) ∙ s.header;
+  header_peak = ap (λ z. z.peak) (k.header ∙ line.header) ∙ s.header_peak;
+  line = k.line.elements;
+  line_peak = held-more limits d ds c _ f.line.peak h.line.peak (tree_size limits c) _ s.line_peak
+      (held-at line.line (omega (arith, k.line.peak))) (greatest-append (tree_size limits) ds c);
+  opened = k.opened.elements;
+  opened_peak = held-more limits d ds c _ f.opened.peak h.opened.peak (tree_nest limits c) _ s.opened_peak
+      (held-at line.opened (omega (arith, k.opened.peak))) (greatest-append (tree_nest limits) (d ∷ ds) c);
+  header_law = rw (k.header, line.header) s.header_law;
+  line_law = omega (arith, k.line.peak, line.law, s.line_law);
+}
 
-  pub scanned-blank : (cs : List (List ℕ)) → 0 < length cs → (tree_size limits c ≡ 0) × (tree_nest limits c ≡ 0) → Scanned limits cs f → JudgesLine (length cs) c f g BlankLine
-      → Scanned limits (cs ++ c ∷ []) h
-  scanned-blank [] later zero s j = absurd (omega arith)
-  scanned-blank (d ∷ ds) later zero s j =
-      let same = (j.later (omega arith)).1 in
-      let line : g.line.peak ≡ f.line.peak = ap (λ z. z.peak) (j.later (omega arith)).0.0 in
-      let opened : g.opened.peak ≡ f.opened.peak = ap (λ z. z.peak) (j.later (omega arith)).0.1 in
-      record {
-        header = ap (λ z. length z.elements) (k.header ∙ same) ∙ s.header;
-        header_peak = ap (λ z. z.peak) (k.header ∙ same) ∙ s.header_peak;
-        line = k.line.elements;
-        line_peak = held-more limits d ds c _ f.line.peak h.line.peak (tree_size limits c) _ s.line_peak (omega (arith, k.line.peak, line, zero.0)) (greatest-append (tree_size limits) ds c);
-        opened = k.opened.elements;
-        opened_peak = held-more limits d ds c _ f.opened.peak h.opened.peak (tree_nest limits c) _ s.opened_peak (omega (arith, k.opened.peak, opened, zero.1)) (greatest-append (tree_nest limits) (d ∷ ds) c);
-        header_law = rw (k.header, same) s.header_law;
-        line_law = omega (arith, k.line.peak, line, s.line_law);
-      }
+-- what is told of the lists by what is held of the begun line, and where that is dropped
+pub ScansNext-held : (x : Reading) (f g h : Scanning) → 0 < x.lines → x.dropped ≡ false
+    → ScansLine x.rules.limits (begun_of x) f g → Forgets g h → ScansNext x f h
+ScansNext-held x f g h later held line k = λ cs c count is s.
+    scanned-later x.rules.limits c f g h k (subst (λ z. ScansLine x.rules.limits z f g) (held-whole x c is held).0 line)
+    cs (omega (arith, count, later)) s
 
-  -- a later line that cannot be read, by which no list has held more than the bytes allow
-  pub scanned-unread : (cs : List (List ℕ)) → 0 < length cs → IsUnread limits c → Scanned limits cs f → g.header ≡ f.header → f.line.peak ≤ g.line.peak → f.opened.peak ≤ g.opened.peak
-      → 2 * g.line.peak ≤ limits.line + limits.depth + 1 → Scanned limits (cs ++ c ∷ []) h
-  scanned-unread [] later u s same line opened law = absurd (omega arith)
-  scanned-unread (d ∷ ds) later u s same line opened law = record {
-    header = ap (λ z. length z.elements) (k.header ∙ same) ∙ s.header;
-    header_peak = ap (λ z. z.peak) (k.header ∙ same) ∙ s.header_peak;
-    line = k.line.elements;
-    line_peak = held-unread limits d ds c _ f.line.peak h.line.peak 0 _ s.line_peak (omega (arith, k.line.peak, line)) (omega (arith, greatest-append (tree_size limits) ds c, u.size)) u.bad;
-    opened = k.opened.elements;
-    opened_peak = held-unread limits d ds c _ f.opened.peak h.opened.peak 0 _ s.opened_peak (omega (arith, k.opened.peak, opened)) (omega (arith, greatest-append (tree_nest limits) (d ∷ ds) c, u.nest)) u.bad;
-    header_law = rw (k.header, same) s.header_law;
-    line_law = omega (arith, k.line.peak, law);
-  }
-
--- a later line that judging has found to be none that can be read
-pub scanned-faulty : (limits : LimitPair) (n : ℕ) (c : List ℕ) (f g h : Scanning) (place : ℕ) (reason : Reason) → HasRoom limits f → length c ≤ limits.line → 0 < n
-    → Misreads (n + 1) c limits.depth (Faulty place reason) → JudgesLine n c f g (Faulty place reason) → Forgets g h → (cs : List (List ℕ)) → length cs ≡ n → Scanned limits cs f
-    → Scanned limits (cs ++ c ∷ []) h
-scanned-faulty limits n c f g h place reason room short later bad j k cs count s =
-    let kept = kept-judges c f.line g.line f.opened g.opened (Faulty place reason) (j.later later).0 in
-    let after_first : ltb 1 (n + 1) ≡ true = grind (arith, nat_tests) in
-    let not_blank : list_all is_blank_byte c ≡ false = let z = rw after_first at bad.0 in z in
-    scanned-unread limits c f g h k cs (omega (arith, count, later)) (unread-told limits c not_blank bad.1) s (j.later later).1 kept.peak kept.opened_peak
-    (omega (arith, kept.few room.opened_within, s.line_law, room.opened, short))
-
--- what is told of the lists by what is held of the begun line, where that is not dropped
-pub next-held : (f : Reading) (old new : Scanning) → f.dropped ≡ false
-    → ((cs : List (List ℕ)) → length cs ≡ f.lines → Scanned f.rules.limits cs old → Scanned f.rules.limits (cs ++ begun_of f ∷ []) new) → ScansNext f old new
-next-held f old new held h = λ cs c count is s. subst (λ z. Scanned f.rules.limits (cs ++ z ∷ []) new) (held-whole f c is held).0 (h cs count s)
+pub ScansNext-dropped : (x : Reading) (f h : Scanning) → 0 < x.lines → x.dropped ≡ true → Forgets f h → ScansNext x f h
+ScansNext-dropped x f h later dropped k = λ cs c count is s.
+    let u = unread-long x.rules.limits c (dropped-long x c is dropped) in
+    scanned-later x.rules.limits c f f h k (scans-none x.rules.limits c f f refl (u.size, u.nest)) cs
+    (omega (arith, count, later)) s
 
 -- ---- lines of bytes
 

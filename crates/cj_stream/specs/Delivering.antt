@@ -1,17 +1,26 @@
--- What comes of a line of a tree, by the verdict on it, where it is judged and put to a sink.
-use Rattle.std.specs.Prelude.{◌≡◌, Bool, true, false, Result, Ok, Err, MatchResult}
-use Rattle.cj_stream.specs.declared.ending.End.{End}
-use Rattle.cj_stream.specs.declared.ending.End.TheVariants.{Refused, WriteFault}
+-- What becomes of a later line where it is judged and put to a sink.
+use Rattle.std.specs.Prelude.{◌≡◌, Result, Ok, Err}
+use Rattle.cj_stream.specs.declared.desk.Dealt.{Dealt}
+use Rattle.cj_stream.specs.declared.desk.Dealt.TheVariants.{Kept, LeftOut, Blank, Refused}
+use Rattle.cj_stream.specs.declared.output.WriteFault.{WriteFault}
+use Rattle.cj_stream.specs.Item.{Item}
 use Rattle.cj_stream.specs.Reading.{JudgedLine, JudgedAs}
 use Rattle.cj_stream.specs.Sink.{SinkLaw}
-use Rattle.cj_stream.specs.Verdict.{Refuse, Blank, LeftOut, Valid}
+use Rattle.cj_stream.specs.Verdict.{Verdict, Refuse, Valid, LeftOut as LeftOutLine, Blank as BlankLine}
 
--- it is refused, or not asked for, and the sink stays; or it was put, or a fault of the sink is the end. No line of a
--- tree is blank
-abbrev pub Hands : {S : Type 0} → SinkLaw S → JudgedLine → S → Result Bool End → S → Type 0
-Hands law (JudgedAs number on (Refuse place reason) i) s answer t =
-    (answer ≡ Err (Refused number place reason)) × (t ≡ s)
-Hands law (JudgedAs number on Blank i) s answer t = ⊥
-Hands law (JudgedAs number on LeftOut i) s answer t = (answer ≡ Ok false) × (t ≡ s)
-Hands law (JudgedAs number on Valid i) s answer t =
-    MatchResult answer (λ put. (put ≡ true) × law.takes s i t) (λ e. (e ≡ WriteFault) × law.leaves s i t)
+-- what became of a line is the verdict on it
+abbrev pub verdict_of : Dealt → Verdict
+verdict_of Kept = Valid
+verdict_of LeftOut = LeftOutLine
+verdict_of Blank = BlankLine
+verdict_of (Refused f) = Refuse f.place f.reason
+
+-- the sink took the item if the line was kept, and stays if not
+abbrev pub Gets : {S : Type 0} → SinkLaw S → Item → Dealt → S → S → Type 0
+Gets law i Kept s t = law.takes s i t
+Gets law i other s t = t ≡ s
+
+-- the answer is the verdict, and the sink has what is kept; or a fault of the sink is answered, at a line to keep
+abbrev pub Hands : {S : Type 0} → SinkLaw S → JudgedLine → S → Result Dealt WriteFault → S → Type 0
+Hands law (JudgedAs number on v i) s (Ok dealt) t = (v ≡ verdict_of dealt) × Gets law i dealt s t
+Hands law (JudgedAs number on v i) s (Err fault) t = (v ≡ Valid) × law.leaves s i t

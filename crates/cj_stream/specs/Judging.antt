@@ -1,43 +1,31 @@
 -- What is told of a line as a text, and what its tokens show.
-use Rattle.std.specs.Prelude.{◌≡◌, ℕ, ◌<◌, ◌≤◌, List, length, Option, Some, false, ◌&&◌, IsTrue}
-use Rattle.std.specs.Str.{is_utf8}
+use Rattle.std.specs.Prelude.{◌≡◌, ℕ, ◌<◌, ◌≤◌, List, length, Option, Some, Result, Ok, Err, false, IsTrue}
+use Rattle.cj_spans.specs.declared.finding.Finding.{Finding}
 use Rattle.cj_spans.specs.declared.token.Token.{Token}
 use Rattle.cj_budget.specs.Limits.{LimitPair}
 use Rattle.cj_spans.specs.Tree.{Tree}
 use Rattle.cj_spans.specs.Json.{Json}
 use Rattle.cj_spans.specs.Sound.{AreOf}
-use Rattle.cj_spans.proofs.Judgements.{judgement}
 use Rattle.cj_feature.specs.declared.header.reading.HeaderParts.{HeaderParts}
 use Rattle.cj_feature.specs.Reached.{AreMarks}
 use Rattle.cj_feature.specs.Shown.{ArePartsOf, parts_box}
-use Rattle.cj_stream.specs.declared.judge.Content.{Content}
-use Rattle.cj_stream.specs.declared.judge.Content.TheVariants.{Faulty, BlankLine, Sound}
-use Rattle.cj_stream.specs.Bound.{is_spelled}
 use Rattle.cj_stream.specs.Criteria.{needs_box}
 use Rattle.cj_stream.specs.Item.{tree_of}
 use Rattle.cj_stream.specs.Options.{OptionSet}
 use Rattle.cj_stream.specs.Reading.{Reading}
 use Rattle.cj_stream.specs.Scanning.{Scanning}
-use Rattle.cj_stream.specs.Verdict.{Rules, Refuse, Blank, is_blank_line, verdict_at, tree_verdict}
+use Rattle.cj_stream.specs.Verdict.{Rules, Refuse, is_blank_line, verdict_at, tree_verdict}
 
 -- what a content is says this of its verdict
-abbrev pub Decides : Rules → ℕ → Tree → List ℕ → Content → Type 0
-Decides rules number header c (Faulty place reason) = verdict_at rules number header c ≡ Refuse place reason
-Decides rules number header c BlankLine = verdict_at rules number header c ≡ Blank
-Decides rules number header c Sound =
+abbrev pub Decides : Rules → ℕ → Tree → List ℕ → Result (Unit {0}) Finding → Type 0
+Decides rules number header c (Ok x) =
     verdict_at rules number header c ≡ tree_verdict rules number header (tree_of rules.limits.depth c)
+Decides rules number header c (Err f) = verdict_at rules number header c ≡ Refuse f.place f.reason
 
--- and it says so under any rules with this depth limit, whatever the header
-abbrev pub Says : ℕ → List ℕ → ℕ → Content → Type 0
-Says number c depth x = (rules : Rules) (header : Tree) → length c ≤ rules.limits.line → rules.limits.depth ≡ depth
-    → Decides rules number header c x
-
--- a content that is told to be faulty is none that can be read: it is not blank, and no text that spells a tree
-abbrev pub Misreads : ℕ → List ℕ → ℕ → Content → Type 0
-Misreads number c depth (Faulty place reason) = (is_blank_line number c ≡ false)
-    × (is_utf8 c && is_spelled (judgement c depth) ≡ false)
-Misreads number c depth BlankLine = Unit {0}
-Misreads number c depth Sound = Unit {0}
+-- and it says so under any rules with this depth limit, on a line with any number and any header, unless it is blank
+abbrev pub Says : List ℕ → ℕ → Result (Unit {0}) Finding → Type 0
+Says c depth x = (rules : Rules) (number : ℕ) (header : Tree) → length c ≤ rules.limits.line
+    → rules.limits.depth ≡ depth → is_blank_line number c ≡ false → Decides rules number header c x
 
 -- the tokens are those of the content, which spells its tree
 pub record ShowsTree (c : List ℕ) (depth : ℕ) (tokens : List Token) : Type 0 where

@@ -14,7 +14,7 @@ use Rattle.cj_stream.specs.declared.ending.End.TheVariants.{Refused, WriteFault,
 use Rattle.cj_stream.specs.Lines.{Line, lines, closed, begun, begun_later, ended_line, first_content, later_of}
 use Rattle.cj_stream.specs.Item.{Item, is_feature, tree_of, item_at}
 use Rattle.cj_stream.specs.Query.{rules_for}
-use Rattle.cj_stream.specs.Verdict.{Rules, Verdict, Refuse, Blank, LeftOut, Valid, tree_verdict, verdict_at, verdict}
+use Rattle.cj_stream.specs.Verdict.{Rules, Verdict, Refuse, Blank, LeftOut, Valid, verdict_at, verdict}
 use Rattle.cj_stream.specs.Verdict.{item_after, is_kept, goes_on, refusal_in, kept_from, reported_from, judged}
 use Rattle.cj_stream.specs.Bound.{greatest, held_length}
 use Rattle.cj_stream.specs.Sink.{SinkLaw, WithSink, TookMore}
@@ -53,10 +53,6 @@ held_header f = tree_of f.rules.limits.depth f.header.elements
 -- the verdict on a content as the line that comes next, and the item that it is
 abbrev pub next_verdict : Reading → List ℕ → Verdict
 next_verdict f content = verdict_at f.rules (f.lines + 1) (held_header f) content
-
--- the verdict on the begun line, where it is a JSON text within the depth limit
-abbrev pub begun_verdict : Reading → Verdict
-begun_verdict f = tree_verdict f.rules (f.lines + 1) (held_header f) (tree_of f.rules.limits.depth (begun_of f))
 
 abbrev pub next_item : Reading → Line → Item
 next_item f l = item_at f.rules.limits.depth (f.lines + 1) (held_header f) l

@@ -8,11 +8,8 @@ use Rattle.cj_budget.specs.Counts.{HasRisen}
 use Rattle.cj_budget.specs.Limits.{LimitPair, InDepth}
 use Rattle.cj_spans.specs.declared.token.Token.{Token}
 use Rattle.cj_spans.specs.Judgement.{judged_size, judged_nest}
-use Rattle.cj_spans.specs.Scan.{KeepsLaw}
 use Rattle.cj_spans.proofs.Judgements.{judgement}
 use Rattle.cj_stream.specs.declared.desk.Desk.{Desk}
-use Rattle.cj_stream.specs.declared.judge.Content.{Content}
-use Rattle.cj_stream.specs.declared.judge.Content.TheVariants.{Faulty, BlankLine, Sound}
 use Rattle.cj_stream.specs.Lines.{closed, first_of, later_of}
 use Rattle.cj_stream.specs.Reading.{Reading, IsBegun}
 use Rattle.cj_stream.specs.Bound.{tree_size, tree_nest, is_readable, of_first, greatest}
@@ -109,30 +106,18 @@ pub record HoldsTree (c : List ℕ) (old new : TreeLists) : Type 0 where
   pub closed : new.opened.elements ≡ []
   pub opened_peak : new.opened.peak ≡ max old.opened.peak (judged_nest (judgement c old.opened.limit))
 
--- what judging a content makes of the lists: nothing where it is blank; its tree where it is JSON; and in any other
--- case no more than the law of a scan allows
-abbrev pub Judges : List ℕ → TreeLists → TreeLists → Content → Type 0
-Judges c old new BlankLine = (new.tokens ≡ old.tokens) × (new.opened ≡ old.opened)
-Judges c old new Sound = HoldsTree c old new × KeepsLaw c old.tokens new.tokens old.opened new.opened
-Judges c old new (Faulty place reason) = KeepsLaw c old.tokens new.tokens old.opened new.opened
-
--- the first line goes into the lists that are kept, a later one into the others
-pub record JudgesLine (lines : ℕ) (c : List ℕ) (old new : Scanning) (x : Content) : Type 0 where
-  pub first : lines ≡ 0
-      → Judges c (tree_lists old.header old.opened) (tree_lists new.header new.opened) x × (new.line ≡ old.line)
-  pub later : 0 < lines
-      → Judges c (tree_lists old.line old.opened) (tree_lists new.line new.opened) x × (new.header ≡ old.header)
+-- A later line was scanned. What was held at most of its tree is exact, where it can be read, and else within what
+-- the bytes allow.
+pub record ScansLine (limits : LimitPair) (c : List ℕ) (old new : Scanning) : Type 0 where
+  pub header : new.header ≡ old.header
+  pub line : HasHeld (is_readable limits c) (max old.line.peak (tree_size limits c)) new.line.peak
+  pub opened : HasHeld (is_readable limits c) (max old.opened.peak (tree_nest limits c)) new.opened.peak
+  pub law : 2 * new.line.peak ≤ max (2 * old.line.peak) (limits.line + limits.depth + 1)
 
 -- the lists that the next line goes into have room for their limits, so it takes no memory
 pub record IsReady (f : Reading) (s : Scanning) : Type 0 where
   pub first : f.lines ≡ 0 → IsTrue f.header.reserved × IsTrue s.header.reserved
   pub later : 0 < f.lines → IsTrue f.line.reserved × IsTrue s.line.reserved
-  pub opened : IsTrue s.opened.reserved
-
--- so it is of those that the tokens of the line after so many go into
-pub record IsOpen (before : ℕ) (s : Scanning) : Type 0 where
-  pub first : before ≡ 0 → IsTrue s.header.reserved
-  pub later : 0 < before → IsTrue s.line.reserved
   pub opened : IsTrue s.opened.reserved
 
 -- nothing has changed but that the tokens of a later line may have marks, and that there may be more room for such

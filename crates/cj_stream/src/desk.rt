@@ -6,28 +6,50 @@
 //!
 //! That the header's tokens and parts belong to the header (`KeepsHeader`) is required by the
 //! functions that use them. A view borrows the lists, so they change only after the call of the
-//! sink. A line's number is the number of lines before it plus one, so the header has number 1.
-ghost use Rattle.std.specs.Prelude.{◌≡◌, ◌+◌, ◌<◌, ◌≤◌, ◌^◌, ◌/◌, List, length, [], OnOk, OnErr, IfOk, IfErr, IsErrOf};
-ghost use Rattle.std.specs.Prelude.{MatchResult, IsTrue, None, Some, false};
-ghost use Rattle.cj_budget.specs.Bounded.{IsNew, Becomes};
+//! sink. The desk does not know the number of a later line: its verdict is the same with any number
+//! above 1.
+ghost use Rattle.std.specs.Prelude.{◌≡◌, ◌+◌, ◌<◌, ◌≤◌, ◌/◌, ℕ, length, [], OnOk, OnErr, IfOk, IfSome, MatchResult};
+ghost use Rattle.std.specs.Prelude.{IsTrue, None, Some, false, is_some};
+ghost use Rattle.std.specs.List.{list_all};
+ghost use Rattle.cj_budget.specs.Bounded.{IsNew};
 ghost use Rattle.cj_budget.specs.Limits.{InLine};
+ghost use Rattle.cj_spans.specs.Finding.{IsLeast};
 ghost use Rattle.cj_spans.specs.Marks.{AreUnmarked};
-ghost use Rattle.cj_stream.specs.Ending.{answer_of, header_end, line_end};
+ghost use Rattle.cj_spans.specs.Scan.{KeepsLaw};
+ghost use Rattle.cj_spans.specs.View.{document, document_line, document_source, tokens_in};
+ghost use Rattle.cj_feature.specs.Feature.{feature as feature_findings};
+ghost use Rattle.cj_feature.specs.HeaderView.{header_tree, has_box};
+ghost use Rattle.cj_feature.specs.Reached.{AreMarks};
+ghost use Rattle.cj_feature.specs.View.{feature_tree, feature_line, feature_header};
+ghost use Rattle.cj_stream.specs.Criteria.{needs_box};
 ghost use Rattle.cj_stream.specs.Item.{tree_of, item_at};
+ghost use Rattle.cj_stream.specs.Query.{criteria};
 ghost use Rattle.cj_stream.specs.Sink.{HasRisen};
-ghost use Rattle.cj_stream.specs.Verdict.{Valid, refusal_of, tree_verdict};
+ghost use Rattle.cj_stream.specs.Verdict.{Valid, Refuse, verdict_at, is_asked, is_blank_byte};
 ghost use Rattle.cj_stream.specs.Reading.{JudgedAs};
 
-use crate::ending::{HeaderEnd, LineEnd};
-use crate::judge::{Content, judge};
+use crate::judge::{is_blank, judge};
 use crate::options::Options;
 use crate::output::WriteFault;
 use crate::query::Query;
 use crate::sink::LineSink;
 use cj_budget::{Bounded, Limits, Stack};
-use cj_feature::{Header, HeaderParts, check_feature, check_header, mark_reached};
-use cj_spans::{Doc, Token};
+use cj_feature::{Feature, Header, HeaderParts, check_feature, check_header, mark_reached};
+use cj_spans::{Doc, Finding, Token};
 use std::alloc::Global;
+
+/// What became of a later line.
+#[derive(Clone, Copy, Debug)]
+pub enum Dealt {
+    /// The sink took it.
+    Kept,
+    /// It is a valid feature, and the query and the options leave it out.
+    LeftOut,
+    /// It is blank.
+    Blank,
+    /// It is invalid: the byte, and the reason.
+    Refused(Finding),
+}
 
 /// What lines are judged by, and what they are judged with.
 #[derive(Drop)]
@@ -46,9 +68,9 @@ pub struct Desk<'q> {
 
 impl<'q> Desk<'q> {
     ghost use Rattle.cj_stream.specs.Delivering.{Hands};
-    ghost use Rattle.cj_stream.specs.Judging.{Says, Misreads, ShowsTree, HasMarks, IsHeaderOf, KeepsHeader};
+    ghost use Rattle.cj_stream.specs.Judging.{Says, ShowsTree, HasMarks, IsHeaderOf, KeepsHeader};
     ghost use Rattle.cj_stream.specs.Query.{rules_for};
-    ghost use Rattle.cj_stream.specs.Scanning.{scanning, HasRoom, IsOpen, JudgesLine, Forgets};
+    ghost use Rattle.cj_stream.specs.Scanning.{scanning, tree_lists, HasRoom, HoldsTree, ScansLine, Forgets};
 
     /// Returns a desk that has judged no line. It allocates nothing.
     pub fn new(alloc: Global, limits: Limits, query: &'q Query, options: Options) -> Desk<'q>
@@ -73,57 +95,37 @@ impl<'q> Desk<'q> {
         }
     }
 
-    /// Decides what the content of a line is as a text. `before` is the number of lines before it.
-    /// The tokens go into the list of the first line or that of later lines.
-    pub fn judge(&mut self, before: u64, content: &[u8]) -> Content
+    /// Judges the content of the first line, which is never blank. Returns the parts of a valid
+    /// header.
+    ///
+    /// # Errors
+    ///
+    /// Where the line is invalid, and why.
+    pub fn check_first(&mut self, content: &[u8]) -> Result<HeaderParts, Finding>
         requires range { InLine self.old.limits.line }
-        requires countable { before < 2 ^ 62 }
         requires lists { HasRoom self.old.limits (scanning self.old) }
-        requires open { IsOpen before (scanning self.old) }
+        requires reserved { IsTrue self.old.header_tokens.reserved × IsTrue self.old.opened.reserved }
         requires short { length content.now ≤ self.old.limits.line }
-        ensures rest { self.new ≡ record self.old {
-          header_tokens = self.new.header_tokens;
-          line_tokens = self.new.line_tokens;
-          opened = self.new.opened;
-        } }
-        ensures says { Says (before + 1) content.now self.old.limits.depth result }
-        ensures first { result ≡ Content.Sound → before ≡ 0
-            → ShowsTree content.now self.old.limits.depth (scanning self.new).header.elements }
-        ensures later { result ≡ Content.Sound → 0 < before
-            → ShowsTree content.now self.old.limits.depth (scanning self.new).line.elements }
-        ensures unmarked { result ≡ Content.Sound → 0 < before → AreUnmarked (scanning self.new).line.elements }
-        ensures lists { JudgesLine before content.now (scanning self.old) (scanning self.new) result }
-        ensures unreadable { Misreads (before + 1) content.now self.old.limits.depth result }
-        ensures open { IsOpen before (scanning self.new) }
+        ensures rest { self.new
+            ≡ record self.old { header_tokens = self.new.header_tokens; opened = self.new.opened } }
+        ensures shows { OnOk result (ShowsTree content.now self.old.limits.depth self.new.header_tokens.elements) }
+        ensures ok { IfOk result (λ header_parts. IsHeaderOf (tree_of self.old.limits.depth content.now)
+            (rules_for self.old.limits self.old.query.now self.old.options) header_parts) }
+        ensures verdict { MatchResult result
+            (λ _. verdict_at (rules_for self.old.limits self.old.query.now self.old.options) 1
+            (tree_of self.old.limits.depth content.now) content.now ≡ Valid)
+            (λ f. verdict_at (rules_for self.old.limits self.old.query.now self.old.options) 1
+            (tree_of self.old.limits.depth content.now) content.now ≡ Refuse f.place f.reason) }
+        ensures holds { OnOk result (HoldsTree content.now (tree_lists self.old.header_tokens self.old.opened)
+            (tree_lists self.new.header_tokens self.new.opened)) }
+        ensures law { KeepsLaw content.now self.old.header_tokens self.new.header_tokens
+            self.old.opened self.new.opened }
     {
-        if before == 0 {
-            judge(1, content, &mut self.header_tokens, &mut self.opened)
-        } else {
-            judge(before + 1, content, &mut self.line_tokens, &mut self.opened)
-        }
-    }
-
-    /// Judges the tree of the first line. Returns the parts of a valid header, or the end that its
-    /// least finding makes.
-    pub fn check_first(&self, content: &[u8]) -> Result<HeaderParts, HeaderEnd>
-        requires shows { ShowsTree content.now self.now.limits.depth self.now.header_tokens.elements }
-        ensures ok { IfOk result (λ header_parts. IsHeaderOf (tree_of self.now.limits.depth content.now)
-            (rules_for self.now.limits self.now.query.now self.now.options) header_parts) }
-        ensures valid { OnOk result (tree_verdict (rules_for self.now.limits self.now.query.now self.now.options) 1
-            (tree_of self.now.limits.depth content.now) (tree_of self.now.limits.depth content.now) ≡ Valid) }
-        ensures refused { IfErr result (λ e. refusal_of
-            (rules_for self.now.limits self.now.query.now self.now.options) 1
-            (tree_verdict (rules_for self.now.limits self.now.query.now self.now.options) 1
-            (tree_of self.now.limits.depth content.now) (tree_of self.now.limits.depth content.now)) ≡ Some (header_end e)) }
-    {
+        judge(content, &mut self.header_tokens, &mut self.opened)?;
         let doc = Doc::of(content, self.header_tokens.as_slice());
         match check_header(doc, self.query.wants_box()) {
             Ok(header) => Ok(header.parts()),
-            Err(finding) => Err(HeaderEnd::Refused {
-                line: 1,
-                place: finding.place,
-                reason: finding.reason,
-            }),
+            Err(finding) => Err(finding),
         }
     }
 
@@ -161,7 +163,7 @@ impl<'q> Desk<'q> {
 
     /// Marks the city objects of a later line that are reached, if the options require that each
     /// is.
-    pub fn mark(&mut self, content: &[u8])
+    fn mark(&mut self, content: &[u8])
         requires shows { ShowsTree content.now self.old.limits.depth self.old.line_tokens.elements }
         requires unmarked { AreUnmarked self.old.line_tokens.elements }
         ensures rest { self.new ≡ record self.old { line_tokens = self.new.line_tokens } }
@@ -175,54 +177,118 @@ impl<'q> Desk<'q> {
         }
     }
 
-    /// Judges the tree of a later line, and puts it to the sink if it is a valid feature to keep.
-    /// The query and the options decide that. Returns whether the sink took it. `before` is the
-    /// number of lines before it.
-    pub fn put_later<S: LineSink>(
-        &self,
-        before: u64,
-        first: &[u8],
-        content: &[u8],
-        lf: bool,
-        sink: &mut S,
-    ) -> Result<bool, LineEnd>
-        requires countable { before < 2 ^ 62 }
-        requires later { 0 < before }
-        requires shows { ShowsTree content.now self.now.limits.depth self.now.line_tokens.elements }
-        requires marks { HasMarks content.now self.now.limits self.now.options self.now.line_tokens.elements }
+    /// Reads the content of a later line, which is not blank, as a JSON text.
+    fn scan_later(&mut self, content: &[u8]) -> Result<(), Finding>
+        requires range { InLine self.old.limits.line }
+        requires lists { HasRoom self.old.limits (scanning self.old) }
+        requires reserved { IsTrue self.old.line_tokens.reserved × IsTrue self.old.opened.reserved }
+        requires short { length content.now ≤ self.old.limits.line }
+        requires not_blank { list_all is_blank_byte content.now ≡ false }
+        ensures rest { self.new ≡ record self.old { line_tokens = self.new.line_tokens; opened = self.new.opened } }
+        ensures says { Says content.now self.old.limits.depth result }
+        ensures shows { OnOk result (ShowsTree content.now self.old.limits.depth self.new.line_tokens.elements) }
+        ensures marks { OnOk result
+            (HasMarks content.now self.old.limits self.old.options self.new.line_tokens.elements) }
+        ensures scans { ScansLine self.old.limits content.now (scanning self.old) (scanning self.new) }
+        ensures lists { HasRoom self.old.limits (scanning self.new) }
+        ensures reserved { IsTrue self.new.line_tokens.reserved × IsTrue self.new.opened.reserved }
+    {
+        judge(content, &mut self.line_tokens, &mut self.opened)?;
+        self.mark(content);
+        Ok(())
+    }
+
+    /// Returns the header, given the content of the first line.
+    fn header<'a>(&'a self, first: &'a [u8]) -> Header<'a>
         requires keeps { KeepsHeader first.now (rules_for self.now.limits self.now.query.now self.now.options)
             self.now.header_tokens.elements self.now.header_parts }
-        ensures counts { S.law.failures sink.old ≤ S.law.failures sink.new }
-        ensures cause { IsErrOf result LineEnd.WriteFault → HasRisen (S.law.failures sink.old) (S.law.failures sink.new) }
-        ensures hands { Hands S.law (JudgedAs (before + 1) false
-            (tree_verdict (rules_for self.now.limits self.now.query.now self.now.options) (before + 1)
-            (tree_of self.now.limits.depth first.now) (tree_of self.now.limits.depth content.now))
-            (item_at self.now.limits.depth (before + 1) (tree_of self.now.limits.depth first.now)
-            (record { content = content.now; lf = lf }))) sink.old (answer_of line_end result) sink.new }
+        ensures tree { header_tree result ≡ tree_of self.now.limits.depth first.now }
+        ensures with_box { has_box result ≡ needs_box (criteria self.now.query.now) }
     {
         let Some(header_parts) = &self.header_parts else {
             unreachable!()
         };
-        let header_doc = Doc::of(first, self.header_tokens.as_slice());
-        let header = Header::of(header_doc, *header_parts);
-        let doc = Doc::of(content, self.line_tokens.as_slice());
-        let feature = match check_feature(doc, &header, self.options.asks_for_trees()) {
-            Ok(feature) => feature,
-            Err(finding) => {
-                return Err(LineEnd::Refused {
-                    line: before + 1,
-                    place: finding.place,
-                    reason: finding.reason,
-                });
+        Header::of(Doc::of(first, self.header_tokens.as_slice()), *header_parts)
+    }
+
+    /// Judges the tree of a later line, and returns it if it is a valid feature to keep. The query
+    /// and the options decide that.
+    ///
+    /// # Errors
+    ///
+    /// The least finding, if the feature is invalid.
+    fn select<'a>(
+        &self,
+        doc: Doc<'a>,
+        header: &'a Header<'a>,
+    ) -> Result<Option<Feature<'a>>, Finding>
+        requires marks { IsTrue self.now.options.tree
+            → AreMarks (document doc) (document_line doc) (tokens_in (document_source doc)) }
+        requires with_box { has_box header.now ≡ needs_box (criteria self.now.query.now) }
+        ensures valid { MatchResult result
+            (λ _. feature_findings (header_tree header.now) (document doc.entry) self.now.options.tree ≡ [])
+            (λ f. IsLeast (feature_findings (header_tree header.now) (document doc.entry) self.now.options.tree)
+            (Some f)) }
+        ensures asked { IfOk result (λ kept. is_some kept
+            ≡ is_asked (rules_for self.now.limits self.now.query.now self.now.options) (header_tree header.now)
+            (document doc.entry)) }
+        ensures tree { IfOk result (λ kept. IfSome kept (λ f. feature_tree f ≡ document doc.entry)) }
+        ensures line { IfOk result (λ kept. IfSome kept (λ f. feature_line f ≡ document_line doc.entry)) }
+        ensures header { IfOk result (λ kept. IfSome kept (λ f. feature_header f ≡ header_tree header.now)) }
+    {
+        let feature = check_feature(doc, header, self.options.asks_for_trees())?;
+        if self.query.holds(&feature, header) == self.options.excludes() {
+            return Ok(None);
+        }
+        Ok(Some(feature))
+    }
+
+    /// Judges a later line, and puts it to the sink if it is a valid feature to keep. `first` is
+    /// the content of the first line, a valid header.
+    ///
+    /// # Errors
+    ///
+    /// `WriteFault` if the sink failed.
+    pub fn deal<'l, S: LineSink>(
+        &mut self,
+        first: &'l [u8],
+        content: &'l [u8],
+        lf: bool,
+        sink: &mut S,
+    ) -> Result<Dealt, WriteFault>
+        requires range { InLine self.old.limits.line }
+        requires lists { HasRoom self.old.limits (scanning self.old) }
+        requires reserved { IsTrue self.old.line_tokens.reserved × IsTrue self.old.opened.reserved }
+        requires short { length content.now ≤ self.old.limits.line }
+        requires keeps { KeepsHeader first.now (rules_for self.old.limits self.old.query.now self.old.options)
+            self.old.header_tokens.elements self.old.header_parts }
+        ensures rest { self.new ≡ record self.old { line_tokens = self.new.line_tokens; opened = self.new.opened } }
+        ensures counts { S.law.failures sink.old ≤ S.law.failures sink.new }
+        ensures cause { OnErr result (HasRisen (S.law.failures sink.old) (S.law.failures sink.new)) }
+        ensures hands { (number : ℕ) → 1 < number → Hands S.law (JudgedAs number false
+            (verdict_at (rules_for self.old.limits self.old.query.now self.old.options) number
+            (tree_of self.old.limits.depth first.now) content.now)
+            (item_at self.old.limits.depth number (tree_of self.old.limits.depth first.now)
+            (record { content = content.now; lf = lf }))) sink.old result sink.new }
+        ensures scans { ScansLine self.old.limits content.now (scanning self.old) (scanning self.new) }
+        ensures lists { HasRoom self.old.limits (scanning self.new) }
+        ensures reserved { IsTrue self.new.line_tokens.reserved × IsTrue self.new.opened.reserved }
+    {
+        if is_blank(content) {
+            return Ok(Dealt::Blank);
+        }
+        if let Err(finding) = self.scan_later(content) {
+            return Ok(Dealt::Refused(finding));
+        }
+        let header = self.header(first);
+        match self.select(Doc::of(content, self.line_tokens.as_slice()), &header) {
+            Ok(Some(feature)) => {
+                sink.put(&feature, lf)?;
+                Ok(Dealt::Kept)
             }
-        };
-        if self.query.holds(&feature, &header) == self.options.excludes() {
-            return Ok(false);
+            Ok(None) => Ok(Dealt::LeftOut),
+            Err(finding) => Ok(Dealt::Refused(finding)),
         }
-        if sink.put(&feature, lf).is_err() {
-            return Err(LineEnd::WriteFault);
-        }
-        Ok(true)
     }
 
     /// Empties the lists of the judged line. What is kept of the header stays.

@@ -26,27 +26,26 @@
 ghost use Rattle.std.specs.Prelude.{◌≡◌, ◌+◌, ◌^◌, ◌<◌, ◌≤◌, ℕ, List, [], ◌∷◌, ◌++◌, ◌⊎◌, true, false, length, take};
 ghost use Rattle.std.specs.Prelude.{if◌then◌else◌, OnOk, OnErr, IfOk, IfErr, IsErrOf, IsTrue, Some, Err};
 ghost use Rattle.cj_budget.specs.Bounded.{IsWithin};
-ghost use Rattle.cj_spans.specs.Marks.{AreUnmarked};
+ghost use Rattle.cj_spans.specs.Finding.{found_at};
 ghost use Rattle.cj_stream.specs.Carrying.{IsFramed, Carries, TakesAll, TakesSome, FinishesAll};
+ghost use Rattle.cj_stream.specs.declared.ending.End.TheVariants.{Refused};
 ghost use Rattle.cj_stream.specs.Ending.{answer_of, header_end, line_end};
 ghost use Rattle.cj_stream.specs.Lines.{newline, NoLf, closed};
 ghost use Rattle.cj_stream.specs.Front.{IsFront};
 ghost use Rattle.cj_stream.specs.Item.{tree_of};
-ghost use Rattle.cj_stream.specs.Judging.{Says, Misreads, ShowsTree, IsHeaderOf};
+ghost use Rattle.cj_stream.specs.Judging.{ShowsTree, IsHeaderOf};
 ghost use Rattle.cj_stream.specs.Query.{rules_for};
-ghost use Rattle.cj_stream.specs.Reading.{begun_of, begun_verdict, told_verdict, is_lenient, IsLeft, Stores};
-ghost use Rattle.cj_stream.specs.Reading.{Unstored, Passes, Deals, Settles, Reads, Stays};
-ghost use Rattle.cj_stream.specs.Reading.{judged_begun};
+ghost use Rattle.cj_stream.specs.Reading.{begun_of, told_verdict, is_lenient, IsLeft, Stores, Unstored, Passes};
+ghost use Rattle.cj_stream.specs.Reading.{Refuses, Deals, Settles, Reads, Stays, judged_begun};
 ghost use Rattle.cj_stream.specs.ReportSink.{Notes};
-ghost use Rattle.cj_stream.specs.Scanning.{Scanning, IsReady, IsStill, ListsFailToGrow, Scanned, ScansNext};
-ghost use Rattle.cj_stream.specs.Scanning.{HoldsFewNext, HeldUntil, JudgesLine, Forgets};
+ghost use Rattle.cj_stream.specs.Scanning.{IsReady, IsStill, ListsFailToGrow, Scanned, ScansNext};
+ghost use Rattle.cj_stream.specs.Scanning.{HoldsFewNext, HeldUntil, Forgets};
 ghost use Rattle.cj_stream.specs.Sink.{HasRisen, Took, with_sink};
-ghost use Rattle.cj_stream.specs.Verdict.{Valid, report_of, stretch};
+ghost use Rattle.cj_stream.specs.Verdict.{Refuse, Valid, report_of, stretch};
 
-use crate::desk::Desk;
+use crate::desk::{Dealt, Desk};
 use crate::ending::{End, HeaderEnd, LineEnd};
 use crate::header_reader::Progress;
-use crate::judge::Content;
 use crate::options::Options;
 use crate::output::WriteFault;
 use crate::query::Query;
@@ -55,7 +54,7 @@ use crate::sink::LineSink;
 use crate::store::{Store, TooLong};
 use cj_budget::{Limits, NoMemory, Peaks};
 use cj_feature::HeaderParts;
-use cj_spans::Reason;
+use cj_spans::{Finding, Reason};
 use memchr::memchr;
 use std::alloc::Global;
 use std::marker::Model;
@@ -141,16 +140,25 @@ impl<'q> Framer<'q> {
         self.desk.options.keeps_going()
     }
 
-    /// Returns the end at the begun line, a later one, if it is too long.
-    fn too_long(&self) -> LineEnd
-        requires countable { self.now.reading.lines < 2 ^ 62 }
-        ensures { result ≡ LineEnd.Refused (self.now.reading.lines + 1) self.now.reading.rules.limits.line
-            Reason.LineTooLong }
+    /// Returns the finding of a line that is too long.
+    fn too_long(&self) -> Finding
+        ensures { result ≡ found_at self.now.reading.rules.limits.line Reason.LineTooLong }
     {
-        LineEnd::Refused {
-            line: self.store.lines + 1,
+        Finding {
             place: self.desk.limits.line(),
             reason: Reason::LineTooLong,
+        }
+    }
+
+    /// Returns the end at the begun line, a later one, if this is its finding.
+    fn end_at(&self, finding: Finding) -> LineEnd
+        requires countable { self.now.reading.lines < 2 ^ 62 }
+        ensures { result ≡ LineEnd.Refused (self.now.reading.lines + 1) finding.place finding.reason }
+    {
+        LineEnd::Refused {
+            line: self.lines() + 1,
+            place: finding.place,
+            reason: finding.reason,
         }
     }
 
@@ -201,7 +209,7 @@ impl<'q> Framer<'q> {
                 self.store.drop_line(part);
                 Ok(())
             }
-            Err(TooLong) => Err(self.too_long()),
+            Err(TooLong) => Err(self.end_at(self.too_long())),
         }
     }
 
@@ -248,31 +256,30 @@ impl<'q> Framer<'q> {
         self.desk.forget();
     }
 
-    /// Decides what the begun line is as a text.
-    fn judge(&mut self) -> Content
+    /// Refuses the begun line. Reports and passes it if reading goes on, and returns the end if not.
+    fn refuse<N: ReportSink>(&mut self, finding: Finding, reports: &mut N) -> Result<(), LineEnd>
         requires countable { self.old.reading.lines < 2 ^ 62 }
-        requires ready { IsReady self.old.reading self.old.scanning }
-        ensures before { IsFramed self.old }
-        ensures reading { self.new.reading ≡ self.old.reading }
-        ensures short { length (begun_of self.old.reading) ≤ self.old.reading.rules.limits.line }
-        ensures says { Says (self.old.reading.lines + 1) (begun_of self.old.reading)
-            self.old.reading.rules.limits.depth result }
-        ensures first { result ≡ Content.Sound → self.old.reading.lines ≡ 0
-            → ShowsTree (begun_of self.old.reading) self.old.reading.rules.limits.depth
-            self.new.scanning.header.elements }
-        ensures later { result ≡ Content.Sound → 0 < self.old.reading.lines
-            → ShowsTree (begun_of self.old.reading) self.old.reading.rules.limits.depth
-            self.new.scanning.line.elements }
-        ensures lists { JudgesLine self.old.reading.lines (begun_of self.old.reading) self.old.scanning
-            self.new.scanning result }
-        ensures unmarked { result ≡ Content.Sound → 0 < self.old.reading.lines
-            → AreUnmarked self.new.scanning.line.elements }
-        ensures unreadable { Misreads (self.old.reading.lines + 1) (begun_of self.old.reading)
-            self.old.reading.rules.limits.depth result }
+        requires later { 0 < self.old.reading.lines }
+        ensures refuses { Refuses (is_lenient self.old.reading)
+            (Refused (self.old.reading.lines + 1) finding.place finding.reason)
+            self.old.reading (answer_of line_end result) self.new.reading }
+        ensures forgets { OnOk result (Forgets self.old.scanning self.new.scanning) }
+        ensures same { OnErr result (self.new ≡ self.old) }
+        ensures noted { OnOk result (Took N.notes reports.old
+            (report_of (self.old.reading.lines + 1) (Refuse finding.place finding.reason)) reports.new) }
+        ensures silent { OnErr result (reports.new ≡ reports.old) }
         ensures framed { IsFramed self.new }
-        ensures ready { IsReady self.new.reading self.new.scanning }
     {
-        self.desk.judge(self.store.lines, self.store.begun())
+        if !self.is_lenient() {
+            return Err(self.end_at(finding));
+        }
+        reports.report(Report {
+            line: self.store.lines + 1,
+            place: finding.place,
+            reason: finding.reason,
+        });
+        self.pass_refused();
+        Ok(())
     }
 
     /// Puts a valid header to the sink.
@@ -308,17 +315,24 @@ impl<'q> Framer<'q> {
         }
     }
 
-    /// Judges the tree of the first line, and puts it to the sink if it is a valid header. If LF
-    /// ended the line, memory for later lines is reserved first.
-    fn put_header<S: LineSink>(&mut self, lf: bool, sink: &mut S) -> Result<(), HeaderEnd>
+    /// Puts a valid header to the sink. If LF ended the line, memory for later lines is reserved
+    /// first.
+    fn put_header<S: LineSink>(
+        &mut self,
+        header_parts: HeaderParts,
+        lf: bool,
+        sink: &mut S,
+    ) -> Result<(), HeaderEnd>
         requires first { self.old.reading.lines ≡ 0 }
         requires ready { IsReady self.old.reading self.old.scanning }
         requires shows { ShowsTree (begun_of self.old.reading) self.old.reading.rules.limits.depth
             self.old.scanning.header.elements }
+        requires header_parts { IsHeaderOf (tree_of self.old.reading.rules.limits.depth (begun_of self.old.reading))
+            self.old.reading.rules header_parts }
         ensures counts { S.law.failures sink.old ≤ S.law.failures sink.new }
         ensures cause { IsErrOf result HeaderEnd.WriteFault
             → HasRisen (S.law.failures sink.old) (S.law.failures sink.new) }
-        ensures settles { Settles S.law (judged_begun self.old.reading false (begun_verdict self.old.reading) lf)
+        ensures settles { Settles S.law (judged_begun self.old.reading false Valid lf)
             (with_sink self.old.reading sink.old) (answer_of header_end result) (with_sink self.new.reading sink.new) }
         ensures forgets { OnOk result (Forgets self.old.scanning self.new.scanning) }
         ensures still { OnErr result (IsStill self.old.scanning self.new.scanning) }
@@ -327,10 +341,6 @@ impl<'q> Framer<'q> {
         ensures memory { IsErrOf result HeaderEnd.Memory → ListsFailToGrow self.old.reading self.old.scanning
             self.new.reading self.new.scanning }
     {
-        let header_parts = match self.desk.check_first(self.store.header.as_slice()) {
-            Ok(header_parts) => header_parts,
-            Err(end) => return Err(end),
-        };
         if !lf {
             return self.put_first(header_parts, lf, sink);
         }
@@ -340,43 +350,7 @@ impl<'q> Framer<'q> {
         }
     }
 
-    /// Judges the tree of a later line, and puts it to the sink if it is a valid feature to keep.
-    /// The query and the options decide that.
-    fn put_feature<S: LineSink>(&mut self, lf: bool, sink: &mut S) -> Result<(), LineEnd>
-        requires countable { self.old.reading.lines < 2 ^ 62 }
-        requires later { 0 < self.old.reading.lines }
-        requires ready { IsReady self.old.reading self.old.scanning }
-        requires shows { ShowsTree (begun_of self.old.reading) self.old.reading.rules.limits.depth
-            self.old.scanning.line.elements }
-        requires unmarked { AreUnmarked self.old.scanning.line.elements }
-        ensures counts { S.law.failures sink.old ≤ S.law.failures sink.new }
-        ensures cause { IsErrOf result LineEnd.WriteFault
-            → HasRisen (S.law.failures sink.old) (S.law.failures sink.new) }
-        ensures deals { Deals S.law (judged_begun self.old.reading false (begun_verdict self.old.reading) lf)
-            (with_sink self.old.reading sink.old) (answer_of line_end result) (with_sink self.new.reading sink.new) }
-        ensures forgets { OnOk result (Forgets self.old.scanning self.new.scanning) }
-        ensures still { OnErr result (IsStill self.old.scanning self.new.scanning) }
-        ensures failed_growths { self.new.scanning.line.failed_growths ≡ self.old.scanning.line.failed_growths }
-        ensures framed { IsFramed self.new }
-        ensures ready { IsReady self.new.reading self.new.scanning }
-    {
-        let first = self.store.header.as_slice();
-        let content = self.store.line.as_slice();
-        self.desk.mark(content);
-        match self
-            .desk
-            .put_later(self.store.lines, first, content, lf, sink)
-        {
-            Ok(put) => {
-                self.pass(put);
-                Ok(())
-            }
-            Err(end) => Err(end),
-        }
-    }
-
-    /// Judges the first line, and puts it to the sink if it is a valid header. The first line is
-    /// never treated as blank.
+    /// Judges the first line, and puts it to the sink if it is a valid header.
     fn settle_first<S: LineSink>(&mut self, lf: bool, sink: &mut S) -> Result<(), HeaderEnd>
         requires ready { IsReady self.old.reading self.old.scanning }
         requires first { self.old.reading.lines ≡ 0 }
@@ -392,53 +366,18 @@ impl<'q> Framer<'q> {
         ensures scanned { OnOk result (ScansNext self.old.reading self.old.scanning self.new.scanning) }
         ensures few { HoldsFewNext self.old.reading self.old.scanning self.new.scanning }
     {
-        match self.judge() {
-            Content::Faulty { place, reason } => Err(HeaderEnd::Refused {
+        match self.desk.check_first(self.store.header.as_slice()) {
+            Ok(header_parts) => self.put_header(header_parts, lf, sink),
+            Err(Finding { place, reason }) => Err(HeaderEnd::Refused {
                 line: 1,
                 place,
                 reason,
             }),
-            Content::BlankLine => unreachable!(),
-            Content::Sound => self.put_header(lf, sink),
         }
     }
 
-    /// Judges the begun later line, and puts it to the sink if it is kept. A dropped line is too
-    /// long.
-    fn settle<S: LineSink>(&mut self, lf: bool, sink: &mut S) -> Result<(), LineEnd>
-        requires ready { IsReady self.old.reading self.old.scanning }
-        requires countable { self.old.reading.lines < 2 ^ 62 }
-        requires later { 0 < self.old.reading.lines }
-        ensures carries { Carries S.law (with_sink self.old sink.old) (answer_of line_end result)
-            (with_sink self.new sink.new) }
-        ensures one { OnOk result (self.new.reading.lines ≡ self.old.reading.lines + 1) }
-        ensures grows { self.old.reading.lines ≤ self.new.reading.lines }
-        ensures settles { Settles S.law (judged_begun self.old.reading false (told_verdict self.old.reading) lf)
-            (with_sink self.old.reading sink.old) (answer_of line_end result) (with_sink self.new.reading sink.new) }
-        ensures scanned { OnOk result (ScansNext self.old.reading self.old.scanning self.new.scanning) }
-        ensures few { HoldsFewNext self.old.reading self.old.scanning self.new.scanning }
-        ensures left { OnErr result ((s : Scanning) → Forgets self.new.scanning s
-            → ScansNext self.old.reading self.old.scanning s) }
-    {
-        if self.store.dropped {
-            return Err(self.too_long());
-        }
-        match self.judge() {
-            Content::Faulty { place, reason } => Err(LineEnd::Refused {
-                line: self.lines() + 1,
-                place,
-                reason,
-            }),
-            Content::BlankLine => {
-                self.pass(false);
-                Ok(())
-            }
-            Content::Sound => self.put_feature(lf, sink),
-        }
-    }
-
-    /// Judges the begun later line, and puts it to the sink if it is kept. Reports an invalid line
-    /// if reading goes on after it.
+    /// Deals with the begun later line. The sink gets it if it is kept. It is reported if it is
+    /// invalid and reading goes on after it. A dropped line is too long.
     fn deal<S: LineSink, N: ReportSink>(
         &mut self,
         lf: bool,
@@ -461,23 +400,23 @@ impl<'q> Framer<'q> {
             (report_of (self.old.reading.lines + 1) (told_verdict self.old.reading)) reports.new) }
         ensures silent { OnErr result (reports.new ≡ reports.old) }
     {
-        match self.settle(lf, sink) {
-            Err(
-                LineEnd::Refused {
-                    line,
-                    place,
-                    reason,
-                },
-            ) if self.is_lenient() => {
-                reports.report(Report {
-                    line,
-                    place,
-                    reason,
-                });
-                self.pass_refused();
+        if self.store.dropped {
+            let finding = self.too_long();
+            return self.refuse(finding, reports);
+        }
+        let first = self.store.header.as_slice();
+        let content = self.store.line.as_slice();
+        match self.desk.deal(first, content, lf, sink) {
+            Ok(Dealt::Kept) => {
+                self.pass(true);
                 Ok(())
             }
-            answer => answer,
+            Ok(Dealt::LeftOut | Dealt::Blank) => {
+                self.pass(false);
+                Ok(())
+            }
+            Ok(Dealt::Refused(finding)) => self.refuse(finding, reports),
+            Err(WriteFault) => Err(LineEnd::WriteFault),
         }
     }
 
@@ -502,37 +441,6 @@ impl<'q> Framer<'q> {
     {
         self.store_first(part)?;
         self.settle_first(true, sink)?;
-        Ok(())
-    }
-
-    /// Takes the last part of a later line, up to its LF.
-    fn take_line<S: LineSink, N: ReportSink>(
-        &mut self,
-        part: &[u8],
-        sink: &mut S,
-        reports: &mut N,
-    ) -> Result<(), LineEnd>
-        requires ready { IsReady self.old.reading self.old.scanning }
-        requires countable { self.old.reading.lines < 2 ^ 62 }
-        requires later { 0 < self.old.reading.lines }
-        requires one { NoLf part.now }
-        ensures carries { Carries S.law (with_sink self.old sink.old) (answer_of line_end result)
-            (with_sink self.new sink.new) }
-        ensures few { self.new.reading.lines ≤ self.old.reading.lines + 1 }
-        ensures grows { self.old.reading.lines ≤ self.new.reading.lines }
-        ensures one { OnOk result (self.new.reading.lines ≡ self.old.reading.lines + 1) }
-        ensures ok { OnOk result (TakesAll S.law (part.now ++ newline ∷ []) (with_sink self.old sink.old)
-            (with_sink self.new sink.new)) }
-        ensures err { IfErr result (λ e. (more : List ℕ)
-            → TakesSome S.law (part.now ++ newline ∷ more) (with_sink self.old sink.old) (line_end e)
-            (with_sink self.new sink.new)) }
-        ensures undealt { OnErr result (self.new.reading.lines ≡ self.old.reading.lines) }
-        ensures reports { (p more : List ℕ) → Reads self.old.reading p
-            → Notes N.notes (stretch self.old.reading.rules (p ++ (part.now ++ newline ∷ more)) self.old.reading.lines
-            self.new.reading.lines) reports.old reports.new }
-    {
-        self.store(part)?;
-        self.deal(true, sink, reports)?;
         Ok(())
     }
 
@@ -606,7 +514,8 @@ impl<'q> Framer<'q> {
     {
         let mut rest = piece;
         while let Some(at) = memchr(b'\n', rest) {
-            self.take_line(&rest[..at], sink, reports)?;
+            self.store(&rest[..at])?;
+            self.deal(true, sink, reports)?;
             rest = &rest[at + 1..];
         }
         self.store(rest)?;

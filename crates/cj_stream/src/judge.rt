@@ -1,29 +1,23 @@
 //! What a line is as a text.
 //!
-//! `judge` knows the line's number and nothing of the header, so its result holds with any header.
-ghost use Rattle.std.specs.Prelude.{◌≡◌, ◌≤◌, ◌+◌, ◌/◌, length, IsTrue};
+//! Nothing here knows the header or the number of the line, so the results hold with any. A caller
+//! asks first whether a later line is blank. The first line never is.
+ghost use Rattle.std.specs.Prelude.{◌≡◌, ◌≤◌, ◌+◌, ◌/◌, ◌&&◌, length, false, IsTrue, OnOk, OnErr};
 ghost use Rattle.std.specs.List.{list_all};
-ghost use Rattle.cj_stream.specs.Verdict.{is_blank_byte, is_blank_line};
-ghost use Rattle.cj_stream.specs.Judging.{Says, Misreads, ShowsTree};
-ghost use Rattle.cj_stream.specs.Scanning.{Judges, tree_lists};
+ghost use Rattle.std.specs.Str.{is_utf8};
+ghost use Rattle.cj_stream.specs.Bound.{is_spelled};
+ghost use Rattle.cj_stream.specs.Verdict.{is_blank_byte};
+ghost use Rattle.cj_stream.specs.Judging.{Says, ShowsTree};
+ghost use Rattle.cj_stream.specs.Scanning.{HoldsTree, tree_lists};
+ghost use Rattle.cj_spans.proofs.Judgements.{judgement};
 ghost use Rattle.cj_spans.specs.Marks.{AreUnmarked};
+ghost use Rattle.cj_spans.specs.Scan.{KeepsLaw};
 
 use cj_budget::{Bounded, Stack};
-use cj_spans::{LineFault, Reason, Token, scan_reserved};
-
-/// What the content of a line is as a text, before any rule is checked.
-#[derive(Clone, Copy, Debug, PartialEq, Eq)]
-pub enum Content {
-    /// It is invalid at this byte, for this reason.
-    Faulty { place: u64, reason: Reason },
-    /// It is blank.
-    BlankLine,
-    /// It is a JSON text, and its tokens are in the list.
-    Sound,
-}
+use cj_spans::{Finding, LineFault, Reason, Token, scan_reserved};
 
 /// Returns whether all bytes are spaces, tabs or CR.
-fn is_all_blank(content: &[u8]) -> bool
+pub fn is_blank(content: &[u8]) -> bool
     ensures { result ≡ list_all is_blank_byte content.now }
 {
     content
@@ -31,42 +25,32 @@ fn is_all_blank(content: &[u8]) -> bool
         .all(|b| *b == b' ' || *b == b'\t' || *b == b'\r')
 }
 
-/// Returns whether a line is blank. The first line never is.
-fn is_blank(number: u64, content: &[u8]) -> bool
-    ensures { result ≡ is_blank_line number content.now }
-{
-    number > 1 && is_all_blank(content)
-}
-
-/// Decides what the content of a line is, given the line's number. The content is within the line
-/// limit.
+/// Reads the content of a line as a JSON text. The content is not blank, or that of the first line.
+/// It is within the line limit.
 ///
-/// If the line is not blank, the lists take its tokens and open containers. They have reserved
-/// memory for any such line, so nothing is allocated.
-pub fn judge(
-    number: u64,
-    content: &[u8],
-    tokens: &mut Bounded<Token>,
-    opened: &mut Stack,
-) -> Content
+/// The lists take its tokens and open containers. They have reserved memory for any such line, so
+/// nothing is allocated.
+///
+/// # Errors
+///
+/// The byte at which the content is not such a text, and the reason.
+pub fn judge(content: &[u8], tokens: &mut Bounded<Token>, opened: &mut Stack) -> Result<(), Finding>
     requires short { length content.now ≤ 1073741824 }
     requires room { (length content.now + opened.old.limit + 1) / 2 ≤ tokens.old.limit }
     requires reserved { IsTrue tokens.old.reserved × IsTrue opened.old.reserved }
-    ensures says { Says number content.now opened.old.limit result }
-    ensures tree { result ≡ Content.Sound → ShowsTree content.now opened.old.limit tokens.new.elements }
-    ensures unmarked { result ≡ Content.Sound → AreUnmarked tokens.new.elements }
-    ensures unreadable { Misreads number content.now opened.old.limit result }
-    ensures lists { Judges content.now (tree_lists tokens.old opened.old) (tree_lists tokens.new opened.new) result }
-    ensures reserved { IsTrue tokens.new.reserved × IsTrue opened.new.reserved }
+    ensures says { Says content.now opened.old.limit result }
+    ensures tree { OnOk result (ShowsTree content.now opened.old.limit tokens.new.elements) }
+    ensures unmarked { OnOk result (AreUnmarked tokens.new.elements) }
+    ensures holds { OnOk result
+        (HoldsTree content.now (tree_lists tokens.old opened.old) (tree_lists tokens.new opened.new)) }
+    ensures unread { OnErr result (is_utf8 content.now && is_spelled (judgement content.now opened.old.limit) ≡ false) }
+    ensures law { KeepsLaw content.now tokens.old tokens.new opened.old opened.new }
 {
-    if is_blank(number, content) {
-        return Content::BlankLine;
-    }
     let (place, reason) = match scan_reserved(content, tokens, opened) {
-        Ok(()) => return Content::Sound,
+        Ok(()) => return Ok(()),
         Err(LineFault::NotUtf8(place)) => (place, Reason::NotUtf8),
         Err(LineFault::Syntax(place)) => (place, Reason::Syntax),
         Err(LineFault::TooDeep(place)) => (place, Reason::TooDeep),
     };
-    Content::Faulty { place, reason }
+    Err(Finding { place, reason })
 }

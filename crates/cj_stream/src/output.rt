@@ -6,7 +6,7 @@
 //! A small function with an exact clause interprets what a device returned, as no clause of its
 //! caller can see that result. The count and the note are private: a proof can rely on them only if
 //! no other code can set them. Each write drops the note of a flush.
-ghost use Rattle.std.specs.Prelude.{◌≡◌, ◌<◌, ◌≤◌, None, Some, OnOk, OnErr, IfOk, length, take};
+ghost use Rattle.std.specs.Prelude.{◌≡◌, ◌≤◌, None, Some, OnOk, OnErr};
 ghost use Rattle.std.specs.Io.KnownBytes.{Appends, Keeps};
 ghost use Rattle.cj_stream.specs.Device.{taken_by, flushed_by};
 ghost use Rattle.cj_stream.specs.Item.{raw_item, header_item, feature_item};
@@ -87,28 +87,6 @@ impl<W: Write + Drop> Output<W> {
         writer
     }
 
-    /// Writes once, and counts a failure.
-    fn write(&mut self, bytes: &[u8]) -> Result<usize, WriteFault>
-        requires { 0 < length bytes.now }
-        ensures some { IfOk result (λ n. 0 < n) }
-        ensures bound { IfOk result (λ n. n ≤ length bytes.now) }
-        ensures ok { IfOk result
-            (λ n. Appends (W.contents (output_writer self.old)) (W.contents (output_writer self.new))
-            (take n bytes.now)) }
-        ensures fault { OnErr result
-            (Keeps (W.contents (output_writer self.old)) (W.contents (output_writer self.new))) }
-        ensures cause { OnErr result (HasRisen (output_failures self.old) (output_failures self.new)) }
-        ensures counts { output_failures self.old ≤ output_failures self.new }
-        ensures noted { flush_answer self.new ≡ flush_answer self.old }
-        ensures counted { output_failures self.new ≡ counted (output_failures self.old) result }
-    {
-        let taken = bytes_taken(self.writer.write(bytes));
-        if taken.is_err() {
-            self.failures = self.failures.saturating_add(1);
-        }
-        taken
-    }
-
     /// Writes all bytes, by one write after another, or as many as the writer takes before it
     /// fails.
     ///
@@ -129,9 +107,12 @@ impl<W: Write + Drop> Output<W> {
         self.noted = None;
         let mut rest = bytes;
         while !rest.is_empty() {
-            match self.write(rest) {
+            match bytes_taken(self.writer.write(rest)) {
                 Ok(n) => rest = &rest[n..],
-                Err(WriteFault) => return Err(WriteFault),
+                Err(WriteFault) => {
+                    self.failures = self.failures.saturating_add(1);
+                    return Err(WriteFault);
+                }
             }
         }
         Ok(())

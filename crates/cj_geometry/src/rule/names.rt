@@ -1,7 +1,8 @@
 //! Repeated names of an object.
 //!
-//! Few names are compared each with each. Many are sorted by text and then by place. A repeated
-//! name comes directly after an earlier one of its text. An array of fixed size holds names with
+//! Few names are told apart by their first characters. If two of these share a slot, each name is
+//! compared with each. Many are sorted by text and then by place. A repeated name comes directly
+//! after an earlier one of its text. An array of fixed size holds names with
 //! their words ([`WordedName`]), so more names need more than one walk. Each walk gathers the least
 //! names above those that the earlier walks have dealt with. If the array is full, it keeps the
 //! least names. The next one is the ceiling of the walk. The kept ones are copied to a second array

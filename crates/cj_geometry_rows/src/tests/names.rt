@@ -43,6 +43,10 @@ const BESIDE_ONE_VERTEX: [Table; 6] = [
         the second of three | "a":1,^"a":2,"a":3 | 11 duplicate name
         the empty name | "":1,^"":1 | 11 duplicate name
         a name of two bytes | "é":1,^"\u00E9":1 | 11 duplicate name
+        a name that begins like another | "texture":1 | none
+        a name that begins 64 code points later | "´":1 | none
+        that name again | "´":1,^"´":1 | 11 duplicate name
+        names that begin like each other | "ab":1,"ac":2,^"ab":3 | 11 duplicate name
         "#,
     },
     Table {

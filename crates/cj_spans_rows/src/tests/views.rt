@@ -262,18 +262,34 @@ fn members_come_in_order(rt: HostRuntime) {
     shows(&rt, rt.alloc(), line, Shown::Members(&MEMBERS));
 }
 
-/// Returns the bytes of the member with this name.
-fn got<'a>(node: Node<'a>, name: &str) -> Option<&'a [u8]> {
-    match node.get(name) {
+/// Returns the bytes of a value, if there is one.
+fn bytes_of<'a>(value: Option<Node<'a>>) -> Option<&'a [u8]> {
+    match value {
         Some(value) => Some(value.bytes()),
         None => None,
     }
 }
 
-/// Checks that an object has these values by name.
+/// Returns the bytes of the member with this name.
+fn got<'a>(node: Node<'a>, name: &str) -> Option<&'a [u8]> {
+    bytes_of(node.get(name))
+}
+
+/// Checks that a walk for this name and two others finds its value, at each of the three places.
+fn is_got_of_three(rt: &impl Abort, object: Node, name: &str, other: &str, want: Option<&[u8]>) {
+    let (first, second, third) = object.get_three(name, other, name);
+    assert_eq!(rt; bytes_of(first), want, "{name}");
+    assert_eq!(rt; bytes_of(second), got(object, other), "{other}");
+    assert_eq!(rt; bytes_of(third), want, "{name}");
+}
+
+/// Checks that an object has these values by name, alone and beside others.
 fn are_got(rt: &impl Abort, object: Node, rows: &[Got]) {
     for (name, want) in rows {
         assert_eq!(rt; got(object, *name), *want, "{name}");
+        for (other, _) in rows {
+            is_got_of_three(rt, object, *name, *other, *want);
+        }
     }
 }
 

@@ -1,4 +1,4 @@
-use Rattle.std.proofs.Common.{◌≡◌, ◌∙◌, true, false, ap, arith, refl, sym}
+use Rattle.std.proofs.Common.{◌∙◌, true, false, ap, arith, refl, sym}
 use Rattle.std.proofs.lemmas.List.{length-set}
 use Rattle.std.specs.Prelude.{◌%◌, replicate}
 use Rattle.cj_spans.specs.Parts.{members_of}

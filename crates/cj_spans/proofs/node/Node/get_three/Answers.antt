@@ -16,12 +16,12 @@ loop-key-preserved c =
     let of_line = y.4.1 ∙ i.source in
     record {
       source = y.3 ∙ i.source;
-      first = first-on (chars c.args.a.now) c.loop-key.first c.first_of-first.result key value left rest _ i.first y.0 c.first_of-first.ensures;
-      second = first-on (chars c.args.b.now) c.loop-key.second c.first_of-second.result key value left rest _ i.second y.0 c.first_of-second.ensures;
-      third = first-on (chars c.args.c.now) c.loop-key.third c.first_of-third.result key value left rest _ i.third y.0 c.first_of-third.ensures;
+      first = first-on (chars c.args.a.now) c.loop-key.kept.first c.keep_three.new.kept.first key value left rest _ i.first y.0 c.keep_three.ensures.first;
+      second = first-on (chars c.args.b.now) c.loop-key.kept.second c.keep_three.new.kept.second key value left rest _ i.second y.0 c.keep_three.ensures.second;
+      third = first-on (chars c.args.c.now) c.loop-key.kept.third c.keep_three.new.kept.third key value left rest _ i.third y.0 c.keep_three.ensures.third;
       sources = (
-        first-source (chars c.args.a.now) c.loop-key.first c.first_of-first.result key value whole i.sources.0 of_line c.first_of-first.ensures,
-        first-source (chars c.args.b.now) c.loop-key.second c.first_of-second.result key value whole i.sources.1 of_line c.first_of-second.ensures,
-        first-source (chars c.args.c.now) c.loop-key.third c.first_of-third.result key value whole i.sources.2 of_line c.first_of-third.ensures,
+        first-source (chars c.args.a.now) c.loop-key.kept.first c.keep_three.new.kept.first key value whole i.sources.0 of_line c.keep_three.ensures.first,
+        first-source (chars c.args.b.now) c.loop-key.kept.second c.keep_three.new.kept.second key value whole i.sources.1 of_line c.keep_three.ensures.second,
+        first-source (chars c.args.c.now) c.loop-key.kept.third c.keep_three.new.kept.third key value whole i.sources.2 of_line c.keep_three.ensures.third,
       );
     }

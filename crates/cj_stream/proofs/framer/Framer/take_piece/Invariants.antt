@@ -15,7 +15,6 @@ invariant-loop-at g l = record {
   few : l.self.reading.lines + length l.rest ≤ l.initial.self.reading.lines + length l.piece;
   grows : l.initial.self.reading.lines ≤ l.self.reading.lines;
   counts : g.S.LineSink.law.failures l.initial.sink ≤ g.S.LineSink.law.failures l.sink;
-  failed_growths : l.self.reading.lines ≡ 0 → (l.self.reading.line.failed_growths ≡ l.initial.self.reading.line.failed_growths) × (l.self.scanning.line.failed_growths ≡ l.initial.self.scanning.line.failed_growths);
   read : (done : List ℕ) × (l.piece ≡ done ++ l.rest)
       × TakesAll g.S.LineSink.law done (with_sink l.initial.self l.initial.sink) (with_sink l.self l.sink);
   reports : (p : List ℕ) → Reads l.initial.self.reading p → Notes g.N.ReportSink.notes

@@ -1,0 +1,58 @@
+-- What a framer has taken with a part of a line, or with its last part and LF.
+use Rattle.std.proofs.Common.{◌≡◌, ℕ, true, List, [], ◌∷◌, ◌++◌, Result, Ok, Err}
+use Rattle.cj_stream.specs.declared.ending.End.{End}
+use Rattle.cj_stream.specs.Carrying.{FramerState, TakesAll, TakesSome}
+use Rattle.cj_stream.specs.Lines.{NoLf, closed, newline}
+use Rattle.cj_stream.specs.Reading.{Settles, Stores, Unstored, is_lenient, judged_begun, told_verdict}
+use Rattle.cj_stream.specs.Scanning.{HoldsFewNext, ScansNext}
+use Rattle.cj_stream.specs.Sink.{SinkLaw, with_sink}
+use Rattle.cj_stream.proofs.PieceLemmas.{Advances-line, Advances-stored, Stops-undealt, Stops-unstored, Stops-unstored_last}
+use Rattle.cj_stream.proofs.ScanningLemmas.{few-line, few-scanned, first-closed, scanned-begun, scanned-line}
+
+module _ {S : Type 0} (law : SinkLaw S) where
+  module _ (f : FramerState) (s : S) (part : List ℕ) (free : NoLf part) where
+    -- a part that is stored
+    pub TakesAll-stored : (g : FramerState) → Stores f.reading part g.reading → g.scanning ≡ f.scanning
+        → TakesAll law part (with_sink f s) (with_sink g s)
+    TakesAll-stored g stored same = record {
+      advances = λ q reads. Advances-stored law reads free stored;
+      scanned = λ q reads scanned. scanned-begun f.reading.rules.limits q part f.scanning g.scanning free same scanned;
+    }
+
+    -- and one that is not, where LF comes after it or not
+    pub TakesSome-unstored : (more : List ℕ) (e : End) → Unstored f.reading part e
+        → TakesSome law (part ++ newline ∷ more) (with_sink f s) e (with_sink f s)
+    TakesSome-unstored more e unstored = record {
+      stops = λ q reads. Stops-unstored law part more reads free unstored;
+      held = λ q reads scanned. few-scanned f.reading.rules.limits (closed q) f.scanning _ scanned
+          (first-closed q (part ++ newline ∷ more));
+    }
+
+    pub TakesSome-last : (e : End) → Unstored f.reading part e → TakesSome law part (with_sink f s) e (with_sink f s)
+    TakesSome-last e unstored = record {
+      stops = λ q reads. Stops-unstored_last law reads free unstored;
+      held = λ q reads scanned. few-scanned f.reading.rules.limits (closed q) f.scanning _ scanned
+          (first-closed q part);
+    }
+
+    module _ (g h : FramerState) (t : S) (stored : Stores f.reading part g.reading) (same : g.scanning ≡ f.scanning)
+        (r : Result (Unit {0}) End)
+        (settles : Settles law (judged_begun g.reading (is_lenient g.reading) (told_verdict g.reading) true)
+        (with_sink g.reading s) r (with_sink h.reading t)) where
+      -- LF comes after it, and the line is dealt with
+      pub TakesAll-line : r ≡ Ok tt → ScansNext g.reading g.scanning h.scanning
+          → TakesAll law (part ++ newline ∷ []) (with_sink f s) (with_sink h t)
+      TakesAll-line ok scans = record {
+        advances = λ q reads. Advances-line law reads free stored settles ok;
+        scanned = λ q reads scanned. scanned-line f.reading g.reading q part f.scanning g.scanning h.scanning reads free
+            stored same scanned scans;
+      }
+
+      -- or it is the end
+      pub TakesSome-line : (more : List ℕ) (e : End) → r ≡ Err e → HoldsFewNext g.reading g.scanning h.scanning
+          → TakesSome law (part ++ newline ∷ more) (with_sink f s) e (with_sink h t)
+      TakesSome-line more e err few = record {
+        stops = λ q reads. Stops-undealt law more reads free stored settles err;
+        held = λ q reads scanned. few-line f.reading g.reading q part f.scanning g.scanning h.scanning reads free stored
+            same scanned more few;
+      }

@@ -1,0 +1,13 @@
+use Rattle.std.proofs.Common.{refl}
+use Rattle.cj_stream.specs.Scanning.{scanning}
+use Rattle.cj_stream.proofs.ScanningLemmas.{scans-unread, unread-told}
+use Rattle.cj_stream.proofs.desk.Desk.scan_later.Goals as goal
+
+pub returns-in_err-judge-clause-scans : goal.returns-in_err-judge-clause-scans
+returns-in_err-judge-clause-scans c =
+    let limits = c.args.self.now.limits in
+    let content = c.args.content.now in
+    let unread = unread-told limits content c.requires.not_blank (rw c.requires.lists.opened
+    at c.in_err-judge.ensures.unread) in
+    scans-unread limits content (scanning c.args.self.now) _ c.requires.lists c.requires.short refl c.judge.ensures.law
+    unread
