@@ -110,8 +110,16 @@ scans-unread limits c f g room short same k u = record {
   header = same;
   line = record { least = omega (arith, u.size, k.token_peak); exact = unread };
   opened = record { least = omega (arith, u.nest, k.stack_peak); exact = unread };
-  law = omega (arith, k.law, k.token_peak, k.stack_within.below_peak, k.stack_within.below_limit, k.stack_limit,
-      room.opened, short);
+  law = omega (
+    arith,
+    k.law,
+    k.token_peak,
+    k.stack_within.below_peak,
+    k.stack_within.below_limit,
+    k.stack_limit,
+    room.opened,
+    short,
+  );
 }
   where
     unread : {P : Type 0} → is_readable limits c ≡ true → P
@@ -139,13 +147,13 @@ pub ScansNext-held : (x : Reading) (f g h : Scanning) → 0 < x.lines → x.drop
     → ScansLine x.rules.limits (begun_of x) f g → Forgets g h → ScansNext x f h
 ScansNext-held x f g h later held line k = λ cs c count is s.
     scanned-later x.rules.limits c f g h k (subst (λ z. ScansLine x.rules.limits z f g) (held-whole x c is held).0 line)
-        cs (omega (arith, count, later)) s
+    cs (omega (arith, count, later)) s
 
 pub ScansNext-dropped : (x : Reading) (f h : Scanning) → 0 < x.lines → x.dropped ≡ true → Forgets f h → ScansNext x f h
 ScansNext-dropped x f h later dropped k = λ cs c count is s.
     let u = unread-long x.rules.limits c (dropped-long x c is dropped) in
     scanned-later x.rules.limits c f f h k (scans-none x.rules.limits c f f refl (u.size, u.nest)) cs
-        (omega (arith, count, later)) s
+    (omega (arith, count, later)) s
 
 -- ---- lines of bytes
 

@@ -21,7 +21,7 @@ module _ {S : Type 0} (law : SinkLaw S) where
         let same = ap (λ r. r.limits) k.rules in
         scanned-then f.reading.rules.limits g.reading.rules.limits q a b h.scanning same
         (y.scanned (q ++ a) k.reads (scanned-under f.reading.rules.limits g.reading.rules.limits (closed (q ++ a))
-            g.scanning same (x.scanned q reads scanned)));
+        g.scanning same (x.scanned q reads scanned)));
   }
 
   pub TakesSome-then : {f g h : FramerState} {s t u : S} {a b : List ℕ} {e : End}
@@ -34,7 +34,7 @@ module _ {S : Type 0} (law : SinkLaw S) where
         let same = ap (λ r. r.limits) k.rules in
         few-then f.reading.rules.limits g.reading.rules.limits q a b h.scanning same
         (y.held (q ++ a) k.reads (scanned-under f.reading.rules.limits g.reading.rules.limits (closed (q ++ a))
-            g.scanning same (x.scanned q reads scanned)));
+        g.scanning same (x.scanned q reads scanned)));
   }
 
   module _ (f : FramerState) (s : S) (part : List ℕ) (free : NoLf part) where
@@ -65,7 +65,7 @@ module _ {S : Type 0} (law : SinkLaw S) where
     module _ (g h : FramerState) (t : S) (stored : Stores f.reading part g.reading) (same : g.scanning ≡ f.scanning)
         (r : Result (Unit {0}) End)
         (settles : Settles law (judged_begun g.reading (is_lenient g.reading) (told_verdict g.reading) true)
-            (with_sink g.reading s) r (with_sink h.reading t)) where
+        (with_sink g.reading s) r (with_sink h.reading t)) where
       -- LF comes after it, and the line is dealt with
       pub TakesAll-line : r ≡ Ok tt → ScansNext g.reading g.scanning h.scanning
           → TakesAll law (part ++ newline ∷ []) (with_sink f s) (with_sink h t)

@@ -17,7 +17,7 @@ returns-in-Ok-clause-says c = λ rules number header le same not_blank.
     let text : IsUtf8 c.args.content.now = c.scan_reserved.ensures.utf8 (λ i e. cc) in
     let answer = rw c.in-Ok.is at (c.scan_reserved.ensures.judged (judgement c.args.content.now c.args.opened.now.limit) text) in
     rw (verdict-json rules number header c.args.content.now le text not_blank, same)
-        (ok-verdict rules number header (judgement c.args.content.now c.args.opened.now.limit) c.in-Ok.field-0 answer)
+    (ok-verdict rules number header (judgement c.args.content.now c.args.opened.now.limit) c.in-Ok.field-0 answer)
 
 pub returns-in-Ok-clause-holds : goal.returns-in-Ok-clause-holds
 returns-in-Ok-clause-holds c =
@@ -45,7 +45,7 @@ pub returns-in-Err-NotUtf8-clause-says : goal.returns-in-Err-NotUtf8-clause-says
 returns-in-Err-NotUtf8-clause-says c = λ rules number header le same not_blank.
     let place : IsValidUpTo c.args.content.now c.in-Err-NotUtf8.place = (c.scan_reserved.ensures.not_utf8 c.in-Err-NotUtf8.place).0 (c.in-Err-NotUtf8.is ∙ ap Err c.in-Err-NotUtf8.field-0-is) in
     verdict-bytes rules number header c.args.content.now le (not_text c.args.content.now c.in-Err-NotUtf8.place place)
-        ∙ ap (λ i. Refuse i NotUtf8) (utf8_valid_len-IsValidUpTo c.args.content.now c.in-Err-NotUtf8.place place)
+    ∙ ap (λ i. Refuse i NotUtf8) (utf8_valid_len-IsValidUpTo c.args.content.now c.in-Err-NotUtf8.place place)
 
 pub returns-in-Err-Syntax-clause-says : goal.returns-in-Err-Syntax-clause-says
 returns-in-Err-Syntax-clause-says c = λ rules number header le same not_blank.
@@ -53,8 +53,8 @@ returns-in-Err-Syntax-clause-says c = λ rules number header le same not_blank.
     let text : IsUtf8 c.args.content.now = c.scan_reserved.ensures.utf8 (syntax-text c.scan_reserved.result c.in-Err-Syntax.place is) in
     let answer = rw is at (c.scan_reserved.ensures.judged (judgement c.args.content.now c.args.opened.now.limit) text) in
     rw (verdict-json rules number header c.args.content.now le text not_blank, same)
-        (syntax-refused rules number header (judgement c.args.content.now c.args.opened.now.limit) c.in-Err-Syntax.place
-        answer)
+    (syntax-refused rules number header (judgement c.args.content.now c.args.opened.now.limit) c.in-Err-Syntax.place
+    answer)
 
 pub returns-in-Err-TooDeep-clause-says : goal.returns-in-Err-TooDeep-clause-says
 returns-in-Err-TooDeep-clause-says c = λ rules number header le same not_blank.
@@ -62,8 +62,8 @@ returns-in-Err-TooDeep-clause-says c = λ rules number header le same not_blank.
     let text : IsUtf8 c.args.content.now = c.scan_reserved.ensures.utf8 (deep-text c.scan_reserved.result c.in-Err-TooDeep.place is) in
     let answer = rw is at (c.scan_reserved.ensures.judged (judgement c.args.content.now c.args.opened.now.limit) text) in
     rw (verdict-json rules number header c.args.content.now le text not_blank, same)
-        (deep-refused rules number header (judgement c.args.content.now c.args.opened.now.limit) c.in-Err-TooDeep.place
-        answer)
+    (deep-refused rules number header (judgement c.args.content.now c.args.opened.now.limit) c.in-Err-TooDeep.place
+    answer)
 
 pub returns-in-Err-NotUtf8-clause-unread : goal.returns-in-Err-NotUtf8-clause-unread
 returns-in-Err-NotUtf8-clause-unread c =
@@ -77,7 +77,7 @@ returns-in-Err-Syntax-clause-unread c =
     let text : IsUtf8 c.args.content.now = c.scan_reserved.ensures.utf8 (syntax-text c.scan_reserved.result c.in-Err-Syntax.place is) in
     let answer = rw is at (c.scan_reserved.ensures.judged (judgement c.args.content.now c.args.opened.now.limit) text) in
     rw (is_utf8-from_IsUtf8 c.args.content.now text) (syntax-unspelled (judgement c.args.content.now
-        c.args.opened.now.limit) c.in-Err-Syntax.place answer)
+    c.args.opened.now.limit) c.in-Err-Syntax.place answer)
 
 pub returns-in-Err-TooDeep-clause-unread : goal.returns-in-Err-TooDeep-clause-unread
 returns-in-Err-TooDeep-clause-unread c =
@@ -85,4 +85,4 @@ returns-in-Err-TooDeep-clause-unread c =
     let text : IsUtf8 c.args.content.now = c.scan_reserved.ensures.utf8 (deep-text c.scan_reserved.result c.in-Err-TooDeep.place is) in
     let answer = rw is at (c.scan_reserved.ensures.judged (judgement c.args.content.now c.args.opened.now.limit) text) in
     rw (is_utf8-from_IsUtf8 c.args.content.now text) (deep-unspelled (judgement c.args.content.now
-        c.args.opened.now.limit) c.in-Err-TooDeep.place answer)
+    c.args.opened.now.limit) c.in-Err-TooDeep.place answer)

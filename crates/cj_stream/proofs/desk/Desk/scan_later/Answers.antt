@@ -8,6 +8,6 @@ returns-in_err-judge-clause-scans c =
     let limits = c.args.self.now.limits in
     let content = c.args.content.now in
     let unread = unread-told limits content c.requires.not_blank (rw c.requires.lists.opened
-        at c.in_err-judge.ensures.unread) in
+    at c.in_err-judge.ensures.unread) in
     scans-unread limits content (scanning c.args.self.now) _ c.requires.lists c.requires.short refl c.judge.ensures.law
-        unread
+    unread

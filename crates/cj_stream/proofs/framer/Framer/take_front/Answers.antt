@@ -14,7 +14,7 @@ returns-in_err-store_first-clause-err g c =
     let p = err_from_is_err_and c.from_residual.result c.from_residual.ensures.1 in
     let none = NoLf-not_found c.args.piece.now c.memchr.result c.memchr.ensures c.in_default.not-Some in
     rw (p.1, p.2) (rw c.in_err-store_first.ensures.err (TakesSome-last g.S.LineSink.law c.args.self.now c.args.sink.now
-        c.args.piece.now none _ c.in_err-store_first.ensures.cause))
+    c.args.piece.now none _ c.in_err-store_first.ensures.cause))
 
 pub returns-in_default-clause-front : goal.returns-in_default-clause-front
 returns-in_default-clause-front g c = record {
@@ -29,7 +29,7 @@ returns-in_default-clause-ok g c =
     let none = NoLf-not_found piece c.memchr.result c.memchr.ensures c.in_default.not-Some in
     let all : take (length c.args.piece.now) c.args.piece.now ≡ c.args.piece.now = take_all (length piece) piece (omega arith) in
     rw all (TakesAll-stored g.S.LineSink.law c.args.self.now c.args.sink.now piece none c.store_first.new.self
-        c.in_ok-store_first.ensures.ok c.store_first.ensures.lists)
+    c.in_ok-store_first.ensures.ok c.store_first.ensures.lists)
 
 pub take_first-requires-clause-one : goal.take_first-requires-clause-one
 take_first-requires-clause-one g c = NoLf-before c.args.piece.now c.in-Some.at c.in-Some.ensures

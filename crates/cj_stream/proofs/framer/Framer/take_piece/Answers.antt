@@ -37,29 +37,37 @@ loop-at-preserved g c =
     let free = NoLf-before rest k c.in-Some.ensures in
     let stored = c.in_ok-store.ensures.ok in
     let taken = TakesAll-line g.S.LineSink.law c.loop-at.self c.loop-at.sink (take k rest) free c.store.new.self
-        c.deal.new.self c.deal.new.sink stored c.store.ensures.lists (answer_of line_end c.deal.result)
+    c.deal.new.self c.deal.new.sink stored c.store.ensures.lists (answer_of line_end c.deal.result)
     c.deal.ensures.settles (ap (answer_of line_end) c.in_ok-deal.was) c.in_ok-deal.ensures.scanned in
     record {
       stays = Stays-then _ _ _ c.loop-at.invariant.stays (Stays-then _ _ _ c.store.ensures.stays
           c.deal.ensures.carries.stays);
       rises = Rises-then _ _ _ c.loop-at.invariant.rises (rw c.store.ensures.lists at c.deal.ensures.carries.rises);
       ready = c.deal.ensures.carries.late (omega (arith, c.requires.later, c.loop-at.invariant.grows, stored.lines));
-      few = omega (arith, left_length rest k c.in-Some.ensures, c.in_ok-deal.ensures.one, stored.lines,
-          c.loop-at.invariant.few);
+      few = omega (
+        arith,
+        left_length rest k c.in-Some.ensures,
+        c.in_ok-deal.ensures.one,
+        stored.lines,
+        c.loop-at.invariant.few,
+      );
       grows = omega (arith, c.loop-at.invariant.grows, c.deal.ensures.grows, stored.lines);
       counts = omega (arith, c.deal.ensures.carries.counts, c.loop-at.invariant.counts);
-      read = (i.0 ++ (take k rest ++ 10 ∷ []), piece_more c.args.piece.now i.0 rest k i.1 c.in-Some.ensures,
-          TakesAll-then g.S.LineSink.law i.2 taken);
+      read = (
+        i.0 ++ (take k rest ++ 10 ∷ []),
+        piece_more c.args.piece.now i.0 rest k i.1 c.in-Some.ensures,
+        TakesAll-then g.S.LineSink.law i.2 taken,
+      );
       reports = λ q reads.
           let text : (q ++ i.0) ++ (take k c.loop-at.rest.now ++ 10 ∷ drop (k + 1) c.loop-at.rest.now) ≡ q
-              ++ c.args.piece.now =
+          ++ c.args.piece.now =
           append_assoc q i.0 (take k c.loop-at.rest.now ++ 10 ∷ drop (k + 1) c.loop-at.rest.now) ∙ ap (λ z. q ++ z)
-              (ap (λ z. i.0 ++ z) (sym (lf_found rest k c.in-Some.ensures)) ∙ sym i.1) in
+          (ap (λ z. i.0 ++ z) (sym (lf_found rest k c.in-Some.ensures)) ∙ sym i.1) in
           let now = Notes-line g.N.ReportSink.notes c.loop-at.self.reading c.store.new.self.reading
-              c.deal.new.self.reading (q ++ i.0) (take k rest) (drop (k + 1) rest) c.loop-at.reports c.deal.new.reports
+          c.deal.new.self.reading (q ++ i.0) (take k rest) (drop (k + 1) rest) c.loop-at.reports c.deal.new.reports
           (i.2.advances q reads).reads free stored c.in_ok-deal.ensures.one c.in_ok-deal.ensures.noted in
           Notes-then g.N.ReportSink.notes c.args.self.now.reading.rules (c.loop-at.invariant.reports q reads)
-              (rw (text, c.loop-at.invariant.stays.rules) at now);
+          (rw (text, c.loop-at.invariant.stays.rules) at now);
     }
 
 pub returns-in_err-store-clause-err : goal.returns-in_err-store-clause-err
@@ -69,9 +77,9 @@ returns-in_err-store-clause-err g c =
     let rest = c.loop-at.rest.now in
     let k = c.in-Some.at in
     let stopped = TakesSome-unstored g.S.LineSink.law c.loop-at.self c.loop-at.sink (take k rest)
-        (NoLf-before rest k c.in-Some.ensures) (drop (k + 1) rest) _ c.in_err-store.ensures.cause in
+    (NoLf-before rest k c.in-Some.ensures) (drop (k + 1) rest) _ c.in_err-store.ensures.cause in
     rw (p.1, p.2) (rw (i.1, c.in_err-store.ensures.err) (TakesSome-then g.S.LineSink.law i.2
-        (rw (lf_found rest k c.in-Some.ensures) stopped)))
+    (rw (lf_found rest k c.in-Some.ensures) stopped)))
 
 pub returns-in_err-deal-clause-err : goal.returns-in_err-deal-clause-err
 returns-in_err-deal-clause-err g c =
@@ -80,10 +88,10 @@ returns-in_err-deal-clause-err g c =
     let rest = c.loop-at.rest.now in
     let k = c.in-Some.at in
     let stopped = TakesSome-line g.S.LineSink.law c.loop-at.self c.loop-at.sink (take k rest)
-        (NoLf-before rest k c.in-Some.ensures) c.store.new.self c.deal.new.self c.deal.new.sink c.in_ok-store.ensures.ok
-        c.store.ensures.lists
+    (NoLf-before rest k c.in-Some.ensures) c.store.new.self c.deal.new.self c.deal.new.sink c.in_ok-store.ensures.ok
+    c.store.ensures.lists
     (answer_of line_end c.deal.result) c.deal.ensures.settles (drop (k + 1) rest) _
-        (ap (answer_of line_end) c.in_err-deal.was) c.deal.ensures.few in
+    (ap (answer_of line_end) c.in_err-deal.was) c.deal.ensures.few in
     rw (p.1, p.2) (rw i.1 (TakesSome-then g.S.LineSink.law i.2 (rw (lf_found rest k c.in-Some.ensures) stopped)))
 
 pub returns-in_err-deal-clause-reports : goal.returns-in_err-deal-clause-reports
@@ -98,12 +106,12 @@ returns-in_err-store-2-clause-err g c =
     let i = c.loop-at.invariant.read in
     let none = NoLf-not_found c.loop-at.rest.now c.memchr.result c.memchr.ensures c.in_default.not-Some in
     rw (p.1, p.2) (rw (i.1, c.in_err-store-2.ensures.err) (TakesSome-then g.S.LineSink.law i.2
-        (TakesSome-last g.S.LineSink.law c.loop-at.self c.loop-at.sink c.loop-at.rest.now none _
-        c.in_err-store-2.ensures.cause)))
+    (TakesSome-last g.S.LineSink.law c.loop-at.self c.loop-at.sink c.loop-at.rest.now none _
+    c.in_err-store-2.ensures.cause)))
 
 pub returns-clause-ok : goal.returns-clause-ok
 returns-clause-ok g c =
     let i = c.loop-at.invariant.read in
     let none = NoLf-not_found c.loop-at.rest.now c.memchr.result c.memchr.ensures c.in_default.not-Some in
     rw i.1 (TakesAll-then g.S.LineSink.law i.2 (TakesAll-stored g.S.LineSink.law c.loop-at.self c.loop-at.sink
-        c.loop-at.rest.now none c.store-2.new.self c.in_ok-store-2.ensures.ok c.store-2.ensures.lists))
+    c.loop-at.rest.now none c.store-2.new.self c.in_ok-store-2.ensures.ok c.store-2.ensures.lists))

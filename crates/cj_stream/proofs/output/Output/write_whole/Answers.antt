@@ -9,6 +9,8 @@ loop-rest-preserved g c =
     let rest = c.loop-rest.rest.now in
     let is = taken-is c.write.result c.in-Ok.n (sym c.in-Ok.ensures) in
     let bound = rw is at c.write.ensures.bound in
-    let grows = rw is at c.write.ensures.bytes in
-    ((i.0.0 ++ take c.in-Ok.n rest, taken_more _ _ rest c.in-Ok.n bound i.0.1, Appends-then _ _ _ _ _ i.0.2 grows), i.1,
-        i.2)
+    let grows = rw is at c.write.ensures.bytes in (
+      (i.0.0 ++ take c.in-Ok.n rest, taken_more _ _ rest c.in-Ok.n bound i.0.1, Appends-then _ _ _ _ _ i.0.2 grows),
+      i.1,
+      i.2,
+    )
