@@ -8,24 +8,19 @@
 //! functions that use them. A view borrows the lists, so they change only after the call of the
 //! sink. The desk does not know the number of a later line: its verdict is the same with any number
 //! above 1.
-ghost use Rattle.std.specs.Prelude.{◌≡◌, ◌+◌, ◌<◌, ◌≤◌, ◌/◌, ℕ, length, [], OnOk, OnErr, IfOk, IfSome, MatchResult};
-ghost use Rattle.std.specs.Prelude.{IsTrue, None, Some, false, is_some};
+ghost use Rattle.std.specs.Prelude.{◌≡◌, ◌+◌, ◌<◌, ◌≤◌, ◌/◌, ℕ, length, [], OnOk, OnErr, IfOk, MatchResult};
+ghost use Rattle.std.specs.Prelude.{IsTrue, None, Some, false};
 ghost use Rattle.std.specs.List.{list_all};
 ghost use Rattle.cj_budget.specs.Bounded.{IsNew};
 ghost use Rattle.cj_budget.specs.Limits.{InLine};
-ghost use Rattle.cj_spans.specs.Finding.{IsLeast};
 ghost use Rattle.cj_spans.specs.Marks.{AreUnmarked};
 ghost use Rattle.cj_spans.specs.Scan.{KeepsLaw};
-ghost use Rattle.cj_spans.specs.View.{document, document_line, document_source, tokens_in};
-ghost use Rattle.cj_feature.specs.Feature.{feature as feature_findings};
 ghost use Rattle.cj_feature.specs.HeaderView.{header_tree, has_box};
-ghost use Rattle.cj_feature.specs.Reached.{AreMarks};
-ghost use Rattle.cj_feature.specs.View.{feature_tree, feature_line, feature_header};
 ghost use Rattle.cj_stream.specs.Criteria.{needs_box};
 ghost use Rattle.cj_stream.specs.Item.{tree_of, item_at};
 ghost use Rattle.cj_stream.specs.Query.{criteria};
 ghost use Rattle.cj_stream.specs.Sink.{HasRisen};
-ghost use Rattle.cj_stream.specs.Verdict.{Valid, Refuse, verdict_at, is_asked, is_blank_byte};
+ghost use Rattle.cj_stream.specs.Verdict.{Valid, Refuse, verdict_at, is_blank_byte};
 ghost use Rattle.cj_stream.specs.Reading.{JudgedAs};
 
 use crate::judge::{is_blank, judge};
@@ -34,7 +29,7 @@ use crate::output::WriteFault;
 use crate::query::Query;
 use crate::sink::LineSink;
 use cj_budget::{Bounded, Limits, Stack};
-use cj_feature::{Feature, Header, HeaderParts, check_feature, check_header, mark_reached};
+use cj_feature::{Header, HeaderParts, check_feature, check_header, mark_reached};
 use cj_spans::{Doc, Finding, Token};
 use std::alloc::Global;
 
@@ -211,40 +206,8 @@ impl<'q> Desk<'q> {
         Header::of(Doc::of(first, self.header_tokens.as_slice()), *header_parts)
     }
 
-    /// Judges the tree of a later line, and returns it if it is a valid feature to keep. The query
-    /// and the options decide that.
-    ///
-    /// # Errors
-    ///
-    /// The least finding, if the feature is invalid.
-    fn select<'a>(
-        &self,
-        doc: Doc<'a>,
-        header: &'a Header<'a>,
-    ) -> Result<Option<Feature<'a>>, Finding>
-        requires marks { IsTrue self.now.options.tree
-            → AreMarks (document doc) (document_line doc) (tokens_in (document_source doc)) }
-        requires with_box { has_box header.now ≡ needs_box (criteria self.now.query.now) }
-        ensures valid { MatchResult result
-            (λ _. feature_findings (header_tree header.now) (document doc.entry) self.now.options.tree ≡ [])
-            (λ f. IsLeast (feature_findings (header_tree header.now) (document doc.entry) self.now.options.tree)
-            (Some f)) }
-        ensures asked { IfOk result (λ kept. is_some kept
-            ≡ is_asked (rules_for self.now.limits self.now.query.now self.now.options) (header_tree header.now)
-            (document doc.entry)) }
-        ensures tree { IfOk result (λ kept. IfSome kept (λ f. feature_tree f ≡ document doc.entry)) }
-        ensures line { IfOk result (λ kept. IfSome kept (λ f. feature_line f ≡ document_line doc.entry)) }
-        ensures header { IfOk result (λ kept. IfSome kept (λ f. feature_header f ≡ header_tree header.now)) }
-    {
-        let feature = check_feature(doc, header, self.options.asks_for_trees())?;
-        if self.query.holds(&feature, header) == self.options.excludes() {
-            return Ok(None);
-        }
-        Ok(Some(feature))
-    }
-
-    /// Judges a later line, and puts it to the sink if it is a valid feature to keep. `first` is
-    /// the content of the first line, a valid header.
+    /// Judges a later line, and puts it to the sink if it is a valid feature to keep. The query and
+    /// the options decide that. `first` is the content of the first line, a valid header.
     ///
     /// # Errors
     ///
@@ -281,14 +244,16 @@ impl<'q> Desk<'q> {
             return Ok(Dealt::Refused(finding));
         }
         let header = self.header(first);
-        match self.select(Doc::of(content, self.line_tokens.as_slice()), &header) {
-            Ok(Some(feature)) => {
-                sink.put(&feature, lf)?;
-                Ok(Dealt::Kept)
-            }
-            Ok(None) => Ok(Dealt::LeftOut),
-            Err(finding) => Ok(Dealt::Refused(finding)),
+        let doc = Doc::of(content, self.line_tokens.as_slice());
+        let feature = match check_feature(doc, &header, self.options.asks_for_trees()) {
+            Ok(feature) => feature,
+            Err(finding) => return Ok(Dealt::Refused(finding)),
+        };
+        if self.query.holds(&feature, &header) == self.options.excludes() {
+            return Ok(Dealt::LeftOut);
         }
+        sink.put(&feature, lf)?;
+        Ok(Dealt::Kept)
     }
 
     /// Empties the lists of the judged line. What is kept of the header stays.

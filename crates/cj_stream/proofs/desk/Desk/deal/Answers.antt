@@ -26,8 +26,8 @@ returns-then-is_blank-clause-scans g c =
     scans-none limits c.args.content.now (scanning c.args.self.now) _ refl
     (blank-tree limits c.args.content.now (sym c.is_blank.ensures ∙ c.if-is_blank.true))
 
-pub returns-in-Err-select-clause-hands : goal.returns-in-Err-select-clause-hands
-returns-in-Err-select-clause-hands g c = λ number later.
+pub returns-in-Err-check_feature-clause-hands : goal.returns-in-Err-check_feature-clause-hands
+returns-in-Err-check_feature-clause-hands g c = λ number later.
     let rules = rules_for c.args.self.now.limits c.args.self.now.query.now c.args.self.now.options in
     let t = tree_of c.args.self.now.limits.depth c.args.content.now in
     let h = tree_of c.args.self.now.limits.depth c.args.first.now in
@@ -35,10 +35,11 @@ returns-in-Err-select-clause-hands g c = λ number later.
     let feature : eqb number 1 ≡ false = grind (arith, nat_tests) in
     let solid : list_all is_blank_byte c.args.content.now ≡ false = sym c.is_blank.ensures ∙ c.if-is_blank.false in
     let says = c.in_default.ensures.says rules number h c.requires.short refl (rw (after_first, solid) refl) in
-    let shown : document c.of.result ≡ t = c.of.ensures.only t c.in_default.ensures.shows.json in
+    let shown : document c.of-doc.result ≡ t = c.of-doc.ensures.only t c.in_default.ensures.shows.json in
     let header : header_tree c.header-header.result ≡ h =
     rw c.scan_later.ensures.rest at c.header-header.ensures.tree in
-    let found = rw c.scan_later.ensures.rest at c.in-Err-select.ensures.valid in
-    let least : IsLeast (findings rules number h t) (Some c.in-Err-select.finding) =
+    let asked = rw c.scan_later.ensures.rest at c.asks_for_trees.ensures in
+    let found = rw asked at c.in-Err-check_feature.ensures.verdict in
+    let least : IsLeast (findings rules number h t) (Some c.in-Err-check_feature.finding) =
     rw (feature, ← header, ← shown) found in
-    (says ∙ tree-refused rules number h t c.in-Err-select.finding least, refl)
+    (says ∙ tree-refused rules number h t c.in-Err-check_feature.finding least, refl)
