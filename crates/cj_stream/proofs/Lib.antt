@@ -24,7 +24,6 @@ pub mod IsGoodLemmas
 pub mod IsLinesLemmas
 pub mod JoinedLemmas
 pub mod JudgeLemmas
-pub mod JudgingLemmas
 pub mod KnownLemmas
 pub mod LeastLemmas
 pub mod LenientLemmas

@@ -1,1 +1,0 @@
--- What is kept of the header, from line to line, and what comes of a line that is a text.
