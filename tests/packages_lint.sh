@@ -68,7 +68,7 @@ debian_has_version() {
 finds_another_version() {
   cp --parents -r README.md CHANGELOG.md c/*.h crates/*/src packaging python/cityseq/*.py \
     tests/*.sh tests/library.c "$scratch/" && echo 9.9.9 > "$scratch/VERSION" || return
-  ! "$scratch/packaging/version.py" > "$scratch/said" && grep -q 'words.rt has' "$scratch/said"
+  ! "$scratch/packaging/version.py" > "$scratch/said" && grep -q 'lib.rt has' "$scratch/said"
 }
 
 row 'all files name one version' packaging/version.py
