@@ -553,6 +553,9 @@ impl<'a> Node<'a> {
 
     /// Keeps the value of a member for each of three names that is its own, if no earlier member
     /// was kept for that name.
+    ///
+    /// The test whether a third one was kept stands between the tests of first bytes. Without it
+    /// the compiler makes a jump table of them.
     #[inline(always)]
     fn keep_three(
         member: (Node<'a>, Node<'a>),
@@ -582,8 +585,8 @@ impl<'a> Node<'a> {
             if key.text_is(c) {
                 Node::keep_first(&mut kept.third, value);
             }
-        } else if key.text_is(c) {
-            Node::keep_first(&mut kept.third, value);
+        } else if kept.third.is_none() && key.text_is(c) {
+            kept.third = Some(value);
         }
     }
 
