@@ -10,7 +10,7 @@ use Rattle.std.specs.declared.cmp.Ordering.{Ordering}
 use Rattle.std.specs.declared.cmp.Ordering.TheVariants.{Less, Equal, Greater}
 use Rattle.std.proofs.lemmas.Bool.{cases_eq, cases_lt}
 use Rattle.std.proofs.lemmas.Fn.{always_returns_same}
-use Rattle.std.proofs.lemmas.List.{append_assoc, drop-set-lt, drop_more, length-append, take_more_set, get_or_append_left, get_or-append_right, get_or-set_same, get_or-set_other}
+use Rattle.std.proofs.lemmas.List.{append_assoc, drop-set-lt, drop_more, length-append, take_more_set, get_or_append_left, get_or-append_right, get_or-set_other}
 use Rattle.std.proofs.lemmas.List.Sorted.{ranks_by, sorted_far, searchable_from_sorted}
 use Rattle.std.proofs.lemmas.Option.{slice_get_within}
 use denote.Param.Members.{Mut}
@@ -21,6 +21,7 @@ use Rattle.cj_spans.specs.Tree.{Tree, scalar, array, object}
 use Rattle.cj_spans.specs.Order.{compare_texts}
 use Rattle.cj_spans.specs.Parts.{kind_of, members_of, text_of, are_same_texts}
 use Rattle.cj_spans.specs.View.{tree}
+use Rattle.cj_geometry.proofs.Initials.{still_free}
 use Rattle.cj_feature.specs.declared.feature.search.questions.order.Question.{Question}
 use Rattle.cj_feature.specs.Links.{same_text, is_known, lists}
 use Rattle.cj_feature.specs.Tag.{tag_of}
@@ -65,21 +66,6 @@ one_more xs kept i d le below =
     ∙ ap (λ l. (take kept xs ++ y ∷ []) ++ l) (drop-set-lt (i + 1) xs kept y (omega arith))
     ∙ append_assoc (take kept xs) (y ∷ []) (drop (i + 1) xs)
     ∙ ap (λ l. take kept xs ++ l) (sym (drop_more xs i d below))
-
--- ---- flags
-
-flagged-not : (flags : List Bool) (p i : ℕ) → p < length flags → p ≡ i → slice_index_or (slice_set flags p true) i false ≡ false → ⊥
-flagged-not flags p i below e clear =
-    let yes : get_or (slice_set flags p true) p false ≡ true = get_or-set_same flags p true false below in
-    let no : get_or (slice_set flags p true) p false ≡ false = subst (λ k. get_or (slice_set flags p true) k false ≡ false) (sym e) clear in
-    cc
-
-unflagged : (flags : List Bool) (p i : ℕ) → p < length flags → slice_index_or (slice_set flags p true) i false ≡ false → slice_index_or flags i false ≡ false
-unflagged flags p i below clear =
-    elim (cases_eq i p) [
-      | inl e ↦ absurd (flagged-not flags p i below (sym e) clear)
-      | inr n ↦ sym (get_or-set_other flags p i true false n) ∙ clear
-    ]
 
 same_texts : (t u : Tree) → same_text t u ≡ true → text_of t ≡ text_of u
 same_texts t u h = let texts = from-texts (text_of t) (text_of u) h in texts.1 ∙ sym texts.2
@@ -190,8 +176,8 @@ module _ (objects : Node) (qs : List Question) where
           | inl e ↦
               let same : Some p ≡ Some i = is i (moved m.0 t i (same_texts m.0 t e) f) in
               let at : p ≡ i = cc in
-              absurd (flagged-not flags p i below at clear)
-          | inr e ↦ left t i f (unflagged flags p i below clear) ∙ ap (λ v. v || is_known rest t) e
+              absurd ((still_free flags p i below clear).0 (sym at))
+          | inr e ↦ left t i f (still_free flags p i below clear).1 ∙ ap (λ v. v || is_known rest t) e
         ]
 
   -- ---- what is listed

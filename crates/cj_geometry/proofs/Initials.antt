@@ -36,7 +36,7 @@ AreFree taken [] = Unit {0}
 AreFree taken (m ∷ ms) = ((c : ℕ) × (first_code_of m.0 ≡ Some c) × (get_or taken (c % 64) false ≡ false)) × AreFree taken ms
 
 -- what is free after a slot is taken is another one, and was free before
-still_free : (taken : List Bool) (s i : ℕ) → s < length taken → get_or (slice_set taken s true) i false ≡ false
+pub still_free : (taken : List Bool) (s i : ℕ) → s < length taken → get_or (slice_set taken s true) i false ≡ false
     → (i ≢ s) × (get_or taken i false ≡ false)
 still_free taken s i below free =
     elim (cases_eq i s) [

@@ -68,6 +68,7 @@ fn check_later(name: Node, rest: Members, found: &mut Least)
 }
 
 /// The names of an object are distinct. Each is compared with each later one.
+#[inline(always)]
 fn check_pairs(object: Node, found: &mut Least)
     ensures { found.new ≡ least found.old (distinct (tree object.entry)) }
 {
