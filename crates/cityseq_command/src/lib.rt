@@ -15,8 +15,8 @@
 //! - `fault_lines` has the lines for standard error, and the exit statuses.
 //!
 //! `option_laws`, `word_laws`, `summary_laws` and `end_laws` are worked examples of the
-//! definitions, as theorems. The rows that run are in the crates `cityseq_rows` and
-//! `cityseq_options`.
+//! definitions, as theorems. The rows that run are in the crates `cityseq_rows`,
+//! `cityseq_options` and `cityseq_queries`.
 #![tactic(auto)]
 
 pub mod ask;

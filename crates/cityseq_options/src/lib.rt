@@ -1,5 +1,6 @@
 //! Rows of the options of the program's commands, by the public contract of `cityseq_command`.
-//! `cityseq_rows` has the other rows. The module `tests` lists them.
+//! `cityseq_queries` has the rows of queries, and `cityseq_rows` the other ones. The module `tests`
+//! lists them.
 #![tactic(auto)]
 
 #[cfg(test)]

@@ -1,6 +1,6 @@
 //! What the tests of the program share: a run of a command over a reader, and what it wrote. Those
-//! tests are in crates of their own, `cityseq_rows` and `cityseq_options`, which are proved beside
-//! each other. Lines of streams and devices that fail are in `cj_stream_samples`.
+//! tests are in crates of their own, `cityseq_rows`, `cityseq_options` and `cityseq_queries`, which
+//! are proved beside each other. Lines of streams and devices that fail are in `cj_stream_samples`.
 //!
 //! ```text
 //! let written = commanded(alloc, &["filter", "--id", "b1"], &mut reader)?;

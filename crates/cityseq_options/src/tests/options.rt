@@ -38,30 +38,10 @@ fn check_command(
     Ok(())
 }
 
-/// Does the same over a header and a feature. If the feature is kept, both are written, otherwise
-/// the header.
-fn check_kept(
-    rt: &impl Abort,
-    alloc: Global,
-    arguments: &[&str],
-    is_kept: bool,
-) -> Result<(), Fail> {
-    let header = joined(alloc, &[HEADER, b"\n"])?;
+/// Does the same over a header and a feature that are invalid. Only a line on standard error is written.
+fn check_told(rt: &impl Abort, alloc: Global, arguments: &[&str], err: &[u8]) -> Result<(), Fail> {
     let input = joined(alloc, &[HEADER, b"\n", FEATURE, b"\n"])?;
-    let out = if is_kept { &input } else { &header };
-    check_command(rt, alloc, arguments, &input, 0, out, b"")
-}
-
-/// Does the same if only a line on standard error is written.
-fn check_told(
-    rt: &impl Abort,
-    alloc: Global,
-    arguments: &[&str],
-    status: u8,
-    err: &[u8],
-) -> Result<(), Fail> {
-    let input = joined(alloc, &[HEADER, b"\n", FEATURE, b"\n"])?;
-    check_command(rt, alloc, arguments, &input, status, b"", err)
+    check_command(rt, alloc, arguments, &input, 1, b"", err)
 }
 
 #[test]
@@ -77,17 +57,14 @@ fn check_counts_lines_and_features(rt: HostRuntime) -> Result<(), Fail> {
 #[test]
 fn limits_are_heeded(rt: HostRuntime) -> Result<(), Fail> {
     let told = b"line 2, byte 137: 5 nested too deep\n";
-    check_told(&rt, rt.alloc(), &["check", "--depth", "7"], 1, told)?;
-    check_told(&rt, rt.alloc(), &["info", "--depth=7"], 1, told)?;
+    check_told(&rt, rt.alloc(), &["check", "--depth", "7"], told)?;
+    check_told(&rt, rt.alloc(), &["info", "--depth=7"], told)?;
     let told = b"line 2, byte 209: 2 line too long\n";
-    check_told(&rt, rt.alloc(), &["check", "--line-limit", "209"], 1, told)?;
-    check_told(&rt, rt.alloc(), &["info", "--line-limit=209"], 1, told)?;
-    check_kept(
-        &rt,
-        rt.alloc(),
-        &["filter", "--line-limit=210", "--depth=8"],
-        true,
-    )
+    check_told(&rt, rt.alloc(), &["check", "--line-limit", "209"], told)?;
+    check_told(&rt, rt.alloc(), &["info", "--line-limit=209"], told)?;
+    let input = joined(rt.alloc(), &[HEADER, b"\n", FEATURE, b"\n"])?;
+    let enough = ["filter", "--line-limit=210", "--depth=8"];
+    check_command(&rt, rt.alloc(), &enough, &input, 0, &input, b"")
 }
 
 #[test]
@@ -100,147 +77,6 @@ fn each_command_refuses_a_stream(rt: HostRuntime) -> Result<(), Fail> {
     let told = b"line 3, byte 0: 12 wrong kind\n";
     check_command(&rt, rt.alloc(), &["check"], &late, 1, b"", told)?;
     check_command(&rt, rt.alloc(), &["info"], &late, 1, b"", told)
-}
-
-#[test]
-fn a_query_by_ids(rt: HostRuntime) -> Result<(), Fail> {
-    check_kept(&rt, rt.alloc(), &["filter", "--id", "b2,b1"], true)?;
-    check_kept(&rt, rt.alloc(), &["filter", "--id", "b2"], false)?;
-    check_kept(&rt, rt.alloc(), &["filter", "--id", ""], false)?;
-    check_kept(&rt, rt.alloc(), &["filter", "--id", "b1,"], true)?;
-    let input = joined(
-        rt.alloc(),
-        &[
-            HEADER,
-            b"\n{\"type\":\"CityJSONFeature\",\"id\":\"\",\"CityObjects\":{\"\":{\"type\":\"Building\"}},\"vertices\":[]}",
-        ],
-    )?;
-    check_command(
-        &rt,
-        rt.alloc(),
-        &["filter", "--id", ""],
-        &input,
-        0,
-        &input,
-        b"",
-    )
-}
-
-#[test]
-fn a_query_by_types_and_lods(rt: HostRuntime) -> Result<(), Fail> {
-    check_kept(
-        &rt,
-        rt.alloc(),
-        &["filter", "--type", "Road,Building"],
-        true,
-    )?;
-    check_kept(&rt, rt.alloc(), &["filter", "--type", "Road"], false)?;
-    check_kept(&rt, rt.alloc(), &["filter", "--lod", "2.2,1"], true)?;
-    check_kept(&rt, rt.alloc(), &["filter", "--lod", "2,1"], false)?;
-    check_kept(
-        &rt,
-        rt.alloc(),
-        &["filter", "--lod", "2.2", "--id", "b2"],
-        false,
-    )?;
-    check_kept(
-        &rt,
-        rt.alloc(),
-        &["filter", "--lod", "2.2", "--id", "b1", "--type=Building"],
-        true,
-    )
-}
-
-#[test]
-fn a_query_by_a_box(rt: HostRuntime) -> Result<(), Fail> {
-    check_kept(&rt, rt.alloc(), &["filter", "--bbox=-5,0,5000,5000"], true)?;
-    check_kept(
-        &rt,
-        rt.alloc(),
-        &["filter", "--bbox", "1001,2001,1005,2005"],
-        true,
-    )?;
-    check_kept(
-        &rt,
-        rt.alloc(),
-        &["filter", "--bbox", "1001.000000000000000001,2001,1005,2005"],
-        false,
-    )
-}
-
-/// A building with geometries of two LoDs, and a road with one of a third.
-const SEVERAL: &[u8] =
-    b"{\"type\":\"CityJSONFeature\",\"id\":\"b1\",\"CityObjects\":{\"b1\":{\"type\":\"Building\",\"geometry\":[{\"type\":\"MultiPoint\",\"lod\":\"1\",\"boundaries\":[0]},{\"type\":\"MultiPoint\",\"lod\":\"1.2\",\"boundaries\":[1]}]},\"r1\":{\"type\":\"Road\",\"geometry\":[{\"type\":\"MultiPoint\",\"lod\":\"2.2\",\"boundaries\":[0]}]}},\"vertices\":[[0,0,0],[1000,1000,0]]}";
-
-/// Does the same as for the usual feature.
-fn check_several(
-    rt: &impl Abort,
-    alloc: Global,
-    arguments: &[&str],
-    is_kept: bool,
-) -> Result<(), Fail> {
-    let header = joined(alloc, &[HEADER, b"\n"])?;
-    let input = joined(alloc, &[HEADER, b"\n", SEVERAL, b"\n"])?;
-    let out = if is_kept { &input } else { &header };
-    check_command(rt, alloc, arguments, &input, 0, out, b"")
-}
-
-#[test]
-fn a_query_that_one_of_several_meets(rt: HostRuntime) -> Result<(), Fail> {
-    check_several(&rt, rt.alloc(), &["filter", "--type", "Road"], true)?;
-    check_several(&rt, rt.alloc(), &["filter", "--type", "Tunnel,Road"], true)?;
-    check_several(&rt, rt.alloc(), &["filter", "--type", "Tunnel"], false)?;
-    check_several(&rt, rt.alloc(), &["filter", "--lod", "1.2"], true)?;
-    check_several(&rt, rt.alloc(), &["filter", "--lod", "3,2.2"], true)?;
-    check_several(&rt, rt.alloc(), &["filter", "--lod", "2,3"], false)?;
-    check_several(&rt, rt.alloc(), &["filter", "--id", "r1"], false)?;
-    check_several(
-        &rt,
-        rt.alloc(),
-        &["filter", "--id", "r1,b1", "--lod=1"],
-        true,
-    )
-}
-
-#[test]
-fn a_query_that_cannot_be_asked(rt: HostRuntime) -> Result<(), Fail> {
-    let unknown = b"unknown object type\n";
-    check_told(&rt, rt.alloc(), &["filter", "--type", "+Shed"], 2, unknown)?;
-    check_told(
-        &rt,
-        rt.alloc(),
-        &["filter", "--type", "Building,"],
-        2,
-        unknown,
-    )?;
-    check_told(
-        &rt,
-        rt.alloc(),
-        &["filter", "--bbox", "1", "--type", "Shed"],
-        2,
-        unknown,
-    )?;
-    check_told(
-        &rt,
-        rt.alloc(),
-        &["filter", "--id", "b1", "--bbox", "1"],
-        2,
-        b"bad box\n",
-    )?;
-    check_told(
-        &rt,
-        rt.alloc(),
-        &["filter", "--bbox", "1e18,0,2e18,1"],
-        2,
-        b"box number out of range\n",
-    )?;
-    check_told(
-        &rt,
-        rt.alloc(),
-        &["filter", "--bbox", "3,0,1,1"],
-        2,
-        b"empty box\n",
-    )
 }
 
 /// Checks that nothing is read or written, that the status is 2, and that standard error begins

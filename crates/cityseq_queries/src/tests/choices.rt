@@ -1,26 +1,9 @@
 //! Rows of the program with `--tree` and `--exclude`.
-use super::calls::check_written;
-use cityseq_samples::commanded;
-use cj_stream_samples::{FEATURE, HEADER, SlowReader, joined};
+use super::calls::check_choice;
+use cj_stream_samples::{FEATURE, HEADER, joined};
 use std::alloc::Global;
 use std::process::Abort;
 use std::test::Fail;
-
-/// Runs these words over a header and a feature, and compares the output and the status.
-fn check_choice(
-    rt: &impl Abort,
-    alloc: Global,
-    arguments: &[&str],
-    feature: &[u8],
-    status: u8,
-    out: &[u8],
-    err: &[u8],
-) -> Result<(), Fail> {
-    let input = joined(alloc, &[HEADER, b"\n", feature, b"\n"])?;
-    let written = commanded(alloc, arguments, &mut SlowReader::new(&input, 100))?;
-    check_written(rt, &written, status, out, err);
-    Ok(())
-}
 
 // ---- trees
 
