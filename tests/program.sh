@@ -822,6 +822,14 @@ row_each_edit_can_be_applied() {
     { cat "$scratch/written"; false; }
 }
 
+# ---- columns
+
+# Imports are on one line, as `rt check --fix-imports` writes them. So are texts of streams.
+row_definitions_and_proofs_have_at_most_120_columns() {
+  ! LC_ALL=C.UTF-8 grep -rnE --include='*.antt' --exclude-dir=out '^.{121,}$' crates |
+    grep -vE ':(pub )?use |codes "'
+}
+
 # ---- what the documents name
 
 row_the_documents_name_what_is_there() {

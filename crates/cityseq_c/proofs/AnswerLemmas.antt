@@ -45,20 +45,25 @@ reason-known BadInstance = refl
 reason-known TransformNotFixed = refl
 reason-known NotReached = refl
 
-end-told : (e : End) → IsJudged e → (a : Answer) → a.status ≡ status_of e → a.code ≡ code_at e → a.line ≡ line_at e → a.place ≡ place_at e → ended_by a ≡ Some e
+end-told : (e : End) → IsJudged e → (a : Answer) → a.status ≡ status_of e → a.code ≡ code_at e → a.line ≡ line_at e
+    → a.place ≡ place_at e → ended_by a ≡ Some e
 end-told Complete judged a status code line place = rw status refl
-end-told (Refused number byte reason) judged a status code line place = rw (status, code, line, place, reason-known reason) refl
+end-told (Refused number byte reason) judged a status code line place =
+    rw (status, code, line, place, reason-known reason) refl
 end-told ReadFault judged a status code line place = absurd judged
 end-told ReadLimit judged a status code line place = absurd judged
 end-told WriteFault judged a status code line place = rw status refl
 end-told Memory judged a status code line place = absurd judged
 
 -- an answer of a text tells its end, and its outcome
-pub ended-of : {rules : Rules} {text : List ℕ} {a : Answer} → (x : IsAnswerOf rules text a) → ended_by a ≡ Some x.outcome.ended
+pub ended-of : {rules : Rules} {text : List ℕ} {a : Answer} → (x : IsAnswerOf rules text a)
+    → ended_by a ≡ Some x.outcome.ended
 ended-of {a = a} x =
-    end-told x.outcome.ended x.judged a (ap (λ z. z.status) x.told) (ap (λ z. z.code) x.told) (ap (λ z. z.line) x.told) (ap (λ z. z.place) x.told)
+    end-told x.outcome.ended x.judged a (ap (λ z. z.status) x.told) (ap (λ z. z.code) x.told) (ap (λ z. z.line) x.told)
+        (ap (λ z. z.place) x.told)
 
-pub outcome-of : {rules : Rules} {text : List ℕ} {a : Answer} → (x : IsAnswerOf rules text a) → (e : End) → e ≡ x.outcome.ended → outcome_by a e ≡ x.outcome
+pub outcome-of : {rules : Rules} {text : List ℕ} {a : Answer} → (x : IsAnswerOf rules text a) → (e : End)
+    → e ≡ x.outcome.ended → outcome_by a e ≡ x.outcome
 outcome-of x e is = ap (λ z. outcome_by z e) x.told ∙ ap (λ z. record x.outcome { ended = z }) is
 
 pub same-end : (e f : End) (o : Option End) → o ≡ Some e → o ≡ Some f → e ≡ f
@@ -68,13 +73,15 @@ complete-told : (a : Answer) → a.status ≡ 0 → ended_by a ≡ Some Complete
 complete-told a zero = rw zero refl
 
 -- an answer of a text whose status is 0 is complete, and no other one is
-pub complete-of : {rules : Rules} {text : List ℕ} {a : Answer} → (x : IsAnswerOf rules text a) → a.status ≡ 0 → Complete ≡ x.outcome.ended
+pub complete-of : {rules : Rules} {text : List ℕ} {a : Answer} → (x : IsAnswerOf rules text a) → a.status ≡ 0
+    → Complete ≡ x.outcome.ended
 complete-of {a = a} x zero = same (sym (complete-told a zero) ∙ ended-of x)
   where
     same : {e f : End} → ◌≡◌ {A = Option End} (Some e) (Some f) → e ≡ f
     same h = cc
 
-pub not-complete : {rules : Rules} {text : List ℕ} {a : Answer} → (x : IsAnswerOf rules text a) → ¬ (a.status ≡ 0) → ¬ (x.outcome.ended ≡ Complete)
+pub not-complete : {rules : Rules} {text : List ℕ} {a : Answer} → (x : IsAnswerOf rules text a) → ¬ (a.status ≡ 0)
+    → ¬ (x.outcome.ended ≡ Complete)
 not-complete x other is = other (ap (λ z. z.status) x.told ∙ ap status_of is)
 
 pub judged-unread : (e : End) → IsJudged e → IsUnread e

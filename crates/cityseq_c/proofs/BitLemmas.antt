@@ -29,7 +29,8 @@ bits-same p q zero h = refl
 bits-same p q (suc n) h = rw (h n (omega arith), bits-same p q n (λ k small. h k (omega arith))) refl
 
 -- one more digit
-pub bits-step : (p : ℕ → Bool) (index bit old new : ℕ) (b : Bool) → p index ≡ b → bit ≡ 2 ^ index → old ≡ bits p index → old < 2 ^ index → new ≡ cond b (old + bit) old
+pub bits-step : (p : ℕ → Bool) (index bit old new : ℕ) (b : Bool) → p index ≡ b → bit ≡ 2 ^ index → old ≡ bits p index
+    → old < 2 ^ index → new ≡ cond b (old + bit) old
     → (bit * 2 ≡ 2 ^ (index + 1)) × (new ≡ bits p (index + 1)) × (new < 2 ^ (index + 1))
 bits-step p index bit old new true is here before small now = (
   omega (arith, here, pow_more 2 index),
@@ -50,10 +51,12 @@ some-same a (suc b) e =
     left ∙ sym right
 
 -- counts that rose from nothing tell which numbers are among some
-pub bits-among : (size : ℕ) (old ns counts : List ℕ) → ((n : ℕ) → n < size → get_or old n 0 ≡ 0) → RisesBy size old ns counts
+pub bits-among : (size : ℕ) (old ns counts : List ℕ) → ((n : ℕ) → n < size → get_or old n 0 ≡ 0)
+    → RisesBy size old ns counts
     → bits (λ n. nat_lt 0 (get_or counts n 0)) size ≡ bits (is_among ns) size
 bits-among size old ns counts none rises =
-    bits-same _ _ size (λ n small. some-same (get_or counts n 0) (how_often n ns) (omega (arith, rises n small, none n small)))
+    bits-same _ _ size (λ n small.
+        some-same (get_or counts n 0) (how_often n ns) (omega (arith, rises n small, none n small)))
 
 -- ---- the digits of such a number
 
@@ -62,7 +65,8 @@ digit b = cond b 1 0
 
 -- one more digit above those of a number
 digit-above : (a n : ℕ) (b : Bool) → a < 2 ^ n
-    → (a + cond b (2 ^ n) 0 < 2 ^ (n + 1)) × (bit_at (a + cond b (2 ^ n) 0) n ≡ digit b) × ((i : ℕ) → i < n → bit_at (a + cond b (2 ^ n) 0) i ≡ bit_at a i)
+    → (a + cond b (2 ^ n) 0 < 2 ^ (n + 1)) × (bit_at (a + cond b (2 ^ n) 0) n ≡ digit b)
+    × ((i : ℕ) → i < n → bit_at (a + cond b (2 ^ n) 0) i ≡ bit_at a i)
 digit-above a n true small =
     let e : a + 2 ^ n ≡ 1 * 2 ^ n + a = omega arith in
     let none : n - n ≡ 0 = omega arith in (
@@ -89,8 +93,10 @@ digits-more p n a h =
     )
   where
     go : (i : ℕ) → i < n + 1 → (b : Bool) → nat_eq i n ≡ b → bit_at (a + cond (p n) (2 ^ n) 0) n ≡ digit (p n)
-        → ((k : ℕ) → k < n → bit_at (a + cond (p n) (2 ^ n) 0) k ≡ bit_at a k) → bit_at (a + cond (p n) (2 ^ n) 0) i ≡ digit (p i)
-    go i low true e here below = subst (λ (k : ℕ). bit_at (a + cond (p n) (2 ^ n) 0) k ≡ digit (p k)) (sym (eqb-true i n e)) here
+        → ((k : ℕ) → k < n → bit_at (a + cond (p n) (2 ^ n) 0) k ≡ bit_at a k)
+        → bit_at (a + cond (p n) (2 ^ n) 0) i ≡ digit (p i)
+    go i low true e here below =
+        subst (λ (k : ℕ). bit_at (a + cond (p n) (2 ^ n) 0) k ≡ digit (p k)) (sym (eqb-true i n e)) here
     go i low false e here below =
         let other = eqb-false i n e in
         let less : i < n = omega (arith, low, other) in
@@ -98,7 +104,9 @@ digits-more p n a h =
 
 pub bits-digits : (p : ℕ → Bool) (size : ℕ) → HasDigits p size (bits p size)
 bits-digits p zero = (rw (bits-none p) (omega arith), λ i low. absurd (omega (arith, low)))
-bits-digits p (suc n) = subst (λ (k : ℕ). HasDigits p k (bits p k)) (add-one n) (rw (bits-more p n) (digits-more p n (bits p n) (bits-digits p n)))
+bits-digits p (suc n) =
+    subst (λ (k : ℕ). HasDigits p k (bits p k)) (add-one n)
+        (rw (bits-more p n) (digits-more p n (bits p n) (bits-digits p n)))
 
 -- ---- marks
 
@@ -122,33 +130,42 @@ one-among : (m : ℕ) → nat_lt 0 (suc m) ≡ true
 one-among m = grind (arith, nat_tests)
 
 -- the digit of a number is set, and the others stay
-set-digit : (k marks next n : ℕ) (left : List ℕ) (total : ℕ) (b : Bool) → k < 64 → next ≡ bit_or marks (1 * 2 ^ k % 2 ^ 64) → nat_eq n k ≡ b
-    → max (bit_at marks n) (digit (nat_lt 0 (length (cond b (k ∷ filter (nat_eq n) left) (filter (nat_eq n) left))))) ≡ total
+set-digit : (k marks next n : ℕ) (left : List ℕ) (total : ℕ) (b : Bool) → k < 64
+    → next ≡ bit_or marks (1 * 2 ^ k % 2 ^ 64) → nat_eq n k ≡ b
+    → max (bit_at marks n) (digit (nat_lt 0 (length (cond b (k ∷ filter (nat_eq n) left) (filter (nat_eq n) left)))))
+    ≡ total
     → max (bit_at next n) (digit (is_among left n)) ≡ total
 set-digit k marks next n left total true inside is e h =
     let here : bit_at (bit_or marks (1 * 2 ^ k % 2 ^ 64)) n ≡ 1 =
-    subst (λ (j : ℕ). bit_at (bit_or marks (1 * 2 ^ k % 2 ^ 64)) j ≡ 1) (sym (eqb-true n k e)) (bit_at_set_same w64 marks k inside) in
+    subst (λ (j : ℕ). bit_at (bit_or marks (1 * 2 ^ k % 2 ^ 64)) j ≡ 1) (sym (eqb-true n k e))
+        (bit_at_set_same w64 marks k inside) in
     let set : bit_at next n ≡ 1 = ap (λ m. bit_at m n) is ∙ here in
-    let one : digit (nat_lt 0 (length (k ∷ filter (nat_eq n) left))) ≡ 1 = ap digit (one-among (length (filter (nat_eq n) left))) in
+    let one : digit (nat_lt 0 (length (k ∷ filter (nat_eq n) left))) ≡ 1 =
+        ap digit (one-among (length (filter (nat_eq n) left))) in
     omega (arith, set, one, h, bit_at-lt marks n, digit-small (is_among left n))
 set-digit k marks next n left total false inside is e h =
-    let stays : bit_at next n ≡ bit_at marks n = ap (λ m. bit_at m n) is ∙ bit_at_set_other w64 marks k inside n (eqb-false n k e) in
+    let stays : bit_at next n ≡ bit_at marks n = ap (λ m. bit_at m n) is
+        ∙ bit_at_set_other w64 marks k inside n (eqb-false n k e) in
     omega (arith, stays, h)
 
-pub Marking-step : (size : ℕ) (all : List ℕ) (marks k next : ℕ) (whole left : List ℕ) → k < size → size ≤ 64 → whole ≡ k ∷ left → next ≡ bit_or marks (1 * 2 ^ k % 2 ^ 64)
+pub Marking-step : (size : ℕ) (all : List ℕ) (marks k next : ℕ) (whole left : List ℕ) → k < size → size ≤ 64
+    → whole ≡ k ∷ left → next ≡ bit_or marks (1 * 2 ^ k % 2 ^ 64)
     → Marking size all marks whole → Marking size all next left
 Marking-step size all marks k next whole left inside few first is h =
     let within : k < 64 = omega (arith, inside, few) in
     let same : 1 * 2 ^ k ≡ 2 ^ k = omega arith in
-    let power : 1 * 2 ^ k % 2 ^ 64 < 2 ^ size = omega (arith, same, mod-le (1 * 2 ^ k) (2 ^ 64), pow-lt {i = k} {j = size} inside) in
+    let power : 1 * 2 ^ k % 2 ^ 64 < 2 ^ size =
+        omega (arith, same, mod-le (1 * 2 ^ k) (2 ^ 64), pow-lt {i = k} {j = size} inside) in
     record {
       small = subst (λ (m : ℕ). m < 2 ^ size) (sym is) (or_lt size marks (1 * 2 ^ k % 2 ^ 64) h.small power);
       set = λ n. set-digit k marks next n left _ (nat_eq n k) within is refl
-          (subst (λ (ns : List ℕ). max (bit_at marks n) (digit (is_among ns n)) ≡ digit (is_among all n)) first (h.set n));
+          (subst (λ (ns : List ℕ). max (bit_at marks n) (digit (is_among ns n)) ≡ digit (is_among all n)) first
+              (h.set n));
     }
 
 -- at the end none is left
 pub Marking-end : (size : ℕ) (all : List ℕ) (marks : ℕ) → Marking size all marks [] → marks ≡ bits (is_among all) size
 Marking-end size all marks h =
     let d = bits-digits (is_among all) size in
-    same_from_bits_below size marks (bits (is_among all) size) h.small d.0 (λ i low. let e = h.set i in omega (arith, e) ∙ sym (d.1 i low))
+    same_from_bits_below size marks (bits (is_among all) size) h.small d.0
+        (λ i low. let e = h.set i in omega (arith, e) ∙ sym (d.1 i low))

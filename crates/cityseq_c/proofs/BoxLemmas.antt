@@ -10,8 +10,10 @@ module _ (r : Result (Unit {0}) QueryFault) (old new : Criteria) where
   abbrev Sets : Result Box QueryFault → Type 0
   Sets box = MatchResult box (λ box. (r ≡ Ok tt) × (new ≡ with_box box old)) (λ fault. (r ≡ Err fault) × (new ≡ old))
 
-  pub box-set : (v : Unit {0}) (box : Result Box QueryFault) → Sets box → r ≡ Ok v → (edges_by box ≡ Ok new.box) × (new ≡ record old { box = new.box })
-  box-set v (Ok box) h ok = (ap (λ a. Ok a.box) (sym h.1), h.1 ∙ ap (λ box. record old { box = box }) (sym (ap (λ a. a.box) h.1)))
+  pub box-set : (v : Unit {0}) (box : Result Box QueryFault) → Sets box → r ≡ Ok v → (edges_by box ≡ Ok new.box)
+      × (new ≡ record old { box = new.box })
+  box-set v (Ok box) h ok =
+      (ap (λ a. Ok a.box) (sym h.1), h.1 ∙ ap (λ box. record old { box = box }) (sym (ap (λ a. a.box) h.1)))
   box-set v (Err fault) h ok = absurd (cc (h.0, ok))
 
   pub box-declined : (fault : QueryFault) (box : Result Box QueryFault) → Sets box → r ≡ Err fault → box ≡ Err fault

@@ -58,7 +58,8 @@ module _ {S : Type 0} (law : SinkLaw S) (r : Request) (header part : List ℕ) (
       → OnErr went ((t ≡ s) × (new ≡ old))
       → IsUnjudged answer → (answer ≡ not_judged answer.status answer.code) × (new ≡ old) × (t ≡ s)
   unjudged (Ok o) answer written is ok unread which =
-      absurd (status-judged o.ended ok.2.tells.judged (let same : answer.status ≡ status_of o.ended = ap (λ a. a.status) is in rw same at which))
+      absurd (status-judged o.ended ok.2.tells.judged
+          (let same : answer.status ≡ status_of o.ended = ap (λ a. a.status) is in rw same at which))
   unjudged (Err (Fault fault)) answer written is ok unread which = (rw is refl, unread.1, unread.0)
   unjudged (Err Memory) answer written is ok unread which = (rw is refl, unread.1, unread.0)
 
@@ -72,20 +73,23 @@ unknown-err Known (Ok o) other = absurd (cc other)
 unknown-err Known (Err why) other = tt
 
 -- an answer tells how many bytes were written
-told-written : (went : Result Outcome NotJudged) (answer : Answer) (written : ℕ) → answer ≡ answer_to went written → answer ≡ answer_to went answer.written
+told-written : (went : Result Outcome NotJudged) (answer : Answer) (written : ℕ) → answer ≡ answer_to went written
+    → answer ≡ answer_to went answer.written
 told-written (Ok o) answer written is = is ∙ ap (λ n. answer_to (Ok o) n) (sym (ap (λ a. a.written) is))
 told-written (Err (Fault fault)) answer written is = is
 told-written (Err Memory) answer written is = is
 
 -- what else comes of a call that was judged counts for what it tells
-goes-told : (r : Request) (header part : List ℕ) (old new : List Told) (out : List ℕ) (written : ℕ) (answer : Answer) (went : Result Outcome NotJudged) → answer ≡ answer_to went written
+goes-told : (r : Request) (header part : List ℕ) (old new : List Told) (out : List ℕ) (written : ℕ) (answer : Answer)
+    (went : Result Outcome NotJudged) → answer ≡ answer_to went written
     → Goes (call r header part old new) (λ rules o. Copied rules (header ++ part) out written o) went
     → Goes (call r header part old new) (λ rules o. Copied rules (header ++ part) out answer.written o) went
 goes-told r header part old new out written answer (Ok o) is h =
     (h.0, h.1, h.2, subst (λ n. Copied h.0 (header ++ part) out n o) (sym (ap (λ a. a.written) is)) h.3)
 goes-told r header part old new out written answer (Err why) is h = h
 
-pub filters : (r : Request) (header part : List ℕ) (old new : List Told) (out : List ℕ) (written : ℕ) (answer : Answer) (went : Result Outcome NotJudged) → answer ≡ answer_to went written
+pub filters : (r : Request) (header part : List ℕ) (old new : List Told) (out : List ℕ) (written : ℕ) (answer : Answer)
+    (went : Result Outcome NotJudged) → answer ≡ answer_to went written
     → Goes (call r header part old new) (λ rules o. Copied rules (header ++ part) out written o) went
     → Filters (call r header part old new) out answer
 filters r header part old new out written answer went is h = record {

@@ -6,13 +6,15 @@ use Rattle.std.proofs.lemmas.List.Sums.{sum_by-cons}
 use Rattle.cj_stream.specs.Tallied.{capped, class_by, how_often}
 
 -- the sum of counts that were capped
-pub capped-sum : (xs ys : List ℕ) → length xs ≡ length ys → ((n : ℕ) → n < length ys → get_or xs n 0 ≡ capped (get_or ys n 0)) → capped (sum xs) ≡ capped (sum ys)
+pub capped-sum : (xs ys : List ℕ) → length xs ≡ length ys
+    → ((n : ℕ) → n < length ys → get_or xs n 0 ≡ capped (get_or ys n 0)) → capped (sum xs) ≡ capped (sum ys)
 capped-sum [] [] same each = refl
 capped-sum [] (y ∷ ys) same each = absurd (omega (arith, same))
 capped-sum (x ∷ xs) [] same each = absurd (omega (arith, same))
 capped-sum (x ∷ xs) (y ∷ ys) same each =
     let first : x ≡ capped y = each 0 (omega arith) in
-    let rest : capped (sum xs) ≡ capped (sum ys) = capped-sum xs ys (omega (arith, same)) (λ n low. each (suc n) (omega (arith, low))) in
+    let rest : capped (sum xs) ≡ capped (sum ys) =
+        capped-sum xs ys (omega (arith, same)) (λ n low. each (suc n) (omega (arith, low))) in
     let left : sum (x ∷ xs) ≡ x + sum xs = sum_by-cons (λ n. n) x xs in
     let right : sum (y ∷ ys) ≡ y + sum ys = sum_by-cons (λ n. n) y ys in
     omega (arith, first, rest, left, right)
@@ -40,7 +42,8 @@ one-more (suc (suc (suc (suc (suc zero))))) ns total low h = omega (arith, h)
 one-more (suc (suc (suc (suc (suc (suc n)))))) ns total low h = absurd (omega (arith, low))
 
 -- numbers below 6, of which each is of one thing, are as many as the things
-pub all-counted : {A : Type 0} (f : A → ℕ) → ((x : A) → f x < 6) → (xs : List A) → sum (counts_of (map f xs)) ≡ length xs
+pub all-counted : {A : Type 0} (f : A → ℕ) → ((x : A) → f x < 6) → (xs : List A)
+    → sum (counts_of (map f xs)) ≡ length xs
 all-counted f small [] = refl
 all-counted f small (x ∷ xs) = one-more (f x) (map f xs) (length xs) (small x) (all-counted f small xs)
 

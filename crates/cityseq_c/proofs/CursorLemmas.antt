@@ -11,17 +11,20 @@ use Rattle.cityseq_c.specs.Features.{Passes, Place, past_from}
 abbrev pub place : ℕ → ℕ → List Line → Place
 place line begin left = record { line = line; begin = begin; left = left }
 
-first-ended : (s : List ℕ) (k : ℕ) → IsFirstByte (is_byte 10) s (Some k) → lines s ≡ ended_line (take k s) ∷ lines (drop (k + 1) s)
+first-ended : (s : List ℕ) (k : ℕ) → IsFirstByte (is_byte 10) s (Some k)
+    → lines s ≡ ended_line (take k s) ∷ lines (drop (k + 1) s)
 first-ended s k h = ap (λ z. lines z) (lf_found s k h) ∙ lines-headed (take k s) (drop (k + 1) s) (NoLf-before s k h)
 
-first-begun : (s : List ℕ) → IsFirstByte (is_byte 10) s None → 0 < length s → lines s ≡ record { content = s; lf = false } ∷ []
+first-begun : (s : List ℕ) → IsFirstByte (is_byte 10) s None → 0 < length s
+    → lines s ≡ record { content = s; lf = false } ∷ []
 first-begun [] h some = absurd (omega arith)
 first-begun (b ∷ s) h some =
     let free = NoLf-nowhere (b ∷ s) h in
     rw (closed-none (b ∷ s) free, begun-none (b ∷ s) free) refl
 
 -- a line is passed, where the bytes begin with it
-passes : (line at n : ℕ) (s : List ℕ) (l : Line) (rest : List Line) → lines s ≡ l ∷ rest → length (raw l) ≡ n → Passes (place line at (lines s)) l.content (place (line + 1) (at + n) rest)
+passes : (line at n : ℕ) (s : List ℕ) (l : Line) (rest : List Line) → lines s ≡ l ∷ rest → length (raw l) ≡ n
+    → Passes (place line at (lines s)) l.content (place (line + 1) (at + n) rest)
 passes line at n s l rest left size = record {
   lf = l.lf;
   left = left;
@@ -32,14 +35,22 @@ module _ (line at : ℕ) (part s : List ℕ) (same : s ≡ drop at part) where
   after : (n : ℕ) → drop n s ≡ drop (at + n) part
   after n = ap (λ z. drop n z) same ∙ drop-drop n at part
 
-  pub passes-ended : (k : ℕ) → IsFirstByte (is_byte 10) s (Some k) → Passes (place line at (lines (drop at part))) (take k s) (place (line + 1) (at + (k + 1)) (lines (drop (at + (k + 1)) part)))
+  pub passes-ended : (k : ℕ) → IsFirstByte (is_byte 10) s (Some k)
+      → Passes (place line at (lines (drop at part))) (take k s)
+      (place (line + 1) (at + (k + 1)) (lines (drop (at + (k + 1)) part)))
   passes-ended k h =
-      let size : length (raw (ended_line (take k s))) ≡ k + 1 = omega (arith, length-append (take k s) (10 ∷ []), length-take k s, h.0.high) in
-      let left : lines s ≡ ended_line (take k s) ∷ lines (drop (at + (k + 1)) part) = first-ended s k h ∙ ap (λ z. ended_line (take k s) ∷ lines z) (after (k + 1)) in
+      let size : length (raw (ended_line (take k s))) ≡ k + 1 =
+          omega (arith, length-append (take k s) (10 ∷ []), length-take k s, h.0.high) in
+      let left : lines s ≡ ended_line (take k s) ∷ lines (drop (at + (k + 1)) part) = first-ended s k h
+          ∙ ap (λ z. ended_line (take k s) ∷ lines z) (after (k + 1)) in
       rw (← same) (passes line at (k + 1) s (ended_line (take k s)) (lines (drop (at + (k + 1)) part)) left size)
 
-  pub passes-begun : IsFirstByte (is_byte 10) s None → 0 < length s → Passes (place line at (lines (drop at part))) s (place (line + 1) (at + length s) (lines (drop (at + length s) part)))
+  pub passes-begun : IsFirstByte (is_byte 10) s None → 0 < length s
+      → Passes (place line at (lines (drop at part))) s
+      (place (line + 1) (at + length s) (lines (drop (at + length s) part)))
   passes-begun h some =
       let none : drop (at + length s) part ≡ [] = sym (after (length s)) ∙ drop_all (length s) s (omega arith) in
-      let left : lines s ≡ record { content = s; lf = false } ∷ lines (drop (at + length s) part) = first-begun s h some ∙ ap (λ z. record { content = s; lf = false } ∷ lines z) (sym none) in
-      rw (← same) (passes line at (length s) s (record { content = s; lf = false }) (lines (drop (at + length s) part)) left refl)
+      let left : lines s ≡ record { content = s; lf = false } ∷ lines (drop (at + length s) part) = first-begun s h some
+          ∙ ap (λ z. record { content = s; lf = false } ∷ lines z) (sym none) in
+      rw (← same) (passes line at (length s) s (record { content = s; lf = false }) (lines (drop (at + length s) part))
+          left refl)

@@ -19,6 +19,8 @@ pub items-some : (s : List ℕ) → nat_eq (length s) 0 ≡ false → items s �
 items-some [] some = absurd (cc some)
 items-some (b ∷ s) some = refl
 
-pub items-split : (text : List ℕ) {s t : Split ℕ} → nat_eq (length text) 0 ≡ false → split_text s ≡ text → split_has_more s ≡ true → split_pattern s ≡ 10 → t ≡ s
+pub items-split : (text : List ℕ) {s t : Split ℕ} → nat_eq (length text) 0 ≡ false → split_text s ≡ text
+    → split_has_more s ≡ true → split_pattern s ≡ 10 → t ≡ s
     → YieldsList steps (λ x. x.now) t (items text)
-items-split text some is has_more lf same = rw (items-some text some) (YieldsList-at same (YieldsList-from_str_split 10 text (lit< tt) is has_more lf))
+items-split text some is has_more lf same =
+    rw (items-some text some) (YieldsList-at same (YieldsList-from_str_split 10 text (lit< tt) is has_more lf))

@@ -34,7 +34,8 @@ take-nothing (suc k) = refl
 
 -- all was given, or a header that LF ended, behind which the part comes
 abbrev IsGiven : List ℕ → List ℕ → List ℕ → Type 0
-IsGiven header part given = (given ≡ header ++ part) ⊎ ((h : List ℕ) × NoLf h × (given ≡ headed h []) × (header ++ part ≡ headed h part))
+IsGiven header part given = (given ≡ header ++ part)
+    ⊎ ((h : List ℕ) × NoLf h × (given ≡ headed h []) × (header ++ part ≡ headed h part))
 
 pub all-joined : (header part : List ℕ) → joined (header ∷ part ∷ []) ≡ header ++ part
 all-joined header part = ap (λ z. header ++ z) (append-nil part)
@@ -52,7 +53,8 @@ module _ (header part : List ℕ) (cut : AreCut header part) where
   given-taken (suc k) = inl (rw (add-one (suc k), take-nothing k) (all-joined header part))
 
   -- what holds of what was given holds of the text, if it goes on from a header to a part behind it
-  over-text : (P : List ℕ → Type 0) (k : ℕ) → ((h : List ℕ) → NoLf h → P (headed h []) → P (headed h part)) → P (joined (take (k + 1) (header ∷ part ∷ []))) → P (header ++ part)
+  over-text : (P : List ℕ → Type 0) (k : ℕ) → ((h : List ℕ) → NoLf h → P (headed h []) → P (headed h part))
+      → P (joined (take (k + 1) (header ∷ part ∷ []))) → P (header ++ part)
   over-text P k step x = go (given-taken k)
     where
       go : IsGiven header part (joined (take (k + 1) (header ∷ part ∷ []))) → P (header ++ part)
@@ -86,7 +88,8 @@ module _ (rules : Rules) (h part : List ℕ) (free : NoLf h) (n : ℕ) (few : n 
   first-same : take n (lines (headed h part)) ≡ take n (lines (headed h []))
   first-same =
       let short : n ≤ length (ended_line h ∷ []) = omega (arith, few, ap length front) in
-      ap (λ z. take n z) all ∙ (take-append-le n (ended_line h ∷ []) (lines part) short ∙ ap (λ z. take n z) (sym front))
+      ap (λ z. take n z) all ∙ (take-append-le n (ended_line h ∷ []) (lines part) short
+          ∙ ap (λ z. take n z) (sym front))
 
   counts-more : (f k : ℕ) → Counts rules (headed h []) n f k → Counts rules (headed h part) n f k
   counts-more f k x = record {
@@ -106,7 +109,8 @@ module _ (rules : Rules) (h part : List ℕ) (free : NoLf h) (n : ℕ) (few : n 
     faults-more s t Memory x = x
     faults-more s t WriteFault x = (
       x.0,
-      ap (λ z. slice_get z n) all ∙ next-same (ended_line h) x.0 (lines part) n (ap (λ z. slice_get z n) (sym front) ∙ x.1),
+      ap (λ z. slice_get z n) all
+          ∙ next-same (ended_line h) x.0 (lines part) n (ap (λ z. slice_get z n) (sym front) ∙ x.1),
       ap (λ z. is_kept (verdict rules z x.0.content)) first-same ∙ x.2,
       subst (λ z. law.leaves s (item_after rules z x.0) t) (sym first-same) x.3,
     )
@@ -121,7 +125,8 @@ module _ (rules : Rules) (h part : List ℕ) (free : NoLf h) (n : ℕ) (few : n 
       fault = faults-more x.middle t e x.fault;
     }
 
-bounded-more : (limits : LimitPair) (h part : List ℕ) (peaks : Peaks) → NoLf h → IsBounded limits (headed h []) peaks → IsBounded limits (headed h part) peaks
+bounded-more : (limits : LimitPair) (h part : List ℕ) (peaks : Peaks) → NoLf h → IsBounded limits (headed h []) peaks
+    → IsBounded limits (headed h part) peaks
 bounded-more limits h part peaks free x =
     let same = first-headed h [] free in
     let more = first-headed h part free in
@@ -141,7 +146,8 @@ module _ {S : Type 0} (law : SinkLaw S) (rules : Rules) (n f r : ℕ) (peaks : P
         bounded = bounded-more rules.limits h part peaks free x.bounded;
         counts = counts-more rules h part free n few f r x.counts;
         delivers = delivers-more rules h part free n few law s t e x.delivers;
-        noted = subst (λ z. Took NotesOne a z b) (ap (λ z. reported_from rules [] z) (sym (first-same rules h part free n few))) x.noted;
+        noted = subst (λ z. Took NotesOne a z b)
+            (ap (λ z. reported_from rules [] z) (sym (first-same rules h part free n few))) x.noted;
       }
 
   first-text : (header part : List ℕ) → AreCut header part → (k : ℕ)
@@ -173,7 +179,8 @@ module _ {S : Type 0} (law : SinkLaw S) (rules : Rules) (pieces : List (List ℕ
   put-all WriteFault h free = absurd free
   put-all Memory h free = absurd free
 
-ends-all : (rules : Rules) (text : List ℕ) (n : ℕ) (e : End) → IsJudged e → (IsUnhindered e → e ≡ ending rules text) → (IsUnhindered e → n ≡ length (good rules text)) → Ends rules text n (Unit {0}) e
+ends-all : (rules : Rules) (text : List ℕ) (n : ℕ) (e : End) → IsJudged e → (IsUnhindered e → e ≡ ending rules text)
+    → (IsUnhindered e → n ≡ length (good rules text)) → Ends rules text n (Unit {0}) e
 ends-all rules text n Complete judged ends count = (sym (ends tt), count tt, tt)
 ends-all rules text n (Refused line place reason) judged ends count = (sym (ends tt), count tt, inl tt)
 ends-all rules text n ReadFault judged ends count = absurd judged
@@ -191,7 +198,8 @@ module _ {S : Type 0} (law : SinkLaw S) (rules : Rules) (header part : List ℕ)
     (delivers : Delivers law (stretch rules (joined (take (k + 1) (header ∷ part ∷ []))) 0 o.lines) s t (Some o.ended))
     (notes : Notes NotesOne (stretch rules (joined (take (k + 1) (header ∷ part ∷ []))) 0 o.lines) a b)
     (good_reported : (r : List ℕ) (n : ℕ) → n ≡ length (good rules r) → reported_first rules n r ≡ reported rules r)
-    (over : noted_text a ≡ header ++ part) (none : count_of a ≡ 0) (loan : noted_room a ≡ old) (back : noted_loan b ≡ noted_loan a → new ≡ noted_room b) where
+    (over : noted_text a ≡ header ++ part) (none : count_of a ≡ 0) (loan : noted_room a ≡ old)
+        (back : noted_loan b ≡ noted_loan a → new ≡ noted_room b) where
   whole : joined (header ∷ part ∷ []) ≡ header ++ part
   whole = all-joined header part
 
@@ -216,7 +224,8 @@ module _ {S : Type 0} (law : SinkLaw S) (rules : Rules) (header part : List ℕ)
   judged =
       let first = all-held a b (reported_first rules o.lines (header ++ part)) none of_first.noted in
       let held : Holds (header ++ part) (reported_first rules o.lines (header ++ part)) old new =
-      subst (λ z. Holds z (reported_first rules o.lines (header ++ part)) old new) over (rw (back first.0, ← loan) first.1) in
+      subst (λ z. Holds z (reported_first rules o.lines (header ++ part)) old new) over
+          (rw (back first.0, ← loan) first.1) in
       record {
         tells = record {
           judged = judged-end;
@@ -228,7 +237,8 @@ module _ {S : Type 0} (law : SinkLaw S) (rules : Rules) (header part : List ℕ)
           };
           ends = ends;
           counts = counted;
-          reports = λ free. subst (λ z. Holds (header ++ part) z old new) (good_reported (header ++ part) o.lines (counted free).lines) held;
+          reports = λ free. subst (λ z. Holds (header ++ part) z old new)
+              (good_reported (header ++ part) o.lines (counted free).lines) held;
           first = held;
         };
         took = λ free. subst (λ z. Took law.takes s (kept rules z) t) whole

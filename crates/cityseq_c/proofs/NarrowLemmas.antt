@@ -52,16 +52,19 @@ raw-longer l = go l.lf
 short-raw : (m : ℕ) (ls : List Line) → length (flat_map raw ls) ≤ m → AreShort m ls
 short-raw m [] h = tt
 short-raw m (l ∷ ls) h =
-    let parts : length (flat_map raw (l ∷ ls)) ≡ length (raw l) + length (flat_map raw ls) = length-append (raw l) (flat_map raw ls) in
+    let parts : length (flat_map raw (l ∷ ls)) ≡ length (raw l) + length (flat_map raw ls) =
+        length-append (raw l) (flat_map raw ls) in
     (omega (arith, raw-longer l, parts, h), short-raw m ls (omega (arith, parts, h)))
 
 short-lines : (m : ℕ) (s : List ℕ) → length s ≤ m → AreShort m (lines s)
 short-lines m s h = short-raw m (lines s) (rw (lines-are_lines s).joined h)
 
 -- of a header and a part, cut behind the first line, none is longer than the longer one
-short-cut : (m : ℕ) (header part : List ℕ) → AreCut header part → length header ≤ m → length part ≤ m → AreShort m (lines (header ++ part))
+short-cut : (m : ℕ) (header part : List ℕ) → AreCut header part → length header ≤ m → length part ≤ m
+    → AreShort m (lines (header ++ part))
 short-cut m header part (inl cut) first later =
-    let all : lines (header ++ part) ≡ ended_line cut.0 ∷ lines part = rw cut.2 (ap lines (append_assoc cut.0 (10 ∷ []) part) ∙ lines-headed cut.0 part cut.1) in
+    let all : lines (header ++ part) ≡ ended_line cut.0 ∷ lines part =
+        rw cut.2 (ap lines (append_assoc cut.0 (10 ∷ []) part) ∙ lines-headed cut.0 part cut.1) in
     let size : length header ≡ length cut.0 + 1 = ap length cut.2 ∙ length-append cut.0 (10 ∷ []) in
     rw all (omega (arith, size, first), short-lines m part later)
 short-cut m header part (inr cut) first later = rw (cut.1, append-nil header) (short-lines m header first)
@@ -89,14 +92,17 @@ module _ (rules : Rules) (m : ℕ) (low : m ≤ rules.limits.line) where
   fits-high : (c : List ℕ) → length c ≤ m → ltb rules.limits.line (length c) ≡ false
   fits-high c short = grind (arith, nat_tests)
 
-  text-same : {c : List ℕ} {d : ℕ} (n : ℕ) (header : Tree) (j : Judgement c d) → text_verdict narrow n header j ≡ text_verdict rules n header j
+  text-same : {c : List ℕ} {d : ℕ} (n : ℕ) (header : Tree) (j : Judgement c d)
+      → text_verdict narrow n header j ≡ text_verdict rules n header j
   text-same n header (spelled t json shallow) = refl
   text-same n header (broken i at none) = refl
   text-same n header (sunk i at) = refl
 
-  at-same : (n : ℕ) (header : Tree) (c : List ℕ) → length c ≤ m → verdict_at narrow n header c ≡ verdict_at rules n header c
+  at-same : (n : ℕ) (header : Tree) (c : List ℕ) → length c ≤ m
+      → verdict_at narrow n header c ≡ verdict_at rules n header c
   unfolding verdict_at
-  at-same n header c short = rw (fits-low c short, fits-high c short, text-same n header (judgement c rules.limits.depth)) refl
+  at-same n header c short =
+      rw (fits-low c short, fits-high c short, text-same n header (judgement c rules.limits.depth)) refl
 
   verdict-same : (before : List Line) (c : List ℕ) → length c ≤ m → verdict narrow before c ≡ verdict rules before c
   verdict-same before c short = at-same (length before + 1) _ c short
@@ -130,7 +136,8 @@ module _ (rules : Rules) (m : ℕ) (low : m ≤ rules.limits.line) where
   kept-same before [] h = refl
   kept-same before (l ∷ ls) h = rw (verdict-same before l.content h.0, kept-same (before ++ l ∷ []) ls h.1) refl
 
-  reported-same : (before ls : List Line) → AreShort m ls → reported_from narrow before ls ≡ reported_from rules before ls
+  reported-same : (before ls : List Line) → AreShort m ls
+      → reported_from narrow before ls ≡ reported_from rules before ls
   reported-same before [] h = refl
   reported-same before (l ∷ ls) h = rw (verdict-same before l.content h.0, reported-same (before ++ l ∷ []) ls h.1) refl
 
@@ -143,7 +150,8 @@ module _ (rules : Rules) (m : ℕ) (low : m ≤ rules.limits.line) where
   short-good before [] h = tt
   short-good before (l ∷ ls) h = go _ (short-good (before ++ l ∷ []) ls h.1)
     where
-      go : (is : Bool) → AreShort m (good_from rules (before ++ l ∷ []) ls) → AreShort m (cond is [] (l ∷ good_from rules (before ++ l ∷ []) ls))
+      go : (is : Bool) → AreShort m (good_from rules (before ++ l ∷ []) ls)
+          → AreShort m (cond is [] (l ∷ good_from rules (before ++ l ∷ []) ls))
       go true rest = tt
       go false rest = (h.0, rest)
 
@@ -154,7 +162,8 @@ module _ (rules : Rules) (m : ℕ) (low : m ≤ rules.limits.line) where
   greatest-same f g same (l ∷ ls) h = rw (same l.content h.0, greatest-same f g same ls h.1) refl
 
   later-same : (f g : List ℕ → ℕ) → ((c : List ℕ) → length c ≤ m → f c ≡ g c) → (ls : List Line) → AreShort m ls
-      → greatest f (later_of (map (λ (l : Line). l.content) ls)) ≡ greatest g (later_of (map (λ (l : Line). l.content) ls))
+      → greatest f (later_of (map (λ (l : Line). l.content) ls))
+      ≡ greatest g (later_of (map (λ (l : Line). l.content) ls))
   later-same f g same [] h = refl
   later-same f g same (l ∷ ls) h = greatest-same f g same ls h.1
 
@@ -169,7 +178,8 @@ module _ (rules : Rules) (m : ℕ) (low : m ≤ rules.limits.line) where
   all-same f g same (l ∷ ls) h = rw (same l.content h.0, all-same f g same ls h.1) refl
 
   later-all : (f g : List ℕ → Bool) → ((c : List ℕ) → length c ≤ m → f c ≡ g c) → (ls : List Line) → AreShort m ls
-      → list_all f (later_of (map (λ (l : Line). l.content) ls)) ≡ list_all g (later_of (map (λ (l : Line). l.content) ls))
+      → list_all f (later_of (map (λ (l : Line). l.content) ls))
+      ≡ list_all g (later_of (map (λ (l : Line). l.content) ls))
   later-all f g same [] h = refl
   later-all f g same (l ∷ ls) h = all-same f g same ls h.1
 
@@ -251,7 +261,8 @@ module _ (rules : Rules) (m : ℕ) (low : m ≤ rules.limits.line) where
       faults-text n a b ReadLimit x = x
       faults-text n a b NoMemory x = x
       faults-text n a b WriteFault x =
-          (x.0, x.1, ap is_kept (sym (verdict-same (take n (lines s)) x.0.content (short-at m n x.0 (lines s) short x.1))) ∙ x.2, x.3)
+          (x.0, x.1, ap is_kept (sym
+                  (verdict-same (take n (lines s)) x.0.content (short-at m n x.0 (lines s) short x.1))) ∙ x.2, x.3)
 
       delivers-text : (from to : ℕ) (a b : S) (e : End) → Delivers law (stretch narrow s from to) a b (Some e)
           → Delivers law (stretch rules s from to) a b (Some e)
@@ -314,7 +325,8 @@ judged-as-asked law rules header part o a b old new cut x = go (cases_lt longest
 module _ {S : Type 0} (law : SinkLaw S) (r : Request) (header part : List ℕ) (a b : S) (old new : List Told)
     (fit : IsFit r header part) where
   -- so a call that judged by these answers by the rules of its request
-  pub asked-ok : (rules used : Rules) (went : Result Outcome NotJudged) → IsAsked r rules → used ≡ record rules { limits = needed_limits rules.limits header part }
+  pub asked-ok : (rules used : Rules) (went : Result Outcome NotJudged) → IsAsked r rules
+      → used ≡ record rules { limits = needed_limits rules.limits header part }
       → IfOk went (λ o. Judged law (stream_of used (header ++ part)) o (lent a old) (lent b new))
       → IfOk went (λ o. (x : Rules) × IsAsked r x × Judged law (stream_of x (header ++ part)) o
       (lent a old) (lent b new))
@@ -327,6 +339,7 @@ module _ {S : Type 0} (law : SinkLaw S) (r : Request) (header part : List ℕ) (
   asked-ok rules used (Err why) asked same judged = tt
 
   -- and it is declined for want of memory alone
-  pub declined-memory : (went : Result Outcome NotJudged) → IfErr went (λ why. why ≡ Memory) → IfErr went (DeclinesCall r header part)
+  pub declined-memory : (went : Result Outcome NotJudged) → IfErr went (λ why. why ≡ Memory)
+      → IfErr went (DeclinesCall r header part)
   declined-memory (Ok o) is = tt
   declined-memory (Err why) is = rw is fit

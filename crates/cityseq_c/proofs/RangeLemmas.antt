@@ -6,7 +6,8 @@ use Rattle.cj_stream.specs.TallySink.{no_tally}
 use Rattle.cityseq_c.specs.Tally.{range_of}
 use Rattle.cityseq_c.specs.declared.tally.Range.{Range}
 
-pub ranges-told : (rs : List (Option (ℤ × ℤ))) (a b c : Range) → a ≡ range_of (get_or rs 0 None) → b ≡ range_of (get_or rs 1 None) → c ≡ range_of (get_or rs 2 None)
+pub ranges-told : (rs : List (Option (ℤ × ℤ))) (a b c : Range) → a ≡ range_of (get_or rs 0 None)
+    → b ≡ range_of (get_or rs 1 None) → c ≡ range_of (get_or rs 2 None)
     → (axis : ℕ) → axis < 3 → get_or (a ∷ b ∷ c ∷ []) axis (range_of None) ≡ range_of (get_or rs axis None)
 ranges-told rs a b c p q r zero small = p
 ranges-told rs a b c p q r (suc zero) small = q

@@ -33,7 +33,8 @@ module _ (text : List ℕ) where
   }
 
   -- one more report that fits, and then others
-  one-fits : (c : ℕ) (l : List Told) (d : ℕ) (m : List Told) (r : Report) (rs : List Report) → c < length l → Stored (c + 1) (slice_set l c (told r)) d m rs → Stored c l d m (r ∷ rs)
+  one-fits : (c : ℕ) (l : List Told) (d : ℕ) (m : List Told) (r : Report) (rs : List Report) → c < length l
+      → Stored (c + 1) (slice_set l c (told r)) d m rs → Stored c l d m (r ∷ rs)
   one-fits c l d m r rs fits h =
       let size : length (slice_set l c (told r)) ≡ length l = length-set l c (told r) in
       let left : length l - c ≡ suc (length (slice_set l c (told r)) - (c + 1)) = omega (arith, fits, size) in
@@ -42,12 +43,15 @@ module _ (text : List ℕ) where
       record {
         size = h.size ∙ size;
         count = omega (arith, h.count, size);
-        front = h.front ∙ (ap (λ z. z ++ after) here ∙ (append_assoc (take c l) (told r ∷ []) after ∙ sym (ap (λ n. take c l ++ take n (told r ∷ map told rs)) left)));
+        front = h.front ∙ (ap (λ z. z ++ after) here
+            ∙ (append_assoc (take c l) (told r ∷ []) after
+                ∙ sym (ap (λ n. take c l ++ take n (told r ∷ map told rs)) left)));
         rest = h.rest ∙ drop-set-lt d l c (told r) (omega (arith, h.count, size, fits));
       }
 
   -- one more that does not fit
-  one-left : (c : ℕ) (l : List Told) (d : ℕ) (m : List Told) (r : Report) (rs : List Report) → c ≤ length l → length l ≤ c → Stored c l d m rs → Stored c l d m (r ∷ rs)
+  one-left : (c : ℕ) (l : List Told) (d : ℕ) (m : List Told) (r : Report) (rs : List Report) → c ≤ length l
+      → length l ≤ c → Stored c l d m rs → Stored c l d m (r ∷ rs)
   one-left c l d m r rs within full h =
       let none : length l - c ≡ 0 = omega (arith, full) in
       let front = rw none at h.front in
@@ -59,10 +63,13 @@ module _ (text : List ℕ) where
       }
 
   -- what one more report makes of a count and a list
-  after-one : (c : ℕ) (l : List Told) (d : ℕ) (m : List Told) (e : ℕ) (k : List Told) (r : Report) (rs : List Report) (fits : Bool) → ltb c (length l) ≡ fits → c ≤ length l
+  after-one : (c : ℕ) (l : List Told) (d : ℕ) (m : List Told) (e : ℕ) (k : List Told) (r : Report) (rs : List Report)
+      (fits : Bool) → ltb c (length l) ≡ fits → c ≤ length l
       → k ≡ cond fits (slice_set l c (told r)) l → e ≡ cond fits (c + 1) c → Stored e k d m rs → Stored c l d m (r ∷ rs)
-  after-one c l d m e k r rs true is within list count h = one-fits c l d m r rs (ltb-true c (length l) is) (rw (count, list) at h)
-  after-one c l d m e k r rs false is within list count h = one-left c l d m r rs within (ltb-false c (length l) is) (rw (count, list) at h)
+  after-one c l d m e k r rs true is within list count h =
+      one-fits c l d m r rs (ltb-true c (length l) is) (rw (count, list) at h)
+  after-one c l d m e k r rs false is within list count h =
+      one-left c l d m r rs within (ltb-false c (length l) is) (rw (count, list) at h)
 
   held : (l : List Told) (d : ℕ) (m : List Told) (rs : List Report) → Stored 0 l d m rs → Holds text rs l m
   held l d m rs h =
@@ -74,18 +81,22 @@ module _ (text : List ℕ) where
         rest = rw (← count) h.rest;
       }
 
-all-stored : (a b : Noted) (rs : List Report) → Took NotesOne a rs b → (noted_loan b ≡ noted_loan a) × Stored (noted_text a) (count_of a) (noted_room a) (count_of b) (noted_room b) rs
+all-stored : (a b : Noted) (rs : List Report) → Took NotesOne a rs b → (noted_loan b ≡ noted_loan a)
+    × Stored (noted_text a) (count_of a) (noted_room a) (count_of b) (noted_room b) rs
 all-stored a b [] h = rw h (refl, none-stored (noted_text a) (count_of a) (noted_room a) a.room)
 all-stored a b (r ∷ rs) h =
     let later = all-stored h.0 b rs h.2 in
     let same = subst (λ z. Stored z (count_of h.0) (noted_room h.0) (count_of b) (noted_room b) rs) h.1.text later.1 in
     let fits = ltb (count_of a) (length (noted_room a)) in (
       later.0 ∙ h.1.loan,
-      after-one (noted_text a) (count_of a) (noted_room a) (count_of b) (noted_room b) (count_of h.0) (noted_room h.0) r rs fits refl a.room h.1.reports h.1.count same,
+      after-one (noted_text a) (count_of a) (noted_room a) (count_of b) (noted_room b) (count_of h.0) (noted_room h.0) r
+          rs fits refl a.room h.1.reports h.1.count same,
     )
 
 -- room that had no report has them, and is still the one that was lent
-pub all-held : (a b : Noted) (rs : List Report) → count_of a ≡ 0 → Took NotesOne a rs b → (noted_loan b ≡ noted_loan a) × Holds (noted_text a) rs (noted_room a) (noted_room b)
+pub all-held : (a b : Noted) (rs : List Report) → count_of a ≡ 0 → Took NotesOne a rs b → (noted_loan b ≡ noted_loan a)
+    × Holds (noted_text a) rs (noted_room a) (noted_room b)
 all-held a b rs none h =
     let s = all-stored a b rs h in
-    (s.0, held (noted_text a) (noted_room a) (count_of b) (noted_room b) rs (subst (λ c. Stored (noted_text a) c (noted_room a) (count_of b) (noted_room b) rs) none s.1))
+    (s.0, held (noted_text a) (noted_room a) (count_of b) (noted_room b) rs
+        (subst (λ c. Stored (noted_text a) c (noted_room a) (count_of b) (noted_room b) rs) none s.1))

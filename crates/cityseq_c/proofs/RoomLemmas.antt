@@ -37,7 +37,8 @@ all-written a b (x ∷ xs) h =
       loan = later.loan ∙ first.loan;
       size = later.size ∙ first.size;
       count = omega (arith, later.count, first.count, length-append (raw_item x) (flat_map raw_item xs));
-      bytes = later.bytes ∙ (ap (λ z. z ++ flat_map raw_item xs) first.bytes ∙ append_assoc (in_room a) (raw_item x) (flat_map raw_item xs));
+      bytes = later.bytes ∙ (ap (λ z. z ++ flat_map raw_item xs) first.bytes
+          ∙ append_assoc (in_room a) (raw_item x) (flat_map raw_item xs));
     }
 
 -- what is in room that was empty

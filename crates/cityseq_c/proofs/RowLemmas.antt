@@ -23,26 +23,32 @@ use Rattle.cityseq_c.specs.Tally.{range_of}
 
 -- the lines of the features that are kept of some lines, and where these begin
 abbrev places_of : Rules → List Line → List (ℕ × ℕ)
-places_of rules ls = map (λ x. (x.line, x.begin)) (filter (λ x. is_feature x.item) (spots_from rules [] (good_from rules [] ls)))
+places_of rules ls =
+    map (λ x. (x.line, x.begin)) (filter (λ x. is_feature x.item) (spots_from rules [] (good_from rules [] ls)))
 
 -- a line without a feature, and then one
-module _ (rules : Rules) (h l f : Line) (first : verdict rules [] h.content ≡ Valid) (third : verdict rules (h ∷ l ∷ []) f.content ≡ Valid) where
-  after-blank : verdict rules (h ∷ []) l.content ≡ Blank → places_of rules (h ∷ l ∷ f ∷ []) ≡ (3, length (raw l ++ [])) ∷ []
+module _ (rules : Rules) (h l f : Line) (first : verdict rules [] h.content ≡ Valid)
+    (third : verdict rules (h ∷ l ∷ []) f.content ≡ Valid) where
+  after-blank : verdict rules (h ∷ []) l.content ≡ Blank
+      → places_of rules (h ∷ l ∷ f ∷ []) ≡ (3, length (raw l ++ [])) ∷ []
   unfolding verdict_at
   after-blank blank = rw (first, blank, third) (rw (first, blank, third) refl)
 
-  after-invalid : (place : ℕ) (reason : Reason) → rules.options.keep_going ≡ true → verdict rules (h ∷ []) l.content ≡ Refuse place reason
+  after-invalid : (place : ℕ) (reason : Reason) → rules.options.keep_going ≡ true
+      → verdict rules (h ∷ []) l.content ≡ Refuse place reason
       → places_of rules (h ∷ l ∷ f ∷ []) ≡ (3, length (raw l ++ [])) ∷ []
   unfolding verdict_at
   after-invalid place reason on bad = rw (first, bad, on, third) (rw (first, bad, third) refl)
 
 pub blank : BlankRow
-blank = after-blank wide_rules (ended_line small_header) (ended_line (13 ∷ [])) (open_line small_feature) (header_first _) feature_third (verdict-blank wide_rules 2 _ (13 ∷ []) (lit≤ tt) refl)
+blank = after-blank wide_rules (ended_line small_header) (ended_line (13 ∷ [])) (open_line small_feature)
+    (header_first _) feature_third (verdict-blank wide_rules 2 _ (13 ∷ []) (lit≤ tt) refl)
 
 pub between : BetweenRow
 between =
     after-invalid (going wide_rules) (ended_line small_header) (ended_line _) (open_line small_feature)
-    (same-verdict wide_rules 1 _ small_header ∙ header_first _) (same-verdict wide_rules 3 _ small_feature ∙ feature_third)
+    (same-verdict wide_rules 1 _ small_header ∙ header_first _)
+        (same-verdict wide_rules 3 _ small_feature ∙ feature_third)
     26 Syntax refl (same-verdict wide_rules 2 _ _ ∙ comma_second _)
 
 pub bit : BitRow
@@ -51,16 +57,19 @@ bit = (refl, refl)
 
 -- the record of the small feature, with its tree
 small : Spot
-small = record { line = 2; begin = 0; item = record { line = ended_line small_feature; tree = plain_feature.tree; header = Some plain_header } }
+small = record { line = 2; begin = 0;
+    item = record { line = ended_line small_feature; tree = plain_feature.tree; header = Some plain_header } }
 
-no-range : (axis : ℕ) → axis < 3 → get_or (range_of None ∷ range_of None ∷ range_of None ∷ []) axis (range_of None) ≡ range_of None
+no-range : (axis : ℕ) → axis < 3 → get_or (range_of None ∷ range_of None ∷ range_of None ∷ []) axis (range_of None)
+    ≡ range_of None
 no-range zero low = refl
 no-range (suc zero) low = refl
 no-range (suc (suc zero)) low = refl
 no-range (suc (suc (suc n))) low = absurd (omega (arith, low))
 
 shown : (t header : Tree) → t ≡ plain_feature.tree → header ≡ plain_header
-    → IsRecordOf (record { line = 2; begin = 0; item = record { line = ended_line small_feature; tree = t; header = Some header } }) small_record
+    → IsRecordOf (record { line = 2; begin = 0;
+            item = record { line = ended_line small_feature; tree = t; header = Some header } }) small_record
 unfolding text code_points_after first_code_point first_width chars object_types bits
 shown t header e f = rw (e, f) (record {
   line = refl;
@@ -75,9 +84,13 @@ shown t header e f = rw (e, f) (record {
 })
 
 other : (t header : Tree) → t ≡ plain_feature.tree
-    → ¬ IsRecordOf (record { line = 2; begin = 0; item = record { line = ended_line small_feature; tree = t; header = Some header } }) (record small_record { objects = 2 })
+    → ¬ IsRecordOf (record { line = 2; begin = 0;
+            item = record { line = ended_line small_feature; tree = t; header = Some header } })
+        (record small_record { objects = 2 })
 unfolding text code_points_after first_code_point first_width chars
 other t header e h = let two = h.objects in let wrong = rw e at two in absurd (omega (arith, wrong))
 
 pub record_of : RecordRow
-record_of = (shown (tree_of 64 small_feature) (tree_of 64 small_header) feature_tree header_tree, other (tree_of 64 small_feature) (tree_of 64 small_header) feature_tree)
+record_of =
+    (shown (tree_of 64 small_feature) (tree_of 64 small_header) feature_tree header_tree,
+        other (tree_of 64 small_feature) (tree_of 64 small_header) feature_tree)

@@ -35,12 +35,16 @@ is_feature_spot x = is_feature x.item
 
 module _ (rules : Rules) (h : Line) where
   -- behind the header, what is kept of a content does not hang on where it stands
-  kept-verdict : (bs ys ls : List Line) (x : Item) (xs : List Item) → kept_from rules (h ∷ ys) ls ≡ x ∷ xs → is_kept (verdict rules (h ∷ bs) x.line.content) ≡ true
+  kept-verdict : (bs ys ls : List Line) (x : Item) (xs : List Item) → kept_from rules (h ∷ ys) ls ≡ x ∷ xs
+      → is_kept (verdict rules (h ∷ bs) x.line.content) ≡ true
   kept-verdict bs ys [] x xs e = absurd (cc e)
-  kept-verdict bs ys (l ∷ ls) x xs e = go (kept-verdict bs (ys ++ l ∷ []) ls x xs) (is_kept (verdict rules (h ∷ ys) l.content)) refl e
+  kept-verdict bs ys (l ∷ ls) x xs e =
+      go (kept-verdict bs (ys ++ l ∷ []) ls x xs) (is_kept (verdict rules (h ∷ ys) l.content)) refl e
     where
-      go : (kept_from rules (h ∷ ys ++ l ∷ []) ls ≡ x ∷ xs → is_kept (verdict rules (h ∷ bs) x.line.content) ≡ true) → (k : Bool) → is_kept (verdict rules (h ∷ ys) l.content) ≡ k
-          → cond k (item_after rules (h ∷ ys) l ∷ kept_from rules (h ∷ ys ++ l ∷ []) ls) (kept_from rules (h ∷ ys ++ l ∷ []) ls) ≡ x ∷ xs
+      go : (kept_from rules (h ∷ ys ++ l ∷ []) ls ≡ x ∷ xs → is_kept (verdict rules (h ∷ bs) x.line.content) ≡ true)
+          → (k : Bool) → is_kept (verdict rules (h ∷ ys) l.content) ≡ k
+          → cond k (item_after rules (h ∷ ys) l ∷ kept_from rules (h ∷ ys ++ l ∷ []) ls)
+              (kept_from rules (h ∷ ys ++ l ∷ []) ls) ≡ x ∷ xs
           → is_kept (verdict rules (h ∷ bs) x.line.content) ≡ true
       go later true is f =
           let first : item_after rules (h ∷ ys) l ≡ x = cc in
@@ -54,18 +58,23 @@ module _ (rules : Rules) (h : Line) where
       let late : eqb (length (h ∷ ys) + 1) 1 ≡ false = grind (arith, nat_tests) in
       rw late refl
 
-  kept-feature : (ys ls : List Line) (x : Item) (xs : List Item) → kept_from rules (h ∷ ys) ls ≡ x ∷ xs → is_feature x ≡ true
+  kept-feature : (ys ls : List Line) (x : Item) (xs : List Item) → kept_from rules (h ∷ ys) ls ≡ x ∷ xs
+      → is_feature x ≡ true
   kept-feature ys [] x xs e = absurd (cc e)
-  kept-feature ys (l ∷ ls) x xs e = go (kept-feature (ys ++ l ∷ []) ls x xs) (is_kept (verdict rules (h ∷ ys) l.content)) e
+  kept-feature ys (l ∷ ls) x xs e =
+      go (kept-feature (ys ++ l ∷ []) ls x xs) (is_kept (verdict rules (h ∷ ys) l.content)) e
     where
-      go : (kept_from rules (h ∷ ys ++ l ∷ []) ls ≡ x ∷ xs → is_feature x ≡ true) → (k : Bool) → cond k (item_after rules (h ∷ ys) l ∷ kept_from rules (h ∷ ys ++ l ∷ []) ls) (kept_from rules (h ∷ ys ++ l ∷ []) ls) ≡ x ∷ xs → is_feature x ≡ true
+      go : (kept_from rules (h ∷ ys ++ l ∷ []) ls ≡ x ∷ xs → is_feature x ≡ true) → (k : Bool)
+          → cond k (item_after rules (h ∷ ys) l ∷ kept_from rules (h ∷ ys ++ l ∷ []) ls)
+          (kept_from rules (h ∷ ys ++ l ∷ []) ls) ≡ x ∷ xs → is_feature x ≡ true
       go later true f =
           let first : item_after rules (h ∷ ys) l ≡ x = cc in
           ap is_feature (sym first) ∙ later-feature ys l
       go later false f = later f
 
   -- a line that is not kept has the content of no later one that is
-  not-same : (bs : List Line) (l : Line) (ys ls : List Line) (x : Item) (xs : List Item) → is_kept (verdict rules (h ∷ bs) l.content) ≡ false → kept_from rules (h ∷ ys) ls ≡ x ∷ xs
+  not-same : (bs : List Line) (l : Line) (ys ls : List Line) (x : Item) (xs : List Item)
+      → is_kept (verdict rules (h ∷ bs) l.content) ≡ false → kept_from rules (h ∷ ys) ls ≡ x ∷ xs
       → bytes_eq l.content x.line.content ≡ false
   not-same bs l ys ls x xs dropped e = go (bytes_eq l.content x.line.content) refl
     where
@@ -73,73 +82,107 @@ module _ (rules : Rules) (h : Line) where
       go false is = refl
       go true is =
           let same : l.content ≡ x.line.content = (bytes_eq-Decides l.content x.line.content).0 is in
-          let kept : is_kept (verdict rules (h ∷ bs) l.content) ≡ true = ap (λ c. is_kept (verdict rules (h ∷ bs) c)) same ∙ kept-verdict bs ys ls x xs e in
+          let kept : is_kept (verdict rules (h ∷ bs) l.content) ≡ true =
+              ap (λ c. is_kept (verdict rules (h ∷ bs) c)) same ∙ kept-verdict bs ys ls x xs e in
           cc (dropped, kept)
 
   -- so the search passes it over
-  found-skip : (n b : ℕ) (bs : List Line) (l : Line) (ys ls zs : List Line) (is : List Item) → is_kept (verdict rules (h ∷ bs) l.content) ≡ false → kept_from rules (h ∷ ys) ls ≡ is
-      → found_from (record { line = n; begin = b; left = l ∷ zs }) is ≡ found_from (record { line = n + 1; begin = b + length (raw l); left = zs }) is
+  found-skip : (n b : ℕ) (bs : List Line) (l : Line) (ys ls zs : List Line) (is : List Item)
+      → is_kept (verdict rules (h ∷ bs) l.content) ≡ false → kept_from rules (h ∷ ys) ls ≡ is
+      → found_from (record { line = n; begin = b; left = l ∷ zs }) is
+      ≡ found_from (record { line = n + 1; begin = b + length (raw l); left = zs }) is
   found-skip n b bs l ys ls zs [] dropped e = refl
-  found-skip n b bs l ys ls zs (x ∷ xs) dropped e = rw (kept-feature ys ls x xs e, not-same bs l ys ls x xs dropped e) refl
+  found-skip n b bs l ys ls zs (x ∷ xs) dropped e =
+      rw (kept-feature ys ls x xs e, not-same bs l ys ls x xs dropped e) refl
 
-  raw-more : (bs : List Line) (l : Line) → length (flat_map raw (bs ++ l ∷ [])) ≡ length (flat_map raw bs) + length (raw l)
+  raw-more : (bs : List Line) (l : Line)
+      → length (flat_map raw (bs ++ l ∷ [])) ≡ length (flat_map raw bs) + length (raw l)
   raw-more bs l =
       let parts : flat_map raw (bs ++ l ∷ []) ≡ flat_map raw bs ++ (raw l ++ []) = flat_map-append raw bs (l ∷ []) in
       omega (arith, ap length parts, length-append (flat_map raw bs) (raw l ++ []), ap length (append-nil (raw l)))
 
   found-kept : (bs ls more : List Line) (n b : ℕ) → n ≡ length (h ∷ bs) + 1 → b ≡ length (flat_map raw bs)
-      → found_from (record { line = n; begin = b; left = ls ++ more }) (kept_from rules (h ∷ bs) ls) ≡ filter is_feature_spot (spots_from rules (h ∷ bs) ls)
+      → found_from (record { line = n; begin = b; left = ls ++ more }) (kept_from rules (h ∷ bs) ls)
+      ≡ filter is_feature_spot (spots_from rules (h ∷ bs) ls)
   found-kept bs [] more n b number begin = refl
   found-kept bs (l ∷ ls) more n b number begin =
-      go (found-kept (bs ++ l ∷ []) ls more (n + 1) (b + length (raw l)) (omega (arith, number, length-append bs (l ∷ []))) (omega (arith, begin, raw-more bs l))) (is_kept (verdict rules (h ∷ bs) l.content)) refl
+      go (found-kept (bs ++ l ∷ []) ls more (n + 1) (b + length (raw l))
+          (omega (arith, number, length-append bs (l ∷ []))) (omega (arith, begin, raw-more bs l)))
+          (is_kept (verdict rules (h ∷ bs) l.content)) refl
     where
-      go : found_from (record { line = n + 1; begin = b + length (raw l); left = ls ++ more }) (kept_from rules (h ∷ bs ++ l ∷ []) ls) ≡ filter is_feature_spot (spots_from rules (h ∷ bs ++ l ∷ []) ls)
+      go : found_from (record { line = n + 1; begin = b + length (raw l); left = ls ++ more })
+          (kept_from rules (h ∷ bs ++ l ∷ []) ls) ≡ filter is_feature_spot (spots_from rules (h ∷ bs ++ l ∷ []) ls)
           → (k : Bool) → is_kept (verdict rules (h ∷ bs) l.content) ≡ k
-          → found_from (record { line = n; begin = b; left = l ∷ ls ++ more }) (cond k (item_after rules (h ∷ bs) l ∷ kept_from rules (h ∷ bs ++ l ∷ []) ls) (kept_from rules (h ∷ bs ++ l ∷ []) ls))
-          ≡ filter is_feature_spot (cond k (spot_after rules (h ∷ bs) l ∷ spots_from rules (h ∷ bs ++ l ∷ []) ls) (spots_from rules (h ∷ bs ++ l ∷ []) ls))
+          → found_from (record { line = n; begin = b; left = l ∷ ls ++ more })
+              (cond k (item_after rules (h ∷ bs) l ∷ kept_from rules (h ∷ bs ++ l ∷ []) ls)
+              (kept_from rules (h ∷ bs ++ l ∷ []) ls))
+          ≡ filter is_feature_spot
+              (cond k (spot_after rules (h ∷ bs) l ∷ spots_from rules (h ∷ bs ++ l ∷ []) ls)
+              (spots_from rules (h ∷ bs ++ l ∷ []) ls))
       go later true is =
           let same : bytes_eq l.content l.content ≡ true = (bytes_eq-Decides l.content l.content).1 refl in
           let x = item_after rules (h ∷ bs) l in
-          let spot : (record { line = n; begin = b; item = x }) ≡ spot_after rules (h ∷ bs) l = rw (number, begin) refl in
-          rw (later-feature bs l, same) (ap (λ s. s ∷ found_from (record { line = n + 1; begin = b + length (raw l); left = ls ++ more }) (kept_from rules (h ∷ bs ++ l ∷ []) ls)) spot ∙ ap (λ z. spot_after rules (h ∷ bs) l ∷ z) later)
-      go later false is = found-skip n b bs l (bs ++ l ∷ []) ls (ls ++ more) (kept_from rules (h ∷ bs ++ l ∷ []) ls) is refl ∙ later
+          let spot : (record { line = n; begin = b; item = x }) ≡ spot_after rules (h ∷ bs) l =
+              rw (number, begin) refl in
+          rw (later-feature bs l, same)
+              (ap (λ s. s ∷ found_from (record { line = n + 1; begin = b + length (raw l); left = ls ++ more })
+                  (kept_from rules (h ∷ bs ++ l ∷ []) ls)) spot ∙ ap (λ z. spot_after rules (h ∷ bs) l ∷ z) later)
+      go later false is =
+          found-skip n b bs l (bs ++ l ∷ []) ls (ls ++ more) (kept_from rules (h ∷ bs ++ l ∷ []) ls) is refl ∙ later
 
 -- the features that are kept of the good lines of a stream, whose first line is e
 module _ (rules : Rules) (e : Line) (left : List Line) where
-  behind : found_from (record { line = 2; begin = 0; left = left }) (kept_from rules (e ∷ []) (good_from rules (e ∷ []) left)) ≡ filter is_feature_spot (spots_from rules (e ∷ []) (good_from rules (e ∷ []) left))
+  behind : found_from (record { line = 2; begin = 0; left = left })
+      (kept_from rules (e ∷ []) (good_from rules (e ∷ []) left))
+      ≡ filter is_feature_spot (spots_from rules (e ∷ []) (good_from rules (e ∷ []) left))
   behind =
       let g = good_from rules (e ∷ []) left in
-      let whole : left ≡ g ++ drop (length g) left = sym (take-append-drop (length g) left) ∙ ap (λ z. z ++ drop (length g) left) (good-take rules (e ∷ []) left) in
+      let whole : left ≡ g ++ drop (length g) left = sym (take-append-drop (length g) left)
+          ∙ ap (λ z. z ++ drop (length g) left) (good-take rules (e ∷ []) left) in
       ap (λ z. found_from (record { line = 2; begin = 0; left = z }) (kept_from rules (e ∷ []) g)) whole
       ∙ found-kept rules e [] g (drop (length g) left) 2 0 refl refl
 
   -- all of them
-  pub found-good : found_from (record { line = 2; begin = 0; left = left }) (kept_from rules [] (good_from rules [] (e ∷ left))) ≡ filter is_feature_spot (spots_from rules [] (good_from rules [] (e ∷ left)))
+  pub found-good : found_from (record { line = 2; begin = 0; left = left })
+      (kept_from rules [] (good_from rules [] (e ∷ left)))
+      ≡ filter is_feature_spot (spots_from rules [] (good_from rules [] (e ∷ left)))
   found-good = go (is_some (refusal_of rules 1 (verdict rules [] e.content)))
     where
-      kept-first : (k : Bool) → found_from (record { line = 2; begin = 0; left = left }) (cond k (item_after rules [] e ∷ kept_from rules (e ∷ []) (good_from rules (e ∷ []) left)) (kept_from rules (e ∷ []) (good_from rules (e ∷ []) left)))
-          ≡ filter is_feature_spot (cond k (spot_after rules [] e ∷ spots_from rules (e ∷ []) (good_from rules (e ∷ []) left)) (spots_from rules (e ∷ []) (good_from rules (e ∷ []) left)))
+      kept-first : (k : Bool) → found_from (record { line = 2; begin = 0; left = left })
+          (cond k (item_after rules [] e ∷ kept_from rules (e ∷ []) (good_from rules (e ∷ []) left))
+          (kept_from rules (e ∷ []) (good_from rules (e ∷ []) left)))
+          ≡ filter is_feature_spot
+              (cond k (spot_after rules [] e ∷ spots_from rules (e ∷ []) (good_from rules (e ∷ []) left))
+              (spots_from rules (e ∷ []) (good_from rules (e ∷ []) left)))
       kept-first true = behind
       kept-first false = behind
 
-      go : (k : Bool) → found_from (record { line = 2; begin = 0; left = left }) (kept_from rules [] (cond k [] (e ∷ good_from rules (e ∷ []) left)))
+      go : (k : Bool) → found_from (record { line = 2; begin = 0; left = left })
+          (kept_from rules [] (cond k [] (e ∷ good_from rules (e ∷ []) left)))
           ≡ filter is_feature_spot (spots_from rules [] (cond k [] (e ∷ good_from rules (e ∷ []) left)))
       go true = refl
       go false = kept-first (is_kept (verdict rules [] e.content))
 
 -- the search along a part finds the features of the stream
-pub found-spots : (rules : Rules) (header part : List ℕ) → AreCut header part → found_from (record { line = 2; begin = 0; left = lines part }) (kept rules (header ++ part)) ≡ spots rules (header ++ part)
+pub found-spots : (rules : Rules) (header part : List ℕ) → AreCut header part
+    → found_from (record { line = 2; begin = 0; left = lines part }) (kept rules (header ++ part))
+    ≡ spots rules (header ++ part)
 found-spots rules header part (inl cut) =
     let whole : header ++ part ≡ cut.0 ++ 10 ∷ part = ap (λ z. z ++ part) cut.2 ∙ append_assoc cut.0 (10 ∷ []) part in
-    let first : lines (header ++ part) ≡ ended_line cut.0 ∷ lines part = ap (λ z. lines z) whole ∙ lines-headed cut.0 part cut.1 in
+    let first : lines (header ++ part) ≡ ended_line cut.0 ∷ lines part = ap (λ z. lines z) whole
+        ∙ lines-headed cut.0 part cut.1 in
     rw first (found-good rules (ended_line cut.0) (lines part))
 found-spots rules header part (inr cut) =
-    let all : lines (header ++ part) ≡ lines header = ap (λ z. lines z) (ap (λ z. header ++ z) cut.1 ∙ append-nil header) in
+    let all : lines (header ++ part) ≡ lines header =
+        ap (λ z. lines z) (ap (λ z. header ++ z) cut.1 ∙ append-nil header) in
     let none : lines part ≡ [] = ap (λ z. lines z) cut.1 in
     rw (all, none) (alone header cut.0)
   where
-    alone : (h : List ℕ) → NoLf h → found_from (record { line = 2; begin = 0; left = [] }) (kept_from rules [] (good_from rules [] (lines h))) ≡ filter is_feature_spot (spots_from rules [] (good_from rules [] (lines h)))
+    alone : (h : List ℕ) → NoLf h
+        → found_from (record { line = 2; begin = 0; left = [] }) (kept_from rules [] (good_from rules [] (lines h)))
+        ≡ filter is_feature_spot (spots_from rules [] (good_from rules [] (lines h)))
     alone [] free = refl
     alone (b ∷ h) free =
-        let one : lines (b ∷ h) ≡ record { content = b ∷ h; lf = false } ∷ [] = rw (closed-none (b ∷ h) free, begun-none (b ∷ h) free) refl in
+        let one : lines (b ∷ h) ≡ record { content = b ∷ h; lf = false } ∷ [] =
+            rw (closed-none (b ∷ h) free, begun-none (b ∷ h) free) refl in
         rw one (found-good rules (record { content = b ∷ h; lf = false }) [])

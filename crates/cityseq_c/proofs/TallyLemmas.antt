@@ -30,7 +30,8 @@ pub tallied : (rules : Rules) (text : List ℕ) (o : Outcome) (start t : Tallied
     → (told : Tally) → IsTally t told → (start ≡ no_tally → Puts (never_fails Tallies) (stream_of rules text) Complete
     start t → TalliesRun (stream_of rules text) Complete t)
     → IsUnhindered o.ended → IsTalliedOf rules text told
-tallied rules text o start t old new j fresh told same law free = record { tallied = t; all = law fresh (j.took free); told = same }
+tallied rules text o start t old new j fresh told same law free =
+    record { tallied = t; all = law fresh (j.took free); told = same }
 
 -- ---- two parts
 
@@ -40,10 +41,13 @@ last-some x (y ∷ xs) h = last-some y xs h
 
 -- the header of a complete part is kept, so its transform is known
 module _ (rules : Rules) (h a : List ℕ) (cut : IsCut h a) (done : ending rules (headed h a) ≡ Complete) where
-  kept-begins : kept rules (headed h a) ≡ item_after rules [] (ended_line h) ∷ kept_from rules (ended_line h ∷ []) (lines a)
-  kept-begins = ap (λ z. kept_from rules [] z) (front-good rules h a cut done) ∙ kept-first rules (ended_line h) (header-valid rules h a cut done) (lines a)
+  kept-begins : kept rules (headed h a) ≡ item_after rules [] (ended_line h) ∷ kept_from rules (ended_line h ∷ [])
+      (lines a)
+  kept-begins = ap (λ z. kept_from rules [] z) (front-good rules h a cut done)
+      ∙ kept-first rules (ended_line h) (header-valid rules h a cut done) (lines a)
 
-  scale-known : (s : Option (List Decimal)) → option_map (map Some) s ≡ last_shown (codes "scale") (kept rules (headed h a)) → is_some s ≡ true
+  scale-known : (s : Option (List Decimal))
+      → option_map (map Some) s ≡ last_shown (codes "scale") (kept rules (headed h a)) → is_some s ≡ true
   scale-known (Some ns) is = refl
   scale-known None is =
       let values : Item → List (Option Decimal) = λ i. transform_values (chars (codes "scale")) i.tree in
@@ -53,14 +57,18 @@ module _ (rules : Rules) (h a : List ℕ) (cut : IsCut h a) (done : ending rules
 
 -- a tally with the transform of another
 abbrev with_transform : Tally → Tally → Tally
-with_transform told header = record told { transformed = header.transformed; scale = header.scale; translate = header.translate }
+with_transform told header =
+    record told { transformed = header.transformed; scale = header.scale; translate = header.translate }
 
 -- what two parts were tallied as, by sinks that have the counts of each
 module _ (rules : Rules) (h a b : List ℕ) (first second joined header : Tally) (s t u : Tallied) where
   pub tallied-then : IsCut h a → ending rules (headed h a) ≡ Complete → (first.transformed ≢ 0 → header ≡ first)
-      → ((x : Tallied) → IsTally x first → HasCounts x s) → ((x : Tallied) → IsTally x second → HasCounts x t) → JoinsTallies s t u → IsTally u joined
-      → ((x y both : Tallied) → IsTallyOf (kept rules (headed h a)) x → IsTallyOf (kept rules (headed h b)) y → JoinsTallies x y both → IsTallyOf (kept rules (headed h (a ++ b))) both)
-      → IsTalliedOf rules (headed h a) first → IsTalliedOf rules (headed h b) second → IsTalliedOf rules (headed h (a ++ b)) (with_transform joined header)
+      → ((x : Tallied) → IsTally x first → HasCounts x s) → ((x : Tallied) → IsTally x second → HasCounts x t)
+      → JoinsTallies s t u → IsTally u joined
+      → ((x y both : Tallied) → IsTallyOf (kept rules (headed h a)) x → IsTallyOf (kept rules (headed h b)) y
+          → JoinsTallies x y both → IsTallyOf (kept rules (headed h (a ++ b))) both)
+      → IsTalliedOf rules (headed h a) first → IsTalliedOf rules (headed h b) second
+      → IsTalliedOf rules (headed h (a ++ b)) (with_transform joined header)
   tallied-then cut done own counts more joins told law x y =
       let p = counts x.tallied x.told in
       let q = more y.tallied y.told in
@@ -71,10 +79,17 @@ module _ (rules : Rules) (h a b : List ℕ) (first second joined header : Tally)
       record {
         tallied = both;
         all = law x.tallied y.tallied both x.all y.all (record {
-          features = joins.features ∙ (ap (λ n. capped (n + t.features)) p.features ∙ ap (λ n. capped (x.tallied.features + n)) q.features);
-          types = λ n lt. joins.types n lt ∙ (ap (λ z. capped (get_or z n 0 + get_or t.types n 0)) p.types ∙ ap (λ z. capped (get_or x.tallied.types n 0 + get_or z n 0)) q.types);
-          lods = λ n lt. joins.lods n lt ∙ (ap (λ z. capped (get_or z n 0 + get_or t.lods n 0)) p.lods ∙ ap (λ z. capped (get_or x.tallied.lods n 0 + get_or z n 0)) q.lods);
-          ranges = λ axis lt. joins.ranges axis lt ∙ (ap (λ z. wider z (get_or t.ranges axis None)) (p.ranges axis lt) ∙ ap (λ z. wider (get_or x.tallied.ranges axis None) z) (q.ranges axis lt));
+          features = joins.features
+              ∙ (ap (λ n. capped (n + t.features)) p.features ∙ ap (λ n. capped (x.tallied.features + n)) q.features);
+          types = λ n lt. joins.types n lt
+              ∙ (ap (λ z. capped (get_or z n 0 + get_or t.types n 0)) p.types
+              ∙ ap (λ z. capped (get_or x.tallied.types n 0 + get_or z n 0)) q.types);
+          lods = λ n lt. joins.lods n lt
+              ∙ (ap (λ z. capped (get_or z n 0 + get_or t.lods n 0)) p.lods
+              ∙ ap (λ z. capped (get_or x.tallied.lods n 0 + get_or z n 0)) q.lods);
+          ranges = λ axis lt. joins.ranges axis lt
+              ∙ (ap (λ z. wider z (get_or t.ranges axis None)) (p.ranges axis lt)
+              ∙ ap (λ z. wider (get_or x.tallied.ranges axis None) z) (q.ranges axis lt));
           scale = refl;
           translate = refl;
         });

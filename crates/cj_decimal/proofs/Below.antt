@@ -25,11 +25,14 @@ weighed_below n h one self (d ∷ s) z =
     let rest = weighed_below n h one self s z.1 in
     let l = z.0 in
     let more : suc (length s) ≡ length s + 1 = omega arith in
-    let power : n ^ suc (length s) ≡ n ^ length s * n = ap (λ k. n ^ k) more ∙ pow-add n (length s) 1 ∙ ap (λ k. n ^ length s * k) self in
-    subst (λ p. n ^ length s * d + weighed n s < p) (sym power) (below_next (n ^ length s) d (weighed n s) n (omega arith) rest)
+    let power : n ^ suc (length s) ≡ n ^ length s * n = ap (λ k. n ^ k) more ∙ pow-add n (length s) 1
+        ∙ ap (λ k. n ^ length s * k) self in
+    subst (λ p. n ^ length s * d + weighed n s < p) (sym power)
+        (below_next (n ^ length s) d (weighed n s) n (omega arith) rest)
 
 -- one digit decides, or the rest does
-step : (k : ℕ) → k ≤ 1 → (p q a b x y u v : ℕ) → x < q → y < q → u < p → (x + k ≤ y → u + k ≤ v) → q * a + x + k ≤ q * b + y → p * a + u + k ≤ p * b + v
+step : (k : ℕ) → k ≤ 1 → (p q a b x y u v : ℕ) → x < q → y < q → u < p → (x + k ≤ y → u + k ≤ v)
+    → q * a + x + k ≤ q * b + y → p * a + u + k ≤ p * b + v
 step k one p q a b x y u v lx ly lu f h =
     elim (cases_lt a b) [
       | inl less ↦ let m = mul-le-mul_left p less in omega (arith, m, lu)
@@ -40,10 +43,12 @@ step k one p q a b x y u v lx ly lu f h =
     ]
   where
     same : a ≡ b → p * a + u + k ≤ p * b + v
-    same e = let g : q * a + x + k ≤ q * a + y = subst (λ n. q * a + x + k ≤ q * n + y) (sym e) h in let l = f (omega (arith, g)) in subst (λ n. p * a + u + k ≤ p * n + v) e (omega (arith, l))
+    same e = let g : q * a + x + k ≤ q * a + y = subst (λ n. q * a + x + k ≤ q * n + y) (sym e) h in
+        let l = f (omega (arith, g)) in subst (λ n. p * a + u + k ≤ p * n + v) e (omega (arith, l))
 
 -- with 1 for k it is "less", and with 0 "at most"
-order : (k : ℕ) → k ≤ 1 → (s t : List ℕ) → length s ≡ length t → AllBelow 10 s → AllBelow 10 t → weighed 256 s + k ≤ weighed 256 t → weighed 10 s + k ≤ weighed 10 t
+order : (k : ℕ) → k ≤ 1 → (s t : List ℕ) → length s ≡ length t → AllBelow 10 s → AllBelow 10 t
+    → weighed 256 s + k ≤ weighed 256 t → weighed 10 s + k ≤ weighed 10 t
 unfolding weighed
 order k one [] [] e hs ht l = l
 order k one [] (b ∷ t) e hs ht l = absurd (omega (arith, e))
@@ -51,16 +56,21 @@ order k one (a ∷ s) [] e hs ht l = absurd (omega (arith, e))
 order k one (a ∷ s) (b ∷ t) e hs ht l =
     let n : length t ≡ length s = omega (arith, e) in
     let small = weighed_below 256 (omega arith) refl refl s hs.1 in
-    let other : weighed 256 t < 256 ^ length s = subst (λ i. weighed 256 t < 256 ^ i) n (weighed_below 256 (omega arith) refl refl t ht.1) in
-    let g : 256 ^ length s * a + weighed 256 s + k ≤ 256 ^ length s * b + weighed 256 t = subst (λ i. 256 ^ length s * a + weighed 256 s + k ≤ 256 ^ i * b + weighed 256 t) n l in
+    let other : weighed 256 t < 256 ^ length s =
+        subst (λ i. weighed 256 t < 256 ^ i) n (weighed_below 256 (omega arith) refl refl t ht.1) in
+    let g : 256 ^ length s * a + weighed 256 s + k ≤ 256 ^ length s * b + weighed 256 t =
+        subst (λ i. 256 ^ length s * a + weighed 256 s + k ≤ 256 ^ i * b + weighed 256 t) n l in
     subst (λ i. 10 ^ length s * a + weighed 10 s + k ≤ 10 ^ i * b + weighed 10 t) (sym n)
-    (step k one (10 ^ length s) (256 ^ length s) a b (weighed 256 s) (weighed 256 t) (weighed 10 s) (weighed 10 t) small other (weighed_below 10 (omega arith) refl refl s hs.1) (order k one s t (sym n) hs.1 ht.1) g)
+    (step k one (10 ^ length s) (256 ^ length s) a b (weighed 256 s) (weighed 256 t) (weighed 10 s) (weighed 10 t) small
+        other (weighed_below 10 (omega arith) refl refl s hs.1) (order k one s t (sym n) hs.1 ht.1) g)
 
 -- ---- eight digits
 
 value_weighed : (s : List ℕ) → length s ≡ 8 → digits_value (map (λ d. d + 48) s) ≡ weighed 10 s
 unfolding weighed horner
-value_weighed s l = eight (λ s. digits_value (map (λ d. d + 48) s) ≡ weighed 10 s) (λ a b c d e f g h. spelled_value 0 (a ∷ b ∷ c ∷ d ∷ e ∷ f ∷ g ∷ h ∷ []) ∙ omega arith) s l
+value_weighed s l =
+    eight (λ s. digits_value (map (λ d. d + 48) s) ≡ weighed 10 s)
+        (λ a b c d e f g h. spelled_value 0 (a ∷ b ∷ c ∷ d ∷ e ∷ f ∷ g ∷ h ∷ []) ∙ omega arith) s l
 
 bytes_of : (s : List ℕ) → AllBelow 10 s → (i : ℕ) → get_or s i 0 < 256
 bytes_of [] h i = omega arith
@@ -71,7 +81,9 @@ pub swapped : (s : List ℕ) → length s ≡ 8 → AllBelow 10 s → swap_bytes
 unfolding weighed
 swapped s l = eight (λ s. AllBelow 10 s → swap_bytes w64 (word_of s) ≡ weighed 256 s) each s l
   where
-    each : (a b c d e f g h : ℕ) → AllBelow 10 (a ∷ b ∷ c ∷ d ∷ e ∷ f ∷ g ∷ h ∷ []) → swap_bytes w64 (word_of (a ∷ b ∷ c ∷ d ∷ e ∷ f ∷ g ∷ h ∷ [])) ≡ weighed 256 (a ∷ b ∷ c ∷ d ∷ e ∷ f ∷ g ∷ h ∷ [])
+    each : (a b c d e f g h : ℕ) → AllBelow 10 (a ∷ b ∷ c ∷ d ∷ e ∷ f ∷ g ∷ h ∷ [])
+        → swap_bytes w64 (word_of (a ∷ b ∷ c ∷ d ∷ e ∷ f ∷ g ∷ h ∷ []))
+        ≡ weighed 256 (a ∷ b ∷ c ∷ d ∷ e ∷ f ∷ g ∷ h ∷ [])
     each a b c d e f g h z =
         let s = a ∷ b ∷ c ∷ d ∷ e ∷ f ∷ g ∷ h ∷ [] in
         let same : word_of s ≡ from_le_bytes w64 s = omega arith in
@@ -81,11 +93,15 @@ unswapped : (s : List ℕ) → length s ≡ 8 → AllBelow 10 s → swap_bytes w
 unfolding weighed
 unswapped s l = eight (λ s. AllBelow 10 s → swap_bytes w64 (weighed 256 s) ≡ word_of s) each s l
   where
-    each : (a b c d e f g h : ℕ) → AllBelow 10 (a ∷ b ∷ c ∷ d ∷ e ∷ f ∷ g ∷ h ∷ []) → swap_bytes w64 (weighed 256 (a ∷ b ∷ c ∷ d ∷ e ∷ f ∷ g ∷ h ∷ [])) ≡ word_of (a ∷ b ∷ c ∷ d ∷ e ∷ f ∷ g ∷ h ∷ [])
+    each : (a b c d e f g h : ℕ) → AllBelow 10 (a ∷ b ∷ c ∷ d ∷ e ∷ f ∷ g ∷ h ∷ [])
+        → swap_bytes w64 (weighed 256 (a ∷ b ∷ c ∷ d ∷ e ∷ f ∷ g ∷ h ∷ []))
+        ≡ word_of (a ∷ b ∷ c ∷ d ∷ e ∷ f ∷ g ∷ h ∷ [])
     each a b c d e f g h z =
         let s = a ∷ b ∷ c ∷ d ∷ e ∷ f ∷ g ∷ h ∷ [] in
         let r = h ∷ g ∷ f ∷ e ∷ d ∷ c ∷ b ∷ a ∷ [] in
-        let other : AllBelow 10 r = (z.1.1.1.1.1.1.1.0, (z.1.1.1.1.1.1.0, (z.1.1.1.1.1.0, (z.1.1.1.1.0, (z.1.1.1.0, (z.1.1.0, (z.1.0, (z.0, tt)))))))) in
+        let other : AllBelow 10 r =
+            (z.1.1.1.1.1.1.1.0, (z.1.1.1.1.1.1.0,
+                    (z.1.1.1.1.1.0, (z.1.1.1.1.0, (z.1.1.1.0, (z.1.1.0, (z.1.0, (z.0, tt)))))))) in
         let turned : weighed 256 s ≡ word_of r = omega arith in
         let back : weighed 256 r ≡ word_of s = omega arith in
         ap (swap_bytes w64) turned ∙ swapped r refl other ∙ back
@@ -103,14 +119,20 @@ words_in_order v w a b x y h =
     omega (arith, o, m, n)
 
 -- eight digits as a word
-pub word_of_eight : (s : List ℕ) (m n : ℕ) → length s ≡ 8 → AllBelow 10 s → m ≡ word_of s → digits_value (map (λ d. d + 48) s) ≡ n → IsWordOf (swap_bytes w64 m) n
+pub word_of_eight : (s : List ℕ) (m n : ℕ) → length s ≡ 8 → AllBelow 10 s → m ≡ word_of s
+    → digits_value (map (λ d. d + 48) s) ≡ n → IsWordOf (swap_bytes w64 m) n
 word_of_eight s m n l small is value = (s, l, small, ap (swap_bytes w64) is ∙ swapped s l small, sym value)
 
-pub eight_of_word : (w n : ℕ) → IsWordOf w n → (s : List ℕ) × (length s ≡ 8) × AllBelow 10 s × (swap_bytes w64 w ≡ word_of s) × (n ≡ digits_value (map (λ d. d + 48) s))
+pub eight_of_word : (w n : ℕ) → IsWordOf w n → (s : List ℕ) × (length s ≡ 8) × AllBelow 10 s
+    × (swap_bytes w64 w ≡ word_of s) × (n ≡ digits_value (map (λ d. d + 48) s))
 eight_of_word w n h = (h.0, h.1, h.2, ap (swap_bytes w64) h.3 ∙ unswapped h.0 h.1 h.2, h.4)
 
 pub eight_room : (s : List ℕ) (m : ℕ) → length s ≡ 8 → AllBelow 10 s → m ≡ word_of s → m < 2 ^ 60
-eight_room s m l = eight (λ s. AllBelow 10 s → m ≡ word_of s → m < 2 ^ 60) (λ a b c d e f g h z is. omega (arith, is, z.0, z.1.0, z.1.1.0, z.1.1.1.0, z.1.1.1.1.0, z.1.1.1.1.1.0, z.1.1.1.1.1.1.0, z.1.1.1.1.1.1.1.0)) s l
+eight_room s m l =
+    eight (λ s. AllBelow 10 s → m ≡ word_of s → m < 2 ^ 60)
+        (λ a b c d e f g h z is.
+        omega (arith, is, z.0, z.1.0, z.1.1.0, z.1.1.1.0, z.1.1.1.1.0, z.1.1.1.1.1.0, z.1.1.1.1.1.1.0,
+            z.1.1.1.1.1.1.1.0)) s l
 
 word_small : (w n : ℕ) → IsWordOf w n → n < 2 ^ 32
 word_small w n h =
@@ -120,24 +142,33 @@ word_small w n h =
     omega (arith, m, b, p)
 
 -- the word of a number's digits has the number that reading it answers
-pub word_answer : (o : Option ℕ) (s : List ℕ) → IsNumber s → (IsSome o → AllDigits s) → IfSome o (λ w. IsWordOf w (digits_value s)) → IfSome o (λ w. (n : ℕ) × IsWordOf w n × ((c : Class s) → whole_answer c ≡ Ok (Some (pos n))))
+pub word_answer : (o : Option ℕ) (s : List ℕ) → IsNumber s → (IsSome o → AllDigits s)
+    → IfSome o (λ w. IsWordOf w (digits_value s))
+    → IfSome o (λ w. (n : ℕ) × IsWordOf w n × ((c : Class s) → whole_answer c ≡ Ok (Some (pos n))))
 word_answer None s number digits word = word
-word_answer (Some w) s number digits word = (digits_value s, word, λ c. answer_digits s (digits_value s) c (number_short s number (digits refl) (word_small w (digits_value s) word)))
+word_answer (Some w) s number digits word =
+    (digits_value s, word, λ c.
+        answer_digits s (digits_value s) c (number_short s number (digits refl) (word_small w (digits_value s) word)))
 
 -- ---- what a word of a count tells
 
 pub all_below : (n word : ℕ) → 100000000 ≤ n → TellsBelow word n
 unfolding weighed
-all_below n word h = λ s l z w. let v = value_weighed s l in let b = weighed_below 10 (omega arith) refl refl s z in let p : 10 ^ length s ≡ 100000000 = ap (λ k. 10 ^ k) l in omega (arith, v, b, p)
+all_below n word h = λ s l z w. let v = value_weighed s l in let b = weighed_below 10 (omega arith) refl refl s z in
+    let p : 10 ^ length s ≡ 100000000 = ap (λ k. 10 ^ k) l in omega (arith, v, b, p)
 
-pub told : (n a b c d e f g word : ℕ) → n < 100000000 → a ≡ n / 10 → b ≡ a / 10 → c ≡ b / 10 → d ≡ c / 10 → e ≡ d / 10 → f ≡ e / 10 → g ≡ f / 10
-    → word ≡ n % 10 + a % 10 * 256 + b % 10 * 65536 + c % 10 * 16777216 + (d % 10 + e % 10 * 256 + f % 10 * 65536 + g * 16777216) * 4294967296
+pub told : (n a b c d e f g word : ℕ) → n < 100000000 → a ≡ n / 10 → b ≡ a / 10 → c ≡ b / 10 → d ≡ c / 10 → e ≡ d / 10
+    → f ≡ e / 10 → g ≡ f / 10
+    → word ≡ n % 10 + a % 10 * 256 + b % 10 * 65536 + c % 10 * 16777216
+    + (d % 10 + e % 10 * 256 + f % 10 * 65536 + g * 16777216) * 4294967296
     → TellsBelow word n
 unfolding weighed
 told n a b c d e f g word small ia ib ic id ie if ig is = λ s l z w.
     let t = g ∷ f % 10 ∷ e % 10 ∷ d % 10 ∷ c % 10 ∷ b % 10 ∷ a % 10 ∷ n % 10 ∷ [] in
     let first : g < 10 = omega arith in
-    let digits : AllBelow 10 t = (first, (omega arith, (omega arith, (omega arith, (omega arith, (omega arith, (omega arith, (omega arith, tt)))))))) in
+    let digits : AllBelow 10 t =
+        (first, (omega arith, (omega arith,
+                    (omega arith, (omega arith, (omega arith, (omega arith, (omega arith, tt)))))))) in
     let as_word : word ≡ weighed 256 t = omega (arith, is) in
     let value : weighed 10 t ≡ n = omega arith in
     let above = subst (λ x. weighed 256 s < x) as_word w in

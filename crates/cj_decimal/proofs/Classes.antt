@@ -14,7 +14,8 @@ use Rattle.cj_decimal.proofs.Scales.{units_below, units_are, units_same}
 
 module _ (s : List ℕ) (v : Number) (value : IsValue s v) where
   -- a number in range, by its size as a whole number
-  by_size : IsInRange v → (k : ℕ) → v.power ≡ pos k → (small : Bool) → ltb (unsigned_abs (v.coefficient *ℤ pos (10 ^ k))) (10 ^ 18) ≡ small → Class s
+  by_size : IsInRange v → (k : ℕ) → v.power ≡ pos k → (small : Bool)
+      → ltb (unsigned_abs (v.coefficient *ℤ pos (10 ^ k))) (10 ^ 18) ≡ small → Class s
   by_size range k e true t = whole v (v.coefficient *ℤ pos (10 ^ k)) value range (record {
     same = units_same v (v.coefficient *ℤ pos (10 ^ k)) (pos 0) k (omega (arith, ints, e)) refl;
     small = ltb-true _ _ t;
@@ -34,11 +35,16 @@ module _ (s : List ℕ) (v : Number) (value : IsValue s v) where
   -- a number in range, by its power
   by_power : IsInRange v → (p : ℤ) → v.power ≡ p → Class s
   by_power range (pos k) e = by_size range k e (ltb (unsigned_abs (v.coefficient *ℤ pos (10 ^ k))) (10 ^ 18)) refl
-  by_power range (negsuc k) e = not_whole v value range (λ w is. units_below v w (pos 0) value.normal is.same (omega (arith, ints, e)) (omega (arith, ints)))
+  by_power range (negsuc k) e =
+      not_whole v value range (λ w is. units_below v w (pos 0) value.normal is.same (omega (arith, ints, e))
+          (omega (arith, ints)))
 
   -- a number, by the three bounds of its range
-  by_range : (short near : Bool) → ltb (unsigned_abs v.coefficient) (10 ^ 36) ≡ short → ltb (unsigned_abs v.power) 1000001 ≡ near → Class s
-  by_range true true e f = by_power (record { digits = ltb-true _ _ e; power_low = omega (arith, ints, ltb-true _ _ f); power_high = omega (arith, ints, ltb-true _ _ f) }) v.power refl
+  by_range : (short near : Bool) → ltb (unsigned_abs v.coefficient) (10 ^ 36) ≡ short
+      → ltb (unsigned_abs v.power) 1000001 ≡ near → Class s
+  by_range true true e f =
+      by_power (record { digits = ltb-true _ _ e; power_low = omega (arith, ints, ltb-true _ _ f);
+              power_high = omega (arith, ints, ltb-true _ _ f) }) v.power refl
   by_range true false e f = out_of_range (v, value, λ r. absurd (far r))
     where
       far : IsInRange v → ⊥

@@ -21,7 +21,8 @@ copies (suc n) c = c ∷ copies n c
 
 -- ---- bits, byte by byte
 
-and_same : (c : ℕ) → c < 256 → (s : List ℕ) → AllBelow 256 s → bit_and (word_of s) (word_of (copies (length s) c)) ≡ word_of (map (λ b. bit_and b c) s)
+and_same : (c : ℕ) → c < 256 → (s : List ℕ) → AllBelow 256 s → bit_and (word_of s) (word_of (copies (length s) c))
+    ≡ word_of (map (λ b. bit_and b c) s)
 unfolding copies
 and_same c l [] h = refl
 and_same c l (b ∷ s) h =
@@ -32,7 +33,8 @@ and_same c l (b ∷ s) h =
     let rest = and_same c l s h.1 in
     ap (λ n. bit_and n (c + 256 * v)) p ∙ ap (bit_and (w * 2 ^ 8 + b)) q ∙ omega (arith, block, rest)
 
-xor_same : (c : ℕ) → c < 256 → (s : List ℕ) → AllBelow 256 s → bit_xor (word_of s) (word_of (copies (length s) c)) ≡ word_of (map (λ b. bit_xor b c) s)
+xor_same : (c : ℕ) → c < 256 → (s : List ℕ) → AllBelow 256 s → bit_xor (word_of s) (word_of (copies (length s) c))
+    ≡ word_of (map (λ b. bit_xor b c) s)
 unfolding copies
 xor_same c l [] h = refl
 xor_same c l (b ∷ s) h =
@@ -49,7 +51,8 @@ add_same c [] = refl
 add_same c (b ∷ s) = let rest = add_same c s in omega (arith, rest)
 
 high_of : (b : ℕ) → b < 256 → bit_and b 240 ≡ 0 → b < 16
-high_of b l h = let e : bit_and b (2 ^ 8 - 2 ^ 4) ≡ b / 2 ^ 4 * 2 ^ 4 = and_high_mask 8 4 (omega arith) b l in omega (arith, e, h)
+high_of b l h = let e : bit_and b (2 ^ 8 - 2 ^ 4) ≡ b / 2 ^ 4 * 2 ^ 4 = and_high_mask 8 4 (omega arith) b l in
+    omega (arith, e, h)
 
 all_high : (s : List ℕ) → AllBelow 256 s → word_of (map (λ b. bit_and b 240) s) ≡ 0 → AllBelow 16 s
 all_high [] h z = tt
@@ -61,7 +64,8 @@ unfolding copies
 nibbles s e h z =
     let high : word_of (copies 8 240) ≡ 0xf0f0f0f0f0f0f0f0 = refl in
     let same = and_same 240 (omega arith) s h in
-    all_high s h (sym same ∙ ap (λ n. bit_and (word_of s) (word_of (copies n 240))) e ∙ ap (bit_and (word_of s)) high ∙ z)
+    all_high s h (sym same ∙ ap (λ n. bit_and (word_of s) (word_of (copies n 240))) e ∙ ap (bit_and (word_of s)) high
+        ∙ z)
 
 more_below : (s : List ℕ) → AllBelow 16 s → AllBelow 256 (map (λ b. b + 6) s)
 more_below [] h = tt
@@ -76,13 +80,16 @@ length_map f [] = refl
 length_map f (b ∷ s) = ap suc (length_map f s)
 
 -- both tests of a word hold: each byte is below 10
-all_small : (s : List ℕ) → length s ≡ 8 → AllBelow 256 s → bit_and (word_of s) 0xf0f0f0f0f0f0f0f0 ≡ 0 → bit_and (word_of s + 0x0606060606060606) 0xf0f0f0f0f0f0f0f0 ≡ 0 → AllBelow 10 s
+all_small : (s : List ℕ) → length s ≡ 8 → AllBelow 256 s → bit_and (word_of s) 0xf0f0f0f0f0f0f0f0 ≡ 0
+    → bit_and (word_of s + 0x0606060606060606) 0xf0f0f0f0f0f0f0f0 ≡ 0 → AllBelow 10 s
 unfolding copies
 all_small s e h z y =
     let low = nibbles s e h z in
     let six : word_of (copies 8 6) ≡ 0x0606060606060606 = refl in
-    let sum : word_of s + 0x0606060606060606 ≡ word_of (map (λ b. b + 6) s) = ap (λ n. word_of s + n) (sym six ∙ ap (λ n. word_of (copies n 6)) (sym e)) ∙ add_same 6 s in
-    less_below s (nibbles (map (λ b. b + 6) s) (length_map (λ b. b + 6) s ∙ e) (more_below s low) (ap (λ n. bit_and n 0xf0f0f0f0f0f0f0f0) (sym sum) ∙ y))
+    let sum : word_of s + 0x0606060606060606 ≡ word_of (map (λ b. b + 6) s) =
+        ap (λ n. word_of s + n) (sym six ∙ ap (λ n. word_of (copies n 6)) (sym e)) ∙ add_same 6 s in
+    less_below s (nibbles (map (λ b. b + 6) s) (length_map (λ b. b + 6) s ∙ e) (more_below s low)
+        (ap (λ n. bit_and n 0xf0f0f0f0f0f0f0f0) (sym sum) ∙ y))
 
 -- ---- one byte
 
@@ -99,7 +106,9 @@ and_right a b h = grind (arith)
 of_all : (n : ℕ) (p : ℕ → Bool) → all_to n p ≡ true → (k : ℕ) → k < n → p k ≡ true
 unfolding all_to
 of_all zero p h k l = absurd (omega arith)
-of_all (suc n) p h k l = elim (cases_lt k n) [ inl below ↦ of_all n p (and_right (p n) (all_to n p) h) k below | inr above ↦ let e : n ≡ k = omega arith in subst (λ j. p j ≡ true) e (and_left (p n) (all_to n p) h) ]
+of_all (suc n) p h k l =
+    elim (cases_lt k n) [ inl below ↦ of_all n p (and_right (p n) (all_to n p) h) k below | inr above ↦
+        let e : n ≡ k = omega arith in subst (λ j. p j ≡ true) e (and_left (p n) (all_to n p) h) ]
 
 is_back : ℕ → Bool
 is_back b = not (nat_le (bit_xor b 48) 9) || nat_eq (bit_xor b 48 + 48) b
@@ -111,7 +120,8 @@ all_back = refl
 -- what is below 10 without the bits of `0` is a digit
 back : (b : ℕ) → b < 256 → bit_xor b 48 < 10 → bit_xor b 48 + 48 ≡ b
 unfolding is_back
-back b l h = let t : not (nat_le (bit_xor b 48) 9) || nat_eq (bit_xor b 48 + 48) b ≡ true = of_all 256 is_back all_back b l in from (bit_xor b 48) b h t
+back b l h = let t : not (nat_le (bit_xor b 48) 9) || nat_eq (bit_xor b 48 + 48) b ≡ true =
+    of_all 256 is_back all_back b l in from (bit_xor b 48) b h t
   where
     from : (x b : ℕ) → x < 10 → not (nat_le x 9) || nat_eq (x + 48) b ≡ true → x + 48 ≡ b
     from x b h t = grind (arith, nat_tests)
@@ -148,7 +158,8 @@ clear_word (suc j) (b ∷ s) h =
     ∙ omega (arith, rest)
 
 -- a list of eight
-pub eight : (P : List ℕ → Type 0) → ((a b c d e f g h : ℕ) → P (a ∷ b ∷ c ∷ d ∷ e ∷ f ∷ g ∷ h ∷ [])) → (s : List ℕ) → length s ≡ 8 → P s
+pub eight : (P : List ℕ → Type 0) → ((a b c d e f g h : ℕ) → P (a ∷ b ∷ c ∷ d ∷ e ∷ f ∷ g ∷ h ∷ [])) → (s : List ℕ)
+    → length s ≡ 8 → P s
 eight P each [] l = absurd (omega (arith, l))
 eight P each (a ∷ []) l = absurd (omega (arith, l))
 eight P each (a ∷ b ∷ []) l = absurd (omega (arith, l))
@@ -161,9 +172,13 @@ eight P each (a ∷ b ∷ c ∷ d ∷ e ∷ f ∷ g ∷ h ∷ []) l = each a b c
 eight P each (a ∷ b ∷ c ∷ d ∷ e ∷ f ∷ g ∷ h ∷ i ∷ s) l = absurd (omega (arith, l))
 
 word_below : (s : List ℕ) → length s ≡ 8 → AllBelow 256 s → word_of s < 2 ^ 64
-word_below s l = eight (λ t. AllBelow 256 t → word_of t < 2 ^ 64) (λ a b c d e f g h z. omega (arith, z.0, z.1.0, z.1.1.0, z.1.1.1.0, z.1.1.1.1.0, z.1.1.1.1.1.0, z.1.1.1.1.1.1.0, z.1.1.1.1.1.1.1.0)) s l
+word_below s l =
+    eight (λ t. AllBelow 256 t → word_of t < 2 ^ 64)
+        (λ a b c d e f g h z. omega
+        (arith, z.0, z.1.0, z.1.1.0, z.1.1.1.0, z.1.1.1.1.0, z.1.1.1.1.1.0, z.1.1.1.1.1.1.0, z.1.1.1.1.1.1.1.0)) s l
 
-masked : (j : ℕ) (s : List ℕ) → j ≤ 8 → length s ≡ 8 → AllBelow 256 s → bit_and (word_of s) (2 ^ 64 - 2 ^ (8 * j)) ≡ word_of (clear j s)
+masked : (j : ℕ) (s : List ℕ) → j ≤ 8 → length s ≡ 8 → AllBelow 256 s
+    → bit_and (word_of s) (2 ^ 64 - 2 ^ (8 * j)) ≡ word_of (clear j s)
 masked j s k l h = and_high_mask 64 (8 * j) (omega arith) (word_of s) (word_below s l h) ∙ clear_word j s h
 
 -- ---- the number that eight digits spell
@@ -172,15 +187,20 @@ masked j s k l h = and_high_mask 64 (8 * j) (omega arith) (word_of s) (word_belo
 two_bytes : (n : ℕ) → bit_and n 0x000000ff000000ff ≡ n / 2 ^ 32 % 256 * 2 ^ 32 + n % 256
 two_bytes n =
     let parts : n ≡ n / 2 ^ 32 * 2 ^ 32 + n % 2 ^ 32 = omega arith in
-    let block : bit_and (n / 2 ^ 32 * 2 ^ 32 + n % 2 ^ 32) (255 * 2 ^ 32 + 255) ≡ bit_and (n / 2 ^ 32) 255 * 2 ^ 32 + bit_and (n % 2 ^ 32) 255 = and_block 32 (n / 2 ^ 32) 255 (n % 2 ^ 32) 255 (omega arith) (omega arith) in
+    let block : bit_and (n / 2 ^ 32 * 2 ^ 32 + n % 2 ^ 32) (255 * 2 ^ 32 + 255) ≡ bit_and (n / 2 ^ 32) 255 * 2 ^ 32
+        + bit_and (n % 2 ^ 32) 255 = and_block 32 (n / 2 ^ 32) 255 (n % 2 ^ 32) 255 (omega arith) (omega arith) in
     let high : bit_and (n / 2 ^ 32) 255 ≡ n / 2 ^ 32 % 256 = and_mask (n / 2 ^ 32) 8 in
     let low : bit_and (n % 2 ^ 32) 255 ≡ n % 2 ^ 32 % 256 = and_mask (n % 2 ^ 32) 8 in
     let all = ap (λ m. bit_and m 0x000000ff000000ff) parts in
     omega (arith, all, block, high, low)
 
 -- the number of some pairs of digits, of which each second one counts
-of_pairs : (n p q r s t u v w : ℕ) → n ≡ p + 256 * (q + 256 * (r + 256 * (s + 256 * (t + 256 * (u + 256 * (v + 256 * w)))))) → p < 100 → q < 100 → r < 100 → s < 100 → t < 100 → u < 100 → v < 100 → w < 100
-    → (bit_and n 0x000000ff000000ff * 4294967296000100 % 2 ^ 64 + bit_and (n / 2 ^ 16) 0x000000ff000000ff * 42949672960001 % 2 ^ 64) % 2 ^ 64 / 2 ^ 32 ≡ p * 1000000 + r * 10000 + t * 100 + v
+of_pairs : (n p q r s t u v w : ℕ)
+    → n ≡ p + 256 * (q + 256 * (r + 256 * (s + 256 * (t + 256 * (u + 256 * (v + 256 * w)))))) → p < 100 → q < 100
+    → r < 100 → s < 100 → t < 100 → u < 100 → v < 100 → w < 100
+    → (bit_and n 0x000000ff000000ff * 4294967296000100 % 2 ^ 64
+        + bit_and (n / 2 ^ 16) 0x000000ff000000ff * 42949672960001 % 2 ^ 64) % 2 ^ 64 / 2 ^ 32 ≡ p * 1000000 + r * 10000
+    + t * 100 + v
 of_pairs n p q r s t u v w e lp lq lr ls lt lu lv lw =
     let first = two_bytes n in
     let second = two_bytes (n / 2 ^ 16) in
@@ -192,7 +212,9 @@ of_pairs n p q r s t u v w e lp lq lr ls lt lu lv lw =
     let y : bit_and (n / 2 ^ 16) 0x000000ff000000ff ≡ v * 2 ^ 32 + r = omega (arith, second, r_is, v_is) in
     products (bit_and n 0x000000ff000000ff) (bit_and (n / 2 ^ 16) 0x000000ff000000ff) p r t v x y lp lr lt lv
   where
-    products : (x y p r t v : ℕ) → x ≡ t * 2 ^ 32 + p → y ≡ v * 2 ^ 32 + r → p < 100 → r < 100 → t < 100 → v < 100 → (x * 4294967296000100 % 2 ^ 64 + y * 42949672960001 % 2 ^ 64) % 2 ^ 64 / 2 ^ 32 ≡ p * 1000000 + r * 10000 + t * 100 + v
+    products : (x y p r t v : ℕ) → x ≡ t * 2 ^ 32 + p → y ≡ v * 2 ^ 32 + r → p < 100 → r < 100 → t < 100 → v < 100
+        → (x * 4294967296000100 % 2 ^ 64 + y * 42949672960001 % 2 ^ 64) % 2 ^ 64 / 2 ^ 32 ≡ p * 1000000 + r * 10000
+        + t * 100 + v
     products x y p r t v ex ey lp lr lt lv = omega arith
 
 unfoldable pub horner : ℕ → List ℕ → ℕ
@@ -202,28 +224,42 @@ horner n (d ∷ s) = horner (10 * n + d) s
 pub spelled_value : (n : ℕ) (s : List ℕ) → value_after n (map (λ d. d + 48) s) ≡ horner n s
 unfolding horner
 spelled_value n [] = refl
-spelled_value n (d ∷ s) = let e : 10 * n + (d + 48 - 48) ≡ 10 * n + d = omega arith in ap (λ m. value_after m (map (λ c. c + 48) s)) e ∙ spelled_value (10 * n + d) s
+spelled_value n (d ∷ s) = let e : 10 * n + (d + 48 - 48) ≡ 10 * n + d = omega arith in
+    ap (λ m. value_after m (map (λ c. c + 48) s)) e ∙ spelled_value (10 * n + d) s
 
-pub value_eight : (s : List ℕ) → length s ≡ 8 → AllBelow 10 s → (w n : ℕ) → w ≡ word_of s → n ≡ (bit_and (w * 10 + w / 2 ^ 8) 0x000000ff000000ff * 4294967296000100 % 2 ^ 64 + bit_and ((w * 10 + w / 2 ^ 8) / 2 ^ 16) 0x000000ff000000ff * 42949672960001 % 2 ^ 64) % 2 ^ 64 / 2 ^ 32
+pub value_eight : (s : List ℕ) → length s ≡ 8 → AllBelow 10 s → (w n : ℕ) → w ≡ word_of s
+    → n ≡ (bit_and (w * 10 + w / 2 ^ 8) 0x000000ff000000ff * 4294967296000100 % 2 ^ 64
+    + bit_and ((w * 10 + w / 2 ^ 8) / 2 ^ 16) 0x000000ff000000ff * 42949672960001 % 2 ^ 64) % 2 ^ 64 / 2 ^ 32
     → n ≡ digits_value (map (λ d. d + 48) s)
 unfolding horner
 value_eight s l = eight P each s l
   where
     P : List ℕ → Type 0
-    P s = AllBelow 10 s → (w n : ℕ) → w ≡ word_of s → n ≡ (bit_and (w * 10 + w / 2 ^ 8) 0x000000ff000000ff * 4294967296000100 % 2 ^ 64 + bit_and ((w * 10 + w / 2 ^ 8) / 2 ^ 16) 0x000000ff000000ff * 42949672960001 % 2 ^ 64) % 2 ^ 64 / 2 ^ 32
+    P s = AllBelow 10 s → (w n : ℕ) → w ≡ word_of s
+        → n ≡ (bit_and (w * 10 + w / 2 ^ 8) 0x000000ff000000ff * 4294967296000100 % 2 ^ 64
+        + bit_and ((w * 10 + w / 2 ^ 8) / 2 ^ 16) 0x000000ff000000ff * 42949672960001 % 2 ^ 64) % 2 ^ 64 / 2 ^ 32
         → n ≡ digits_value (map (λ d. d + 48) s)
 
-    pairs : (a b c d e f g h w : ℕ) → a < 10 → w ≡ a + 256 * (b + 256 * (c + 256 * (d + 256 * (e + 256 * (f + 256 * (g + 256 * (h + 256 * 0)))))))
-        → w * 10 + w / 2 ^ 8 ≡ 10 * a + b + 256 * (10 * b + c + 256 * (10 * c + d + 256 * (10 * d + e + 256 * (10 * e + f + 256 * (10 * f + g + 256 * (10 * g + h + 256 * (10 * h)))))))
-    pairs a b c d e f g h w la is = let r : w / 2 ^ 8 ≡ b + 256 * (c + 256 * (d + 256 * (e + 256 * (f + 256 * (g + 256 * (h + 256 * 0)))))) = omega arith in omega arith
+    pairs : (a b c d e f g h w : ℕ) → a < 10
+        → w ≡ a + 256 * (b + 256 * (c + 256 * (d + 256 * (e + 256 * (f + 256 * (g + 256 * (h + 256 * 0)))))))
+        → w * 10 + w / 2 ^ 8 ≡ 10 * a + b
+        + 256 * (10 * b + c + 256 * (10 * c + d
+                + 256 * (10 * d + e + 256 * (10 * e + f + 256 * (10 * f + g + 256 * (10 * g + h + 256 * (10 * h)))))))
+    pairs a b c d e f g h w la is =
+        let r : w / 2 ^ 8 ≡ b + 256 * (c + 256 * (d + 256 * (e + 256 * (f + 256 * (g + 256 * (h + 256 * 0)))))) =
+        omega arith in omega arith
 
-    sum : (a b c d e f g h n : ℕ) → n ≡ (10 * a + b) * 1000000 + (10 * c + d) * 10000 + (10 * e + f) * 100 + (10 * g + h) → n ≡ horner 0 (a ∷ b ∷ c ∷ d ∷ e ∷ f ∷ g ∷ h ∷ [])
+    sum : (a b c d e f g h n : ℕ) → n ≡ (10 * a + b) * 1000000 + (10 * c + d) * 10000 + (10 * e + f) * 100
+        + (10 * g + h) → n ≡ horner 0 (a ∷ b ∷ c ∷ d ∷ e ∷ f ∷ g ∷ h ∷ [])
     sum a b c d e f g h n is = omega arith
 
     each : (a b c d e f g h : ℕ) → P (a ∷ b ∷ c ∷ d ∷ e ∷ f ∷ g ∷ h ∷ [])
     each a b c d e f g h z w n is answer =
-        let la = z.0 in let lb = z.1.0 in let lc = z.1.1.0 in let ld = z.1.1.1.0 in let le = z.1.1.1.1.0 in let lf = z.1.1.1.1.1.0 in let lg = z.1.1.1.1.1.1.0 in let lh = z.1.1.1.1.1.1.1.0 in
-        let value = of_pairs (w * 10 + w / 2 ^ 8) (10 * a + b) (10 * b + c) (10 * c + d) (10 * d + e) (10 * e + f) (10 * f + g) (10 * g + h) (10 * h) (pairs a b c d e f g h w la is) (omega arith) (omega arith) (omega arith) (omega arith) (omega arith) (omega arith) (omega arith) (omega arith) in
+        let la = z.0 in let lb = z.1.0 in let lc = z.1.1.0 in let ld = z.1.1.1.0 in let le = z.1.1.1.1.0 in
+        let lf = z.1.1.1.1.1.0 in let lg = z.1.1.1.1.1.1.0 in let lh = z.1.1.1.1.1.1.1.0 in
+        let value = of_pairs (w * 10 + w / 2 ^ 8) (10 * a + b) (10 * b + c) (10 * c + d) (10 * d + e) (10 * e + f)
+            (10 * f + g) (10 * g + h) (10 * h) (pairs a b c d e f g h w la is) (omega arith) (omega arith) (omega arith)
+            (omega arith) (omega arith) (omega arith) (omega arith) (omega arith) in
         sum a b c d e f g h n (answer ∙ value) ∙ sym (spelled_value 0 (a ∷ b ∷ c ∷ d ∷ e ∷ f ∷ g ∷ h ∷ []))
 
 -- ---- the digits at the end of eight bytes
@@ -248,16 +284,19 @@ unfolding without_zeros
 xor_below [] h = tt
 xor_below (b ∷ s) h = (xor_lt 8 b 48 h.0 (omega arith), xor_below s h.1)
 
-spelled : (s : List ℕ) → AllBelow 256 s → AllBelow 10 (without_zeros s) → AllDigits s × (map (λ d. d + 48) (without_zeros s) ≡ s)
+spelled : (s : List ℕ) → AllBelow 256 s → AllBelow 10 (without_zeros s) → AllDigits s
+    × (map (λ d. d + 48) (without_zeros s) ≡ s)
 unfolding without_zeros
 spelled [] h z = (tt, refl)
 spelled (b ∷ s) h z =
     let rest = spelled s h.1 z.1 in
     let e = back b h.0 z.0 in
     let l = z.0 in
-    ((((omega arith), (omega arith)), rest.0), ap (λ c. c ∷ map (λ d. d + 48) (without_zeros s)) e ∙ ap (λ t. b ∷ t) rest.1)
+    ((((omega arith), (omega arith)), rest.0), ap (λ c. c ∷ map (λ d. d + 48) (without_zeros s)) e
+        ∙ ap (λ t. b ∷ t) rest.1)
 
-cleared : (j : ℕ) (s : List ℕ) → AllBelow 256 s → AllBelow 10 (clear j (without_zeros s)) → AllDigits (drop j s) × (digits_value (map (λ d. d + 48) (clear j (without_zeros s))) ≡ digits_value (drop j s))
+cleared : (j : ℕ) (s : List ℕ) → AllBelow 256 s → AllBelow 10 (clear j (without_zeros s)) → AllDigits (drop j s)
+    × (digits_value (map (λ d. d + 48) (clear j (without_zeros s))) ≡ digits_value (drop j s))
 unfolding clear without_zeros
 cleared zero s h z = let e = spelled s h z in (e.0, ap digits_value e.1)
 cleared (suc j) [] h z = (tt, refl)
@@ -274,7 +313,8 @@ all_digits_small = refl
 
 digit_small : (b : ℕ) → 48 ≤ b → b ≤ 57 → bit_xor b 48 < 10
 unfolding is_small
-digit_small b low high = let t : not (nat_le 48 b && nat_le b 57) || nat_le (bit_xor b 48) 9 ≡ true = of_all 256 is_small all_digits_small b (omega arith) in from (bit_xor b 48) b low high t
+digit_small b low high = let t : not (nat_le 48 b && nat_le b 57) || nat_le (bit_xor b 48) 9 ≡ true =
+    of_all 256 is_small all_digits_small b (omega arith) in from (bit_xor b 48) b low high t
   where
     from : (x b : ℕ) → 48 ≤ b → b ≤ 57 → not (nat_le 48 b && nat_le b 57) || nat_le x 9 ≡ true → x < 10
     from x b low high t = grind (arith, nat_tests)
@@ -287,7 +327,8 @@ digits_small (suc j) [] d = tt
 digits_small (suc j) (b ∷ s) d = (omega arith, digits_small j s d)
 
 low_of : (b : ℕ) → b < 16 → bit_and b 240 ≡ 0
-low_of b l = let e : bit_and b (2 ^ 8 - 2 ^ 4) ≡ b / 2 ^ 4 * 2 ^ 4 = and_high_mask 8 4 (omega arith) b (omega arith) in omega (arith, e)
+low_of b l = let e : bit_and b (2 ^ 8 - 2 ^ 4) ≡ b / 2 ^ 4 * 2 ^ 4 = and_high_mask 8 4 (omega arith) b (omega arith) in
+    omega (arith, e)
 
 all_low : (s : List ℕ) → AllBelow 16 s → word_of (map (λ b. bit_and b 240) s) ≡ 0
 all_low [] h = refl
@@ -309,7 +350,8 @@ sixes_below [] h = tt
 sixes_below (b ∷ s) h = (omega (arith, h.0), sixes_below s h.1)
 
 -- the word that is tested, and what its tests say of the bytes
-module _ (j : ℕ) (s : List ℕ) (w m : ℕ) (lj : j ≤ 8) (ls : length s ≡ 8) (h : AllBelow 256 s) (is : w ≡ word_of s) (word : m ≡ bit_and (bit_xor w 0x3030303030303030) (2 ^ 64 - 2 ^ (8 * j))) where
+module _ (j : ℕ) (s : List ℕ) (w m : ℕ) (lj : j ≤ 8) (ls : length s ≡ 8) (h : AllBelow 256 s) (is : w ≡ word_of s)
+    (word : m ≡ bit_and (bit_xor w 0x3030303030303030) (2 ^ 64 - 2 ^ (8 * j))) where
   tested_length : length (clear j (without_zeros s)) ≡ 8
   unfolding without_zeros
   tested_length = length_clear j (without_zeros s) ∙ length_map (λ b. bit_xor b 48) s ∙ ls
@@ -319,12 +361,17 @@ module _ (j : ℕ) (s : List ℕ) (w m : ℕ) (lj : j ≤ 8) (ls : length s ≡ 
   tested =
       let xs = without_zeros s in
       let zeros : word_of (copies 8 48) ≡ 0x3030303030303030 = refl in
-      let same : bit_xor (word_of s) 0x3030303030303030 ≡ word_of xs = ap (bit_xor (word_of s)) (sym zeros ∙ ap (λ k. word_of (copies k 48)) (sym ls)) ∙ xor_same 48 (omega arith) s h in
-      word ∙ ap (λ v. bit_and (bit_xor v 0x3030303030303030) (2 ^ 64 - 2 ^ (8 * j))) is ∙ ap (λ v. bit_and v (2 ^ 64 - 2 ^ (8 * j))) same ∙ masked j xs lj (length_map (λ b. bit_xor b 48) s ∙ ls) (xor_below s h)
+      let same : bit_xor (word_of s) 0x3030303030303030 ≡ word_of xs =
+          ap (bit_xor (word_of s)) (sym zeros ∙ ap (λ k. word_of (copies k 48)) (sym ls))
+          ∙ xor_same 48 (omega arith) s h in
+      word ∙ ap (λ v. bit_and (bit_xor v 0x3030303030303030) (2 ^ 64 - 2 ^ (8 * j))) is
+          ∙ ap (λ v. bit_and v (2 ^ 64 - 2 ^ (8 * j))) same
+          ∙ masked j xs lj (length_map (λ b. bit_xor b 48) s ∙ ls) (xor_below s h)
 
   -- the eight digits of the word, where each of its bytes is below 10, and those that stand at the end of eight bytes
   pub eight_at_end : ((t : List ℕ) → length t ≡ 8 → AllBelow 256 t → m ≡ word_of t → AllBelow 10 t)
-      → (t : List ℕ) × (length t ≡ 8) × AllBelow 10 t × (m ≡ word_of t) × AllDigits (drop j s) × (digits_value (map (λ d. d + 48) t) ≡ digits_value (drop j s))
+      → (t : List ℕ) × (length t ≡ 8) × AllBelow 10 t × (m ≡ word_of t) × AllDigits (drop j s)
+      × (digits_value (map (λ d. d + 48) t) ≡ digits_value (drop j s))
   eight_at_end each =
       let t = clear j (without_zeros s) in
       let small = each t tested_length (clear_below j (without_zeros s) (xor_below s h)) tested in
@@ -352,7 +399,8 @@ module _ (j : ℕ) (s : List ℕ) (w m : ℕ) (lj : j ≤ 8) (ls : length s ≡ 
       (end.0, subst (λ v. v < n) end.1 (value t tested_length small tested))
 
   -- and digits pass the test
-  pub digits_pass : (b : Bool) → ((t : List ℕ) → length t ≡ 8 → AllBelow 256 t → m ≡ word_of t → AllBelow 10 t → IsTrue b)
+  pub digits_pass : (b : Bool)
+      → ((t : List ℕ) → length t ≡ 8 → AllBelow 256 t → m ≡ word_of t → AllBelow 10 t → IsTrue b)
       → AllDigits (drop j s) → IsTrue b
   digits_pass b each d =
       let t = clear j (without_zeros s) in
@@ -381,7 +429,8 @@ pub length_slice : (line : List ℕ) (i j : ℕ) → j ≤ length line → lengt
 length_slice line i j h = let l = length-drop i line in length-take-le (j - i) (drop i line) (omega (arith, l))
 
 -- the last of eight bytes
-pub end_of_eight : (line : List ℕ) (count stop : ℕ) → count ≤ 8 → 8 ≤ stop → drop (8 - count) (slice_range line (stop - 8) stop) ≡ slice_range line (stop - count) stop
+pub end_of_eight : (line : List ℕ) (count stop : ℕ) → count ≤ 8 → 8 ≤ stop
+    → drop (8 - count) (slice_range line (stop - 8) stop) ≡ slice_range line (stop - count) stop
 end_of_eight line count stop few room =
     let n : stop - (stop - 8) ≡ 8 - count + count = omega arith in
     let m : stop - (stop - count) ≡ count = omega arith in
@@ -394,7 +443,8 @@ end_of_eight line count stop few room =
 -- the top half of the last byte is 0
 pub below_top : (m : ℕ) → m < 2 ^ 64 → bit_and m 0xf0f0f0f0f0f0f0f0 ≡ 0 → m < 2 ^ 60
 below_top m l h =
-    let top : bit_and m 0xf0f0f0f0f0f0f0f0 / 2 ^ 60 ≡ bit_and (m / 2 ^ 60) (2 ^ 4 - 1) = and_shr m 0xf0f0f0f0f0f0f0f0 60 in
+    let top : bit_and m 0xf0f0f0f0f0f0f0f0 / 2 ^ 60 ≡ bit_and (m / 2 ^ 60) (2 ^ 4 - 1) =
+        and_shr m 0xf0f0f0f0f0f0f0f0 60 in
     let mask = and_mask (m / 2 ^ 60) 4 in
     omega (arith, top, mask, h)
 
@@ -408,31 +458,41 @@ is_zero : (n : ℕ) → n ≡ 0 → IsTrue (nat_eq n 0)
 is_zero n h = grind (arith, nat_tests)
 
 -- the test of a word: no bit is set in a high half, nor when 6 is added to each byte
-pub passed_room : (w : ℕ) → w < 2 ^ 64 → IsTrue (nat_eq (bit_or (bit_and w 0xf0f0f0f0f0f0f0f0) (bit_and ((w + 0x0606060606060606) % 2 ^ 64) 0xf0f0f0f0f0f0f0f0)) 0) → w < 2 ^ 60
+pub passed_room : (w : ℕ) → w < 2 ^ 64
+    → IsTrue (nat_eq (bit_or (bit_and w 0xf0f0f0f0f0f0f0f0)
+        (bit_and ((w + 0x0606060606060606) % 2 ^ 64) 0xf0f0f0f0f0f0f0f0)) 0) → w < 2 ^ 60
 passed_room w l h = below_top w l (both_zero _ _ (zero_is _ h)).0
 
 pub passed_each : (w : ℕ) (s : List ℕ) → length s ≡ 8 → AllBelow 256 s → w ≡ word_of s
-    → IsTrue (nat_eq (bit_or (bit_and w 0xf0f0f0f0f0f0f0f0) (bit_and ((w + 0x0606060606060606) % 2 ^ 64) 0xf0f0f0f0f0f0f0f0)) 0) → AllBelow 10 s
+    → IsTrue (nat_eq (bit_or (bit_and w 0xf0f0f0f0f0f0f0f0)
+            (bit_and ((w + 0x0606060606060606) % 2 ^ 64) 0xf0f0f0f0f0f0f0f0)) 0) → AllBelow 10 s
 passed_each w s e h is test =
     let z = both_zero _ _ (zero_is _ test) in
     let l : w < 2 ^ 64 = subst (λ v. v < 2 ^ 64) (sym is) (word_below s e h) in
     let room = below_top w l z.0 in
     let sum : (w + 0x0606060606060606) % 2 ^ 64 ≡ w + 0x0606060606060606 = omega arith in
     all_small s e h (ap (λ v. bit_and v 0xf0f0f0f0f0f0f0f0) (sym is) ∙ z.0)
-    (ap (λ v. bit_and (v + 0x0606060606060606) 0xf0f0f0f0f0f0f0f0) (sym is) ∙ ap (λ v. bit_and v 0xf0f0f0f0f0f0f0f0) (sym sum) ∙ z.1)
+    (ap (λ v. bit_and (v + 0x0606060606060606) 0xf0f0f0f0f0f0f0f0) (sym is)
+        ∙ ap (λ v. bit_and v 0xf0f0f0f0f0f0f0f0) (sym sum) ∙ z.1)
 
 pub passes_each : (w : ℕ) (s : List ℕ) → length s ≡ 8 → AllBelow 256 s → w ≡ word_of s → AllBelow 10 s
-    → IsTrue (nat_eq (bit_or (bit_and w 0xf0f0f0f0f0f0f0f0) (bit_and ((w + 0x0606060606060606) % 2 ^ 64) 0xf0f0f0f0f0f0f0f0)) 0)
+    → IsTrue (nat_eq (bit_or (bit_and w 0xf0f0f0f0f0f0f0f0)
+            (bit_and ((w + 0x0606060606060606) % 2 ^ 64) 0xf0f0f0f0f0f0f0f0)) 0)
 unfolding copies
 passes_each w s e h is small =
     let six : word_of (copies 8 6) ≡ 0x0606060606060606 = refl in
-    let added : word_of s + 0x0606060606060606 ≡ word_of (map (λ b. b + 6) s) = ap (λ n. word_of s + n) (sym six ∙ ap (λ n. word_of (copies n 6)) (sym e)) ∙ add_same 6 s in
-    let low : bit_and w 0xf0f0f0f0f0f0f0f0 ≡ 0 = ap (λ v. bit_and v 0xf0f0f0f0f0f0f0f0) is ∙ no_nibbles s e (below_more 10 16 (omega arith) s small) in
+    let added : word_of s + 0x0606060606060606 ≡ word_of (map (λ b. b + 6) s) =
+        ap (λ n. word_of s + n) (sym six ∙ ap (λ n. word_of (copies n 6)) (sym e)) ∙ add_same 6 s in
+    let low : bit_and w 0xf0f0f0f0f0f0f0f0 ≡ 0 = ap (λ v. bit_and v 0xf0f0f0f0f0f0f0f0) is
+        ∙ no_nibbles s e (below_more 10 16 (omega arith) s small) in
     let l : w < 2 ^ 64 = subst (λ v. v < 2 ^ 64) (sym is) (word_below s e h) in
     let room = below_top w l low in
     let sum : (w + 0x0606060606060606) % 2 ^ 64 ≡ word_of (map (λ b. b + 6) s) = omega (arith, is, added, room) in
-    let high : bit_and ((w + 0x0606060606060606) % 2 ^ 64) 0xf0f0f0f0f0f0f0f0 ≡ 0 = ap (λ v. bit_and v 0xf0f0f0f0f0f0f0f0) sum ∙ no_nibbles (map (λ b. b + 6) s) (length_map (λ b. b + 6) s ∙ e) (sixes_below s small) in
-    is_zero _ (ap (λ v. bit_or v (bit_and ((w + 0x0606060606060606) % 2 ^ 64) 0xf0f0f0f0f0f0f0f0)) low ∙ ap (bit_or 0) high)
+    let high : bit_and ((w + 0x0606060606060606) % 2 ^ 64) 0xf0f0f0f0f0f0f0f0 ≡ 0 =
+        ap (λ v. bit_and v 0xf0f0f0f0f0f0f0f0) sum
+        ∙ no_nibbles (map (λ b. b + 6) s) (length_map (λ b. b + 6) s ∙ e) (sixes_below s small) in
+    is_zero _ (ap (λ v. bit_or v (bit_and ((w + 0x0606060606060606) % 2 ^ 64) 0xf0f0f0f0f0f0f0f0)) low
+        ∙ ap (bit_or 0) high)
 
 -- ---- short numbers
 
@@ -446,10 +506,12 @@ int_of (b ∷ t) l all lead =
     let low = all.0.0 in let high = all.0.1 in
     elim (cases_lt 48 b) [
       | inl more ↦ inr (omega arith, omega arith, all.1)
-      | inr less ↦ let zero_is : b ≡ 48 = omega arith in let one = lead zero_is in inl (zero_is, alone t (omega (arith, one)))
+      | inr less ↦ let zero_is : b ≡ 48 = omega arith in let one = lead zero_is in
+          inl (zero_is, alone t (omega (arith, one)))
     ]
 
-short_of : (s : List ℕ) (n : ℕ) → 0 < length s → AllDigits s → n ≡ digits_value s → n < 2 ^ 32 → (get_or s 0 0 ≡ 48 → length s ≡ 1) → IsShort s n
+short_of : (s : List ℕ) (n : ℕ) → 0 < length s → AllDigits s → n ≡ digits_value s → n < 2 ^ 32
+    → (get_or s 0 0 ≡ 48 → length s ≡ 1) → IsShort s n
 unfolding begins_digit
 short_of s n l all value small lead =
     let int = int_of s l all lead in
@@ -457,8 +519,11 @@ short_of s n l all value small lead =
     let tests = int_alone_reads s int in
     record { int = tests.0; rest = tests.1; value = value ∙ ap digits_value (sym front); small = omega (arith, small) }
 
-pub word_short : (o : Option ℕ) (line : List ℕ) (start stop : ℕ) → start < stop → stop ≤ length line → (get_or line start 0 ≡ 48 → stop - start ≡ 1) → IfSome o (λ n. n < 2 ^ 32)
-    → IfSome o (λ n. AllDigits (slice_range line (stop - (stop - start)) stop) × (n ≡ digits_value (slice_range line (stop - (stop - start)) stop))) → IfSome o (λ n. IsShort (slice_range line start stop) n)
+pub word_short : (o : Option ℕ) (line : List ℕ) (start stop : ℕ) → start < stop → stop ≤ length line
+    → (get_or line start 0 ≡ 48 → stop - start ≡ 1) → IfSome o (λ n. n < 2 ^ 32)
+    → IfSome o (λ n. AllDigits (slice_range line (stop - (stop - start)) stop)
+        × (n ≡ digits_value (slice_range line (stop - (stop - start)) stop)))
+    → IfSome o (λ n. IsShort (slice_range line start stop) n)
 word_short None line start stop order within lead small value = value
 word_short (Some n) line start stop order within lead small value =
     let e : stop - (stop - start) ≡ start = omega arith in
@@ -466,16 +531,22 @@ word_short (Some n) line start stop order within lead small value =
     let P : ℕ → Type 0 = λ k. AllDigits (slice_range line k stop) × (n ≡ digits_value (slice_range line k stop)) in
     let is = subst P e value in
     let l = length_slice line start stop within in
-    let first : get_or s 0 0 ≡ get_or line start 0 = get_or-take (stop - start) (drop start line) 0 0 (omega arith) ∙ get_or-drop start line 0 0 ∙ ap (λ k. get_or line k 0) (omega arith) in
+    let first : get_or s 0 0 ≡ get_or line start 0 = get_or-take (stop - start) (drop start line) 0 0 (omega arith)
+        ∙ get_or-drop start line 0 0 ∙ ap (λ k. get_or line k 0) (omega arith) in
     short_of s n (omega (arith, l)) is.0 is.1 small (λ z. l ∙ lead (sym first ∙ z))
 
-pub first_is : (line : List ℕ) (start stop : ℕ) → start < stop → get_or (slice_range line start stop) 0 0 ≡ get_or line start 0
-first_is line start stop order = get_or-take (stop - start) (drop start line) 0 0 (omega arith) ∙ get_or-drop start line 0 0 ∙ ap (λ k. get_or line k 0) (omega arith)
+pub first_is : (line : List ℕ) (start stop : ℕ) → start < stop
+    → get_or (slice_range line start stop) 0 0 ≡ get_or line start 0
+first_is line start stop order = get_or-take (stop - start) (drop start line) 0 0 (omega arith)
+    ∙ get_or-drop start line 0 0 ∙ ap (λ k. get_or line k 0) (omega arith)
 
-pub int_slice : (line : List ℕ) (start stop : ℕ) → start < stop → stop ≤ length line → (get_or line start 0 ≡ 48 → stop - start ≡ 1) → AllDigits (slice_range line start stop) → IsInt (slice_range line start stop)
+pub int_slice : (line : List ℕ) (start stop : ℕ) → start < stop → stop ≤ length line
+    → (get_or line start 0 ≡ 48 → stop - start ≡ 1) → AllDigits (slice_range line start stop)
+    → IsInt (slice_range line start stop)
 int_slice line start stop order within lead all =
     let l = length_slice line start stop within in
-    int_of (slice_range line start stop) (omega (arith, l)) all (λ z. l ∙ lead (sym (first_is line start stop order) ∙ z))
+    int_of (slice_range line start stop) (omega (arith, l)) all
+        (λ z. l ∙ lead (sym (first_is line start stop order) ∙ z))
 
 one_zero : (s : List ℕ) → IsInt s → get_or s 0 0 ≡ 48 → length s ≡ 1
 one_zero [] int z = absurd int
@@ -492,7 +563,8 @@ begins_first c (b ∷ t) l e = test b e
     test : (b : ℕ) → b ≡ c → nat_eq b c ≡ true
     test b e = grind (arith, nat_tests)
 
-pub minus_first : (line : List ℕ) (start stop : ℕ) → start < stop → stop ≤ length line → get_or line start 0 ≡ 45 → true ≡ begins 45 (slice_range line start stop)
+pub minus_first : (line : List ℕ) (start stop : ℕ) → start < stop → stop ≤ length line → get_or line start 0 ≡ 45
+    → true ≡ begins 45 (slice_range line start stop)
 minus_first line start stop order within z =
     let l = length_slice line start stop within in
     sym (begins_first 45 (slice_range line start stop) (omega (arith, l)) (first_is line start stop order ∙ z))
@@ -505,20 +577,27 @@ begins_not c (b ∷ t) n = test b n
     test : (b : ℕ) → (b ≡ c → ⊥) → nat_eq b c ≡ false
     test b n = grind (arith, nat_tests)
 
-pub body_plain : (line : List ℕ) (start stop : ℕ) → start < stop → (get_or line start 0 ≡ 45 → ⊥) → body (slice_range line start stop) ≡ slice_range line start stop
-body_plain line start stop order n = let s = slice_range line start stop in no_minus s (begins_not 45 s (λ z. n (sym (first_is line start stop order) ∙ z)))
+pub body_plain : (line : List ℕ) (start stop : ℕ) → start < stop → (get_or line start 0 ≡ 45 → ⊥)
+    → body (slice_range line start stop) ≡ slice_range line start stop
+body_plain line start stop order n = let s = slice_range line start stop in
+    no_minus s (begins_not 45 s (λ z. n (sym (first_is line start stop order) ∙ z)))
 
-pub body_behind : (line : List ℕ) (start stop : ℕ) → start < stop → true ≡ begins 45 (slice_range line start stop) → body (slice_range line start stop) ≡ slice_range line (start + 1) stop
+pub body_behind : (line : List ℕ) (start stop : ℕ) → start < stop → true ≡ begins 45 (slice_range line start stop)
+    → body (slice_range line start stop) ≡ slice_range line (start + 1) stop
 body_behind line start stop order minus =
     let s = slice_range line start stop in
     let m : stop - start ≡ 1 + (stop - (start + 1)) = omega arith in
-    minus_there s (sym minus) ∙ ap (λ k. drop 1 (take k (drop start line))) m ∙ drop-take 1 (stop - (start + 1)) (drop start line) ∙ ap (take (stop - (start + 1))) (drop-drop 1 start line)
+    minus_there s (sym minus) ∙ ap (λ k. drop 1 (take k (drop start line))) m
+        ∙ drop-take 1 (stop - (start + 1)) (drop start line) ∙ ap (take (stop - (start + 1))) (drop-drop 1 start line)
 
-pub short_behind : (line : List ℕ) (start stop n : ℕ) → start < stop → true ≡ begins 45 (slice_range line start stop) → IsShort (slice_range line (start + 1) stop) n → IsShort (body (slice_range line start stop)) n
-short_behind line start stop n order minus short = let P : List ℕ → Type 0 = λ t. IsShort t n in subst P (sym (body_behind line start stop order minus)) short
+pub short_behind : (line : List ℕ) (start stop n : ℕ) → start < stop → true ≡ begins 45 (slice_range line start stop)
+    → IsShort (slice_range line (start + 1) stop) n → IsShort (body (slice_range line start stop)) n
+short_behind line start stop n order minus short = let P : List ℕ → Type 0 = λ t. IsShort t n in
+    subst P (sym (body_behind line start stop order minus)) short
 
 -- few digits, as a body and where they stand
-pub few_in : (line : List ℕ) (start stop : ℕ) (s : List ℕ) → s ≡ slice_range line start stop → stop ≤ length line → stop ≤ start + 8 → IsInt (slice_range line start stop) → IsFewDigits s
+pub few_in : (line : List ℕ) (start stop : ℕ) (s : List ℕ) → s ≡ slice_range line start stop → stop ≤ length line
+    → stop ≤ start + 8 → IsInt (slice_range line start stop) → IsFewDigits s
 few_in line start stop s e within near int =
     let l = length_slice line start stop within in
     let few : IsFewDigits (slice_range line start stop) = (int, omega (arith, l)) in
@@ -534,8 +613,10 @@ no_int line start stop h int =
     let e : slice_range line start stop ≡ [] = ap (λ k. take k (drop start line)) n in
     let P : List ℕ → Type 0 = λ t. IsInt t in subst P e int
 
-pub all_from_eight : (line : List ℕ) (count stop : ℕ) → count ≤ 8 → 8 ≤ stop → AllDigits (slice_range line (stop - count) stop) → AllDigits (drop (8 - count) (slice_range line (stop - 8) stop))
-all_from_eight line count stop few room all = let P : List ℕ → Type 0 = λ t. AllDigits t in subst P (sym (end_of_eight line count stop few room)) all
+pub all_from_eight : (line : List ℕ) (count stop : ℕ) → count ≤ 8 → 8 ≤ stop
+    → AllDigits (slice_range line (stop - count) stop) → AllDigits (drop (8 - count) (slice_range line (stop - 8) stop))
+all_from_eight line count stop few room all = let P : List ℕ → Type 0 = λ t. AllDigits t in
+    subst P (sym (end_of_eight line count stop few room)) all
 
 -- ---- digits that are a number of JSON
 

@@ -15,12 +15,18 @@ digit_test b h = let low : 48 ≤ b = h.0 in let high : b ≤ 57 = h.1 in grind 
 pub front_all : (s : List ℕ) → AllDigits (digits_front s)
 unfolding digits_front
 front_all [] = tt
-front_all (b ∷ s) = elim (is_ascii_digit b) as (λ t. is_ascii_digit b ≡ t → AllDigits (cond t (b ∷ digits_front s) [])) [ true ↦ λ e. (digit_bounds b e, front_all s) | false ↦ λ _. tt ] refl
+front_all (b ∷ s) =
+    elim (is_ascii_digit b) as
+        (λ t. is_ascii_digit b ≡ t → AllDigits (cond t (b ∷ digits_front s) [])) [ true ↦
+        λ e. (digit_bounds b e, front_all s) | false ↦ λ _. tt ] refl
 
 pub front_rest : (s : List ℕ) → s ≡ digits_front s ++ digits_rest s
 unfolding digits_front digits_rest
 front_rest [] = refl
-front_rest (b ∷ s) = elim (is_ascii_digit b) as (λ t. b ∷ s ≡ cond t (b ∷ digits_front s) [] ++ cond t (digits_rest s) (b ∷ s)) [ true ↦ ap (λ r. b ∷ r) (front_rest s) | false ↦ refl ]
+front_rest (b ∷ s) =
+    elim (is_ascii_digit b) as
+        (λ t. b ∷ s ≡ cond t (b ∷ digits_front s) [] ++ cond t (digits_rest s) (b ∷ s)) [ true ↦
+        ap (λ r. b ∷ r) (front_rest s) | false ↦ refl ]
 
 -- digits, and then no digit: the front is those digits
 pub front_append : (ds t : List ℕ) → AllDigits ds → begins_digit t ≡ false → digits_front (ds ++ t) ≡ ds
@@ -42,18 +48,26 @@ all_none (c ∷ s) e = absurd (cc e)
 
 pub int_digits : (s : List ℕ) → IsInt s → AllDigits s
 int_digits [] h = absurd h
-int_digits (b ∷ s) h = ⊎_elim (λ zero_alone. ((omega arith, omega arith), all_none s zero_alone.1)) (λ more. ((omega arith, omega arith), more.2)) h
+int_digits (b ∷ s) h =
+    ⊎_elim (λ zero_alone. ((omega arith, omega arith), all_none s zero_alone.1))
+        (λ more. ((omega arith, omega arith), more.2)) h
 
 pub int_test : (s : List ℕ) → IsInt s → is_int s ≡ true
 unfolding is_int is_empty
 int_test [] h = absurd h
-int_test (b ∷ s) h = ⊎_elim (λ zero_alone. rw zero_alone.1 (grind (arith, nat_tests))) (λ more. let low : 49 ≤ b = more.0 in grind (arith, nat_tests)) h
+int_test (b ∷ s) h =
+    ⊎_elim (λ zero_alone. rw zero_alone.1 (grind (arith, nat_tests))) (λ more. let low : 49 ≤ b = more.0 in
+        grind (arith, nat_tests)) h
 
 pub int_from_test : (s : List ℕ) → AllDigits s → is_int s ≡ true → IsInt s
 unfolding is_int is_empty
 int_from_test [] d h = absurd (cc h)
-int_from_test (b ∷ []) d h = elim (nat_eq b 48) as (λ t. nat_eq b 48 ≡ t → IsInt (b ∷ [])) [ true ↦ λ e. inl (grind (arith, nat_tests), refl) | false ↦ λ e. let other : b ≢ 48 = grind (arith, nat_tests) in inr (omega (arith, d.0), omega (arith, d.0), tt) ] refl
-int_from_test (b ∷ c ∷ s) d h = let other : b ≢ 48 = grind (arith, nat_tests) in inr (omega (arith, d.0), omega (arith, d.0), d.1)
+int_from_test (b ∷ []) d h =
+    elim (nat_eq b 48) as (λ t. nat_eq b 48 ≡ t → IsInt (b ∷ [])) [ true ↦
+        λ e. inl (grind (arith, nat_tests), refl) | false ↦ λ e. let other : b ≢ 48 = grind (arith, nat_tests) in
+        inr (omega (arith, d.0), omega (arith, d.0), tt) ] refl
+int_from_test (b ∷ c ∷ s) d h = let other : b ≢ 48 = grind (arith, nat_tests) in
+    inr (omega (arith, d.0), omega (arith, d.0), d.1)
 
 -- ---- tests of the first byte
 pub begins_is : (c : ℕ) (s : List ℕ) → begins c s ≡ true → s ≡ c ∷ drop 1 s
@@ -123,28 +137,40 @@ whole_from_test : (s : List ℕ) → is_whole_digits s ≡ true → IsDigits s
 unfolding is_whole_digits
 whole_from_test s h =
     let none : digits_rest s ≡ [] = empty_from_test _ (both_right _ _ h) in
-    let all : digits_front s ≡ s = sym (append_nil (digits_front s)) ∙ ap (λ r. digits_front s ++ r) (sym none) ∙ sym (front_rest s) in
+    let all : digits_front s ≡ s = sym (append_nil (digits_front s)) ∙ ap (λ r. digits_front s ++ r) (sym none)
+        ∙ sym (front_rest s) in
     digits_from_test s (both_left _ _ h) (same_all_digits _ _ all (front_all s))
 
 -- ---- the exponent
-sign_split : (negative : Bool) (sign digits : List ℕ) → IsExpSign negative sign → IsDigits digits → (begins 45 (sign ++ digits) ≡ negative) × (exp_digits (sign ++ digits) ≡ digits)
+sign_split : (negative : Bool) (sign digits : List ℕ) → IsExpSign negative sign → IsDigits digits
+    → (begins 45 (sign ++ digits) ≡ negative) × (exp_digits (sign ++ digits) ≡ digits)
 unfolding exp_digits
-sign_split true sign digits s d = rw s (begins_own 45 digits, ap (λ t. cond (t || begins 43 (45 ∷ digits)) digits (45 ∷ digits)) (begins_own 45 digits))
+sign_split true sign digits s d =
+    rw s (begins_own 45 digits,
+        ap (λ t. cond (t || begins 43 (45 ∷ digits)) digits (45 ∷ digits)) (begins_own 45 digits))
 sign_split false sign digits s d = ⊎_elim
-    (λ none. rw none (digit_begins_alone 45 digits d (omega arith), ap (λ t. cond (t || begins 43 digits) (drop 1 digits) digits) (digit_begins_alone 45 digits d (omega arith)) ∙ ap (λ t. cond t (drop 1 digits) digits) (digit_begins_alone 43 digits d (omega arith))))
-    (λ plus. rw plus (begins_other 45 43 digits (λ e. omega (arith, e)), ap (λ t. cond (t || begins 43 (43 ∷ digits)) digits (43 ∷ digits)) (begins_other 45 43 digits (λ e. omega (arith, e))) ∙ ap (λ t. cond t digits (43 ∷ digits)) (begins_own 43 digits))) s
+    (λ none. rw none (digit_begins_alone 45 digits d (omega arith),
+            ap (λ t. cond (t || begins 43 digits) (drop 1 digits) digits) (digit_begins_alone 45 digits d (omega arith))
+            ∙ ap (λ t. cond t (drop 1 digits) digits) (digit_begins_alone 43 digits d (omega arith))))
+    (λ plus. rw plus (begins_other 45 43 digits (λ e. omega (arith, e)),
+            ap (λ t. cond (t || begins 43 (43 ∷ digits)) digits (43 ∷ digits))
+            (begins_other 45 43 digits (λ e. omega (arith, e)))
+            ∙ ap (λ t. cond t digits (43 ∷ digits)) (begins_own 43 digits))) s
 
 mark_test : (b : ℕ) → (b ≡ 101) ⊎ (b ≡ 69) → (nat_eq b 101 || nat_eq b 69) ≡ true
 mark_test b h = ⊎_elim (λ e. rw e refl) (λ e. rw e refl) h
 
 mark_from_test : (b : ℕ) → (nat_eq b 101 || nat_eq b 69) ≡ true → (b ≡ 101) ⊎ (b ≡ 69)
-mark_from_test b h = elim (nat_eq b 101) as (λ t. nat_eq b 101 ≡ t → (b ≡ 101) ⊎ (b ≡ 69)) [ true ↦ λ e. inl (grind (arith, nat_tests)) | false ↦ λ e. inr (grind (arith, nat_tests)) ] refl
+mark_from_test b h =
+    elim (nat_eq b 101) as (λ t. nat_eq b 101 ≡ t → (b ≡ 101) ⊎ (b ≡ 69)) [ true ↦
+        λ e. inl (grind (arith, nat_tests)) | false ↦ λ e. inr (grind (arith, nat_tests)) ] refl
 
 mark_no_digit : (b : ℕ) → (b ≡ 101) ⊎ (b ≡ 69) → is_ascii_digit b ≡ false
 mark_no_digit b h = ⊎_elim (λ e. rw e refl) (λ e. rw e refl) h
 
 -- a right exponent passes the test, with its value; it begins neither with a digit nor with a point
-exp_test : (e : ℤ) (t : List ℕ) → IsExp e t → (is_exp t ≡ true) × (exp_value t ≡ e) × (begins_digit t ≡ false) × (begins 46 t ≡ false)
+exp_test : (e : ℤ) (t : List ℕ) → IsExp e t → (is_exp t ≡ true) × (exp_value t ≡ e) × (begins_digit t ≡ false)
+    × (begins 46 t ≡ false)
 unfolding is_exp exp_value begins_digit
 exp_test e t h = ⊎_elim
     (λ none. rw none.1 (refl, sym none.0, refl, begins_none 46))
@@ -152,16 +178,19 @@ exp_test e t h = ⊎_elim
     let split = sign_split p.negative p.sign p.digits p.sign_is p.digits_are in
     rw p.joined (
       both _ _ (mark_test p.mark p.mark_is) (ap is_whole_digits split.1 ∙ whole_test p.digits p.digits_are),
-      ap (λ n. signed n (digits_value (exp_digits (p.sign ++ p.digits)))) split.0 ∙ ap (λ ds. signed p.negative (digits_value ds)) split.1 ∙ sym p.value,
+      ap (λ n. signed n (digits_value (exp_digits (p.sign ++ p.digits)))) split.0
+          ∙ ap (λ ds. signed p.negative (digits_value ds)) split.1 ∙ sym p.value,
       mark_no_digit p.mark p.mark_is,
-      begins_other 46 p.mark (p.sign ++ p.digits) (λ e. ⊎_elim (λ f. omega (arith, e, f)) (λ f. omega (arith, e, f)) p.mark_is),
+      begins_other 46 p.mark (p.sign ++ p.digits)
+          (λ e. ⊎_elim (λ f. omega (arith, e, f)) (λ f. omega (arith, e, f)) p.mark_is),
     ))
     h
 
 same_digits : (s t : List ℕ) → s ≡ t → IsDigits s → IsDigits t
 same_digits s t e d = let P : List ℕ → Type 0 = IsDigits in subst P e d
 
-minus_parts : (b : ℕ) (t : List ℕ) → (b ≡ 101) ⊎ (b ≡ 69) → begins 45 t ≡ true → IsDigits (drop 1 t) → ExpParts (signed true (digits_value (drop 1 t))) (b ∷ t)
+minus_parts : (b : ℕ) (t : List ℕ) → (b ≡ 101) ⊎ (b ≡ 69) → begins 45 t ≡ true → IsDigits (drop 1 t)
+    → ExpParts (signed true (digits_value (drop 1 t))) (b ∷ t)
 minus_parts b t mark minus d = record {
   mark = b;
   negative = true;
@@ -174,7 +203,8 @@ minus_parts b t mark minus d = record {
   value = refl;
 }
 
-plus_parts : (b : ℕ) (t : List ℕ) → (b ≡ 101) ⊎ (b ≡ 69) → begins 43 t ≡ true → IsDigits (drop 1 t) → ExpParts (signed false (digits_value (drop 1 t))) (b ∷ t)
+plus_parts : (b : ℕ) (t : List ℕ) → (b ≡ 101) ⊎ (b ≡ 69) → begins 43 t ≡ true → IsDigits (drop 1 t)
+    → ExpParts (signed false (digits_value (drop 1 t))) (b ∷ t)
 plus_parts b t mark plus d = record {
   mark = b;
   negative = false;
@@ -200,7 +230,9 @@ bare_parts b t mark d = record {
   value = refl;
 }
 
-parts_by_sign : (b : ℕ) (t : List ℕ) (minus plus : Bool) → (b ≡ 101) ⊎ (b ≡ 69) → begins 45 t ≡ minus → begins 43 t ≡ plus → IsDigits (cond (minus || plus) (drop 1 t) t) → ExpParts (signed minus (digits_value (cond (minus || plus) (drop 1 t) t))) (b ∷ t)
+parts_by_sign : (b : ℕ) (t : List ℕ) (minus plus : Bool) → (b ≡ 101) ⊎ (b ≡ 69) → begins 45 t ≡ minus
+    → begins 43 t ≡ plus → IsDigits (cond (minus || plus) (drop 1 t) t)
+    → ExpParts (signed minus (digits_value (cond (minus || plus) (drop 1 t) t))) (b ∷ t)
 parts_by_sign b t true plus mark e f d = minus_parts b t mark e d
 parts_by_sign b t false true mark e f d = plus_parts b t mark f d
 parts_by_sign b t false false mark e f d = bare_parts b t mark d
@@ -209,7 +241,8 @@ pub exp_from_test : (t : List ℕ) → is_exp t ≡ true → IsExp (exp_value t)
 unfolding is_exp exp_value exp_digits
 exp_from_test [] h = inl (refl, refl)
 exp_from_test (b ∷ t) h =
-    inr (parts_by_sign b t (begins 45 t) (begins 43 t) (mark_from_test b (both_left _ _ h)) refl refl (whole_from_test (exp_digits t) (both_right _ _ h)))
+    inr (parts_by_sign b t (begins 45 t) (begins 43 t) (mark_from_test b (both_left _ _ h)) refl refl
+        (whole_from_test (exp_digits t) (both_right _ _ h)))
 
 -- ---- the fraction
 first_digit : (s t : List ℕ) → IsDigits s → begins_digit (s ++ t) ≡ true
@@ -228,23 +261,29 @@ all_of (b ∷ s) d = d
 abbrev FracTest : List ℕ → List ℕ → List ℕ → Type 0
 FracTest r digits exp = (is_frac r ≡ true) × (frac_digits r ≡ digits) × (after_frac r ≡ exp) × (begins_digit r ≡ false)
 
-with_point : (digits exp : List ℕ) → IsDigits digits → begins_digit exp ≡ false → FracTest (46 ∷ (digits ++ exp)) digits exp
+with_point : (digits exp : List ℕ) → IsDigits digits → begins_digit exp ≡ false
+    → FracTest (46 ∷ (digits ++ exp)) digits exp
 unfolding is_frac frac_digits after_frac
 with_point digits exp d stop =
     let point = begins_own 46 (digits ++ exp) in (
       ap (λ t. not t || begins_digit (digits ++ exp)) point ∙ first_digit digits exp d,
       ap (λ t. cond t (digits_front (digits ++ exp)) []) point ∙ front_append digits exp (all_of digits d) stop,
-      ap (λ t. cond t (digits_rest (digits ++ exp)) (46 ∷ (digits ++ exp))) point ∙ rest_append digits exp (all_of digits d) stop,
+      ap (λ t. cond t (digits_rest (digits ++ exp)) (46 ∷ (digits ++ exp))) point
+          ∙ rest_append digits exp (all_of digits d) stop,
       point_no_digit (digits ++ exp),
     )
 
 without_point : (exp : List ℕ) → begins_digit exp ≡ false → begins 46 exp ≡ false → FracTest exp [] exp
 unfolding is_frac frac_digits after_frac
 without_point exp stop point =
-    (ap (λ t. not t || begins_digit (drop 1 exp)) point, ap (λ t. cond t (digits_front (drop 1 exp)) []) point, ap (λ t. cond t (digits_rest (drop 1 exp)) exp) point, stop)
+    (ap (λ t. not t || begins_digit (drop 1 exp)) point, ap (λ t. cond t (digits_front (drop 1 exp)) []) point,
+        ap (λ t. cond t (digits_rest (drop 1 exp)) exp) point, stop)
 
-frac_test : (digits fraction exp : List ℕ) → IsFrac digits fraction → begins_digit exp ≡ false → begins 46 exp ≡ false → FracTest (fraction ++ exp) digits exp
-frac_test digits fraction exp h stop point = ⊎_elim (λ none. rw none.1 (rw none.0 (without_point exp stop point))) (λ some. rw some.1 (with_point digits exp some.0 stop)) h
+frac_test : (digits fraction exp : List ℕ) → IsFrac digits fraction → begins_digit exp ≡ false → begins 46 exp ≡ false
+    → FracTest (fraction ++ exp) digits exp
+frac_test digits fraction exp h stop point =
+    ⊎_elim (λ none. rw none.1 (rw none.0 (without_point exp stop point)))
+        (λ some. rw some.1 (with_point digits exp some.0 stop)) h
 
 front_digits : (s : List ℕ) → begins_digit s ≡ true → IsDigits (digits_front s)
 unfolding begins_digit
@@ -252,25 +291,33 @@ front_digits [] h = absurd (cc h)
 front_digits (b ∷ s) h = same_digits _ _ (sym (front_digit b s h)) (digit_bounds b h, front_all s)
 
 frac_by_point : (r : List ℕ) (point : Bool) → begins 46 r ≡ point → (not point || begins_digit (drop 1 r)) ≡ true
-    → (fraction : List ℕ) × IsFrac (cond point (digits_front (drop 1 r)) []) fraction × (r ≡ fraction ++ cond point (digits_rest (drop 1 r)) r)
+    → (fraction : List ℕ) × IsFrac (cond point (digits_front (drop 1 r)) []) fraction
+    × (r ≡ fraction ++ cond point (digits_rest (drop 1 r)) r)
 frac_by_point r false e h = ([], inl (refl, refl), refl)
-frac_by_point r true e h = (46 ∷ digits_front (drop 1 r), inr (front_digits (drop 1 r) h, refl), begins_is 46 r e ∙ ap (λ s. 46 ∷ s) (front_rest (drop 1 r)))
+frac_by_point r true e h =
+    (46 ∷ digits_front (drop 1 r), inr (front_digits (drop 1 r) h, refl), begins_is 46 r e
+        ∙ ap (λ s. 46 ∷ s) (front_rest (drop 1 r)))
 
-frac_from_test : (r : List ℕ) → is_frac r ≡ true → (fraction : List ℕ) × IsFrac (frac_digits r) fraction × (r ≡ fraction ++ after_frac r)
+frac_from_test : (r : List ℕ) → is_frac r ≡ true → (fraction : List ℕ) × IsFrac (frac_digits r) fraction
+    × (r ≡ fraction ++ after_frac r)
 unfolding is_frac frac_digits after_frac
 frac_from_test r h = frac_by_point r (begins 46 r) refl h
 
 -- ---- the whole spelling
-sign_of : (negative : Bool) (minus r : List ℕ) → IsMinus negative minus → begins 45 r ≡ false → (begins 45 (minus ++ r) ≡ negative) × (body (minus ++ r) ≡ r)
+sign_of : (negative : Bool) (minus r : List ℕ) → IsMinus negative minus → begins 45 r ≡ false
+    → (begins 45 (minus ++ r) ≡ negative) × (body (minus ++ r) ≡ r)
 unfolding body
 sign_of true minus r e h = rw e (begins_own 45 r, ap (λ t. cond t r (45 ∷ r)) (begins_own 45 r))
 sign_of false minus r e h = rw e (h, ap (λ t. cond t (drop 1 r) r) h)
 
-sign_from_test : (s : List ℕ) (negative : Bool) → begins 45 s ≡ negative → (minus : List ℕ) × IsMinus negative minus × (s ≡ minus ++ cond negative (drop 1 s) s)
+sign_from_test : (s : List ℕ) (negative : Bool) → begins 45 s ≡ negative → (minus : List ℕ) × IsMinus negative minus
+    × (s ≡ minus ++ cond negative (drop 1 s) s)
 sign_from_test s true e = (45 ∷ [], refl, begins_is 45 s e)
 sign_from_test s false e = ([], refl, refl)
 
-written_eq : (n : Written) (negative : Bool) (int frac : List ℕ) (exponent : ℤ) → negative ≡ n.negative → int ≡ n.int → frac ≡ n.frac → exponent ≡ n.exponent → record { negative = negative; int = int; frac = frac; exponent = exponent } ≡ n
+written_eq : (n : Written) (negative : Bool) (int frac : List ℕ) (exponent : ℤ) → negative ≡ n.negative → int ≡ n.int
+    → frac ≡ n.frac → exponent ≡ n.exponent
+    → record { negative = negative; int = int; frac = frac; exponent = exponent } ≡ n
 written_eq n negative int frac exponent a b c d = λ i. record { negative = a i; int = b i; frac = c i; exponent = d i }
 
 -- a number of the grammar passes the test, and says what the test finds
@@ -279,15 +326,19 @@ spells_test s n h =
     let exp = exp_test n.exponent h.exp h.exp_is in
     let frac = frac_test n.frac h.fraction h.exp h.frac_is exp.2 exp.3 in
     let tail : List ℕ = h.fraction ++ h.exp in
-    let sign = sign_of n.negative h.minus (n.int ++ tail) h.minus_is (digit_begins 45 n.int tail (int_is_digits n.int h.int_is) (omega arith)) in
+    let sign = sign_of n.negative h.minus (n.int ++ tail) h.minus_is
+        (digit_begins 45 n.int tail (int_is_digits n.int h.int_is) (omega arith)) in
     let front = front_append n.int tail (int_digits n.int h.int_is) frac.3 in
     let rest = rest_append n.int tail (int_digits n.int h.int_is) frac.3 in
     rw h.joined (
       both _ _ (ap (λ b. is_int (digits_front b)) sign.1 ∙ ap is_int front ∙ int_test n.int h.int_is)
           (both _ _ (ap (λ b. is_frac (digits_rest b)) sign.1 ∙ ap is_frac rest ∙ frac.0)
-          (ap (λ b. is_exp (after_frac (digits_rest b))) sign.1 ∙ ap (λ r. is_exp (after_frac r)) rest ∙ ap is_exp frac.2 ∙ exp.0)),
-      written_eq n _ _ _ _ sign.0 (ap digits_front sign.1 ∙ front) (ap (λ b. frac_digits (digits_rest b)) sign.1 ∙ ap frac_digits rest ∙ frac.1)
-          (ap (λ b. exp_value (after_frac (digits_rest b))) sign.1 ∙ ap (λ r. exp_value (after_frac r)) rest ∙ ap exp_value frac.2 ∙ exp.1),
+          (ap (λ b. is_exp (after_frac (digits_rest b))) sign.1 ∙ ap (λ r. is_exp (after_frac r)) rest
+              ∙ ap is_exp frac.2 ∙ exp.0)),
+      written_eq n _ _ _ _ sign.0 (ap digits_front sign.1 ∙ front)
+          (ap (λ b. frac_digits (digits_rest b)) sign.1 ∙ ap frac_digits rest ∙ frac.1)
+          (ap (λ b. exp_value (after_frac (digits_rest b))) sign.1 ∙ ap (λ r. exp_value (after_frac r)) rest
+              ∙ ap exp_value frac.2 ∙ exp.1),
     )
 
 -- and what passes the test is a number of the grammar

@@ -30,14 +30,17 @@ zero_times k = omega (arith, ints)
 pub zero_same : (s : Bool) (n : ℕ) (q : ℤ) → n ≡ 0 → SameValue (number (signed s n) q) (number (pos 0) (pos 0))
 zero_same s n q e =
     let none : signed s n ≡ pos 0 = ap (signed s) e ∙ signed_zero s in
-    record { coefficients = ap (λ c. c *ℤ pos (10 ^ int_gap (int_min q (pos 0)) q)) none ∙ zero_times _ ∙ sym (zero_times _) }
+    record { coefficients = ap (λ c. c *ℤ pos (10 ^ int_gap (int_min q (pos 0)) q)) none ∙ zero_times _
+        ∙ sym (zero_times _) }
 
 pub zero_normal : IsNormal (number (pos 0) (pos 0))
 zero_normal = record { normal = λ e. refl }
 
 -- the number c with k zeros at its end is the number c at a power k higher
-pub trimmed_same : (s : Bool) (n c k : ℕ) (p q : ℤ) → n ≡ c * 10 ^ k → q ≡ p +ℤ pos k → SameValue (number (signed s n) p) (number (signed s c) q)
-trimmed_same s n c k p q e f = same_scaled (signed s n) (signed s c) p q k (ap (signed s) e ∙ signed_times s c (10 ^ k)) f
+pub trimmed_same : (s : Bool) (n c k : ℕ) (p q : ℤ) → n ≡ c * 10 ^ k → q ≡ p +ℤ pos k
+    → SameValue (number (signed s n) p) (number (signed s c) q)
+trimmed_same s n c k p q e f =
+    same_scaled (signed s n) (signed s c) p q k (ap (signed s) e ∙ signed_times s c (10 ^ k)) f
 
 pub trimmed_normal : (s : Bool) (c : ℕ) (q : ℤ) → 0 < c % 10 → IsNormal (number (signed s c) q)
 trimmed_normal s c q h = record { normal = λ e. absurd (omega (arith, h, e, ap (λ n. n % 10) (signed_size s c))) }
@@ -56,7 +59,8 @@ trim_by_last : (n d : ℕ) → n % 10 ≡ d → 0 < n → (0 < n / 10 → n % 10
 trim_by_last n (suc d) e p more = (n, 0, record { whole = omega arith; last = omega (arith, e) })
 trim_by_last n zero e p more =
     let less = more (trim_left n p e) e in
-    (less.0, less.1 + 1, record { whole = join n (n / 10) less.0 (10 ^ less.1) (10 ^ (less.1 + 1)) (trim_more n n 0 (omega arith) e) less.2.whole (ten_pow_suc less.1); last = less.2.last })
+    (less.0, less.1 + 1, record { whole = join n (n / 10) less.0 (10 ^ less.1) (10 ^ (less.1 + 1))
+            (trim_more n n 0 (omega arith) e) less.2.whole (ten_pow_suc less.1); last = less.2.last })
 
 trim_within : (fuel n : ℕ) → n ≤ fuel → 0 < n → Trimmed n
 trim_within zero n h p = absurd (omega arith)
@@ -72,7 +76,8 @@ pub normal_form : (s : Bool) (n : ℕ) (q : ℤ) → NormalOf (number (signed s 
 normal_form s zero q = (number (pos 0) (pos 0), zero_same s 0 q refl, zero_normal)
 normal_form s (suc n) q =
     let t = trim (suc n) (omega arith) in
-    (number (signed s t.0) (q +ℤ pos t.1), trimmed_same s (suc n) t.0 t.1 q _ t.2.whole refl, trimmed_normal s t.0 _ t.2.last)
+    (number (signed s t.0) (q +ℤ pos t.1), trimmed_same s (suc n) t.0 t.1 q _ t.2.whole refl,
+        trimmed_normal s t.0 _ t.2.last)
 
 -- ---- what from_parts answers
 -- too many digits are out of range in every form
@@ -89,29 +94,36 @@ too_long_out s n q long =
     }
 
 -- the digits that were read, without the zeros at their end
-pub stands_trimmed : (lead extra : ℕ) (lost : Bool) (n c k : ℕ) → StandsFor lead extra lost n → lost ≡ false → IsTrimmed lead c k → n ≡ c * 10 ^ (extra + k)
-stands_trimmed lead extra lost n c k s e t = s.whole e ∙ ap (λ l. l * 10 ^ extra) t.whole ∙ regroup c (10 ^ k) (10 ^ extra) ∙ sym (ap (λ p. c * p) (pow-add 10 extra k))
+pub stands_trimmed : (lead extra : ℕ) (lost : Bool) (n c k : ℕ) → StandsFor lead extra lost n → lost ≡ false
+    → IsTrimmed lead c k → n ≡ c * 10 ^ (extra + k)
+stands_trimmed lead extra lost n c k s e t = s.whole e ∙ ap (λ l. l * 10 ^ extra) t.whole
+    ∙ regroup c (10 ^ k) (10 ^ extra) ∙ sym (ap (λ p. c * p) (pow-add 10 extra k))
   where
     regroup : (c p q : ℕ) → c * p * q ≡ c * (q * p)
     regroup c p q = omega arith
 
--- the power that is computed of what was read is the number's power where it is in range, and out of range where that is
-pub power_in : (e r : ℤ) (after_point up : ℕ) → Saturates e r → after_point < 2 ^ 64 → up < 2 ^ 65 → neg_ℤ (pos 1000000) ≤ℤ (r -ℤ pos after_point +ℤ pos up) → (r -ℤ pos after_point +ℤ pos up) ≤ℤ pos 1000000
+-- the power that is computed of what was read is the number's power where it is in range, and out of range where that
+-- is
+pub power_in : (e r : ℤ) (after_point up : ℕ) → Saturates e r → after_point < 2 ^ 64 → up < 2 ^ 65
+    → neg_ℤ (pos 1000000) ≤ℤ (r -ℤ pos after_point +ℤ pos up) → (r -ℤ pos after_point +ℤ pos up) ≤ℤ pos 1000000
     → e -ℤ pos after_point +ℤ pos up ≡ r -ℤ pos after_point +ℤ pos up
 power_in e r after_point up s a b low high = let same : e ≡ r = s.same (omega (arith, ints)) in omega (arith, ints)
 
-pub power_low_out : (e r : ℤ) (after_point up : ℕ) → Saturates e r → after_point < 2 ^ 64 → up < 2 ^ 65 → (r -ℤ pos after_point +ℤ pos up) <ℤ neg_ℤ (pos 1000000) → (e -ℤ pos after_point +ℤ pos up) <ℤ neg_ℤ (pos 1000000)
+pub power_low_out : (e r : ℤ) (after_point up : ℕ) → Saturates e r → after_point < 2 ^ 64 → up < 2 ^ 65
+    → (r -ℤ pos after_point +ℤ pos up) <ℤ neg_ℤ (pos 1000000) → (e -ℤ pos after_point +ℤ pos up) <ℤ neg_ℤ (pos 1000000)
 power_low_out e r after_point up s a b h = by_lt_z (neg_ℤ (pos (10 ^ 35))) r
     (λ k. let same : e ≡ r = s.same (omega (arith, ints)) in omega (arith, ints))
     (λ k. let far : e ≤ℤ neg_ℤ (pos (10 ^ 35)) = s.low k in omega (arith, ints))
 
-pub power_high_out : (e r : ℤ) (after_point up : ℕ) → Saturates e r → after_point < 2 ^ 64 → up < 2 ^ 65 → pos 1000000 <ℤ (r -ℤ pos after_point +ℤ pos up) → pos 1000000 <ℤ (e -ℤ pos after_point +ℤ pos up)
+pub power_high_out : (e r : ℤ) (after_point up : ℕ) → Saturates e r → after_point < 2 ^ 64 → up < 2 ^ 65
+    → pos 1000000 <ℤ (r -ℤ pos after_point +ℤ pos up) → pos 1000000 <ℤ (e -ℤ pos after_point +ℤ pos up)
 power_high_out e r after_point up s a b h = by_lt_z r (pos (10 ^ 35))
     (λ k. let same : e ≡ r = s.same (omega (arith, ints)) in omega (arith, ints))
     (λ k. let far : pos (10 ^ 35) ≤ℤ e = s.high k in omega (arith, ints))
 
 -- where the power is out of range, the normal form is
-pub power_out : (s : Bool) (n c up : ℕ) (q : ℤ) → n ≡ c * 10 ^ up → 0 < c % 10 → ((q +ℤ pos up) <ℤ neg_ℤ (pos 1000000)) ⊎ (pos 1000000 <ℤ (q +ℤ pos up)) → IsOutOfRange (number (signed s n) q)
+pub power_out : (s : Bool) (n c up : ℕ) (q : ℤ) → n ≡ c * 10 ^ up → 0 < c % 10 → ((q +ℤ pos up) <ℤ neg_ℤ (pos 1000000))
+    ⊎ (pos 1000000 <ℤ (q +ℤ pos up)) → IsOutOfRange (number (signed s n) q)
 power_out s n c up q whole last far = record {
   normal_form = number (signed s c) (q +ℤ pos up);
   same = trimmed_same s n c up q _ whole refl;
@@ -119,23 +131,35 @@ power_out s n c up q whole last far = record {
   out = λ r. ⊎_elim (λ h. omega (arith, ints, r.power_low)) (λ h. omega (arith, ints, r.power_high)) far;
 }
 
-pub form_in_range : (s : Bool) (c : ℕ) (p : ℤ) → c < 10 ^ 36 → neg_ℤ (pos 1000000) ≤ℤ p → p ≤ℤ pos 1000000 → IsInRange (number (signed s c) p)
-form_in_range s c p small low high = record { digits = omega (arith, signed_size s c); power_low = low; power_high = high }
+pub form_in_range : (s : Bool) (c : ℕ) (p : ℤ) → c < 10 ^ 36 → neg_ℤ (pos 1000000) ≤ℤ p → p ≤ℤ pos 1000000
+    → IsInRange (number (signed s c) p)
+form_in_range s c p small low high =
+    record { digits = omega (arith, signed_size s c); power_low = low; power_high = high }
 
 -- the same at a coefficient and a power that equal these
-pub in_form : (s : Bool) (c : ℕ) (x p : ℤ) → x ≡ signed s c → c < 10 ^ 36 → 0 < c % 10 → neg_ℤ (pos 1000000) ≤ℤ p → p ≤ℤ pos 1000000 → IsNormal (number x p) × IsInRange (number x p)
+pub in_form : (s : Bool) (c : ℕ) (x p : ℤ) → x ≡ signed s c → c < 10 ^ 36 → 0 < c % 10 → neg_ℤ (pos 1000000) ≤ℤ p
+    → p ≤ℤ pos 1000000 → IsNormal (number x p) × IsInRange (number x p)
 in_form s c x p e small last low high = rw e (trimmed_normal s c p last, form_in_range s c p small low high)
 
-pub same_form : (s : Bool) (n c up : ℕ) (q x p : ℤ) → n ≡ c * 10 ^ up → x ≡ signed s c → p ≡ q +ℤ pos up → SameValue (number (signed s n) q) (number x p)
+pub same_form : (s : Bool) (n c up : ℕ) (q x p : ℤ) → n ≡ c * 10 ^ up → x ≡ signed s c → p ≡ q +ℤ pos up
+    → SameValue (number (signed s n) q) (number x p)
 same_form s n c up q x p whole e f = rw e (trimmed_same s n c up q p whole f)
 
 -- a coefficient that went to bits and back
-pub sign_cast : (s : Bool) (c : ℕ) (x : ℤ) → x ≡ signed s c → c < 10 ^ 36 → cast_signed w128 (cast_unsigned w128 x) ≡ signed s c
-sign_cast s c x e small = to_z-of_z w128 x (fits_signed_from_abs w128 x (omega (arith, ap unsigned_abs e, signed_size s c))) ∙ e
+pub sign_cast : (s : Bool) (c : ℕ) (x : ℤ) → x ≡ signed s c → c < 10 ^ 36
+    → cast_signed w128 (cast_unsigned w128 x) ≡ signed s c
+sign_cast s c x e small =
+    to_z-of_z w128 x (fits_signed_from_abs w128 x (omega (arith, ap unsigned_abs e, signed_size s c))) ∙ e
 
 -- the power as the code computes it
-pub power_cast : (r : ℤ) (after_point extra more : ℕ) → unsigned_abs r < 10 ^ 36 → after_point < 2 ^ 64 → extra < 2 ^ 64 → more < 39
-    → neg_ℤ (pos 1000000) ≤ℤ (r -ℤ pos after_point +ℤ pos (extra + more)) → (r -ℤ pos after_point +ℤ pos (extra + more)) ≤ℤ pos 1000000
-    → cast_signed w32 (cast_unsigned w32 (cast_signed w128 (cast_unsigned w128 (cast_signed w128 (cast_unsigned w128 (cast_signed w128 (cast_unsigned w128 r) -ℤ cast_signed w128 after_point)) +ℤ cast_signed w128 (cast_unsigned w128 (cast_signed w128 extra +ℤ cast_signed w128 more))))))
+pub power_cast : (r : ℤ) (after_point extra more : ℕ) → unsigned_abs r < 10 ^ 36 → after_point < 2 ^ 64 → extra < 2 ^ 64
+    → more < 39
+    → neg_ℤ (pos 1000000) ≤ℤ (r -ℤ pos after_point +ℤ pos (extra + more))
+    → (r -ℤ pos after_point +ℤ pos (extra + more)) ≤ℤ pos 1000000
+    → cast_signed w32 (cast_unsigned w32
+        (cast_signed w128 (cast_unsigned w128
+                (cast_signed w128 (cast_unsigned w128
+                (cast_signed w128 (cast_unsigned w128 r) -ℤ cast_signed w128 after_point)) +ℤ cast_signed w128
+                (cast_unsigned w128 (cast_signed w128 extra +ℤ cast_signed w128 more))))))
     ≡ r -ℤ pos after_point +ℤ pos (extra + more)
 power_cast r after_point extra more a b c d low high = omega (arith, ints)

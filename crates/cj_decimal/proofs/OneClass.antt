@@ -28,10 +28,12 @@ say_same {s} (out_of_range n) (whole u x also near was) = not_both s (u, also, n
 say_same {s} (not_whole v value range n) (no_number m) = m (value_is_number s v value)
 say_same {s} (not_whole v value range n) (out_of_range m) = not_both s (v, value, range) m
 say_same {s} (not_whole v value range n) (not_whole u also near m) = (has_one_value s).one v u value also
-say_same {s} (not_whole v value range n) (whole u x also near was) = n x (also_whole u v x ((has_one_value s).one u v also value) was)
+say_same {s} (not_whole v value range n) (whole u x also near was) =
+    n x (also_whole u v x ((has_one_value s).one u v also value) was)
 say_same {s} (whole v w value range is) (no_number m) = m (value_is_number s v value)
 say_same {s} (whole v w value range is) (out_of_range m) = not_both s (v, value, range) m
-say_same {s} (whole v w value range is) (not_whole u also near m) = m w (also_whole v u w ((has_one_value s).one v u value also) is)
+say_same {s} (whole v w value range is) (not_whole u also near m) =
+    m w (also_whole v u w ((has_one_value s).one v u value also) is)
 say_same {s} (whole v w value range is) (whole u x also near was) =
     let e = (has_one_value s).one v u value also in
     (e, one_whole u w x (also_whole v u w e is) was)

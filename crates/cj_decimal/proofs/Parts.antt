@@ -40,7 +40,10 @@ int_none t e = at (digits_front t) e
     at (b ∷ f) e = absurd (omega (arith, e))
 
 front_head : (b : ℕ) (t : List ℕ) → 0 < length (digits_front (b ∷ t)) → digits_front (b ∷ t) ≡ b ∷ digits_front t
-front_head b t h = elim (is_ascii_digit b) as (λ d. is_ascii_digit b ≡ d → digits_front (b ∷ t) ≡ b ∷ digits_front t) [ true ↦ λ e. front_digit b t e | false ↦ λ e. absurd (omega (arith, h, ap length (front_other b t e))) ] refl
+front_head b t h =
+    elim (is_ascii_digit b) as
+        (λ d. is_ascii_digit b ≡ d → digits_front (b ∷ t) ≡ b ∷ digits_front t) [ true ↦
+        λ e. front_digit b t e | false ↦ λ e. absurd (omega (arith, h, ap length (front_other b t e))) ] refl
 
 not_empty : (f : List ℕ) → 0 < length f → is_empty f ≡ false
 unfolding is_empty
@@ -80,22 +83,31 @@ drop_one s at h = ap (λ t. drop 1 t) (drop_at s at h)
 pub frac_bare : (r : List ℕ) → begins 46 r ≡ false → (is_frac r ≡ true) × (frac_digits r ≡ []) × (after_frac r ≡ r)
 unfolding is_frac frac_digits after_frac
 frac_bare r point =
-    (ap (λ t. not t || begins_digit (drop 1 r)) point, ap (λ t. cond t (digits_front (drop 1 r)) []) point, ap (λ t. cond t (digits_rest (drop 1 r)) r) point)
+    (ap (λ t. not t || begins_digit (drop 1 r)) point, ap (λ t. cond t (digits_front (drop 1 r)) []) point,
+        ap (λ t. cond t (digits_rest (drop 1 r)) r) point)
 
-pub frac_pointed : (r : List ℕ) → begins 46 r ≡ true → (is_frac r ≡ begins_digit (drop 1 r)) × (frac_digits r ≡ digits_front (drop 1 r)) × (after_frac r ≡ digits_rest (drop 1 r))
+pub frac_pointed : (r : List ℕ) → begins 46 r ≡ true → (is_frac r ≡ begins_digit (drop 1 r))
+    × (frac_digits r ≡ digits_front (drop 1 r)) × (after_frac r ≡ digits_rest (drop 1 r))
 unfolding is_frac frac_digits after_frac
 frac_pointed r point =
-    (ap (λ t. not t || begins_digit (drop 1 r)) point, ap (λ t. cond t (digits_front (drop 1 r)) []) point, ap (λ t. cond t (digits_rest (drop 1 r)) r) point)
+    (ap (λ t. not t || begins_digit (drop 1 r)) point, ap (λ t. cond t (digits_front (drop 1 r)) []) point,
+        ap (λ t. cond t (digits_rest (drop 1 r)) r) point)
 
 pub no_first_digit : (t : List ℕ) → length (digits_front t) ≡ 0 → begins_digit t ≡ false
 unfolding begins_digit
 no_first_digit [] h = refl
-no_first_digit (b ∷ t) h = elim (is_ascii_digit b) as (λ d. is_ascii_digit b ≡ d → d ≡ false) [ true ↦ λ e. absurd (omega (arith, h, ap length (front_digit b t e))) | false ↦ λ e. refl ] refl
+no_first_digit (b ∷ t) h =
+    elim (is_ascii_digit b) as
+        (λ d. is_ascii_digit b ≡ d → d ≡ false) [ true ↦
+        λ e. absurd (omega (arith, h, ap length (front_digit b t e))) | false ↦ λ e. refl ] refl
 
 pub first_digit_there : (t : List ℕ) → 0 < length (digits_front t) → begins_digit t ≡ true
 unfolding begins_digit
 first_digit_there [] h = absurd (omega (arith, h, ap length front_end))
-first_digit_there (b ∷ t) h = elim (is_ascii_digit b) as (λ d. is_ascii_digit b ≡ d → d ≡ true) [ true ↦ λ e. refl | false ↦ λ e. absurd (omega (arith, h, ap length (front_other b t e))) ] refl
+first_digit_there (b ∷ t) h =
+    elim (is_ascii_digit b) as
+        (λ d. is_ascii_digit b ≡ d → d ≡ true) [ true ↦ λ e. refl | false ↦
+        λ e. absurd (omega (arith, h, ap length (front_other b t e))) ] refl
 
 -- ---- the exponent
 pub no_whole_digits : (t : List ℕ) → length (digits_front t) ≡ 0 → is_whole_digits t ≡ false
@@ -110,12 +122,15 @@ digits_then_more t h = ap (λ e. begins_digit t && e) (not_empty (digits_rest t)
     never true = refl
     never false = refl
 
-pub whole_digits : (t : List ℕ) → 0 < length (digits_front t) → digits_rest t ≡ [] → (is_whole_digits t ≡ true) × (digits_front t ≡ t)
+pub whole_digits : (t : List ℕ) → 0 < length (digits_front t) → digits_rest t ≡ [] → (is_whole_digits t ≡ true)
+    × (digits_front t ≡ t)
 unfolding is_whole_digits
 whole_digits t h none =
-    (ap (λ d. d && is_empty (digits_rest t)) (first_digit_there t h) ∙ empty_test (digits_rest t) none, sym (append_nil (digits_front t)) ∙ ap (λ r. digits_front t ++ r) (sym none) ∙ sym (front_rest t))
+    (ap (λ d. d && is_empty (digits_rest t)) (first_digit_there t h) ∙ empty_test (digits_rest t) none,
+        sym (append_nil (digits_front t)) ∙ ap (λ r. digits_front t ++ r) (sym none) ∙ sym (front_rest t))
 
-pub saturates_size : (lead extra : ℕ) (lost : Bool) (n : ℕ) → (0 < extra → 10 ^ 35 ≤ lead) → (lost ≡ true → 10 ^ 35 ≤ lead) → StandsFor lead extra lost n → SaturatesSize n lead
+pub saturates_size : (lead extra : ℕ) (lost : Bool) (n : ℕ) → (0 < extra → 10 ^ 35 ≤ lead)
+    → (lost ≡ true → 10 ^ 35 ≤ lead) → StandsFor lead extra lost n → SaturatesSize n lead
 saturates_size lead extra lost n full cut s = record {
   same = λ small. stands_short lead extra lost n small full cut s;
   high = λ big. at_least lead extra lost n big s;
@@ -128,7 +143,8 @@ saturates_size lead extra lost n full cut s = record {
     at_least lead extra true n big s = let long : 10 ^ 36 ≤ n = (s.cut refl).too_long n 0 (omega arith) in omega arith
     at_least lead extra false n big s = omega (arith, s.whole refl, times_more lead (10 ^ extra) (ten_pow_pos extra))
 
-pub saturates_signed : (negative : Bool) (n r : ℕ) → SaturatesSize n r → Saturates (signed negative n) (signed negative r)
+pub saturates_signed : (negative : Bool) (n r : ℕ) → SaturatesSize n r
+    → Saturates (signed negative n) (signed negative r)
 saturates_signed false n r s = record {
   same = λ h. ap pos (s.same h);
   high = λ h. let big : 10 ^ 35 ≤ n = s.high (omega (arith, ints)) in omega (arith, ints);
@@ -149,7 +165,9 @@ unfolding is_exp begins
 exp_unmarked [] h e = absurd (omega arith)
 exp_unmarked (b ∷ t) h e = ap (λ m. m && is_whole_digits (exp_digits t)) e
 
-pub exp_marked : (r : List ℕ) → (begins 101 r || begins 69 r) ≡ true → (is_exp r ≡ is_whole_digits (exp_digits (drop 1 r))) × (exp_value r ≡ signed (begins 45 (drop 1 r)) (digits_value (exp_digits (drop 1 r))))
+pub exp_marked : (r : List ℕ) → (begins 101 r || begins 69 r) ≡ true
+    → (is_exp r ≡ is_whole_digits (exp_digits (drop 1 r)))
+    × (exp_value r ≡ signed (begins 45 (drop 1 r)) (digits_value (exp_digits (drop 1 r))))
 unfolding is_exp exp_value begins
 exp_marked [] e = absurd (cc e)
 exp_marked (b ∷ t) e = (ap (λ m. m && is_whole_digits (exp_digits t)) e, refl)
@@ -163,22 +181,30 @@ unfolding exp_digits
 no_sign t e = ap (λ b. cond b (drop 1 t) t) e
 
 -- a byte of two that stands there is within
-pub one_of_within : (a b : ℕ) (s : List ℕ) (at : ℕ) → (begins a (drop at s) || begins b (drop at s)) ≡ true → at < length s
-one_of_within a b s at h = elim (begins a (drop at s)) as (λ t. begins a (drop at s) ≡ t → (t || begins b (drop at s)) ≡ true → at < length s) [ true ↦ λ e f. begins_within a s at e | false ↦ λ e f. begins_within b s at f ] refl h
+pub one_of_within : (a b : ℕ) (s : List ℕ) (at : ℕ) → (begins a (drop at s) || begins b (drop at s)) ≡ true
+    → at < length s
+one_of_within a b s at h =
+    elim (begins a (drop at s)) as
+        (λ t. begins a (drop at s) ≡ t → (t || begins b (drop at s)) ≡ true → at < length s) [ true ↦
+        λ e f. begins_within a s at e | false ↦ λ e f. begins_within b s at f ] refl h
 
 -- an exponent's mark at a place, and its digits at another
-pub marked_at : (s : List ℕ) (from first : ℕ) → (begins 101 (drop from s) || begins 69 (drop from s)) ≡ true → drop first s ≡ exp_digits (drop (from + 1) s)
-    → (is_exp (drop from s) ≡ is_whole_digits (drop first s)) × (exp_value (drop from s) ≡ signed (begins 45 (drop (from + 1) s)) (digits_value (drop first s)))
+pub marked_at : (s : List ℕ) (from first : ℕ) → (begins 101 (drop from s) || begins 69 (drop from s)) ≡ true
+    → drop first s ≡ exp_digits (drop (from + 1) s)
+    → (is_exp (drop from s) ≡ is_whole_digits (drop first s))
+    × (exp_value (drop from s) ≡ signed (begins 45 (drop (from + 1) s)) (digits_value (drop first s)))
 marked_at s from first mark digits =
     let marked = exp_marked (drop from s) mark in
     let next = drop_one s from (one_of_within 101 69 s from mark) in
     let same : exp_digits (drop 1 (drop from s)) ≡ drop first s = ap exp_digits next ∙ sym digits in (
       marked.0 ∙ ap is_whole_digits same,
-      marked.1 ∙ ap (λ t. signed (begins 45 t) (digits_value (exp_digits (drop 1 (drop from s))))) next ∙ ap (λ t. signed (begins 45 (drop (from + 1) s)) (digits_value t)) same,
+      marked.1 ∙ ap (λ t. signed (begins 45 t) (digits_value (exp_digits (drop 1 (drop from s))))) next
+          ∙ ap (λ t. signed (begins 45 (drop (from + 1) s)) (digits_value t)) same,
     )
 
 -- what was read of the digits, with the sign that was read
-pub saturates_read : (negative sign : Bool) (n size : ℕ) (e r : ℤ) → e ≡ signed sign n → sign ≡ negative → r ≡ signed negative size → SaturatesSize n size → Saturates e r
+pub saturates_read : (negative sign : Bool) (n size : ℕ) (e r : ℤ) → e ≡ signed sign n → sign ≡ negative
+    → r ≡ signed negative size → SaturatesSize n size → Saturates e r
 saturates_read negative sign n size e r a b c s = rw (a, b, c) (saturates_signed negative n size s)
 
 -- ---- the whole spelling
@@ -196,16 +222,21 @@ value_append n (b ∷ xs) ys = value_append (10 * n + (b - 48)) xs ys
 
 -- what fails a part of the test is no number
 pub not_int : (s : List ℕ) → is_int (digits_front (body s)) ≡ false → ¬ IsNumber s
-not_int s h n = let int : is_int (digits_front (body s)) ≡ true = both_left _ _ (spells_test s n.0 n.1).0 in absurd (cc (h, int))
+not_int s h n = let int : is_int (digits_front (body s)) ≡ true = both_left _ _ (spells_test s n.0 n.1).0 in
+    absurd (cc (h, int))
 
 pub not_frac : (s : List ℕ) → is_frac (digits_rest (body s)) ≡ false → ¬ IsNumber s
-not_frac s h n = let frac : is_frac (digits_rest (body s)) ≡ true = both_left _ _ (both_right (is_int (digits_front (body s))) _ (spells_test s n.0 n.1).0) in absurd (cc (h, frac))
+not_frac s h n = let frac : is_frac (digits_rest (body s)) ≡ true =
+    both_left _ _ (both_right (is_int (digits_front (body s))) _ (spells_test s n.0 n.1).0) in absurd (cc (h, frac))
 
 pub not_exp : (s : List ℕ) → is_exp (after_frac (digits_rest (body s))) ≡ false → ¬ IsNumber s
-not_exp s h n = let exp : is_exp (after_frac (digits_rest (body s))) ≡ true = both_right (is_frac (digits_rest (body s))) _ (both_right (is_int (digits_front (body s))) _ (spells_test s n.0 n.1).0) in absurd (cc (h, exp))
+not_exp s h n = let exp : is_exp (after_frac (digits_rest (body s))) ≡ true =
+    both_right (is_frac (digits_rest (body s))) _
+        (both_right (is_int (digits_front (body s))) _ (spells_test s n.0 n.1).0) in absurd (cc (h, exp))
 
 -- what passes the whole test is one
-pub passed : (s : List ℕ) → is_int (digits_front (body s)) ≡ true → is_frac (digits_rest (body s)) ≡ true → is_exp (after_frac (digits_rest (body s))) ≡ true → Spells s (written_of s)
+pub passed : (s : List ℕ) → is_int (digits_front (body s)) ≡ true → is_frac (digits_rest (body s)) ≡ true
+    → is_exp (after_frac (digits_rest (body s))) ≡ true → Spells s (written_of s)
 passed s a b c = test_spells s (both _ _ a (both _ _ b c))
 
 -- a byte that stands first is within
@@ -217,7 +248,9 @@ nothing None e h = absurd (cc h)
 nothing (Some x) e h = absurd (cc e)
 
 -- the digits of both parts, the second read after the first
-pub both_digits : (lead extra : ℕ) (lost : Bool) (f i j k : List ℕ) → StandsFor lead extra lost (value_after (digits_value f) i) → f ≡ j → i ≡ k → StandsFor lead extra lost (digits_value (j ++ k))
+pub both_digits : (lead extra : ℕ) (lost : Bool) (f i j k : List ℕ)
+    → StandsFor lead extra lost (value_after (digits_value f) i) → f ≡ j → i ≡ k
+    → StandsFor lead extra lost (digits_value (j ++ k))
 both_digits lead extra lost f i j k s e g = rw (value_append 0 j k, ← e, ← g) s
 
 pub saturates_at : (e f r q : ℤ) → Saturates e r → e ≡ f → r ≡ q → Saturates f q
@@ -234,12 +267,14 @@ no_frac r e = let bare = frac_bare r (rw e (empty_begins 46)) in (bare.0, bare.1
     empty_begins : (c : ℕ) → begins c [] ≡ false
     empty_begins c = begins_past c [] 0 (omega arith)
 
-pub integer_spells : (s : List ℕ) → is_int (digits_front (body s)) ≡ true → digits_rest (body s) ≡ [] → Spells s (written_of s)
+pub integer_spells : (s : List ℕ) → is_int (digits_front (body s)) ≡ true → digits_rest (body s) ≡ []
+    → Spells s (written_of s)
 integer_spells s int none =
     let frac = no_frac (digits_rest (body s)) none in
     passed s int frac.0 (exp_none _ frac.2).0
 
-pub integer_read : (s : List ℕ) (negative : Bool) (short : ℕ) → negative ≡ begins 45 s → is_int (digits_front (body s)) ≡ true → digits_rest (body s) ≡ [] → short ≡ digits_value (digits_front (body s))
+pub integer_read : (s : List ℕ) (negative : Bool) (short : ℕ) → negative ≡ begins 45 s
+    → is_int (digits_front (body s)) ≡ true → digits_rest (body s) ≡ [] → short ≡ digits_value (digits_front (body s))
     → IsReadOf s negative short 0 false 0 (pos 0)
 integer_read s negative short sign int none value =
     let frac = no_frac (digits_rest (body s)) none in
@@ -254,7 +289,9 @@ integer_read s negative short sign int none value =
 
 -- the rule on a first 0, for two digits or more
 pub int_longer : (t : List ℕ) → 1 < length (digits_front t) → is_int (digits_front t) ≡ not (begins 48 t)
-int_longer t h = elim (begins 48 t) as (λ b. begins 48 t ≡ b → is_int (digits_front t) ≡ not b) [ true ↦ λ e. int_led_by_zero t e h | false ↦ λ e. int_led_by_other t e (omega arith) ] refl
+int_longer t h =
+    elim (begins 48 t) as (λ b. begins 48 t ≡ b → is_int (digits_front t) ≡ not b) [ true ↦
+        λ e. int_led_by_zero t e h | false ↦ λ e. int_led_by_other t e (omega arith) ] refl
 
 pub stops_whole : (s : List ℕ) (from at : ℕ) → Passes s from at → at ≡ length s → Stops s from (length s)
 stops_whole s from at p e = let P : ℕ → Type 0 = Stops s from in subst P e (stops_at_end s from at p (omega arith))

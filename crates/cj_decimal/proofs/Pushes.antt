@@ -14,20 +14,26 @@ too_long_more n d h t = record { too_long = λ c k e. at c k e }
   where
     at : (c k : ℕ) → 10 * n + d ≡ c * 10 ^ k → 10 ^ 36 ≤ c
     at c zero e = let big : 10 ^ 36 ≤ n = t.too_long n 0 (no_gap n) in omega (arith, e)
-    at c (suc k) e = t.too_long c k (over_ten n d c (10 ^ k) h (e ∙ ap (λ p. c * p) (ap (λ j. 10 ^ j) (omega arith) ∙ ten_pow_suc k))).1
+    at c (suc k) e =
+        t.too_long c k (over_ten n d c (10 ^ k) h
+            (e ∙ ap (λ p. c * p) (ap (λ j. 10 ^ j) (omega arith) ∙ ten_pow_suc k))).1
 
 pub too_long_new : (n d : ℕ) → 0 < d → d < 10 → 10 ^ 35 ≤ n → IsTooLong (10 * n + d)
 too_long_new n d p h big = record { too_long = λ c k e. at c k e }
   where
     at : (c k : ℕ) → 10 * n + d ≡ c * 10 ^ k → 10 ^ 36 ≤ c
     at c zero e = omega (arith, e)
-    at c (suc k) e = absurd (omega (arith, p, (over_ten n d c (10 ^ k) h (e ∙ ap (λ p. c * p) (ap (λ j. 10 ^ j) (omega arith) ∙ ten_pow_suc k))).0))
+    at c (suc k) e =
+        absurd (omega (arith, p,
+                (over_ten n d c (10 ^ k) h (e ∙ ap (λ p. c * p) (ap (λ j. 10 ^ j) (omega arith) ∙ ten_pow_suc k))).0))
 
 no_extra : (lead extra : ℕ) → lead < 10 ^ 35 → (0 < extra → 10 ^ 35 ≤ lead) → extra ≡ 0
 no_extra lead zero h full = refl
 no_extra lead (suc x) h full = absurd (omega (arith, full (omega arith)))
 
-pub push_short : (lead extra : ℕ) (lost : Bool) (n d : ℕ) → lead < 10 ^ 35 → (0 < extra → 10 ^ 35 ≤ lead) → (IsTrue lost → 10 ^ 35 ≤ lead) → d < 10 → StandsFor lead extra lost n → StandsFor (lead * 10 + d) extra lost (10 * n + d)
+pub push_short : (lead extra : ℕ) (lost : Bool) (n d : ℕ) → lead < 10 ^ 35 → (0 < extra → 10 ^ 35 ≤ lead)
+    → (IsTrue lost → 10 ^ 35 ≤ lead) → d < 10 → StandsFor lead extra lost n
+    → StandsFor (lead * 10 + d) extra lost (10 * n + d)
 push_short lead extra true n d h full cut small s = absurd (omega (arith, cut (search rules)))
 push_short lead extra false n d h full cut small s =
     let none : extra ≡ 0 = no_extra lead extra h full in
@@ -35,7 +41,8 @@ push_short lead extra false n d h full cut small s =
     let next : 10 * n + d ≡ (lead * 10 + d) * 10 ^ 0 = omega (arith, same) in
     record { whole = λ _. next ∙ ap (λ k. (lead * 10 + d) * 10 ^ k) (sym none); cut = λ e. absurd (cc e) }
 
-pub push_zero : (lead extra : ℕ) (lost : Bool) (n : ℕ) → StandsFor lead extra lost n → StandsFor lead (extra + 1) lost (10 * n + 0)
+pub push_zero : (lead extra : ℕ) (lost : Bool) (n : ℕ) → StandsFor lead extra lost n
+    → StandsFor lead (extra + 1) lost (10 * n + 0)
 push_zero lead extra lost n s = record {
   whole = λ e. tenfold n lead (10 ^ extra) (s.whole e) ∙ sym (ap (λ p. lead * p) (ten_pow_suc extra));
   cut = λ e. too_long_more n 0 (omega arith) (s.cut e);
@@ -44,15 +51,19 @@ push_zero lead extra lost n s = record {
     tenfold : (n l p : ℕ) → n ≡ l * p → 10 * n + 0 ≡ l * (10 * p)
     tenfold n l p e = omega (arith, e)
 
-pub push_lost : (lead extra : ℕ) (lost : Bool) (n d : ℕ) → 10 ^ 35 ≤ lead → (lost ≡ false → 0 < d) → d < 10 → StandsFor lead extra lost n → StandsFor lead extra true (10 * n + d)
-push_lost lead extra true n d full p h s = record { whole = λ e. absurd (cc e); cut = λ _. too_long_more n d h (s.cut refl) }
-push_lost lead extra false n d full p h s = record { whole = λ e. absurd (cc e); cut = λ _. too_long_new n d (p refl) h (big lead extra n full (s.whole refl)) }
+pub push_lost : (lead extra : ℕ) (lost : Bool) (n d : ℕ) → 10 ^ 35 ≤ lead → (lost ≡ false → 0 < d) → d < 10
+    → StandsFor lead extra lost n → StandsFor lead extra true (10 * n + d)
+push_lost lead extra true n d full p h s =
+    record { whole = λ e. absurd (cc e); cut = λ _. too_long_more n d h (s.cut refl) }
+push_lost lead extra false n d full p h s =
+    record { whole = λ e. absurd (cc e); cut = λ _. too_long_new n d (p refl) h (big lead extra n full (s.whole refl)) }
   where
     big : (l x n : ℕ) → 10 ^ 35 ≤ l → n ≡ l * 10 ^ x → 10 ^ 35 ≤ n
     big l x n full e = let pos : 0 < 10 ^ x = ten_pow_pos x in grind (arith, e, pos)
 
 -- digits of which less than 36 are there are kept whole
-pub stands_short : (lead extra : ℕ) (lost : Bool) (n : ℕ) → lead < 10 ^ 35 → (0 < extra → 10 ^ 35 ≤ lead) → (IsTrue lost → 10 ^ 35 ≤ lead) → StandsFor lead extra lost n → n ≡ lead
+pub stands_short : (lead extra : ℕ) (lost : Bool) (n : ℕ) → lead < 10 ^ 35 → (0 < extra → 10 ^ 35 ≤ lead)
+    → (IsTrue lost → 10 ^ 35 ≤ lead) → StandsFor lead extra lost n → n ≡ lead
 stands_short lead extra true n small full cut s = absurd (omega (arith, cut refl))
 stands_short lead extra false n small full cut s =
     s.whole refl ∙ ap (λ k. lead * 10 ^ k) (no_extra lead extra small full) ∙ sym (no_gap lead)

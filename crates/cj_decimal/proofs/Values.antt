@@ -32,19 +32,26 @@ smaller_right m n = omega (arith, ints, clamps)
 -- a number brought further down is multiplied by the powers on the way
 pub brought_lower : (n : Number) (t u : ℤ) → t ≤ℤ u → u ≤ℤ n.power → brought n t ≡ brought n u *ℤ pos (10 ^ int_gap t u)
 brought_lower n t u h k =
-    ap (λ g. n.coefficient *ℤ pos (10 ^ g)) (gap_add t u n.power h k) ∙ ap (λ g. n.coefficient *ℤ pos g) (ten_pow_add (int_gap u n.power) (int_gap t u)) ∙ sym (times_times n.coefficient (10 ^ int_gap u n.power) (10 ^ int_gap t u))
+    ap (λ g. n.coefficient *ℤ pos (10 ^ g)) (gap_add t u n.power h k)
+        ∙ ap (λ g. n.coefficient *ℤ pos g) (ten_pow_add (int_gap u n.power) (int_gap t u))
+        ∙ sym (times_times n.coefficient (10 ^ int_gap u n.power) (10 ^ int_gap t u))
 
 -- equal numbers are equal at any power that is not above theirs
 pub same_at : (m n : Number) (t : ℤ) → SameValue m n → t ≤ℤ m.power → t ≤ℤ n.power → brought m t ≡ brought n t
 same_at m n t same h k =
     let low : t ≤ℤ smaller_power m n = omega (arith, ints, clamps) in
-    brought_lower m t (smaller_power m n) low (smaller_left m n) ∙ ap (λ c. c *ℤ pos (10 ^ int_gap t (smaller_power m n))) same.coefficients ∙ sym (brought_lower n t (smaller_power m n) low (smaller_right m n))
+    brought_lower m t (smaller_power m n) low (smaller_left m n)
+        ∙ ap (λ c. c *ℤ pos (10 ^ int_gap t (smaller_power m n))) same.coefficients
+        ∙ sym (brought_lower n t (smaller_power m n) low (smaller_right m n))
 
 -- and numbers that are equal at one such power are equal
 pub at_same : (m n : Number) (t : ℤ) → t ≤ℤ m.power → t ≤ℤ n.power → brought m t ≡ brought n t → SameValue m n
 at_same m n t h k e =
     let low : t ≤ℤ smaller_power m n = omega (arith, ints, clamps) in
-    let scaled : (brought m (smaller_power m n) *ℤ pos (10 ^ int_gap t (smaller_power m n))) ≡ (brought n (smaller_power m n) *ℤ pos (10 ^ int_gap t (smaller_power m n))) = sym (brought_lower m t (smaller_power m n) low (smaller_left m n)) ∙ e ∙ brought_lower n t (smaller_power m n) low (smaller_right m n) in
+    let scaled : (brought m (smaller_power m n) *ℤ pos (10 ^ int_gap t (smaller_power m n)))
+        ≡ (brought n (smaller_power m n) *ℤ pos (10 ^ int_gap t (smaller_power m n))) =
+        sym (brought_lower m t (smaller_power m n) low (smaller_left m n)) ∙ e
+        ∙ brought_lower n t (smaller_power m n) low (smaller_right m n) in
     record { coefficients = times_cancel _ _ (10 ^ int_gap t (smaller_power m n)) (ten_pow_pos _) scaled }
 
 pub same_sym : (m n : Number) → SameValue m n → SameValue n m
@@ -62,7 +69,8 @@ same_trans l m n h k =
     at_same l n t tl tn (same_at l m t h tl tm ∙ same_at m n t k tm tn)
 
 -- a coefficient with k zeros at its end, and a power that is k greater without them
-pub same_scaled : (c d : ℤ) (p q : ℤ) (k : ℕ) → c ≡ d *ℤ pos (10 ^ k) → q ≡ p +ℤ pos k → SameValue (number c p) (number d q)
+pub same_scaled : (c d : ℤ) (p q : ℤ) (k : ℕ) → c ≡ d *ℤ pos (10 ^ k) → q ≡ p +ℤ pos k
+    → SameValue (number c p) (number d q)
 same_scaled c d p q k e f =
     let low : p ≤ℤ q = omega (arith, ints, f) in
     let here : p ≤ℤ p = omega (arith, ints) in
@@ -89,30 +97,41 @@ swap_ten n p = omega arith
 
 -- a multiple of a power of ten above 1 is a multiple of 10
 pub ends_in_zero : (n k : ℕ) → n * 10 ^ (k + 1) % 10 ≡ 0
-ends_in_zero n k = ap (λ p. n * p % 10) (ten_pow_suc k) ∙ ap (λ p. p % 10) (swap_ten n (10 ^ k)) ∙ mul-mod_right 10 (n * 10 ^ k)
+ends_in_zero n k = ap (λ p. n * p % 10) (ten_pow_suc k) ∙ ap (λ p. p % 10) (swap_ten n (10 ^ k))
+    ∙ mul-mod_right 10 (n * 10 ^ k)
 
 pub le_total : (a b : ℤ) → (a ≤ℤ b) ⊎ (b ≤ℤ a)
 le_total a b = by_lt_z a b (λ h. inl (omega (arith, ints))) (λ h. inr h)
 
-normal_gap : (v w : Number) → IsNormal v → IsNormal w → v.power ≤ℤ w.power → (g : ℕ) → v.power +ℤ pos g ≡ w.power → v.coefficient ≡ w.coefficient *ℤ pos (10 ^ g) → v ≡ w
+normal_gap : (v w : Number) → IsNormal v → IsNormal w → v.power ≤ℤ w.power → (g : ℕ) → v.power +ℤ pos g ≡ w.power
+    → v.coefficient ≡ w.coefficient *ℤ pos (10 ^ g) → v ≡ w
 normal_gap v w a b low zero f e = number_eq v w (e ∙ times_one w.coefficient) (omega (arith, ints, f))
 normal_gap v w a b low (suc g) f e =
-    let size : unsigned_abs v.coefficient ≡ unsigned_abs w.coefficient * 10 ^ (g + 1) = ap unsigned_abs e ∙ abs_times w.coefficient (10 ^ suc g) ∙ ap (λ k. unsigned_abs w.coefficient * 10 ^ k) (omega arith) in
-    let zero_v : v ≡ number (pos 0) (pos 0) = a.normal (ap (λ n. n % 10) size ∙ ends_in_zero (unsigned_abs w.coefficient) g) in
-    let none : unsigned_abs w.coefficient * 10 ^ (g + 1) ≡ 0 * 10 ^ (g + 1) = sym size ∙ ap (λ n. unsigned_abs n.coefficient) zero_v ∙ omega arith in
-    let zero_w : unsigned_abs w.coefficient ≡ 0 = mul_right_cancel (unsigned_abs w.coefficient) 0 (10 ^ (g + 1)) (ten_pow_pos (g + 1)) none in
+    let size : unsigned_abs v.coefficient ≡ unsigned_abs w.coefficient * 10 ^ (g + 1) = ap unsigned_abs e
+        ∙ abs_times w.coefficient (10 ^ suc g) ∙ ap (λ k. unsigned_abs w.coefficient * 10 ^ k) (omega arith) in
+    let zero_v : v ≡ number (pos 0) (pos 0) =
+        a.normal (ap (λ n. n % 10) size ∙ ends_in_zero (unsigned_abs w.coefficient) g) in
+    let none : unsigned_abs w.coefficient * 10 ^ (g + 1) ≡ 0 * 10 ^ (g + 1) = sym size
+        ∙ ap (λ n. unsigned_abs n.coefficient) zero_v ∙ omega arith in
+    let zero_w : unsigned_abs w.coefficient ≡ 0 =
+        mul_right_cancel (unsigned_abs w.coefficient) 0 (10 ^ (g + 1)) (ten_pow_pos (g + 1)) none in
     zero_v ∙ sym (b.normal (ap (λ n. n % 10) zero_w))
 
 -- two forms, both normal, the first at the lower power
 pub normal_below : (v w : Number) → SameValue v w → IsNormal v → IsNormal w → v.power ≤ℤ w.power → v ≡ w
-normal_below v w same a b low = normal_gap v w a b low (int_gap v.power w.power) (gap_is v.power w.power low) (scaled_same v.coefficient w.coefficient v.power w.power same low)
+normal_below v w same a b low =
+    normal_gap v w a b low (int_gap v.power w.power) (gap_is v.power w.power low)
+        (scaled_same v.coefficient w.coefficient v.power w.power same low)
 
 -- equal numbers in normal form are one
 pub normal_same : (v w : Number) → SameValue v w → IsNormal v → IsNormal w → v ≡ w
-normal_same v w same a b = ⊎_elim (normal_below v w same a b) (λ h. sym (normal_below w v (same_sym v w same) b a h)) (le_total v.power w.power)
+normal_same v w same a b =
+    ⊎_elim (normal_below v w same a b) (λ h. sym (normal_below w v (same_sym v w same) b a h))
+        (le_total v.power w.power)
 
 -- ---- equality as the code tests it
-bits_apart : (w : Width) (p q : ℤ) → FitsSigned w p → FitsSigned w q → nat_eq (cast_unsigned w p) (cast_unsigned w q) ≡ true → p ≡ q
+bits_apart : (w : Width) (p q : ℤ) → FitsSigned w p → FitsSigned w q
+    → nat_eq (cast_unsigned w p) (cast_unsigned w q) ≡ true → p ≡ q
 bits_apart w p q a b e =
     let bits : cast_unsigned w p ≡ cast_unsigned w q = grind (arith, nat_tests) in
     sym (to_z-of_z w p a) ∙ ap (cast_signed w) bits ∙ to_z-of_z w q b
@@ -124,29 +143,36 @@ bits_same w p q e = rw e (own (cast_unsigned w q))
     own n = grind (arith, nat_tests)
 
 coefficient_fits : (v : Number) → IsInRange v → FitsSigned w128 v.coefficient
-coefficient_fits v r = let small : unsigned_abs v.coefficient < 10 ^ 36 = r.digits in fits_signed_from_abs w128 v.coefficient (omega arith)
+coefficient_fits v r = let small : unsigned_abs v.coefficient < 10 ^ 36 = r.digits in
+    fits_signed_from_abs w128 v.coefficient (omega arith)
 
 -- a coefficient in range that went to bits and back
 pub coefficient_same : (v : Number) → IsInRange v → cast_signed w128 (cast_unsigned w128 v.coefficient) ≡ v.coefficient
 coefficient_same v r = to_z-of_z w128 v.coefficient (coefficient_fits v r)
 
-pub coefficient_cast : (v : Number) → IsInRange v → unsigned_abs (cast_signed w128 (cast_unsigned w128 v.coefficient)) < 10 ^ 36
+pub coefficient_cast : (v : Number) → IsInRange v
+    → unsigned_abs (cast_signed w128 (cast_unsigned w128 v.coefficient)) < 10 ^ 36
 coefficient_cast v r = rw (coefficient_same v r) r.digits
 
 power_fits : (v : Number) → IsInRange v → FitsSigned w32 v.power
 power_fits v r = omega (arith, ints, r.power_low, r.power_high)
 
 -- with one coefficient: equal exactly where the powers are
-pub same_by_power : (v w : Number) → IsNormal v × IsInRange v → IsNormal w × IsInRange w → cast_unsigned w128 v.coefficient ≡ cast_unsigned w128 w.coefficient
+pub same_by_power : (v w : Number) → IsNormal v × IsInRange v → IsNormal w × IsInRange w
+    → cast_unsigned w128 v.coefficient ≡ cast_unsigned w128 w.coefficient
     → (nat_eq (cast_unsigned w32 v.power) (cast_unsigned w32 w.power) ≡ true) ↔ SameValue v w
 same_by_power v w a b e =
-    let c : v.coefficient ≡ w.coefficient = sym (to_z-of_z w128 v.coefficient (coefficient_fits v a.1)) ∙ ap (cast_signed w128) e ∙ to_z-of_z w128 w.coefficient (coefficient_fits w b.1) in (
-      λ h. let P : Number → Type 0 = SameValue v in subst P (number_eq v w c (bits_apart w32 v.power w.power (power_fits v a.1) (power_fits w b.1) h)) (same_refl v),
+    let c : v.coefficient ≡ w.coefficient = sym (to_z-of_z w128 v.coefficient (coefficient_fits v a.1))
+        ∙ ap (cast_signed w128) e ∙ to_z-of_z w128 w.coefficient (coefficient_fits w b.1) in (
+      λ h. let P : Number → Type 0 = SameValue v in
+          subst P (number_eq v w c (bits_apart w32 v.power w.power (power_fits v a.1) (power_fits w b.1) h))
+          (same_refl v),
       λ same. bits_same w32 v.power w.power (ap (λ (n : Number). n.power) (normal_same v w same a.0 b.0)),
     )
 
 -- with two coefficients: never equal
-pub apart_by_coefficient : (v w : Number) → IsNormal v × IsInRange v → IsNormal w × IsInRange w → (cast_unsigned w128 v.coefficient ≡ cast_unsigned w128 w.coefficient → ⊥)
+pub apart_by_coefficient : (v w : Number) → IsNormal v × IsInRange v → IsNormal w × IsInRange w
+    → (cast_unsigned w128 v.coefficient ≡ cast_unsigned w128 w.coefficient → ⊥)
     → (nat_eq (cast_unsigned w128 v.coefficient) (cast_unsigned w128 w.coefficient) ≡ true) ↔ SameValue v w
 apart_by_coefficient v w a b apart = (
   λ h. absurd (apart (grind (arith, nat_tests))),

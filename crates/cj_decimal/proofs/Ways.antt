@@ -39,13 +39,15 @@ drop_at s at h =
     let next : suc at ≡ at + 1 = omega arith in
     drop-cons s at 0 h ∙ ap (λ k. get_or s at 0 ∷ drop k s) next
 
-front_step : (s : List ℕ) (at : ℕ) → at < length s → is_ascii_digit (get_or s at 0) ≡ true → digits_front (drop at s) ≡ get_or s at 0 ∷ digits_front (drop (at + 1) s)
+front_step : (s : List ℕ) (at : ℕ) → at < length s → is_ascii_digit (get_or s at 0) ≡ true
+    → digits_front (drop at s) ≡ get_or s at 0 ∷ digits_front (drop (at + 1) s)
 front_step s at h d = ap digits_front (drop_at s at h) ∙ front_digit (get_or s at 0) (drop (at + 1) s) d
 
 pub passes_refl : (s : List ℕ) (from : ℕ) → from ≤ length s → Passes s from from
 passes_refl s from h = record { order = omega arith; within = h; rest = refl; count = refl }
 
-pub passes_step : (s : List ℕ) (from at : ℕ) → Passes s from at → at < length s → is_ascii_digit (get_or s at 0) ≡ true → Passes s from (at + 1)
+pub passes_step : (s : List ℕ) (from at : ℕ) → Passes s from at → at < length s → is_ascii_digit (get_or s at 0) ≡ true
+    → Passes s from (at + 1)
 passes_step s from at c h d = record {
   order = omega (arith, c.order);
   within = omega arith;
@@ -56,10 +58,12 @@ passes_step s from at c h d = record {
 pub carries_refl : (s : List ℕ) (from n : ℕ) → Carries s from n from n
 carries_refl s from n = record { value = refl }
 
-pub carries_step : (s : List ℕ) (from n at m : ℕ) → Carries s from n at m → at < length s → is_ascii_digit (get_or s at 0) ≡ true → Carries s from n (at + 1) (10 * m + (get_or s at 0 - 48))
+pub carries_step : (s : List ℕ) (from n at m : ℕ) → Carries s from n at m → at < length s
+    → is_ascii_digit (get_or s at 0) ≡ true → Carries s from n (at + 1) (10 * m + (get_or s at 0 - 48))
 carries_step s from n at m c h d = record { value = sym (ap (λ ds. value_after m ds) (front_step s at h d)) ∙ c.value }
 
-no_front : (s : List ℕ) (at : ℕ) → at < length s → is_ascii_digit (get_or s at 0) ≡ false → digits_front (drop at s) ≡ []
+no_front : (s : List ℕ) (at : ℕ) → at < length s → is_ascii_digit (get_or s at 0) ≡ false
+    → digits_front (drop at s) ≡ []
 no_front s at h d = ap digits_front (drop_at s at h) ∙ front_other _ _ d
 
 pub drop_all : (s : List ℕ) (at : ℕ) → length s ≤ at → drop at s ≡ []
@@ -73,7 +77,8 @@ no_front_past : (s : List ℕ) (at : ℕ) → length s ≤ at → digits_front (
 no_front_past s at h = ap digits_front (drop_all s at h) ∙ front_end
 
 -- where no digit follows, the digits stop
-stops_when : (s : List ℕ) (from at : ℕ) → Passes s from at → digits_front (drop at s) ≡ [] → digits_rest (drop at s) ≡ drop at s → Stops s from at
+stops_when : (s : List ℕ) (from at : ℕ) → Passes s from at → digits_front (drop at s) ≡ []
+    → digits_rest (drop at s) ≡ drop at s → Stops s from at
 stops_when s from at c none rest = record {
   order = c.order;
   within = c.within;
@@ -81,18 +86,23 @@ stops_when s from at c none rest = record {
   count = omega (arith, c.count, ap length none);
 }
 
-pub stops_at_other : (s : List ℕ) (from at : ℕ) → Passes s from at → at < length s → is_ascii_digit (get_or s at 0) ≡ false → Stops s from at
+pub stops_at_other : (s : List ℕ) (from at : ℕ) → Passes s from at → at < length s
+    → is_ascii_digit (get_or s at 0) ≡ false → Stops s from at
 stops_at_other s from at c h d =
-    stops_when s from at c (no_front s at h d) (ap digits_rest (drop_at s at h) ∙ rest_other _ _ d ∙ sym (drop_at s at h))
+    stops_when s from at c (no_front s at h d)
+        (ap digits_rest (drop_at s at h) ∙ rest_other _ _ d ∙ sym (drop_at s at h))
 
 pub stops_at_end : (s : List ℕ) (from at : ℕ) → Passes s from at → length s ≤ at → Stops s from at
-stops_at_end s from at c h = stops_when s from at c (no_front_past s at h) (ap digits_rest (drop_all s at h) ∙ rest_end ∙ sym (drop_all s at h))
+stops_at_end s from at c h =
+    stops_when s from at c (no_front_past s at h) (ap digits_rest (drop_all s at h) ∙ rest_end ∙ sym (drop_all s at h))
 
 -- and the number that was carried is the number of all of them
-carried : (s : List ℕ) (from n at m : ℕ) → Carries s from n at m → digits_front (drop at s) ≡ [] → m ≡ value_after n (digits_front (drop from s))
+carried : (s : List ℕ) (from n at m : ℕ) → Carries s from n at m → digits_front (drop at s) ≡ []
+    → m ≡ value_after n (digits_front (drop from s))
 carried s from n at m c none = sym (ap (λ ds. value_after m ds) none) ∙ c.value
 
-pub carried_at_end : (s : List ℕ) (from n at m : ℕ) → Carries s from n at m → length s ≤ at → m ≡ value_after n (digits_front (drop from s))
+pub carried_at_end : (s : List ℕ) (from n at m : ℕ) → Carries s from n at m → length s ≤ at
+    → m ≡ value_after n (digits_front (drop from s))
 carried_at_end s from n at m c h = carried s from n at m c (no_front_past s at h)
 
 pub stops_after : (s : List ℕ) (from at stop : ℕ) → Passes s from at → Stops s at stop → Stops s from stop
@@ -113,7 +123,8 @@ unfolding begins_digit
 no_digit_past s at h = rw (drop_all s at h) refl
 
 -- a digit there is a byte of the list
-pub is_digit_at : (s : List ℕ) (at : ℕ) → begins_digit (drop at s) ≡ true → (at < length s) × (is_ascii_digit (get_or s at 0) ≡ true)
+pub is_digit_at : (s : List ℕ) (at : ℕ) → begins_digit (drop at s) ≡ true → (at < length s)
+    × (is_ascii_digit (get_or s at 0) ≡ true)
 is_digit_at s at h = elim (cases_lt at (length s)) [
   | inl within ↦ (within, sym (digit_at s at within) ∙ h)
   | inr past ↦ absurd (cc (no_digit_past s at past))
@@ -127,5 +138,6 @@ front_of_stop (b ∷ t) h = (front_other b t h, rest_other b t h)
 pub stops_here : (s : List ℕ) (from at : ℕ) → Passes s from at → begins_digit (drop at s) ≡ false → Stops s from at
 stops_here s from at c h = let stop = front_of_stop (drop at s) h in stops_when s from at c stop.0 stop.1
 
-pub carried_here : (s : List ℕ) (from n at m : ℕ) → Carries s from n at m → begins_digit (drop at s) ≡ false → m ≡ value_after n (digits_front (drop from s))
+pub carried_here : (s : List ℕ) (from n at m : ℕ) → Carries s from n at m → begins_digit (drop at s) ≡ false
+    → m ≡ value_after n (digits_front (drop from s))
 carried_here s from n at m c h = carried s from n at m c (front_of_stop (drop at s) h).0

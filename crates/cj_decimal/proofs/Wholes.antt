@@ -35,7 +35,8 @@ module _ (s : List ℕ) where
   answer_out (whole v w value range is) o = absurd (not_both s (v, value, range) o)
 
   -- what `read` says of its faults
-  pub answer_fault : (f : DecimalFault) (c : Class s) → (f ≡ NotANumber → ¬ IsNumber s) → (f ≡ NumberRange → IsNumberOutOfRange s) → whole_answer c ≡ Err f
+  pub answer_fault : (f : DecimalFault) (c : Class s) → (f ≡ NotANumber → ¬ IsNumber s)
+      → (f ≡ NumberRange → IsNumberOutOfRange s) → whole_answer c ≡ Err f
   answer_fault NotANumber c none out = answer_none c (none refl)
   answer_fault NumberRange c none out = answer_out c (out refl)
 
@@ -52,7 +53,8 @@ module _ (s : List ℕ) where
     pub answer_whole : (w : ℤ) (c : Class s) → IsWhole v w → whole_answer c ≡ Ok (Some w)
     answer_whole w (no_number n) is = absurd (n (value_is_number s v value))
     answer_whole w (out_of_range n) is = absurd (not_both s (v, value, range) n)
-    answer_whole w (not_whole u other near n) is = absurd (n w (let P : Number → Type 0 = λ x. IsWhole x w in subst P ((has_one_value s).one v u value other) is))
+    answer_whole w (not_whole u other near n) is =
+        absurd (n w (let P : Number → Type 0 = λ x. IsWhole x w in subst P ((has_one_value s).one v u value other) is))
     answer_whole w (whole u x other near was) is = ap (λ z. Ok (Some z)) (one_whole w x is (also u x other was))
 
     answer_part : (c : Class s) → ((w : ℤ) → ¬ IsWhole v w) → whole_answer c ≡ Ok None
@@ -62,7 +64,8 @@ module _ (s : List ℕ) where
     answer_part (whole u w other near is) part = absurd (part w (also u w other is))
 
     -- what `whole` says of the value
-    pub answer_of_whole : (o : Option ℤ) (c : Class s) → IfSome o (IsWhole v) → (((w : ℤ) × IsWhole v w) → IsSome o) → whole_answer c ≡ Ok o
+    pub answer_of_whole : (o : Option ℤ) (c : Class s) → IfSome o (IsWhole v) → (((w : ℤ) × IsWhole v w) → IsSome o)
+        → whole_answer c ≡ Ok o
     answer_of_whole (Some w) c is back = answer_whole w c is
     answer_of_whole None c is back = answer_part c (λ w h. clash (back (w, h)))
       where
@@ -76,7 +79,8 @@ below s (out_of_range n) = search rules
 below s (not_whole v value range n) = search rules
 below s (whole v w value range is) = is.small
 
-pub answer_below : (s : List ℕ) (r : Result (Option ℤ) DecimalFault) → ((c : Class s) → r ≡ whole_answer c) → IfOk r (λ o. IfSome o (λ w. unsigned_abs w < 10 ^ 18))
+pub answer_below : (s : List ℕ) (r : Result (Option ℤ) DecimalFault) → ((c : Class s) → r ≡ whole_answer c)
+    → IfOk r (λ o. IfSome o (λ w. unsigned_abs w < 10 ^ 18))
 answer_below s r answer = rw (answer (class s)) (below s (class s))
 
 -- ---- few digits and nothing else
@@ -90,11 +94,13 @@ int_alone_reads s int =
 
 pub int_alone_read : (s : List ℕ) → is_int (digits_front s) ≡ true → digits_rest s ≡ [] → IsInt s
 int_alone_read s int rest =
-    let all : digits_front s ≡ s = sym (append_nil (digits_front s)) ∙ ap (λ r. digits_front s ++ r) (sym rest) ∙ sym (front_rest s) in
+    let all : digits_front s ≡ s = sym (append_nil (digits_front s)) ∙ ap (λ r. digits_front s ++ r) (sym rest)
+        ∙ sym (front_rest s) in
     let P : List ℕ → Type 0 = λ t. IsInt t in
     subst P all (int_from_test (digits_front s) (front_all s) int)
 
-pub no_int_past_other : (s : List ℕ) (at : ℕ) → Passes s 0 at → at < length s → is_ascii_digit (get_or s at 0) ≡ false → ¬ IsInt s
+pub no_int_past_other : (s : List ℕ) (at : ℕ) → Passes s 0 at → at < length s → is_ascii_digit (get_or s at 0) ≡ false
+    → ¬ IsInt s
 no_int_past_other s at passes here other int =
     let none = (stops_at_other s 0 at passes here other).rest ∙ (int_alone_reads s int).1 in
     absurd (cc (sym (drop_at s at here) ∙ none))
@@ -110,20 +116,25 @@ whole_in_range v w normal is = by_power v.power refl
     below k far small = grind (arith, far)
 
     by_power : (p : ℤ) → v.power ≡ p → IsInRange v
-    by_power (negsuc k) e = absurd (units_below v w (pos 0) normal is.same (omega (arith, ints, e)) (omega (arith, ints)))
+    by_power (negsuc k) e =
+        absurd (units_below v w (pos 0) normal is.same (omega (arith, ints, e)) (omega (arith, ints)))
     by_power (pos k) e =
-        let size : unsigned_abs w ≡ unsigned_abs v.coefficient * 10 ^ k = size_of_units v w (pos 0) k (omega (arith, ints, e)) is.same in
+        let size : unsigned_abs w ≡ unsigned_abs v.coefficient * 10 ^ k =
+            size_of_units v w (pos 0) k (omega (arith, ints, e)) is.same in
         let least : unsigned_abs v.coefficient ≤ unsigned_abs v.coefficient * 10 ^ k = no_less _ _ (ten_pow_pos k) in
-        let far : 18 ≤ k → 10 ^ 18 ≤ unsigned_abs w = λ h. far_units v w 0 18 k normal (omega (arith, ints, e)) (omega arith) h is.same in
+        let far : 18 ≤ k → 10 ^ 18 ≤ unsigned_abs w =
+            λ h. far_units v w 0 18 k normal (omega (arith, ints, e)) (omega arith) h is.same in
         let near : k < 18 = below k far is.small in
-        record { digits = omega (arith, size, least, is.small); power_low = omega (arith, ints, e); power_high = omega (arith, ints, e, near) }
+        record { digits = omega (arith, size, least, is.small); power_low = omega (arith, ints, e);
+            power_high = omega (arith, ints, e, near) }
 
 -- an int part that ends the spelling, after its sign, is that whole number
 size : (negative : Bool) (n : ℕ) → unsigned_abs (signed negative n) ≡ n
 size true n = omega (arith, ints)
 size false n = omega (arith, ints)
 
-pub signed_answer : (s : List ℕ) (negative : Bool) (n : ℕ) (c : Class s) → negative ≡ begins 45 s → IsShort (body s) n → whole_answer c ≡ Ok (Some (signed negative n))
+pub signed_answer : (s : List ℕ) (negative : Bool) (n : ℕ) (c : Class s) → negative ≡ begins 45 s → IsShort (body s) n
+    → whole_answer c ≡ Ok (Some (signed negative n))
 signed_answer s negative n c sign short =
     let w = signed negative n in
     let read = integer_read s negative n sign short.int short.rest short.value in
@@ -131,7 +142,8 @@ signed_answer s negative n c sign short =
     let digits : digits_value (read.written.int ++ read.written.frac) ≡ n = omega (arith, read.digits.whole refl) in
     let exponent : read.written.exponent ≡ pos 0 = read.exponent_is.same (omega (arith, ints)) in
     let value = value_of_read s negative n 0 false 0 (pos 0) read form.0 (rw (digits, exponent) form.1) form.2 in
-    let is : IsWhole form.0 w = record { same = same_sym (number w (pos 0)) form.0 form.1; small = rw (size negative n) short.small } in
+    let is : IsWhole form.0 w =
+        record { same = same_sym (number w (pos 0)) form.0 form.1; small = rw (size negative n) short.small } in
     answer_whole s form.0 value (whole_in_range form.0 w form.2 is) w c is
 
 same_short : (s t : List ℕ) (n : ℕ) → t ≡ s → IsShort s n → IsShort t n
@@ -139,11 +151,14 @@ same_short s t n e short = let P : List ℕ → Type 0 = λ u. IsShort u n in su
 
 pub answer_digits : (s : List ℕ) (n : ℕ) (c : Class s) → IsShort s n → whole_answer c ≡ Ok (Some (pos n))
 answer_digits s n c short =
-    let plain : begins 45 s ≡ false = ap (begins 45) (front_rest s) ∙ digit_begins 45 (digits_front s) (digits_rest s) (int_is_digits _ (int_from_test _ (front_all s) short.int)) (omega arith) in
+    let plain : begins 45 s ≡ false = ap (begins 45) (front_rest s)
+        ∙ digit_begins 45 (digits_front s) (digits_rest s) (int_is_digits _ (int_from_test _ (front_all s) short.int))
+        (omega arith) in
     signed_answer s false n c (sym plain) (same_short s (body s) n (no_minus s plain) short)
 
 -- what is said of a short number holds of an answer that may be there
-pub answer_of_few : (s : List ℕ) (o : Option ℕ) → IfSome o (λ n. IsShort s n) → IfSome o (λ n. (c : Class s) → whole_answer c ≡ Ok (Some (pos n)))
+pub answer_of_few : (s : List ℕ) (o : Option ℕ) → IfSome o (λ n. IsShort s n)
+    → IfSome o (λ n. (c : Class s) → whole_answer c ≡ Ok (Some (pos n)))
 answer_of_few s None short = short
 answer_of_few s (Some n) short = λ c. answer_digits s n c short
 
@@ -158,7 +173,10 @@ signed_from_body s few = elim (begins 45 s) as (λ b. begins 45 s ≡ b → IsFe
     few_at t e = let P : List ℕ → Type 0 = λ u. IsFewDigits u in subst P e few
 
 pub body_of_signed : (s : List ℕ) → IsFewSigned s → IsFewDigits (body s)
-body_of_signed s few = ⊎_elim (λ plain. at_body s (no_minus s (int_begins s plain.0)) plain) (λ minus. at_body minus.0 (minus_there s (ap (begins 45) minus.1 ∙ begins_own 45 minus.0) ∙ ap (drop 1) minus.1) minus.2) few
+body_of_signed s few =
+    ⊎_elim (λ plain. at_body s (no_minus s (int_begins s plain.0)) plain)
+        (λ minus. at_body minus.0 (minus_there s (ap (begins 45) minus.1 ∙ begins_own 45 minus.0) ∙ ap (drop 1) minus.1)
+        minus.2) few
   where
     at_body : (t : List ℕ) → body s ≡ t → IsFewDigits t → IsFewDigits (body s)
     at_body t e few = let P : List ℕ → Type 0 = λ u. IsFewDigits u in subst P (sym e) few

@@ -18,17 +18,21 @@ is-below a b h = grind (arith, nat_tests)
 pub fixed-units : (n : Number) → is_fixed n ≡ true → IsFixed n (units_of n)
 fixed-units n h = go (n.power +ℤ pos 18) refl h
   where
-    go : (shift : ℤ) → n.power +ℤ pos 18 ≡ shift → is_fixed_by shift n.coefficient ≡ true → IsFixed n (units_by shift n.coefficient)
+    go : (shift : ℤ) → n.power +ℤ pos 18 ≡ shift → is_fixed_by shift n.coefficient ≡ true
+        → IsFixed n (units_by shift n.coefficient)
     go (pos k) e h =
         let u = n.coefficient *ℤ pos (10 ^ k) in
-        let small : unsigned_abs u < 10 ^ 36 = omega (arith, abs_times n.coefficient (10 ^ k), below-is (unsigned_abs n.coefficient * 10 ^ k) (10 ^ 36) h) in
+        let small : unsigned_abs u < 10 ^ 36 =
+            omega (arith, abs_times n.coefficient (10 ^ k),
+                below-is (unsigned_abs n.coefficient * 10 ^ k) (10 ^ 36) h) in
         record { same = units_same n u (neg_ℤ (pos 18)) k (omega (arith, ints, e)) refl; small = small }
     go (negsuc k) e h = absurd (cc h)
 
 pub units-only : (n : Number) (u : ℤ) → is_fixed n ≡ true → IsFixed n u → u ≡ units_of n
 units-only n u h f = go (n.power +ℤ pos 18) refl h
   where
-    go : (shift : ℤ) → n.power +ℤ pos 18 ≡ shift → is_fixed_by shift n.coefficient ≡ true → u ≡ units_by shift n.coefficient
+    go : (shift : ℤ) → n.power +ℤ pos 18 ≡ shift → is_fixed_by shift n.coefficient ≡ true
+        → u ≡ units_by shift n.coefficient
     go (pos k) e h = units_are n u (neg_ℤ (pos 18)) k (omega (arith, ints, e)) f.same
     go (negsuc k) e h = absurd (cc h)
 
@@ -36,15 +40,18 @@ module _ (n : Number) (normal : IsNormal n) where
   test-of : (shift : ℤ) → n.power +ℤ pos 18 ≡ shift → is_fixed_by shift n.coefficient ≡ true → (u : ℤ) × IsFixed n u
   test-of (pos k) e h =
       let u = n.coefficient *ℤ pos (10 ^ k) in
-      let small : unsigned_abs u < 10 ^ 36 = omega (arith, abs_times n.coefficient (10 ^ k), below-is (unsigned_abs n.coefficient * 10 ^ k) (10 ^ 36) h) in
+      let small : unsigned_abs u < 10 ^ 36 =
+          omega (arith, abs_times n.coefficient (10 ^ k), below-is (unsigned_abs n.coefficient * 10 ^ k) (10 ^ 36) h) in
       (u, record { same = units_same n u (neg_ℤ (pos 18)) k (omega (arith, ints, e)) refl; small = small })
   test-of (negsuc k) e h = absurd (cc h)
 
   of-test : (shift : ℤ) → n.power +ℤ pos 18 ≡ shift → (u : ℤ) × IsFixed n u → is_fixed_by shift n.coefficient ≡ true
   of-test (pos k) e f =
-      let size : unsigned_abs f.0 ≡ unsigned_abs n.coefficient * 10 ^ k = size_of_units n f.0 (neg_ℤ (pos 18)) k (omega (arith, ints, e)) f.1.same in
+      let size : unsigned_abs f.0 ≡ unsigned_abs n.coefficient * 10 ^ k =
+          size_of_units n f.0 (neg_ℤ (pos 18)) k (omega (arith, ints, e)) f.1.same in
       is-below (unsigned_abs n.coefficient * 10 ^ k) (10 ^ 36) (omega (arith, size, f.1.small))
-  of-test (negsuc k) e f = absurd (units_below n f.0 (neg_ℤ (pos 18)) normal f.1.same (omega (arith, ints, e)) (omega (arith, ints)))
+  of-test (negsuc k) e f =
+      absurd (units_below n f.0 (neg_ℤ (pos 18)) normal f.1.same (omega (arith, ints, e)) (omega (arith, ints)))
 
   pub fixed-test : is_fixed n ≡ true → (u : ℤ) × IsFixed n u
   fixed-test = test-of (n.power +ℤ pos 18) refl
@@ -53,7 +60,8 @@ module _ (n : Number) (normal : IsNormal n) where
   test-fixed = of-test (n.power +ℤ pos 18) refl
 
 -- the test says whether there are units
-pub test-decides : (n : Number) → IsNormal n → (r : Option ℤ) → (IsSome r ↔ ((u : ℤ) × IsFixed n u)) → is_fixed n ≡ is_some r
+pub test-decides : (n : Number) → IsNormal n → (r : Option ℤ) → (IsSome r ↔ ((u : ℤ) × IsFixed n u))
+    → is_fixed n ≡ is_some r
 test-decides n normal (Some x) h = test-fixed n normal (h.0 refl)
 test-decides n normal None h = go (is_fixed n) refl
   where

@@ -21,11 +21,14 @@ use Rattle.cj_feature.proofs.Values.{is-number, same-spelling}
 
 -- ---- what the rule finds of a number
 
-by-value : (t : Tree) (s : List ℕ) (u : Number) → IsValue s u → IsInRange u → (c : Class s) → fixed_findings t c ≡ cond (is_fixed u) [] (one TransformNotFixed t)
+by-value : (t : Tree) (s : List ℕ) (u : Number) → IsValue s u → IsInRange u → (c : Class s)
+    → fixed_findings t c ≡ cond (is_fixed u) [] (one TransformNotFixed t)
 by-value t s u is range (no_number n) = absurd (n (value_is_number s u is))
 by-value t s u is range (out_of_range n) = absurd (not_both s (u, is, range) n)
-by-value t s u is range (not_whole v value inside n) = ap (λ x. cond (is_fixed x) [] (one TransformNotFixed t)) ((has_one_value s).one v u value is)
-by-value t s u is range (whole v w value inside n) = ap (λ x. cond (is_fixed x) [] (one TransformNotFixed t)) ((has_one_value s).one v u value is)
+by-value t s u is range (not_whole v value inside n) =
+    ap (λ x. cond (is_fixed x) [] (one TransformNotFixed t)) ((has_one_value s).one v u value is)
+by-value t s u is range (whole v w value inside n) =
+    ap (λ x. cond (is_fixed x) [] (one TransformNotFixed t)) ((has_one_value s).one v u value is)
 
 by-none : (t : Tree) (s : List ℕ) → (IsNumberInRange s → ⊥) → (c : Class s) → fixed_findings t c ≡ []
 by-none t s none (no_number n) = refl
@@ -37,14 +40,16 @@ module _ (line : List ℕ) (t : Tree) (kind : is_number (kind_of t) ≡ true) wh
   spelled : spelling_of line t ≡ spelling t
   spelled = same-spelling line t (is-number (kind_of t) kind)
 
-  pub fixed-read : (u : Number) → IsValue (spelling_of line t) u → IsInRange u → fixed t ≡ cond (is_fixed u) [] (one TransformNotFixed t)
+  pub fixed-read : (u : Number) → IsValue (spelling_of line t) u → IsInRange u
+      → fixed t ≡ cond (is_fixed u) [] (one TransformNotFixed t)
   fixed-read u is range = rw kind (by-value t (spelling t) u (rw spelled at is) range (class (spelling t)))
 
   pub fixed-unread : (IsNumberInRange (spelling_of line t) → ⊥) → fixed t ≡ []
   fixed-unread none = rw kind (by-none t (spelling t) (rw spelled at none) (class (spelling t)))
 
 -- the same told by an answer
-pub by-answer : (t : Tree) (u : Number) (b : Bool) → is_fixed u ≡ not b → cond (is_fixed u) [] (one TransformNotFixed t) ≡ cond b (one TransformNotFixed t) []
+pub by-answer : (t : Tree) (u : Number) (b : Bool) → is_fixed u ≡ not b
+    → cond (is_fixed u) [] (one TransformNotFixed t) ≡ cond b (one TransformNotFixed t) []
 by-answer t u true e = rw e refl
 by-answer t u false e = rw e refl
 
@@ -54,22 +59,26 @@ none-fixed : (t : Tree) (b : Bool) → cond b [] (one TransformNotFixed t) ≡ [
 none-fixed t true h = refl
 none-fixed t false h = absurd (cc h)
 
-class-fixed : (t : Tree) (s : List ℕ) (c : Class s) (v : Number) → value_by c ≡ Some v → fixed_findings t c ≡ [] → is_fixed v ≡ true
+class-fixed : (t : Tree) (s : List ℕ) (c : Class s) (v : Number) → value_by c ≡ Some v → fixed_findings t c ≡ []
+    → is_fixed v ≡ true
 class-fixed t s (no_number n) v e h = absurd (cc e)
 class-fixed t s (out_of_range n) v e h = absurd (cc e)
-class-fixed t s (not_whole u value inside n) v e h = let same : u ≡ v = cc e in rw (← same) (none-fixed t (is_fixed u) h)
+class-fixed t s (not_whole u value inside n) v e h = let same : u ≡ v = cc e in
+    rw (← same) (none-fixed t (is_fixed u) h)
 class-fixed t s (whole u w value inside n) v e h = let same : u ≡ v = cc e in rw (← same) (none-fixed t (is_fixed u) h)
 
 value-fixed : (t : Tree) (v : Number) → value_of t ≡ Some v → fixed t ≡ [] → is_fixed v ≡ true
 value-fixed t v e h = go (is_number (kind_of t)) e h
   where
-    go : (b : Bool) → cond b (value_by (class (spelling t))) None ≡ Some v → cond b (fixed_findings t (class (spelling t))) [] ≡ [] → is_fixed v ≡ true
+    go : (b : Bool) → cond b (value_by (class (spelling t))) None ≡ Some v
+        → cond b (fixed_findings t (class (spelling t))) [] ≡ [] → is_fixed v ≡ true
     go true e h = class-fixed t (spelling t) (class (spelling t)) v e h
     go false e h = absurd (cc e)
 
 -- ---- three numbers, of which the first two are fixed
 
-three-values : (ts : List Tree) (ns : List Number) → length ts ≡ 3 → first_two fixed ts ≡ [] → map value_of ts ≡ map Some ns → are_fixed ns ≡ true
+three-values : (ts : List Tree) (ns : List Number) → length ts ≡ 3 → first_two fixed ts ≡ []
+    → map value_of ts ≡ map Some ns → are_fixed ns ≡ true
 three-values [] ns few h e = absurd (cc few)
 three-values (a ∷ []) ns few h e = absurd (cc few)
 three-values (a ∷ b ∷ ts) [] few h e = absurd (cc e)
@@ -82,14 +91,16 @@ three-values (a ∷ b ∷ ts) (x ∷ y ∷ ns) few h e =
     let fb : is_fixed y ≡ true = value-fixed b y second none.1 in
     rw (fa, fb) refl
 
-by-length : (t : Tree) (b : Bool) → nat_eq (length (items_of t)) 3 ≡ b → cond b [] (one NotThree t) ≡ [] → length (items_of t) ≡ 3
+by-length : (t : Tree) (b : Bool) → nat_eq (length (items_of t)) 3 ≡ b → cond b [] (one NotThree t) ≡ []
+    → length (items_of t) ≡ 3
 by-length t true e h = eqb-true (length (items_of t)) 3 e
 by-length t false e h = absurd (cc h)
 
 length-three : (t : Tree) → of_length NotThree 3 number t ≡ [] → length (items_of t) ≡ 3
 length-three t h =
     let inside = (of_kind-none (λ u. has_length NotThree 3 u ++ flat_map number (items_of u)) t is_array h).1 in
-    by-length t (nat_eq (length (items_of t)) 3) refl (none-both (has_length NotThree 3 t) (flat_map number (items_of t)) inside).0
+    by-length t (nat_eq (length (items_of t)) 3) refl
+        (none-both (has_length NotThree 3 t) (flat_map number (items_of t)) inside).0
 
 module _ (name : List ℕ) (u : Tree) where
   -- three numbers, whatever is said of the first two
@@ -98,7 +109,8 @@ module _ (name : List ℕ) (u : Tree) where
       let there = by-member (three_numbers b) u (member_of name u) h in
       rw there.1 (none-both _ _ there.2).0
 
-  pub axes-fixed : (ns : List Number) → needs name (three_numbers true) u ≡ [] → map value_of (items_if (member_of name u)) ≡ map Some ns → are_fixed ns ≡ true
+  pub axes-fixed : (ns : List Number) → needs name (three_numbers true) u ≡ []
+      → map value_of (items_if (member_of name u)) ≡ map Some ns → are_fixed ns ≡ true
   axes-fixed ns h e =
       let there = by-member (three_numbers true) u (member_of name u) h in
       let both = none-both (of_length NotThree 3 number there.0) (first_two fixed (items_of there.0)) there.2 in

@@ -13,7 +13,8 @@ use Rattle.cj_geometry.specs.Rule.{one, of_kind, nothing, has_length, of_length}
 use Rattle.cj_geometry.proofs.OfKind.{of_kind-then}
 
 -- another length has its reason
-other-length : (reason : Reason) (n : ℕ) (t : Tree) → (length (items_of t) ≡ n → ⊥) → has_length reason n t ≡ one reason t
+other-length : (reason : Reason) (n : ℕ) (t : Tree) → (length (items_of t) ≡ n → ⊥)
+    → has_length reason n t ≡ one reason t
 other-length reason n t other = go (nat_eq (length (items_of t)) n) refl
   where
     go : (b : Bool) → nat_eq (length (items_of t)) n ≡ b → cond b [] (one reason t) ≡ one reason t
@@ -21,9 +22,12 @@ other-length reason n t other = go (nat_eq (length (items_of t)) n) refl
     go false e = refl
 
 -- the kind, then the items, and then the length
-pub of_length-late : (reason : Reason) (n : ℕ) (rule : Tree → List Finding) (t : Tree) (o p q r : Option Finding) → is_array (kind_of t) ≡ true → p ≡ least o (of_kind is_array nothing t)
-    → q ≡ least p (flat_map rule (items_of t)) → (length (items_of t) ≡ n → ⊥) → r ≡ least q (one reason t) → r ≡ least o (of_length reason n rule t)
+pub of_length-late : (reason : Reason) (n : ℕ) (rule : Tree → List Finding) (t : Tree) (o p q r : Option Finding)
+    → is_array (kind_of t) ≡ true → p ≡ least o (of_kind is_array nothing t)
+    → q ≡ least p (flat_map rule (items_of t)) → (length (items_of t) ≡ n → ⊥) → r ≡ least q (one reason t)
+    → r ≡ least o (of_length reason n rule t)
 of_length-late reason n rule t o p q r kind h k other l =
     let late : r ≡ least q (has_length reason n t) = rw (other-length reason n t other) l in
     of_kind-then is_array (λ u. has_length reason n u ++ flat_map rule (items_of u)) t o p r kind h
-    (least-two p q r (flat_map rule (items_of t)) (has_length reason n t) k late ∙ least-swap p (flat_map rule (items_of t)) (has_length reason n t))
+    (least-two p q r (flat_map rule (items_of t)) (has_length reason n t) k late
+        ∙ least-swap p (flat_map rule (items_of t)) (has_length reason n t))

@@ -45,15 +45,19 @@ alone y x h = go (first-or y [] x h)
     go (inl e) = e
     go (inr n) = absurd (nowhere x n)
 
-pub from-flat_map : {X A : Type 0} (g : X → List A) (xs : List X) (a : A) → Contains (flat_map g xs) a → (x : X) × Contains xs x × Contains (g x) a
+pub from-flat_map : {X A : Type 0} (g : X → List A) (xs : List X) (a : A) → Contains (flat_map g xs) a → (x : X)
+    × Contains xs x × Contains (g x) a
 from-flat_map g [] a h = absurd (nowhere a h)
 from-flat_map {X = X} g (y ∷ xs) a h = go (Contains-append_cases (g y) (flat_map g xs) a h) (from-flat_map g xs a)
   where
-    go : Contains (g y) a ⊎ Contains (flat_map g xs) a → (Contains (flat_map g xs) a → (x : X) × Contains xs x × Contains (g x) a) → (x : X) × Contains (y ∷ xs) x × Contains (g x) a
+    go : Contains (g y) a ⊎ Contains (flat_map g xs) a
+        → (Contains (flat_map g xs) a → (x : X) × Contains xs x × Contains (g x) a) → (x : X) × Contains (y ∷ xs) x
+        × Contains (g x) a
     go (inl k) later = (y, here y xs, k)
     go (inr k) later = let r = later k in (r.0, there y xs r.0 r.1, r.2)
 
-pub to-flat_map : {X A : Type 0} (g : X → List A) (xs : List X) (a : A) (x : X) → Contains xs x → Contains (g x) a → Contains (flat_map g xs) a
+pub to-flat_map : {X A : Type 0} (g : X → List A) (xs : List X) (a : A) (x : X) → Contains xs x → Contains (g x) a
+    → Contains (flat_map g xs) a
 to-flat_map g [] a x h k = absurd (nowhere x h)
 to-flat_map g (y ∷ xs) a x h k = go (first-or y xs x h) (λ r. to-flat_map g xs a x r k)
   where
@@ -74,7 +78,8 @@ pub from-any : {X : Type 0} (p : X → Bool) (xs : List X) → list_any p xs ≡
 from-any p [] h = absurd (false-not false refl h)
 from-any {X = X} p (y ∷ xs) h = go (p y) refl h (from-any p xs)
   where
-    go : (b : Bool) → p y ≡ b → b || list_any p xs ≡ true → (list_any p xs ≡ true → (x : X) × Contains xs x × (p x ≡ true)) → (x : X) × Contains (y ∷ xs) x × (p x ≡ true)
+    go : (b : Bool) → p y ≡ b → b || list_any p xs ≡ true
+        → (list_any p xs ≡ true → (x : X) × Contains xs x × (p x ≡ true)) → (x : X) × Contains (y ∷ xs) x × (p x ≡ true)
     go true e h later = (y, here y xs, e)
     go false e h later = let r = later h in (r.0, there y xs r.0 r.1, r.2)
 
@@ -132,11 +137,13 @@ kind-text (array i j ts) h = cc
 kind-text (object i j ms) h = cc
 
 -- each name has a text
-pub member-text : (ms : Members) (m : Tree × Tree) → Contains (list_members ms) m → (x : List ℕ) × (text_of m.0 ≡ Some x)
+pub member-text : (ms : Members) (m : Tree × Tree) → Contains (list_members ms) m → (x : List ℕ)
+    × (text_of m.0 ≡ Some x)
 member-text no_members m h = absurd (nowhere m h)
 member-text (member n u ms) m h = go (first-or (scalar Text n, u) (list_members ms) m h) (member-text ms m)
   where
-    go : ((scalar Text n, u) ≡ m) ⊎ Contains (list_members ms) m → (Contains (list_members ms) m → (x : List ℕ) × (text_of m.0 ≡ Some x)) → (x : List ℕ) × (text_of m.0 ≡ Some x)
+    go : ((scalar Text n, u) ≡ m) ⊎ Contains (list_members ms) m
+        → (Contains (list_members ms) m → (x : List ℕ) × (text_of m.0 ≡ Some x)) → (x : List ℕ) × (text_of m.0 ≡ Some x)
     go (inl e) later = (text n.spelling, ap (λ z. text_of z.0) (sym e))
     go (inr k) later = later k
 
@@ -154,7 +161,8 @@ module _ (objects : List (Tree × Tree)) where
       record { object = r.0; held = r.1; named = carried r.0.0 id b r.2 t }
 
   pub to-known : (id : Tree) (b : List ℕ) → text_of id ≡ Some b → IsIn objects b → is_known objects id ≡ true
-  to-known id b t h = to-any (λ m. same_text m.0 id) objects h.object h.held (to-texts (text_of h.object.0) (text_of id) b h.named t)
+  to-known id b t h =
+      to-any (λ m. same_text m.0 id) objects h.object h.held (to-texts (text_of h.object.0) (text_of id) b h.named t)
 
   -- what is no text is no id
   pub known-text : (id : Tree) → is_known objects id ≡ true → (b : List ℕ) × (text_of id ≡ Some b)
@@ -177,17 +185,22 @@ module _ (objects : List (Tree × Tree)) where
   pub to-listed : (list : List ℕ) (o item : Tree) → IsListed list o item → Contains (listed_in list o) item
   to-listed list o item h = rw h.member h.held
 
-  from-lists : (list : List ℕ) (from to : Tree) (a b : List ℕ) → text_of from ≡ Some a → text_of to ≡ Some b → lists list objects from to ≡ true → Lists list objects a b
+  from-lists : (list : List ℕ) (from to : Tree) (a b : List ℕ) → text_of from ≡ Some a → text_of to ≡ Some b
+      → lists list objects from to ≡ true → Lists list objects a b
   from-lists list from to a b s t h =
       let r = from-any (λ m. same_text m.0 from && has_item (listed_in list m.1) to) objects h in
       let both = from-and _ _ r.2 in
       let i = from-any (λ x. same_text x to) (listed_in list r.0.1) both.1 in
-      record { object = r.0; held = r.1; named = carried r.0.0 from a both.0 s; item = i.0; listed = from-listed list r.0.1 i.0 i.1; text = carried i.0 to b i.2 t }
+      record { object = r.0; held = r.1; named = carried r.0.0 from a both.0 s; item = i.0;
+          listed = from-listed list r.0.1 i.0 i.1; text = carried i.0 to b i.2 t }
 
-  to-lists : (list : List ℕ) (from to : Tree) (a b : List ℕ) → text_of from ≡ Some a → text_of to ≡ Some b → Lists list objects a b → lists list objects from to ≡ true
+  to-lists : (list : List ℕ) (from to : Tree) (a b : List ℕ) → text_of from ≡ Some a → text_of to ≡ Some b
+      → Lists list objects a b → lists list objects from to ≡ true
   to-lists list from to a b s t h =
       to-any (λ m. same_text m.0 from && has_item (listed_in list m.1) to) objects h.object h.held
-      (both _ _ (to-texts (text_of h.object.0) (text_of from) a h.named s) (to-any (λ x. same_text x to) (listed_in list h.object.1) h.item (to-listed list h.object.1 h.item h.listed) (to-texts (text_of h.item) (text_of to) b h.text t)))
+      (both _ _ (to-texts (text_of h.object.0) (text_of from) a h.named s)
+          (to-any (λ x. same_text x to) (listed_in list h.object.1) h.item (to-listed list h.object.1 h.item h.listed)
+              (to-texts (text_of h.item) (text_of to) b h.text t)))
     where
       both : (x y : Bool) → x ≡ true → y ≡ true → x && y ≡ true
       both x y p q = rw (p, q) refl
@@ -209,38 +222,53 @@ from-not false h k = cc
 module _ (t : Tree) where
   -- a city object, one of its items and a finding
   module _ (m : Tree × Tree) (item : Tree) (f : Finding) (held : Contains (members_of t) m) where
-    from-child : is_group m.1 ≡ false → IsListed (chars (codes "children")) m.1 item → Contains (child (members_of t) m.0 item) f → IsLinkFault (members_of t) f
+    from-child : is_group m.1 ≡ false → IsListed (chars (codes "children")) m.1 item
+        → Contains (child (members_of t) m.0 item) f → IsLinkFault (members_of t) f
     from-child other listed h = go (is_text (kind_of item)) refl h
       where
-        back : (b : Bool) → lists (chars (codes "parents")) (members_of t) item m.0 ≡ b → (id : List ℕ) → text_of item ≡ Some id → is_known (members_of t) item ≡ true
+        back : (b : Bool) → lists (chars (codes "parents")) (members_of t) item m.0 ≡ b → (id : List ℕ)
+            → text_of item ≡ Some id → is_known (members_of t) item ≡ true
             → Contains (answered b item) f → IsLinkFault (members_of t) f
         back true e id s k h = absurd (nowhere f h)
         back false e id s k h =
             let x = names-text t m held in
-            subst (IsLinkFault (members_of t)) (alone (found_at (start_of item) LinkNotMutual) f h) (child_not_mutual m item x.0 id held other listed x.1 s (from-known (members_of t) item id s k) (λ p. false-not _ e (to-lists (members_of t) (chars (codes "parents")) item m.0 id x.0 s x.1 p)))
+            subst (IsLinkFault (members_of t)) (alone (found_at (start_of item) LinkNotMutual) f h)
+                (child_not_mutual m item x.0 id held other listed x.1 s (from-known (members_of t) item id s k)
+                (λ p. false-not _ e (to-lists (members_of t) (chars (codes "parents")) item m.0 id x.0 s x.1 p)))
 
         known : (b : Bool) → is_known (members_of t) item ≡ b → (id : List ℕ) → text_of item ≡ Some id
-            → Contains (cond b (answered (lists (chars (codes "parents")) (members_of t) item m.0) item) (one ChildNotFound item)) f → IsLinkFault (members_of t) f
+            → Contains (cond b (answered (lists (chars (codes "parents")) (members_of t) item m.0) item)
+                (one ChildNotFound item)) f → IsLinkFault (members_of t) f
         known true e id s h = back (lists (chars (codes "parents")) (members_of t) item m.0) refl id s e h
         known false e id s h =
-            subst (IsLinkFault (members_of t)) (alone (found_at (start_of item) ChildNotFound) f h) (child_not_found m item id held other listed s (λ is. false-not _ e (to-known (members_of t) item id s is)))
+            subst (IsLinkFault (members_of t)) (alone (found_at (start_of item) ChildNotFound) f h)
+                (child_not_found m item id held other listed s
+                (λ is. false-not _ e (to-known (members_of t) item id s is)))
 
         go : (b : Bool) → is_text (kind_of item) ≡ b
-            → Contains (cond b (cond (is_known (members_of t) item) (answered (lists (chars (codes "parents")) (members_of t) item m.0) item) (one ChildNotFound item)) []) f → IsLinkFault (members_of t) f
+            → Contains (cond b (cond (is_known (members_of t) item)
+                    (answered (lists (chars (codes "parents")) (members_of t) item m.0) item) (one ChildNotFound item))
+                []) f → IsLinkFault (members_of t) f
         go true e h = let s = kind-text item e in known (is_known (members_of t) item) refl s.0 s.1 h
         go false e h = absurd (nowhere f h)
 
-    from-parent : IsListed (chars (codes "parents")) m.1 item → Contains (parent (members_of t) m.0 item) f → IsLinkFault (members_of t) f
+    from-parent : IsListed (chars (codes "parents")) m.1 item → Contains (parent (members_of t) m.0 item) f
+        → IsLinkFault (members_of t) f
     from-parent listed h = go (is_known (members_of t) item) refl h
       where
-        back : (b : Bool) → lists (chars (codes "children")) (members_of t) item m.0 ≡ b → is_known (members_of t) item ≡ true → Contains (answered b item) f → IsLinkFault (members_of t) f
+        back : (b : Bool) → lists (chars (codes "children")) (members_of t) item m.0 ≡ b
+            → is_known (members_of t) item ≡ true → Contains (answered b item) f → IsLinkFault (members_of t) f
         back true e k h = absurd (nowhere f h)
         back false e k h =
             let x = names-text t m held in
             let s = known-text (members_of t) item k in
-            subst (IsLinkFault (members_of t)) (alone (found_at (start_of item) LinkNotMutual) f h) (parent_not_mutual m item s.0 x.0 held listed x.1 s.1 (from-known (members_of t) item s.0 s.1 k) (λ p. false-not _ e (to-lists (members_of t) (chars (codes "children")) item m.0 s.0 x.0 s.1 x.1 p)))
+            subst (IsLinkFault (members_of t)) (alone (found_at (start_of item) LinkNotMutual) f h)
+                (parent_not_mutual m item s.0 x.0 held listed x.1 s.1 (from-known (members_of t) item s.0 s.1 k)
+                (λ p. false-not _ e (to-lists (members_of t) (chars (codes "children")) item m.0 s.0 x.0 s.1 x.1 p)))
 
-        go : (b : Bool) → is_known (members_of t) item ≡ b → Contains (cond b (answered (lists (chars (codes "children")) (members_of t) item m.0) item) []) f → IsLinkFault (members_of t) f
+        go : (b : Bool) → is_known (members_of t) item ≡ b
+            → Contains (cond b (answered (lists (chars (codes "children")) (members_of t) item m.0) item) []) f
+            → IsLinkFault (members_of t) f
         go true e h = back (lists (chars (codes "children")) (members_of t) item m.0) refl e h
         go false e h = absurd (nowhere f h)
 
@@ -248,7 +276,9 @@ module _ (t : Tree) where
     from-children : Contains (children (members_of t) m) f → IsLinkFault (members_of t) f
     from-children h = go (is_group m.1) refl h
       where
-        go : (b : Bool) → is_group m.1 ≡ b → Contains (cond b [] (flat_map (child (members_of t) m.0) (listed_in (chars (codes "children")) m.1))) f → IsLinkFault (members_of t) f
+        go : (b : Bool) → is_group m.1 ≡ b
+            → Contains (cond b [] (flat_map (child (members_of t) m.0) (listed_in (chars (codes "children")) m.1))) f
+            → IsLinkFault (members_of t) f
         go true e h = absurd (nowhere f h)
         go false e h =
             let r = from-flat_map (child (members_of t) m.0) (listed_in (chars (codes "children")) m.1) f h in
@@ -262,30 +292,41 @@ module _ (t : Tree) where
     from-part : Contains (part (members_of t) m) f → IsLinkFault (members_of t) f
     from-part h = go (is_part m.1) refl h
       where
-        found : (u : Tree) (b : Bool) → is_array (kind_of u) && not (list_any (is_known (members_of t)) (items_of u)) ≡ b → is_part m.1 ≡ true → member_of (chars (codes "parents")) m.1 ≡ Some u
+        found : (u : Tree) (b : Bool) → is_array (kind_of u) && not (list_any (is_known (members_of t)) (items_of u))
+            ≡ b → is_part m.1 ≡ true → member_of (chars (codes "parents")) m.1 ≡ Some u
             → Contains (cond b (one NoParent m.1) []) f → IsLinkFault (members_of t) f
         found u true e is at h =
             let both = from-and _ _ e in
-            subst (IsLinkFault (members_of t)) (alone (found_at (start_of m.1) NoParent) f h) (no_parent m u held is at (array-kind (kind_of u) both.0)
-            (λ item a k s known. from-not _ both.1 (to-any (is_known (members_of t)) (items_of u) item k (to-known (members_of t) item a s known))))
+            subst (IsLinkFault (members_of t)) (alone (found_at (start_of m.1) NoParent) f h)
+                (no_parent m u held is at (array-kind (kind_of u) both.0)
+            (λ item a k s known. from-not _ both.1
+                (to-any (is_known (members_of t)) (items_of u) item k (to-known (members_of t) item a s known))))
         found u false e is at h = absurd (nowhere f h)
 
-        with_parents : (o : Option Tree) → member_of (chars (codes "parents")) m.1 ≡ o → is_part m.1 ≡ true → Contains (part_of (members_of t) m.1 o) f → IsLinkFault (members_of t) f
+        with_parents : (o : Option Tree) → member_of (chars (codes "parents")) m.1 ≡ o → is_part m.1 ≡ true
+            → Contains (part_of (members_of t) m.1 o) f → IsLinkFault (members_of t) f
         with_parents None at is h = absurd (nowhere f h)
-        with_parents (Some u) at is h = found u (is_array (kind_of u) && not (list_any (is_known (members_of t)) (items_of u))) refl is at h
+        with_parents (Some u) at is h =
+            found u (is_array (kind_of u) && not (list_any (is_known (members_of t)) (items_of u))) refl is at h
 
-        go : (b : Bool) → is_part m.1 ≡ b → Contains (cond b (part_of (members_of t) m.1 (member_of (chars (codes "parents")) m.1)) []) f → IsLinkFault (members_of t) f
+        go : (b : Bool) → is_part m.1 ≡ b
+            → Contains (cond b (part_of (members_of t) m.1 (member_of (chars (codes "parents")) m.1)) []) f
+            → IsLinkFault (members_of t) f
         go true e h = with_parents (member_of (chars (codes "parents")) m.1) refl e h
         go false e h = absurd (nowhere f h)
 
     from-object : Contains (object_links (members_of t) m) f → IsLinkFault (members_of t) f
-    from-object h = outer (Contains-append_cases (children (members_of t) m ++ parents (members_of t) m) (part (members_of t) m) f h)
+    from-object h =
+        outer (Contains-append_cases (children (members_of t) m ++ parents (members_of t) m) (part (members_of t) m) f
+            h)
       where
-        inner : Contains (children (members_of t) m) f ⊎ Contains (parents (members_of t) m) f → IsLinkFault (members_of t) f
+        inner : Contains (children (members_of t) m) f ⊎ Contains (parents (members_of t) m) f
+            → IsLinkFault (members_of t) f
         inner (inl h) = from-children h
         inner (inr h) = from-parents h
 
-        outer : Contains (children (members_of t) m ++ parents (members_of t) m) f ⊎ Contains (part (members_of t) m) f → IsLinkFault (members_of t) f
+        outer : Contains (children (members_of t) m ++ parents (members_of t) m) f ⊎ Contains (part (members_of t) m) f
+            → IsLinkFault (members_of t) f
         outer (inl h) = inner (Contains-append_cases (children (members_of t) m) (parents (members_of t) m) f h)
         outer (inr h) = from-part h
 
@@ -297,29 +338,41 @@ module _ (t : Tree) where
 -- ---- each fault by the relations is a finding of the list
 
 module _ (t : Tree) where
-  to-object : (f : Finding) (m : Tree × Tree) → Contains (members_of t) m → Contains (object_links (members_of t) m) f → Contains (links (Some t)) f
+  to-object : (f : Finding) (m : Tree × Tree) → Contains (members_of t) m → Contains (object_links (members_of t) m) f
+      → Contains (links (Some t)) f
   to-object f m held h = to-flat_map (object_links (members_of t)) (members_of t) f m held h
 
-  to-children : (f : Finding) (m : Tree × Tree) (item : Tree) → Contains (members_of t) m → is_group m.1 ≡ false → IsListed (chars (codes "children")) m.1 item
+  to-children : (f : Finding) (m : Tree × Tree) (item : Tree) → Contains (members_of t) m → is_group m.1 ≡ false
+      → IsListed (chars (codes "children")) m.1 item
       → Contains (child (members_of t) m.0 item) f → Contains (links (Some t)) f
   to-children f m item held other listed h =
-      let all = to-flat_map (child (members_of t) m.0) (listed_in (chars (codes "children")) m.1) f item (to-listed (members_of t) (chars (codes "children")) m.1 item listed) h in
+      let all = to-flat_map (child (members_of t) m.0) (listed_in (chars (codes "children")) m.1) f item
+          (to-listed (members_of t) (chars (codes "children")) m.1 item listed) h in
       let mine : Contains (children (members_of t) m) f = rw other all in
-      to-object f m held (Contains-append_left (children (members_of t) m ++ parents (members_of t) m) (part (members_of t) m) f (Contains-append_left (children (members_of t) m) (parents (members_of t) m) f mine))
+      to-object f m held (Contains-append_left (children (members_of t) m ++ parents (members_of t) m)
+          (part (members_of t) m) f
+          (Contains-append_left (children (members_of t) m) (parents (members_of t) m) f mine))
 
-  to-parents : (f : Finding) (m : Tree × Tree) (item : Tree) → Contains (members_of t) m → IsListed (chars (codes "parents")) m.1 item
+  to-parents : (f : Finding) (m : Tree × Tree) (item : Tree) → Contains (members_of t) m
+      → IsListed (chars (codes "parents")) m.1 item
       → Contains (parent (members_of t) m.0 item) f → Contains (links (Some t)) f
   to-parents f m item held listed h =
-      let mine = to-flat_map (parent (members_of t) m.0) (listed_in (chars (codes "parents")) m.1) f item (to-listed (members_of t) (chars (codes "parents")) m.1 item listed) h in
-      to-object f m held (Contains-append_left (children (members_of t) m ++ parents (members_of t) m) (part (members_of t) m) f (Contains-append_right (children (members_of t) m) (parents (members_of t) m) f mine))
+      let mine = to-flat_map (parent (members_of t) m.0) (listed_in (chars (codes "parents")) m.1) f item
+          (to-listed (members_of t) (chars (codes "parents")) m.1 item listed) h in
+      to-object f m held (Contains-append_left (children (members_of t) m ++ parents (members_of t) m)
+          (part (members_of t) m) f
+          (Contains-append_right (children (members_of t) m) (parents (members_of t) m) f mine))
 
-  unlisted : (list : List ℕ) (from to : Tree) (a b : List ℕ) → text_of from ≡ Some a → text_of to ≡ Some b → (Lists list (members_of t) a b → ⊥) → lists list (members_of t) from to ≡ false
+  unlisted : (list : List ℕ) (from to : Tree) (a b : List ℕ) → text_of from ≡ Some a → text_of to ≡ Some b
+      → (Lists list (members_of t) a b → ⊥) → lists list (members_of t) from to ≡ false
   unlisted list from to a b s k never = not-so _ (λ yes. never (from-lists (members_of t) list from to a b s k yes))
 
-  unknown : (id : Tree) (b : List ℕ) → text_of id ≡ Some b → (IsIn (members_of t) b → ⊥) → is_known (members_of t) id ≡ false
+  unknown : (id : Tree) (b : List ℕ) → text_of id ≡ Some b → (IsIn (members_of t) b → ⊥)
+      → is_known (members_of t) id ≡ false
   unknown id b s never = not-so _ (λ yes. never (from-known (members_of t) id b s yes))
 
-  no-parent : (u : Tree) → ((item : Tree) (a : List ℕ) → Contains (items_of u) item → text_of item ≡ Some a → IsIn (members_of t) a → ⊥) → list_any (is_known (members_of t)) (items_of u) ≡ false
+  no-parent : (u : Tree) → ((item : Tree) (a : List ℕ) → Contains (items_of u) item → text_of item ≡ Some a
+      → IsIn (members_of t) a → ⊥) → list_any (is_known (members_of t)) (items_of u) ≡ false
   no-parent u never = not-so _ (λ yes.
       let r = from-any (is_known (members_of t)) (items_of u) yes in
       let s = known-text (members_of t) r.0 r.2 in
@@ -329,9 +382,15 @@ module _ (t : Tree) where
   to-links f (child_not_found a item b held other listed s never) =
       to-children _ a item held other listed (rw (text-kind item b s, unknown item b s never) (here _ []))
   to-links f (child_not_mutual a item x b held other listed s k is never) =
-      to-children _ a item held other listed (rw (text-kind item b k, to-known (members_of t) item b k is, unlisted (chars (codes "parents")) item a.0 b x k s never) (here _ []))
+      to-children _ a item held other listed
+          (rw (text-kind item b k, to-known (members_of t) item b k is,
+              unlisted (chars (codes "parents")) item a.0 b x k s never) (here _ []))
   to-links f (parent_not_mutual b item a x held listed s k is never) =
-      to-parents _ b item held listed (rw (to-known (members_of t) item a k is, unlisted (chars (codes "children")) item b.0 a x k s never) (here _ []))
+      to-parents _ b item held listed
+          (rw (to-known (members_of t) item a k is, unlisted (chars (codes "children")) item b.0 a x k s never)
+          (here _ []))
   to-links f (no_parent b u held is at kind never) =
-      let mine : Contains (part (members_of t) b) (found_at (start_of b.1) NoParent) = rw (is, at, kind, no-parent u never) (here _ []) in
-      to-object _ b held (Contains-append_right (children (members_of t) b ++ parents (members_of t) b) (part (members_of t) b) _ mine)
+      let mine : Contains (part (members_of t) b) (found_at (start_of b.1) NoParent) =
+          rw (is, at, kind, no-parent u never) (here _ []) in
+      to-object _ b held (Contains-append_right (children (members_of t) b ++ parents (members_of t) b)
+          (part (members_of t) b) _ mine)

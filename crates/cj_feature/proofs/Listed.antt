@@ -6,7 +6,8 @@ use Rattle.cj_spans.specs.Parts.{kind_of}
 use Rattle.cj_geometry.specs.Geometry.{listed, empty, list_of}
 use Rattle.cj_feature.specs.Feature.{given_list, templates_of}
 
-listed_if : (v : Bool) (t : Tree) → false ≡ is_some (list_of (cond v (listed t) empty)) → cond v (listed t) empty ≡ empty
+listed_if : (v : Bool) (t : Tree) → false ≡ is_some (list_of (cond v (listed t) empty))
+    → cond v (listed t) empty ≡ empty
 listed_if true t h = absurd (cc h)
 listed_if false t h = refl
 

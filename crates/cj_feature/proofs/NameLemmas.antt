@@ -30,12 +30,15 @@ module _ {X : Type 0} (xs : List X) (c : ℕ) (v : X) (below : c < length xs) wh
       let low : h.0 < c = omega (arith, h.1, length-take-le c xs (omega (arith, below))) in (
         h.0,
         omega (arith, long, low),
-        get_or-take (c + 1) (slice_set xs c v) h.0 x (omega arith) ∙ get_or-set_other xs c h.0 v x (λ e. absurd (omega arith)) ∙ sym (get_or-take c xs h.0 x low) ∙ h.2,
+        get_or-take (c + 1) (slice_set xs c v) h.0 x (omega arith)
+            ∙ get_or-set_other xs c h.0 v x (λ e. absurd (omega arith)) ∙ sym (get_or-take c xs h.0 x low) ∙ h.2,
       )
 
   -- and so is that one
   pub last-first : Contains (take (c + 1) (slice_set xs c v)) v
-  last-first = (c, omega (arith, long), get_or-take (c + 1) (slice_set xs c v) c v (omega arith) ∙ get_or-set_same xs c v v below)
+  last-first =
+      (c, omega (arith, long), get_or-take (c + 1) (slice_set xs c v) c v (omega arith)
+          ∙ get_or-set_same xs c v v below)
 
 module _ (objects : Node) where
   -- names in another order are the same
@@ -43,12 +46,14 @@ module _ (objects : Node) where
   noted-moved xs ys t moved n = (n.0, Contains-permutation xs ys n.0 moved n.1, n.2)
 
   -- what has the text of a noted name is noted
-  noted-same : (names : List Noted) (t u : Tree) → same_text t u ≡ true → IsNoted objects names t → IsNoted objects names u
+  noted-same : (names : List Noted) (t u : Tree) → same_text t u ≡ true → IsNoted objects names t
+      → IsNoted objects names u
   noted-same names t u same n =
       let both = from-texts (text_of t) (text_of u) same in
       (n.0, n.1, n.2 ∙ ap side_of (both.1 ∙ sym both.2))
 
-  pub sought-same : (names : Names) (t u : Tree) → same_text t u ≡ true → IsSought objects names t → IsSought objects names u
+  pub sought-same : (names : Names) (t u : Tree) → same_text t u ≡ true → IsSought objects names t
+      → IsSought objects names u
   sought-same Every t u same n = tt
   sought-same (These names) t u same n = noted-same names.now t u same n
 
@@ -57,7 +62,8 @@ module _ (objects : Node) where
   none-noted t n = omega (arith, n.1.1)
 
   -- where a search by halves finds none, no name has the text
-  pub not-found : (names : List Noted) (t : Tree) (side : Side) (r : Result ℕ ℕ) → AreInNameOrder objects names → side ≡ side_of (text_of t) → is_ok r ≡ false
+  pub not-found : (names : List Noted) (t : Tree) (side : Side) (r : Result ℕ ℕ) → AreInNameOrder objects names
+      → side ≡ side_of (text_of t) → is_ok r ≡ false
       → IsBinarySearchResult (λ n. compare_sides (side_in objects n) side) names r → IsNoted objects names t → ⊥
   not-found names t side (Ok i) order e none is n = cc
   not-found names t side (Err i) order e none is n =
@@ -66,5 +72,7 @@ module _ (objects : Node) where
       let k : ℕ = n.1.0 in
       let same : get_or names k x ≡ x = n.1.2 in
       let equal : compare_sides (side_in objects (get_or names k x)) side ≡ Equal =
-      subst (λ y. compare_sides (side_in objects y) side ≡ Equal) (sym same) (subst (λ s. compare_sides s side ≡ Equal) (e ∙ sym n.2) (tied_itself sides_total side)) in
-      elim (cases_lt k i) [ inl below ↦ let less = parts.0 k x (omega arith) below in cc | inr above ↦ let more = parts.1 k x above n.1.1 in cc ]
+      subst (λ y. compare_sides (side_in objects y) side ≡ Equal) (sym same)
+          (subst (λ s. compare_sides s side ≡ Equal) (e ∙ sym n.2) (tied_itself sides_total side)) in
+      elim (cases_lt k i) [ inl below ↦ let less = parts.0 k x (omega arith) below in
+          cc | inr above ↦ let more = parts.1 k x above n.1.1 in cc ]

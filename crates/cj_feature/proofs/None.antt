@@ -41,7 +41,8 @@ module _ (rule : Tree → List Finding) (t : Tree) where
         rw same has.2
 
 -- and each of a list, where a rule finds nothing in any, passes a test that the rule decides
-pub none-each : {A : Type 0} (rule : A → List Finding) (test : A → Bool) → ((x : A) → rule x ≡ [] → test x ≡ true) → (xs : List A) → flat_map rule xs ≡ [] → list_all test xs ≡ true
+pub none-each : {A : Type 0} (rule : A → List Finding) (test : A → Bool) → ((x : A) → rule x ≡ [] → test x ≡ true)
+    → (xs : List A) → flat_map rule xs ≡ [] → list_all test xs ≡ true
 none-each rule test decides [] h = refl
 none-each rule test decides (x ∷ xs) h =
     let both = none-both (rule x) (flat_map rule xs) h in

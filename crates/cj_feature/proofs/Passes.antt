@@ -20,11 +20,14 @@ use Rattle.cj_feature.specs.Links.{same_text, listed_in, is_part, is_known, has_
 
 -- ---- who lists is in the feature
 
-pub lists_known : (list : List ℕ) (objects : List (Tree × Tree)) (from to : Tree) → lists list objects from to ≡ true → is_known objects from ≡ true
+pub lists_known : (list : List ℕ) (objects : List (Tree × Tree)) (from to : Tree) → lists list objects from to ≡ true
+    → is_known objects from ≡ true
 lists_known list [] from to h = h
-lists_known list (m ∷ ms) from to h = go (same_text m.0 from) (has_item (listed_in list m.1) to) (lists_known list ms from to) h
+lists_known list (m ∷ ms) from to h =
+    go (same_text m.0 from) (has_item (listed_in list m.1) to) (lists_known list ms from to) h
   where
-    go : (a b : Bool) → (lists list ms from to ≡ true → is_known ms from ≡ true) → a && b || lists list ms from to ≡ true → a || is_known ms from ≡ true
+    go : (a b : Bool) → (lists list ms from to ≡ true → is_known ms from ≡ true)
+        → a && b || lists list ms from to ≡ true → a || is_known ms from ≡ true
     go true b later h = refl
     go false b later h = later h
 
@@ -38,14 +41,16 @@ nothing_on true true true t missing g h = refl
 nothing_on true false c t missing g h = cc
 nothing_on true true false t missing g h = cc
 
-told_on : (a b c : Bool) (t : Tree) (missing : List Finding) (o : Option Finding) → least o (one LinkNotMutual t) ≡ o → o ≡ least o missing → o ≡ least o (found_on a b c t missing)
+told_on : (a b c : Bool) (t : Tree) (missing : List Finding) (o : Option Finding) → least o (one LinkNotMutual t) ≡ o
+    → o ≡ least o missing → o ≡ least o (found_on a b c t missing)
 told_on false b c t missing o told none = refl
 told_on true false c t missing o told none = none
 told_on true true true t missing o told none = refl
 told_on true true false t missing o told none = sym told
 
 -- what is listed back has no finding
-pub listed_linked : (k : Link) (objects : List (Tree × Tree)) (name item : Tree) (o : Option Finding) → lists (back_of k) objects item name ≡ true → o ≡ least o (linked k objects name item)
+pub listed_linked : (k : Link) (objects : List (Tree × Tree)) (name item : Tree) (o : Option Finding)
+    → lists (back_of k) objects item name ≡ true → o ≡ least o (linked k objects name item)
 listed_linked k objects name item o h = ap (least o) (sym (go k h))
   where
     go : (k : Link) → lists (back_of k) objects item name ≡ true → linked k objects name item ≡ []
@@ -53,10 +58,14 @@ listed_linked k objects name item o h = ap (least o) (sym (go k h))
     go Parent h = nothing_on true _ _ item [] (lists_known (back_of Parent) objects item name h) h
 
 -- and what comes behind a finding has none that counts
-pub told_linked : (k : Link) (objects : List (Tree × Tree)) (name item : Tree) (o : Option Finding) → ((r : Reason) → least o (one r item) ≡ o) → o ≡ least o (linked k objects name item)
+pub told_linked : (k : Link) (objects : List (Tree × Tree)) (name item : Tree) (o : Option Finding)
+    → ((r : Reason) → least o (one r item) ≡ o) → o ≡ least o (linked k objects name item)
 told_linked Child objects name item o told =
-    told_on (is_text (kind_of item)) (is_known objects item) (lists (chars (codes "parents")) objects item name) item (one ChildNotFound item) o (told LinkNotMutual) (sym (told ChildNotFound))
-told_linked Parent objects name item o told = told_on true (is_known objects item) (lists (chars (codes "children")) objects item name) item [] o (told LinkNotMutual) refl
+    told_on (is_text (kind_of item)) (is_known objects item) (lists (chars (codes "parents")) objects item name) item
+        (one ChildNotFound item) o (told LinkNotMutual) (sym (told ChildNotFound))
+told_linked Parent objects name item o told =
+    told_on true (is_known objects item) (lists (chars (codes "children")) objects item name) item [] o
+        (told LinkNotMutual) refl
 
 -- ---- a part with a parent that is in the feature
 
@@ -68,12 +77,17 @@ either_none : (a : Bool) (fs : List Finding) → fs ≡ [] → cond a fs [] ≡ 
 either_none true fs h = h
 either_none false fs h = refl
 
-known_parent : (objects : List (Tree × Tree)) (o : Tree) (w : Option Tree) → list_any (is_known objects) (items_if w) ≡ true → part_of objects o w ≡ []
+known_parent : (objects : List (Tree × Tree)) (o : Tree) (w : Option Tree)
+    → list_any (is_known objects) (items_if w) ≡ true → part_of objects o w ≡ []
 known_parent objects o None h = refl
-known_parent objects o (Some t) h = ap (λ b. cond (is_array (kind_of t) && not b) (one NoParent o) []) h ∙ closed (is_array (kind_of t)) (one NoParent o)
+known_parent objects o (Some t) h = ap (λ b. cond (is_array (kind_of t) && not b) (one NoParent o) []) h
+    ∙ closed (is_array (kind_of t)) (one NoParent o)
 
-pub known_part : (objects : List (Tree × Tree)) (m : Tree × Tree) → list_any (is_known objects) (listed_in (chars (codes "parents")) m.1) ≡ true → part objects m ≡ []
-known_part objects m h = either_none (is_part m.1) (part_of objects m.1 (member_of (chars (codes "parents")) m.1)) (known_parent objects m.1 (member_of (chars (codes "parents")) m.1) h)
+pub known_part : (objects : List (Tree × Tree)) (m : Tree × Tree)
+    → list_any (is_known objects) (listed_in (chars (codes "parents")) m.1) ≡ true → part objects m ≡ []
+known_part objects m h =
+    either_none (is_part m.1) (part_of objects m.1 (member_of (chars (codes "parents")) m.1))
+        (known_parent objects m.1 (member_of (chars (codes "parents")) m.1) h)
 
 -- ---- two walks
 
@@ -85,7 +99,9 @@ comm : (o : Option Finding) (fs gs : List Finding) → least (least o fs) gs ≡
 comm o fs gs = sym (least-append o fs gs) ∙ least-swap o fs gs ∙ least-append o gs fs
 
 -- two walks tell what one does
-pub walks : (objects ms : List (Tree × Tree)) (o : Option Finding) → least (least o (flat_map (children objects) ms)) (flat_map (parents_and_part objects) ms) ≡ least o (flat_map (object_links objects) ms)
+pub walks : (objects ms : List (Tree × Tree)) (o : Option Finding)
+    → least (least o (flat_map (children objects) ms)) (flat_map (parents_and_part objects) ms)
+    ≡ least o (flat_map (object_links objects) ms)
 walks objects [] o = refl
 walks objects (m ∷ ms) o =
     let c = children objects m in
@@ -98,5 +114,6 @@ walks objects (m ∷ ms) o =
     ∙ least-append (least (least o c) cs) (p ++ q) ps
     ∙ ap (λ x. least x ps) (comm (least o c) cs (p ++ q))
     ∙ walks objects ms (least (least o c) (p ++ q))
-    ∙ ap (λ x. least x all) (least-append (least o c) p q ∙ ap (λ x. least x q) (sym (least-append o c p)) ∙ sym (least-append o (c ++ p) q))
+    ∙ ap (λ x. least x all) (least-append (least o c) p q ∙ ap (λ x. least x q) (sym (least-append o c p))
+        ∙ sym (least-append o (c ++ p) q))
     ∙ sym (least-append o (c ++ p ++ q) all)

@@ -32,7 +32,8 @@ use Rattle.cj_feature.specs.Questions.{Key, Side, compare_sides, side_of, compar
 
 module _ {X : Type 0} (lt : X → X → Bool) (o : IsStrictWeakOrder lt) where
   -- with one less it has each element that stays at its place, or at the one before
-  beside : (a : List X) (x : X) (b : List X) (d : X) (k : ℕ) → (j : ℕ) × (k ≤ j) × (j ≤ k + 1) × (get_or (a ++ x ∷ b) j d ≡ get_or (a ++ b) k d)
+  beside : (a : List X) (x : X) (b : List X) (d : X) (k : ℕ) → (j : ℕ) × (k ≤ j) × (j ≤ k + 1)
+      × (get_or (a ++ x ∷ b) j d ≡ get_or (a ++ b) k d)
   beside a x b d k =
       elim (cases_lt k (length a)) [
         | inl l ↦ (k, omega arith, omega arith, get_or_append_left a (x ∷ b) d k l ∙ sym (get_or_append_left a b d k l))
@@ -41,7 +42,8 @@ module _ {X : Type 0} (lt : X → X → Bool) (o : IsStrictWeakOrder lt) where
               k + 1,
               omega arith,
               omega arith,
-              get_or-append_right a (x ∷ b) (length a) (k + 1) d refl (omega arith) ∙ ap (λ n. get_or (x ∷ b) n d) later ∙ sym (get_or-append_right a b (length a) k d refl ge),
+              get_or-append_right a (x ∷ b) (length a) (k + 1) d refl (omega arith) ∙ ap (λ n. get_or (x ∷ b) n d) later
+                  ∙ sym (get_or-append_right a b (length a) k d refl ge),
             )
       ]
 
@@ -52,14 +54,17 @@ module _ {X : Type 0} (lt : X → X → Bool) (o : IsStrictWeakOrder lt) where
       let j = beside a x b d (k + 1) in
       let long : j.0 < length (a ++ x ∷ b) = omega (arith, below, j.2, length-append a (x ∷ b), length-append a b) in
       let far = sorted_far lt o (a ++ x ∷ b) up i.0 j.0 d (omega (arith, i.2, j.1)) long in
-      subst (λ v. lt v (get_or (a ++ b) k d) ≡ false) j.3 (subst (λ v. lt (get_or (a ++ x ∷ b) j.0 d) v ≡ false) i.3 far)
+      subst (λ v. lt v (get_or (a ++ b) k d) ≡ false) j.3
+          (subst (λ v. lt (get_or (a ++ x ∷ b) j.0 d) v ≡ false) i.3 far)
 
 pub next_one : {X : Type 0} (xs : List X) (i : ℕ) → i < length xs → (x : X) × (drop i xs ≡ x ∷ drop (i + 1) xs)
 next_one [] i below = absurd (omega (arith, below))
 next_one (x ∷ xs) i below = (get_or (x ∷ xs) i x, drop_more (x ∷ xs) i x below)
 
 -- the one at i moves to the end of the first ones
-pub one_more : {X : Type 0} (xs : List X) (kept i : ℕ) (d : X) → kept ≤ i → i < length xs → take (kept + 1) (slice_set xs kept (get_or xs i d)) ++ drop (i + 1) (slice_set xs kept (get_or xs i d)) ≡ take kept xs ++ drop i xs
+pub one_more : {X : Type 0} (xs : List X) (kept i : ℕ) (d : X) → kept ≤ i → i < length xs
+    → take (kept + 1) (slice_set xs kept (get_or xs i d)) ++ drop (i + 1) (slice_set xs kept (get_or xs i d))
+    ≡ take kept xs ++ drop i xs
 one_more xs kept i d le below =
     let y = get_or xs i d in
     ap (λ l. l ++ drop (i + 1) (slice_set xs kept y)) (take_more_set xs kept y (omega arith))
@@ -89,12 +94,16 @@ pub one_text : (o p : Option (List ℕ)) → o ≡ p → compare_texts o p ≡ E
 one_text o p e = subst (λ u. compare_texts o u ≡ Equal) e (tied_itself texts_total o)
 
 -- from the clause `sorted` of the sort, where each call of the closure compares keys
-pub in_order : (objects : Node) {F : Type 0} {g : Mut F (Bor Question × (Bor Question × Unit {0})) Ordering} {f : F} (qs : List Question) → ((lt : Question → Question → Bool) → IsStrictWeakOrder lt → ComparesAs g lt f → IsSortedBy lt qs)
-    → ((a : Bor Question × (Bor Question × Unit {0})) (r : Ordering) (f' : F) → Called g f a r f' → (r ≡ compare_keys (key_in objects a.0.now) (key_in objects a.1.0.now)) × (f' ≡ f)) → AreInOrder objects qs
+pub in_order : (objects : Node) {F : Type 0} {g : Mut F (Bor Question × (Bor Question × Unit {0})) Ordering} {f : F}
+    (qs : List Question) → ((lt : Question → Question → Bool) → IsStrictWeakOrder lt → ComparesAs g lt f
+    → IsSortedBy lt qs)
+    → ((a : Bor Question × (Bor Question × Unit {0})) (r : Ordering) (f' : F) → Called g f a r f'
+        → (r ≡ compare_keys (key_in objects a.0.now) (key_in objects a.1.0.now)) × (f' ≡ f)) → AreInOrder objects qs
 in_order objects {g = g} {f = f} qs sorted each =
     let key = key_in objects in
     sorted (λ x y. is_lt (compare_keys (key x) (key y))) (ranks_by keys_total key)
-    (always_returns_same g (λ a r. is_lt r ≡ is_lt (compare_keys (key a.0.now) (key a.1.0.now))) f (λ a r f' k. (ap is_lt (each a r f' k).0, (each a r f' k).1)))
+    (always_returns_same g (λ a r. is_lt r ≡ is_lt (compare_keys (key a.0.now) (key a.1.0.now))) f
+        (λ a r f' k. (ap is_lt (each a r f' k).0, (each a r f' k).1)))
 
 no_later : (r s : Ordering) → ordering_index r ≤ ordering_index s → is_lt s ≡ true → is_lt r ≡ true
 no_later Less s h e = refl
@@ -106,17 +115,21 @@ no_later Greater Equal h e = e
 no_later Greater Greater h e = e
 
 -- those before a key come before all others
-pub parted : (objects : Node) (qs : List Question) (k : Key) → AreInOrder objects qs → IsPartitionedBy (λ q. is_lt (compare_keys (key_in objects q) k)) qs
+pub parted : (objects : Node) (qs : List Question) (k : Key) → AreInOrder objects qs
+    → IsPartitionedBy (λ q. is_lt (compare_keys (key_in objects q) k)) qs
 parted objects qs k h =
     let rises = searchable_from_sorted keys_total (key_in objects) qs k h in
-    λ i j d le below e. no_later (compare_keys (key_in objects (get_or qs i d)) k) (compare_keys (key_in objects (get_or qs j d)) k) (rises i j d le below) e
+    λ i j d le below e. no_later (compare_keys (key_in objects (get_or qs i d)) k)
+        (compare_keys (key_in objects (get_or qs j d)) k) (rises i j d le below) e
 
 either : (b : Bool) → (b ≡ true) ⊎ (b ≡ false)
 either true = inl refl
 either false = inr refl
 
 -- a key has one place below the end
-one_place : {X : Type 0} (p : X → Bool) (xs : List X) (d : X) (i j : ℕ) → i < length xs → IsPartitionPoint (λ y. p y ≡ true) (λ y. p y ≡ false) xs i → IsPartitionPoint (λ y. p y ≡ true) (λ y. p y ≡ false) xs j → i ≡ j
+one_place : {X : Type 0} (p : X → Bool) (xs : List X) (d : X) (i j : ℕ) → i < length xs
+    → IsPartitionPoint (λ y. p y ≡ true) (λ y. p y ≡ false) xs i
+    → IsPartitionPoint (λ y. p y ≡ true) (λ y. p y ≡ false) xs j → i ≡ j
 one_place p xs d i j below h k =
     let no_less : i < j → ⊥ = λ lt.
     let a : p (get_or xs i d) ≡ true = k.0 i d (omega arith) lt in
@@ -129,23 +142,32 @@ one_place p xs d i j below h k =
     omega arith
 
 module _ (objects : Node) (qs : List Question) where
-  place_by_sides : {s u : Side} {f o : Side} (p : ℕ) → s ≡ f → u ≡ o → IsPlaceOf objects (s, u) qs p → IsPlaceOf objects (f, o) qs p
-  place_by_sides {s} {u} {f} {o} p e g h = subst (λ v. IsPlaceOf objects (f, v) qs p) g (subst (λ v. IsPlaceOf objects (v, u) qs p) e h)
+  place_by_sides : {s u : Side} {f o : Side} (p : ℕ) → s ≡ f → u ≡ o → IsPlaceOf objects (s, u) qs p
+      → IsPlaceOf objects (f, o) qs p
+  place_by_sides {s} {u} {f} {o} p e g h =
+      subst (λ v. IsPlaceOf objects (f, v) qs p) g (subst (λ v. IsPlaceOf objects (v, u) qs p) e h)
 
   -- so it is with two texts that have their tags, of which the second is that of the city objects
-  pub place_by_texts : (p f o : ℕ) (t u : Tree) → f ≡ tag_of (text_of t) → o ≡ tag_of (text_of u) → u ≡ tree objects → IsPlaceOf objects ((f, text_of t), (o, text_of u)) qs p → IsPlaceOf objects (key_of (text_of t) (text_of (tree objects))) qs p
+  pub place_by_texts : (p f o : ℕ) (t u : Tree) → f ≡ tag_of (text_of t) → o ≡ tag_of (text_of u) → u ≡ tree objects
+      → IsPlaceOf objects ((f, text_of t), (o, text_of u)) qs p
+      → IsPlaceOf objects (key_of (text_of t) (text_of (tree objects))) qs p
   place_by_texts p f o t u e g same h =
       place_by_sides p (ap (λ n. (n, text_of t)) e) (ap (λ n. (n, text_of u)) g ∙ ap (λ w. side_of (text_of w)) same) h
 
   -- the first question on a text stands where its key has its place
-  pub only_here : (t : Tree) (p i : ℕ) → IsPlaceOf objects (key_of (text_of t) (text_of (tree objects))) qs p → IsFirstOn objects qs t i → i ≡ p
+  pub only_here : (t : Tree) (p i : ℕ) → IsPlaceOf objects (key_of (text_of t) (text_of (tree objects))) qs p
+      → IsFirstOn objects qs t i → i ≡ p
   only_here t p i h f =
-      one_place (λ w. is_lt (compare_keys (key_in objects w) (key_of (text_of t) (text_of (tree objects))))) qs f.question i p (slice_get_within qs i f.question f.stands) f.place h
+      one_place (λ w. is_lt (compare_keys (key_in objects w) (key_of (text_of t) (text_of (tree objects))))) qs
+          f.question i p (slice_get_within qs i f.question f.stands) f.place h
 
   -- so there is none, where another stands there
-  pub none_here : (t : Tree) (p i : ℕ) → IsPlaceOf objects (key_of (text_of t) (text_of (tree objects))) qs p → ((q : Question) → slice_get qs p ≡ Some q → q.from.tag ≡ tag_of (text_of t) → same_text (from_in objects q) t ≡ false) → IsFirstOn objects qs t i → ⊥
+  pub none_here : (t : Tree) (p i : ℕ) → IsPlaceOf objects (key_of (text_of t) (text_of (tree objects))) qs p
+      → ((q : Question) → slice_get qs p ≡ Some q → q.from.tag ≡ tag_of (text_of t)
+      → same_text (from_in objects q) t ≡ false) → IsFirstOn objects qs t i → ⊥
   none_here t p i h other f =
-      let no : same_text (from_in objects f.question) t ≡ false = other f.question (ap (slice_get qs) (sym (only_here t p i h f)) ∙ f.stands) f.tagged in
+      let no : same_text (from_in objects f.question) t ≡ false =
+          other f.question (ap (slice_get qs) (sym (only_here t p i h f)) ∙ f.stands) f.tagged in
       let yes : same_text (from_in objects f.question) t ≡ true = f.same in
       cc
 
@@ -160,7 +182,8 @@ module _ (objects : Node) (qs : List Question) where
 
   -- ---- one city object less is left
 
-  module _ (flags : List Bool) (m : Tree × Tree) (rest : List (Tree × Tree)) (left : AreLeft objects qs flags (m ∷ rest)) where
+  module _ (flags : List Bool) (m : Tree × Tree) (rest : List (Tree × Tree))
+      (left : AreLeft objects qs flags (m ∷ rest)) where
     -- whose name is not asked about
     pub left_unasked : ((i : ℕ) → IsFirstOn objects qs m.0 i → None ≡ Some i) → AreLeft objects qs flags rest
     left_unasked none = λ t i f clear.
@@ -170,7 +193,8 @@ module _ (objects : Node) (qs : List Question) where
         ]
 
     -- whose name is asked about: the first question on it has a flag now
-    pub left_flagged : (p : ℕ) → p < length flags → ((i : ℕ) → IsFirstOn objects qs m.0 i → Some p ≡ Some i) → AreLeft objects qs (slice_set flags p true) rest
+    pub left_flagged : (p : ℕ) → p < length flags → ((i : ℕ) → IsFirstOn objects qs m.0 i → Some p ≡ Some i)
+        → AreLeft objects qs (slice_set flags p true) rest
     left_flagged p below is = λ t i f clear.
         elim (either (same_text m.0 t)) [
           | inl e ↦
@@ -182,22 +206,28 @@ module _ (objects : Node) (qs : List Question) where
 
   -- ---- what is listed
 
-  pub listed_on : (list : List ℕ) (flags : List Bool) (from to : Tree) (p : ℕ) → AreListed list objects qs flags → IsQuestion objects qs from to p
-      → ((f t : Tree) → same_text from f ≡ true → same_text to t ≡ true → lists list (members_of (tree objects)) f t ≡ true) → AreListed list objects qs (slice_set flags p true)
+  pub listed_on : (list : List ℕ) (flags : List Bool) (from to : Tree) (p : ℕ) → AreListed list objects qs flags
+      → IsQuestion objects qs from to p
+      → ((f t : Tree) → same_text from f ≡ true → same_text to t ≡ true
+          → lists list (members_of (tree objects)) f t ≡ true) → AreListed list objects qs (slice_set flags p true)
   listed_on list flags from to p old here has = λ i q stands flagged.
       elim (cases_eq i p) [
         | inl e ↦
             let other : slice_get qs i ≡ Some here.question = ap (slice_get qs) e ∙ here.stands in
             let same : q ≡ here.question = cc in
-            λ f t h k. has f t (shared (from_in objects here.question) from f here.first (subst (λ w. same_text (from_in objects w) f ≡ true) same h))
-            (shared (to_in objects here.question) to t here.second (subst (λ w. same_text (to_in objects w) t ≡ true) same k))
+            λ f t h k. has f t (shared (from_in objects here.question) from f here.first
+                (subst (λ w. same_text (from_in objects w) f ≡ true) same h))
+            (shared (to_in objects here.question) to t here.second
+                (subst (λ w. same_text (to_in objects w) t ≡ true) same k))
         | inr n ↦ old i q stands (sym (get_or-set_other flags p i true false n) ∙ flagged)
       ]
 
   -- ---- no questions
 
-  pub none_listed : (list : List ℕ) (flags : List Bool) → ((i : ℕ) → slice_index_or flags i false ≡ false) → AreListed list objects qs flags
-  none_listed list flags none = λ i q stands flagged. let no : slice_index_or flags i false ≡ false = none i in absurd (cc)
+  pub none_listed : (list : List ℕ) (flags : List Bool) → ((i : ℕ) → slice_index_or flags i false ≡ false)
+      → AreListed list objects qs flags
+  none_listed list flags none = λ i q stands flagged. let no : slice_index_or flags i false ≡ false = none i in
+      absurd (cc)
 
 -- ---- what is no text is the name of nothing
 

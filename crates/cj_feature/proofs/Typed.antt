@@ -26,22 +26,31 @@ known-row : (o : Option ObjectRow) (t : Tree) → known_type o t ≡ [] → is_r
 known-row None t h = absurd (cc h)
 known-row (Some r) t h = refl
 
-typed : (vertices : Option ℕ) (templates : Given) (m : Tree × Tree) → city_object vertices templates m.1 ≡ [] → is_typed m ≡ true
+typed : (vertices : Option ℕ) (templates : Given) (m : Tree × Tree) → city_object vertices templates m.1 ≡ []
+    → is_typed m ≡ true
 typed vertices templates m h =
     let o = m.1 in
     let name = needs (chars (codes "type")) object_type in
-    let rules : distinct o ++ name o ++ may_have (chars (codes "geometry")) (geometries vertices templates) o ++ may_have (chars (codes "children")) texts o ++ may_have (chars (codes "parents")) texts o ++ second_level o ≡ [] =
-    (of_kind-none (λ u. distinct u ++ name u ++ may_have (chars (codes "geometry")) (geometries vertices templates) u ++ may_have (chars (codes "children")) texts u ++ may_have (chars (codes "parents")) texts u ++ second_level u) o is_object h).1 in
-    let type_rule : name o ≡ [] = (none-both _ _ (none-both _ _ (none-both _ _ (none-both _ _ (none-both _ _ rules).0).0).0).0).1 in
+    let rules : distinct o ++ name o ++ may_have (chars (codes "geometry")) (geometries vertices templates) o
+        ++ may_have (chars (codes "children")) texts o ++ may_have (chars (codes "parents")) texts o ++ second_level o
+        ≡ [] =
+    (of_kind-none (λ u. distinct u ++ name u ++ may_have (chars (codes "geometry")) (geometries vertices templates) u
+            ++ may_have (chars (codes "children")) texts u ++ may_have (chars (codes "parents")) texts u
+            ++ second_level u) o is_object h).1 in
+    let type_rule : name o ≡ [] =
+        (none-both _ _ (none-both _ _ (none-both _ _ (none-both _ _ (none-both _ _ rules).0).0).0).0).1 in
     let has = by-member object_type o (member_of (chars (codes "type")) o) type_rule in
-    let row : is_row (row_of has.0) ≡ true = known-row (row_of has.0) has.0 (of_kind-none (λ u. known_type (row_of u) u) has.0 is_text has.2).1 in
+    let row : is_row (row_of has.0) ≡ true =
+        known-row (row_of has.0) has.0 (of_kind-none (λ u. known_type (row_of u) u) has.0 is_text has.2).1 in
     rw has.1 row
 
-pub all-typed : (vertices : Option ℕ) (templates : Given) (t : Tree) → city_objects vertices templates t ≡ [] → list_all is_typed (members_of t) ≡ true
+pub all-typed : (vertices : Option ℕ) (templates : Given) (t : Tree) → city_objects vertices templates t ≡ []
+    → list_all is_typed (members_of t) ≡ true
 all-typed vertices templates t h =
     let each = λ (u : Tree). flat_map (λ m. city_object vertices templates m.1) (members_of u) in
     let rules : distinct t ++ each t ≡ [] = (of_kind-none (λ u. distinct u ++ each u) t is_object h).1 in
-    none-each (λ m. city_object vertices templates m.1) is_typed (typed vertices templates) (members_of t) (none-both _ _ rules).1
+    none-each (λ m. city_object vertices templates m.1) is_typed (typed vertices templates) (members_of t)
+        (none-both _ _ rules).1
 
 -- ---- vertices
 
@@ -61,7 +70,8 @@ by-length : (b : Bool) (t : Tree) → cond b [] (one NotThree t) ≡ [] → b �
 by-length true t h = refl
 by-length false t h = absurd (cc h)
 
-three : (ts : List Tree) → nat_eq (length ts) 3 ≡ true → flat_map whole_number ts ≡ [] → are_three (map whole_of ts) ≡ true
+three : (ts : List Tree) → nat_eq (length ts) 3 ≡ true → flat_map whole_number ts ≡ []
+    → are_three (map whole_of ts) ≡ true
 three [] n h = absurd (cc n)
 three (x ∷ []) n h = absurd (cc n)
 three (x ∷ y ∷ []) n h = absurd (cc n)
@@ -70,16 +80,20 @@ three (x ∷ y ∷ z ∷ []) n h =
     let second = none-both (whole_number y) (flat_map whole_number (z ∷ [])) first.1 in
     let third = none-both (whole_number z) [] second.1 in
     rw ((whole-value x first.0).1, (whole-value y second.0).1, (whole-value z third.0).1) refl
-three (x ∷ y ∷ z ∷ w ∷ ts) n h = let e : length (x ∷ y ∷ z ∷ w ∷ ts) ≡ 3 = eqb-true (length (x ∷ y ∷ z ∷ w ∷ ts)) 3 n in absurd (omega arith)
+three (x ∷ y ∷ z ∷ w ∷ ts) n h = let e : length (x ∷ y ∷ z ∷ w ∷ ts) ≡ 3 = eqb-true (length (x ∷ y ∷ z ∷ w ∷ ts)) 3 n in
+    absurd (omega arith)
 
 vertex : (t : Tree) → of_length NotThree 3 whole_number t ≡ [] → is_vertex t ≡ true
 vertex t h =
-    let rules : has_length NotThree 3 t ++ flat_map whole_number (items_of t) ≡ [] = (of_kind-none (λ u. has_length NotThree 3 u ++ flat_map whole_number (items_of u)) t is_array h).1 in
+    let rules : has_length NotThree 3 t ++ flat_map whole_number (items_of t) ≡ [] =
+        (of_kind-none (λ u. has_length NotThree 3 u ++ flat_map whole_number (items_of u)) t is_array h).1 in
     let both = none-both (has_length NotThree 3 t) (flat_map whole_number (items_of t)) rules in
     three (items_of t) (by-length (nat_eq (length (items_of t)) 3) t both.0) both.1
 
 pub all-vertices : (t : Tree) → vertex_list t ≡ [] → list_all is_vertex (items_of t) ≡ true
-all-vertices t h = none-each (of_length NotThree 3 whole_number) is_vertex vertex (items_of t) (of_kind-none (λ u. flat_map (of_length NotThree 3 whole_number) (items_of u)) t is_array h).1
+all-vertices t h =
+    none-each (of_length NotThree 3 whole_number) is_vertex vertex (items_of t)
+        (of_kind-none (λ u. flat_map (of_length NotThree 3 whole_number) (items_of u)) t is_array h).1
 
 -- ---- the numbers of a vertex
 
@@ -96,28 +110,32 @@ two-begin zero (Some x ∷ ws) h within = refl
 two-begin (suc axis) (Some x ∷ ws) h within = one-begins axis ws h (omega arith)
 
 -- from each of its three axes on a vertex begins with a whole number
-pub three-begin : (axis : ℕ) (ws : List (Option ℤ)) → are_three ws ≡ true → axis < 3 → begins_whole (drop axis ws) ≡ true
+pub three-begin : (axis : ℕ) (ws : List (Option ℤ)) → are_three ws ≡ true → axis < 3
+    → begins_whole (drop axis ws) ≡ true
 three-begin axis [] h within = absurd (cc h)
 three-begin axis (None ∷ ws) h within = absurd (cc h)
 three-begin zero (Some x ∷ ws) h within = refl
 three-begin (suc axis) (Some x ∷ ws) h within = two-begin axis ws h (omega arith)
 
 -- and that is its number on the axis
-pub number-begins : (axis : ℕ) (ws rest : List (Option ℤ)) (n : ℤ) → drop axis ws ≡ Some n ∷ rest → number_on axis ws ≡ n
+pub number-begins : (axis : ℕ) (ws rest : List (Option ℤ)) (n : ℤ) → drop axis ws ≡ Some n ∷ rest
+    → number_on axis ws ≡ n
 number-begins zero ws rest n e = rw e refl
 number-begins (suc axis) [] rest n e = absurd (cc e)
 number-begins (suc axis) (w ∷ ws) rest n e = number-begins axis ws rest n e
 
 -- ---- the items of a vertex
 
-begins-there : (x : Tree) (ws : List (Option ℤ)) → begins_whole (whole_of x ∷ ws) ≡ true → (w : ℤ) × (whole_of x ≡ Some w)
+begins-there : (x : Tree) (ws : List (Option ℤ)) → begins_whole (whole_of x ∷ ws) ≡ true → (w : ℤ)
+    × (whole_of x ≡ Some w)
 begins-there x ws h = go (whole_of x) refl
   where
     go : (o : Option ℤ) → whole_of x ≡ o → (w : ℤ) × (whole_of x ≡ Some w)
     go None e = absurd (cc (rw e at h))
     go (Some w) e = (w, e)
 
-lone : (axis : ℕ) (ts : List Tree) → ((k : ℕ) → k < axis → begins_whole (drop k (map whole_of ts)) ≡ true) → (axis ≤ length ts) × (total_size (take axis ts) ≡ axis)
+lone : (axis : ℕ) (ts : List Tree) → ((k : ℕ) → k < axis → begins_whole (drop k (map whole_of ts)) ≡ true)
+    → (axis ≤ length ts) × (total_size (take axis ts) ≡ axis)
 lone zero ts h = (omega arith, refl)
 lone (suc axis) [] h = absurd (cc (h 0 (omega arith)))
 lone (suc axis) (x ∷ ts) h =
@@ -133,12 +151,19 @@ module _ (axis : ℕ) (t : Tree) (is : is_vertex t ≡ true) (within : axis < 3)
   lone-before = lone axis (items_of t) (λ k l. three-begin k (map whole_of (items_of t)) is (omega arith))
 
   pub not-past : drop axis (items_of t) ≡ [] → ⊥
-  not-past none = absurd (cc (ap begins_whole (sym (ap (map whole_of) none) ∙ sym (drop-map whole_of axis (items_of t))) ∙ three-begin axis (map whole_of (items_of t)) is within))
+  not-past none =
+      absurd (cc (ap begins_whole (sym (ap (map whole_of) none) ∙ sym (drop-map whole_of axis (items_of t)))
+              ∙ three-begin axis (map whole_of (items_of t)) is within))
 
   module _ (x : Tree) (rest : List Tree) (e : drop axis (items_of t) ≡ x ∷ rest) where
     pub whole-on : (w : ℤ) × (whole_of x ≡ Some w)
-    whole-on = begins-there x (map whole_of rest) (ap begins_whole (sym (ap (map whole_of) e) ∙ sym (drop-map whole_of axis (items_of t))) ∙ three-begin axis (map whole_of (items_of t)) is within)
+    whole-on = begins-there x (map whole_of rest)
+        (ap begins_whole (sym (ap (map whole_of) e) ∙ sym (drop-map whole_of axis (items_of t)))
+        ∙ three-begin axis (map whole_of (items_of t)) is within)
 
-    pub word-on-if : (o : Option ℕ) → IfSome o (λ w. (n : ℕ) × IsWordOf w n × (whole_of x ≡ Some (pos n))) → IfSome o (λ w. (n : ℕ) × IsWordOf w n × (number_on axis (vertex_of t) ≡ pos n))
+    pub word-on-if : (o : Option ℕ) → IfSome o (λ w. (n : ℕ) × IsWordOf w n × (whole_of x ≡ Some (pos n)))
+        → IfSome o (λ w. (n : ℕ) × IsWordOf w n × (number_on axis (vertex_of t) ≡ pos n))
     word-on-if None read = read
-    word-on-if (Some w) read = (read.0, read.1, number-begins axis (map whole_of (items_of t)) (map whole_of rest) (pos read.0) (drop-map whole_of axis (items_of t) ∙ ap (map whole_of) e ∙ ap (λ o. o ∷ map whole_of rest) read.2))
+    word-on-if (Some w) read =
+        (read.0, read.1, number-begins axis (map whole_of (items_of t)) (map whole_of rest) (pos read.0)
+            (drop-map whole_of axis (items_of t) ∙ ap (map whole_of) e ∙ ap (λ o. o ∷ map whole_of rest) read.2))

@@ -19,8 +19,10 @@ has-transform b t valid =
 
 -- and in it three numbers twice
 module _ (b : Bool) (u : Tree) (valid : transform b u ≡ []) where
-  rules : distinct u ++ needs (chars (codes "scale")) (three_numbers b) u ++ needs (chars (codes "translate")) (three_numbers b) u ≡ []
-  rules = (of_kind-none (λ v. distinct v ++ needs (chars (codes "scale")) (three_numbers b) v ++ needs (chars (codes "translate")) (three_numbers b) v) u is_object valid).1
+  rules : distinct u ++ needs (chars (codes "scale")) (three_numbers b) u
+      ++ needs (chars (codes "translate")) (three_numbers b) u ≡ []
+  rules = (of_kind-none (λ v. distinct v ++ needs (chars (codes "scale")) (three_numbers b) v
+          ++ needs (chars (codes "translate")) (three_numbers b) v) u is_object valid).1
 
   pub has-scale : needs (chars (codes "scale")) (three_numbers b) u ≡ []
   has-scale = (none-both _ _ (none-both _ _ rules).0).1
@@ -33,7 +35,8 @@ on-kind : (b : Bool) (fs gs : List Finding) → b ≡ true → fs ≡ [] → con
 on-kind true fs gs e h = h
 on-kind false fs gs e h = cc e
 
-pub valid-without : (templates : Given) (t : Tree) (tree : Bool) → of_kind is_object (feature_rules templates tree) t ≡ [] → of_kind is_object (feature_rules templates false) t ≡ []
+pub valid-without : (templates : Given) (t : Tree) (tree : Bool) → of_kind is_object (feature_rules templates tree) t
+    ≡ [] → of_kind is_object (feature_rules templates false) t ≡ []
 valid-without templates t false h = h
 valid-without templates t true h =
     let both = of_kind-none (feature_rules templates true) t is_object h in
@@ -47,7 +50,8 @@ module _ (templates : Given) (t : Tree) (valid : of_kind is_object (feature_rule
   pub has-id : needs (chars (codes "id")) (of_kind is_text (id_in (member_of (chars (codes "CityObjects")) t))) t ≡ []
   has-id = (none-both _ _ (none-both _ _ (none-both _ _ (none-both _ _ (none-both _ _ feature_none).0).0).0).0).1
 
-  pub has-objects : needs (chars (codes "CityObjects")) (city_objects (count_of (member_of (chars (codes "vertices")) t)) templates) t ≡ []
+  pub has-objects : needs (chars (codes "CityObjects"))
+      (city_objects (count_of (member_of (chars (codes "vertices")) t)) templates) t ≡ []
   has-objects = (none-both _ _ (none-both _ _ (none-both _ _ (none-both _ _ feature_none).0).0).0).1
 
   pub has-vertices : needs (chars (codes "vertices")) vertex_list t ≡ []

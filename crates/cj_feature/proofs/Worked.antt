@@ -23,7 +23,8 @@ plain_feature =
 
 -- the same with a name of three bytes
 abbrev pub euro_line : List ℕ
-euro_line = codes "{\"type\":\"CityJSONFeature\",\"id\":\"" ++ 226 ∷ 130 ∷ 172 ∷ codes "\",\"CityObjects\":{\"" ++ 226 ∷ 130 ∷ 172 ∷ codes "\":{\"type\":\"Building\"}},\"vertices\":[]}"
+euro_line = codes "{\"type\":\"CityJSONFeature\",\"id\":\"" ++ 226 ∷ 130 ∷ 172 ∷ codes "\",\"CityObjects\":{\""
+    ++ 226 ∷ 130 ∷ 172 ∷ codes "\":{\"type\":\"Building\"}},\"vertices\":[]}"
 
 abbrev pub euro_feature : Tree
 euro_feature =

@@ -18,8 +18,10 @@ abbrev pub number_at : List ℕ → ℕ → ℕ → Tree
 number_at s i j = scalar Number (record { start = i; stop = j; spelling = s })
 
 -- what a digit reads as
-of_digits : (s : List ℕ) (n : ℕ) → is_int (digits_front s) ≡ true → digits_rest s ≡ [] → n ≡ digits_value (digits_front s) → n < 10 ^ 18 → (c : Class s) → Ok (Some (pos n)) ≡ whole_answer c
-of_digits s n int rest value small c = sym (answer_digits s n c (record { int = int; rest = rest; value = value; small = small }))
+of_digits : (s : List ℕ) (n : ℕ) → is_int (digits_front s) ≡ true → digits_rest s ≡ []
+    → n ≡ digits_value (digits_front s) → n < 10 ^ 18 → (c : Class s) → Ok (Some (pos n)) ≡ whole_answer c
+of_digits s n int rest value small c =
+    sym (answer_digits s n c (record { int = int; rest = rest; value = value; small = small }))
 
 zero_read : (c : Class (codes "0")) → Ok (Some (pos 0)) ≡ whole_answer c
 unfolding digits_front digits_rest begins begins_digit is_int is_empty
@@ -37,41 +39,58 @@ two_read = of_digits (codes "2") 2 refl refl refl (omega arith)
 minus_one : IsValue (codes "-1") (number_of (negsuc 0) (pos 0))
 minus_one = record {
   written = record { negative = true; int = codes "1"; frac = []; exponent = pos 0 };
-  spells = record { minus = codes "-"; fraction = []; exp = []; minus_is = refl; int_is = inr (omega arith, omega arith, tt); frac_is = inl (refl, refl); exp_is = inl (refl, refl); joined = refl };
+  spells = record { minus = codes "-"; fraction = []; exp = []; minus_is = refl;
+      int_is = inr (omega arith, omega arith, tt); frac_is = inl (refl, refl); exp_is = inl (refl, refl); joined =
+      refl };
   same = record { coefficients = refl };
   normal = record { normal = λ e. absurd (omega (arith, e)) };
 }
 
 minus_one_read : (c : Class (codes "-1")) → Ok (Some (negsuc 0)) ≡ whole_answer c
 minus_one_read c =
-    sym (answer_whole (codes "-1") (number_of (negsuc 0) (pos 0)) minus_one (record { digits = omega arith; power_low = omega (arith, ints); power_high = omega (arith, ints) }) (negsuc 0) c
+    sym (answer_whole (codes "-1") (number_of (negsuc 0) (pos 0)) minus_one
+        (record { digits = omega arith; power_low = omega (arith, ints); power_high = omega (arith, ints) })
+        (negsuc 0) c
     (record { same = record { coefficients = refl }; small = omega arith }))
 
 module _ (i j : ℕ) where
   module _ (reason : Reason) (count : Option ℕ) where
-    of_read : (s : List ℕ) (w : ℤ) → ((c : Class s) → Ok (Some w) ≡ whole_answer c) → index reason count (number_at s i j) ≡ cond (is_outside count w) (one reason (number_at s i j)) []
+    of_read : (s : List ℕ) (w : ℤ) → ((c : Class s) → Ok (Some w) ≡ whole_answer c)
+        → index reason count (number_at s i j) ≡ cond (is_outside count w) (one reason (number_at s i j)) []
     of_read s w read = index-read [] (number_at s i j) refl s refl (Ok (Some w)) (Ok (Some w)) read refl reason count
 
-    pub index-zero : index reason count (number_at (codes "0") i j) ≡ cond (is_outside count (pos 0)) (one reason (number_at (codes "0") i j)) []
+    pub index-zero : index reason count (number_at (codes "0") i j) ≡ cond (is_outside count (pos 0))
+        (one reason (number_at (codes "0") i j)) []
     index-zero = of_read (codes "0") (pos 0) zero_read
 
-    pub index-one : index reason count (number_at (codes "1") i j) ≡ cond (is_outside count (pos 1)) (one reason (number_at (codes "1") i j)) []
+    pub index-one : index reason count (number_at (codes "1") i j) ≡ cond (is_outside count (pos 1))
+        (one reason (number_at (codes "1") i j)) []
     index-one = of_read (codes "1") (pos 1) one_read
 
-    pub index-two : index reason count (number_at (codes "2") i j) ≡ cond (is_outside count (pos 2)) (one reason (number_at (codes "2") i j)) []
+    pub index-two : index reason count (number_at (codes "2") i j) ≡ cond (is_outside count (pos 2))
+        (one reason (number_at (codes "2") i j)) []
     index-two = of_read (codes "2") (pos 2) two_read
 
-    pub index-minus_one : index reason count (number_at (codes "-1") i j) ≡ cond (is_outside count (negsuc 0)) (one reason (number_at (codes "-1") i j)) []
+    pub index-minus_one : index reason count (number_at (codes "-1") i j) ≡ cond (is_outside count (negsuc 0))
+        (one reason (number_at (codes "-1") i j)) []
     index-minus_one = of_read (codes "-1") (negsuc 0) minus_one_read
 
   pub number-zero : number (number_at (codes "0") i j) ≡ []
-  number-zero = number-read [] (number_at (codes "0") i j) refl (codes "0") refl (Ok (Some (pos 0))) (Ok (Some (pos 0))) zero_read refl
+  number-zero =
+      number-read [] (number_at (codes "0") i j) refl (codes "0") refl (Ok (Some (pos 0))) (Ok (Some (pos 0))) zero_read
+          refl
 
   pub number-one : number (number_at (codes "1") i j) ≡ []
-  number-one = number-read [] (number_at (codes "1") i j) refl (codes "1") refl (Ok (Some (pos 1))) (Ok (Some (pos 1))) one_read refl
+  number-one =
+      number-read [] (number_at (codes "1") i j) refl (codes "1") refl (Ok (Some (pos 1))) (Ok (Some (pos 1))) one_read
+          refl
 
   pub whole-zero : whole_of (number_at (codes "0") i j) ≡ Some (pos 0)
-  whole-zero = whole-read [] (number_at (codes "0") i j) refl (codes "0") refl (Ok (Some (pos 0))) (Ok (Some (pos 0))) zero_read refl
+  whole-zero =
+      whole-read [] (number_at (codes "0") i j) refl (codes "0") refl (Ok (Some (pos 0))) (Ok (Some (pos 0))) zero_read
+          refl
 
   pub whole-one : whole_of (number_at (codes "1") i j) ≡ Some (pos 1)
-  whole-one = whole-read [] (number_at (codes "1") i j) refl (codes "1") refl (Ok (Some (pos 1))) (Ok (Some (pos 1))) one_read refl
+  whole-one =
+      whole-read [] (number_at (codes "1") i j) refl (codes "1") refl (Ok (Some (pos 1))) (Ok (Some (pos 1))) one_read
+          refl

@@ -25,62 +25,86 @@ pub record IsRepeat (ns : List Tree) (f : Finding) : Type 0 where
   pub behind : start_of earlier < start_of later
   pub is : f ≡ found_at (start_of later) DuplicateName
 
-only_one : (b : Bool) (t : Tree) (f : Finding) → Contains (cond b (one DuplicateName t) []) f → (b ≡ true) × (f ≡ found_at (start_of t) DuplicateName)
-only_one true t f c = (refl, elim (contains_cases (found_at (start_of t) DuplicateName) [] f c) [ inl e ↦ sym e | inr d ↦ absurd (contains_none f d) ])
+only_one : (b : Bool) (t : Tree) (f : Finding) → Contains (cond b (one DuplicateName t) []) f → (b ≡ true)
+    × (f ≡ found_at (start_of t) DuplicateName)
+only_one true t f c =
+    (refl, elim (contains_cases (found_at (start_of t) DuplicateName) [] f c) [ inl e ↦ sym e | inr d ↦
+            absurd (contains_none f d) ])
 only_one false t f c = absurd (contains_none f c)
 
-later_of : (name : Tree) (ms : List (Tree × Tree)) (f : Finding) → Contains (repeats_of name ms) f → (u : Tree) × Contains (names_of ms) u × (are_same_texts (text_of u) (text_of name) ≡ true) × (f ≡ found_at (start_of u) DuplicateName)
+later_of : (name : Tree) (ms : List (Tree × Tree)) (f : Finding) → Contains (repeats_of name ms) f → (u : Tree)
+    × Contains (names_of ms) u × (are_same_texts (text_of u) (text_of name) ≡ true)
+    × (f ≡ found_at (start_of u) DuplicateName)
 later_of name [] f c = absurd (contains_none f c)
 later_of name (m ∷ ms) f c =
-    elim (Contains-append_cases (cond (are_same_texts (text_of m.0) (text_of name)) (one DuplicateName m.0) []) (repeats_of name ms) f c) [
-      | inl h ↦ let e = only_one (are_same_texts (text_of m.0) (text_of name)) m.0 f h in (m.0, contains_first m.0 (names_of ms), e.0, e.1)
+    elim (Contains-append_cases (cond (are_same_texts (text_of m.0) (text_of name)) (one DuplicateName m.0) [])
+        (repeats_of name ms) f c) [
+      | inl h ↦ let e = only_one (are_same_texts (text_of m.0) (text_of name)) m.0 f h in
+          (m.0, contains_first m.0 (names_of ms), e.0, e.1)
       | inr h ↦ let r = later_of name ms f h in (r.0, contains_later m.0 (names_of ms) r.0 r.1, r.2, r.3)
     ]
 
-names_behind : (name : Tree) (ms : List (Tree × Tree)) → All (λ (n : Tree × Tree). start_of name < start_of n.0) ms → (u : Tree) → Contains (names_of ms) u → start_of name < start_of u
+names_behind : (name : Tree) (ms : List (Tree × Tree)) → All (λ (n : Tree × Tree). start_of name < start_of n.0) ms
+    → (u : Tree) → Contains (names_of ms) u → start_of name < start_of u
 names_behind name [] a u c = absurd (contains_none u c)
 names_behind name (m ∷ ms) a u c =
     elim (contains_cases m.0 (names_of ms) u c) [
-      | inl e ↦ subst (λ x. start_of name < start_of x) e (All-head (λ (n : Tree × Tree). start_of name < start_of n.0) m ms a)
+      | inl e ↦ subst (λ x. start_of name < start_of x) e
+          (All-head (λ (n : Tree × Tree). start_of name < start_of n.0) m ms a)
       | inr d ↦ names_behind name ms (All-tail (λ (n : Tree × Tree). start_of name < start_of n.0) m ms a) u d
     ]
 
-pub repeat_is : (ms : List (Tree × Tree)) → AreInOrder ms → (f : Finding) → Contains (repeats ms) f → IsRepeat (names_of ms) f
+pub repeat_is : (ms : List (Tree × Tree)) → AreInOrder ms → (f : Finding) → Contains (repeats ms) f
+    → IsRepeat (names_of ms) f
 repeat_is [] o f c = absurd (contains_none f c)
 repeat_is (m ∷ ms) o f c =
     elim (Contains-append_cases (repeats_of m.0 ms) (repeats ms) f c) [
       | inl h ↦
           let r = later_of m.0 ms f h in
-          record { earlier = m.0; later = r.0; first = contains_first m.0 (names_of ms); second = contains_later m.0 (names_of ms) r.0 r.1; same = r.2; behind = names_behind m.0 ms o.0 r.0 r.1; is = r.3 }
+          record { earlier = m.0; later = r.0; first = contains_first m.0 (names_of ms);
+              second = contains_later m.0 (names_of ms) r.0 r.1; same = r.2; behind = names_behind m.0 ms o.0 r.0 r.1;
+              is = r.3 }
       | inr h ↦
           let r = repeat_is ms o.1 f h in
-          record { earlier = r.earlier; later = r.later; first = contains_later m.0 (names_of ms) r.earlier r.first; second = contains_later m.0 (names_of ms) r.later r.second; same = r.same; behind = r.behind; is = r.is }
+          record { earlier = r.earlier; later = r.later; first = contains_later m.0 (names_of ms) r.earlier r.first;
+              second = contains_later m.0 (names_of ms) r.later r.second; same = r.same; behind = r.behind; is = r.is }
     ]
 
 -- ---- a later name of the same text has a finding
 
-told_of : (name : Tree) (ms : List (Tree × Tree)) (u : Tree) → Contains (names_of ms) u → are_same_texts (text_of u) (text_of name) ≡ true → Contains (repeats_of name ms) (found_at (start_of u) DuplicateName)
+told_of : (name : Tree) (ms : List (Tree × Tree)) (u : Tree) → Contains (names_of ms) u
+    → are_same_texts (text_of u) (text_of name) ≡ true
+    → Contains (repeats_of name ms) (found_at (start_of u) DuplicateName)
 told_of name [] u c s = absurd (contains_none u c)
 told_of name (m ∷ ms) u c s =
     elim (contains_cases m.0 (names_of ms) u c) [
-      | inl e ↦ Contains-append_left (cond (are_same_texts (text_of m.0) (text_of name)) (one DuplicateName m.0) []) (repeats_of name ms) (found_at (start_of u) DuplicateName) (here e)
-      | inr d ↦ Contains-append_right (cond (are_same_texts (text_of m.0) (text_of name)) (one DuplicateName m.0) []) (repeats_of name ms) (found_at (start_of u) DuplicateName) (told_of name ms u d s)
+      | inl e ↦ Contains-append_left (cond (are_same_texts (text_of m.0) (text_of name)) (one DuplicateName m.0) [])
+          (repeats_of name ms) (found_at (start_of u) DuplicateName) (here e)
+      | inr d ↦ Contains-append_right (cond (are_same_texts (text_of m.0) (text_of name)) (one DuplicateName m.0) [])
+          (repeats_of name ms) (found_at (start_of u) DuplicateName) (told_of name ms u d s)
     ]
   where
-    here : m.0 ≡ u → Contains (cond (are_same_texts (text_of m.0) (text_of name)) (one DuplicateName m.0) []) (found_at (start_of u) DuplicateName)
+    here : m.0 ≡ u → Contains (cond (are_same_texts (text_of m.0) (text_of name)) (one DuplicateName m.0) [])
+        (found_at (start_of u) DuplicateName)
     here e =
-        let b : are_same_texts (text_of m.0) (text_of name) ≡ true = ap (λ x. are_same_texts (text_of x) (text_of name)) e ∙ s in
+        let b : are_same_texts (text_of m.0) (text_of name) ≡ true =
+            ap (λ x. are_same_texts (text_of x) (text_of name)) e ∙ s in
         subst (λ v. Contains (cond v (one DuplicateName m.0) []) (found_at (start_of u) DuplicateName)) (sym b)
-        (subst (λ x. Contains (one DuplicateName m.0) (found_at (start_of x) DuplicateName)) e (contains_first (found_at (start_of m.0) DuplicateName) []))
+        (subst (λ x. Contains (one DuplicateName m.0) (found_at (start_of x) DuplicateName)) e
+            (contains_first (found_at (start_of m.0) DuplicateName) []))
 
-pub repeat_told : (ms : List (Tree × Tree)) → AreInOrder ms → (t u : Tree) → Contains (names_of ms) t → Contains (names_of ms) u → are_same_texts (text_of u) (text_of t) ≡ true → start_of t < start_of u → Contains (repeats ms) (found_at (start_of u) DuplicateName)
+pub repeat_told : (ms : List (Tree × Tree)) → AreInOrder ms → (t u : Tree) → Contains (names_of ms) t
+    → Contains (names_of ms) u → are_same_texts (text_of u) (text_of t) ≡ true → start_of t < start_of u
+    → Contains (repeats ms) (found_at (start_of u) DuplicateName)
 repeat_told [] o t u ct cu s l = absurd (contains_none t ct)
 repeat_told (m ∷ ms) o t u ct cu s l =
     elim (contains_cases m.0 (names_of ms) u cu) [
       | inl e ↦ absurd (not_first e)
       | inr d ↦ elim (contains_cases m.0 (names_of ms) t ct) [
-        | inl e ↦ Contains-append_left (repeats_of m.0 ms) (repeats ms) (found_at (start_of u) DuplicateName) (told_of m.0 ms u d (ap (λ x. are_same_texts (text_of u) (text_of x)) e ∙ s))
-        | inr c ↦ Contains-append_right (repeats_of m.0 ms) (repeats ms) (found_at (start_of u) DuplicateName) (repeat_told ms o.1 t u c d s l)
+        | inl e ↦ Contains-append_left (repeats_of m.0 ms) (repeats ms) (found_at (start_of u) DuplicateName)
+            (told_of m.0 ms u d (ap (λ x. are_same_texts (text_of u) (text_of x)) e ∙ s))
+        | inr c ↦ Contains-append_right (repeats_of m.0 ms) (repeats ms) (found_at (start_of u) DuplicateName)
+            (repeat_told ms o.1 t u c d s l)
       ]
     ]
   where
@@ -95,24 +119,32 @@ repeat_told (m ∷ ms) o t u ct cu s l =
 
 -- ---- what neighbours tell is told by the rule
 
-repeat_among : (ms : List (Tree × Tree)) → AreInOrder ms → (floor : Option Tree) (t : Tree) → IfSome floor (Contains (names_of ms)) → Contains (names_of ms) t → All (Contains (repeats ms)) (repeat_of floor t)
+repeat_among : (ms : List (Tree × Tree)) → AreInOrder ms → (floor : Option Tree) (t : Tree)
+    → IfSome floor (Contains (names_of ms)) → Contains (names_of ms) t → All (Contains (repeats ms)) (repeat_of floor t)
 repeat_among ms o None t cf ct = All-nil (Contains (repeats ms))
-repeat_among ms o (Some u) t cf ct = by_test (are_same_texts (text_of t) (text_of u)) (nat_lt (start_of u) (start_of t)) refl refl
+repeat_among ms o (Some u) t cf ct =
+    by_test (are_same_texts (text_of t) (text_of u)) (nat_lt (start_of u) (start_of t)) refl refl
   where
-    only_here : Contains (repeats ms) (found_at (start_of t) DuplicateName) → All (Contains (repeats ms)) (one DuplicateName t)
+    only_here : Contains (repeats ms) (found_at (start_of t) DuplicateName)
+        → All (Contains (repeats ms)) (one DuplicateName t)
     only_here c zero d h = c
     only_here c (suc k) d h = absurd (omega arith)
 
-    by_test : (a b : Bool) → are_same_texts (text_of t) (text_of u) ≡ a → nat_lt (start_of u) (start_of t) ≡ b → All (Contains (repeats ms)) (cond (a && b) (one DuplicateName t) [])
-    by_test true true e f = let l : start_of u < start_of t = grind (arith, nat_tests) in λ k d h. only_here (repeat_told ms o u t cf ct e l) k d h
+    by_test : (a b : Bool) → are_same_texts (text_of t) (text_of u) ≡ a → nat_lt (start_of u) (start_of t) ≡ b
+        → All (Contains (repeats ms)) (cond (a && b) (one DuplicateName t) [])
+    by_test true true e f = let l : start_of u < start_of t = grind (arith, nat_tests) in
+        λ k d h. only_here (repeat_told ms o u t cf ct e l) k d h
     by_test true false e f = All-nil (Contains (repeats ms))
     by_test false b e f = All-nil (Contains (repeats ms))
 
-pub neighbours_among : (ms : List (Tree × Tree)) → AreInOrder ms → (floor : Option Tree) (ts : List Tree) → IfSome floor (Contains (names_of ms)) → All (Contains (names_of ms)) ts → All (Contains (repeats ms)) (neighbours floor ts)
+pub neighbours_among : (ms : List (Tree × Tree)) → AreInOrder ms → (floor : Option Tree) (ts : List Tree)
+    → IfSome floor (Contains (names_of ms)) → All (Contains (names_of ms)) ts
+    → All (Contains (repeats ms)) (neighbours floor ts)
 neighbours_among ms o floor [] cf a = All-nil (Contains (repeats ms))
 neighbours_among ms o floor (t ∷ ts) cf a =
     let c = All-head (Contains (names_of ms)) t ts a in
-    All-append (Contains (repeats ms)) (repeat_of floor t) (neighbours (Some t) ts) (repeat_among ms o floor t cf c) (neighbours_among ms o (Some t) ts c (All-tail (Contains (names_of ms)) t ts a))
+    All-append (Contains (repeats ms)) (repeat_of floor t) (neighbours (Some t) ts) (repeat_among ms o floor t cf c)
+        (neighbours_among ms o (Some t) ts c (All-tail (Contains (names_of ms)) t ts a))
 
 -- ---- one walk after another
 
@@ -131,7 +163,9 @@ pub record AreNext (ms : List (Tree × Tree)) (floor : Option Tree) (ts : List T
   pub past : All (IsPast floor) ts
   pub no_gap : HaveNoGap (names_of ms) floor ts
 
-pub reached_more : (ms : List (Tree × Tree)) → AreInOrder ms → (old now next : Option Finding) (floor last : Option Tree) (ts : List Tree) → HasReached ms old now floor → AreNext ms floor ts → next ≡ least now (neighbours floor ts) → last ≡ last_of floor ts
+pub reached_more : (ms : List (Tree × Tree)) → AreInOrder ms
+    → (old now next : Option Finding) (floor last : Option Tree) (ts : List Tree) → HasReached ms old now floor
+    → AreNext ms floor ts → next ≡ least now (neighbours floor ts) → last ≡ last_of floor ts
     → HasReached ms old next last
 reached_more ms o old now next floor last ts r n e f =
     let more = neighbours_among ms o floor ts r.floor_named n.named in
@@ -142,20 +176,26 @@ reached_more ms o old now next floor last ts r n e f =
       floor_named = last_among (names_of ms) floor ts r.floor_named n.named;
       dealt = all_dealt (names_of ms) now floor ts n.no_gap n.ascend n.past r.dealt;
     } in
-    subst (λ x. HasReached ms old x last) (sym e) (subst (λ x. HasReached ms old (least now (neighbours floor ts)) x) (sym f) p)
+    subst (λ x. HasReached ms old x last) (sym e)
+        (subst (λ x. HasReached ms old (least now (neighbours floor ts)) x) (sym f) p)
 
 told_all : (o : Option Finding) (fs : List Finding) → All (λ f. least o (f ∷ []) ≡ o) fs → least o fs ≡ o
 told_all o [] a = refl
-told_all o (f ∷ fs) a = ap (λ x. least x fs) (All-head (λ g. least o (g ∷ []) ≡ o) f fs a) ∙ told_all o fs (All-tail (λ g. least o (g ∷ []) ≡ o) f fs a)
+told_all o (f ∷ fs) a = ap (λ x. least x fs) (All-head (λ g. least o (g ∷ []) ≡ o) f fs a)
+    ∙ told_all o fs (All-tail (λ g. least o (g ∷ []) ≡ o) f fs a)
 
-pub all_reached : (ms : List (Tree × Tree)) → AreInOrder ms → (old now : Option Finding) (floor : Option Tree) → HasReached ms old now floor → ((t : Tree) → Contains (names_of ms) t → is_above floor t ≡ false) → now ≡ least old (repeats ms)
+pub all_reached : (ms : List (Tree × Tree)) → AreInOrder ms → (old now : Option Finding) (floor : Option Tree)
+    → HasReached ms old now floor → ((t : Tree) → Contains (names_of ms) t → is_above floor t ≡ false)
+    → now ≡ least old (repeats ms)
 all_reached ms o old now floor r done =
-    sym (told_all now (repeats ms) (λ k d l. told_at (get_or (repeats ms) k d) (at (repeats ms) k d l))) ∙ ap (λ x. least x (repeats ms)) r.sum ∙ absorbed old r.told (repeats ms) r.right
+    sym (told_all now (repeats ms) (λ k d l. told_at (get_or (repeats ms) k d) (at (repeats ms) k d l)))
+        ∙ ap (λ x. least x (repeats ms)) r.sum ∙ absorbed old r.told (repeats ms) r.right
   where
     told_at : (f : Finding) → Contains (repeats ms) f → least now (f ∷ []) ≡ now
     told_at f c =
         let p = repeat_is ms o f c in
-        subst (λ g. least now (g ∷ []) ≡ now) (sym p.is) (r.dealt p.earlier p.later p.first p.second p.same p.behind (done p.later p.second))
+        subst (λ g. least now (g ∷ []) ≡ now) (sym p.is)
+            (r.dealt p.earlier p.later p.first p.second p.same p.behind (done p.later p.second))
 
     at : (fs : List Finding) (k : ℕ) (d : Finding) → k < length fs → Contains fs (get_or fs k d)
     at [] k d l = absurd (omega arith)
@@ -184,11 +224,13 @@ one_each true false f = omega arith
 one_each false true f = let n = f refl in cc
 one_each false false f = omega arith
 
-no_more : (p q : Tree → Bool) (ns : List Tree) → ((t : Tree) → q t ≡ true → p t ≡ true) → count_where q ns ≤ count_where p ns
+no_more : (p q : Tree → Bool) (ns : List Tree) → ((t : Tree) → q t ≡ true → p t ≡ true)
+    → count_where q ns ≤ count_where p ns
 no_more p q [] f = omega arith
 no_more p q (t ∷ ts) f = let h = one_each (p t) (q t) (f t) in let r = no_more p q ts f in omega arith
 
-fewer : (p q : Tree → Bool) (ns : List Tree) (u : Tree) → ((t : Tree) → q t ≡ true → p t ≡ true) → Contains ns u → p u ≡ true → q u ≡ false → count_where q ns < count_where p ns
+fewer : (p q : Tree → Bool) (ns : List Tree) (u : Tree) → ((t : Tree) → q t ≡ true → p t ≡ true) → Contains ns u
+    → p u ≡ true → q u ≡ false → count_where q ns < count_where p ns
 fewer p q [] u f c a b = absurd (contains_none u c)
 fewer p q (t ∷ ts) u f c a b =
     let h = one_each (p t) (q t) (f t) in
@@ -202,6 +244,9 @@ fewer p q (t ∷ ts) u f c a b =
     ]
 
 -- a walk that gathered a name above the floor leaves fewer
-pub fewer_left : (ms : List (Tree × Tree)) (floor : Option Tree) (ts : List Tree) (t : Tree) → AreNext ms floor ts → Contains ts t → is_above floor t ≡ true → left_above (names_of ms) (last_of floor ts) < left_above (names_of ms) floor
+pub fewer_left : (ms : List (Tree × Tree)) (floor : Option Tree) (ts : List Tree) (t : Tree) → AreNext ms floor ts
+    → Contains ts t → is_above floor t ≡ true
+    → left_above (names_of ms) (last_of floor ts) < left_above (names_of ms) floor
 fewer_left ms floor ts t n c a =
-    fewer (is_above floor) (is_above (last_of floor ts)) (names_of ms) t (λ u h. last_past floor ts n.ascend n.past u h) (All-contains (Contains (names_of ms)) ts t n.named c) a (none_past floor ts t n.ascend c)
+    fewer (is_above floor) (is_above (last_of floor ts)) (names_of ms) t (λ u h. last_past floor ts n.ascend n.past u h)
+        (All-contains (Contains (names_of ms)) ts t n.named c) a (none_past floor ts t n.ascend c)

@@ -34,7 +34,9 @@ exp_forth : (s : List ℕ) → scanned.IsExp s → (e : ℤ) × read.IsExp e s
 exp_forth [] h = (pos 0, inl (refl, refl))
 exp_forth (b ∷ s) h =
     let sign = sign_forth h.1.sign h.1.sign_is in
-    (signed sign.0 (digits_value h.1.digits), inr (record { mark = b; negative = sign.0; sign = h.1.sign; digits = h.1.digits; mark_is = h.0; sign_is = sign.1; digits_are = h.1.digits_are; joined = ap (λ x. b ∷ x) h.1.joined; value = refl }))
+    (signed sign.0 (digits_value h.1.digits),
+        inr (record { mark = b; negative = sign.0; sign = h.1.sign; digits = h.1.digits; mark_is = h.0;
+                sign_is = sign.1; digits_are = h.1.digits_are; joined = ap (λ x. b ∷ x) h.1.joined; value = refl }))
 
 pub read_number : (s : List ℕ) → scanned.IsNumber s → IsNumber s
 read_number s n =
@@ -42,7 +44,8 @@ read_number s n =
     let frac = frac_forth n.frac n.frac_is in
     let exp = exp_forth n.exp n.exp_is in (
       record { negative = minus.0; int = n.int; frac = frac.0; exponent = exp.0 },
-      record { minus = n.minus; fraction = n.frac; exp = n.exp; minus_is = minus.1; int_is = n.int_is; frac_is = frac.1; exp_is = exp.1; joined = n.joined },
+      record { minus = n.minus; fraction = n.frac; exp = n.exp; minus_is = minus.1; int_is = n.int_is; frac_is = frac.1;
+          exp_is = exp.1; joined = n.joined },
     )
 
 -- ---- what is read as a number is scanned as one
@@ -63,13 +66,17 @@ sign_back true s e = inr (inr e)
 exp_back : (e : ℤ) (s : List ℕ) → read.IsExp e s → scanned.IsExp s
 exp_back e s (inl (z, q)) = subst scanned.IsExp (sym q) tt
 exp_back e s (inr p) =
-    let rest : scanned.IsExpRest (p.sign ++ p.digits) = record { sign = p.sign; digits = p.digits; sign_is = sign_back p.negative p.sign p.sign_is; digits_are = p.digits_are; joined = refl } in
+    let rest : scanned.IsExpRest (p.sign ++ p.digits) =
+        record { sign = p.sign; digits = p.digits; sign_is = sign_back p.negative p.sign p.sign_is;
+            digits_are = p.digits_are; joined = refl } in
     let is : scanned.IsExp (p.mark ∷ (p.sign ++ p.digits)) = (p.mark_is, rest) in
     subst scanned.IsExp (sym p.joined) is
 
 pub scanned_number : (s : List ℕ) → IsNumber s → scanned.IsNumber s
 scanned_number s (w, n) =
-    record { minus = n.minus; int = w.int; frac = n.fraction; exp = n.exp; minus_is = minus_back w.negative n.minus n.minus_is; int_is = n.int_is; frac_is = frac_back w.frac n.fraction n.frac_is; exp_is = exp_back w.exponent n.exp n.exp_is; joined = n.joined }
+    record { minus = n.minus; int = w.int; frac = n.fraction; exp = n.exp;
+        minus_is = minus_back w.negative n.minus n.minus_is; int_is = n.int_is; frac_is =
+        frac_back w.frac n.fraction n.frac_is; exp_is = exp_back w.exponent n.exp n.exp_is; joined = n.joined }
 
 pub one_grammar : (s : List ℕ) → IsScalar Number s ↔ IsNumber s
 one_grammar s = (read_number s, scanned_number s)
@@ -90,7 +97,8 @@ items-add : (ts : Items) (t : Tree) → list_items (add_item ts t) ≡ list_item
 items-add no_items t = refl
 items-add (item u ts) t = ap (λ us. u ∷ us) (items-add ts t)
 
-members-add : (ms : Members) (n : Atom) (t : Tree) → list_members (add_member ms n t) ≡ list_members ms ++ (scalar Text n, t) ∷ []
+members-add : (ms : Members) (n : Atom) (t : Tree) → list_members (add_member ms n t) ≡ list_members ms
+    ++ (scalar Text n, t) ∷ []
 members-add no_members n t = refl
 members-add (member m u ms) n t = ap (λ us. (scalar Text m, u) ∷ us) (members-add ms n t)
 
@@ -98,28 +106,36 @@ module _ {b : List ℕ} where
   padded_spelled : {i l : ℕ} {t : Tree} → Padded b i l t → Spelled b t
   padded_spelled (padded i j k l t before v after) = (j, k, v)
 
-  last_item : (ts : Items) (t v : Tree) → Spelled b t → (Contains (list_items ts) v → Spelled b v) → Contains (list_items (add_item ts t)) v → Spelled b v
+  last_item : (ts : Items) (t v : Tree) → Spelled b t → (Contains (list_items ts) v → Spelled b v)
+      → Contains (list_items (add_item ts t)) v → Spelled b v
   last_item ts t v last earlier h =
-      let split : Contains (list_items ts) v ⊎ (t ≡ v) = Contains-push_cases (list_items ts) t v (subst (λ us. Contains us v) (items-add ts t) h) in
+      let split : Contains (list_items ts) v ⊎ (t ≡ v) =
+          Contains-push_cases (list_items ts) t v (subst (λ us. Contains us v) (items-add ts t) h) in
       elim split [ inl k ↦ earlier k | inr e ↦ subst (Spelled b) e last ]
 
   led_spelled : {i j : ℕ} {ts : Items} → LedItems b i j ts → (v : Tree) → Contains (list_items ts) v → Spelled b v
   led_spelled (no_led i) v h = absurd (nothing_held v h)
   led_spelled (led i j k ts t before p comma) v h = last_item ts t v (padded_spelled p) (led_spelled before v) h
 
-  last_value : (ms : Members) (n : Atom) (t : Tree) (m : Tree × Tree) → Spelled b t → (Contains (list_members ms) m → Spelled b m.1) → Contains (list_members (add_member ms n t)) m → Spelled b m.1
+  last_value : (ms : Members) (n : Atom) (t : Tree) (m : Tree × Tree) → Spelled b t
+      → (Contains (list_members ms) m → Spelled b m.1) → Contains (list_members (add_member ms n t)) m → Spelled b m.1
   last_value ms n t m last earlier h =
-      let split : Contains (list_members ms) m ⊎ ((scalar Text n, t) ≡ m) = Contains-push_cases (list_members ms) (scalar Text n, t) m (subst (λ us. Contains us m) (members-add ms n t) h) in
+      let split : Contains (list_members ms) m ⊎ ((scalar Text n, t) ≡ m) =
+          Contains-push_cases (list_members ms) (scalar Text n, t) m
+              (subst (λ us. Contains us m) (members-add ms n t) h) in
       elim split [ inl k ↦ earlier k | inr e ↦ subst (λ x. Spelled b x.1) e last ]
 
-  led_members_spelled : {i j : ℕ} {ms : Members} → LedMembers b i j ms → (m : Tree × Tree) → Contains (list_members ms) m → Spelled b m.1
+  led_members_spelled : {i j : ℕ} {ms : Members} → LedMembers b i j ms → (m : Tree × Tree)
+      → Contains (list_members ms) m → Spelled b m.1
   led_members_spelled (no_led_members i) m h = absurd (nothing_held m h)
-  led_members_spelled (led_member i j k l ms n t before name p comma) m h = last_value ms n t m (padded_spelled p) (led_members_spelled before m) h
+  led_members_spelled (led_member i j k l ms n t before name p comma) m h =
+      last_value ms n t m (padded_spelled p) (led_members_spelled before m) h
 
   item_spelled : {i j : ℕ} {u : Tree} → Value b i j u → (v : Tree) → Contains (items_of u) v → Spelled b v
   item_spelled (atom k i j a) v h = absurd (nothing_held v h)
   item_spelled (empty_array i j opened white closed) v h = absurd (nothing_held v h)
-  item_spelled (full_array i j k ts t opened before p closed) v h = last_item ts t v (padded_spelled p) (led_spelled before v) h
+  item_spelled (full_array i j k ts t opened before p closed) v h =
+      last_item ts t v (padded_spelled p) (led_spelled before v) h
   item_spelled (empty_object i j opened white closed) v h = absurd (nothing_held v h)
   item_spelled (full_object i j k l ms n t opened before name p closed) v h = absurd (nothing_held v h)
 
@@ -128,7 +144,8 @@ module _ {b : List ℕ} where
   value_spelled (empty_array i j opened white closed) m h = absurd (nothing_held m h)
   value_spelled (full_array i j k ts t opened before p closed) m h = absurd (nothing_held m h)
   value_spelled (empty_object i j opened white closed) m h = absurd (nothing_held m h)
-  value_spelled (full_object i j k l ms n t opened before name p closed) m h = last_value ms n t m (padded_spelled p) (led_members_spelled before m) h
+  value_spelled (full_object i j k l ms n t opened before name p closed) m h =
+      last_value ms n t m (padded_spelled p) (led_members_spelled before m) h
 
   held_spelled : {t u : Tree} → Spelled b t → IsHeld t u → Spelled b u
   held_spelled s the_tree = s
@@ -136,13 +153,15 @@ module _ {b : List ℕ} where
   held_spelled s (a_value u m h c) = let w = held_spelled s h in value_spelled w.2 m c
 
   spelled_number : {i j : ℕ} {u : Tree} → Value b i j u → kind_of u ≡ Number → IsNumber (spelling_of b u)
-  spelled_number (atom k i j a) e = read_number (slice_range b i j) (subst (λ x. IsScalar x (slice_range b i j)) e a.spelled)
+  spelled_number (atom k i j a) e =
+      read_number (slice_range b i j) (subst (λ x. IsScalar x (slice_range b i j)) e a.spelled)
   spelled_number (empty_array i j opened white closed) e = cc
   spelled_number (full_array i j k ts t opened before p closed) e = cc
   spelled_number (empty_object i j opened white closed) e = cc
   spelled_number (full_object i j k l ms n t opened before name p closed) e = cc
 
-pub held_number : (line : List ℕ) (t u : Tree) → Json line t → IsHeld t u → kind_of u ≡ Number → IsNumber (spelling_of line u)
+pub held_number : (line : List ℕ) (t u : Tree) → Json line t → IsHeld t u → kind_of u ≡ Number
+    → IsNumber (spelling_of line u)
 held_number line t u json h e = spelled_number (held_spelled (padded_spelled json) h).2 e
 
 -- ---- and so its class is one of a number
@@ -153,5 +172,6 @@ of_number s (out_of_range n) h = tt
 of_number s (not_whole v value range n) h = tt
 of_number s (whole v w value range is) h = tt
 
-pub held_class : (line : List ℕ) (t u : Tree) (c : Class (spelling_of line u)) → Json line t → IsHeld t u → kind_of u ≡ Number → IsOfNumber c
+pub held_class : (line : List ℕ) (t u : Tree) (c : Class (spelling_of line u)) → Json line t → IsHeld t u
+    → kind_of u ≡ Number → IsOfNumber c
 held_class line t u c json h e = of_number (spelling_of line u) c (held_number line t u json h e)

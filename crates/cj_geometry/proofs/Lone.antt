@@ -16,7 +16,8 @@ use Rattle.cj_geometry.specs.Rule.{spelling, index, is_outside, whole_of, whole_
 use Rattle.cj_geometry.specs.Lone.{AreLone}
 use Rattle.cj_geometry.proofs.Numbers.{index-of-whole}
 
-take-next : (n : ℕ) (ts : List Tree) (t : Tree) (rest : List Tree) → drop n ts ≡ t ∷ rest → take (suc n) ts ≡ take n ts ++ t ∷ []
+take-next : (n : ℕ) (ts : List Tree) (t : Tree) (rest : List Tree) → drop n ts ≡ t ∷ rest
+    → take (suc n) ts ≡ take n ts ++ t ∷ []
 take-next zero [] t rest e = absurd (cc e)
 take-next zero (x ∷ xs) t rest e = let same : x ≡ t = cc e in ap (λ y. y ∷ []) same
 take-next (suc n) [] t rest e = absurd (cc e)
@@ -41,7 +42,8 @@ size-front (suc n) (t ∷ ts) = let h = size-front n ts in omega (arith, h)
 
 module _ (n : ℕ) (ts : List Tree) (t : Tree) (rest : List Tree) (next : drop n ts ≡ t ∷ rest) where
   front : take (n + 1) ts ≡ take n ts ++ t ∷ []
-  front = let e : suc n ≡ n + 1 = omega arith in subst (λ k. take k ts ≡ take n ts ++ t ∷ []) e (take-next n ts t rest next)
+  front = let e : suc n ≡ n + 1 = omega arith in
+      subst (λ k. take k ts ≡ take n ts ++ t ∷ []) e (take-next n ts t rest next)
 
   pub lone-more : size t ≡ 1 → AreLone n ts → AreLone (n + 1) ts
   lone-more one_is h =
@@ -50,8 +52,10 @@ module _ (n : ℕ) (ts : List Tree) (t : Tree) (rest : List Tree) (next : drop n
       let before = h.sizes in
       record { within = omega (arith, l); sizes = omega (arith, s, before, one_is) }
 
-  pub none-more : (rule : Tree → List Finding) → rule t ≡ [] → flat_map rule (take n ts) ≡ [] → flat_map rule (take (n + 1) ts) ≡ []
-  none-more rule none h = ap (flat_map rule) front ∙ flat_map-append rule (take n ts) (t ∷ []) ∙ ap (λ fs. fs ++ (rule t ++ [])) h ∙ ap (λ fs. fs ++ []) none
+  pub none-more : (rule : Tree → List Finding) → rule t ≡ [] → flat_map rule (take n ts) ≡ []
+      → flat_map rule (take (n + 1) ts) ≡ []
+  none-more rule none h = ap (flat_map rule) front ∙ flat_map-append rule (take n ts) (t ∷ [])
+      ∙ ap (λ fs. fs ++ (rule t ++ [])) h ∙ ap (λ fs. fs ++ []) none
 
 -- what is counted is less than what an array holds
 pub lone-below : (n : ℕ) (ts : List Tree) → AreLone n ts → n ≤ total_size ts
@@ -65,7 +69,8 @@ whole-size (array i j ts) w e = absurd (cc e)
 whole-size (object i j ms) w e = absurd (cc e)
 
 -- where a whole number was read, there is one
-pub whole-there : (o : Option ℤ) (t : Tree) → IfSome o (λ w. whole_of t ≡ Some w) → IsSome o → (w : ℤ) × (whole_of t ≡ Some w)
+pub whole-there : (o : Option ℤ) (t : Tree) → IfSome o (λ w. whole_of t ≡ Some w) → IsSome o → (w : ℤ)
+    × (whole_of t ≡ Some w)
 whole-there None t is some = absurd (cc some)
 whole-there (Some w) t is some = (w, is)
 
@@ -82,7 +87,8 @@ whole-none t w e = go (is_number (kind_of t)) refl
     go true k = rw k (whole-by-none (spelling t) t (class (spelling t)) w (rw k at e))
     go false k = absurd (cc (rw k at e))
 
-pub index-none : (t : Tree) (n bound : ℕ) → whole_of t ≡ Some (pos n) → (reason : Reason) (count : Option ℕ) → is_outside count (pos n) ≡ not (nat_lt n bound) → n < bound → index reason count t ≡ []
+pub index-none : (t : Tree) (n bound : ℕ) → whole_of t ≡ Some (pos n) → (reason : Reason) (count : Option ℕ)
+    → is_outside count (pos n) ≡ not (nat_lt n bound) → n < bound → index reason count t ≡ []
 index-none t n bound is reason count outside below =
     let inside : not (nat_lt n bound) ≡ false = grind (arith, nat_tests) in
     let e : is_outside count (pos n) ≡ false = outside ∙ inside in
@@ -90,10 +96,12 @@ index-none t n bound is reason count outside below =
 
 -- ---- the rest
 
-pub past-none : (rule : Tree → List Finding) (n : ℕ) (ts : List Tree) → flat_map rule (take n ts) ≡ [] → flat_map rule (drop n ts) ≡ flat_map rule ts
+pub past-none : (rule : Tree → List Finding) (n : ℕ) (ts : List Tree) → flat_map rule (take n ts) ≡ []
+    → flat_map rule (drop n ts) ≡ flat_map rule ts
 past-none rule zero ts h = refl
 past-none rule (suc n) [] h = refl
-past-none rule (suc n) (t ∷ ts) h = past-none rule n ts (right_none (rule t) _ h) ∙ ap (λ fs. fs ++ flat_map rule ts) (sym (left_none (rule t) _ h))
+past-none rule (suc n) (t ∷ ts) h = past-none rule n ts (right_none (rule t) _ h)
+    ∙ ap (λ fs. fs ++ flat_map rule ts) (sym (left_none (rule t) _ h))
   where
     left_none : (fs gs : List Finding) → fs ++ gs ≡ [] → fs ≡ []
     left_none [] gs e = refl
@@ -104,7 +112,8 @@ past-none rule (suc n) (t ∷ ts) h = past-none rule n ts (right_none (rule t) _
     right_none (f ∷ fs) gs e = absurd (cc e)
 
 -- a walk behind one item more has less left
-pub left-falls : (n : ℕ) (ts us vs : List Tree) → us ≡ drop n ts → vs ≡ drop (n + 1) ts → n + 1 ≤ length ts → length vs < length us
+pub left-falls : (n : ℕ) (ts us vs : List Tree) → us ≡ drop n ts → vs ≡ drop (n + 1) ts → n + 1 ≤ length ts
+    → length vs < length us
 left-falls n ts us vs a b l =
     let p = ap length a ∙ length-drop n ts in
     let q = ap length b ∙ length-drop (n + 1) ts in

@@ -22,19 +22,24 @@ comm o fs gs = sym (least-append o fs gs) ∙ least-swap o fs gs ∙ least-appen
 -- findings that are among others add nothing to them
 same_beside : (ks fs gs : List Finding) → All (Contains gs) fs → HaveSame (ks ++ gs) (ks ++ (fs ++ gs))
 same_beside ks fs gs a = λ f. (
-  λ c. elim (Contains-append_cases ks gs f c) [ inl h ↦ Contains-append_left ks (fs ++ gs) f h | inr h ↦ Contains-append_right ks (fs ++ gs) f (Contains-append_right fs gs f h) ],
+  λ c. elim (Contains-append_cases ks gs f c) [ inl h ↦ Contains-append_left ks (fs ++ gs) f h | inr h ↦
+      Contains-append_right ks (fs ++ gs) f (Contains-append_right fs gs f h) ],
   λ c. elim (Contains-append_cases ks (fs ++ gs) f c) [
     | inl h ↦ Contains-append_left ks gs f h
-    | inr h ↦ Contains-append_right ks gs f (elim (Contains-append_cases fs gs f h) [ inl g ↦ All-contains (Contains gs) fs f a g | inr g ↦ g ])
+    | inr h ↦ Contains-append_right ks gs f
+        (elim (Contains-append_cases fs gs f h) [ inl g ↦ All-contains (Contains gs) fs f a g | inr g ↦ g ])
   ],
 )
 
 pub absorbed : (o : Option Finding) (fs gs : List Finding) → All (Contains gs) fs → least (least o fs) gs ≡ least o gs
-absorbed o fs gs a = sym (least-append o fs gs) ∙ least_only (list_found o ++ gs) (list_found o ++ (fs ++ gs)) (least o gs) (least o (fs ++ gs)) (same_beside (list_found o) fs gs a) (fold_least o gs) (fold_least o (fs ++ gs))
+absorbed o fs gs a = sym (least-append o fs gs)
+    ∙ least_only (list_found o ++ gs) (list_found o ++ (fs ++ gs)) (least o gs) (least o (fs ++ gs))
+    (same_beside (list_found o) fs gs a) (fold_least o gs) (fold_least o (fs ++ gs))
 
 -- ---- lists
 
-at_cases : {X : Type 0} (x : X) (xs : List X) (y : X) (k : ℕ) → k < length (x ∷ xs) → get_or (x ∷ xs) k y ≡ y → (x ≡ y) ⊎ Contains xs y
+at_cases : {X : Type 0} (x : X) (xs : List X) (y : X) (k : ℕ) → k < length (x ∷ xs) → get_or (x ∷ xs) k y ≡ y → (x ≡ y)
+    ⊎ Contains xs y
 at_cases x xs y zero l e = inl e
 at_cases x xs y (suc k) l e = inr (k, omega arith, e)
 
@@ -72,11 +77,13 @@ told_as o t u e h = subst (λ n. least o (found_at n DuplicateName ∷ []) ≡ o
 
 -- each name up to the floor that repeats an earlier one is told
 abbrev pub AreDealt : List Tree → Option Finding → Option Tree → Type 0
-AreDealt ns o floor = (t u : Tree) → Contains ns t → Contains ns u → are_same_texts (text_of u) (text_of t) ≡ true → start_of t < start_of u → is_above floor u ≡ false → IsTold o u
+AreDealt ns o floor = (t u : Tree) → Contains ns t → Contains ns u → are_same_texts (text_of u) (text_of t) ≡ true
+    → start_of t < start_of u → is_above floor u ≡ false → IsTold o u
 
 -- a name above the floor is one of these, or comes before none of them
 abbrev pub HaveNoGap : List Tree → Option Tree → List Tree → Type 0
-HaveNoGap ns floor ts = (t : Tree) → Contains ns t → is_above floor t ≡ true → Contains ts t ⊎ All (λ u. is_earlier t u ≡ false) ts
+HaveNoGap ns floor ts = (t : Tree) → Contains ns t → is_above floor t ≡ true → Contains ts t
+    ⊎ All (λ u. is_earlier t u ≡ false) ts
 
 -- what comes after the name comes after the floor
 abbrev pub IsPast : Option Tree → Tree → Type 0
@@ -89,7 +96,9 @@ past_above (Some f) u h = λ t k. earlier_on f u t h k
 -- ---- one name more in the order
 
 -- no name above the floor comes before the first of them
-front : (ns : List Tree) (floor : Option Tree) (t : Tree) (ts : List Tree) → HaveNoGap ns floor (t ∷ ts) → All (λ u. is_earlier u t ≡ false) ts → (u : Tree) → Contains ns u → is_above floor u ≡ true → is_earlier u t ≡ false
+front : (ns : List Tree) (floor : Option Tree) (t : Tree) (ts : List Tree) → HaveNoGap ns floor (t ∷ ts)
+    → All (λ u. is_earlier u t ≡ false) ts → (u : Tree) → Contains ns u → is_above floor u ≡ true
+    → is_earlier u t ≡ false
 front ns floor t ts g a u c h =
     elim (g u c h) [
       | inl i ↦ elim (contains_cases t ts u i) [
@@ -99,14 +108,18 @@ front ns floor t ts g a u c h =
       | inr b ↦ All-head (λ v. is_earlier u v ≡ false) t ts b
     ]
 
-repeat_shown : (p t : Tree) → are_same_texts (text_of t) (text_of p) ≡ true → start_of p < start_of t → repeat_of (Some p) t ≡ one DuplicateName t
+repeat_shown : (p t : Tree) → are_same_texts (text_of t) (text_of p) ≡ true → start_of p < start_of t
+    → repeat_of (Some p) t ≡ one DuplicateName t
 repeat_shown p t s l =
     let e : nat_lt (start_of p) (start_of t) ≡ true = grind (arith, nat_tests) in
-    ap (λ b. cond (b && nat_lt (start_of p) (start_of t)) (one DuplicateName t) []) s ∙ ap (λ b. cond b (one DuplicateName t) []) e
+    ap (λ b. cond (b && nat_lt (start_of p) (start_of t)) (one DuplicateName t) []) s
+        ∙ ap (λ b. cond b (one DuplicateName t) []) e
 
 -- u repeats t, and is above the floor and no later than the next name n
-next_told : (ns : List Tree) (o : Option Finding) (floor : Option Tree) (n t u : Tree) → ((x : Tree) → Contains ns x → is_above floor x ≡ true → is_earlier x n ≡ false) → Contains ns t → Contains ns u
-    → are_same_texts (text_of u) (text_of t) ≡ true → start_of t < start_of u → is_above floor u ≡ true → is_earlier n u ≡ false → IsTold (least o (repeat_of floor n)) u
+next_told : (ns : List Tree) (o : Option Finding) (floor : Option Tree) (n t u : Tree)
+    → ((x : Tree) → Contains ns x → is_above floor x ≡ true → is_earlier x n ≡ false) → Contains ns t → Contains ns u
+    → are_same_texts (text_of u) (text_of t) ≡ true → start_of t < start_of u → is_above floor u ≡ true
+    → is_earlier n u ≡ false → IsTold (least o (repeat_of floor n)) u
 next_told ns o None n t u f ct cu s l a h =
     let tu = earlier_by_start t u (sym (same_texts (text_of u) (text_of t) s)) l in
     absurd (both_sides (on_upto t u n tu h) (f t ct refl))
@@ -119,21 +132,28 @@ next_told ns o (Some p) n t u f ct cu s l a h =
     let tu_text : text_of t ≡ text_of u = sym (same_texts (text_of u) (text_of t) s) in
     let e : text_of p ≡ text_of n = text_between t p n (tu_text ∙ tie.text) pt pn in
     let same : are_same_texts (text_of n) (text_of p) ≡ true =
-    ap (λ x. are_same_texts x (text_of p)) (sym tie.text) ∙ ap (λ x. are_same_texts (text_of u) x) (e ∙ sym tie.text ∙ sym tu_text) ∙ s in
+    ap (λ x. are_same_texts x (text_of p)) (sym tie.text)
+        ∙ ap (λ x. are_same_texts (text_of u) x) (e ∙ sym tie.text ∙ sym tu_text) ∙ s in
     let r = repeat_shown p n same (start_by_earlier p n e pn) in
-    told_as (least o (repeat_of (Some p) n)) n u (sym tie.start) (subst (λ fs. IsTold (least o fs) n) (sym r) (told_now o n))
+    told_as (least o (repeat_of (Some p) n)) n u (sym tie.start)
+        (subst (λ fs. IsTold (least o fs) n) (sym r) (told_now o n))
 
-dealt_more : (ns : List Tree) (o : Option Finding) (floor : Option Tree) (n : Tree) → ((x : Tree) → Contains ns x → is_above floor x ≡ true → is_earlier x n ≡ false) → AreDealt ns o floor → AreDealt ns (least o (repeat_of floor n)) (Some n)
+dealt_more : (ns : List Tree) (o : Option Finding) (floor : Option Tree) (n : Tree)
+    → ((x : Tree) → Contains ns x → is_above floor x ≡ true → is_earlier x n ≡ false) → AreDealt ns o floor
+    → AreDealt ns (least o (repeat_of floor n)) (Some n)
 dealt_more ns o floor n f d = λ t u ct cu s l h.
     by_side (is_above floor u) t u refl ct cu s l h
   where
-    by_side : (b : Bool) (t u : Tree) → is_above floor u ≡ b → Contains ns t → Contains ns u → are_same_texts (text_of u) (text_of t) ≡ true → start_of t < start_of u → is_above (Some n) u ≡ false → IsTold (least o (repeat_of floor n)) u
+    by_side : (b : Bool) (t u : Tree) → is_above floor u ≡ b → Contains ns t → Contains ns u
+        → are_same_texts (text_of u) (text_of t) ≡ true → start_of t < start_of u → is_above (Some n) u ≡ false
+        → IsTold (least o (repeat_of floor n)) u
     by_side true t u e ct cu s l h = next_told ns o floor n t u f ct cu s l e h
     by_side false t u e ct cu s l h = told_more o (repeat_of floor n) u (d t u ct cu s l e)
 
 -- ---- all of them
 
-gap_on : (ns : List Tree) (floor : Option Tree) (t : Tree) (ts : List Tree) → HaveNoGap ns floor (t ∷ ts) → IsPast floor t → HaveNoGap ns (Some t) ts
+gap_on : (ns : List Tree) (floor : Option Tree) (t : Tree) (ts : List Tree) → HaveNoGap ns floor (t ∷ ts)
+    → IsPast floor t → HaveNoGap ns (Some t) ts
 gap_on ns floor t ts g p = λ u c h.
     elim (g u c (p u h)) [
       | inl i ↦ elim (contains_cases t ts u i) [
@@ -146,22 +166,31 @@ gap_on ns floor t ts g p = λ u c h.
 past_rest : (t : Tree) (ts : List Tree) → All (λ u. is_earlier u t ≡ false) ts → All (IsPast (Some t)) ts
 past_rest t ts a = λ k d l v h. upto_on t (get_or ts k d) v (a k d l) h
 
-pub all_dealt : (ns : List Tree) (o : Option Finding) (floor : Option Tree) (ts : List Tree) → HaveNoGap ns floor ts → Ascend ts → All (IsPast floor) ts → AreDealt ns o floor → AreDealt ns (least o (neighbours floor ts)) (last_of floor ts)
+pub all_dealt : (ns : List Tree) (o : Option Finding) (floor : Option Tree) (ts : List Tree) → HaveNoGap ns floor ts
+    → Ascend ts → All (IsPast floor) ts → AreDealt ns o floor
+    → AreDealt ns (least o (neighbours floor ts)) (last_of floor ts)
 all_dealt ns o floor [] g a p d = d
 all_dealt ns o floor (t ∷ ts) g a p d =
     let e = dealt_more ns o floor t (front ns floor t ts g a.0) d in
-    let r = all_dealt ns (least o (repeat_of floor t)) (Some t) ts (gap_on ns floor t ts g (All-head (IsPast floor) t ts p)) a.1 (past_rest t ts a.0) e in
-    subst (λ x. AreDealt ns x (last_of (Some t) ts)) (sym (least-append o (repeat_of floor t) (neighbours (Some t) ts))) r
+    let r = all_dealt ns (least o (repeat_of floor t)) (Some t) ts
+        (gap_on ns floor t ts g (All-head (IsPast floor) t ts p)) a.1 (past_rest t ts a.0) e in
+    subst (λ x. AreDealt ns x (last_of (Some t) ts)) (sym (least-append o (repeat_of floor t) (neighbours (Some t) ts)))
+        r
 
 -- ---- the last of them
 
 -- none of them comes after the last
-pub none_past : (floor : Option Tree) (ts : List Tree) (u : Tree) → Ascend ts → Contains ts u → is_above (last_of floor ts) u ≡ false
+pub none_past : (floor : Option Tree) (ts : List Tree) (u : Tree) → Ascend ts → Contains ts u
+    → is_above (last_of floor ts) u ≡ false
 none_past floor [] u a c = absurd (contains_none u c)
-none_past floor (t ∷ []) u a c = elim (contains_cases t [] u c) [ inl e ↦ subst (λ x. is_earlier t x ≡ false) e (earlier_itself t) | inr d ↦ absurd (contains_none u d) ]
+none_past floor (t ∷ []) u a c =
+    elim (contains_cases t [] u c) [ inl e ↦ subst (λ x. is_earlier t x ≡ false) e (earlier_itself t) | inr d ↦
+        absurd (contains_none u d) ]
 none_past floor (t ∷ v ∷ ts) u a c =
     elim (contains_cases t (v ∷ ts) u c) [
-      | inl e ↦ subst (λ x. is_above (last_of (Some v) ts) x ≡ false) e (past_last (last_of (Some v) ts) t v (All-head (λ x. is_earlier x t ≡ false) v ts a.0) (none_past (Some t) (v ∷ ts) v a.1 (contains_first v ts)))
+      | inl e ↦ subst (λ x. is_above (last_of (Some v) ts) x ≡ false) e
+          (past_last (last_of (Some v) ts) t v (All-head (λ x. is_earlier x t ≡ false) v ts a.0)
+          (none_past (Some t) (v ∷ ts) v a.1 (contains_first v ts)))
       | inr d ↦ none_past (Some t) (v ∷ ts) u a.1 d
     ]
   where
@@ -170,10 +199,13 @@ none_past floor (t ∷ v ∷ ts) u a c =
     past_last (Some x) t v h k = upto_upto t v x h k
 
 -- what comes after the last comes after the floor
-pub last_past : (floor : Option Tree) (ts : List Tree) → Ascend ts → All (IsPast floor) ts → (t : Tree) → is_above (last_of floor ts) t ≡ true → is_above floor t ≡ true
+pub last_past : (floor : Option Tree) (ts : List Tree) → Ascend ts → All (IsPast floor) ts → (t : Tree)
+    → is_above (last_of floor ts) t ≡ true → is_above floor t ≡ true
 last_past floor [] a p t h = h
 last_past floor (u ∷ ts) a p t h = All-head (IsPast floor) u ts p t (last_past (Some u) ts a.1 (past_rest u ts a.0) t h)
 
-pub last_among : (ns : List Tree) (floor : Option Tree) (ts : List Tree) → IfSome floor (Contains ns) → All (Contains ns) ts → IfSome (last_of floor ts) (Contains ns)
+pub last_among : (ns : List Tree) (floor : Option Tree) (ts : List Tree) → IfSome floor (Contains ns)
+    → All (Contains ns) ts → IfSome (last_of floor ts) (Contains ns)
 last_among ns floor [] c a = c
-last_among ns floor (t ∷ ts) c a = last_among ns (Some t) ts (All-head (Contains ns) t ts a) (All-tail (Contains ns) t ts a)
+last_among ns floor (t ∷ ts) c a =
+    last_among ns (Some t) ts (All-head (Contains ns) t ts a) (All-tail (Contains ns) t ts a)

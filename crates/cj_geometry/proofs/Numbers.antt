@@ -37,7 +37,8 @@ index-by reason count t (Ok None) = one NotWhole t
 index-by reason count t (Ok (Some w)) = cond (is_outside count w) (one reason t) []
 index-by reason count t (Err e) = one (fault_reason e) t
 
-index-class : (s : List ℕ) (reason : Reason) (count : Option ℕ) (t : Tree) (c : Class s) → index_findings reason count t c ≡ index-by reason count t (whole_answer c)
+index-class : (s : List ℕ) (reason : Reason) (count : Option ℕ) (t : Tree) (c : Class s)
+    → index_findings reason count t c ≡ index-by reason count t (whole_answer c)
 index-class s reason count t (no_number n) = refl
 index-class s reason count t (out_of_range n) = refl
 index-class s reason count t (not_whole v value range n) = refl
@@ -70,13 +71,15 @@ pub whole-fits : (w : ℤ) → unsigned_abs w < 10 ^ 18 → to_z w64 (of_z w64 w
 whole-fits w small = to_z-of_z w64 w (fits_signed_from_abs w64 w (omega arith))
 
 -- ---- of a tree that has a whole number
-by-whole : (s : List ℕ) (t : Tree) (c : Class s) (w : ℤ) → whole_by c ≡ Some w → (reason : Reason) (count : Option ℕ) → index_findings reason count t c ≡ cond (is_outside count w) (one reason t) []
+by-whole : (s : List ℕ) (t : Tree) (c : Class s) (w : ℤ) → whole_by c ≡ Some w → (reason : Reason) (count : Option ℕ)
+    → index_findings reason count t c ≡ cond (is_outside count w) (one reason t) []
 by-whole s t (no_number n) w is reason count = absurd (cc is)
 by-whole s t (out_of_range n) w is reason count = absurd (cc is)
 by-whole s t (not_whole v value range n) w is reason count = absurd (cc is)
 by-whole s t (whole v x value range are) w is reason count = let same : x ≡ w = cc is in rw same refl
 
-pub index-of-whole : (t : Tree) (w : ℤ) → whole_of t ≡ Some w → (reason : Reason) (count : Option ℕ) → index reason count t ≡ cond (is_outside count w) (one reason t) []
+pub index-of-whole : (t : Tree) (w : ℤ) → whole_of t ≡ Some w → (reason : Reason) (count : Option ℕ)
+    → index reason count t ≡ cond (is_outside count w) (one reason t) []
 index-of-whole t w is reason count = go (is_number (kind_of t)) refl
   where
     go : (b : Bool) → is_number (kind_of t) ≡ b → index reason count t ≡ cond (is_outside count w) (one reason t) []
@@ -101,7 +104,8 @@ whole-kind (array i j ts) w is = absurd (cc is)
 whole-kind (object i j ms) w is = absurd (cc is)
 
 -- an index has no finding but at itself
-pub index-told : (found : Option Finding) (t : Tree) → ((r : Reason) → least found (one r t) ≡ found) → (reason : Reason) (count : Option ℕ) → least found (index reason count t) ≡ found
+pub index-told : (found : Option Finding) (t : Tree) → ((r : Reason) → least found (one r t) ≡ found)
+    → (reason : Reason) (count : Option ℕ) → least found (index reason count t) ≡ found
 index-told found t same reason count = go (is_number (kind_of t)) refl
   where
     by_test : (b : Bool) → least found (cond b (one reason t) []) ≡ found
@@ -130,21 +134,28 @@ module _ (line : List ℕ) (t : Tree) (kind : kind_of t ≡ Number) where
       go (object i j ms) e = cc
 
   spelled-number : (w : ℤ) → whole_of t ≡ Some w → IsNumber (spelling_of line t)
-  spelled-number w is = let P : List ℕ → Type 0 = IsNumber in subst P (sym spelled) (whole-by-number (spelling t) (class (spelling t)) w (rw kind at is))
+  spelled-number w is = let P : List ℕ → Type 0 = IsNumber in
+      subst P (sym spelled) (whole-by-number (spelling t) (class (spelling t)) w (rw kind at is))
 
   pub number-in : IsNumberInRange (spelling_of line t) → number t ≡ []
   number-in o = rw kind (in-range (spelling t) t (class (spelling t)) (rw spelled at o))
 
-  pub number-fault : (e : DecimalFault) → (e ≡ NotANumber → ¬ IsNumber (spelling_of line t)) → (e ≡ OutOfRange → IsNumberOutOfRange (spelling_of line t)) → number t ≡ one (fault_reason e) t
-  number-fault e none out = rw kind (number-class (spelling t) t (class (spelling t)) ∙ ap (number-by t) (answer_fault (spelling t) e (class (spelling t)) (rw spelled at none) (rw spelled at out)))
+  pub number-fault : (e : DecimalFault) → (e ≡ NotANumber → ¬ IsNumber (spelling_of line t))
+      → (e ≡ OutOfRange → IsNumberOutOfRange (spelling_of line t)) → number t ≡ one (fault_reason e) t
+  number-fault e none out =
+      rw kind (number-class (spelling t) t (class (spelling t))
+          ∙ ap (number-by t) (answer_fault (spelling t) e (class (spelling t)) (rw spelled at none)
+              (rw spelled at out)))
 
   -- with what a call has read of the spelling, which is s
-  module _ (s : List ℕ) (same : s ≡ spelling_of line t) (r q : Result (Option ℤ) DecimalFault) (read : (c : Class s) → r ≡ whole_answer c) (is : r ≡ q) where
+  module _ (s : List ℕ) (same : s ≡ spelling_of line t) (r q : Result (Option ℤ) DecimalFault)
+      (read : (c : Class s) → r ≡ whole_answer c) (is : r ≡ q) where
     answer : whole_answer (class (spelling t)) ≡ q
     answer = sym ((rw (same ∙ spelled) at read) (class (spelling t))) ∙ is
 
     pub index-read : (reason : Reason) (count : Option ℕ) → index reason count t ≡ index-by reason count t q
-    index-read reason count = rw kind (index-class (spelling t) reason count t (class (spelling t)) ∙ ap (index-by reason count t) answer)
+    index-read reason count =
+        rw kind (index-class (spelling t) reason count t (class (spelling t)) ∙ ap (index-by reason count t) answer)
 
     pub whole-read : whole_of t ≡ whole-if q
     whole-read = rw kind (whole-class (spelling t) (class (spelling t)) ∙ ap whole-if answer)
@@ -157,11 +168,13 @@ module _ (line : List ℕ) (t : Tree) (kind : kind_of t ≡ Number) where
     pub whole-there : (w : ℤ) → ((c : Class s) → whole_answer c ≡ Ok (Some w)) → whole_of t ≡ Some w
     whole-there w answer = whole-read s same (Ok (Some w)) (Ok (Some w)) (λ c. sym (answer c)) refl
 
-    pub few-read : (o : Option ℕ) → IfSome o (λ n. (c : Class s) → whole_answer c ≡ Ok (Some (pos n))) → IfSome o (λ n. n < 10 ^ 18) → IfSome o (λ n. (n < 10 ^ 18) × (whole_of t ≡ Some (pos n)))
+    pub few-read : (o : Option ℕ) → IfSome o (λ n. (c : Class s) → whole_answer c ≡ Ok (Some (pos n)))
+        → IfSome o (λ n. n < 10 ^ 18) → IfSome o (λ n. (n < 10 ^ 18) × (whole_of t ≡ Some (pos n)))
     few-read None answer small = answer
     few-read (Some n) answer small = (small, whole-there (pos n) answer)
 
-    pub few-signed-read : (o : Option ℤ) → IfSome o (λ w. (c : Class s) → whole_answer c ≡ Ok (Some w)) → IfSome o (λ w. whole_of t ≡ Some w)
+    pub few-signed-read : (o : Option ℤ) → IfSome o (λ w. (c : Class s) → whole_answer c ≡ Ok (Some w))
+        → IfSome o (λ w. whole_of t ≡ Some w)
     few-signed-read None answer = answer
     few-signed-read (Some w) answer = whole-there w answer
 
@@ -178,31 +191,42 @@ signed-first : (s : List ℕ) → IsFewSigned s → (45 ≤ get_or s 0 0) × (ge
 signed-first s (inl few) = int-first s few.0
 signed-first s (inr minus) = let e : get_or s 0 0 ≡ 45 = ap (λ t. get_or t 0 0) minus.1 in (omega arith, omega arith)
 
-kind-at : (line : List ℕ) (start stop : ℕ) → start < stop → (45 ≤ get_or (slice_range line start stop) 0 0) × (get_or (slice_range line start stop) 0 0 ≤ 57) → kind_by (byte line start) ≡ Number
-kind-at line start stop order first = let e = first_is line start stop order in digit-kind (byte line start) (omega (arith, first.0, e)) (omega (arith, first.1, e))
+kind-at : (line : List ℕ) (start stop : ℕ) → start < stop → (45 ≤ get_or (slice_range line start stop) 0 0)
+    × (get_or (slice_range line start stop) 0 0 ≤ 57) → kind_by (byte line start) ≡ Number
+kind-at line start stop order first = let e = first_is line start stop order in
+    digit-kind (byte line start) (omega (arith, first.0, e)) (omega (arith, first.1, e))
 
 -- where a node stands, and what was read there
-module _ (line b : List ℕ) (t : Tree) (start stop : ℕ) (e : b ≡ line) (order : start < stop) (same : slice_range line start stop ≡ spelling_of line t) (kind : kind_by (byte line start) ≡ kind_of t) where
-  read-there : (w : ℤ) → kind_by (byte line start) ≡ Number → ((c : Class (slice_range b start stop)) → whole_answer c ≡ Ok (Some w)) → whole_of t ≡ Some w
+module _ (line b : List ℕ) (t : Tree) (start stop : ℕ) (e : b ≡ line) (order : start < stop)
+    (same : slice_range line start stop ≡ spelling_of line t) (kind : kind_by (byte line start) ≡ kind_of t) where
+  read-there : (w : ℤ) → kind_by (byte line start) ≡ Number
+      → ((c : Class (slice_range b start stop)) → whole_answer c ≡ Ok (Some w)) → whole_of t ≡ Some w
   read-there w number answer =
       let P : List ℕ → Type 0 = λ s. (c : Class (slice_range s start stop)) → whole_answer c ≡ Ok (Some w) in
       whole-there line t (sym kind ∙ number) (slice_range line start stop) same w (subst P e answer)
 
-  pub few-there : (n : ℕ) → IsFewDigits (slice_range b start stop) → ((c : Class (slice_range b start stop)) → whole_answer c ≡ Ok (Some (pos n))) → whole_of t ≡ Some (pos n)
+  pub few-there : (n : ℕ) → IsFewDigits (slice_range b start stop)
+      → ((c : Class (slice_range b start stop)) → whole_answer c ≡ Ok (Some (pos n))) → whole_of t ≡ Some (pos n)
   few-there n few answer =
       let P : List ℕ → Type 0 = λ s. IsFewDigits (slice_range s start stop) in
-      read-there (pos n) (kind-at line start stop order (int-first (slice_range line start stop) (subst P e few).0)) answer
+      read-there (pos n) (kind-at line start stop order (int-first (slice_range line start stop) (subst P e few).0))
+          answer
 
-  pub signed-there : (w : ℤ) → IsFewSigned (slice_range b start stop) → ((c : Class (slice_range b start stop)) → whole_answer c ≡ Ok (Some w)) → whole_of t ≡ Some w
+  pub signed-there : (w : ℤ) → IsFewSigned (slice_range b start stop)
+      → ((c : Class (slice_range b start stop)) → whole_answer c ≡ Ok (Some w)) → whole_of t ≡ Some w
   signed-there w few answer =
       let P : List ℕ → Type 0 = λ s. IsFewSigned (slice_range s start stop) in
       read-there w (kind-at line start stop order (signed-first (slice_range line start stop) (subst P e few))) answer
 
-  pub few-there-if : (o : Option ℕ) → (IsSome o → IsFewDigits (slice_range b start stop)) → IfSome o (λ n. (c : Class (slice_range b start stop)) → whole_answer c ≡ Ok (Some (pos n))) → IfSome o (λ n. n < 10 ^ 18) → IfSome o (λ n. (n < 10 ^ 18) × (whole_of t ≡ Some (pos n)))
+  pub few-there-if : (o : Option ℕ) → (IsSome o → IsFewDigits (slice_range b start stop))
+      → IfSome o (λ n. (c : Class (slice_range b start stop)) → whole_answer c ≡ Ok (Some (pos n)))
+      → IfSome o (λ n. n < 10 ^ 18) → IfSome o (λ n. (n < 10 ^ 18) × (whole_of t ≡ Some (pos n)))
   few-there-if None few answer small = answer
   few-there-if (Some n) few answer small = (small, few-there n (few refl) answer)
 
-  pub signed-there-if : (o : Option ℤ) → (IsSome o → IsFewSigned (slice_range b start stop)) → IfSome o (λ w. (c : Class (slice_range b start stop)) → whole_answer c ≡ Ok (Some w)) → IfSome o (λ w. whole_of t ≡ Some w)
+  pub signed-there-if : (o : Option ℤ) → (IsSome o → IsFewSigned (slice_range b start stop))
+      → IfSome o (λ w. (c : Class (slice_range b start stop)) → whole_answer c ≡ Ok (Some w))
+      → IfSome o (λ w. whole_of t ≡ Some w)
   signed-there-if None few answer = answer
   signed-there-if (Some w) few answer = signed-there w (few refl) answer
 
@@ -213,6 +237,9 @@ module _ (line b : List ℕ) (t : Tree) (start stop : ℕ) (e : b ≡ line) (ord
       let Q : List ℕ → Type 0 = IsNumber in
       subst P (sym e) (subst Q (sym same) (spelled-number line t (whole-kind t w is) w is))
 
-  pub word-there-if : (o : Option ℕ) → kind_of t ≡ Number → IfSome o (λ d. (n : ℕ) × IsWordOf d n × ((c : Class (slice_range b start stop)) → whole_answer c ≡ Ok (Some (pos n)))) → IfSome o (λ d. (n : ℕ) × IsWordOf d n × (whole_of t ≡ Some (pos n)))
+  pub word-there-if : (o : Option ℕ) → kind_of t ≡ Number
+      → IfSome o (λ d. (n : ℕ) × IsWordOf d n
+      × ((c : Class (slice_range b start stop)) → whole_answer c ≡ Ok (Some (pos n))))
+      → IfSome o (λ d. (n : ℕ) × IsWordOf d n × (whole_of t ≡ Some (pos n)))
   word-there-if None number read = read
   word-there-if (Some d) number read = (read.0, read.1, read-there (pos read.0) (kind ∙ number) read.2)

@@ -26,7 +26,9 @@ each-number = refl
 
 pub has-number : (n : ℕ) → n < 33 → (row_numbered n).number ≡ n
 unfolding always
-has-number n small = eqb-true (row_numbered n).number n (agree_below_at (λ k. nat_eq (row_numbered k).number k) always 33 n each-number small)
+has-number n small =
+    eqb-true (row_numbered n).number n
+        (agree_below_at (λ k. nat_eq (row_numbered k).number k) always 33 n each-number small)
 
 each-level : agree_below (λ k. (row_numbered k).is_second) (λ k. nat_le 16 k) 33 ≡ true
 unfolding object_types
@@ -197,19 +199,25 @@ row-is (Some r) q h =
     let number = eqb-true r.number q.number others.1 in
     λ i. Some (record { name = name i; is_second = level i; number = number i })
 
-each-named : agree_below (λ k. is_row (row_with object_types (chars (row_numbered k).name)) (row_numbered k)) always 33 ≡ true
+each-named : agree_below (λ k. is_row (row_with object_types (chars (row_numbered k).name)) (row_numbered k)) always 33
+    ≡ true
 unfolding object_types always chars
 each-named = refl
 
 is-named : (n : ℕ) → n < 33 → row_with object_types (chars (row_numbered n).name) ≡ Some (row_numbered n)
 unfolding always
-is-named n small = row-is (row_with object_types (chars (row_numbered n).name)) (row_numbered n) (agree_below_at (λ k. is_row (row_with object_types (chars (row_numbered k).name)) (row_numbered k)) always 33 n each-named small)
+is-named n small =
+    row-is (row_with object_types (chars (row_numbered n).name)) (row_numbered n)
+        (agree_below_at (λ k. is_row (row_with object_types (chars (row_numbered k).name)) (row_numbered k)) always 33 n
+        each-named small)
 
 -- ---- the type of a name
 
 -- a text that is the name of a type is of that type alone
-pub of-name : (n : ℕ) (t : Tree) → n < 33 → has_text (chars (row_numbered n).name) t ≡ true → row_of t ≡ Some (row_numbered n)
-of-name n t small h = of-text object_types (chars (row_numbered n).name) t (text-is (chars (row_numbered n).name) t h) ∙ is-named n small
+pub of-name : (n : ℕ) (t : Tree) → n < 33 → has_text (chars (row_numbered n).name) t ≡ true
+    → row_of t ≡ Some (row_numbered n)
+of-name n t small h = of-text object_types (chars (row_numbered n).name) t (text-is (chars (row_numbered n).name) t h)
+    ∙ is-named n small
 
 pub of-name-type : (o : ObjectType) (t : Tree) → has_text (chars (row_at o).name) t ≡ true → row_of t ≡ Some (row_at o)
 of-name-type o t h = of-name (number_of o) t (number-below o) h

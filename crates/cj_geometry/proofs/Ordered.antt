@@ -29,7 +29,8 @@ pub earlier_on : (t u v : Tree) → is_earlier t u ≡ true → is_earlier u v �
 earlier_on t u v h k = ap is_lt (order.trans t u v (less_is _ h) (less_is _ k))
 
 -- t is no later than u, which comes before v
-upto_by : (t u v : Tree) (r : Ordering) → compare_names u t ≡ r → is_lt r ≡ false → is_earlier u v ≡ true → is_earlier t v ≡ true
+upto_by : (t u v : Tree) (r : Ordering) → compare_names u t ≡ r → is_lt r ≡ false → is_earlier u v ≡ true
+    → is_earlier t v ≡ true
 upto_by t u v Less e h k = cc
 upto_by t u v Equal e h k = ap is_lt (sym (order.congr u t v e)) ∙ k
 upto_by t u v Greater e h k = earlier_on t u v (ap is_lt (order.antisymm t u ∙ ap ordering_reverse e)) k
@@ -38,7 +39,8 @@ pub upto_on : (t u v : Tree) → is_earlier u t ≡ false → is_earlier u v ≡
 upto_on t u v h k = upto_by t u v (compare_names u t) refl h k
 
 -- t comes before u, which is no later than v
-on_by : (t u v : Tree) (r : Ordering) → compare_names v u ≡ r → is_lt r ≡ false → is_earlier t u ≡ true → is_earlier t v ≡ true
+on_by : (t u v : Tree) (r : Ordering) → compare_names v u ≡ r → is_lt r ≡ false → is_earlier t u ≡ true
+    → is_earlier t v ≡ true
 on_by t u v Less e h k = cc
 on_by t u v Equal e h k = ap is_lt (alike_right order v u t e) ∙ k
 on_by t u v Greater e h k = earlier_on t u v k (ap is_lt (order.antisymm u v ∙ ap ordering_reverse e))
@@ -62,7 +64,8 @@ earlier_not_back t u h = none_true (is_earlier u t) (λ k. both_sides (earlier_o
 
 -- ---- names that neither comes before the other
 
-tied_by : (t u : Tree) (r : Ordering) → compare_names t u ≡ r → is_lt r ≡ false → is_earlier u t ≡ false → compare_names t u ≡ Equal
+tied_by : (t u : Tree) (r : Ordering) → compare_names t u ≡ r → is_lt r ≡ false → is_earlier u t ≡ false
+    → compare_names t u ≡ Equal
 tied_by t u Less e h k = cc
 tied_by t u Equal e h k = e
 tied_by t u Greater e h k = absurd (both_sides (ap is_lt (order.antisymm u t ∙ ap ordering_reverse e)) k)
@@ -76,11 +79,13 @@ same_number : (m n : ℕ) → nat_cmp m n ≡ Equal → m ≡ n
 same_number m n h =
     elim (cases_order m n) [
       | inl e ↦ e
-      | inr (inl l) ↦ let e : nat_lt m n ≡ true = grind (arith, nat_tests) in let f : Less ≡ Equal = sym (ap (λ b. cond b Less (cond (nat_eq m n) Equal Greater)) e) ∙ h in cc
+      | inr (inl l) ↦ let e : nat_lt m n ≡ true = grind (arith, nat_tests) in
+          let f : Less ≡ Equal = sym (ap (λ b. cond b Less (cond (nat_eq m n) Equal Greater)) e) ∙ h in cc
       | inr (inr g) ↦
           let e : nat_lt m n ≡ false = grind (arith, nat_tests) in
           let d : nat_eq m n ≡ false = grind (arith, nat_tests) in
-          let f : Greater ≡ Equal = sym (ap (λ b. cond b Less (cond (nat_eq m n) Equal Greater)) e ∙ ap (λ b. cond b Equal Greater) d) ∙ h in
+          let f : Greater ≡ Equal =
+              sym (ap (λ b. cond b Less (cond (nat_eq m n) Equal Greater)) e ∙ ap (λ b. cond b Equal Greater) d) ∙ h in
           cc
     ]
 
@@ -96,7 +101,8 @@ pub record AreTied (t u : Tree) : Type 0 where
 
 pub tied : (t u : Tree) → is_earlier t u ≡ false → is_earlier u t ≡ false → AreTied t u
 tied t u h k =
-    let e = then_equal (compare_texts (text_of t) (text_of u)) (nat_cmp (start_of t) (start_of u)) (tied_by t u (compare_names t u) refl h k) in
+    let e = then_equal (compare_texts (text_of t) (text_of u)) (nat_cmp (start_of t) (start_of u))
+        (tied_by t u (compare_names t u) refl h k) in
     record { text = same_by_order (text_of t) (text_of u) e.0; start = same_number (start_of t) (start_of u) e.1 }
 
 -- ---- names of one text
@@ -105,7 +111,8 @@ text_itself : (s t : Option (List ℕ)) → s ≡ t → compare_texts s t ≡ Eq
 text_itself s t e = subst (λ x. compare_texts s x ≡ Equal) e (tied_itself (options_total nat_list_cmp_total) s)
 
 less_number : (m n : ℕ) → m < n → nat_cmp m n ≡ Less
-less_number m n h = let e : nat_lt m n ≡ true = grind (arith, nat_tests) in ap (λ b. cond b Less (cond (nat_eq m n) Equal Greater)) e
+less_number m n h = let e : nat_lt m n ≡ true = grind (arith, nat_tests) in
+    ap (λ b. cond b Less (cond (nat_eq m n) Equal Greater)) e
 
 number_less : (m n : ℕ) → nat_cmp m n ≡ Less → m < n
 number_less m n h =
@@ -113,7 +120,8 @@ number_less m n h =
       | inl l ↦ l
       | inr g ↦
           let e : nat_lt m n ≡ false = grind (arith, nat_tests) in
-          let f : cond (nat_eq m n) Equal Greater ≡ Less = sym (ap (λ b. cond b Less (cond (nat_eq m n) Equal Greater)) e) ∙ h in
+          let f : cond (nat_eq m n) Equal Greater ≡ Less =
+              sym (ap (λ b. cond b Less (cond (nat_eq m n) Equal Greater)) e) ∙ h in
           absurd (never_less (nat_eq m n) f)
     ]
   where
@@ -124,17 +132,26 @@ number_less m n h =
 -- where they start orders them
 pub earlier_by_start : (t u : Tree) → text_of t ≡ text_of u → start_of t < start_of u → is_earlier t u ≡ true
 earlier_by_start t u e h =
-    ap (λ r. is_lt (ordering_then r (nat_cmp (start_of t) (start_of u)))) (text_itself (text_of t) (text_of u) e) ∙ ap is_lt (less_number (start_of t) (start_of u) h)
+    ap (λ r. is_lt (ordering_then r (nat_cmp (start_of t) (start_of u)))) (text_itself (text_of t) (text_of u) e)
+        ∙ ap is_lt (less_number (start_of t) (start_of u) h)
 
 pub start_by_earlier : (t u : Tree) → text_of t ≡ text_of u → is_earlier t u ≡ true → start_of t < start_of u
 start_by_earlier t u e h =
-    number_less (start_of t) (start_of u) (less_is _ (sym (ap (λ r. is_lt (ordering_then r (nat_cmp (start_of t) (start_of u)))) (text_itself (text_of t) (text_of u) e)) ∙ h))
+    number_less (start_of t) (start_of u)
+        (less_is _ (sym (ap (λ r. is_lt (ordering_then r (nat_cmp (start_of t) (start_of u))))
+                (text_itself (text_of t) (text_of u) e)) ∙ h))
 
 -- what stands between two names of one text has it too
-between_by : (t u v : Tree) (r : Ordering) → compare_texts (text_of u) (text_of v) ≡ r → text_of t ≡ text_of v → is_earlier u t ≡ false → is_earlier u v ≡ true → text_of u ≡ text_of v
-between_by t u v Less e s h k = absurd (both_sides (ap (λ x. is_lt (ordering_then (compare_texts (text_of u) x) (nat_cmp (start_of u) (start_of t)))) s ∙ ap (λ r. is_lt (ordering_then r (nat_cmp (start_of u) (start_of t)))) e) h)
+between_by : (t u v : Tree) (r : Ordering) → compare_texts (text_of u) (text_of v) ≡ r → text_of t ≡ text_of v
+    → is_earlier u t ≡ false → is_earlier u v ≡ true → text_of u ≡ text_of v
+between_by t u v Less e s h k =
+    absurd (both_sides (ap (λ x.
+                is_lt (ordering_then (compare_texts (text_of u) x) (nat_cmp (start_of u) (start_of t)))) s
+            ∙ ap (λ r. is_lt (ordering_then r (nat_cmp (start_of u) (start_of t)))) e) h)
 between_by t u v Equal e s h k = same_by_order (text_of u) (text_of v) e
-between_by t u v Greater e s h k = absurd (both_sides k (ap (λ r. is_lt (ordering_then r (nat_cmp (start_of u) (start_of v)))) e))
+between_by t u v Greater e s h k =
+    absurd (both_sides k (ap (λ r. is_lt (ordering_then r (nat_cmp (start_of u) (start_of v)))) e))
 
-pub text_between : (t u v : Tree) → text_of t ≡ text_of v → is_earlier u t ≡ false → is_earlier u v ≡ true → text_of u ≡ text_of v
+pub text_between : (t u v : Tree) → text_of t ≡ text_of v → is_earlier u t ≡ false → is_earlier u v ≡ true
+    → text_of u ≡ text_of v
 text_between t u v s h k = between_by t u v (compare_texts (text_of u) (text_of v)) refl s h k

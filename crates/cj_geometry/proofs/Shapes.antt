@@ -7,11 +7,13 @@ use Rattle.cj_spans.specs.Tree.{Tree}
 use Rattle.cj_spans.specs.Parts.{kind_of, items_of}
 use Rattle.cj_geometry.specs.Geometry.{shape, entry, values, beside, other_count, other_parts, parts_of}
 
-pub shape-array : (v : Option ℕ) (d : ℕ) (t : Tree) → 0 < d → kind_of t ≡ Array → shape v d t ≡ flat_map (shape v (d - 1)) (items_of t)
+pub shape-array : (v : Option ℕ) (d : ℕ) (t : Tree) → 0 < d → kind_of t ≡ Array
+    → shape v d t ≡ flat_map (shape v (d - 1)) (items_of t)
 shape-array v zero t h k = absurd (omega arith)
 shape-array v (suc d) t h k = rw (k, sub-one (suc d)) refl
 
-pub values-array : (m : Option ℕ) (d : ℕ) (t : Tree) (b : Option Tree) → 0 < d → kind_of t ≡ Array → values m d t b ≡ other_count t b ++ beside (values m (d - 1)) (items_of t) (parts_of b)
+pub values-array : (m : Option ℕ) (d : ℕ) (t : Tree) (b : Option Tree) → 0 < d → kind_of t ≡ Array
+    → values m d t b ≡ other_count t b ++ beside (values m (d - 1)) (items_of t) (parts_of b)
 values-array m zero t b h k = absurd (omega arith)
 values-array m (suc d) t b h k = rw (k, sub-one (suc d)) refl
 
@@ -20,7 +22,10 @@ pub beside-entries : (m : Option ℕ) (ts bs : List Tree) → beside (values m 0
 beside-entries m [] bs = refl
 beside-entries m (t ∷ ts) bs = ap (λ fs. entry m t ++ fs) (beside-entries m ts (other_parts bs))
 
-pub values-one : (m : Option ℕ) (d : ℕ) (t : Tree) (b : Option Tree) → d ≡ 1 → kind_of t ≡ Array → values m d t b ≡ other_count t b ++ flat_map (entry m) (items_of t)
+pub values-one : (m : Option ℕ) (d : ℕ) (t : Tree) (b : Option Tree) → d ≡ 1 → kind_of t ≡ Array
+    → values m d t b ≡ other_count t b ++ flat_map (entry m) (items_of t)
 values-one m d t b h k =
     let low : d - 1 ≡ 0 = omega arith in
-    values-array m d t b (omega arith) k ∙ ap (λ e. other_count t b ++ beside (values m e) (items_of t) (parts_of b)) low ∙ ap (λ fs. other_count t b ++ fs) (beside-entries m (items_of t) (parts_of b))
+    values-array m d t b (omega arith) k
+        ∙ ap (λ e. other_count t b ++ beside (values m e) (items_of t) (parts_of b)) low
+        ∙ ap (λ fs. other_count t b ++ fs) (beside-entries m (items_of t) (parts_of b))

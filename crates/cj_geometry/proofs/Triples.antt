@@ -39,5 +39,6 @@ each-none line (t ∷ ts) all =
     ap (λ xs. xs ++ flat_map whole_number ts) (short-none line t (all 0 t (omega arith)))
     ∙ each-none line ts (λ k d l. all (suc k) d (omega arith))
 
-pub triple-none : (line : List ℕ) (t : Tree) (reason : Reason) → kind_of t ≡ Array → length (items_of t) ≡ 3 → All (IsShortWhole line) (items_of t) → of_length reason 3 whole_number t ≡ []
+pub triple-none : (line : List ℕ) (t : Tree) (reason : Reason) → kind_of t ≡ Array → length (items_of t) ≡ 3
+    → All (IsShortWhole line) (items_of t) → of_length reason 3 whole_number t ≡ []
 triple-none line t reason array three all = rw (array, three) (each-none line (items_of t) all)

@@ -28,7 +28,8 @@ use Rattle.cj_geometry.proofs.Ordered.{order}
 -- ---- the words go along with the texts
 
 less_numbers : (m n : ℕ) → m < n → nat_cmp m n ≡ Less
-less_numbers m n h = let e : nat_lt m n ≡ true = grind (arith, nat_tests) in ap (λ b. cond b Less (cond (nat_eq m n) Equal Greater)) e
+less_numbers m n h = let e : nat_lt m n ≡ true = grind (arith, nat_tests) in
+    ap (λ b. cond b Less (cond (nat_eq m n) Equal Greater)) e
 
 same_numbers : (m n : ℕ) → m ≡ n → nat_cmp m n ≡ Equal
 same_numbers m n h =
@@ -39,23 +40,29 @@ same_numbers m n h =
 greater_numbers : (m n : ℕ) → n < m → nat_cmp m n ≡ Greater
 greater_numbers m n h = nat_cmp_total.antisymm m n ∙ ap ordering_reverse (less_numbers n m h)
 
-words_first : (t u : Tree) (v w : ℕ) → v ≡ word_of (text_of t) → w ≡ word_of (text_of u) → ordering_then (nat_cmp v w) (compare_names t u) ≡ compare_names t u
+words_first : (t u : Tree) (v w : ℕ) → v ≡ word_of (text_of t) → w ≡ word_of (text_of u)
+    → ordering_then (nat_cmp v w) (compare_names t u) ≡ compare_names t u
 words_first t u v w e f =
     elim (cases_order v w) [
       | inl s ↦ ap (λ r. ordering_then r (compare_names t u)) (same_numbers v w s)
       | inr (inl l) ↦
           let h : compare_texts (text_of t) (text_of u) ≡ Less = less_by_words (text_of t) (text_of u) (omega arith) in
-          ap (λ r. ordering_then r (compare_names t u)) (less_numbers v w l) ∙ sym (ap (λ r. ordering_then r (nat_cmp (start_of t) (start_of u))) h)
+          ap (λ r. ordering_then r (compare_names t u)) (less_numbers v w l)
+              ∙ sym (ap (λ r. ordering_then r (nat_cmp (start_of t) (start_of u))) h)
       | inr (inr g) ↦
           let h : compare_texts (text_of u) (text_of t) ≡ Less = less_by_words (text_of u) (text_of t) (omega arith) in
-          let k : compare_texts (text_of t) (text_of u) ≡ Greater = (options_total nat_list_cmp_total).antisymm (text_of t) (text_of u) ∙ ap ordering_reverse h in
-          ap (λ r. ordering_then r (compare_names t u)) (greater_numbers v w g) ∙ sym (ap (λ r. ordering_then r (nat_cmp (start_of t) (start_of u))) k)
+          let k : compare_texts (text_of t) (text_of u) ≡ Greater =
+              (options_total nat_list_cmp_total).antisymm (text_of t) (text_of u) ∙ ap ordering_reverse h in
+          ap (λ r. ordering_then r (compare_names t u)) (greater_numbers v w g)
+              ∙ sym (ap (λ r. ordering_then r (nat_cmp (start_of t) (start_of u))) k)
     ]
 
-pub worded_as_names : (s : Source) (d e : WordedName) → IsWorded s d → IsWorded s e → compare_worded s d e ≡ compare_names (name_in s d) (name_in s e)
+pub worded_as_names : (s : Source) (d e : WordedName) → IsWorded s d → IsWorded s e
+    → compare_worded s d e ≡ compare_names (name_in s d) (name_in s e)
 worded_as_names s d e h k = words_first (name_in s d) (name_in s e) (word_in d) (word_in e) h k
 
-pub less_as_earlier : (s : Source) (d e : WordedName) → IsWorded s d → IsWorded s e → is_lt (compare_worded s d e) ≡ is_earlier (name_in s d) (name_in s e)
+pub less_as_earlier : (s : Source) (d e : WordedName) → IsWorded s d → IsWorded s e
+    → is_lt (compare_worded s d e) ≡ is_earlier (name_in s d) (name_in s e)
 less_as_earlier s d e h k = ap is_lt (worded_as_names s d e h k)
 
 -- ---- one order of all
@@ -64,30 +71,48 @@ pub worded_order : (s : Source) → IsTotalOrder (compare_worded s)
 worded_order s = then_total (on_total word_in nat_cmp_total) (on_total (name_in s) order)
 
 -- those that are sorted by it have names in order
-each_later : (s : Source) (e : WordedName) (es : List WordedName) → IsWorded s e → All (IsWorded s) es → ((k : ℕ) (d : WordedName) → k < length es → is_lt (compare_worded s (get_or es k d) e) ≡ false) → All (λ u. is_earlier u (name_in s e) ≡ false) (names_in s es)
+each_later : (s : Source) (e : WordedName) (es : List WordedName) → IsWorded s e → All (IsWorded s) es
+    → ((k : ℕ) (d : WordedName) → k < length es → is_lt (compare_worded s (get_or es k d) e) ≡ false)
+    → All (λ u. is_earlier u (name_in s e) ≡ false) (names_in s es)
 each_later s e [] h a f = All-nil (λ u. is_earlier u (name_in s e) ≡ false)
 each_later s e (d ∷ es) h a f =
     let g = sym (less_as_earlier s d e (All-head (IsWorded s) d es a) h) ∙ f 0 d (omega arith) in
     let r = each_later s e es h (All-tail (IsWorded s) d es a) (λ k x l. f (suc k) x (omega arith)) in
     first_and g r
   where
-    first_and : is_earlier (name_in s d) (name_in s e) ≡ false → All (λ u. is_earlier u (name_in s e) ≡ false) (names_in s es) → All (λ u. is_earlier u (name_in s e) ≡ false) (names_in s (d ∷ es))
+    first_and : is_earlier (name_in s d) (name_in s e) ≡ false
+        → All (λ u. is_earlier u (name_in s e) ≡ false) (names_in s es)
+        → All (λ u. is_earlier u (name_in s e) ≡ false) (names_in s (d ∷ es))
     first_and g r zero x l = g
     first_and g r (suc k) x l = r k x (omega arith)
 
-pub ascend_by : (s : Source) (es : List WordedName) → All (IsWorded s) es → ((i j : ℕ) (d : WordedName) → i ≤ j → j < length es → is_lt (compare_worded s (get_or es j d) (get_or es i d)) ≡ false) → Ascend (names_in s es)
+pub ascend_by : (s : Source) (es : List WordedName) → All (IsWorded s) es
+    → ((i j : ℕ) (d : WordedName) → i ≤ j → j < length es → is_lt (compare_worded s (get_or es j d) (get_or es i d))
+    ≡ false) → Ascend (names_in s es)
 ascend_by s [] a f = tt
 ascend_by s (e ∷ es) a f =
-    (each_later s e es (All-head (IsWorded s) e es a) (All-tail (IsWorded s) e es a) (λ k d l. f 0 (suc k) d (omega arith) (omega arith)), ascend_by s es (All-tail (IsWorded s) e es a) (λ i j d h l. f (suc i) (suc j) d (omega arith) (omega arith)))
+    (each_later s e es (All-head (IsWorded s) e es a) (All-tail (IsWorded s) e es a)
+        (λ k d l. f 0 (suc k) d (omega arith) (omega arith)),
+        ascend_by s es (All-tail (IsWorded s) e es a) (λ i j d h l. f (suc i) (suc j) d (omega arith) (omega arith)))
 
-pub ascend_sorted : (s : Source) (es : List WordedName) → All (IsWorded s) es → IsSortedBy (λ d e. is_lt (compare_worded s d e)) es → Ascend (names_in s es)
-ascend_sorted s es a h = ascend_by s es a (sorted_far (λ d e. is_lt (compare_worded s d e)) (ranks_by (worded_order s) (λ e. e)) es h)
+pub ascend_sorted : (s : Source) (es : List WordedName) → All (IsWorded s) es
+    → IsSortedBy (λ d e. is_lt (compare_worded s d e)) es → Ascend (names_in s es)
+ascend_sorted s es a h =
+    ascend_by s es a (sorted_far (λ d e. is_lt (compare_worded s d e)) (ranks_by (worded_order s) (λ e. e)) es h)
 
 -- ---- what a closure that compares by an order has a sort do
 
-pub compares_as : {X F : Type 0} (R : X → X → Ordering) {g : Mut F (Bor X × (Bor X × Unit {0})) Ordering} {f : F} → ((a : Bor X × (Bor X × Unit {0})) (r : Ordering) (f' : F) → Called g f a r f' → (r ≡ R a.0.now a.1.0.now) × (f' ≡ f)) → ComparesAs g (λ d e. is_lt (R d e)) f
-compares_as R {g = g} {f = f} h = always_returns_same g (λ a r. is_lt r ≡ is_lt (R a.0.now a.1.0.now)) f (λ a r f' k. (ap is_lt (h a r f' k).0, (h a r f' k).1))
+pub compares_as : {X F : Type 0} (R : X → X → Ordering) {g : Mut F (Bor X × (Bor X × Unit {0})) Ordering} {f : F}
+    → ((a : Bor X × (Bor X × Unit {0})) (r : Ordering) (f' : F) → Called g f a r f' → (r ≡ R a.0.now a.1.0.now)
+    × (f' ≡ f)) → ComparesAs g (λ d e. is_lt (R d e)) f
+compares_as R {g = g} {f = f} h =
+    always_returns_same g (λ a r. is_lt r ≡ is_lt (R a.0.now a.1.0.now)) f
+        (λ a r f' k. (ap is_lt (h a r f' k).0, (h a r f' k).1))
 
 -- a copy of the front of a split has the least of all
-pub least_copied : (s : Source) (all front others copy : List WordedName) (next : WordedName) → copy ≡ front → IsPermutation all (front ++ next ∷ others) → IsSplitAroundBy (λ d e. is_lt (compare_worded s d e)) front next others → AreLeast s all copy next
-least_copied s all front others copy next e h k = subst (λ xs. AreLeast s all xs next) (sym e) (record { others = others; permutation = h; before = k.0; behind = k.1 })
+pub least_copied : (s : Source) (all front others copy : List WordedName) (next : WordedName) → copy ≡ front
+    → IsPermutation all (front ++ next ∷ others)
+    → IsSplitAroundBy (λ d e. is_lt (compare_worded s d e)) front next others → AreLeast s all copy next
+least_copied s all front others copy next e h k =
+    subst (λ xs. AreLeast s all xs next) (sym e)
+        (record { others = others; permutation = h; before = k.0; behind = k.1 })

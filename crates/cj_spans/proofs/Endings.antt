@@ -33,7 +33,8 @@ use Rattle.cj_spans.proofs.Verdicts.{spells, nest_of, sinks_deep, fronts_below, 
 
 -- ---- lines that have the same bytes up to a place
 
-transfer : {b : List ℕ} (c : List ℕ) (n : ℕ) → ((k : ℕ) → k < n → byte b k ≡ byte c k) → (s : State) → Reaches b start s → s.place ≤ n → Reaches c start s
+transfer : {b : List ℕ} (c : List ℕ) (n : ℕ) → ((k : ℕ) → k < n → byte b k ≡ byte c k) → (s : State) → Reaches b start s
+    → s.place ≤ n → Reaches c start s
 transfer c n same s here l = here
 transfer {b} c n same s (on t v r h) l =
     let p = next_place t v r h in
@@ -57,7 +58,8 @@ text_front b i l x =
     let w = state_before c v.at i v.reached (omega arith) in
     let e = w.place in
     let r = transfer b i (λ k h. sym (same_byte b x.rest i k l h)) w.at w.reached (omega arith) in
-    record { open_count = length w.at.stack; front = subst (λ n. Front b 0 n (length w.at.stack)) w.place (inv_front w.at (inv_reaches b w.at r)) }
+    record { open_count = length w.at.stack;
+        front = subst (λ n. Front b 0 n (length w.at.stack)) w.place (inv_front w.at (inv_reaches b w.at r)) }
 
 -- ---- the open containers and what closes them
 
@@ -91,7 +93,8 @@ closers (k ∷ ks) ts = closer (kind_at ts k) ∷ closers ks ts
 container_more : (ts us : List Token) (k : ℕ) → IsContainer (kind_at ts k) → IsContainer (kind_at (ts ++ us) k)
 container_more ts us k h = by_get (slice_get ts k) refl h
   where
-    by_get : (o : Option Token) → slice_get ts k ≡ o → IsContainer (option_map open_kind o) → IsContainer (kind_at (ts ++ us) k)
+    by_get : (o : Option Token) → slice_get ts k ≡ o → IsContainer (option_map open_kind o)
+        → IsContainer (kind_at (ts ++ us) k)
     by_get None e h = absurd h
     by_get (Some t) e h = subst (λ o. IsContainer (option_map open_kind o)) (sym (slice_get-append ts us k t e)) h
 
@@ -99,7 +102,8 @@ containers_more : (ks : List ℕ) (ts us : List Token) → AllContainers ks ts �
 containers_more [] ts us h = tt
 containers_more (k ∷ ks) ts us h = (container_more ts us k h.0, h.1, containers_more ks ts us h.2)
 
-container_last : (ts : List Token) (t : Token) → IsContainer (Some (open_kind t)) → IsContainer (kind_at (ts ++ t ∷ []) (length ts))
+container_last : (ts : List Token) (t : Token) → IsContainer (Some (open_kind t))
+    → IsContainer (kind_at (ts ++ t ∷ []) (length ts))
 container_last ts t h = subst (λ o. IsContainer (option_map open_kind o)) (sym (slice_get-seam ts [] t)) h
 
 container_below : (ts : List Token) (k : ℕ) → IsContainer (kind_at ts k) → k < length ts
@@ -112,19 +116,23 @@ containers_below [] ts h = tt
 containers_below (k ∷ ks) ts h = (container_below ts k h.0, containers_below ks ts h.2)
 
 -- inside a container whose token comes after ts
-just_inside : (ks : List ℕ) (ts : List Token) (t : Token) → IsContainer (Some (open_kind t)) → AllContainers ks ts → AllContainers (length ts ∷ ks) (ts ++ t ∷ [])
+just_inside : (ks : List ℕ) (ts : List Token) (t : Token) → IsContainer (Some (open_kind t)) → AllContainers ks ts
+    → AllContainers (length ts ∷ ks) (ts ++ t ∷ [])
 just_inside ks ts t h all = (container_last ts t h, containers_below ks ts all, containers_more ks ts (t ∷ []) all)
 
 -- the same with more tokens behind it
-inside : (ks : List ℕ) (ts : List Token) (t : Token) (us : List Token) → IsContainer (Some (open_kind t)) → AllContainers ks ts → AllContainers (length ts ∷ ks) ((ts ++ t ∷ []) ++ us)
+inside : (ks : List ℕ) (ts : List Token) (t : Token) (us : List Token) → IsContainer (Some (open_kind t))
+    → AllContainers ks ts → AllContainers (length ts ∷ ks) ((ts ++ t ∷ []) ++ us)
 inside ks ts t us h all = containers_more (length ts ∷ ks) (ts ++ t ∷ []) us (just_inside ks ts t h all)
 
 context_containers : {b : List ℕ} {e : ℕ} {ks : List ℕ} {ts : List Token} → Context b e ks ts → AllContainers ks ts
 context_containers (root e w) = tt
-context_containers (in_array e j k ks ts us c o l w) = inside ks ts (token_at e 0 0) (flatten_items (suc (length ts)) us) tt (context_containers c)
+context_containers (in_array e j k ks ts us c o l w) =
+    inside ks ts (token_at e 0 0) (flatten_items (suc (length ts)) us) tt (context_containers c)
 context_containers (in_member e j k l ks ts us n c o m d w) =
     let fs = flatten_members (suc (length ts)) us in
-    containers_more (length ts ∷ ks) ((ts ++ token_at e 0 1 ∷ []) ++ fs) _ (inside ks ts (token_at e 0 1) fs tt (context_containers c))
+    containers_more (length ts ∷ ks) ((ts ++ token_at e 0 1 ∷ []) ++ fs) _
+        (inside ks ts (token_at e 0 1) fs tt (context_containers c))
 
 -- a token that is written anew leaves those before it as they are
 kind_set : (ts : List Token) (k j : ℕ) (u : Token) → j < k → kind_at (slice_set ts k u) j ≡ kind_at ts j
@@ -133,13 +141,17 @@ kind_set (z ∷ ts) zero j u l = absurd (omega arith)
 kind_set (z ∷ ts) (suc k) zero u l = refl
 kind_set (z ∷ ts) (suc k) (suc j) u l = kind_set ts k j u (omega arith)
 
-containers_set : (ks : List ℕ) (ts : List Token) (k : ℕ) (u : Token) → AreBelow k ks → AllContainers ks ts → AllContainers ks (slice_set ts k u)
+containers_set : (ks : List ℕ) (ts : List Token) (k : ℕ) (u : Token) → AreBelow k ks → AllContainers ks ts
+    → AllContainers ks (slice_set ts k u)
 containers_set [] ts k u l h = tt
-containers_set (j ∷ ks) ts k u l h = (subst IsContainer (sym (kind_set ts k j u l.0)) h.0, h.1, containers_set ks ts k u l.1 h.2)
+containers_set (j ∷ ks) ts k u l h =
+    (subst IsContainer (sym (kind_set ts k j u l.0)) h.0, h.1, containers_set ks ts k u l.1 h.2)
 
-closers_set : (ks : List ℕ) (ts : List Token) (k : ℕ) (u : Token) → AreBelow k ks → closers ks (slice_set ts k u) ≡ closers ks ts
+closers_set : (ks : List ℕ) (ts : List Token) (k : ℕ) (u : Token) → AreBelow k ks
+    → closers ks (slice_set ts k u) ≡ closers ks ts
 closers_set [] ts k u l = refl
-closers_set (j ∷ ks) ts k u l = ap (λ z. closer z ∷ closers ks (slice_set ts k u)) (kind_set ts k j u l.0) ∙ ap (λ zs. closer (kind_at ts j) ∷ zs) (closers_set ks ts k u l.1)
+closers_set (j ∷ ks) ts k u l = ap (λ z. closer z ∷ closers ks (slice_set ts k u)) (kind_set ts k j u l.0)
+    ∙ ap (λ zs. closer (kind_at ts j) ∷ zs) (closers_set ks ts k u l.1)
 
 -- from the place j on, the line has these bytes and no more
 record Has (c : List ℕ) (j : ℕ) (cs : List ℕ) : Type 0 where
@@ -152,12 +164,17 @@ has_head c j x cs h = let e : j ≡ j + 0 = omega arith in ap (byte c) e ∙ h.b
 has_tail : (c : List ℕ) (j x : ℕ) (cs : List ℕ) → Has c j (x ∷ cs) → Has c (suc j) cs
 has_tail c j x cs h =
     let w = h.whole in
-    record { whole = omega arith; bytes = λ n l. let e : suc j + n ≡ j + suc n = omega arith in ap (byte c) e ∙ h.bytes (suc n) (omega arith) }
+    record { whole = omega arith; bytes = λ n l. let e : suc j + n ≡ j + suc n = omega arith in
+        ap (byte c) e ∙ h.bytes (suc n) (omega arith) }
 
-close_step : (k : ℕ) (ks : List ℕ) (ts : List Token) (j p : ℕ) (t : Token) (kd : Kind) → slice_get ts k ≡ Some t → open_kind t ≡ kd → IsContainer (Some kd)
-    → step (closer (Some kd)) (idle After (k ∷ ks) ts j p) ≡ Some (idle After ks (slice_set ts k (token_at t.start (suc j) (length ts))) (suc j) p)
-close_step k ks ts j p t Array e q h = let s = idle After (k ∷ ks) ts j p in ap (λ o. after_token 93 k o s) e ∙ ap (λ z. after_in z 93 k t s) q
-close_step k ks ts j p t Object e q h = let s = idle After (k ∷ ks) ts j p in ap (λ o. after_token 125 k o s) e ∙ ap (λ z. after_in z 125 k t s) q
+close_step : (k : ℕ) (ks : List ℕ) (ts : List Token) (j p : ℕ) (t : Token) (kd : Kind) → slice_get ts k ≡ Some t
+    → open_kind t ≡ kd → IsContainer (Some kd)
+    → step (closer (Some kd)) (idle After (k ∷ ks) ts j p)
+    ≡ Some (idle After ks (slice_set ts k (token_at t.start (suc j) (length ts))) (suc j) p)
+close_step k ks ts j p t Array e q h = let s = idle After (k ∷ ks) ts j p in
+    ap (λ o. after_token 93 k o s) e ∙ ap (λ z. after_in z 93 k t s) q
+close_step k ks ts j p t Object e q h = let s = idle After (k ∷ ks) ts j p in
+    ap (λ o. after_token 125 k o s) e ∙ ap (λ z. after_in z 125 k t s) q
 close_step k ks ts j p t _ e q h = absurd h
 
 closer_end : (kd : Kind) → IsContainer (Some kd) → IsEnd (closer (Some kd))
@@ -171,16 +188,21 @@ record Ended (c : List ℕ) (p : ℕ) : Type 0 where
   arrives : Arrives c start (idle After [] tokens (length c) p)
 
 -- one container is closed
-close_one : (c : List ℕ) (ks : List ℕ) (ts : List Token) (k j p : ℕ) (o : Option Token) → slice_get ts k ≡ o → Arrives c start (idle After (k ∷ ks) ts j p) → IsContainer (option_map open_kind o) → byte c j ≡ closer (option_map open_kind o)
+close_one : (c : List ℕ) (ks : List ℕ) (ts : List Token) (k j p : ℕ) (o : Option Token) → slice_get ts k ≡ o
+    → Arrives c start (idle After (k ∷ ks) ts j p) → IsContainer (option_map open_kind o)
+    → byte c j ≡ closer (option_map open_kind o)
     → ((u : Token) → Reaches c start (idle After ks (slice_set ts k u) (suc j) p) → Ended c p) → Ended c p
 close_one c ks ts k j p None e a h b next = absurd h
 close_one c ks ts k j p (Some t) e a h b next =
     let u = token_at t.start (suc j) (length ts) in
     let s = idle After (k ∷ ks) ts j p in
-    let r = arrive_on c start s (idle After ks (slice_set ts k u) (suc j) p) (subst IsEnd (sym b) (closer_end (open_kind t) h)) a (ap (λ z. step z s) b ∙ close_step k ks ts j p t (open_kind t) e refl h) in
+    let r = arrive_on c start s (idle After ks (slice_set ts k u) (suc j) p)
+        (subst IsEnd (sym b) (closer_end (open_kind t) h)) a
+        (ap (λ z. step z s) b ∙ close_step k ks ts j p t (open_kind t) e refl h) in
     next u r
 
-close_all : (ks : List ℕ) (c cs : List ℕ) (ts : List Token) (j p : ℕ) → Arrives c start (idle After ks ts j p) → AllContainers ks ts → closers ks ts ≡ cs → Has c j cs → Ended c p
+close_all : (ks : List ℕ) (c cs : List ℕ) (ts : List Token) (j p : ℕ) → Arrives c start (idle After ks ts j p)
+    → AllContainers ks ts → closers ks ts ≡ cs → Has c j cs → Ended c p
 close_all [] c cs ts j p a all e h =
     let n : length cs ≡ 0 = sym (ap length e) in
     let w = h.whole in
@@ -188,32 +210,44 @@ close_all [] c cs ts j p a all e h =
     record { tokens = ts; arrives = subst (λ z. Arrives c start (idle After [] ts z p)) q a }
 close_all (k ∷ ks) c cs ts j p a all e h =
     close_one c ks ts k j p (slice_get ts k) refl a all.0 (has_head c j _ _ (subst (Has c j) (sym e) h)) (λ u r.
-    close_all ks c (closers ks ts) (slice_set ts k u) (suc j) p (arrived c start After ks (slice_set ts k u) (suc j) p r) (containers_set ks ts k u all.1 all.2) (closers_set ks ts k u all.1)
+    close_all ks c (closers ks ts) (slice_set ts k u) (suc j) p
+        (arrived c start After ks (slice_set ts k u) (suc j) p r) (containers_set ks ts k u all.1 all.2)
+        (closers_set ks ts k u all.1)
     (has_tail c j _ _ (subst (Has c j) (sym e) h)))
 
 -- ---- a value after the front
 
 -- a number after a place where a value may begin
-zero_step : (m : Mode) (ks : List ℕ) (ts : List Token) (j p : ℕ) → BeginsValue m → step 48 (idle m ks ts j p) ≡ Some (state (in_atom After j Zero) ks ts (suc j) p)
+zero_step : (m : Mode) (ks : List ℕ) (ts : List Token) (j p : ℕ) → BeginsValue m
+    → step 48 (idle m ks ts j p) ≡ Some (state (in_atom After j Zero) ks ts (suc j) p)
 zero_step Ready ks ts j p h = refl
 zero_step FirstItem ks ts j p h = refl
 zero_step _ ks ts j p h = absurd h
 
-read_zero : (c : List ℕ) (m : Mode) (ks : List ℕ) (ts : List Token) (j p : ℕ) → BeginsValue m → byte c j ≡ 48 → Reaches c start (idle m ks ts j p) → Arrives c start (idle After ks (ts ++ token_at j (suc j) (suc (length ts)) ∷ []) (suc j) p)
+read_zero : (c : List ℕ) (m : Mode) (ks : List ℕ) (ts : List Token) (j p : ℕ) → BeginsValue m → byte c j ≡ 48
+    → Reaches c start (idle m ks ts j p)
+    → Arrives c start (idle After ks (ts ++ token_at j (suc j) (suc (length ts)) ∷ []) (suc j) p)
 read_zero c m ks ts j p h e r = record {
   at = state (in_atom After j Zero) ks ts (suc j) p;
-  reached = on (idle m ks ts j p) (state (in_atom After j Zero) ks ts (suc j) p) r (ap (λ z. step z (idle m ks ts j p)) e ∙ zero_step m ks ts j p h);
+  reached = on (idle m ks ts j p) (state (in_atom After j Zero) ks ts (suc j) p) r
+      (ap (λ z. step z (idle m ks ts j p)) e ∙ zero_step m ks ts j p h);
   settles = refl;
 }
 
-read_colon : (c : List ℕ) (ks : List ℕ) (ts : List Token) (j p : ℕ) → byte c j ≡ 58 → Arrives c start (idle AfterName ks ts j p) → Reaches c start (idle Ready ks ts (suc j) p)
-read_colon c ks ts j p e a = arrive_on c start (idle AfterName ks ts j p) (idle Ready ks ts (suc j) p) (subst IsEnd (sym e) colon) a (ap (λ z. step z (idle AfterName ks ts j p)) e)
+read_colon : (c : List ℕ) (ks : List ℕ) (ts : List Token) (j p : ℕ) → byte c j ≡ 58
+    → Arrives c start (idle AfterName ks ts j p) → Reaches c start (idle Ready ks ts (suc j) p)
+read_colon c ks ts j p e a =
+    arrive_on c start (idle AfterName ks ts j p) (idle Ready ks ts (suc j) p) (subst IsEnd (sym e) colon) a
+        (ap (λ z. step z (idle AfterName ks ts j p)) e)
 
-read_value : (c : List ℕ) (ks : List ℕ) (ts : List Token) (j p : ℕ) → byte c j ≡ 58 → byte c (suc j) ≡ 48 → Arrives c start (idle AfterName ks ts j p) → Arrives c start (idle After ks (ts ++ token_at (suc j) (suc (suc j)) (suc (length ts)) ∷ []) (suc (suc j)) p)
+read_value : (c : List ℕ) (ks : List ℕ) (ts : List Token) (j p : ℕ) → byte c j ≡ 58 → byte c (suc j) ≡ 48
+    → Arrives c start (idle AfterName ks ts j p)
+    → Arrives c start (idle After ks (ts ++ token_at (suc j) (suc (suc j)) (suc (length ts)) ∷ []) (suc (suc j)) p)
 read_value c ks ts j p e f a = read_zero c Ready ks ts (suc j) p tt f (read_colon c ks ts j p e a)
 
 -- an empty name
-read_name : (c : List ℕ) (m : Mode) (ks : List ℕ) (ts : List Token) (j p : ℕ) → BeginsName m → byte c j ≡ 34 → byte c (suc j) ≡ 34 → Reaches c start (idle m ks ts j p)
+read_name : (c : List ℕ) (m : Mode) (ks : List ℕ) (ts : List Token) (j p : ℕ) → BeginsName m → byte c j ≡ 34
+    → byte c (suc j) ≡ 34 → Reaches c start (idle m ks ts j p)
     → Arrives c start (idle AfterName ks (ts ++ token_at j (suc (suc j)) (suc (length ts)) ∷ []) (suc (suc j)) p)
 read_name c m ks ts j p h e f r =
     let s = state (in_atom AfterName j InString) ks ts (suc j) p in
@@ -224,9 +258,14 @@ read_name c m ks ts j p h e f r =
       settles = refl;
     }
 
-read_member : (c : List ℕ) (m : Mode) (ks : List ℕ) (ts : List Token) (j p : ℕ) → BeginsName m → byte c j ≡ 34 → byte c (suc j) ≡ 34 → byte c (suc (suc j)) ≡ 58 → byte c (suc (suc (suc j))) ≡ 48 → Reaches c start (idle m ks ts j p)
-    → Arrives c start (idle After ks (let us = with_name ts j (suc (suc j)) in us ++ token_at (suc (suc (suc j))) (suc (suc (suc (suc j)))) (suc (length us)) ∷ []) (suc (suc (suc (suc j)))) p)
-read_member c m ks ts j p h e f g i r = read_value c ks (with_name ts j (suc (suc j))) (suc (suc j)) p g i (read_name c m ks ts j p h e f r)
+read_member : (c : List ℕ) (m : Mode) (ks : List ℕ) (ts : List Token) (j p : ℕ) → BeginsName m → byte c j ≡ 34
+    → byte c (suc j) ≡ 34 → byte c (suc (suc j)) ≡ 58 → byte c (suc (suc (suc j))) ≡ 48
+    → Reaches c start (idle m ks ts j p)
+    → Arrives c start (idle After ks (let us = with_name ts j (suc (suc j)) in
+            us ++ token_at (suc (suc (suc j))) (suc (suc (suc (suc j)))) (suc (length us)) ∷ [])
+        (suc (suc (suc (suc j)))) p)
+read_member c m ks ts j p h e f g i r =
+    read_value c ks (with_name ts j (suc (suc j))) (suc (suc j)) p g i (read_name c m ks ts j p h e f r)
 
 -- bytes after which the value that is begun, or is to come, has ended
 record Finish (s : State) : Type 0 where
@@ -234,31 +273,39 @@ record Finish (s : State) : Type 0 where
   stack : List ℕ
   tokens : List Token
   containers : AllContainers stack tokens
-  goes : (c : List ℕ) → Reaches c start s → ((n : ℕ) → n < length rest → byte c (s.place + n) ≡ get_or rest n 0) → Arrives c start (idle After stack tokens (s.place + length rest) s.deepest)
+  goes : (c : List ℕ) → Reaches c start s → ((n : ℕ) → n < length rest → byte c (s.place + n) ≡ get_or rest n 0)
+      → Arrives c start (idle After stack tokens (s.place + length rest) s.deepest)
 
 place_at : (c : List ℕ) (j k x : ℕ) → j ≡ k → byte c k ≡ x → byte c j ≡ x
 place_at c j k x e h = ap (byte c) e ∙ h
 
-arrives_at : (c ks : List ℕ) (ts : List Token) (j k p : ℕ) → j ≡ k → Arrives c start (idle After ks ts j p) → Arrives c start (idle After ks ts k p)
+arrives_at : (c ks : List ℕ) (ts : List Token) (j k p : ℕ) → j ≡ k → Arrives c start (idle After ks ts j p)
+    → Arrives c start (idle After ks ts k p)
 arrives_at c ks ts j k p e a = subst (λ z. Arrives c start (idle After ks ts z p)) e a
 
-finish_value : (m : Mode) (k p : ℕ) (ks : List ℕ) (ts : List Token) → BeginsValue m → AllContainers ks ts → Finish (idle m ks ts k p)
+finish_value : (m : Mode) (k p : ℕ) (ks : List ℕ) (ts : List Token) → BeginsValue m → AllContainers ks ts
+    → Finish (idle m ks ts k p)
 finish_value m k p ks ts h all = record {
   rest = 48 ∷ [];
   stack = ks;
   tokens = ts ++ token_at k (suc k) (suc (length ts)) ∷ [];
   containers = containers_more ks ts _ all;
-  goes = λ c r b. arrives_at c ks _ (suc k) (k + 1) p (omega arith) (read_zero c m ks ts k p h (place_at c k (k + 0) 48 (omega arith) (b 0 (omega arith))) r);
+  goes = λ c r b. arrives_at c ks _ (suc k) (k + 1) p (omega arith)
+      (read_zero c m ks ts k p h (place_at c k (k + 0) 48 (omega arith) (b 0 (omega arith))) r);
 }
 
-finish_name : (m : Mode) (k p : ℕ) (ks : List ℕ) (ts : List Token) → BeginsName m → AllContainers ks ts → Finish (idle m ks ts k p)
+finish_name : (m : Mode) (k p : ℕ) (ks : List ℕ) (ts : List Token) → BeginsName m → AllContainers ks ts
+    → Finish (idle m ks ts k p)
 finish_name m k p ks ts h all = record {
   rest = 34 ∷ 34 ∷ 58 ∷ 48 ∷ [];
   stack = ks;
-  tokens = let us = with_name ts k (suc (suc k)) in us ++ token_at (suc (suc (suc k))) (suc (suc (suc (suc k)))) (suc (length us)) ∷ [];
+  tokens = let us = with_name ts k (suc (suc k)) in
+      us ++ token_at (suc (suc (suc k))) (suc (suc (suc (suc k)))) (suc (length us)) ∷ [];
   containers = containers_more ks _ _ (containers_more ks ts _ all);
   goes = λ c r b. arrives_at c ks _ (suc (suc (suc (suc k)))) (k + 4) p (omega arith)
-      (read_member c m ks ts k p h (place_at c k (k + 0) 34 (omega arith) (b 0 (omega arith))) (place_at c (suc k) (k + 1) 34 (omega arith) (b 1 (omega arith))) (place_at c (suc (suc k)) (k + 2) 58 (omega arith) (b 2 (omega arith)))
+      (read_member c m ks ts k p h (place_at c k (k + 0) 34 (omega arith) (b 0 (omega arith)))
+          (place_at c (suc k) (k + 1) 34 (omega arith) (b 1 (omega arith)))
+          (place_at c (suc (suc k)) (k + 2) 58 (omega arith) (b 2 (omega arith)))
       (place_at c (suc (suc (suc k))) (k + 3) 48 (omega arith) (b 3 (omega arith))) r);
 }
 
@@ -278,10 +325,12 @@ finish_colon k p ks ts all = record {
   tokens = ts ++ token_at (suc k) (suc (suc k)) (suc (length ts)) ∷ [];
   containers = containers_more ks ts _ all;
   goes = λ c r b. arrives_at c ks _ (suc (suc k)) (k + 2) p (omega arith)
-      (read_value c ks ts k p (place_at c k (k + 0) 58 (omega arith) (b 0 (omega arith))) (place_at c (suc k) (k + 1) 48 (omega arith) (b 1 (omega arith))) (arrived c start AfterName ks ts k p r));
+      (read_value c ks ts k p (place_at c k (k + 0) 58 (omega arith) (b 0 (omega arith)))
+          (place_at c (suc k) (k + 1) 48 (omega arith) (b 1 (omega arith))) (arrived c start AfterName ks ts k p r));
 }
 
-finish_scalar : (e k p : ℕ) (ks : List ℕ) (ts : List Token) (x : Lex) → AllContainers ks ts → Finish (state (in_atom After e x) ks ts k p)
+finish_scalar : (e k p : ℕ) (ks : List ℕ) (ts : List Token) (x : Lex) → AllContainers ks ts
+    → Finish (state (in_atom After e x) ks ts k p)
 finish_scalar e k p ks ts x all =
     let z = can_end x in
     record {
@@ -298,14 +347,16 @@ finish_scalar e k p ks ts x all =
 
 seam_byte : (xs ys : List ℕ) (n : ℕ) → get_or (xs ++ ys) (length xs + n) 0 ≡ get_or ys n 0
 seam_byte [] ys n = let e : 0 + n ≡ n = omega arith in ap (λ z. get_or ys z 0) e
-seam_byte (x ∷ xs) ys n = let e : suc (length xs) + n ≡ suc (length xs + n) = omega arith in ap (λ z. get_or (x ∷ (xs ++ ys)) z 0) e ∙ seam_byte xs ys n
+seam_byte (x ∷ xs) ys n = let e : suc (length xs) + n ≡ suc (length xs + n) = omega arith in
+    ap (λ z. get_or (x ∷ (xs ++ ys)) z 0) e ∙ seam_byte xs ys n
 
 front_byte : (xs ys : List ℕ) (n : ℕ) → n < length xs → get_or (xs ++ ys) n 0 ≡ get_or xs n 0
 front_byte [] ys n h = absurd (omega arith)
 front_byte (x ∷ xs) ys zero h = refl
 front_byte (x ∷ xs) ys (suc n) h = front_byte xs ys n (omega arith)
 
-finish_in_name : {b : List ℕ} (l k p : ℕ) (ks : List ℕ) (ts : List Token) (x : Lex) → InAtom b l k x → byte b l ≡ 34 → AllContainers ks ts → Finish (state (in_atom AfterName l x) ks ts k p)
+finish_in_name : {b : List ℕ} (l k p : ℕ) (ks : List ℕ) (ts : List Token) (x : Lex) → InAtom b l k x → byte b l ≡ 34
+    → AllContainers ks ts → Finish (state (in_atom AfterName l x) ks ts k p)
 finish_in_name l k p ks ts x w q all =
     let z = text_end x (in_text w q) in
     let n = length z.rest in
@@ -317,26 +368,36 @@ finish_in_name l k p ks ts x w q all =
       tokens = us ++ token_at (suc (k + n)) (suc (suc (k + n))) (suc (length us)) ∷ [];
       containers = containers_more ks us _ (containers_more ks ts _ all);
       goes = λ c r b.
-          let f = continues_run z.rest c k k x x StringDone still z.run (λ i h. b i (omega arith) ∙ front_byte z.rest (58 ∷ 48 ∷ []) i h) in
+          let f = continues_run z.rest c k k x x StringDone still z.run
+              (λ i h. b i (omega arith) ∙ front_byte z.rest (58 ∷ 48 ∷ []) i h) in
           let s = state (in_atom AfterName l StringDone) ks ts (k + n) p in
-          let a : Arrives c start (idle AfterName ks us (k + n) p) = record { at = s; reached = continues_reaches f start AfterName l ks ts p r; settles = refl } in
+          let a : Arrives c start (idle AfterName ks us (k + n) p) =
+              record { at = s; reached = continues_reaches f start AfterName l ks ts p r; settles = refl } in
           arrives_at c ks _ (suc (suc (k + n))) (k + length (z.rest ++ 58 ∷ 48 ∷ [])) p (omega arith)
           (read_value c ks us (k + n) p
-          (place_at c (k + n) (k + (n + 0)) 58 (omega arith) (b (n + 0) (omega arith) ∙ seam_byte z.rest (58 ∷ 48 ∷ []) 0))
-          (place_at c (suc (k + n)) (k + (n + 1)) 48 (omega arith) (b (n + 1) (omega arith) ∙ seam_byte z.rest (58 ∷ 48 ∷ []) 1)) a);
+          (place_at c (k + n) (k + (n + 0)) 58 (omega arith)
+              (b (n + 0) (omega arith) ∙ seam_byte z.rest (58 ∷ 48 ∷ []) 0))
+          (place_at c (suc (k + n)) (k + (n + 1)) 48 (omega arith)
+              (b (n + 1) (omega arith) ∙ seam_byte z.rest (58 ∷ 48 ∷ []) 1)) a);
     }
 
 finish : {b : List ℕ} (s : State) → Inv b s → Finish s
 finish s (ready k p ks ts c) = finish_value Ready k p ks ts tt (context_containers c)
-finish s (first_item e k p ks ts c o w) = let t = token_at e 0 0 in finish_value FirstItem k p (length ts ∷ ks) (ts ++ t ∷ []) tt (just_inside ks ts t tt (context_containers c))
-finish s (after_tree e j k p ks ts t c v w) = finish_tree k p ks (ts ++ flatten (length ts) t) (containers_more ks ts (flatten (length ts) t) (context_containers c))
-finish s (first_name e k p ks ts c o w) = let t = token_at e 0 1 in finish_name FirstName k p (length ts ∷ ks) (ts ++ t ∷ []) tt (just_inside ks ts t tt (context_containers c))
+finish s (first_item e k p ks ts c o w) = let t = token_at e 0 0 in
+    finish_value FirstItem k p (length ts ∷ ks) (ts ++ t ∷ []) tt (just_inside ks ts t tt (context_containers c))
+finish s (after_tree e j k p ks ts t c v w) =
+    finish_tree k p ks (ts ++ flatten (length ts) t)
+        (containers_more ks ts (flatten (length ts) t) (context_containers c))
+finish s (first_name e k p ks ts c o w) = let t = token_at e 0 1 in
+    finish_name FirstName k p (length ts ∷ ks) (ts ++ t ∷ []) tt (just_inside ks ts t tt (context_containers c))
 finish s (next_name e j k p ks ts us c o l w) =
     let t = token_at e 0 1 in let fs = flatten_members (suc (length ts)) us in
     finish_name NextName k p (length ts ∷ ks) ((ts ++ t ∷ []) ++ fs) tt (inside ks ts t fs tt (context_containers c))
 finish s (after_name e j l m k p ks ts us c o ld w0 wd w) =
-    let t = token_at e 0 1 in let fs = flatten_members (suc (length ts)) us in let n = token_at l m (suc (length ((ts ++ t ∷ []) ++ fs))) in
-    finish_colon k p (length ts ∷ ks) (((ts ++ t ∷ []) ++ fs) ++ n ∷ []) (containers_more (length ts ∷ ks) ((ts ++ t ∷ []) ++ fs) (n ∷ []) (inside ks ts t fs tt (context_containers c)))
+    let t = token_at e 0 1 in let fs = flatten_members (suc (length ts)) us in
+    let n = token_at l m (suc (length ((ts ++ t ∷ []) ++ fs))) in
+    finish_colon k p (length ts ∷ ks) (((ts ++ t ∷ []) ++ fs) ++ n ∷ [])
+        (containers_more (length ts ∷ ks) ((ts ++ t ∷ []) ++ fs) (n ∷ []) (inside ks ts t fs tt (context_containers c)))
 finish s (in_scalar e k p ks ts x c w) = finish_scalar e k p ks ts x (context_containers c)
 finish s (in_name e j l k p ks ts us x c o ld w0 q w) =
     let t = token_at e 0 1 in let fs = flatten_members (suc (length ts)) us in
@@ -362,7 +423,8 @@ state_text b i l s reached e =
     let w2 = length-append z.rest cs in
     let h : Has c (s.place + m) cs = record {
       whole = omega arith;
-      bytes = λ n g. (let q : (s.place + m) + n ≡ i + (m + n) = omega arith in ap (byte c) q) ∙ rest_byte b rest i (m + n) l ∙ seam_byte z.rest cs n;
+      bytes = λ n g. (let q : (s.place + m) + n ≡ i + (m + n) = omega arith in ap (byte c) q)
+          ∙ rest_byte b rest i (m + n) l ∙ seam_byte z.rest cs n;
     } in
     let d = close_all z.stack c cs z.tokens (s.place + m) s.deepest a z.containers refl h in
     let t = spells d.arrives.at (inv_reaches c d.arrives.at d.arrives.reached) d.tokens s.deepest d.arrives.settles in
@@ -372,7 +434,8 @@ state_text b i l s reached e =
     }
 
 pub front_text : (b : List ℕ) (i : ℕ) → i ≤ length b → IsFront b i → BeginsText b i
-front_text b i l f = let v = front_runs f.front start Ready [] [] 0 tt here in (state_text b i l v.at v.reached v.place).text
+front_text b i l f = let v = front_runs f.front start Ready [] [] 0 tt here in
+    (state_text b i l v.at v.reached v.place).text
 
 -- the place of a fault, told by texts
 pub first_fault : (b : List ℕ) (i : ℕ) → SyntaxAt b i → IsFirstFault b i
@@ -396,7 +459,8 @@ first_fault b i s =
 -- a text has none
 pub text_no_fault : (b : List ℕ) (t : Tree) → Json b t → (i : ℕ) → IsFirstFault b i → ⊥
 text_no_fault b t j i f = elim (eq-or-lt_of_le f.within) [
-  | inr l ↦ f.here l (record { rest = drop (suc i) b; tree = t; json = subst (λ c. Json c t) (sym (take-append-drop (suc i) b)) j })
+  | inr l ↦ f.here l (record
+      { rest = drop (suc i) b; tree = t; json = subst (λ c. Json c t) (sym (take-append-drop (suc i) b)) j })
   | inl e ↦ f.whole e t j
 ]
 
@@ -437,9 +501,14 @@ first_too_deep b d i a =
         (t.text, omega arith)
 
 -- the clauses of the scan, under the limit that the stack had before it was emptied
-module _ (X : Type 0) (b : List ℕ) (old_stack empty_stack new_stack : BoundedList ℕ) (new : BoundedList Token) (d : Cleared old_stack empty_stack) where
-  pub answers_first_too_deep : (r : Result X LineFault) (i : ℕ) → RunAnswers b empty_stack r new new_stack → r ≡ Err (TooDeep i) → IsFirstTooDeep b old_stack.limit i
-  answers_first_too_deep r i a e = subst (λ n. IsFirstTooDeep b n i) d.limit (first_too_deep b empty_stack.limit i (subst (λ z. RunAnswers b empty_stack z new new_stack) e a))
+module _ (X : Type 0) (b : List ℕ) (old_stack empty_stack new_stack : BoundedList ℕ) (new : BoundedList Token)
+    (d : Cleared old_stack empty_stack) where
+  pub answers_first_too_deep : (r : Result X LineFault) (i : ℕ) → RunAnswers b empty_stack r new new_stack
+      → r ≡ Err (TooDeep i) → IsFirstTooDeep b old_stack.limit i
+  answers_first_too_deep r i a e =
+      subst (λ n. IsFirstTooDeep b n i) d.limit
+          (first_too_deep b empty_stack.limit i (subst (λ z. RunAnswers b empty_stack z new new_stack) e a))
 
-  pub answers_first_fault : (r : Result X LineFault) (i : ℕ) → RunAnswers b empty_stack r new new_stack → r ≡ Err (Syntax i) → IsFirstFault b i
+  pub answers_first_fault : (r : Result X LineFault) (i : ℕ) → RunAnswers b empty_stack r new new_stack
+      → r ≡ Err (Syntax i) → IsFirstFault b i
   answers_first_fault r i a e = first_fault b i (run_syntax X b empty_stack new new_stack r i a e).0

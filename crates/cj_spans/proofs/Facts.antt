@@ -67,92 +67,133 @@ reach_more AfterName i = omega arith
 
 module _ (i p : ℕ) (ts : List Token) where
   -- to a mode at the next place
-  goes_to : (m : Mode) (ks : List ℕ) → length ks ≤ i → length ks ≤ p → 2 * length ts ≤ reach_in m (suc i) + length ks → Goes i p (idle m ks ts (suc i) p)
-  goes_to m ks o d c = record { place = refl; deepest = omega arith; lawful = record { open_count = omega arith; deep = d; token_count = c; began = tt } }
+  goes_to : (m : Mode) (ks : List ℕ) → length ks ≤ i → length ks ≤ p → 2 * length ts ≤ reach_in m (suc i) + length ks
+      → Goes i p (idle m ks ts (suc i) p)
+  goes_to m ks o d c =
+      record { place = refl; deepest = omega arith;
+          lawful = record { open_count = omega arith; deep = d; token_count = c; began = tt } }
 
   -- into a scalar or a name
-  goes_atom : (m : Mode) (x : Lex) (ks : List ℕ) → EndsAtom m → length ks ≤ i → length ks ≤ p → 2 * length ts ≤ i + length ks → Goes i p (state (in_atom m i x) ks ts (suc i) p)
-  goes_atom m x ks e o d c = record { place = refl; deepest = omega arith; lawful = record { open_count = omega arith; deep = d; token_count = c; began = (omega arith, e) } }
+  goes_atom : (m : Mode) (x : Lex) (ks : List ℕ) → EndsAtom m → length ks ≤ i → length ks ≤ p
+      → 2 * length ts ≤ i + length ks → Goes i p (state (in_atom m i x) ks ts (suc i) p)
+  goes_atom m x ks e o d c =
+      record { place = refl; deepest = omega arith;
+          lawful = record { open_count = omega arith; deep = d; token_count = c; began = (omega arith, e) } }
 
   -- into a container
-  goes_open : (m : Mode) (l : ℕ) (ks : List ℕ) → length ks ≤ i → 2 * length ts ≤ i + length ks → 2 * suc (length ts) ≤ reach_in m (suc i) + suc (length ks)
+  goes_open : (m : Mode) (l : ℕ) (ks : List ℕ) → length ks ≤ i → 2 * length ts ≤ i + length ks
+      → 2 * suc (length ts) ≤ reach_in m (suc i) + suc (length ks)
       → Goes i p (idle m (length ts ∷ ks) (ts ++ token_at i 0 l ∷ []) (suc i) (max p (suc (length ks))))
   goes_open m l ks o c g =
       let e : length (ts ++ token_at i 0 l ∷ []) ≡ length ts + 1 = length-append ts (token_at i 0 l ∷ []) in
-      record { place = refl; deepest = refl; lawful = record { open_count = omega arith; deep = omega arith; token_count = omega arith; began = tt } }
+      record { place = refl; deepest = refl;
+          lawful = record { open_count = omega arith; deep = omega arith; token_count = omega arith; began = tt } }
 
-  goes_lex : (ks : List ℕ) (o : Option Lex) → length ks ≤ i → length ks ≤ p → 2 * length ts ≤ i + length ks → GoesIf i p (option_map (λ x. state (in_atom After i x) ks ts (suc i) p) o)
+  goes_lex : (ks : List ℕ) (o : Option Lex) → length ks ≤ i → length ks ≤ p → 2 * length ts ≤ i + length ks
+      → GoesIf i p (option_map (λ x. state (in_atom After i x) ks ts (suc i) p) o)
   goes_lex ks None o d c = tt
   goes_lex ks (Some x) o d c = goes_atom After x ks tt o d c
 
-  goes_begin : (c : ℕ) (m : Mode) (ks : List ℕ) → length ks ≤ i → length ks ≤ p → 2 * length ts ≤ i + length ks → GoesIf i p (begin_value c (idle m ks ts i p))
+  goes_begin : (c : ℕ) (m : Mode) (ks : List ℕ) → length ks ≤ i → length ks ≤ p → 2 * length ts ≤ i + length ks
+      → GoesIf i p (begin_value c (idle m ks ts i p))
   goes_begin c m ks o d n =
-      goes_cond i p (nat_eq c 91) _ _ (goes_open FirstItem 0 ks o n (omega arith)) (goes_cond i p (nat_eq c 123) _ _ (goes_open FirstName 1 ks o n (omega arith)) (goes_lex ks (lex_start c) o d n))
+      goes_cond i p (nat_eq c 91) _ _ (goes_open FirstItem 0 ks o n (omega arith))
+          (goes_cond i p (nat_eq c 123) _ _ (goes_open FirstName 1 ks o n (omega arith))
+          (goes_lex ks (lex_start c) o d n))
 
-  goes_name : (c : ℕ) (m : Mode) (ks : List ℕ) → length ks ≤ i → length ks ≤ p → 2 * length ts ≤ i + length ks → GoesIf i p (begin_name c (idle m ks ts i p))
+  goes_name : (c : ℕ) (m : Mode) (ks : List ℕ) → length ks ≤ i → length ks ≤ p → 2 * length ts ≤ i + length ks
+      → GoesIf i p (begin_name c (idle m ks ts i p))
   goes_name c m ks o d n = goes_cond i p (nat_eq c 34) _ None (goes_atom AfterName _ ks tt o d n) tt
 
   -- out of a container
-  goes_closed : (m : Mode) (k : ℕ) (ks : List ℕ) (t : Token) → suc (length ks) ≤ i → suc (length ks) ≤ p → 2 * length ts ≤ suc i + suc (length ks)
+  goes_closed : (m : Mode) (k : ℕ) (ks : List ℕ) (t : Token) → suc (length ks) ≤ i → suc (length ks) ≤ p
+      → 2 * length ts ≤ suc i + suc (length ks)
       → Goes i p (idle After ks (slice_set ts k t) (suc i) p)
   goes_closed m k ks t o d n =
       let e : length (slice_set ts k t) ≡ length ts = length-set ts k t in
-      record { place = refl; deepest = omega arith; lawful = record { open_count = omega arith; deep = omega arith; token_count = omega arith; began = tt } }
+      record { place = refl; deepest = omega arith;
+          lawful = record { open_count = omega arith; deep = omega arith; token_count = omega arith; began = tt } }
 
-  goes_in : (kd : Kind) (c k : ℕ) (t : Token) (m : Mode) (ks : List ℕ) → suc (length ks) ≤ i → suc (length ks) ≤ p → 2 * length ts ≤ suc i + suc (length ks) → GoesIf i p (after_in kd c k t (idle m (k ∷ ks) ts i p))
+  goes_in : (kd : Kind) (c k : ℕ) (t : Token) (m : Mode) (ks : List ℕ) → suc (length ks) ≤ i → suc (length ks) ≤ p
+      → 2 * length ts ≤ suc i + suc (length ks) → GoesIf i p (after_in kd c k t (idle m (k ∷ ks) ts i p))
   goes_in Null c k t m ks o d n = tt
   goes_in Truth c k t m ks o d n = tt
   goes_in Number c k t m ks o d n = tt
   goes_in Text c k t m ks o d n = tt
-  goes_in Array c k t m ks o d n = goes_cond i p (nat_eq c 44) _ _ (goes_to Ready (k ∷ ks) o d n) (goes_cond i p (nat_eq c 93) _ None (goes_closed m k ks _ o d n) tt)
-  goes_in Object c k t m ks o d n = goes_cond i p (nat_eq c 44) _ _ (goes_to NextName (k ∷ ks) o d n) (goes_cond i p (nat_eq c 125) _ None (goes_closed m k ks _ o d n) tt)
+  goes_in Array c k t m ks o d n =
+      goes_cond i p (nat_eq c 44) _ _ (goes_to Ready (k ∷ ks) o d n)
+          (goes_cond i p (nat_eq c 93) _ None (goes_closed m k ks _ o d n) tt)
+  goes_in Object c k t m ks o d n =
+      goes_cond i p (nat_eq c 44) _ _ (goes_to NextName (k ∷ ks) o d n)
+          (goes_cond i p (nat_eq c 125) _ None (goes_closed m k ks _ o d n) tt)
 
-  goes_token : (c k : ℕ) (z : Option Token) (m : Mode) (ks : List ℕ) → suc (length ks) ≤ i → suc (length ks) ≤ p → 2 * length ts ≤ suc i + suc (length ks) → GoesIf i p (after_token c k z (idle m (k ∷ ks) ts i p))
+  goes_token : (c k : ℕ) (z : Option Token) (m : Mode) (ks : List ℕ) → suc (length ks) ≤ i → suc (length ks) ≤ p
+      → 2 * length ts ≤ suc i + suc (length ks) → GoesIf i p (after_token c k z (idle m (k ∷ ks) ts i p))
   goes_token c k None m ks o d n = tt
   goes_token c k (Some t) m ks o d n = goes_in (open_kind t) c k t m ks o d n
 
-  goes_after : (c : ℕ) (m : Mode) (ks : List ℕ) → length ks ≤ i → length ks ≤ p → 2 * length ts ≤ suc i + length ks → GoesIf i p (after_value c (idle m ks ts i p))
+  goes_after : (c : ℕ) (m : Mode) (ks : List ℕ) → length ks ≤ i → length ks ≤ p → 2 * length ts ≤ suc i + length ks
+      → GoesIf i p (after_value c (idle m ks ts i p))
   goes_after c m [] o d n = tt
   goes_after c m (k ∷ ks) o d n = goes_token c k (slice_get ts k) m ks o d n
 
-  goes_close_token : (k : ℕ) (z : Option Token) (m : Mode) (ks : List ℕ) → suc (length ks) ≤ i → suc (length ks) ≤ p → 2 * length ts ≤ suc i + suc (length ks) → GoesIf i p (close_token k z (idle m (k ∷ ks) ts i p))
+  goes_close_token : (k : ℕ) (z : Option Token) (m : Mode) (ks : List ℕ) → suc (length ks) ≤ i → suc (length ks) ≤ p
+      → 2 * length ts ≤ suc i + suc (length ks) → GoesIf i p (close_token k z (idle m (k ∷ ks) ts i p))
   goes_close_token k None m ks o d n = tt
   goes_close_token k (Some t) m ks o d n = goes_closed m k ks _ o d n
 
-  goes_close : (m : Mode) (ks : List ℕ) → length ks ≤ i → length ks ≤ p → 2 * length ts ≤ i + length ks → GoesIf i p (close_empty (idle m ks ts i p))
+  goes_close : (m : Mode) (ks : List ℕ) → length ks ≤ i → length ks ≤ p → 2 * length ts ≤ i + length ks
+      → GoesIf i p (close_empty (idle m ks ts i p))
   goes_close m [] o d n = tt
   goes_close m (k ∷ ks) o d n = goes_close_token k (slice_get ts k) m ks o d (omega arith)
 
-  goes_read_in : (m : Mode) (c : ℕ) (ks : List ℕ) → length ks ≤ i → length ks ≤ p → 2 * length ts ≤ reach_in m i + length ks → GoesIf i p (read_in m c (idle m ks ts i p))
+  goes_read_in : (m : Mode) (c : ℕ) (ks : List ℕ) → length ks ≤ i → length ks ≤ p
+      → 2 * length ts ≤ reach_in m i + length ks → GoesIf i p (read_in m c (idle m ks ts i p))
   goes_read_in Ready c ks o d n = goes_begin c Ready ks o d n
-  goes_read_in FirstItem c ks o d n = goes_cond i p (nat_eq c 93) _ _ (goes_close FirstItem ks o d n) (goes_begin c FirstItem ks o d n)
+  goes_read_in FirstItem c ks o d n =
+      goes_cond i p (nat_eq c 93) _ _ (goes_close FirstItem ks o d n) (goes_begin c FirstItem ks o d n)
   goes_read_in After c ks o d n = goes_after c After ks o d n
-  goes_read_in FirstName c ks o d n = goes_cond i p (nat_eq c 125) _ _ (goes_close FirstName ks o d n) (goes_name c FirstName ks o d n)
+  goes_read_in FirstName c ks o d n =
+      goes_cond i p (nat_eq c 125) _ _ (goes_close FirstName ks o d n) (goes_name c FirstName ks o d n)
   goes_read_in NextName c ks o d n = goes_name c NextName ks o d n
   goes_read_in AfterName c ks o d n = goes_cond i p (nat_eq c 58) _ None (goes_to Ready ks o d n) tt
 
-  goes_read : (m : Mode) (c : ℕ) (ks : List ℕ) → length ks ≤ i → length ks ≤ p → 2 * length ts ≤ reach_in m i + length ks → GoesIf i p (read m c (idle m ks ts i p))
-  goes_read m c ks o d n = let r = reach_more m i in goes_cond i p (is_white_space c) _ _ (goes_to m ks o d (omega arith)) (goes_read_in m c ks o d n)
+  goes_read : (m : Mode) (c : ℕ) (ks : List ℕ) → length ks ≤ i → length ks ≤ p
+      → 2 * length ts ≤ reach_in m i + length ks → GoesIf i p (read m c (idle m ks ts i p))
+  goes_read m c ks o d n = let r = reach_more m i in
+      goes_cond i p (is_white_space c) _ _ (goes_to m ks o d (omega arith)) (goes_read_in m c ks o d n)
 
 -- one token more, where a scalar or a name ends
-ends_count : (m : Mode) (a i d : ℕ) (ks : List ℕ) (ts : List Token) → EndsAtom m → a < i → 2 * length ts ≤ a + length ks → 2 * length (ts ++ token_at a i d ∷ []) ≤ reach_in m i + length ks
-ends_count After a i d ks ts e l n = let f : length (ts ++ token_at a i d ∷ []) ≡ length ts + 1 = length-append ts (token_at a i d ∷ []) in omega arith
-ends_count AfterName a i d ks ts e l n = let f : length (ts ++ token_at a i d ∷ []) ≡ length ts + 1 = length-append ts (token_at a i d ∷ []) in omega arith
+ends_count : (m : Mode) (a i d : ℕ) (ks : List ℕ) (ts : List Token) → EndsAtom m → a < i → 2 * length ts ≤ a + length ks
+    → 2 * length (ts ++ token_at a i d ∷ []) ≤ reach_in m i + length ks
+ends_count After a i d ks ts e l n = let f : length (ts ++ token_at a i d ∷ []) ≡ length ts + 1 =
+    length-append ts (token_at a i d ∷ []) in omega arith
+ends_count AfterName a i d ks ts e l n = let f : length (ts ++ token_at a i d ∷ []) ≡ length ts + 1 =
+    length-append ts (token_at a i d ∷ []) in omega arith
 ends_count _ a i d ks ts e l n = absurd e
 
-goes_ended : (m : Mode) (a : ℕ) (f : Phase) (r : Option Kind) (c : ℕ) (ks : List ℕ) (ts : List Token) (i p : ℕ) → EndsAtom m → a < i → length ks ≤ i → length ks ≤ p → 2 * length ts ≤ a + length ks
+goes_ended : (m : Mode) (a : ℕ) (f : Phase) (r : Option Kind) (c : ℕ) (ks : List ℕ) (ts : List Token) (i p : ℕ)
+    → EndsAtom m → a < i → length ks ≤ i → length ks ≤ p → 2 * length ts ≤ a + length ks
     → GoesIf i p (option_and_then (read m c) (end_atom m a r (state f ks ts i p)))
 goes_ended m a f None c ks ts i p e l o d n = tt
-goes_ended m a f (Some k) c ks ts i p e l o d n = goes_read i p (ts ++ token_at a i (suc (length ts)) ∷ []) m c ks o d (ends_count m a i (suc (length ts)) ks ts e l n)
+goes_ended m a f (Some k) c ks ts i p e l o d n =
+    goes_read i p (ts ++ token_at a i (suc (length ts)) ∷ []) m c ks o d
+        (ends_count m a i (suc (length ts)) ks ts e l n)
 
-goes_on : (m : Mode) (a : ℕ) (x : Lex) (z : Option Lex) (c : ℕ) (ks : List ℕ) (ts : List Token) (i p : ℕ) → EndsAtom m → a < i → length ks ≤ i → length ks ≤ p → 2 * length ts ≤ a + length ks
-    → GoesIf i p (go_on (λ y. in_atom m a y) z (state (in_atom m a x) ks ts i p) (option_and_then (read m c) (end_atom m a (lex_kind x) (state (in_atom m a x) ks ts i p))))
+goes_on : (m : Mode) (a : ℕ) (x : Lex) (z : Option Lex) (c : ℕ) (ks : List ℕ) (ts : List Token) (i p : ℕ) → EndsAtom m
+    → a < i → length ks ≤ i → length ks ≤ p → 2 * length ts ≤ a + length ks
+    → GoesIf i p (go_on (λ y. in_atom m a y) z (state (in_atom m a x) ks ts i p)
+        (option_and_then (read m c) (end_atom m a (lex_kind x) (state (in_atom m a x) ks ts i p))))
 goes_on m a x None c ks ts i p e l o d n = goes_ended m a (in_atom m a x) (lex_kind x) c ks ts i p e l o d n
-goes_on m a x (Some y) c ks ts i p e l o d n = record { place = refl; deepest = omega arith; lawful = record { open_count = omega arith; deep = d; token_count = n; began = (omega arith, e) } }
+goes_on m a x (Some y) c ks ts i p e l o d n =
+    record { place = refl; deepest = omega arith;
+        lawful = record { open_count = omega arith; deep = d; token_count = n; began = (omega arith, e) } }
 
-goes_phase : (f : Phase) (c : ℕ) (ks : List ℕ) (ts : List Token) (i p : ℕ) → IsLawful (state f ks ts i p) → GoesIf i p (step c (state f ks ts i p))
+goes_phase : (f : Phase) (c : ℕ) (ks : List ℕ) (ts : List Token) (i p : ℕ) → IsLawful (state f ks ts i p)
+    → GoesIf i p (step c (state f ks ts i p))
 goes_phase (between m) c ks ts i p h = goes_read i p ts m c ks h.open_count h.deep h.token_count
-goes_phase (in_atom m a x) c ks ts i p h = goes_on m a x (lex_step x c) c ks ts i p h.began.1 h.began.0 h.open_count h.deep h.token_count
+goes_phase (in_atom m a x) c ks ts i p h =
+    goes_on m a x (lex_step x c) c ks ts i p h.began.1 h.began.0 h.open_count h.deep h.token_count
 
 pub goes : (s u : State) (c : ℕ) → IsLawful s → step c s ≡ Some u → Goes s.place s.deepest u
 goes s u c l h = subst (GoesIf s.place s.deepest) h (goes_phase s.phase c s.stack s.tokens s.place s.deepest l)
@@ -162,12 +203,17 @@ lawful_reaches s here = record { open_count = omega arith; deep = omega arith; t
 lawful_reaches {b} s (on t u r h) = (goes t u (byte b t.place) (lawful_reaches t r) h).lawful
 
 -- where a scalar or a name ends, the law still holds
-settle_lawful : (m : Mode) (a : ℕ) (x : Lex) (r : Option Kind) (ks : List ℕ) (ts : List Token) (i p : ℕ) (t : State) → IsLawful (state (in_atom m a x) ks ts i p) → end_atom m a r (state (in_atom m a x) ks ts i p) ≡ Some t → IsLawful t
+settle_lawful : (m : Mode) (a : ℕ) (x : Lex) (r : Option Kind) (ks : List ℕ) (ts : List Token) (i p : ℕ) (t : State)
+    → IsLawful (state (in_atom m a x) ks ts i p) → end_atom m a r (state (in_atom m a x) ks ts i p) ≡ Some t
+    → IsLawful t
 settle_lawful m a x None ks ts i p t l h = none_some t h
 settle_lawful m a x (Some k) ks ts i p t l h =
-    subst IsLawful (some_same _ t h) (record { open_count = l.open_count; deep = l.deep; token_count = ends_count m a i (suc (length ts)) ks ts l.began.1 l.began.0 l.token_count; began = tt })
+    subst IsLawful (some_same _ t h)
+        (record { open_count = l.open_count; deep = l.deep;
+            token_count = ends_count m a i (suc (length ts)) ks ts l.began.1 l.began.0 l.token_count; began = tt })
 
-lawful_phase : (f : Phase) (ks : List ℕ) (ts : List Token) (i p : ℕ) (t : State) → IsLawful (state f ks ts i p) → settle (state f ks ts i p) ≡ Some t → IsLawful t
+lawful_phase : (f : Phase) (ks : List ℕ) (ts : List Token) (i p : ℕ) (t : State) → IsLawful (state f ks ts i p)
+    → settle (state f ks ts i p) ≡ Some t → IsLawful t
 lawful_phase (between m) ks ts i p t l h = subst IsLawful (some_same _ t h) l
 lawful_phase (in_atom m a x) ks ts i p t l h = settle_lawful m a x (lex_kind x) ks ts i p t l h
 
@@ -179,7 +225,8 @@ lawful_settles s t l h = lawful_phase s.phase s.stack s.tokens s.place s.deepest
 suc_same : (m n : ℕ) → suc m ≡ suc n → m ≡ n
 suc_same m n h = omega arith
 
-pub next_place : {b : List ℕ} (t v : State) → Reaches b start t → step (byte b t.place) t ≡ Some v → v.place ≡ suc t.place
+pub next_place : {b : List ℕ} (t v : State) → Reaches b start t → step (byte b t.place) t ≡ Some v
+    → v.place ≡ suc t.place
 next_place {b} t v r h = (goes t v (byte b t.place) (lawful_reaches t r) h).place
 
 pub same_state : (b : List ℕ) (s u : State) → Reaches b start s → Reaches b start u → s.place ≡ u.place → s ≡ u
@@ -205,7 +252,8 @@ state_before b s k (on t v r e) h =
     let g = goes t v (byte b t.place) (lawful_reaches t r) e in
     let p = g.place in let d = g.deepest in
     elim (eq-or-lt_of_le h) [
-      | inr l ↦ let z = state_before b t k r (omega arith) in let y = z.below in record { at = z.at; reached = z.reached; place = z.place; below = omega arith }
+      | inr l ↦ let z = state_before b t k r (omega arith) in let y = z.below in
+          record { at = z.at; reached = z.reached; place = z.place; below = omega arith }
       | inl q ↦ record { at = v; reached = on t v r e; place = sym q; below = omega arith }
     ]
 

@@ -43,7 +43,9 @@ module _ (s : State) where
   climbs_lex (Some x) = omega arith
 
   climbs_begin : (c : ℕ) → Climbs (length s.stack) (begin_value c s)
-  climbs_begin c = climbs_cond _ (nat_eq c 91) _ _ (omega arith) (climbs_cond _ (nat_eq c 123) _ _ (omega arith) (climbs_lex (lex_start c)))
+  climbs_begin c =
+      climbs_cond _ (nat_eq c 91) _ _ (omega arith)
+          (climbs_cond _ (nat_eq c 123) _ _ (omega arith) (climbs_lex (lex_start c)))
 
   climbs_name : (c : ℕ) → Climbs (length s.stack) (begin_name c s)
   climbs_name c = climbs_cond _ (nat_eq c 34) _ None (omega arith) tt
@@ -86,11 +88,14 @@ module _ (s : State) where
   climbs_read : (m : Mode) (c : ℕ) → Climbs (length s.stack) (read m c s)
   climbs_read m c = climbs_cond _ (is_white_space c) _ _ (omega arith) (climbs_read_in m c)
 
-climbs_ended : (m : Mode) (i c : ℕ) (r : Option Kind) (s : State) → Climbs (length s.stack) (option_and_then (read m c) (end_atom m i r s))
+climbs_ended : (m : Mode) (i c : ℕ) (r : Option Kind) (s : State)
+    → Climbs (length s.stack) (option_and_then (read m c) (end_atom m i r s))
 climbs_ended m i c None s = tt
 climbs_ended m i c (Some k) s = climbs_read _ m c
 
-climbs_on : (m : Mode) (i c : ℕ) (x : Lex) (z : Option Lex) (s : State) → Climbs (length s.stack) (go_on (λ y. in_atom m i y) z s (option_and_then (read m c) (end_atom m i (lex_kind x) s)))
+climbs_on : (m : Mode) (i c : ℕ) (x : Lex) (z : Option Lex) (s : State)
+    → Climbs (length s.stack)
+    (go_on (λ y. in_atom m i y) z s (option_and_then (read m c) (end_atom m i (lex_kind x) s)))
 climbs_on m i c x None s = climbs_ended m i c (lex_kind x) s
 climbs_on m i c x (Some y) s = omega arith
 
@@ -110,44 +115,65 @@ module _ (b : List ℕ) (d : ℕ) where
 
   module _ (s : State) (r : Reaches b start s) (h : s.deepest ≤ d) where
     -- it has read the line, and may not end there
-    unfoldable pub no_end : (o : Option State) → settle s ≡ o → s.place ≡ length b → ((ts : List Token) (p : ℕ) → o ≡ Some (state (between After) [] ts (length b) p) → ⊥) → Judgement b d
-    no_end o k e no_text = ends_at (length b) (record { last = s; reached = r; at = e; within = omega arith; stuck = inr (refl, λ ts p g. no_text ts p (sym k ∙ g)) }) h
+    unfoldable pub no_end : (o : Option State) → settle s ≡ o → s.place ≡ length b
+        → ((ts : List Token) (p : ℕ) → o ≡ Some (state (between After) [] ts (length b) p) → ⊥) → Judgement b d
+    no_end o k e no_text =
+        ends_at (length b) (record { last = s; reached = r; at = e; within = omega arith;
+                stuck = inr (refl, λ ts p g. no_text ts p (sym k ∙ g)) }) h
 
-    pub other_phase : (f : Phase) (ks : List ℕ) (ts us : List Token) (i j p q : ℕ) → (f ≡ between After → ⊥) → Some (state f ks ts i p) ≡ Some (state (between After) [] us j q) → ⊥
+    pub other_phase : (f : Phase) (ks : List ℕ) (ts us : List Token) (i j p q : ℕ) → (f ≡ between After → ⊥)
+        → Some (state f ks ts i p) ≡ Some (state (between After) [] us j q) → ⊥
     other_phase f ks ts us i j p q no_text g = no_text (ap (λ u. u.phase) (some_same _ _ g))
 
-    pub some_open : (k : ℕ) (ks : List ℕ) (ts us : List Token) (i j p q : ℕ) → Some (state (between After) (k ∷ ks) ts i p) ≡ Some (state (between After) [] us j q) → ⊥
+    pub some_open : (k : ℕ) (ks : List ℕ) (ts us : List Token) (i j p q : ℕ)
+        → Some (state (between After) (k ∷ ks) ts i p) ≡ Some (state (between After) [] us j q) → ⊥
     some_open k ks ts us i j p q g = clash (ap (λ u. u.stack) (some_same _ _ g))
       where
         clash : k ∷ ks ≡ [] → ⊥
         clash e = cc
 
-    unfoldable pub text_of : (ts : List Token) (i p : ℕ) → settle s ≡ Some (state (between After) [] ts i p) → s.place ≡ length b → Judgement b d
+    unfoldable pub text_of : (ts : List Token) (i p : ℕ) → settle s ≡ Some (state (between After) [] ts i p)
+        → s.place ≡ length b → Judgement b d
     text_of ts i p k e =
         let same = settled s (state (between After) [] ts i p) k in
         let at : i ≡ length b = sym same.place ∙ e in
-        let whole : settle s ≡ Some (state (between After) [] ts (length b) p) = k ∙ ap (λ n. Some (state (between After) [] ts n p)) at in
+        let whole : settle s ≡ Some (state (between After) [] ts (length b) p) =
+            k ∙ ap (λ n. Some (state (between After) [] ts n p)) at in
         let t = spells s (inv_reaches b s r) ts p whole in
         let deepest : p ≡ nest t.tree = nest_of b t.tree s ts p t.json r whole in
         let deep : s.deepest ≡ p = same.deepest in
         spelled t.tree t.json (omega arith)
 
-    unfoldable pub by_end : (f : Phase) (ks : List ℕ) (ts : List Token) (i p : ℕ) → settle s ≡ Some (state f ks ts i p) → s.place ≡ length b → Judgement b d
+    unfoldable pub by_end : (f : Phase) (ks : List ℕ) (ts : List Token) (i p : ℕ) → settle s ≡ Some (state f ks ts i p)
+        → s.place ≡ length b → Judgement b d
     by_end (between After) [] ts i p k e = text_of ts i p k e
     by_end (between After) (x ∷ ks) ts i p k e = no_end _ k e (λ us q g. some_open x ks ts us i (length b) p q g)
-    by_end (between Ready) ks ts i p k e = no_end _ k e (λ us q g. other_phase (between Ready) ks ts us i (length b) p q (λ (n : between Ready ≡ between After). cc) g)
-    by_end (between FirstItem) ks ts i p k e = no_end _ k e (λ us q g. other_phase (between FirstItem) ks ts us i (length b) p q (λ (n : between FirstItem ≡ between After). cc) g)
-    by_end (between FirstName) ks ts i p k e = no_end _ k e (λ us q g. other_phase (between FirstName) ks ts us i (length b) p q (λ (n : between FirstName ≡ between After). cc) g)
-    by_end (between NextName) ks ts i p k e = no_end _ k e (λ us q g. other_phase (between NextName) ks ts us i (length b) p q (λ (n : between NextName ≡ between After). cc) g)
-    by_end (between AfterName) ks ts i p k e = no_end _ k e (λ us q g. other_phase (between AfterName) ks ts us i (length b) p q (λ (n : between AfterName ≡ between After). cc) g)
-    by_end (in_atom m a x) ks ts i p k e = no_end _ k e (λ us q g. other_phase (in_atom m a x) ks ts us i (length b) p q (λ (n : in_atom m a x ≡ between After). cc) g)
+    by_end (between Ready) ks ts i p k e =
+        no_end _ k e (λ us q g. other_phase (between Ready) ks ts us i (length b) p q
+            (λ (n : between Ready ≡ between After). cc) g)
+    by_end (between FirstItem) ks ts i p k e =
+        no_end _ k e (λ us q g. other_phase (between FirstItem) ks ts us i (length b) p q
+            (λ (n : between FirstItem ≡ between After). cc) g)
+    by_end (between FirstName) ks ts i p k e =
+        no_end _ k e (λ us q g. other_phase (between FirstName) ks ts us i (length b) p q
+            (λ (n : between FirstName ≡ between After). cc) g)
+    by_end (between NextName) ks ts i p k e =
+        no_end _ k e (λ us q g. other_phase (between NextName) ks ts us i (length b) p q
+            (λ (n : between NextName ≡ between After). cc) g)
+    by_end (between AfterName) ks ts i p k e =
+        no_end _ k e (λ us q g. other_phase (between AfterName) ks ts us i (length b) p q
+            (λ (n : between AfterName ≡ between After). cc) g)
+    by_end (in_atom m a x) ks ts i p k e =
+        no_end _ k e (λ us q g. other_phase (in_atom m a x) ks ts us i (length b) p q
+            (λ (n : in_atom m a x ≡ between After). cc) g)
 
     unfoldable pub at_end : (o : Option State) → settle s ≡ o → s.place ≡ length b → Judgement b d
     at_end None k e = no_end None k e (λ ts p g. none_some _ g)
     at_end (Some u) k e = by_end u.phase u.stack u.tokens u.place u.deepest k e
 
     -- one container too many
-    unfoldable pub sinks : (u : State) → step (byte b s.place) s ≡ Some u → s.place < length b → d < u.deepest → Judgement b d
+    unfoldable pub sinks : (u : State) → step (byte b s.place) s ≡ Some u → s.place < length b → d < u.deepest
+        → Judgement b d
     sinks u k lt deep =
         let lawful = lawful_reaches s r in
         let g = (goes s u (byte b s.place) lawful k).deepest in
@@ -163,7 +189,9 @@ module _ (b : List ℕ) (d : ℕ) where
           deep = subst (λ o. IsSomeAnd o (λ u. length u.stack ≡ suc d)) (sym k) count;
         }))
 
-    unfoldable pub by_depth : (n : ℕ) → ((u : State) → Reaches b start u → u.deepest ≤ d → u.place + n ≡ length b → Judgement b d) → s.place + suc n ≡ length b
+    unfoldable pub by_depth : (n : ℕ)
+        → ((u : State) → Reaches b start u → u.deepest ≤ d → u.place + n ≡ length b → Judgement b d)
+        → s.place + suc n ≡ length b
         → (u : State) → step (byte b s.place) s ≡ Some u → (deep : Bool) → ltb d u.deepest ≡ deep → Judgement b d
     by_depth n later e u k true deep = sinks u k (omega arith) (ltb-true d u.deepest deep)
     by_depth n later e u k false deep =
@@ -171,8 +199,12 @@ module _ (b : List ℕ) (d : ℕ) where
         let shallow : u.deepest ≤ d = grind (arith, nat_tests) in
         later u (on s u r k) shallow (omega arith)
 
-    unfoldable pub by_step : (n : ℕ) → ((u : State) → Reaches b start u → u.deepest ≤ d → u.place + n ≡ length b → Judgement b d) → s.place + suc n ≡ length b → (o : Option State) → step (byte b s.place) s ≡ o → Judgement b d
-    by_step n later e None k = ends_at s.place (record { last = s; reached = r; at = refl; within = omega arith; stuck = inl (omega arith, k) }) h
+    unfoldable pub by_step : (n : ℕ)
+        → ((u : State) → Reaches b start u → u.deepest ≤ d → u.place + n ≡ length b → Judgement b d)
+        → s.place + suc n ≡ length b → (o : Option State) → step (byte b s.place) s ≡ o → Judgement b d
+    by_step n later e None k =
+        ends_at s.place (record { last = s; reached = r; at = refl; within = omega arith;
+                stuck = inl (omega arith, k) }) h
     by_step n later e (Some u) k = by_depth n later e u k (ltb d u.deepest) refl
 
   unfoldable pub over : (n : ℕ) (s : State) → Reaches b start s → s.deepest ≤ d → s.place + n ≡ length b → Judgement b d

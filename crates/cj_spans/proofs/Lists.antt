@@ -8,7 +8,8 @@ use Rattle.cj_spans.specs.Preorder.{span_at, preorder, items_preorder, members_p
 
 -- ---- one more part at the end
 
-pub flatten_items-add : (k : ℕ) (ts : Items) (t : Tree) → flatten_items k (add_item ts t) ≡ flatten_items k ts ++ flatten (k + items_size ts) t
+pub flatten_items-add : (k : ℕ) (ts : Items) (t : Tree) → flatten_items k (add_item ts t) ≡ flatten_items k ts
+    ++ flatten (k + items_size ts) t
 flatten_items-add k no_items t = let e : k ≡ k + 0 = omega arith in append-nil (flatten k t) ∙ ap (λ j. flatten j t) e
 flatten_items-add k (item u ts) t =
     let j = k + size u in
@@ -20,24 +21,32 @@ flatten_items-add k (item u ts) t =
 abbrev pub named_tokens : ℕ → Atom → Tree → List Token
 named_tokens k n t = token_at n.start n.stop (suc k) ∷ flatten (suc k) t
 
-pub flatten_members-add : (k : ℕ) (ms : Members) (n : Atom) (t : Tree) → flatten_members k (add_member ms n t) ≡ flatten_members k ms ++ named_tokens (k + members_size ms) n t
+pub flatten_members-add : (k : ℕ) (ms : Members) (n : Atom) (t : Tree)
+    → flatten_members k (add_member ms n t) ≡ flatten_members k ms ++ named_tokens (k + members_size ms) n t
 flatten_members-add k no_members n t =
-    let e : k ≡ k + 0 = omega arith in ap (λ xs. token_at n.start n.stop (suc k) ∷ xs) (append-nil (flatten (suc k) t)) ∙ ap (λ j. named_tokens j n t) e
+    let e : k ≡ k + 0 = omega arith in ap (λ xs. token_at n.start n.stop (suc k) ∷ xs) (append-nil (flatten (suc k) t))
+        ∙ ap (λ j. named_tokens j n t) e
 flatten_members-add k (member m u ms) n t =
     let j = suc k + size u in
     let e : j + members_size ms ≡ k + suc (size u + members_size ms) = omega arith in
-    ap (λ xs. token_at m.start m.stop (suc k) ∷ (flatten (suc k) u ++ xs)) (flatten_members-add j ms n t ∙ ap (λ i. flatten_members j ms ++ named_tokens i n t) e)
-    ∙ ap (λ xs. token_at m.start m.stop (suc k) ∷ xs) (sym (append_assoc (flatten (suc k) u) (flatten_members j ms) (named_tokens (k + suc (size u + members_size ms)) n t)))
+    ap (λ xs. token_at m.start m.stop (suc k) ∷ (flatten (suc k) u ++ xs))
+        (flatten_members-add j ms n t ∙ ap (λ i. flatten_members j ms ++ named_tokens i n t) e)
+    ∙ ap (λ xs. token_at m.start m.stop (suc k) ∷ xs)
+        (sym (append_assoc (flatten (suc k) u) (flatten_members j ms)
+            (named_tokens (k + suc (size u + members_size ms)) n t)))
 
 pub items_preorder-add : (ts : Items) (t : Tree) → items_preorder (add_item ts t) ≡ items_preorder ts ++ preorder t
 items_preorder-add no_items t = append-nil (preorder t)
-items_preorder-add (item u ts) t = ap (λ xs. preorder u ++ xs) (items_preorder-add ts t) ∙ sym (append_assoc (preorder u) (items_preorder ts) (preorder t))
+items_preorder-add (item u ts) t = ap (λ xs. preorder u ++ xs) (items_preorder-add ts t)
+    ∙ sym (append_assoc (preorder u) (items_preorder ts) (preorder t))
 
-pub members_preorder-add : (ms : Members) (n : Atom) (t : Tree) → members_preorder (add_member ms n t) ≡ members_preorder ms ++ span_at n.start n.stop ∷ preorder t
+pub members_preorder-add : (ms : Members) (n : Atom) (t : Tree)
+    → members_preorder (add_member ms n t) ≡ members_preorder ms ++ span_at n.start n.stop ∷ preorder t
 members_preorder-add no_members n t = ap (λ xs. span_at n.start n.stop ∷ xs) (append-nil (preorder t))
 members_preorder-add (member m u ms) n t =
     ap (λ xs. span_at m.start m.stop ∷ (preorder u ++ xs)) (members_preorder-add ms n t)
-    ∙ ap (λ xs. span_at m.start m.stop ∷ xs) (sym (append_assoc (preorder u) (members_preorder ms) (span_at n.start n.stop ∷ preorder t)))
+    ∙ ap (λ xs. span_at m.start m.stop ∷ xs)
+        (sym (append_assoc (preorder u) (members_preorder ms) (span_at n.start n.stop ∷ preorder t)))
 
 -- ---- as many tokens as the size says, and where they are
 
@@ -54,13 +63,15 @@ mutual
   pub length-flatten_items : (k : ℕ) (ts : Items) → length (flatten_items k ts) ≡ items_size ts
   length-flatten_items k no_items = refl
   length-flatten_items k (item t ts) =
-      let e = length-append (flatten k t) (flatten_items (k + size t) ts) in let f = length-flatten k t in let g = length-flatten_items (k + size t) ts in omega arith
+      let e = length-append (flatten k t) (flatten_items (k + size t) ts) in let f = length-flatten k t in
+      let g = length-flatten_items (k + size t) ts in omega arith
 
   pub length-flatten_members : (k : ℕ) (ms : Members) → length (flatten_members k ms) ≡ members_size ms
   length-flatten_members k no_members = refl
   length-flatten_members k (member n t ms) =
       let j = suc k + size t in
-      let e = length-append (flatten (suc k) t) (flatten_members j ms) in let f = length-flatten (suc k) t in let g = length-flatten_members j ms in omega arith
+      let e = length-append (flatten (suc k) t) (flatten_members j ms) in let f = length-flatten (suc k) t in
+      let g = length-flatten_members j ms in omega arith
 
 mutual
   pub spans_of-flatten : (k : ℕ) (t : Tree) → spans_of (flatten k t) ≡ preorder t
@@ -72,17 +83,21 @@ mutual
   spans_of-flatten_items k no_items = refl
   spans_of-flatten_items k (item t ts) =
       let us = flatten_items (k + size t) ts in
-      spans_of-append (flatten k t) us ∙ ap (λ z. z ++ spans_of us) (spans_of-flatten k t) ∙ ap (λ z. preorder t ++ z) (spans_of-flatten_items (k + size t) ts)
+      spans_of-append (flatten k t) us ∙ ap (λ z. z ++ spans_of us) (spans_of-flatten k t)
+          ∙ ap (λ z. preorder t ++ z) (spans_of-flatten_items (k + size t) ts)
 
   spans_of-flatten_members : (k : ℕ) (ms : Members) → spans_of (flatten_members k ms) ≡ members_preorder ms
   spans_of-flatten_members k no_members = refl
   spans_of-flatten_members k (member n t ms) =
       let us = flatten_members (suc k + size t) ms in
-      ap (λ z. span_at n.start n.stop ∷ z) (spans_of-append (flatten (suc k) t) us ∙ ap (λ z. z ++ spans_of us) (spans_of-flatten (suc k) t) ∙ ap (λ z. preorder t ++ z) (spans_of-flatten_members (suc k + size t) ms))
+      ap (λ z. span_at n.start n.stop ∷ z)
+          (spans_of-append (flatten (suc k) t) us ∙ ap (λ z. z ++ spans_of us) (spans_of-flatten (suc k) t)
+          ∙ ap (λ z. preorder t ++ z) (spans_of-flatten_members (suc k + size t) ms))
 
 -- ---- elements
 
-pub slice_get-append : {A : Type 0} (xs ys : List A) (i : ℕ) (x : A) → slice_get xs i ≡ Some x → slice_get (xs ++ ys) i ≡ Some x
+pub slice_get-append : {A : Type 0} (xs ys : List A) (i : ℕ) (x : A) → slice_get xs i ≡ Some x
+    → slice_get (xs ++ ys) i ≡ Some x
 slice_get-append [] ys i x h = cc
 slice_get-append (z ∷ xs) ys zero x h = h
 slice_get-append (z ∷ xs) ys (suc i) x h = slice_get-append xs ys i x h
@@ -97,46 +112,68 @@ pub length-snoc : (ts : List Token) (o : Token) → length (ts ++ o ∷ []) ≡ 
 length-snoc ts o = let e = length-append ts (o ∷ []) in omega arith
 
 -- one item more
-pub items_more : (xs : List Token) (k : ℕ) (us : Items) (u : Tree) → length xs ≡ k → let vs = xs ++ flatten_items k us in vs ++ flatten (length vs) u ≡ xs ++ flatten_items k (add_item us u)
+pub items_more : (xs : List Token) (k : ℕ) (us : Items) (u : Tree) → length xs ≡ k → let vs =
+    xs ++ flatten_items k us in vs ++ flatten (length vs) u ≡ xs ++ flatten_items k (add_item us u)
 items_more xs k us u h =
     let fs = flatten_items k us in
-    let n : length (xs ++ fs) ≡ k + items_size us = let e = length-append xs fs in let f = length-flatten_items k us in omega arith in
-    ap (λ j. (xs ++ fs) ++ flatten j u) n ∙ append_assoc xs fs (flatten (k + items_size us) u) ∙ ap (λ zs. xs ++ zs) (sym (flatten_items-add k us u))
+    let n : length (xs ++ fs) ≡ k + items_size us = let e = length-append xs fs in let f = length-flatten_items k us in
+    omega arith in
+    ap (λ j. (xs ++ fs) ++ flatten j u) n ∙ append_assoc xs fs (flatten (k + items_size us) u)
+        ∙ ap (λ zs. xs ++ zs) (sym (flatten_items-add k us u))
 
 -- one member more
 pub members_more : (xs : List Token) (k : ℕ) (us : Members) (n : Atom) (u : Tree) → length xs ≡ k
-    → let vs = xs ++ flatten_members k us in let ws = vs ++ token_at n.start n.stop (suc (length vs)) ∷ [] in ws ++ flatten (length ws) u ≡ xs ++ flatten_members k (add_member us n u)
+    → let vs = xs ++ flatten_members k us in let ws = vs ++ token_at n.start n.stop (suc (length vs)) ∷ [] in
+    ws ++ flatten (length ws) u ≡ xs ++ flatten_members k (add_member us n u)
 members_more xs k us n u h =
     let fs = flatten_members k us in
     let vs = xs ++ fs in
     let v = token_at n.start n.stop (suc (length vs)) in
-    let e : length vs ≡ k + members_size us = let e = length-append xs fs in let f = length-flatten_members k us in omega arith in
-    ap (λ j. (vs ++ v ∷ []) ++ flatten j u) (length-snoc vs v) ∙ append_assoc vs (v ∷ []) (flatten (suc (length vs)) u) ∙ append_assoc xs fs (named_tokens (length vs) n u)
+    let e : length vs ≡ k + members_size us = let e = length-append xs fs in let f = length-flatten_members k us in
+    omega arith in
+    ap (λ j. (vs ++ v ∷ []) ++ flatten j u) (length-snoc vs v) ∙ append_assoc vs (v ∷ []) (flatten (suc (length vs)) u)
+        ∙ append_assoc xs fs (named_tokens (length vs) n u)
     ∙ ap (λ j. xs ++ (fs ++ named_tokens j n u)) e ∙ ap (λ zs. xs ++ zs) (sym (flatten_members-add k us n u))
 
 -- the token of a container is written where its place is
-set_closed : (ts : List Token) (o f : Token) (xs : List Token) → slice_set ((ts ++ o ∷ []) ++ xs) (length ts) f ≡ ts ++ f ∷ xs
+set_closed : (ts : List Token) (o f : Token) (xs : List Token) → slice_set ((ts ++ o ∷ []) ++ xs) (length ts) f ≡ ts
+    ++ f ∷ xs
 set_closed ts o f xs = ap (λ us. slice_set us (length ts) f) (append_assoc ts (o ∷ []) xs) ∙ set-append_seam ts o xs f
 
 -- the container ends with the tokens of its parts
-pub array_done : (ts : List Token) (o : Token) (i j : ℕ) (us : Items) → let vs = (ts ++ o ∷ []) ++ flatten_items (suc (length ts)) us in slice_set vs (length ts) (token_at i j (length vs)) ≡ ts ++ flatten (length ts) (array i j us)
+pub array_done : (ts : List Token) (o : Token) (i j : ℕ) (us : Items) → let vs =
+    (ts ++ o ∷ []) ++ flatten_items (suc (length ts)) us in
+    slice_set vs (length ts) (token_at i j (length vs)) ≡ ts ++ flatten (length ts) (array i j us)
 array_done ts o i j us =
     let fs = flatten_items (suc (length ts)) us in
-    let e : length ((ts ++ o ∷ []) ++ fs) ≡ suc (length ts) + items_size us = let e = length-append (ts ++ o ∷ []) fs in let f = length-flatten_items (suc (length ts)) us in let g = length-snoc ts o in omega arith in
-    ap (λ n. slice_set ((ts ++ o ∷ []) ++ fs) (length ts) (token_at i j n)) e ∙ set_closed ts o (token_at i j (suc (length ts) + items_size us)) fs
+    let e : length ((ts ++ o ∷ []) ++ fs) ≡ suc (length ts) + items_size us = let e = length-append (ts ++ o ∷ []) fs in
+    let f = length-flatten_items (suc (length ts)) us in let g = length-snoc ts o in omega arith in
+    ap (λ n. slice_set ((ts ++ o ∷ []) ++ fs) (length ts) (token_at i j n)) e
+        ∙ set_closed ts o (token_at i j (suc (length ts) + items_size us)) fs
 
-pub object_done : (ts : List Token) (o : Token) (i j : ℕ) (us : Members) → let vs = (ts ++ o ∷ []) ++ flatten_members (suc (length ts)) us in slice_set vs (length ts) (token_at i j (length vs)) ≡ ts ++ flatten (length ts) (object i j us)
+pub object_done : (ts : List Token) (o : Token) (i j : ℕ) (us : Members) → let vs =
+    (ts ++ o ∷ []) ++ flatten_members (suc (length ts)) us in
+    slice_set vs (length ts) (token_at i j (length vs)) ≡ ts ++ flatten (length ts) (object i j us)
 object_done ts o i j us =
     let fs = flatten_members (suc (length ts)) us in
-    let e : length ((ts ++ o ∷ []) ++ fs) ≡ suc (length ts) + members_size us = let e = length-append (ts ++ o ∷ []) fs in let f = length-flatten_members (suc (length ts)) us in let g = length-snoc ts o in omega arith in
-    ap (λ n. slice_set ((ts ++ o ∷ []) ++ fs) (length ts) (token_at i j n)) e ∙ set_closed ts o (token_at i j (suc (length ts) + members_size us)) fs
+    let e : length ((ts ++ o ∷ []) ++ fs) ≡ suc (length ts) + members_size us = let e =
+        length-append (ts ++ o ∷ []) fs in let f = length-flatten_members (suc (length ts)) us in
+    let g = length-snoc ts o in omega arith in
+    ap (λ n. slice_set ((ts ++ o ∷ []) ++ fs) (length ts) (token_at i j n)) e
+        ∙ set_closed ts o (token_at i j (suc (length ts) + members_size us)) fs
 
 -- the same of one that is empty
-pub array_empty : (ts : List Token) (o : Token) (i j : ℕ) → slice_set (ts ++ o ∷ []) (length ts) (token_at i j (length (ts ++ o ∷ []))) ≡ ts ++ flatten (length ts) (array i j no_items)
-array_empty ts o i j = ap (λ us. slice_set us (length ts) (token_at i j (length us))) (sym (append-nil (ts ++ o ∷ []))) ∙ array_done ts o i j no_items
+pub array_empty : (ts : List Token) (o : Token) (i j : ℕ)
+    → slice_set (ts ++ o ∷ []) (length ts) (token_at i j (length (ts ++ o ∷ []))) ≡ ts
+    ++ flatten (length ts) (array i j no_items)
+array_empty ts o i j = ap (λ us. slice_set us (length ts) (token_at i j (length us))) (sym (append-nil (ts ++ o ∷ [])))
+    ∙ array_done ts o i j no_items
 
-pub object_empty : (ts : List Token) (o : Token) (i j : ℕ) → slice_set (ts ++ o ∷ []) (length ts) (token_at i j (length (ts ++ o ∷ []))) ≡ ts ++ flatten (length ts) (object i j no_members)
-object_empty ts o i j = ap (λ us. slice_set us (length ts) (token_at i j (length us))) (sym (append-nil (ts ++ o ∷ []))) ∙ object_done ts o i j no_members
+pub object_empty : (ts : List Token) (o : Token) (i j : ℕ)
+    → slice_set (ts ++ o ∷ []) (length ts) (token_at i j (length (ts ++ o ∷ []))) ≡ ts
+    ++ flatten (length ts) (object i j no_members)
+object_empty ts o i j = ap (λ us. slice_set us (length ts) (token_at i j (length us))) (sym (append-nil (ts ++ o ∷ [])))
+    ∙ object_done ts o i j no_members
 
 -- ---- the most containers that are open
 
@@ -159,7 +196,8 @@ pub rise_items-add : (d p : ℕ) (ts : Items) (t : Tree) → rise_items d p (add
 rise_items-add d p no_items t = refl
 rise_items-add d p (item u ts) t = rise_items-add d (rise d p u) ts t
 
-pub rise_members-add : (d p : ℕ) (ms : Members) (n : Atom) (t : Tree) → rise_members d p (add_member ms n t) ≡ rise d (rise_members d p ms) t
+pub rise_members-add : (d p : ℕ) (ms : Members) (n : Atom) (t : Tree)
+    → rise_members d p (add_member ms n t) ≡ rise d (rise_members d p ms) t
 rise_members-add d p no_members n t = refl
 rise_members-add d p (member m u ms) n t = rise_members-add d (rise d p u) ms n t
 
@@ -171,8 +209,10 @@ mutual
 
   rise_items-nest : (d p : ℕ) (ts : Items) → d ≤ p → rise_items d p ts ≡ max p (d + items_nest ts)
   rise_items-nest d p no_items h = omega arith
-  rise_items-nest d p (item t ts) h = let e = rise-nest d p t h in let f = rise_items-nest d (rise d p t) ts (omega arith) in omega arith
+  rise_items-nest d p (item t ts) h = let e = rise-nest d p t h in
+      let f = rise_items-nest d (rise d p t) ts (omega arith) in omega arith
 
   rise_members-nest : (d p : ℕ) (ms : Members) → d ≤ p → rise_members d p ms ≡ max p (d + members_nest ms)
   rise_members-nest d p no_members h = omega arith
-  rise_members-nest d p (member n t ms) h = let e = rise-nest d p t h in let f = rise_members-nest d (rise d p t) ms (omega arith) in omega arith
+  rise_members-nest d p (member n t ms) h = let e = rise-nest d p t h in
+      let f = rise_members-nest d (rise d p t) ms (omega arith) in omega arith

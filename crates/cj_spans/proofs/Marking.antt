@@ -29,23 +29,27 @@ mod_more n = omega arith
 le_more : (n : ℕ) → nat_le (2 ^ 31) (n + 2 ^ 31) ≡ true
 le_more n = grind (arith, nat_tests)
 
-pub marked_here : (ts : List Token) (k : ℕ) (t : Token) → k < length ts → is_marked_at (slice_set ts k (with_mark t)) k ≡ true
+pub marked_here : (ts : List Token) (k : ℕ) (t : Token) → k < length ts
+    → is_marked_at (slice_set ts k (with_mark t)) k ≡ true
 marked_here [] k t h = absurd (omega arith)
 marked_here (u ∷ ts) zero t h = le_more (link_of t)
 marked_here (u ∷ ts) (suc k) t h = marked_here ts k t (omega arith)
 
-pub marked_elsewhere : (ts : List Token) (n k : ℕ) (t : Token) → k ≢ n → is_marked_at (slice_set ts n t) k ≡ is_marked_at ts k
+pub marked_elsewhere : (ts : List Token) (n k : ℕ) (t : Token) → k ≢ n
+    → is_marked_at (slice_set ts n t) k ≡ is_marked_at ts k
 marked_elsewhere [] n k t h = refl
 marked_elsewhere (u ∷ ts) zero zero t h = absurd (h refl)
 marked_elsewhere (u ∷ ts) zero (suc k) t h = refl
 marked_elsewhere (u ∷ ts) (suc n) zero t h = refl
 marked_elsewhere (u ∷ ts) (suc n) (suc k) t h = marked_elsewhere ts n k t (λ e. h (ap suc e))
 
-pub bare_kept : (ts : List Token) (n : ℕ) (t : Token) → slice_get ts n ≡ Some t → bare (slice_set ts n (with_mark t)) ≡ bare ts
+pub bare_kept : (ts : List Token) (n : ℕ) (t : Token) → slice_get ts n ≡ Some t
+    → bare (slice_set ts n (with_mark t)) ≡ bare ts
 bare_kept [] n t h = refl
 bare_kept (u ∷ ts) zero t h =
     let e : u ≡ t = cc in
-    ap (λ l. token_at t.start t.stop l ∷ bare ts) (mod_more t.link) ∙ ap (λ (v : Token). token_at v.start v.stop (link_of v) ∷ bare ts) (sym e)
+    ap (λ l. token_at t.start t.stop l ∷ bare ts) (mod_more t.link)
+        ∙ ap (λ (v : Token). token_at v.start v.stop (link_of v) ∷ bare ts) (sym e)
 bare_kept (u ∷ ts) (suc n) t h = ap (λ us. token_at u.start u.stop (link_of u) ∷ us) (bare_kept ts n t h)
 
 -- ---- what tokens show without their marks
@@ -67,7 +71,8 @@ drop_bare zero ts = refl
 drop_bare (suc n) [] = refl
 drop_bare (suc n) (t ∷ ts) = drop_bare n ts
 
-get_bare : (ts : List Token) (k : ℕ) (t : Token) → slice_get ts k ≡ Some t → slice_get (bare ts) k ≡ Some (token_at t.start t.stop (link_of t))
+get_bare : (ts : List Token) (k : ℕ) (t : Token) → slice_get ts k ≡ Some t
+    → slice_get (bare ts) k ≡ Some (token_at t.start t.stop (link_of t))
 get_bare [] k t h = cc
 get_bare (u ∷ ts) zero t h = let e : u ≡ t = cc in ap (λ (v : Token). Some (token_at v.start v.stop (link_of v))) e
 get_bare (u ∷ ts) (suc k) t h = get_bare ts k t h
@@ -81,10 +86,13 @@ linked_bare ts us e linked = λ k t h.
     let l = linked k o.0 o.1 in
     let stop : o.0.stop ≡ t.stop = ap (λ (v : Token). v.stop) o.2 in
     let link : link_of o.0 ≡ link_of t = ap (λ (v : Token). v.link) o.2 in
-    let rest = sym (before_bare t.stop (drop (k + 1) ts)) ∙ ap (before t.stop) (sym (drop_bare (k + 1) ts) ∙ ap (drop (k + 1)) (sym e) ∙ drop_bare (k + 1) us) ∙ before_bare t.stop (drop (k + 1) us) in
+    let rest = sym (before_bare t.stop (drop (k + 1) ts))
+        ∙ ap (before t.stop) (sym (drop_bare (k + 1) ts) ∙ ap (drop (k + 1)) (sym e) ∙ drop_bare (k + 1) us)
+        ∙ before_bare t.stop (drop (k + 1) us) in
     sym link ∙ l ∙ ap (λ j. k + 1 + before j (drop (k + 1) ts)) stop ∙ ap (λ n. k + 1 + n) rest
   where
-    back : (vs : List Token) (k : ℕ) (b : Token) → slice_get (bare vs) k ≡ Some b → (t : Token) × (slice_get vs k ≡ Some t) × (token_at t.start t.stop (link_of t) ≡ b)
+    back : (vs : List Token) (k : ℕ) (b : Token) → slice_get (bare vs) k ≡ Some b → (t : Token)
+        × (slice_get vs k ≡ Some t) × (token_at t.start t.stop (link_of t) ≡ b)
     back [] k b h = absurd (cc h)
     back (v ∷ vs) zero b h = let e : token_at v.start v.stop (link_of v) ≡ b = cc in (v, refl, e)
     back (v ∷ vs) (suc k) b h = back vs k b h
@@ -107,18 +115,22 @@ of_kept line ts us e a = record {
 
 -- ---- a node is found by its tree
 
-one_start : (ts : List Token) (i k : ℕ) (t u : Token) → AreRising ts → slice_get ts i ≡ Some t → slice_get ts k ≡ Some u → t.start ≡ u.start → i ≡ k
+one_start : (ts : List Token) (i k : ℕ) (t u : Token) → AreRising ts → slice_get ts i ≡ Some t → slice_get ts k ≡ Some u
+    → t.start ≡ u.start → i ≡ k
 one_start ts i k t u rising h g e =
     elim (cases_lt i k) [
       | inl l ↦ let r = rising i k t u l h g in absurd (omega arith)
-      | inr m ↦ elim (cases_lt k i) [ inl l ↦ let r = rising k i u t l g h in absurd (omega arith) | inr n ↦ omega arith ]
+      | inr m ↦ elim (cases_lt k i) [ inl l ↦ let r = rising k i u t l g h in
+          absurd (omega arith) | inr n ↦ omega arith ]
     ]
 
-pub one_number : (b : List ℕ) (ts : List Token) (i k : ℕ) → AreRising ts → i < length ts → k < length ts → tree_at b (spans_of ts) i ≡ tree_at b (spans_of ts) k → i ≡ k
+pub one_number : (b : List ℕ) (ts : List Token) (i k : ℕ) → AreRising ts → i < length ts → k < length ts
+    → tree_at b (spans_of ts) i ≡ tree_at b (spans_of ts) k → i ≡ k
 one_number b ts i k rising l m e =
     let f = below b ts i l in
     let g = below b ts k m in
-    one_start ts i k f.0 g.0 rising f.1 g.1 (start_shown b ts i f.0 f.1 ∙ ap start_of e ∙ sym (start_shown b ts k g.0 g.1))
+    one_start ts i k f.0 g.0 rising f.1 g.1
+        (start_shown b ts i f.0 f.1 ∙ ap start_of e ∙ sym (start_shown b ts k g.0 g.1))
 
 pub marked_within : (ts : List Token) (k : ℕ) → is_marked_at ts k ≡ true → k < length ts
 marked_within [] k h = cc
@@ -130,15 +142,20 @@ mark_of [] k t h = cc
 mark_of (u ∷ ts) zero t h = let e : u ≡ t = cc in ap has_mark (sym e)
 mark_of (u ∷ ts) (suc k) t h = mark_of ts k t h
 
-pub keeps : (old new : BoundedList Token) (n : ℕ) (t : Token) → slice_get old.elements n ≡ Some t → new.elements ≡ slice_set old.elements n (with_mark t) → new ≡ record old { elements = new.elements } → IsWithin new → KeepsTokens old new
+pub keeps : (old new : BoundedList Token) (n : ℕ) (t : Token) → slice_get old.elements n ≡ Some t
+    → new.elements ≡ slice_set old.elements n (with_mark t) → new ≡ record old { elements = new.elements }
+    → IsWithin new → KeepsTokens old new
 keeps old new n t h e l w =
     let same = ap bare e ∙ bare_kept old.elements n t h in
-    record { tokens = same; spans = spans_kept old.elements new.elements same; of = λ line. of_kept line old.elements new.elements same; list = l; within = w }
+    record { tokens = same; spans = spans_kept old.elements new.elements same;
+        of = λ line. of_kept line old.elements new.elements same; list = l; within = w }
 
 -- a node that is found by its number shows the tree of that token
-pub found_at-number : (n : Node) (k : ℕ) → k < length (tokens_in (source_of n)) → tree_in (source_of n) k ≡ tree_at (line_of n) (spans_of (tokens_in (source_of n))) k
+pub found_at-number : (n : Node) (k : ℕ) → k < length (tokens_in (source_of n))
+    → tree_in (source_of n) k ≡ tree_at (line_of n) (spans_of (tokens_in (source_of n))) k
 unfolding tree_in source_of tokens_in line_of
-found_at-number n k l = let e : min k (length n.source.tokens.now - 1) ≡ k = omega arith in ap (tree_at n.source.line.now (spans_of n.source.tokens.now)) e
+found_at-number n k l = let e : min k (length n.source.tokens.now - 1) ≡ k = omega arith in
+    ap (tree_at n.source.line.now (spans_of n.source.tokens.now)) e
 
 pub line-of-document : (n : Node) (d : Doc) → source_of n ≡ document_source d → line_of n ≡ document_line d
 unfolding source_of line_of document_source document_line

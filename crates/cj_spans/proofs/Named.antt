@@ -19,17 +19,21 @@ use Rattle.cj_spans.proofs.Standing.{standing_small, standing_name_room, standin
 -- ---- one step of the machine
 
 -- a quote begins a string where a value or a name may begin
-string_begins : (m n : Mode) (c : ℕ) (ks : List ℕ) (ts : List Token) (i p : ℕ) → StringLeads m n → c ≡ 34 → step c (idle m ks ts i p) ≡ Some (state (in_atom n i InString) ks ts (suc i) p)
+string_begins : (m n : Mode) (c : ℕ) (ks : List ℕ) (ts : List Token) (i p : ℕ) → StringLeads m n → c ≡ 34
+    → step c (idle m ks ts i p) ≡ Some (state (in_atom n i InString) ks ts (suc i) p)
 string_begins Ready After c ks ts i p v e = ap (λ x. step x (idle Ready ks ts i p)) e
 string_begins FirstName AfterName c ks ts i p v e = ap (λ x. step x (idle FirstName ks ts i p)) e
 string_begins NextName AfterName c ks ts i p v e = ap (λ x. step x (idle NextName ks ts i p)) e
 string_begins _ _ c ks ts i p v e = absurd v
 
 -- the machine has read a string
-string_read : (b : List ℕ) (s : State) (m n : Mode) (ks : List ℕ) (ts us : List Token) (i k p : ℕ) → IsQuoted b i k → StringLeads m n → us ≡ ts ++ token_at i k (length ts + 1) ∷ [] → ComesTo b s (idle m ks ts i p) → ComesTo b s (idle n ks us k p)
+string_read : (b : List ℕ) (s : State) (m n : Mode) (ks : List ℕ) (ts us : List Token) (i k p : ℕ) → IsQuoted b i k
+    → StringLeads m n → us ≡ ts ++ token_at i k (length ts + 1) ∷ [] → ComesTo b s (idle m ks ts i p)
+    → ComesTo b s (idle n ks us k p)
 string_read b s m n ks ts us i k p q v e h =
     let o = q.order in let w = q.within in
-    let r = step_on b s (idle m ks ts i p) (state (in_atom n i InString) ks ts (suc i) p) h (omega arith) (string_begins m n (byte b i) ks ts i p v q.opens) in
+    let r = step_on b s (idle m ks ts i p) (state (in_atom n i InString) ks ts (suc i) p) h (omega arith)
+        (string_begins m n (byte b i) ks ts i p v q.opens) in
     settles_both r (ends_ok b i k p InString StringDone Text n ks ts us q.goes (inr refl) refl e)
 
 pub name_leads : (m : Mode) → BeginsName m → StringLeads m AfterName
@@ -43,42 +47,54 @@ module _ (b : List ℕ) (ts : BoundedList Token) where
   pub leads_here : (m : Mode) (i : ℕ) → Leads b ts m i ts m i
   leads_here m i = λ t0 s0 ks o s. (o, s)
 
-  pub leads_on : (us vs : BoundedList Token) (m n o : Mode) (i j k : ℕ) → Leads b ts m i us n j → Leads b us n j vs o k → Leads b ts m i vs o k
+  pub leads_on : (us vs : BoundedList Token) (m n o : Mode) (i j k : ℕ) → Leads b ts m i us n j → Leads b us n j vs o k
+      → Leads b ts m i vs o k
   leads_on us vs m n o i j k f g = λ t0 s0 ks a s. let h = f t0 s0 ks a s in g t0 s0 ks h.0 h.1
 
-  pub stands_leads : (us : BoundedList Token) (m n : Mode) (i j : ℕ) → StandsInObject b ts m i → Leads b ts m i us n j → StandsInObject b us n j
+  pub stands_leads : (us : BoundedList Token) (m n : Mode) (i j : ℕ) → StandsInObject b ts m i → Leads b ts m i us n j
+      → StandsInObject b us n j
   stands_leads us m n i j s f =
       let h = f s.stands.tokens0 s.stands.stack0 s.stack s.object s.stands.standing in
-      record { stack = s.stack; stands = record { tokens0 = s.stands.tokens0; stack0 = s.stands.stack0; standing = h.1; room = s.stands.room }; object = h.0 }
+      record { stack = s.stack;
+          stands = record { tokens0 = s.stands.tokens0; stack0 = s.stands.stack0; standing = h.1;
+              room = s.stands.room }; object = h.0 }
 
-  pub leads_string : (us : BoundedList Token) (m n : Mode) (i k : ℕ) → StringLeads m n → IsQuoted b i k → Becomes ts (ts.elements ++ token_at i k (length ts.elements + 1) ∷ []) us → Leads b ts m i us n k
+  pub leads_string : (us : BoundedList Token) (m n : Mode) (i k : ℕ) → StringLeads m n → IsQuoted b i k
+      → Becomes ts (ts.elements ++ token_at i k (length ts.elements + 1) ∷ []) us → Leads b ts m i us n k
   leads_string us m n i k v q e = λ t0 s0 ks a s. (
     innermost_more Object ks.elements ts.elements us.elements _ a e.elements,
-    standing_with b t0 s0 ts us ks m n i k s (grown_more ts us _ s.kept.within e) q.within (λ p. string_read b start m n ks.elements ts.elements us.elements i k p q v e.elements),
+    standing_with b t0 s0 ts us ks m n i k s (grown_more ts us _ s.kept.within e) q.within
+        (λ p. string_read b start m n ks.elements ts.elements us.elements i k p q v e.elements),
   )
 
   pub leads_colon : (k : ℕ) → (k < length b) × (byte b k ≡ 58) → Leads b ts AfterName k ts Ready (k + 1)
   leads_colon k h = λ t0 s0 ks a s.
       let l = h.0 in
-      (a, standing_with b t0 s0 ts ts ks AfterName Ready k (k + 1) s (grown_same ts s.kept.within) (omega arith) (λ p. colon_read b start ks.elements ts.elements k p h.0 h.1))
+      (a, standing_with b t0 s0 ts ts ks AfterName Ready k (k + 1) s (grown_same ts s.kept.within) (omega arith)
+          (λ p. colon_read b start ks.elements ts.elements k p h.0 h.1))
 
   pub leads_comma : (k : ℕ) → (k < length b) × (byte b k ≡ 44) → Leads b ts After k ts NextName (k + 1)
   leads_comma k h = λ t0 s0 ks a s.
       let l = h.0 in
-      (a, standing_with b t0 s0 ts ts ks After NextName k (k + 1) s (grown_same ts s.kept.within) (omega arith) (λ p. comma_read b start Object NextName ks.elements ts.elements k p (λ _ _ _. refl) a h.0 h.1))
+      (a, standing_with b t0 s0 ts ts ks After NextName k (k + 1) s (grown_same ts s.kept.within) (omega arith)
+          (λ p. comma_read b start Object NextName ks.elements ts.elements k p (λ _ _ _. refl) a h.0 h.1))
 
   -- ---- what the calls need
 
-  pub name_small : (m : Mode) (i : ℕ) → StandsInObject b ts m i → i < length b → (length b < 2147483648) × (length ts.elements < 2147483648)
+  pub name_small : (m : Mode) (i : ℕ) → StandsInObject b ts m i → i < length b → (length b < 2147483648)
+      × (length ts.elements < 2147483648)
   name_small m i s l =
       let h = s.stands.room.short in
       (omega arith, (standing_small b s.stands.tokens0 s.stands.stack0 ts s.stack m i s.stands.standing h l).1)
 
-  pub name_room : (m : Mode) (i : ℕ) → StandsInObject b ts m i → i < length b → BeginsName m → length ts.elements < ts.limit
-  name_room m i s l v = standing_name_room b s.stands.tokens0 s.stands.stack0 ts s.stack m i s.stands.standing s.stands.room.room l v
+  pub name_room : (m : Mode) (i : ℕ) → StandsInObject b ts m i → i < length b → BeginsName m
+      → length ts.elements < ts.limit
+  name_room m i s l v =
+      standing_name_room b s.stands.tokens0 s.stands.stack0 ts s.stack m i s.stands.standing s.stands.room.room l v
 
   pub string_room : (i : ℕ) → StandsInObject b ts Ready i → i < length b → length ts.elements < ts.limit
-  string_room i s l = standing_room b s.stands.tokens0 s.stands.stack0 ts s.stack Ready i s.stands.standing s.stands.room.room l tt
+  string_room i s l =
+      standing_room b s.stands.tokens0 s.stands.stack0 ts s.stack Ready i s.stands.standing s.stands.room.room l tt
 
   pub name_reserved : (m : Mode) (i : ℕ) → StandsInObject b ts m i → IsTrue ts.reserved
   name_reserved m i s = s.stands.standing.kept.room s.stands.room.reserved.0

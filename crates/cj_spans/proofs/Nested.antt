@@ -21,43 +21,62 @@ use Rattle.cj_spans.proofs.Signs.{comma_read, innermost_same, innermost_opened}
 use Rattle.cj_spans.proofs.Standing.{standing_small, standing_room, standing_step, standing_fault, standing_law, stepped_on, standing_with, grown_same, grown_more}
 
 -- what goes on from where a pass stands leaves one that stands
-pub stands_on : (b : List ℕ) (ts ts1 : BoundedList Token) (ks ks1 : BoundedList ℕ) (m n : Mode) (i j : ℕ) → Stands b ts ks m i → ((t0 : BoundedList Token) (s0 : BoundedList ℕ) → Standing b t0 s0 ts ks m i → Standing b t0 s0 ts1 ks1 n j) → Stands b ts1 ks1 n j
-stands_on b ts ts1 ks ks1 m n i j s f = record { tokens0 = s.tokens0; stack0 = s.stack0; standing = f s.tokens0 s.stack0 s.standing; room = s.room }
+pub stands_on : (b : List ℕ) (ts ts1 : BoundedList Token) (ks ks1 : BoundedList ℕ) (m n : Mode) (i j : ℕ)
+    → Stands b ts ks m i → ((t0 : BoundedList Token) (s0 : BoundedList ℕ) → Standing b t0 s0 ts ks m i
+    → Standing b t0 s0 ts1 ks1 n j) → Stands b ts1 ks1 n j
+stands_on b ts ts1 ks ks1 m n i j s f =
+    record { tokens0 = s.tokens0; stack0 = s.stack0; standing = f s.tokens0 s.stack0 s.standing; room = s.room }
 
 -- what the calls need
-pub stands_small : (b : List ℕ) (ts : BoundedList Token) (ks : BoundedList ℕ) (m : Mode) (i : ℕ) → Stands b ts ks m i → i < length b → FitsToken i ts
+pub stands_small : (b : List ℕ) (ts : BoundedList Token) (ks : BoundedList ℕ) (m : Mode) (i : ℕ) → Stands b ts ks m i
+    → i < length b → FitsToken i ts
 stands_small b ts ks m i s l = standing_small b s.tokens0 s.stack0 ts ks m i s.standing s.room.short l
 
-pub stands_room : (b : List ℕ) (ts : BoundedList Token) (ks : BoundedList ℕ) (m : Mode) (i : ℕ) → Stands b ts ks m i → i < length b → BeginsValue m → length ts.elements < ts.limit
+pub stands_room : (b : List ℕ) (ts : BoundedList Token) (ks : BoundedList ℕ) (m : Mode) (i : ℕ) → Stands b ts ks m i
+    → i < length b → BeginsValue m → length ts.elements < ts.limit
 stands_room b ts ks m i s l v = standing_room b s.tokens0 s.stack0 ts ks m i s.standing s.room.room l v
 
-pub stands_reserved : (b : List ℕ) (ts : BoundedList Token) (ks : BoundedList ℕ) (m : Mode) (i : ℕ) → Stands b ts ks m i → IsTrue ts.reserved × IsTrue ks.reserved
+pub stands_reserved : (b : List ℕ) (ts : BoundedList Token) (ks : BoundedList ℕ) (m : Mode) (i : ℕ) → Stands b ts ks m i
+    → IsTrue ts.reserved × IsTrue ks.reserved
 stands_reserved b ts ks m i s = (s.standing.kept.room s.room.reserved.0, s.standing.stack_room s.room.reserved.1)
 
 module _ (b : List ℕ) (t0 : BoundedList Token) (s0 : BoundedList ℕ) where
   -- behind a byte after which the mode n comes
-  standing_moved : (ts ts1 : BoundedList Token) (ks ks1 : BoundedList ℕ) (m n : Mode) (i : ℕ) (v : Move) → Standing b t0 s0 ts ks m i → i < length b → Grown ts ts1 → Kept ks ks1 → phase_after m i v ≡ between n
-      → ((p : ℕ) → read m (byte b i) (idle m ks.elements ts.elements i p) ≡ Some (state (phase_after m i v) ks1.elements ts1.elements (suc i) (deepest_after v p (length ks1.elements)))) → Standing b t0 s0 ts1 ks1 n (i + 1)
+  standing_moved : (ts ts1 : BoundedList Token) (ks ks1 : BoundedList ℕ) (m n : Mode) (i : ℕ) (v : Move)
+      → Standing b t0 s0 ts ks m i → i < length b → Grown ts ts1 → Kept ks ks1 → phase_after m i v ≡ between n
+      → ((p : ℕ) → read m (byte b i) (idle m ks.elements ts.elements i p)
+          ≡ Some (state (phase_after m i v) ks1.elements ts1.elements (suc i)
+              (deepest_after v p (length ks1.elements)))) → Standing b t0 s0 ts1 ks1 n (i + 1)
   standing_moved ts ts1 ks ks1 m n i v s l g k e h =
       let r = standing_step b t0 s0 ts ts1 ks ks1 m i v s l g k h in
-      stepped_on b t0 s0 ts1 ts1 ks1 m i v (record { mode = n; place = i + 1 }) r (grown_same ts1 r.kept.within) (λ p. (settles_at b m n i (i + 1) p v v ks1.elements ts1.elements refl e refl, omega arith, omega arith))
+      stepped_on b t0 s0 ts1 ts1 ks1 m i v (record { mode = n; place = i + 1 }) r (grown_same ts1 r.kept.within)
+          (λ p. (settles_at b m n i (i + 1) p v v ks1.elements ts1.elements refl e refl, omega arith, omega arith))
 
   -- behind the bracket that closes an array
-  pub standing_closed : (ts ts1 : BoundedList Token) (ks ks1 : BoundedList ℕ) (i : ℕ) → Standing b t0 s0 ts ks After i → i < length b → byte b i ≡ 93 → Grown ts ts1 → Kept ks ks1
-      → ((p : ℕ) → read After 93 (idle After ks.elements ts.elements i p) ≡ Some (idle After ks1.elements ts1.elements (suc i) p)) → Standing b t0 s0 ts1 ks1 After (i + 1)
-  standing_closed ts ts1 ks ks1 i s l e g k h = standing_moved ts ts1 ks ks1 After After i (To After) s l g k refl (λ p. ap (λ c. read After c (idle After ks.elements ts.elements i p)) e ∙ h p)
+  pub standing_closed : (ts ts1 : BoundedList Token) (ks ks1 : BoundedList ℕ) (i : ℕ) → Standing b t0 s0 ts ks After i
+      → i < length b → byte b i ≡ 93 → Grown ts ts1 → Kept ks ks1
+      → ((p : ℕ) → read After 93 (idle After ks.elements ts.elements i p)
+          ≡ Some (idle After ks1.elements ts1.elements (suc i) p)) → Standing b t0 s0 ts1 ks1 After (i + 1)
+  standing_closed ts ts1 ks ks1 i s l e g k h =
+      standing_moved ts ts1 ks ks1 After After i (To After) s l g k refl
+          (λ p. ap (λ c. read After c (idle After ks.elements ts.elements i p)) e ∙ h p)
 
   -- behind the comma of an array
-  pub standing_comma : (ts : BoundedList Token) (ks : BoundedList ℕ) (i : ℕ) → Standing b t0 s0 ts ks After i → IsComma b ts ks i → Standing b t0 s0 ts ks Ready (i + 1)
+  pub standing_comma : (ts : BoundedList Token) (ks : BoundedList ℕ) (i : ℕ) → Standing b t0 s0 ts ks After i
+      → IsComma b ts ks i → Standing b t0 s0 ts ks Ready (i + 1)
   standing_comma ts ks i s c =
       let l = c.within in
-      standing_with b t0 s0 ts ts ks After Ready i (i + 1) s (grown_same ts s.kept.within) (omega arith) (λ p. comma_read b start Array Ready ks.elements ts.elements i p (λ _ _ _. refl) c.array c.within c.comma)
+      standing_with b t0 s0 ts ts ks After Ready i (i + 1) s (grown_same ts s.kept.within) (omega arith)
+          (λ p. comma_read b start Array Ready ks.elements ts.elements i p (λ _ _ _. refl) c.array c.within c.comma)
 
   -- behind a number
-  pub standing_number : (ts ts1 : BoundedList Token) (ks : BoundedList ℕ) (m : Mode) (i k : ℕ) → Standing b t0 s0 ts ks m i → BeginsValue m → IsNumberUpTo b i k → EndsItem (byte b k) → Becomes ts (ts.elements ++ token_at i k (length ts.elements + 1) ∷ []) ts1 → Standing b t0 s0 ts1 ks After k
+  pub standing_number : (ts ts1 : BoundedList Token) (ks : BoundedList ℕ) (m : Mode) (i k : ℕ)
+      → Standing b t0 s0 ts ks m i → BeginsValue m → IsNumberUpTo b i k → EndsItem (byte b k)
+      → Becomes ts (ts.elements ++ token_at i k (length ts.elements + 1) ∷ []) ts1 → Standing b t0 s0 ts1 ks After k
   standing_number ts ts1 ks m i k s v n w e =
       let inside = n.within in
-      standing_with b t0 s0 ts ts1 ks m After i k s (grown_more ts ts1 _ s.kept.within e) (omega arith) (λ p. number_read b start m ks.elements ts.elements ts1.elements i k p n w v e.elements)
+      standing_with b t0 s0 ts ts1 ks m After i k s (grown_more ts ts1 _ s.kept.within e) (omega arith)
+          (λ p. number_read b start m ks.elements ts.elements ts1.elements i k p n w v e.elements)
 
 -- `[` opens an array where a value may begin
 opened_at : (m : Mode) (s : State) → BeginsValue m → read m 91 s ≡ Some (with_opened Array FirstItem s)
@@ -74,20 +93,27 @@ opens s = Some (with_opened Array FirstItem s)
 
 module _ (b : List ℕ) (ts ts1 : BoundedList Token) (ks ks1 : BoundedList ℕ) (m : Mode) (i : ℕ) where
   -- behind the bracket that opens an array
-  pub standing_opened : (v : Move) → ReadsByte opens i (Ok v) ts ts1 ks ks1 → BeginsValue m → i < length b → byte b i ≡ 91 → (t0 : BoundedList Token) (s0 : BoundedList ℕ) → Standing b t0 s0 ts ks m i → Standing b t0 s0 ts1 ks1 FirstItem (i + 1)
+  pub standing_opened : (v : Move) → ReadsByte opens i (Ok v) ts ts1 ks ks1 → BeginsValue m → i < length b
+      → byte b i ≡ 91 → (t0 : BoundedList Token) (s0 : BoundedList ℕ) → Standing b t0 s0 ts ks m i
+      → Standing b t0 s0 ts1 ks1 FirstItem (i + 1)
   standing_opened v r w l e t0 s0 s =
       let f : phase_after m i v ≡ between FirstItem = sym (ap (λ u. u.phase) (some_same _ _ (r.answer m 0))) in
-      standing_moved b t0 s0 ts ts1 ks ks1 m FirstItem i v s l r.tokens r.stack f (λ p. bracket_at m (byte b i) (idle m ks.elements ts.elements i p) w e ∙ r.answer m p)
+      standing_moved b t0 s0 ts ts1 ks ks1 m FirstItem i v s l r.tokens r.stack f
+          (λ p. bracket_at m (byte b i) (idle m ks.elements ts.elements i p) w e ∙ r.answer m p)
 
   pub opened_in : (v : Move) → ReadsByte opens i (Ok v) ts ts1 ks ks1 → InArray ks1.elements ts1.elements
   opened_in v r =
       let e = some_same _ _ (r.answer m 0) in
-      innermost_same Array _ ks1.elements _ ts1.elements (ap (λ u. u.stack) e) (ap (λ u. u.tokens) e) (innermost_opened Array ks.elements ts.elements i refl)
+      innermost_same Array _ ks1.elements _ ts1.elements (ap (λ u. u.stack) e) (ap (λ u. u.tokens) e)
+          (innermost_opened Array ks.elements ts.elements i refl)
 
   -- where it is refused
-  pub standing_refused : (f : LineFault) → ReadsByte opens i (Err f) ts ts1 ks ks1 → BeginsValue m → i < length b → byte b i ≡ 91 → (t0 : BoundedList Token) (s0 : BoundedList ℕ) → Standing b t0 s0 ts ks m i → GoesOn b t0 s0 (Err f) ts1 ks1
+  pub standing_refused : (f : LineFault) → ReadsByte opens i (Err f) ts ts1 ks ks1 → BeginsValue m → i < length b
+      → byte b i ≡ 91 → (t0 : BoundedList Token) (s0 : BoundedList ℕ) → Standing b t0 s0 ts ks m i
+      → GoesOn b t0 s0 (Err f) ts1 ks1
   standing_refused f r w l e t0 s0 s = (
     standing_fault (Unit {0}) b t0 s0 ts ts1 ks ks1 m i f s l
-        (λ p. subst (λ o. Answers o m i p ks.limit (Err f) ks1.elements ts1.elements) (sym (bracket_at m (byte b i) (idle m ks.elements ts.elements i p) w e)) (r.answer m p)),
+        (λ p. subst (λ o. Answers o m i p ks.limit (Err f) ks1.elements ts1.elements)
+            (sym (bracket_at m (byte b i) (idle m ks.elements ts.elements i p) w e)) (r.answer m p)),
     standing_law b t0 s0 ts ts1 ks ks1 m i s r.tokens r.stack r.err.0 r.err.1,
   )

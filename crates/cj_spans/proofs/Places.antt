@@ -29,12 +29,14 @@ pub record InAtom (b : List ℕ) (i k : ℕ) (x : Lex) : Type 0 where
 
 -- ---- bytes of the line
 
-slice-more : (b : List ℕ) (i k : ℕ) → i ≤ k → k < length b → slice_range b i (suc k) ≡ slice_range b i k ++ get_or b k 0 ∷ []
+slice-more : (b : List ℕ) (i k : ℕ) → i ≤ k → k < length b → slice_range b i (suc k) ≡ slice_range b i k
+    ++ get_or b k 0 ∷ []
 slice-more b i k h l =
     let e : suc k - i ≡ suc (k - i) = omega arith in
     let g : i + (k - i) ≡ k = omega arith in
     let r : k - i < length (drop i b) = omega (arith, length-drop i b) in
-    ap (λ n. take n (drop i b)) e ∙ take-suc (drop i b) (k - i) 0 r ∙ ap (λ z. take (k - i) (drop i b) ++ z ∷ []) (get_or-drop i b (k - i) 0 ∙ ap (λ n. get_or b n 0) g)
+    ap (λ n. take n (drop i b)) e ∙ take-suc (drop i b) (k - i) 0 r
+        ∙ ap (λ z. take (k - i) (drop i b) ++ z ∷ []) (get_or-drop i b (k - i) 0 ∙ ap (λ n. get_or b n 0) g)
 
 slice-one : (b : List ℕ) (i : ℕ) → i < length b → slice_range b i (suc i) ≡ get_or b i 0 ∷ []
 slice-one b i h =
@@ -77,10 +79,13 @@ no_zero Hex1 = refl
 no_zero StringDone = refl
 
 within_step : (b : List ℕ) (k : ℕ) (x y : Lex) → lex_step x (get_or b k 0) ≡ Some y → k < length b
-within_step b k x y h = elim (cases_lt k (length b)) [ inl l ↦ l | inr g ↦ none_some y (sym (no_zero x) ∙ ap (lex_step x) (sym (past_end b k g)) ∙ h) ]
+within_step b k x y h =
+    elim (cases_lt k (length b)) [ inl l ↦ l | inr g ↦
+        none_some y (sym (no_zero x) ∙ ap (lex_step x) (sym (past_end b k g)) ∙ h) ]
 
 within_start : (b : List ℕ) (k : ℕ) (y : Lex) → lex_start (get_or b k 0) ≡ Some y → k < length b
-within_start b k y h = elim (cases_lt k (length b)) [ inl l ↦ l | inr g ↦ none_some y (ap lex_start (sym (past_end b k g)) ∙ h) ]
+within_start b k y h =
+    elim (cases_lt k (length b)) [ inl l ↦ l | inr g ↦ none_some y (ap lex_start (sym (past_end b k g)) ∙ h) ]
 
 start_one : (o : Option Lex) → option_and_then (lex_run []) o ≡ o
 start_one None = refl
@@ -91,16 +96,21 @@ start_one (Some x) = refl
 pub atom_first : (b : List ℕ) (i : ℕ) (x : Lex) → lex_start (byte b i) ≡ Some x → InAtom b i (suc i) x
 atom_first b i x h =
     let l = within_start b i x h in
-    record { order = omega arith; within = omega arith; run = ap reading (slice-one b i l) ∙ start_one (lex_start (get_or b i 0)) ∙ h }
+    record { order = omega arith; within = omega arith; run = ap reading (slice-one b i l)
+        ∙ start_one (lex_start (get_or b i 0)) ∙ h }
 
-pub atom_more : (b : List ℕ) (i k : ℕ) (x y : Lex) → InAtom b i k x → lex_step x (byte b k) ≡ Some y → InAtom b i (suc k) y
+pub atom_more : (b : List ℕ) (i k : ℕ) (x y : Lex) → InAtom b i k x → lex_step x (byte b k) ≡ Some y
+    → InAtom b i (suc k) y
 atom_more b i k x y r h =
     let l = within_step b k x y h in
     let o : i ≤ k = omega (arith, r.order) in
-    record { order = omega (arith, r.order); within = omega arith; run = ap reading (slice-more b i k o l) ∙ reading-more (slice_range b i k) (get_or b k 0) x r.run ∙ h }
+    record { order = omega (arith, r.order); within = omega arith; run = ap reading (slice-more b i k o l)
+        ∙ reading-more (slice_range b i k) (get_or b k 0) x r.run ∙ h }
 
-pub atom_sound : {b : List ℕ} {i k : ℕ} {x : Lex} → InAtom b i k x → (kd : Kind) → lex_kind x ≡ Some kd → IsAtom b kd i k
-atom_sound {b} {i} {k} {x} r kd h = record { order = r.order; within = r.within; spelled = reading_sound (slice_range b i k) x kd r.run h }
+pub atom_sound : {b : List ℕ} {i k : ℕ} {x : Lex} → InAtom b i k x → (kd : Kind) → lex_kind x ≡ Some kd
+    → IsAtom b kd i k
+atom_sound {b} {i} {k} {x} r kd h =
+    record { order = r.order; within = r.within; spelled = reading_sound (slice_range b i k) x kd r.run h }
 
 -- some scalar begins so
 pub record SomeBegun (b : List ℕ) (i k : ℕ) : Type 0 where
@@ -110,7 +120,10 @@ pub record SomeBegun (b : List ℕ) (i k : ℕ) : Type 0 where
 pub atom_begun : {b : List ℕ} {i k : ℕ} {x : Lex} → InAtom b i k x → SomeBegun b i k
 atom_begun {b} {i} {k} {x} r =
     let c = can_end x in
-    record { kind = c.kind; begun = record { order = r.order; within = r.within; rest = c.rest; spelled = reading_sound (slice_range b i k ++ c.rest) c.last c.kind (reading-append (slice_range b i k) c.rest x r.run ∙ c.run) c.done } }
+    record { kind = c.kind; begun =
+        record { order = r.order; within = r.within; rest = c.rest;
+            spelled = reading_sound (slice_range b i k ++ c.rest) c.last c.kind
+            (reading-append (slice_range b i k) c.rest x r.run ∙ c.run) c.done } }
 
 -- ---- names
 
@@ -120,7 +133,8 @@ of_text s None y t e = none_some y e
 of_text [] (Some x) y t e = subst IsOfText (some_same x y e) t
 of_text (c ∷ s) (Some x) y t e = of_text s (lex_step x c) y (of_text_step x c t) e
 
-pub slice_has : (b : List ℕ) (i j n : ℕ) → n < length (slice_range b i j) → byte b (i + n) ≡ get_or (slice_range b i j) n 0
+pub slice_has : (b : List ℕ) (i j n : ℕ) → n < length (slice_range b i j)
+    → byte b (i + n) ≡ get_or (slice_range b i j) n 0
 slice_has b i j n l =
     let q : n < j - i = omega (arith, length-take (j - i) (drop i b)) in
     sym (get_or-take (j - i) (drop i b) n 0 q ∙ get_or-drop i b n 0)
@@ -129,22 +143,27 @@ plus_zero : (k : ℕ) → k ≡ k + 0
 plus_zero k = omega arith
 
 pub first_byte : (b : List ℕ) (i k : ℕ) → i < k → k ≤ length b → byte b i ≡ get_or (slice_range b i k) 0 0
-first_byte b i k o l = let e = slice-length b i k (omega arith) l in ap (byte b) (plus_zero i) ∙ slice_has b i k 0 (omega arith)
+first_byte b i k o l = let e = slice-length b i k (omega arith) l in
+    ap (byte b) (plus_zero i) ∙ slice_has b i k 0 (omega arith)
 
 pub in_text : {b : List ℕ} {i k : ℕ} {x : Lex} → InAtom b i k x → byte b i ≡ 34 → IsOfText x
 in_text {b} {i} {k} {x} r q = by_first (slice_range b i k) (sym (first_byte b i k r.order r.within) ∙ q) r.run
   where
     by_first : (s : List ℕ) → get_or s 0 0 ≡ 34 → reading s ≡ Some x → IsOfText x
     by_first [] e h = none_some x h
-    by_first (c ∷ s) e h = of_text s (Some InString) x tt (sym (ap (λ d. option_and_then (lex_run s) (lex_start d)) e) ∙ h)
+    by_first (c ∷ s) e h =
+        of_text s (Some InString) x tt (sym (ap (λ d. option_and_then (lex_run s) (lex_start d)) e) ∙ h)
 
-pub name_kind : {b : List ℕ} {i k : ℕ} {x : Lex} → InAtom b i k x → byte b i ≡ 34 → (kd : Kind) → lex_kind x ≡ Some kd → kd ≡ Text
+pub name_kind : {b : List ℕ} {i k : ℕ} {x : Lex} → InAtom b i k x → byte b i ≡ 34 → (kd : Kind) → lex_kind x ≡ Some kd
+    → kd ≡ Text
 name_kind {x = x} r q kd h = text_kind x kd (in_text r q) h
 
 pub name_begun : {b : List ℕ} {i k : ℕ} {x : Lex} → InAtom b i k x → byte b i ≡ 34 → Begun b Text i k
 name_begun {b} {i} {k} {x} r q =
     let c = text_end x (in_text r q) in
-    record { order = r.order; within = r.within; rest = c.rest; spelled = reading_sound (slice_range b i k ++ c.rest) StringDone Text (reading-append (slice_range b i k) c.rest x r.run ∙ c.run) refl }
+    record { order = r.order; within = r.within; rest = c.rest;
+        spelled = reading_sound (slice_range b i k ++ c.rest) StringDone Text
+        (reading-append (slice_range b i k) c.rest x r.run ∙ c.run) refl }
 
 -- ---- the machine over a scalar
 
@@ -168,24 +187,32 @@ starts_not c d x h n e = none_some x (sym n ∙ sym (ap lex_start (eqb-true c d 
 starts_not_white : (c : ℕ) (x : Lex) → lex_start c ≡ Some x → is_white_space c ≡ true → ⊥
 starts_not_white c x h e = none_some x (sym (start_end (white_end c e)) ∙ h)
 
-begin_atom : (c : ℕ) (x : Lex) (m : Mode) (ks : List ℕ) (ts : List Token) (i p : ℕ) → lex_start c ≡ Some x → begin_value c (idle m ks ts i p) ≡ Some (state (in_atom After i x) ks ts (suc i) p)
+begin_atom : (c : ℕ) (x : Lex) (m : Mode) (ks : List ℕ) (ts : List Token) (i p : ℕ) → lex_start c ≡ Some x
+    → begin_value c (idle m ks ts i p) ≡ Some (state (in_atom After i x) ks ts (suc i) p)
 begin_atom c x m ks ts i p h =
-    cond_not (nat_eq c 91) _ _ (starts_not c 91 x h refl) ∙ cond_not (nat_eq c 123) _ _ (starts_not c 123 x h refl) ∙ ap (option_map (λ y. state (in_atom After i y) ks ts (suc i) p)) h
+    cond_not (nat_eq c 91) _ _ (starts_not c 91 x h refl) ∙ cond_not (nat_eq c 123) _ _ (starts_not c 123 x h refl)
+        ∙ ap (option_map (λ y. state (in_atom After i y) ks ts (suc i) p)) h
 
-step_atom : (c : ℕ) (x : Lex) (m : Mode) (ks : List ℕ) (ts : List Token) (i p : ℕ) → BeginsValue m → lex_start c ≡ Some x → step c (idle m ks ts i p) ≡ Some (state (in_atom After i x) ks ts (suc i) p)
-step_atom c x Ready ks ts i p b h = cond_not (is_white_space c) _ _ (starts_not_white c x h) ∙ begin_atom c x Ready ks ts i p h
-step_atom c x FirstItem ks ts i p b h = cond_not (is_white_space c) _ _ (starts_not_white c x h) ∙ cond_not (nat_eq c 93) _ _ (starts_not c 93 x h refl) ∙ begin_atom c x FirstItem ks ts i p h
+step_atom : (c : ℕ) (x : Lex) (m : Mode) (ks : List ℕ) (ts : List Token) (i p : ℕ) → BeginsValue m
+    → lex_start c ≡ Some x → step c (idle m ks ts i p) ≡ Some (state (in_atom After i x) ks ts (suc i) p)
+step_atom c x Ready ks ts i p b h = cond_not (is_white_space c) _ _ (starts_not_white c x h)
+    ∙ begin_atom c x Ready ks ts i p h
+step_atom c x FirstItem ks ts i p b h = cond_not (is_white_space c) _ _ (starts_not_white c x h)
+    ∙ cond_not (nat_eq c 93) _ _ (starts_not c 93 x h refl) ∙ begin_atom c x FirstItem ks ts i p h
 step_atom c x _ ks ts i p b h = absurd b
 
-pub name_34 : (m : Mode) (ks : List ℕ) (ts : List Token) (i p : ℕ) → BeginsName m → step 34 (idle m ks ts i p) ≡ Some (state (in_atom AfterName i InString) ks ts (suc i) p)
+pub name_34 : (m : Mode) (ks : List ℕ) (ts : List Token) (i p : ℕ) → BeginsName m
+    → step 34 (idle m ks ts i p) ≡ Some (state (in_atom AfterName i InString) ks ts (suc i) p)
 name_34 FirstName ks ts i p g = refl
 name_34 NextName ks ts i p g = refl
 name_34 _ ks ts i p g = absurd g
 
-step_name : (c : ℕ) (m : Mode) (ks : List ℕ) (ts : List Token) (i p : ℕ) → BeginsName m → c ≡ 34 → step c (idle m ks ts i p) ≡ Some (state (in_atom AfterName i InString) ks ts (suc i) p)
+step_name : (c : ℕ) (m : Mode) (ks : List ℕ) (ts : List Token) (i p : ℕ) → BeginsName m → c ≡ 34
+    → step c (idle m ks ts i p) ≡ Some (state (in_atom AfterName i InString) ks ts (suc i) p)
 step_name c m ks ts i p g q = ap (λ d. step d (idle m ks ts i p)) q ∙ name_34 m ks ts i p g
 
-stepped : (f : Lex → Option Lex) (o : Option Lex) (y : Lex) → option_and_then f o ≡ Some y → (z : Lex) × (o ≡ Some z) × (f z ≡ Some y)
+stepped : (f : Lex → Option Lex) (o : Option Lex) (y : Lex) → option_and_then f o ≡ Some y → (z : Lex) × (o ≡ Some z)
+    × (f z ≡ Some y)
 stepped f None y h = none_some y h
 stepped f (Some z) y h = (z, refl, h)
 
@@ -193,7 +220,8 @@ shift : (k n : ℕ) → suc k + n ≡ k + suc n
 shift k n = omega arith
 
 -- bytes that a reading passes over, by their places
-pub continues_run : (r : List ℕ) (b : List ℕ) (i k : ℕ) (x y z : Lex) → Continues b i x k y → lex_run r y ≡ Some z → ((n : ℕ) → n < length r → byte b (k + n) ≡ get_or r n 0) → Continues b i x (k + length r) z
+pub continues_run : (r : List ℕ) (b : List ℕ) (i k : ℕ) (x y z : Lex) → Continues b i x k y → lex_run r y ≡ Some z
+    → ((n : ℕ) → n < length r → byte b (k + n) ≡ get_or r n 0) → Continues b i x (k + length r) z
 continues_run [] b i k x y z c h e =
     let q : y ≡ z = some_same y z h in
     let f : k ≡ k + 0 = omega arith in
@@ -202,7 +230,9 @@ continues_run (d ∷ r) b i k x y z c h e =
     let w = stepped (lex_run r) (lex_step y d) z h in
     let f : byte b k ≡ d = ap (byte b) (plus_zero k) ∙ e 0 (omega arith) in
     let a : suc k + length r ≡ k + suc (length r) = omega arith in
-    subst (λ n. Continues b i x n z) a (continues_run r b i (suc k) x w.0 z (further k y w.0 c (ap (lex_step y) f ∙ w.1)) w.2 (λ n l. ap (byte b) (shift k n) ∙ e (suc n) (omega arith)))
+    subst (λ n. Continues b i x n z) a
+        (continues_run r b i (suc k) x w.0 z (further k y w.0 c (ap (lex_step y) f ∙ w.1)) w.2
+        (λ n l. ap (byte b) (shift k n) ∙ e (suc n) (omega arith)))
 
 -- the first reading of a scalar, and how it goes on
 record Started (b : List ℕ) (i k : ℕ) (y : Lex) : Type 0 where
@@ -211,9 +241,11 @@ record Started (b : List ℕ) (i k : ℕ) (y : Lex) : Type 0 where
   goes : Continues b (suc i) first k y
 
 started : (b : List ℕ) (i k : ℕ) (y : Lex) → InAtom b i k y → Started b i k y
-started b i k y r = by_list (slice_range b i k) (slice-length b i k (omega (arith, r.order)) r.within) (slice_has b i k) r.run
+started b i k y r =
+    by_list (slice_range b i k) (slice-length b i k (omega (arith, r.order)) r.within) (slice_has b i k) r.run
   where
-    by_list : (s : List ℕ) → i + length s ≡ k → ((n : ℕ) → n < length s → byte b (i + n) ≡ get_or s n 0) → reading s ≡ Some y → Started b i k y
+    by_list : (s : List ℕ) → i + length s ≡ k → ((n : ℕ) → n < length s → byte b (i + n) ≡ get_or s n 0)
+        → reading s ≡ Some y → Started b i k y
     by_list [] l e h = none_some y h
     by_list (c ∷ s) l e h =
         let z = stepped (lex_run s) (lex_start c) y h in
@@ -222,20 +254,30 @@ started b i k y r = by_list (slice_range b i k) (slice-length b i k (omega (arit
         record {
           first = z.0;
           starts = ap lex_start f ∙ z.1;
-          goes = subst (λ n. Continues b (suc i) z.0 n y) a (continues_run s b (suc i) (suc i) z.0 z.0 y still z.2 (λ n q. ap (byte b) (shift i n) ∙ e (suc n) (omega arith)));
+          goes = subst (λ n. Continues b (suc i) z.0 n y) a
+              (continues_run s b (suc i) (suc i) z.0 z.0 y still z.2
+              (λ n q. ap (byte b) (shift i n) ∙ e (suc n) (omega arith)));
         }
 
-pub run_begun : {b : List ℕ} {i k : ℕ} {y : Lex} → InAtom b i k y → (s : State) (m : Mode) (ks : List ℕ) (ts : List Token) (p : ℕ) → BeginsValue m → Reaches b s (idle m ks ts i p) → Reaches b s (state (in_atom After i y) ks ts k p)
+pub run_begun : {b : List ℕ} {i k : ℕ} {y : Lex} → InAtom b i k y
+    → (s : State) (m : Mode) (ks : List ℕ) (ts : List Token) (p : ℕ) → BeginsValue m → Reaches b s (idle m ks ts i p)
+    → Reaches b s (state (in_atom After i y) ks ts k p)
 run_begun {b} {i} {k} {y} r s m ks ts p g h =
     let z = started b i k y r in
-    continues_reaches z.goes s After i ks ts p (on (idle m ks ts i p) (state (in_atom After i z.first) ks ts (suc i) p) h (step_atom (byte b i) z.first m ks ts i p g z.starts))
+    continues_reaches z.goes s After i ks ts p
+        (on (idle m ks ts i p) (state (in_atom After i z.first) ks ts (suc i) p) h
+        (step_atom (byte b i) z.first m ks ts i p g z.starts))
 
-pub run_begun_name : {b : List ℕ} {i k : ℕ} {y : Lex} → InAtom b i k y → byte b i ≡ 34 → (s : State) (m : Mode) (ks : List ℕ) (ts : List Token) (p : ℕ) → BeginsName m → Reaches b s (idle m ks ts i p) → Reaches b s (state (in_atom AfterName i y) ks ts k p)
+pub run_begun_name : {b : List ℕ} {i k : ℕ} {y : Lex} → InAtom b i k y → byte b i ≡ 34
+    → (s : State) (m : Mode) (ks : List ℕ) (ts : List Token) (p : ℕ) → BeginsName m → Reaches b s (idle m ks ts i p)
+    → Reaches b s (state (in_atom AfterName i y) ks ts k p)
 run_begun_name {b} {i} {k} {y} r q s m ks ts p g h =
     let z = started b i k y r in
     let e : InString ≡ z.first = some_same InString z.first (sym (ap lex_start q) ∙ z.starts) in
     let c = subst (λ w. Continues b (suc i) w k y) (sym e) z.goes in
-    continues_reaches c s AfterName i ks ts p (on (idle m ks ts i p) (state (in_atom AfterName i InString) ks ts (suc i) p) h (step_name (byte b i) m ks ts i p g q))
+    continues_reaches c s AfterName i ks ts p
+        (on (idle m ks ts i p) (state (in_atom AfterName i InString) ks ts (suc i) p) h
+        (step_name (byte b i) m ks ts i p g q))
 
 -- ---- scalars of the grammar
 
@@ -264,7 +306,8 @@ atom_reading {b} {kd} {i} {j} w =
     record { last = a.last; inside = record { order = w.order; within = w.within; run = a.run }; kind = a.kind }
 
 -- a string begins with its quote
-pub quote_first : (b : List ℕ) (i j : ℕ) (r : List ℕ) → i < j → j ≤ length b → IsScalar Text (slice_range b i j ++ r) → byte b i ≡ 34
+pub quote_first : (b : List ℕ) (i j : ℕ) (r : List ℕ) → i < j → j ≤ length b → IsScalar Text (slice_range b i j ++ r)
+    → byte b i ≡ 34
 quote_first b i j r h l w =
     let e = slice-length b i j (omega arith) l in
     first_byte b i j h l ∙ head_of (slice_range b i j) r (w.body ++ 34 ∷ []) (omega arith) w.joined
@@ -274,9 +317,11 @@ quote_first b i j r h l w =
     head_of (c ∷ s) r body l h = cc
 
 pub name_quote : {b : List ℕ} {i j : ℕ} → IsAtom b Text i j → byte b i ≡ 34
-name_quote {b} {i} {j} w = quote_first b i j [] w.order w.within (subst (IsScalar Text) (sym (append-nil (slice_range b i j))) w.spelled)
+name_quote {b} {i} {j} w =
+    quote_first b i j [] w.order w.within (subst (IsScalar Text) (sym (append-nil (slice_range b i j))) w.spelled)
 
-pub run_atom : {b : List ℕ} {kd : Kind} {i j : ℕ} → IsAtom b kd i j → (s : State) (m : Mode) (ks : List ℕ) (ts : List Token) (p : ℕ) → BeginsValue m → Reaches b s (idle m ks ts i p)
+pub run_atom : {b : List ℕ} {kd : Kind} {i j : ℕ} → IsAtom b kd i j
+    → (s : State) (m : Mode) (ks : List ℕ) (ts : List Token) (p : ℕ) → BeginsValue m → Reaches b s (idle m ks ts i p)
     → Arrives b s (idle After ks (ts ++ token_at i j (suc (length ts)) ∷ []) j p)
 run_atom {b} {kd} {i} {j} w s m ks ts p g r =
     let a = atom_reading w in
@@ -286,7 +331,8 @@ run_atom {b} {kd} {i} {j} w s m ks ts p g r =
       settles = ap (λ q. end_atom After i q (state (in_atom After i a.last) ks ts j p)) a.kind;
     }
 
-pub run_name : {b : List ℕ} {i j : ℕ} → IsAtom b Text i j → (s : State) (m : Mode) (ks : List ℕ) (ts : List Token) (p : ℕ) → BeginsName m → Reaches b s (idle m ks ts i p)
+pub run_name : {b : List ℕ} {i j : ℕ} → IsAtom b Text i j
+    → (s : State) (m : Mode) (ks : List ℕ) (ts : List Token) (p : ℕ) → BeginsName m → Reaches b s (idle m ks ts i p)
     → Arrives b s (idle AfterName ks (ts ++ token_at i j (suc (length ts)) ∷ []) j p)
 run_name {b} {i} {j} w s m ks ts p g r =
     let a = atom_reading w in

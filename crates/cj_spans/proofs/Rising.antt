@@ -25,7 +25,8 @@ past_rises j [] r = (tt, All-nil (λ u. j ≤ start_of u))
 past_rises j (t ∷ ts) r =
     elim (cases_lt (start_of t) j) [
       | inl l ↦ subst (λ us. Rise us × All (λ u. j ≤ start_of u) us) (sym (past_on t ts j l)) (past_rises j ts r.1)
-      | inr g ↦ subst (λ us. Rise us × All (λ u. j ≤ start_of u) us) (sym (past_here t ts j g)) (r, All-cons (λ u. j ≤ start_of u) t ts g (λ k d l. let h = r.0 k d l in omega arith))
+      | inr g ↦ subst (λ us. Rise us × All (λ u. j ≤ start_of u) us) (sym (past_here t ts j g))
+          (r, All-cons (λ u. j ≤ start_of u) t ts g (λ k d l. let h = r.0 k d l in omega arith))
     ]
 
 forest_rises : (b : List ℕ) (ss : List Span) → All (λ (s : Span). s.start < s.stop) ss → Rise (forest b ss)
@@ -37,30 +38,43 @@ forest_rises b (s ∷ ss) a =
     let e = start-node b (kind_by (byte b s.start)) s.start s.stop (held s.stop (forest b ss)) in
     (λ k d h. let g = r.1 k d h in omega arith, r.0)
 
-spans_filled : (n : ℕ) (ts : List Token) → ((k : ℕ) (t : Token) → slice_get ts k ≡ Some t → (t.start < t.stop) × (t.stop ≤ n)) → All (λ (s : Span). s.start < s.stop) (spans_of ts)
+spans_filled : (n : ℕ) (ts : List Token)
+    → ((k : ℕ) (t : Token) → slice_get ts k ≡ Some t → (t.start < t.stop) × (t.stop ≤ n))
+    → All (λ (s : Span). s.start < s.stop) (spans_of ts)
 spans_filled n [] w = All-nil (λ (s : Span). s.start < s.stop)
-spans_filled n (t ∷ ts) w = All-cons (λ (s : Span). s.start < s.stop) _ (spans_of ts) (w 0 t refl).0 (spans_filled n ts (λ k u h. w (suc k) u h))
+spans_filled n (t ∷ ts) w =
+    All-cons (λ (s : Span). s.start < s.stop) _ (spans_of ts) (w 0 t refl).0
+        (spans_filled n ts (λ k u h. w (suc k) u h))
 
-pub shown_rise : (line : List ℕ) (tokens : List Token) (k n : ℕ) → AreWithin line tokens → Rise (shown_between line tokens k n)
-shown_rise line tokens k n w = forest_rises line (slice_range (spans_of tokens) k n) (All-take (λ (s : Span). s.start < s.stop) (n - k) (drop k (spans_of tokens)) (All-drop (λ (s : Span). s.start < s.stop) k (spans_of tokens) (spans_filled (length line) tokens w)))
+pub shown_rise : (line : List ℕ) (tokens : List Token) (k n : ℕ) → AreWithin line tokens
+    → Rise (shown_between line tokens k n)
+shown_rise line tokens k n w =
+    forest_rises line (slice_range (spans_of tokens) k n)
+        (All-take (λ (s : Span). s.start < s.stop) (n - k) (drop k (spans_of tokens))
+        (All-drop (λ (s : Span). s.start < s.stop) k (spans_of tokens) (spans_filled (length line) tokens w)))
 
-names_among : (n : ℕ) (ts : List Tree) → All (λ u. n < start_of u) ts → All (λ (m : Tree × Tree). n < start_of m.0) (pairs_of ts)
+names_among : (n : ℕ) (ts : List Tree) → All (λ u. n < start_of u) ts
+    → All (λ (m : Tree × Tree). n < start_of m.0) (pairs_of ts)
 names_among n [] a = All-nil (λ (m : Tree × Tree). n < start_of m.0)
 names_among n (t ∷ []) a = All-nil (λ (m : Tree × Tree). n < start_of m.0)
 names_among n (t ∷ u ∷ ts) a =
-    All-cons (λ (m : Tree × Tree). n < start_of m.0) (t, u) (pairs_of ts) (All-head (λ u. n < start_of u) t (u ∷ ts) a) (names_among n ts (All-tail (λ u. n < start_of u) u ts (All-tail (λ u. n < start_of u) t (u ∷ ts) a)))
+    All-cons (λ (m : Tree × Tree). n < start_of m.0) (t, u) (pairs_of ts) (All-head (λ u. n < start_of u) t (u ∷ ts) a)
+        (names_among n ts (All-tail (λ u. n < start_of u) u ts (All-tail (λ u. n < start_of u) t (u ∷ ts) a)))
 
 pub pairs_rise : (ts : List Tree) → Rise ts → AreInOrder (pairs_of ts)
 pairs_rise [] r = tt
 pairs_rise (t ∷ []) r = tt
-pairs_rise (t ∷ u ∷ ts) r = (names_among (start_of t) ts (All-tail (λ v. start_of t < start_of v) u ts r.0), pairs_rise ts r.1.1)
+pairs_rise (t ∷ u ∷ ts) r =
+    (names_among (start_of t) ts (All-tail (λ v. start_of t < start_of v) u ts r.0), pairs_rise ts r.1.1)
 
-values_among : (n : ℕ) (ts : List Tree) → All (λ u. n < start_of u) ts → All (λ (m : Tree × Tree). n < start_of m.1) (pairs_of ts)
+values_among : (n : ℕ) (ts : List Tree) → All (λ u. n < start_of u) ts
+    → All (λ (m : Tree × Tree). n < start_of m.1) (pairs_of ts)
 values_among n [] a = All-nil (λ (m : Tree × Tree). n < start_of m.1)
 values_among n (t ∷ []) a = All-nil (λ (m : Tree × Tree). n < start_of m.1)
 values_among n (t ∷ u ∷ ts) a =
     let later = All-tail (λ u. n < start_of u) t (u ∷ ts) a in
-    All-cons (λ (m : Tree × Tree). n < start_of m.1) (t, u) (pairs_of ts) (All-head (λ u. n < start_of u) u ts later) (values_among n ts (All-tail (λ u. n < start_of u) u ts later))
+    All-cons (λ (m : Tree × Tree). n < start_of m.1) (t, u) (pairs_of ts) (All-head (λ u. n < start_of u) u ts later)
+        (values_among n ts (All-tail (λ u. n < start_of u) u ts later))
 
 pub values_rise : (ts : List Tree) → Rise ts → AreInValueOrder (pairs_of ts)
 values_rise [] r = tt

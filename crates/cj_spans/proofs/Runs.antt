@@ -105,14 +105,18 @@ white_end c h =
 
 -- ---- a state and the one that it settles to
 
-settled_atom : (m : Mode) (a : ℕ) (x : Lex) (k : Option Kind) (ks : List ℕ) (ts : List Token) (i p : ℕ) (t : State) (c : ℕ) → lex_kind x ≡ k → IsEnd c → end_atom m a k (state (in_atom m a x) ks ts i p) ≡ Some t
-    → go_on (λ y. in_atom m a y) (lex_step x c) (state (in_atom m a x) ks ts i p) (option_and_then (read m c) (end_atom m a k (state (in_atom m a x) ks ts i p))) ≡ step c t
+settled_atom : (m : Mode) (a : ℕ) (x : Lex) (k : Option Kind) (ks : List ℕ) (ts : List Token) (i p : ℕ) (t : State)
+    (c : ℕ) → lex_kind x ≡ k → IsEnd c → end_atom m a k (state (in_atom m a x) ks ts i p) ≡ Some t
+    → go_on (λ y. in_atom m a y) (lex_step x c) (state (in_atom m a x) ks ts i p)
+        (option_and_then (read m c) (end_atom m a k (state (in_atom m a x) ks ts i p))) ≡ step c t
 settled_atom m a x None ks ts i p t c kind e h = none_some t h
 settled_atom m a x (Some k) ks ts i p t c kind e h =
     let s = state (in_atom m a x) ks ts i p in
-    ap (λ o. go_on (λ y. in_atom m a y) o s (option_and_then (read m c) (end_atom m a (Some k) s))) (atom_ends x c k kind e) ∙ ap (step c) (some_same _ t h)
+    ap (λ o. go_on (λ y. in_atom m a y) o s (option_and_then (read m c) (end_atom m a (Some k) s)))
+        (atom_ends x c k kind e) ∙ ap (step c) (some_same _ t h)
 
-settled_phase : (f : Phase) (ks : List ℕ) (ts : List Token) (i p : ℕ) (t : State) (c : ℕ) → IsEnd c → settle (state f ks ts i p) ≡ Some t → step c (state f ks ts i p) ≡ step c t
+settled_phase : (f : Phase) (ks : List ℕ) (ts : List Token) (i p : ℕ) (t : State) (c : ℕ) → IsEnd c
+    → settle (state f ks ts i p) ≡ Some t → step c (state f ks ts i p) ≡ step c t
 settled_phase (between m) ks ts i p t c e h = ap (step c) (some_same _ t h)
 settled_phase (in_atom m a x) ks ts i p t c e h = settled_atom m a x (lex_kind x) ks ts i p t c refl e h
 
@@ -130,9 +134,11 @@ settled_by s t e = record { stack = ap (λ u. u.stack) e; place = ap (λ u. u.pl
 
 settled_end : (m : Mode) (a : ℕ) (k : Option Kind) (s t : State) → end_atom m a k s ≡ Some t → Settled s t
 settled_end m a None s t h = none_some t h
-settled_end m a (Some k) s t h = let e = some_same _ t h in record { stack = ap (λ u. u.stack) e; place = ap (λ u. u.place) e; deepest = ap (λ u. u.deepest) e }
+settled_end m a (Some k) s t h = let e = some_same _ t h in
+    record { stack = ap (λ u. u.stack) e; place = ap (λ u. u.place) e; deepest = ap (λ u. u.deepest) e }
 
-settled_same : (f : Phase) (ks : List ℕ) (ts : List Token) (i p : ℕ) (t : State) → settle (state f ks ts i p) ≡ Some t → Settled (state f ks ts i p) t
+settled_same : (f : Phase) (ks : List ℕ) (ts : List Token) (i p : ℕ) (t : State) → settle (state f ks ts i p) ≡ Some t
+    → Settled (state f ks ts i p) t
 settled_same (between m) ks ts i p t h = settled_by (idle m ks ts i p) t (some_same _ t h)
 settled_same (in_atom m a x) ks ts i p t h = settled_end m a (lex_kind x) (state (in_atom m a x) ks ts i p) t h
 
@@ -147,41 +153,50 @@ pub record Arrives (b : List ℕ) (s t : State) : Type 0 where
   pub reached : Reaches b s at
   pub settles : settle at ≡ Some t
 
-pub arrive_on : (b : List ℕ) (s t u : State) → IsEnd (byte b t.place) → Arrives b s t → step (byte b t.place) t ≡ Some u → Reaches b s u
+pub arrive_on : (b : List ℕ) (s t u : State) → IsEnd (byte b t.place) → Arrives b s t → step (byte b t.place) t ≡ Some u
+    → Reaches b s u
 arrive_on b s t u e a h =
     let p : a.at.place ≡ t.place = (settled a.at t a.settles).place in
     let q : step (byte b t.place) a.at ≡ step (byte b t.place) t = settled_step a.at t (byte b t.place) e a.settles in
     on a.at u a.reached (ap (λ i. step (byte b i) a.at) p ∙ q ∙ h)
 
-pub arrived : (b : List ℕ) (s : State) (m : Mode) (ks : List ℕ) (ts : List Token) (i p : ℕ) → Reaches b s (idle m ks ts i p) → Arrives b s (idle m ks ts i p)
+pub arrived : (b : List ℕ) (s : State) (m : Mode) (ks : List ℕ) (ts : List Token) (i p : ℕ)
+    → Reaches b s (idle m ks ts i p) → Arrives b s (idle m ks ts i p)
 arrived b s m ks ts i p r = record { at = idle m ks ts i p; reached = r; settles = refl }
 
-skip_some : (n : ℕ) (b : List ℕ) (s : State) (m : Mode) (ks : List ℕ) (ts : List Token) (i p : ℕ) → ((k : ℕ) → i ≤ k → k < i + n → is_white_space (byte b k) ≡ true)
+skip_some : (n : ℕ) (b : List ℕ) (s : State) (m : Mode) (ks : List ℕ) (ts : List Token) (i p : ℕ)
+    → ((k : ℕ) → i ≤ k → k < i + n → is_white_space (byte b k) ≡ true)
     → Reaches b s (idle m ks ts i p) → Reaches b s (idle m ks ts (i + n) p)
-skip_some zero b s m ks ts i p each r = let e : i ≡ i + 0 = omega arith in subst (λ k. Reaches b s (idle m ks ts k p)) e r
+skip_some zero b s m ks ts i p each r = let e : i ≡ i + 0 = omega arith in
+    subst (λ k. Reaches b s (idle m ks ts k p)) e r
 skip_some (suc n) b s m ks ts i p each r =
     let white = each i (omega arith) (omega arith) in
     let e : suc i + n ≡ i + suc n = omega arith in
     let q = on (idle m ks ts i p) (idle m ks ts (suc i) p) r (cond-true (is_white_space (byte b i)) _ _ white) in
-    subst (λ k. Reaches b s (idle m ks ts k p)) e (skip_some n b s m ks ts (suc i) p (λ k l u. each k (omega arith) (omega arith)) q)
+    subst (λ k. Reaches b s (idle m ks ts k p)) e
+        (skip_some n b s m ks ts (suc i) p (λ k l u. each k (omega arith) (omega arith)) q)
 
-pub skip : {b : List ℕ} {i j : ℕ} → White b i j → (s : State) (m : Mode) (ks : List ℕ) (ts : List Token) (p : ℕ) → Reaches b s (idle m ks ts i p) → Reaches b s (idle m ks ts j p)
+pub skip : {b : List ℕ} {i j : ℕ} → White b i j → (s : State) (m : Mode) (ks : List ℕ) (ts : List Token) (p : ℕ)
+    → Reaches b s (idle m ks ts i p) → Reaches b s (idle m ks ts j p)
 skip {b} {i} {j} w s m ks ts p r =
     let o = w.order in
     let e : i + (j - i) ≡ j = omega arith in
-    subst (λ k. Reaches b s (idle m ks ts k p)) e (skip_some (j - i) b s m ks ts i p (λ k l u. w.each k l (omega arith)) r)
+    subst (λ k. Reaches b s (idle m ks ts k p)) e
+        (skip_some (j - i) b s m ks ts i p (λ k l u. w.each k l (omega arith)) r)
 
 white_rest : (b : List ℕ) (i j : ℕ) → White b i j → i < j → White b (suc i) j
 white_rest b i j w h = record { order = omega arith; each = λ k l u. w.each k (omega arith) u }
 
 -- the same where a scalar may just have ended
-pub skip_after : {b : List ℕ} {i j : ℕ} → White b i j → (s : State) (m : Mode) (ks : List ℕ) (ts : List Token) (p : ℕ) → Arrives b s (idle m ks ts i p) → Arrives b s (idle m ks ts j p)
+pub skip_after : {b : List ℕ} {i j : ℕ} → White b i j → (s : State) (m : Mode) (ks : List ℕ) (ts : List Token) (p : ℕ)
+    → Arrives b s (idle m ks ts i p) → Arrives b s (idle m ks ts j p)
 skip_after {b} {i} {j} w s m ks ts p a =
     elim (eq-or-lt_of_le w.order) [
       | inl e ↦ subst (λ k. Arrives b s (idle m ks ts k p)) e a
       | inr l ↦
           let white = w.each i (omega arith) l in
-          let r = arrive_on b s (idle m ks ts i p) (idle m ks ts (suc i) p) (white_end (byte b i) white) a (cond-true (is_white_space (byte b i)) _ _ white) in
+          let r = arrive_on b s (idle m ks ts i p) (idle m ks ts (suc i) p) (white_end (byte b i) white) a
+              (cond-true (is_white_space (byte b i)) _ _ white) in
           arrived b s m ks ts j p (skip (white_rest b i j w l) s m ks ts p r)
     ]
 

@@ -59,7 +59,8 @@ members_small [] = omega arith
 members_small (n ∷ []) = omega arith
 members_small (n ∷ t ∷ ts) = let s = size_some n in let l = members_small ts in omega arith
 
-members_same : (ts : List Tree) → members_size (members_from ts) ≡ total_size ts → members_preorder (members_from ts) ≡ preorders ts
+members_same : (ts : List Tree) → members_size (members_from ts) ≡ total_size ts
+    → members_preorder (members_from ts) ≡ preorders ts
 members_same [] h = refl
 members_same (n ∷ []) h = let s = size_some n in absurd (omega arith)
 members_same (n ∷ t ∷ ts) h =
@@ -67,7 +68,8 @@ members_same (n ∷ t ∷ ts) h =
     let l = members_small ts in
     let e : size n ≡ 1 = omega arith in
     let f : members_size (members_from ts) ≡ total_size ts = omega arith in
-    ap (λ ss. span_at (atom_of n).start (atom_of n).stop ∷ (preorder t ++ ss)) (members_same ts f) ∙ ap (λ ss. ss ++ (preorder t ++ preorders ts)) (sym (alone n e))
+    ap (λ ss. span_at (atom_of n).start (atom_of n).stop ∷ (preorder t ++ ss)) (members_same ts f)
+        ∙ ap (λ ss. ss ++ (preorder t ++ preorders ts)) (sym (alone n e))
 
 pub node_small : (b : List ℕ) (k : Kind) (i j : ℕ) (ts : List Tree) → size (node b k i j ts) ≤ suc (total_size ts)
 node_small b Null i j ts = omega arith
@@ -77,7 +79,8 @@ node_small b Text i j ts = omega arith
 node_small b Array i j ts = let e = items_size-from ts in omega arith
 node_small b Object i j ts = let e = members_small ts in omega arith
 
-node_same : (b : List ℕ) (k : Kind) (i j : ℕ) (ts : List Tree) → size (node b k i j ts) ≡ suc (total_size ts) → preorder (node b k i j ts) ≡ span_at i j ∷ preorders ts
+node_same : (b : List ℕ) (k : Kind) (i j : ℕ) (ts : List Tree) → size (node b k i j ts) ≡ suc (total_size ts)
+    → preorder (node b k i j ts) ≡ span_at i j ∷ preorders ts
 node_same b Null i j ts h = ap (λ ss. span_at i j ∷ ss) (sym (sizes_none ts (omega arith)))
 node_same b Truth i j ts h = ap (λ ss. span_at i j ∷ ss) (sym (sizes_none ts (omega arith)))
 node_same b Number i j ts h = ap (λ ss. span_at i j ∷ ss) (sym (sizes_none ts (omega arith)))
@@ -91,9 +94,11 @@ sizes-append (t ∷ ts) us = let e = sizes-append ts us in omega arith
 
 preorders-append : (ts us : List Tree) → preorders (ts ++ us) ≡ preorders ts ++ preorders us
 preorders-append [] us = refl
-preorders-append (t ∷ ts) us = ap (λ ss. preorder t ++ ss) (preorders-append ts us) ∙ sym (append_assoc (preorder t) (preorders ts) (preorders us))
+preorders-append (t ∷ ts) us = ap (λ ss. preorder t ++ ss) (preorders-append ts us)
+    ∙ sym (append_assoc (preorder t) (preorders ts) (preorders us))
 
-held-past_on : (t : Tree) (ts : List Tree) (j : ℕ) → start_of t < j → held j (t ∷ ts) ++ past j (t ∷ ts) ≡ t ∷ (held j ts ++ past j ts)
+held-past_on : (t : Tree) (ts : List Tree) (j : ℕ) → start_of t < j
+    → held j (t ∷ ts) ++ past j (t ∷ ts) ≡ t ∷ (held j ts ++ past j ts)
 held-past_on t ts j h = grind (arith, nat_tests)
 
 held-past_here : (t : Tree) (ts : List Tree) (j : ℕ) → j ≤ start_of t → held j (t ∷ ts) ++ past j (t ∷ ts) ≡ t ∷ ts
@@ -101,7 +106,9 @@ held-past_here t ts j h = grind (arith, nat_tests)
 
 held-past : (j : ℕ) (ts : List Tree) → held j ts ++ past j ts ≡ ts
 held-past j [] = refl
-held-past j (t ∷ ts) = elim (cases_lt (start_of t) j) [ inl l ↦ held-past_on t ts j l ∙ ap (λ us. t ∷ us) (held-past j ts) | inr g ↦ held-past_here t ts j g ]
+held-past j (t ∷ ts) =
+    elim (cases_lt (start_of t) j) [ inl l ↦ held-past_on t ts j l ∙ ap (λ us. t ∷ us) (held-past j ts) | inr g ↦
+        held-past_here t ts j g ]
 
 pub held_sizes : (j : ℕ) (ts : List Tree) → total_size (held j ts) + total_size (past j ts) ≡ total_size ts
 held_sizes j ts = sym (sizes-append (held j ts) (past j ts)) ∙ ap total_size (held-past j ts)
@@ -122,13 +129,17 @@ forest_same b (s ∷ ss) h =
     let l = forest_small b ss in
     let e = held_sizes s.stop (forest b ss) in
     let n = node_small b (kind_by (byte b s.start)) s.start s.stop (held s.stop (forest b ss)) in
-    let f : size (node b (kind_by (byte b s.start)) s.start s.stop (held s.stop (forest b ss))) ≡ suc (total_size (held s.stop (forest b ss))) = omega arith in
+    let f : size (node b (kind_by (byte b s.start)) s.start s.stop (held s.stop (forest b ss)))
+        ≡ suc (total_size (held s.stop (forest b ss))) = omega arith in
     let g : total_size (forest b ss) ≡ length ss = omega arith in
-    ap (λ us. us ++ preorders (past s.stop (forest b ss))) (node_same b (kind_by (byte b s.start)) s.start s.stop (held s.stop (forest b ss)) f)
-    ∙ ap (λ us. s ∷ us) (sym (preorders-append (held s.stop (forest b ss)) (past s.stop (forest b ss))) ∙ ap preorders (held-past s.stop (forest b ss)) ∙ forest_same b ss g)
+    ap (λ us. us ++ preorders (past s.stop (forest b ss)))
+        (node_same b (kind_by (byte b s.start)) s.start s.stop (held s.stop (forest b ss)) f)
+    ∙ ap (λ us. s ∷ us) (sym (preorders-append (held s.stop (forest b ss)) (past s.stop (forest b ss)))
+        ∙ ap preorders (held-past s.stop (forest b ss)) ∙ forest_same b ss g)
 
 pub all_shown : (b : List ℕ) (ss : List Span) (t : Tree) → forest b ss ≡ t ∷ [] → length ss ≡ size t → preorder t ≡ ss
-all_shown b ss t h e = let f : total_size (forest b ss) ≡ length ss = ap total_size h ∙ omega arith in sym (append-nil (preorder t)) ∙ ap preorders (sym h) ∙ forest_same b ss f
+all_shown b ss t h e = let f : total_size (forest b ss) ≡ length ss = ap total_size h ∙ omega arith in
+    sym (append-nil (preorder t)) ∙ ap preorders (sym h) ∙ forest_same b ss f
 
 -- ---- what is known of each span
 
@@ -188,7 +199,8 @@ between_from i j (s ∷ ss) h = (h.0, between_from i j ss h.2)
 
 between_more : (i j k l : ℕ) (ss : List Span) → k ≤ i → j ≤ l → Between i j ss → Between k l ss
 between_more i j k l [] f g h = tt
-between_more i j k l (s ∷ ss) f g h = let m = h.0 in let n = h.1 in (omega arith, omega arith, between_more i j k l ss f g h.2)
+between_more i j k l (s ∷ ss) f g h = let m = h.0 in let n = h.1 in
+    (omega arith, omega arith, between_more i j k l ss f g h.2)
 
 between_append : (i j : ℕ) (ss us : List Span) → Between i j ss → Between i j us → Between i j (ss ++ us)
 between_append i j [] us h g = g
@@ -198,22 +210,32 @@ good_none : (b : List ℕ) (i : ℕ) → Good b i i []
 good_none b i = record { between = tt; good = λ rest f g. g }
 
 good_more : (b : List ℕ) (i j k l : ℕ) (ss : List Span) → k ≤ i → j ≤ l → Good b i j ss → Good b k l ss
-good_more b i j k l ss f g h = record { between = between_more i j k l ss f g h.between; good = λ rest m n. h.good rest (from_more j l rest g m) n }
+good_more b i j k l ss f g h =
+    record { between = between_more i j k l ss f g h.between;
+        good = λ rest m n. h.good rest (from_more j l rest g m) n }
 
-good_both : (b : List ℕ) (i j k : ℕ) (ss us : List Span) → i ≤ j → j ≤ k → Good b i j ss → Good b j k us → Good b i k (ss ++ us)
+good_both : (b : List ℕ) (i j k : ℕ) (ss us : List Span) → i ≤ j → j ≤ k → Good b i j ss → Good b j k us
+    → Good b i k (ss ++ us)
 good_both b i j k ss us f g h q = record {
-  between = between_append i k ss us (between_more i j i k ss (omega arith) g h.between) (between_more j k i k us f (omega arith) q.between);
+  between = between_append i k ss us (between_more i j i k ss (omega arith) g h.between)
+      (between_more j k i k us f (omega arith) q.between);
   good = λ rest m n.
-      subst (AllGood b) (sym (append_assoc ss us rest)) (h.good (us ++ rest) (from_append j us rest (between_from j k us q.between) (from_more j k rest g m)) (q.good rest m n));
+      subst (AllGood b) (sym (append_assoc ss us rest))
+          (h.good (us ++ rest) (from_append j us rest (between_from j k us q.between) (from_more j k rest g m))
+          (q.good rest m n));
 }
 
 -- a span over others
-good_over : (b : List ℕ) (i j : ℕ) (ss : List Span) → i < j → j ≤ length b → Good b (suc i) j ss → (kind_by (byte b i) ≡ Number → IsNumber (slice_range b i j)) → (byte b i ≡ 91 → byte b (j - 1) ≡ 93) → ((rest : List Span) → From j rest → byte b i ≡ 123 → are_members (held j (forest b (ss ++ rest))) ≡ true) → Good b i j (span_at i j ∷ ss)
+good_over : (b : List ℕ) (i j : ℕ) (ss : List Span) → i < j → j ≤ length b → Good b (suc i) j ss
+    → (kind_by (byte b i) ≡ Number → IsNumber (slice_range b i j)) → (byte b i ≡ 91 → byte b (j - 1) ≡ 93)
+    → ((rest : List Span) → From j rest → byte b i ≡ 123 → are_members (held j (forest b (ss ++ rest))) ≡ true)
+    → Good b i j (span_at i j ∷ ss)
 good_over b i j ss o l h numeral closed n = record {
   between = (omega arith, omega arith, between_more (suc i) j i j ss (omega arith) (omega arith) h.between);
   good = λ rest f g.
       let after = from_append (suc i) ss rest (between_from (suc i) j ss h.between) (from_more (suc i) j rest o f) in
-      (record { order = o; within = l; stops = stops_between (suc i) j ss rest h.between (stops_from j rest f); named = n rest f; numeral = numeral; closed = closed; later = after }, h.good rest f g);
+      (record { order = o; within = l; stops = stops_between (suc i) j ss rest h.between (stops_from j rest f);
+              named = n rest f; numeral = numeral; closed = closed; later = after }, h.good rest f g);
 }
 
 -- ---- the grammar
@@ -243,7 +265,8 @@ atom_numeral : (k : Kind) (s : List ℕ) → IsScalar k s → k ≡ Number → I
 atom_numeral k s h e = subst (λ z. IsScalar z s) e h
 
 -- what a bracket or a brace begins is no number
-no_numeral : (b : List ℕ) (i c j : ℕ) → byte b i ≡ c → (kind_by c ≡ Number → ⊥) → kind_by (byte b i) ≡ Number → IsNumber (slice_range b i j)
+no_numeral : (b : List ℕ) (i c j : ℕ) → byte b i ≡ c → (kind_by c ≡ Number → ⊥) → kind_by (byte b i) ≡ Number
+    → IsNumber (slice_range b i j)
 no_numeral b i c j h n e = absurd (n (sym (ap kind_by h) ∙ e))
 
 closes : (b : List ℕ) (j c : ℕ) → byte b j ≡ c → byte b (suc j - 1) ≡ c
@@ -258,15 +281,21 @@ good_atom b k i j w =
     (λ rest f e. absurd (not_object k (slice_range b i j) w.spelled (sym (atom_kind b k i j w) ∙ ap kind_by e)))
 
 good_named : {b : List ℕ} {i j : ℕ} {n : Atom} → Named b i j n → Good b i j (span_at n.start n.stop ∷ [])
-good_named {b} (named i j k l w x y c) = let f = w.order in let g = y.order in good_more b j k i (suc l) (span_at j k ∷ []) f (omega arith) (good_atom b Text j k x)
+good_named {b} (named i j k l w x y c) = let f = w.order in let g = y.order in
+    good_more b j k i (suc l) (span_at j k ∷ []) f (omega arith) (good_atom b Text j k x)
 
-good_add : (b : List ℕ) (i j k : ℕ) (us : Items) (u : Tree) → i ≤ j → j ≤ k → Good b i j (items_preorder us) → Good b j k (preorder u) → Good b i k (items_preorder (add_item us u))
-good_add b i j k us u f g h q = subst (Good b i k) (sym (items_preorder-add us u)) (good_both b i j k (items_preorder us) (preorder u) f g h q)
+good_add : (b : List ℕ) (i j k : ℕ) (us : Items) (u : Tree) → i ≤ j → j ≤ k → Good b i j (items_preorder us)
+    → Good b j k (preorder u) → Good b i k (items_preorder (add_item us u))
+good_add b i j k us u f g h q =
+    subst (Good b i k) (sym (items_preorder-add us u)) (good_both b i j k (items_preorder us) (preorder u) f g h q)
 
-good_add_member : (b : List ℕ) (i j k l : ℕ) (us : Members) (n : Atom) (u : Tree) → i ≤ j → j ≤ k → k ≤ l → Good b i j (members_preorder us) → Good b j k (span_at n.start n.stop ∷ []) → Good b k l (preorder u) → Good b i l (members_preorder (add_member us n u))
+good_add_member : (b : List ℕ) (i j k l : ℕ) (us : Members) (n : Atom) (u : Tree) → i ≤ j → j ≤ k → k ≤ l
+    → Good b i j (members_preorder us) → Good b j k (span_at n.start n.stop ∷ []) → Good b k l (preorder u)
+    → Good b i l (members_preorder (add_member us n u))
 good_add_member b i j k l us n u f g h p q r =
     subst (Good b i l) (sym (members_preorder-add us n u))
-    (good_both b i j l (members_preorder us) (span_at n.start n.stop ∷ preorder u) f (omega arith) p (good_both b j k l (span_at n.start n.stop ∷ []) (preorder u) g h q r))
+    (good_both b i j l (members_preorder us) (span_at n.start n.stop ∷ preorder u) f (omega arith) p
+        (good_both b j k l (span_at n.start n.stop ∷ []) (preorder u) g h q r))
 
 alternate : (ms : Members) → are_members (names_and_values ms) ≡ true
 alternate no_members = refl
@@ -275,36 +304,48 @@ alternate (member n t ms) = alternate ms
 from_beyond : (b : List ℕ) (j : ℕ) (ss : List Span) → From j ss → Beyond j (forest b ss)
 unfolding forest
 from_beyond b j [] h = tt
-from_beyond b j (s ∷ ss) h = let e = start-node b (kind_by (byte b s.start)) s.start s.stop (held s.stop (forest b ss)) in let l = h.0 in omega arith
+from_beyond b j (s ∷ ss) h = let e =
+    start-node b (kind_by (byte b s.start)) s.start s.stop (held s.stop (forest b ss)) in let l = h.0 in omega arith
 
 -- the members of an object, before what starts later
-alternate_held : (b : List ℕ) (j : ℕ) (ms : Members) (rest : List Span) → Shows b j (members_preorder ms) (names_and_values ms) → From j rest → are_members (held j (forest b (members_preorder ms ++ rest))) ≡ true
+alternate_held : (b : List ℕ) (j : ℕ) (ms : Members) (rest : List Span)
+    → Shows b j (members_preorder ms) (names_and_values ms) → From j rest
+    → are_members (held j (forest b (members_preorder ms ++ rest))) ≡ true
 alternate_held b j ms rest s f =
     let o = from_beyond b j rest f in
-    ap (λ ts. are_members (held j ts)) (s.shows rest o) ∙ ap are_members (held_all j (names_and_values ms) (forest b rest) s.all o) ∙ alternate ms
+    ap (λ ts. are_members (held j ts)) (s.shows rest o)
+        ∙ ap are_members (held_all j (names_and_values ms) (forest b rest) s.all o) ∙ alternate ms
 
 mutual
   good_value : {b : List ℕ} {i j : ℕ} {t : Tree} → Value b i j t → Good b i j (preorder t)
   good_value {b} (atom k i j w) = good_atom b k i j w
   good_value {b} (empty_array i j o w c) =
       let h = w.order in let l = byte_within b j 92 c in
-      good_over b i (suc j) [] (omega arith) l (good_more b (suc i) (suc i) (suc i) (suc j) [] (omega arith) (omega arith) (good_none b (suc i))) (no_numeral b i 91 (suc j) o (λ e. cc)) (λ e. closes b j 93 c) (λ rest f e. absurd (omega arith))
+      good_over b i (suc j) [] (omega arith) l
+          (good_more b (suc i) (suc i) (suc i) (suc j) [] (omega arith) (omega arith) (good_none b (suc i)))
+          (no_numeral b i 91 (suc j) o (λ e. cc)) (λ e. closes b j 93 c) (λ rest f e. absurd (omega arith))
   good_value {b} (full_array i j k us u o l p c) =
       let a = led_order l in let q = padded_ends p in let m = byte_within b k 92 c in
       good_over b i (suc k) (items_preorder (add_item us u)) (omega arith) m
-      (good_more b (suc i) k (suc i) (suc k) (items_preorder (add_item us u)) (omega arith) (omega arith) (good_add b (suc i) j k us u a q (good_led l) (good_padded p))) (no_numeral b i 91 (suc k) o (λ e. cc)) (λ e. closes b k 93 c) (λ rest f e. absurd (omega arith))
+      (good_more b (suc i) k (suc i) (suc k) (items_preorder (add_item us u)) (omega arith) (omega arith)
+          (good_add b (suc i) j k us u a q (good_led l) (good_padded p))) (no_numeral b i 91 (suc k) o (λ e. cc))
+          (λ e. closes b k 93 c) (λ rest f e. absurd (omega arith))
   good_value {b} (empty_object i j o w c) =
       let h = w.order in let l = byte_within b j 124 c in
-      good_over b i (suc j) [] (omega arith) l (good_more b (suc i) (suc i) (suc i) (suc j) [] (omega arith) (omega arith) (good_none b (suc i)))
+      good_over b i (suc j) [] (omega arith) l
+          (good_more b (suc i) (suc i) (suc i) (suc j) [] (omega arith) (omega arith) (good_none b (suc i)))
       (no_numeral b i 123 (suc j) o (λ e. cc)) (λ e. absurd (omega arith))
       (λ rest f e. alternate_held b (suc j) no_members rest (record { all = tt; shows = λ rest h. refl }) f)
   good_value {b} (full_object i j k l us n u o ld nm p c) =
       let a = led_members_order ld in let q = padded_ends p in let r = named_ends nm in let m = byte_within b l 124 c in
       let v = add_member us n u in
       good_over b i (suc l) (members_preorder v) (omega arith) m
-      (good_more b (suc i) l (suc i) (suc l) (members_preorder v) (omega arith) (omega arith) (good_add_member b (suc i) j k l us n u a r q (good_led_members ld) (good_named nm) (good_padded p)))
+      (good_more b (suc i) l (suc i) (suc l) (members_preorder v) (omega arith) (omega arith)
+          (good_add_member b (suc i) j k l us n u a r q (good_led_members ld) (good_named nm) (good_padded p)))
       (no_numeral b i 123 (suc l) o (λ e. cc)) (λ e. absurd (omega arith))
-      (λ rest f e. alternate_held b (suc l) v rest (shows_more b l (suc l) _ _ (omega arith) (shows_add_member ld nm p (shows_led_members ld) (shows_padded p))) f)
+      (λ rest f e. alternate_held b (suc l) v rest
+          (shows_more b l (suc l) _ _ (omega arith) (shows_add_member ld nm p (shows_led_members ld) (shows_padded p)))
+          f)
 
   good_padded : {b : List ℕ} {i j : ℕ} {t : Tree} → Padded b i j t → Good b i j (preorder t)
   good_padded {b} (padded i j k l t w v x) = good_more b j k i l (preorder t) w.order x.order (good_value v)
@@ -313,27 +354,32 @@ mutual
   good_led {b} (no_led i) = good_none b i
   good_led {b} (led i j k us u l p c) =
       let a = led_order l in let q = padded_ends p in
-      good_more b i k i (suc k) (items_preorder (add_item us u)) (omega arith) (omega arith) (good_add b i j k us u a q (good_led l) (good_padded p))
+      good_more b i k i (suc k) (items_preorder (add_item us u)) (omega arith) (omega arith)
+          (good_add b i j k us u a q (good_led l) (good_padded p))
 
   good_led_members : {b : List ℕ} {i j : ℕ} {us : Members} → LedMembers b i j us → Good b i j (members_preorder us)
   good_led_members {b} (no_led_members i) = good_none b i
   good_led_members {b} (led_member i j k l us n u ld nm p c) =
       let a = led_members_order ld in let q = padded_ends p in let r = named_ends nm in
-      good_more b i l i (suc l) (members_preorder (add_member us n u)) (omega arith) (omega arith) (good_add_member b i j k l us n u a r q (good_led_members ld) (good_named nm) (good_padded p))
+      good_more b i l i (suc l) (members_preorder (add_member us n u)) (omega arith) (omega arith)
+          (good_add_member b i j k l us n u a r q (good_led_members ld) (good_named nm) (good_padded p))
 
 json_good : (b : List ℕ) (t : Tree) → Json b t → AllGood b (preorder t)
 json_good b t p = subst (AllGood b) (append-nil (preorder t)) ((good_padded p).good [] tt tt)
 
 -- ---- what is known of each token
 
-good_at : (b : List ℕ) (ts : List Token) (k : ℕ) (t : Token) → AllGood b (spans_of ts) → slice_get ts k ≡ Some t → IsGood b (span_at t.start t.stop) (drop (suc k) (spans_of ts))
+good_at : (b : List ℕ) (ts : List Token) (k : ℕ) (t : Token) → AllGood b (spans_of ts) → slice_get ts k ≡ Some t
+    → IsGood b (span_at t.start t.stop) (drop (suc k) (spans_of ts))
 good_at b [] k t g h = cc
 good_at b (u ∷ ts) zero t g h = let e : u ≡ t = cc in subst (λ v. IsGood b (span_at v.start v.stop) (spans_of ts)) e g.0
 good_at b (u ∷ ts) (suc k) t g h = good_at b ts k t g.1 h
 
-stops_at : (ts : List Token) (j n i : ℕ) (u : Token) → StopsBy j (drop n (spans_of ts)) → n ≤ i → slice_get ts i ≡ Some u → u.start < j → u.stop ≤ j
+stops_at : (ts : List Token) (j n i : ℕ) (u : Token) → StopsBy j (drop n (spans_of ts)) → n ≤ i
+    → slice_get ts i ≡ Some u → u.start < j → u.stop ≤ j
 stops_at [] j n i u s l h m = cc
-stops_at (v ∷ ts) j zero zero u s l h m = let e : v ≡ u = cc in let f = ap (λ (w : Token). w.start) e in let g = ap (λ (w : Token). w.stop) e in let n = s.0 in omega arith
+stops_at (v ∷ ts) j zero zero u s l h m = let e : v ≡ u = cc in let f = ap (λ (w : Token). w.start) e in
+    let g = ap (λ (w : Token). w.stop) e in let n = s.0 in omega arith
 stops_at (v ∷ ts) j zero (suc i) u s l h m = stops_at ts j zero i u s.1 (omega arith) h m
 stops_at (v ∷ ts) j (suc n) zero u s l h m = absurd (omega arith)
 stops_at (v ∷ ts) j (suc n) (suc i) u s l h m = stops_at ts j n i u s (omega arith) h m
@@ -344,15 +390,18 @@ are_within b ts g = λ k t h. let w = good_at b ts k t g h in (w.order, w.within
 are_nested : (b : List ℕ) (ts : List Token) → AllGood b (spans_of ts) → AreNested ts
 are_nested b ts g = λ k t h i u l m n. stops_at ts t.stop (suc k) i u (good_at b ts k t g h).stops (omega arith) m n
 
-from_at : (ts : List Token) (j n k : ℕ) (u : Token) → From j (drop n (spans_of ts)) → n ≤ k → slice_get ts k ≡ Some u → j ≤ u.start
+from_at : (ts : List Token) (j n k : ℕ) (u : Token) → From j (drop n (spans_of ts)) → n ≤ k → slice_get ts k ≡ Some u
+    → j ≤ u.start
 from_at [] j n k u s l h = cc
-from_at (v ∷ ts) j zero zero u s l h = let e : v ≡ u = cc in let f = ap (λ (w : Token). w.start) e in let m = s.0 in omega arith
+from_at (v ∷ ts) j zero zero u s l h = let e : v ≡ u = cc in let f = ap (λ (w : Token). w.start) e in let m = s.0 in
+    omega arith
 from_at (v ∷ ts) j zero (suc k) u s l h = from_at ts j zero k u s.1 (omega arith) h
 from_at (v ∷ ts) j (suc n) zero u s l h = absurd (omega arith)
 from_at (v ∷ ts) j (suc n) (suc k) u s l h = from_at ts j n k u s (omega arith) h
 
 are_rising : (b : List ℕ) (ts : List Token) → AllGood b (spans_of ts) → AreRising ts
-are_rising b ts g = λ i k t u l h m. let o = from_at ts (suc t.start) (suc i) k u (good_at b ts i t g h).later (omega arith) m in omega arith
+are_rising b ts g = λ i k t u l h m. let o =
+    from_at ts (suc t.start) (suc i) k u (good_at b ts i t g h).later (omega arith) m in omega arith
 
 are_named : (b : List ℕ) (ts : List Token) → AllGood b (spans_of ts) → AreNamed b ts
 are_named b ts g = λ k t h e.
@@ -382,7 +431,8 @@ known b ts a =
     let g = subst (AllGood b) e (json_good b a.tree a.json) in
     let s = size_some a.tree in
     let c = a.count in
-    record { within = are_within b ts g; rising = are_rising b ts g; nested = are_nested b ts g; named = are_named b ts g; spelled = are_spelled b ts g; linked = a.linked; some = omega arith }
+    record { within = are_within b ts g; rising = are_rising b ts g; nested = are_nested b ts g;
+        named = are_named b ts g; spelled = are_spelled b ts g; linked = a.linked; some = omega arith }
 
 first_shown : (b : List ℕ) (ss : List Span) (t : Tree) → forest b ss ≡ t ∷ [] → tree_at b ss 0 ≡ t
 unfolding forest tree_at

@@ -19,7 +19,8 @@ use Rattle.cj_spans.proofs.Views.{link_past}
 
 -- ---- where all spans show something, so do those further on
 
-full_next : (b : List ℕ) (s : Span) (ss : List Span) → total_size (forest b (s ∷ ss)) ≡ length (s ∷ ss) → total_size (forest b ss) ≡ length ss
+full_next : (b : List ℕ) (s : Span) (ss : List Span) → total_size (forest b (s ∷ ss)) ≡ length (s ∷ ss)
+    → total_size (forest b ss) ≡ length ss
 unfolding forest
 full_next b s ss h =
     let l = forest_small b ss in
@@ -27,13 +28,15 @@ full_next b s ss h =
     let n = node_small b (kind_by (byte b s.start)) s.start s.stop (held s.stop (forest b ss)) in
     omega arith
 
-full_from : (b : List ℕ) (ss : List Span) (k : ℕ) → total_size (forest b ss) ≡ length ss → total_size (forest b (drop k ss)) ≡ length (drop k ss)
+full_from : (b : List ℕ) (ss : List Span) (k : ℕ) → total_size (forest b ss) ≡ length ss
+    → total_size (forest b (drop k ss)) ≡ length (drop k ss)
 full_from b ss zero h = h
 full_from b [] (suc k) h = h
 full_from b (s ∷ ss) (suc k) h = full_from b ss k (full_next b s ss h)
 
 -- and the tree of each has as many values and names as it holds, and itself
-full_tree : (b : List ℕ) (ts : List Token) (k : ℕ) (t : Token) → slice_get ts k ≡ Some t → total_size (forest b (spans_of ts)) ≡ length (spans_of ts)
+full_tree : (b : List ℕ) (ts : List Token) (k : ℕ) (t : Token) → slice_get ts k ≡ Some t
+    → total_size (forest b (spans_of ts)) ≡ length (spans_of ts)
     → size (tree_at b (spans_of ts) k) ≡ suc (total_size (held t.stop (forest b (drop (suc k) (spans_of ts)))))
 unfolding forest tree_at
 full_tree b [] k t h e = cc
@@ -42,8 +45,10 @@ full_tree b (u ∷ ts) zero t h e =
     let l = forest_small b (spans_of ts) in
     let f = held_sizes u.stop (forest b (spans_of ts)) in
     let n = node_small b (kind_by (byte b u.start)) u.start u.stop (held u.stop (forest b (spans_of ts))) in
-    let own : size (node b (kind_by (byte b u.start)) u.start u.stop (held u.stop (forest b (spans_of ts)))) ≡ suc (total_size (held u.stop (forest b (spans_of ts)))) = omega arith in
-    subst (λ v. size (node b (kind_by (byte b u.start)) u.start u.stop (held u.stop (forest b (spans_of ts)))) ≡ suc (total_size (held v.stop (forest b (spans_of ts))))) q own
+    let own : size (node b (kind_by (byte b u.start)) u.start u.stop (held u.stop (forest b (spans_of ts))))
+        ≡ suc (total_size (held u.stop (forest b (spans_of ts)))) = omega arith in
+    subst (λ v. size (node b (kind_by (byte b u.start)) u.start u.stop (held u.stop (forest b (spans_of ts))))
+        ≡ suc (total_size (held v.stop (forest b (spans_of ts))))) q own
 full_tree b (u ∷ ts) (suc k) t h e = full_tree b ts k t h (full_next b _ (spans_of ts) e)
 
 length_from : (ts : List Token) (k : ℕ) → length (drop k (spans_of ts)) ≡ length (drop k ts)
@@ -52,18 +57,21 @@ length_from [] (suc k) = refl
 length_from (t ∷ ts) (suc k) = length_from ts k
 
 -- so many tokens start before a token stops: those of its tree
-past_full : (b : List ℕ) (ts : List Token) (k : ℕ) (t : Token) → AreNested ts → AreFull b ts → slice_get ts k ≡ Some t → k + 1 + before t.stop (drop (k + 1) ts) ≡ k + size (tree_at b (spans_of ts) k)
+past_full : (b : List ℕ) (ts : List Token) (k : ℕ) (t : Token) → AreNested ts → AreFull b ts → slice_get ts k ≡ Some t
+    → k + 1 + before t.stop (drop (k + 1) ts) ≡ k + size (tree_at b (spans_of ts) k)
 past_full b ts k t nested whole h =
     let next : suc k ≡ k + 1 = omega arith in
     let ss = spans_of ts in
     let r = k + 1 + before t.stop (drop (k + 1) ts) in
     let full : total_size (forest b ss) ≡ length ss = whole ∙ sym (length-spans_of ts) in
-    let own = subst (λ j. size (tree_at b ss k) ≡ suc (total_size (held t.stop (forest b (drop j ss))))) next (full_tree b ts k t h full) in
+    let own = subst (λ j. size (tree_at b ss k) ≡ suc (total_size (held t.stop (forest b (drop j ss))))) next
+        (full_tree b ts k t h full) in
     let after = link_past b ts (k + 1) t.stop r (nested k t h) refl in
     let parts = held_sizes t.stop (forest b (drop (k + 1) ss)) in
     let here = full_from b ss (k + 1) full in
     let there = full_from b ss r full in
-    let split : total_size (past t.stop (forest b (drop (k + 1) ss))) ≡ length (drop r ss) = ap total_size (sym after) ∙ there in
+    let split : total_size (past t.stop (forest b (drop (k + 1) ss))) ≡ length (drop r ss) = ap total_size (sym after)
+        ∙ there in
     let m = length_from ts (k + 1) in let n = length_from ts r in
     let p = length-drop (k + 1) ts in let q = length-drop r ts in
     let l = before_length t.stop (drop (k + 1) ts) in
@@ -74,7 +82,8 @@ past_full b ts k t nested whole h =
 pub are_full : (b : List ℕ) (ts : List Token) → AreOf b ts → AreFull b ts
 are_full b ts a = ap total_size a.shown ∙ (let c = a.count in omega arith)
 
-pub past_tree : (b : List ℕ) (ts : List Token) (k : ℕ) (t : Token) → AreOf b ts → slice_get ts k ≡ Some t → k + 1 + before t.stop (drop (k + 1) ts) ≡ k + size (tree_at b (spans_of ts) k)
+pub past_tree : (b : List ℕ) (ts : List Token) (k : ℕ) (t : Token) → AreOf b ts → slice_get ts k ≡ Some t
+    → k + 1 + before t.stop (drop (k + 1) ts) ≡ k + size (tree_at b (spans_of ts) k)
 past_tree b ts k t a h = past_full b ts k t (known b ts a).nested (are_full b ts a) h
 
 -- each token links past its tree
@@ -84,10 +93,15 @@ full_sized b ts nested linked whole = λ k t h. linked k t h ∙ past_full b ts 
 pub are_sized : (b : List ℕ) (ts : List Token) → AreOf b ts → AreSized b ts
 are_sized b ts a = full_sized b ts (known b ts a).nested a.linked (are_full b ts a)
 
-scan_sized : (b : List ℕ) (old new : BoundedList Token) (old_stack new_stack : BoundedList ℕ) → (t : Tree) × IsScanOf b t old new old_stack new_stack → AreSized b new.elements
-scan_sized b old new old_stack new_stack s = are_sized b new.elements (record { tree = s.0; json = s.1.json; shown = s.1.shown; count = s.1.count; linked = s.1.linked })
+scan_sized : (b : List ℕ) (old new : BoundedList Token) (old_stack new_stack : BoundedList ℕ) → (t : Tree)
+    × IsScanOf b t old new old_stack new_stack → AreSized b new.elements
+scan_sized b old new old_stack new_stack s =
+    are_sized b new.elements
+        (record { tree = s.0; json = s.1.json; shown = s.1.shown; count = s.1.count; linked = s.1.linked })
 
-pub sized_on : (X : Type 0) (b : List ℕ) (old new : BoundedList Token) (old_stack new_stack : BoundedList ℕ) (r : Result X LineFault) → OnOk r ((t : Tree) × IsScanOf b t old new old_stack new_stack) → OnOk r (AreSized b new.elements)
+pub sized_on : (X : Type 0) (b : List ℕ) (old new : BoundedList Token) (old_stack new_stack : BoundedList ℕ)
+    (r : Result X LineFault) → OnOk r ((t : Tree) × IsScanOf b t old new old_stack new_stack)
+    → OnOk r (AreSized b new.elements)
 sized_on X b old new old_stack new_stack (Ok v) h = scan_sized b old new old_stack new_stack h
 sized_on X b old new old_stack new_stack (Err e) h = search rules
 
@@ -97,7 +111,8 @@ items_size-add : (ts : Items) (t : Tree) → items_size (add_item ts t) ≡ item
 items_size-add no_items t = omega arith
 items_size-add (item u ts) t = let e = items_size-add ts t in omega arith
 
-members_size-add : (ms : Members) (n : Atom) (t : Tree) → members_size (add_member ms n t) ≡ members_size ms + suc (size t)
+members_size-add : (ms : Members) (n : Atom) (t : Tree)
+    → members_size (add_member ms n t) ≡ members_size ms + suc (size t)
 members_size-add no_members n t = omega arith
 members_size-add (member m u ms) n t = let e = members_size-add ms n t in omega arith
 
@@ -108,36 +123,43 @@ mutual
   value_room : {b : List ℕ} {i j : ℕ} {t : Tree} → Value b i j t → size t + i ≤ j
   value_room {b} (atom k i j w) = let o = w.order in omega arith
   value_room {b} (empty_array i j o w c) = let e = w.order in omega arith
-  value_room {b} (full_array i j k us u o l p c) = let e = led_room l in let f = padded_room p in let g = items_size-add us u in omega arith
+  value_room {b} (full_array i j k us u o l p c) = let e = led_room l in let f = padded_room p in
+      let g = items_size-add us u in omega arith
   value_room {b} (empty_object i j o w c) = let e = w.order in omega arith
-  value_room {b} (full_object i j k l us n u o ld nm p c) = let e = led_members_room ld in let f = padded_room p in let g = members_size-add us n u in let h = named_room nm in omega arith
+  value_room {b} (full_object i j k l us n u o ld nm p c) = let e = led_members_room ld in let f = padded_room p in
+      let g = members_size-add us n u in let h = named_room nm in omega arith
 
   padded_room : {b : List ℕ} {i j : ℕ} {t : Tree} → Padded b i j t → size t + i ≤ j
   padded_room {b} (padded i j k l t w v x) = let e = w.order in let f = value_room v in let g = x.order in omega arith
 
   led_room : {b : List ℕ} {i j : ℕ} {us : Items} → LedItems b i j us → items_size us + i ≤ j
   led_room {b} (no_led i) = omega arith
-  led_room {b} (led i j k us u l p c) = let e = led_room l in let f = padded_room p in let g = items_size-add us u in omega arith
+  led_room {b} (led i j k us u l p c) = let e = led_room l in let f = padded_room p in let g = items_size-add us u in
+      omega arith
 
   led_members_room : {b : List ℕ} {i j : ℕ} {us : Members} → LedMembers b i j us → members_size us + i ≤ j
   led_members_room {b} (no_led_members i) = omega arith
-  led_members_room {b} (led_member i j k l us n u ld nm p c) = let e = led_members_room ld in let f = padded_room p in let g = members_size-add us n u in let h = named_room nm in omega arith
+  led_members_room {b} (led_member i j k l us n u ld nm p c) = let e = led_members_room ld in let f = padded_room p in
+      let g = members_size-add us n u in let h = named_room nm in omega arith
 
 -- ---- a walk over the tokens that start before a place
 
-before_step : (ts : List Token) (j n : ℕ) (t : Token) → slice_get ts n ≡ Some t → t.start < j → before j (drop n ts) ≡ suc (before j (drop (suc n) ts))
+before_step : (ts : List Token) (j n : ℕ) (t : Token) → slice_get ts n ≡ Some t → t.start < j
+    → before j (drop n ts) ≡ suc (before j (drop (suc n) ts))
 before_step [] j n t h l = cc
 before_step (u ∷ ts) j zero t h l = let q : u ≡ t = cc in before_one j u ts (subst (λ v. v.start < j) (sym q) l)
 before_step (u ∷ ts) j (suc n) t h l = before_step ts j n t h l
 
-pub before_walked : (ts : List Token) (j k n : ℕ) (t : Token) → slice_get ts n ≡ Some t → t.start < j → k ≡ n + before j (drop n ts) → k ≡ n + 1 + before j (drop (n + 1) ts)
+pub before_walked : (ts : List Token) (j k n : ℕ) (t : Token) → slice_get ts n ≡ Some t → t.start < j
+    → k ≡ n + before j (drop n ts) → k ≡ n + 1 + before j (drop (n + 1) ts)
 before_walked ts j k n t h l e =
     let f = before_step ts j n t h l in
     let next : suc n ≡ n + 1 = omega arith in
     let g : k ≡ suc n + before j (drop (suc n) ts) = omega arith in
     subst (λ m. k ≡ m + before j (drop m ts)) next g
 
-pub before_stopped : (ts : List Token) (j n : ℕ) (t : Token) → slice_get ts n ≡ Some t → j ≤ t.start → before j (drop n ts) ≡ 0
+pub before_stopped : (ts : List Token) (j n : ℕ) (t : Token) → slice_get ts n ≡ Some t → j ≤ t.start
+    → before j (drop n ts) ≡ 0
 before_stopped [] j n t h l = cc
 before_stopped (u ∷ ts) j zero t h l = let q : u ≡ t = cc in before_zero j u ts (subst (λ v. j ≤ v.start) (sym q) l)
 before_stopped (u ∷ ts) j (suc n) t h l = before_stopped ts j n t h l

@@ -20,12 +20,15 @@ use Rattle.cj_spans.proofs.Facts.{IsLawful, goes, lawful_reaches, lawful_settles
 
 -- ---- the beginning
 
-empty_settles : (b : List ℕ) (ks : List ℕ) (ts : List Token) → ts ≡ [] → ks ≡ [] → ComesTo b start (idle Ready ks ts 0 0)
+empty_settles : (b : List ℕ) (ks : List ℕ) (ts : List Token) → ts ≡ [] → ks ≡ []
+    → ComesTo b start (idle Ready ks ts 0 0)
 empty_settles b ks ts e f =
     let base : ComesTo b start start = record { last = start; reached = here; settles = refl; same = λ l. refl } in
-    subst (λ z. ComesTo b start (idle Ready z ts 0 0)) (sym f) (subst (λ z. ComesTo b start (idle Ready [] z 0 0)) (sym e) base)
+    subst (λ z. ComesTo b start (idle Ready z ts 0 0)) (sym f)
+        (subst (λ z. ComesTo b start (idle Ready [] z 0 0)) (sym e) base)
 
-pub standing_first : (b : List ℕ) (tokens : BoundedList Token) (stack : BoundedList ℕ) → IsWithin tokens → IsWithin stack → tokens.elements ≡ [] → stack.elements ≡ [] → Standing b tokens stack tokens stack Ready 0
+pub standing_first : (b : List ℕ) (tokens : BoundedList Token) (stack : BoundedList ℕ) → IsWithin tokens
+    → IsWithin stack → tokens.elements ≡ [] → stack.elements ≡ [] → Standing b tokens stack tokens stack Ready 0
 standing_first b tokens stack w v e f = record {
   deepest = 0;
   settles = empty_settles b stack.elements tokens.elements e f;
@@ -37,13 +40,15 @@ standing_first b tokens stack w v e f = record {
   stack_within = v;
 }
 
-module _ (b : List ℕ) (tokens0 : BoundedList Token) (stack0 : BoundedList ℕ) (tokens : BoundedList Token) (stack : BoundedList ℕ) (m : Mode) (i : ℕ) (s : Standing b tokens0 stack0 tokens stack m i) where
+module _ (b : List ℕ) (tokens0 : BoundedList Token) (stack0 : BoundedList ℕ) (tokens : BoundedList Token)
+    (stack : BoundedList ℕ) (m : Mode) (i : ℕ) (s : Standing b tokens0 stack0 tokens stack m i) where
   pub standing_lawful : IsLawful (idle m stack.elements tokens.elements i s.deepest)
   standing_lawful = lawful_settles s.settles.last _ (lawful_reaches s.settles.last s.settles.reached) s.settles.settles
 
 -- ---- what the calls need
 
-count_of : (m : Mode) (ks : List ℕ) (ts : List Token) (i p : ℕ) → IsLawful (idle m ks ts i p) → 2 * length ts ≤ suc i + length ks
+count_of : (m : Mode) (ks : List ℕ) (ts : List Token) (i p : ℕ) → IsLawful (idle m ks ts i p)
+    → 2 * length ts ≤ suc i + length ks
 count_of Ready ks ts i p l = let c = l.token_count in omega arith
 count_of FirstItem ks ts i p l = let c = l.token_count in omega arith
 count_of After ks ts i p l = l.token_count
@@ -51,7 +56,8 @@ count_of FirstName ks ts i p l = let c = l.token_count in omega arith
 count_of NextName ks ts i p l = let c = l.token_count in omega arith
 count_of AfterName ks ts i p l = l.token_count
 
-pub count_before : (m : Mode) (ks : List ℕ) (ts : List Token) (i p : ℕ) → IsLawful (idle m ks ts i p) → BeginsValue m → 2 * length ts ≤ i + length ks
+pub count_before : (m : Mode) (ks : List ℕ) (ts : List Token) (i p : ℕ) → IsLawful (idle m ks ts i p) → BeginsValue m
+    → 2 * length ts ≤ i + length ks
 count_before Ready ks ts i p l h = l.token_count
 count_before FirstItem ks ts i p l h = l.token_count
 count_before _ ks ts i p l h = absurd h
@@ -59,7 +65,9 @@ count_before _ ks ts i p l h = absurd h
 half_room : (t i n o d limit : ℕ) → 2 * t ≤ i + o → i < n → o ≤ d → (n + d + 1) / 2 ≤ limit → t < limit
 half_room t i n o d limit h l g r = omega arith
 
-pub standing_small : (b : List ℕ) (tokens0 : BoundedList Token) (stack0 : BoundedList ℕ) (tokens : BoundedList Token) (stack : BoundedList ℕ) (m : Mode) (i : ℕ) → Standing b tokens0 stack0 tokens stack m i → length b ≤ 1073741824 → i < length b
+pub standing_small : (b : List ℕ) (tokens0 : BoundedList Token) (stack0 : BoundedList ℕ) (tokens : BoundedList Token)
+    (stack : BoundedList ℕ) (m : Mode) (i : ℕ) → Standing b tokens0 stack0 tokens stack m i → length b ≤ 1073741824
+    → i < length b
     → (i < 2 ^ 31) × (length tokens.elements < 2 ^ 31)
 standing_small b tokens0 stack0 tokens stack m i s h l =
     let w = standing_lawful b tokens0 stack0 tokens stack m i s in
@@ -67,34 +75,53 @@ standing_small b tokens0 stack0 tokens stack m i s h l =
     let o = w.open_count in
     (omega arith, omega arith)
 
-room_left : (b : List ℕ) (tokens0 : BoundedList Token) (stack0 : BoundedList ℕ) (tokens : BoundedList Token) (stack : BoundedList ℕ) (m : Mode) (i : ℕ) → Standing b tokens0 stack0 tokens stack m i → (length b + stack0.limit + 1) / 2 ≤ tokens0.limit → i < length b
+room_left : (b : List ℕ) (tokens0 : BoundedList Token) (stack0 : BoundedList ℕ) (tokens : BoundedList Token)
+    (stack : BoundedList ℕ) (m : Mode) (i : ℕ) → Standing b tokens0 stack0 tokens stack m i
+    → (length b + stack0.limit + 1) / 2 ≤ tokens0.limit → i < length b
     → 2 * length tokens.elements ≤ i + length stack.elements → length tokens.elements < tokens.limit
 room_left b tokens0 stack0 tokens stack m i s r l c =
-    let g : length stack.elements ≤ stack0.limit = let p = s.stack_within.below_peak in let q = s.stack_within.below_limit in let e = s.stack_limit in omega arith in
+    let g : length stack.elements ≤ stack0.limit = let p = s.stack_within.below_peak in
+    let q = s.stack_within.below_limit in let e = s.stack_limit in omega arith in
     let e = s.kept.limit in
-    subst (λ n. length tokens.elements < n) (sym e) (half_room (length tokens.elements) i (length b) (length stack.elements) stack0.limit tokens0.limit c l g r)
+    subst (λ n. length tokens.elements < n) (sym e)
+        (half_room (length tokens.elements) i (length b) (length stack.elements) stack0.limit tokens0.limit c l g r)
 
-pub standing_room : (b : List ℕ) (tokens0 : BoundedList Token) (stack0 : BoundedList ℕ) (tokens : BoundedList Token) (stack : BoundedList ℕ) (m : Mode) (i : ℕ) → Standing b tokens0 stack0 tokens stack m i → (length b + stack0.limit + 1) / 2 ≤ tokens0.limit → i < length b
+pub standing_room : (b : List ℕ) (tokens0 : BoundedList Token) (stack0 : BoundedList ℕ) (tokens : BoundedList Token)
+    (stack : BoundedList ℕ) (m : Mode) (i : ℕ) → Standing b tokens0 stack0 tokens stack m i
+    → (length b + stack0.limit + 1) / 2 ≤ tokens0.limit → i < length b
     → BeginsValue m → length tokens.elements < tokens.limit
-standing_room b tokens0 stack0 tokens stack m i s r l h = room_left b tokens0 stack0 tokens stack m i s r l (count_before m stack.elements tokens.elements i s.deepest (standing_lawful b tokens0 stack0 tokens stack m i s) h)
+standing_room b tokens0 stack0 tokens stack m i s r l h =
+    room_left b tokens0 stack0 tokens stack m i s r l
+        (count_before m stack.elements tokens.elements i s.deepest (standing_lawful b tokens0 stack0 tokens stack m i s)
+        h)
 
-count_name : (m : Mode) (ks : List ℕ) (ts : List Token) (i p : ℕ) → IsLawful (idle m ks ts i p) → BeginsName m → 2 * length ts ≤ i + length ks
+count_name : (m : Mode) (ks : List ℕ) (ts : List Token) (i p : ℕ) → IsLawful (idle m ks ts i p) → BeginsName m
+    → 2 * length ts ≤ i + length ks
 count_name FirstName ks ts i p l h = l.token_count
 count_name NextName ks ts i p l h = l.token_count
 count_name _ ks ts i p l h = absurd h
 
-pub standing_name_room : (b : List ℕ) (tokens0 : BoundedList Token) (stack0 : BoundedList ℕ) (tokens : BoundedList Token) (stack : BoundedList ℕ) (m : Mode) (i : ℕ) → Standing b tokens0 stack0 tokens stack m i → (length b + stack0.limit + 1) / 2 ≤ tokens0.limit → i < length b
+pub standing_name_room : (b : List ℕ) (tokens0 : BoundedList Token) (stack0 : BoundedList ℕ)
+    (tokens : BoundedList Token) (stack : BoundedList ℕ) (m : Mode) (i : ℕ) → Standing b tokens0 stack0 tokens stack m i
+    → (length b + stack0.limit + 1) / 2 ≤ tokens0.limit → i < length b
     → BeginsName m → length tokens.elements < tokens.limit
-standing_name_room b tokens0 stack0 tokens stack m i s r l h = room_left b tokens0 stack0 tokens stack m i s r l (count_name m stack.elements tokens.elements i s.deepest (standing_lawful b tokens0 stack0 tokens stack m i s) h)
+standing_name_room b tokens0 stack0 tokens stack m i s r l h =
+    room_left b tokens0 stack0 tokens stack m i s r l
+        (count_name m stack.elements tokens.elements i s.deepest (standing_lawful b tokens0 stack0 tokens stack m i s)
+        h)
 
 pub kept_both : (x y z : BoundedList Token) → Kept x y → Grown y z → Kept x z
 kept_both x y z k g =
     let a = k.peak in let c = g.kept.peak in let d = g.longer in
-    record { limit = g.kept.limit ∙ k.limit; peak = omega arith; room = λ r. g.kept.room (k.room r); within = g.kept.within }
+    record { limit = g.kept.limit ∙ k.limit; peak = omega arith; room = λ r. g.kept.room (k.room r);
+        within = g.kept.within }
 
 -- what goes on over the tokens alone
-pub standing_with : (b : List ℕ) (tokens0 : BoundedList Token) (stack0 : BoundedList ℕ) (tokens tokens1 : BoundedList Token) (stack : BoundedList ℕ) (m n : Mode) (i j : ℕ) → Standing b tokens0 stack0 tokens stack m i → Grown tokens tokens1 → j ≤ length b
-    → ((p : ℕ) → ComesTo b start (idle m stack.elements tokens.elements i p) → ComesTo b start (idle n stack.elements tokens1.elements j p)) → Standing b tokens0 stack0 tokens1 stack n j
+pub standing_with : (b : List ℕ) (tokens0 : BoundedList Token) (stack0 : BoundedList ℕ)
+    (tokens tokens1 : BoundedList Token) (stack : BoundedList ℕ) (m n : Mode) (i j : ℕ)
+    → Standing b tokens0 stack0 tokens stack m i → Grown tokens tokens1 → j ≤ length b
+    → ((p : ℕ) → ComesTo b start (idle m stack.elements tokens.elements i p)
+        → ComesTo b start (idle n stack.elements tokens1.elements j p)) → Standing b tokens0 stack0 tokens1 stack n j
 standing_with b tokens0 stack0 tokens tokens1 stack m n i j s g l h = record {
   deepest = s.deepest;
   settles = h s.deepest s.settles;
@@ -109,7 +136,8 @@ standing_with b tokens0 stack0 tokens tokens1 stack m n i j s g l h = record {
 -- ---- one byte
 
 -- the machine after a byte, with the lists that the code then has
-pub record Stepped (b : List ℕ) (tokens0 : BoundedList Token) (stack0 : BoundedList ℕ) (tokens : BoundedList Token) (stack : BoundedList ℕ) (m : Mode) (i : ℕ) (v : Move) : Type 0 where
+pub record Stepped (b : List ℕ) (tokens0 : BoundedList Token) (stack0 : BoundedList ℕ) (tokens : BoundedList Token)
+    (stack : BoundedList ℕ) (m : Mode) (i : ℕ) (v : Move) : Type 0 where
   pub deepest : ℕ
   pub reached : Reaches b start (state (phase_after m i v) stack.elements tokens.elements (suc i) deepest)
   pub kept : Kept tokens0 tokens
@@ -118,15 +146,21 @@ pub record Stepped (b : List ℕ) (tokens0 : BoundedList Token) (stack0 : Bounde
   pub stack_room : IsTrue stack0.reserved → IsTrue stack.reserved
   pub stack_within : IsWithin stack
 
-pub standing_step : (b : List ℕ) (tokens0 : BoundedList Token) (stack0 : BoundedList ℕ) (tokens tokens1 : BoundedList Token) (stack stack1 : BoundedList ℕ) (m : Mode) (i : ℕ) (v : Move) → Standing b tokens0 stack0 tokens stack m i → i < length b → Grown tokens tokens1 → Kept stack stack1
-    → ((p : ℕ) → read m (byte b i) (idle m stack.elements tokens.elements i p) ≡ Some (state (phase_after m i v) stack1.elements tokens1.elements (suc i) (deepest_after v p (length stack1.elements))))
+pub standing_step : (b : List ℕ) (tokens0 : BoundedList Token) (stack0 : BoundedList ℕ)
+    (tokens tokens1 : BoundedList Token) (stack stack1 : BoundedList ℕ) (m : Mode) (i : ℕ) (v : Move)
+    → Standing b tokens0 stack0 tokens stack m i → i < length b → Grown tokens tokens1 → Kept stack stack1
+    → ((p : ℕ) → read m (byte b i) (idle m stack.elements tokens.elements i p)
+        ≡ Some (state (phase_after m i v) stack1.elements tokens1.elements (suc i)
+            (deepest_after v p (length stack1.elements))))
     → Stepped b tokens0 stack0 tokens1 stack1 m i v
 standing_step b tokens0 stack0 tokens tokens1 stack stack1 m i v s l g k h =
     let t = idle m stack.elements tokens.elements i s.deepest in
-    let u = state (phase_after m i v) stack1.elements tokens1.elements (suc i) (deepest_after v s.deepest (length stack1.elements)) in
+    let u = state (phase_after m i v) stack1.elements tokens1.elements (suc i)
+        (deepest_after v s.deepest (length stack1.elements)) in
     let w = standing_lawful b tokens0 stack0 tokens stack m i s in
     let e : s.settles.last.place ≡ i = (settled s.settles.last t s.settles.settles).place in
-    let q : step (byte b s.settles.last.place) s.settles.last ≡ Some u = ap (λ n. step (byte b n) s.settles.last) e ∙ s.settles.same l ∙ h s.deepest in
+    let q : step (byte b s.settles.last.place) s.settles.last ≡ Some u = ap (λ n. step (byte b n) s.settles.last) e
+        ∙ s.settles.same l ∙ h s.deepest in
     let d = (goes t u (byte b i) w (h s.deepest)).deepest in
     let a = s.stack_peak in let c = k.peak in
     record {
@@ -141,24 +175,32 @@ standing_step b tokens0 stack0 tokens tokens1 stack stack1 m i v s l g k h =
 
 -- ---- the rest of a scalar or a name
 
-atom_count : (m n : Mode) (i p : ℕ) (v : Move) (ks : List ℕ) (ts : List Token) → IsLawful (state (phase_after m i v) ks ts (suc i) p) → BeginsAtom v → 2 * length ts ≤ i + length ks
+atom_count : (m n : Mode) (i p : ℕ) (v : Move) (ks : List ℕ) (ts : List Token)
+    → IsLawful (state (phase_after m i v) ks ts (suc i) p) → BeginsAtom v → 2 * length ts ≤ i + length ks
 atom_count m n i p (Atom k x) ks ts l h = l.token_count
 atom_count m n i p _ ks ts l h = absurd h
 
-pub stepped_room : (b : List ℕ) (tokens0 : BoundedList Token) (stack0 : BoundedList ℕ) (tokens : BoundedList Token) (stack : BoundedList ℕ) (m : Mode) (i : ℕ) (v : Move) → Stepped b tokens0 stack0 tokens stack m i v → (length b + stack0.limit + 1) / 2 ≤ tokens0.limit → i < length b
+pub stepped_room : (b : List ℕ) (tokens0 : BoundedList Token) (stack0 : BoundedList ℕ) (tokens : BoundedList Token)
+    (stack : BoundedList ℕ) (m : Mode) (i : ℕ) (v : Move) → Stepped b tokens0 stack0 tokens stack m i v
+    → (length b + stack0.limit + 1) / 2 ≤ tokens0.limit → i < length b
     → BeginsAtom v → length tokens.elements < tokens.limit
 stepped_room b tokens0 stack0 tokens stack m i v s r l h =
     let c = atom_count m m i s.deepest v stack.elements tokens.elements (lawful_reaches _ s.reached) h in
-    let g : length stack.elements ≤ stack0.limit = let p = s.stack_within.below_peak in let q = s.stack_within.below_limit in let e = s.stack_limit in omega arith in
-    subst (λ n. length tokens.elements < n) (sym s.kept.limit) (half_room (length tokens.elements) i (length b) (length stack.elements) stack0.limit tokens0.limit c l g r)
+    let g : length stack.elements ≤ stack0.limit = let p = s.stack_within.below_peak in
+    let q = s.stack_within.below_limit in let e = s.stack_limit in omega arith in
+    subst (λ n. length tokens.elements < n) (sym s.kept.limit)
+        (half_room (length tokens.elements) i (length b) (length stack.elements) stack0.limit tokens0.limit c l g r)
 
-count_after : (m : Mode) (i p : ℕ) (v : Move) (ks : List ℕ) (ts : List Token) → IsLawful (state (phase_after m i v) ks ts (suc i) p) → 2 * length ts ≤ suc (suc i) + length ks
+count_after : (m : Mode) (i p : ℕ) (v : Move) (ks : List ℕ) (ts : List Token)
+    → IsLawful (state (phase_after m i v) ks ts (suc i) p) → 2 * length ts ≤ suc (suc i) + length ks
 count_after m i p Stay ks ts l = count_of m ks ts (suc i) p l
 count_after m i p (To n) ks ts l = count_of n ks ts (suc i) p l
 count_after m i p (Open n) ks ts l = count_of n ks ts (suc i) p l
 count_after m i p (Atom n x) ks ts l = let c = l.token_count in omega arith
 
-pub stepped_small : (b : List ℕ) (tokens0 : BoundedList Token) (stack0 : BoundedList ℕ) (tokens : BoundedList Token) (stack : BoundedList ℕ) (m : Mode) (i : ℕ) (v : Move) → Stepped b tokens0 stack0 tokens stack m i v → length b ≤ 1073741824 → i < length b
+pub stepped_small : (b : List ℕ) (tokens0 : BoundedList Token) (stack0 : BoundedList ℕ) (tokens : BoundedList Token)
+    (stack : BoundedList ℕ) (m : Mode) (i : ℕ) (v : Move) → Stepped b tokens0 stack0 tokens stack m i v
+    → length b ≤ 1073741824 → i < length b
     → (length stack.elements < 2 ^ 31) × (length tokens.elements < 2 ^ 31)
 stepped_small b tokens0 stack0 tokens stack m i v s h l =
     let w = lawful_reaches _ s.reached in
@@ -171,10 +213,14 @@ pub settles_both : {b : List ℕ} {s t u : State} → Reaches b s t → ComesTo 
 settles_both r h = record { last = h.last; reached = reaches_both r h.reached; settles = h.settles; same = h.same }
 
 abbrev sticks_both : {b : List ℕ} {s t : State} {i : ℕ} → Reaches b s t → Sticks b t i → Sticks b s i
-sticks_both r h = record { last = h.last; reached = reaches_both r h.reached; at = h.at; within = h.within; stuck = h.stuck }
+sticks_both r h =
+    record { last = h.last; reached = reaches_both r h.reached; at = h.at; within = h.within; stuck = h.stuck }
 
-pub stepped_on : (b : List ℕ) (tokens0 : BoundedList Token) (stack0 : BoundedList ℕ) (tokens tokens1 : BoundedList Token) (stack : BoundedList ℕ) (m : Mode) (i : ℕ) (v : Move) (n : Next) → Stepped b tokens0 stack0 tokens stack m i v → Grown tokens tokens1
-    → ((p : ℕ) → ComesTo b (state (phase_after m i v) stack.elements tokens.elements (suc i) p) (idle n.mode stack.elements tokens1.elements n.place p) × (suc i ≤ n.place) × (n.place ≤ length b))
+pub stepped_on : (b : List ℕ) (tokens0 : BoundedList Token) (stack0 : BoundedList ℕ)
+    (tokens tokens1 : BoundedList Token) (stack : BoundedList ℕ) (m : Mode) (i : ℕ) (v : Move) (n : Next)
+    → Stepped b tokens0 stack0 tokens stack m i v → Grown tokens tokens1
+    → ((p : ℕ) → ComesTo b (state (phase_after m i v) stack.elements tokens.elements (suc i) p)
+        (idle n.mode stack.elements tokens1.elements n.place p) × (suc i ≤ n.place) × (n.place ≤ length b))
     → Standing b tokens0 stack0 tokens1 stack n.mode n.place
 stepped_on b tokens0 stack0 tokens tokens1 stack m i v n s g h = record {
   deepest = s.deepest;
@@ -188,18 +234,29 @@ stepped_on b tokens0 stack0 tokens tokens1 stack m i v n s g h = record {
 }
 
 -- the same after the byte that made the move
-pub followed : (b : List ℕ) (tokens0 : BoundedList Token) (stack0 : BoundedList ℕ) (tokens tokens1 tokens2 : BoundedList Token) (stack stack1 : BoundedList ℕ) (m : Mode) (i : ℕ) (v : Move) (n : Next) → Standing b tokens0 stack0 tokens stack m i → i < length b → Grown tokens tokens1 → Kept stack stack1
-    → ((p : ℕ) → read m (byte b i) (idle m stack.elements tokens.elements i p) ≡ Some (state (phase_after m i v) stack1.elements tokens1.elements (suc i) (deepest_after v p (length stack1.elements)))) → Grown tokens1 tokens2
-    → ((p : ℕ) → ComesTo b (state (phase_after m i v) stack1.elements tokens1.elements (suc i) p) (idle n.mode stack1.elements tokens2.elements n.place p) × (suc i ≤ n.place) × (n.place ≤ length b))
+pub followed : (b : List ℕ) (tokens0 : BoundedList Token) (stack0 : BoundedList ℕ)
+    (tokens tokens1 tokens2 : BoundedList Token) (stack stack1 : BoundedList ℕ) (m : Mode) (i : ℕ) (v : Move) (n : Next)
+    → Standing b tokens0 stack0 tokens stack m i → i < length b → Grown tokens tokens1 → Kept stack stack1
+    → ((p : ℕ) → read m (byte b i) (idle m stack.elements tokens.elements i p)
+        ≡ Some (state (phase_after m i v) stack1.elements tokens1.elements (suc i)
+            (deepest_after v p (length stack1.elements)))) → Grown tokens1 tokens2
+    → ((p : ℕ) → ComesTo b (state (phase_after m i v) stack1.elements tokens1.elements (suc i) p)
+        (idle n.mode stack1.elements tokens2.elements n.place p) × (suc i ≤ n.place) × (n.place ≤ length b))
     → Standing b tokens0 stack0 tokens2 stack1 n.mode n.place
-followed b tokens0 stack0 tokens tokens1 tokens2 stack stack1 m i v n s l g k h f c = stepped_on b tokens0 stack0 tokens1 tokens2 stack1 m i v n (standing_step b tokens0 stack0 tokens tokens1 stack stack1 m i v s l g k h) f c
+followed b tokens0 stack0 tokens tokens1 tokens2 stack stack1 m i v n s l g k h f c =
+    stepped_on b tokens0 stack0 tokens1 tokens2 stack1 m i v n
+        (standing_step b tokens0 stack0 tokens tokens1 stack stack1 m i v s l g k h) f c
 
 -- ---- the law at every exit
 
-pub standing_law : (b : List ℕ) (tokens0 : BoundedList Token) (stack0 : BoundedList ℕ) (tokens tokens1 : BoundedList Token) (stack stack1 : BoundedList ℕ) (m : Mode) (i : ℕ) → Standing b tokens0 stack0 tokens stack m i
-    → Grown tokens tokens1 → Kept stack stack1 → tokens1 ≡ tokens → length stack.elements ≤ length stack1.elements → KeepsLaw b tokens0 tokens1 stack0 stack1
+pub standing_law : (b : List ℕ) (tokens0 : BoundedList Token) (stack0 : BoundedList ℕ)
+    (tokens tokens1 : BoundedList Token) (stack stack1 : BoundedList ℕ) (m : Mode) (i : ℕ)
+    → Standing b tokens0 stack0 tokens stack m i
+    → Grown tokens tokens1 → Kept stack stack1 → tokens1 ≡ tokens → length stack.elements ≤ length stack1.elements
+    → KeepsLaw b tokens0 tokens1 stack0 stack1
 standing_law b tokens0 stack0 tokens tokens1 stack stack1 m i s g k e l =
-    let c = count_of m stack.elements tokens.elements i s.deepest (standing_lawful b tokens0 stack0 tokens stack m i s) in
+    let c = count_of m stack.elements tokens.elements i s.deepest
+        (standing_lawful b tokens0 stack0 tokens stack m i s) in
     let q = s.place in
     let z = kept_both tokens0 tokens tokens1 s.kept g in
     let f : length tokens1.elements ≡ length tokens.elements = ap (λ t. length t.elements) e in
@@ -220,7 +277,8 @@ pub kept_same : (x : BoundedList ℕ) → IsWithin x → Kept x x
 kept_same x w = let g = w.below_peak in record { limit = refl; peak = omega arith; room = λ r. r; within = w }
 
 pub grown_same : (x : BoundedList Token) → IsWithin x → Grown x x
-grown_same x w = let g = w.below_peak in record { kept = record { limit = refl; peak = omega arith; room = λ r. r; within = w }; longer = omega arith }
+grown_same x w = let g = w.below_peak in
+    record { kept = record { limit = refl; peak = omega arith; room = λ r. r; within = w }; longer = omega arith }
 
 -- one token more
 pub grown_more : (x z : BoundedList Token) (t : Token) → IsWithin x → Becomes x (x.elements ++ t ∷ []) z → Grown x z
@@ -228,12 +286,19 @@ grown_more x z t w e =
     let g = w.below_peak in let c = e.peak in
     let n : length z.elements ≡ length x.elements + 1 = ap length e.elements ∙ length-append x.elements (t ∷ []) in
     let f = length-append x.elements (t ∷ []) in
-    record { kept = record { limit = e.limit; peak = omega arith; room = e.room; within = e.within }; longer = omega arith }
+    record { kept = record { limit = e.limit; peak = omega arith; room = e.room; within = e.within };
+        longer = omega arith }
 
-pub ended_law : (b : List ℕ) (tokens0 : BoundedList Token) (stack0 : BoundedList ℕ) (tokens : BoundedList Token) (stack : BoundedList ℕ) (m : Mode) (i : ℕ) → Standing b tokens0 stack0 tokens stack m i → KeepsLaw b tokens0 tokens stack0 stack
-ended_law b tokens0 stack0 tokens stack m i s = standing_law b tokens0 stack0 tokens tokens stack stack m i s (grown_same tokens s.kept.within) (kept_same stack s.stack_within) refl (omega arith)
+pub ended_law : (b : List ℕ) (tokens0 : BoundedList Token) (stack0 : BoundedList ℕ) (tokens : BoundedList Token)
+    (stack : BoundedList ℕ) (m : Mode) (i : ℕ) → Standing b tokens0 stack0 tokens stack m i
+    → KeepsLaw b tokens0 tokens stack0 stack
+ended_law b tokens0 stack0 tokens stack m i s =
+    standing_law b tokens0 stack0 tokens tokens stack stack m i s (grown_same tokens s.kept.within)
+        (kept_same stack s.stack_within) refl (omega arith)
 
-pub stepped_law : (b : List ℕ) (tokens0 : BoundedList Token) (stack0 : BoundedList ℕ) (tokens tokens1 : BoundedList Token) (stack : BoundedList ℕ) (m : Mode) (i : ℕ) (v : Move) → Stepped b tokens0 stack0 tokens stack m i v
+pub stepped_law : (b : List ℕ) (tokens0 : BoundedList Token) (stack0 : BoundedList ℕ)
+    (tokens tokens1 : BoundedList Token) (stack : BoundedList ℕ) (m : Mode) (i : ℕ) (v : Move)
+    → Stepped b tokens0 stack0 tokens stack m i v
     → i < length b → Grown tokens tokens1 → tokens1 ≡ tokens → KeepsLaw b tokens0 tokens1 stack0 stack
 stepped_law b tokens0 stack0 tokens tokens1 stack m i v s l g e =
     let c = count_after m i s.deepest v stack.elements tokens.elements (lawful_reaches _ s.reached) in
@@ -254,11 +319,15 @@ stepped_law b tokens0 stack0 tokens tokens1 stack m i v s l g e =
 
 -- ---- faults
 
-shallow_at : (deepest peak limit peak0 limit0 : ℕ) → peak ≡ max peak0 deepest → peak ≤ limit → limit ≡ limit0 → deepest ≤ limit0
+shallow_at : (deepest peak limit peak0 limit0 : ℕ) → peak ≡ max peak0 deepest → peak ≤ limit → limit ≡ limit0
+    → deepest ≤ limit0
 shallow_at deepest peak limit peak0 limit0 e h q = omega arith
 
-pub standing_fault : (X : Type 0) (b : List ℕ) (tokens0 : BoundedList Token) (stack0 : BoundedList ℕ) (tokens tokens1 : BoundedList Token) (stack stack1 : BoundedList ℕ) (m : Mode) (i : ℕ) (f : LineFault) → Standing b tokens0 stack0 tokens stack m i → i < length b
-    → ((p : ℕ) → Answers (read m (byte b i) (idle m stack.elements tokens.elements i p)) m i p stack.limit (Err f) stack1.elements tokens1.elements)
+pub standing_fault : (X : Type 0) (b : List ℕ) (tokens0 : BoundedList Token) (stack0 : BoundedList ℕ)
+    (tokens tokens1 : BoundedList Token) (stack stack1 : BoundedList ℕ) (m : Mode) (i : ℕ) (f : LineFault)
+    → Standing b tokens0 stack0 tokens stack m i → i < length b
+    → ((p : ℕ) → Answers (read m (byte b i) (idle m stack.elements tokens.elements i p)) m i p stack.limit
+        (Err f) stack1.elements tokens1.elements)
     → RunAnswers {X = X} b stack0 (Err f) tokens1 stack1
 standing_fault X b tokens0 stack0 tokens tokens1 stack stack1 m i (NotUtf8 j) s l h = h 0
 standing_fault X b tokens0 stack0 tokens tokens1 stack stack1 m i (Syntax j) s l h =
@@ -266,11 +335,14 @@ standing_fault X b tokens0 stack0 tokens tokens1 stack stack1 m i (Syntax j) s l
     let e = settled s.settles.last t s.settles.settles in
     let d = e.deepest in
     let a = h s.deepest in
-    let q : step (byte b j) s.settles.last ≡ None = ap (λ n. step (byte b n) s.settles.last) a.0 ∙ s.settles.same l ∙ a.1 in
-    let r = shallow_at s.deepest stack.peak stack.limit stack0.peak stack0.limit s.stack_peak s.stack_within.below_limit s.stack_limit in
+    let q : step (byte b j) s.settles.last ≡ None = ap (λ n. step (byte b n) s.settles.last) a.0 ∙ s.settles.same l
+        ∙ a.1 in
+    let r = shallow_at s.deepest stack.peak stack.limit stack0.peak stack0.limit s.stack_peak s.stack_within.below_limit
+        s.stack_limit in
     let ji = a.0 in
     record {
-      sticks = record { last = s.settles.last; reached = s.settles.reached; at = e.place ∙ sym a.0; within = omega arith; stuck = inl (omega arith, q) };
+      sticks = record { last = s.settles.last; reached = s.settles.reached; at = e.place ∙ sym a.0;
+          within = omega arith; stuck = inl (omega arith, q) };
       shallow = omega arith;
     }
 standing_fault X b tokens0 stack0 tokens tokens1 stack stack1 m i (TooDeep j) s l h =
@@ -278,8 +350,10 @@ standing_fault X b tokens0 stack0 tokens tokens1 stack stack1 m i (TooDeep j) s 
     let e = settled s.settles.last t s.settles.settles in
     let d = e.deepest in
     let a = h s.deepest in
-    let q : step (byte b j) s.settles.last ≡ read m (byte b i) t = ap (λ n. step (byte b n) s.settles.last) a.0 ∙ s.settles.same l in
-    let r = shallow_at s.deepest stack.peak stack.limit stack0.peak stack0.limit s.stack_peak s.stack_within.below_limit s.stack_limit in
+    let q : step (byte b j) s.settles.last ≡ read m (byte b i) t = ap (λ n. step (byte b n) s.settles.last) a.0
+        ∙ s.settles.same l in
+    let r = shallow_at s.deepest stack.peak stack.limit stack0.peak stack0.limit s.stack_peak s.stack_within.below_limit
+        s.stack_limit in
     let ji = a.0 in
     let P : ℕ → Type 0 = λ n. IsSomeAnd (read m (byte b i) t) (λ u. length u.stack ≡ suc n) in
     let Q : Option State → Type 0 = λ o. IsSomeAnd o (λ u. length u.stack ≡ suc stack0.limit) in
@@ -292,26 +366,32 @@ standing_fault X b tokens0 stack0 tokens tokens1 stack stack1 m i (TooDeep j) s 
       deep = subst Q (sym q) (subst P s.stack_limit a.1);
     }
 
-pub stepped_fault : (X : Type 0) (b : List ℕ) (tokens0 : BoundedList Token) (stack0 : BoundedList ℕ) (tokens tokens1 : BoundedList Token) (stack : BoundedList ℕ) (m : Mode) (i : ℕ) (v : Move) (f : LineFault) → Stepped b tokens0 stack0 tokens stack m i v
-    → ((p : ℕ) → EndAnswers b (state (phase_after m i v) stack.elements tokens.elements (suc i) p) (Err f) tokens1.elements)
+pub stepped_fault : (X : Type 0) (b : List ℕ) (tokens0 : BoundedList Token) (stack0 : BoundedList ℕ)
+    (tokens tokens1 : BoundedList Token) (stack : BoundedList ℕ) (m : Mode) (i : ℕ) (v : Move) (f : LineFault)
+    → Stepped b tokens0 stack0 tokens stack m i v
+    → ((p : ℕ) → EndAnswers b (state (phase_after m i v) stack.elements tokens.elements (suc i) p)
+        (Err f) tokens1.elements)
     → RunAnswers {X = X} b stack0 (Err f) tokens1 stack
 stepped_fault X b tokens0 stack0 tokens tokens1 stack m i v (NotUtf8 j) s h = h 0
 stepped_fault X b tokens0 stack0 tokens tokens1 stack m i v (TooDeep j) s h = absurd (h 0)
 stepped_fault X b tokens0 stack0 tokens tokens1 stack m i v (Syntax j) s h =
     let a = h s.deepest in
-    let r = shallow_at s.deepest stack.peak stack.limit stack0.peak stack0.limit s.stack_peak s.stack_within.below_limit s.stack_limit in
+    let r = shallow_at s.deepest stack.peak stack.limit stack0.peak stack0.limit s.stack_peak s.stack_within.below_limit
+        s.stack_limit in
     record { sticks = sticks_both s.reached a.sticks; shallow = subst (λ n. n ≤ stack0.limit) (sym a.flat) r }
 
 -- ---- the end of the line
 
-pub ended_fault : (b : List ℕ) (tokens0 : BoundedList Token) (stack0 : BoundedList ℕ) (tokens : BoundedList Token) (stack : BoundedList ℕ) (m : Mode) (i : ℕ) → Standing b tokens0 stack0 tokens stack m i → length b ≤ i
+pub ended_fault : (b : List ℕ) (tokens0 : BoundedList Token) (stack0 : BoundedList ℕ) (tokens : BoundedList Token)
+    (stack : BoundedList ℕ) (m : Mode) (i : ℕ) → Standing b tokens0 stack0 tokens stack m i → length b ≤ i
     → ((m ≡ After) × (stack.elements ≡ []) → ⊥) → SticksAt b stack0.limit i
 ended_fault b tokens0 stack0 tokens stack m i s l n =
     let t = idle m stack.elements tokens.elements i s.deepest in
     let e = settled s.settles.last t s.settles.settles in
     let d = e.deepest in
     let w = s.place in
-    let r = shallow_at s.deepest stack.peak stack.limit stack0.peak stack0.limit s.stack_peak s.stack_within.below_limit s.stack_limit in
+    let r = shallow_at s.deepest stack.peak stack.limit stack0.peak stack0.limit s.stack_peak s.stack_within.below_limit
+        s.stack_limit in
     record {
       sticks = record {
         last = s.settles.last;

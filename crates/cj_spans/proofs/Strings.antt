@@ -16,13 +16,16 @@ use Rattle.cj_spans.specs.Text.{char_of, four_digits, unit, is_unicode, is_pair,
 data BodyBegins (b : ℕ) (r : List ℕ) : Type 0 where
   by_plain : is_plain b ≡ true → IsBody r → BodyBegins b r
   by_escape : b ≡ 92 → (e : ℕ) (s : List ℕ) → r ≡ e ∷ s → is_escape e ≡ true → IsBody s → BodyBegins b r
-  by_unicode : b ≡ 92 → (h i j k : ℕ) (s : List ℕ) → r ≡ 117 ∷ h ∷ i ∷ j ∷ k ∷ s → is_hex h && is_hex i && is_hex j && is_hex k ≡ true → IsBody s → BodyBegins b r
+  by_unicode : b ≡ 92 → (h i j k : ℕ) (s : List ℕ) → r ≡ 117 ∷ h ∷ i ∷ j ∷ k ∷ s → is_hex h && is_hex i && is_hex j
+      && is_hex k ≡ true → IsBody s → BodyBegins b r
 
 body_begins : {s : List ℕ} → IsBody s → (b : ℕ) (r : List ℕ) → s ≡ b ∷ r → BodyBegins b r
 body_begins nothing b r e = cc
-body_begins (plain_byte c s p y) b r e = let x : c ≡ b = cc in let z : s ≡ r = cc in by_plain (subst (λ d. is_plain d ≡ true) x p) (subst IsBody z y)
+body_begins (plain_byte c s p y) b r e = let x : c ≡ b = cc in let z : s ≡ r = cc in
+    by_plain (subst (λ d. is_plain d ≡ true) x p) (subst IsBody z y)
 body_begins (escape c s p y) b r e = let x : 92 ≡ b = cc in let z : c ∷ s ≡ r = cc in by_escape (sym x) c s (sym z) p y
-body_begins (unicode h i j k s p y) b r e = let x : 92 ≡ b = cc in let z : 117 ∷ h ∷ i ∷ j ∷ k ∷ s ≡ r = cc in by_unicode (sym x) h i j k s (sym z) p y
+body_begins (unicode h i j k s p y) b r e = let x : 92 ≡ b = cc in let z : 117 ∷ h ∷ i ∷ j ∷ k ∷ s ≡ r = cc in
+    by_unicode (sym x) h i j k s (sym z) p y
 
 -- bytes of longer characters are no escapes
 strip : (xs r : List ℕ) → ((k : ℕ) → k < length xs → 128 ≤ get_or xs k 0) → IsBody (xs ++ r) → IsBody r
@@ -37,7 +40,9 @@ strip (x ∷ xs) r h y =
 
 long_bytes : (c : ℕ) → 128 ≤ c → (k : ℕ) → k < length (encode_utf8 c) → 128 ≤ get_or (encode_utf8 c) k 0
 long_bytes c h k l =
-    elim (cases_lt (get_or (encode_utf8 c) k 0) 128) [ inl m ↦ let e = inside_one c [] (encode_utf8 c) k (sym (append-nil (encode_utf8 c))) l m in absurd (omega arith) | inr g ↦ g ]
+    elim (cases_lt (get_or (encode_utf8 c) k 0) 128) [ inl m ↦
+        let e = inside_one c [] (encode_utf8 c) k (sym (append-nil (encode_utf8 c))) l m in
+        absurd (omega arith) | inr g ↦ g ]
 
 -- an ASCII byte is a character
 record Next (cs : List ℕ) (c : ℕ) (rest : List ℕ) : Type 0 where
@@ -46,10 +51,12 @@ record Next (cs : List ℕ) (c : ℕ) (rest : List ℕ) : Type 0 where
   left : encode_utf8_all after ≡ rest
 
 next : (cs : List ℕ) (c : ℕ) (rest : List ℕ) → c < 128 → encode_utf8_all cs ≡ c ∷ rest → Next cs c rest
-next cs c rest l e = let r = cons_from_encodes cs rest c (e ∙ ap (λ xs. xs ++ rest) (sym (encode_ascii c l))) in record { after = r.0; is = r.1; left = r.2 }
+next cs c rest l e = let r = cons_from_encodes cs rest c (e ∙ ap (λ xs. xs ++ rest) (sym (encode_ascii c l))) in
+    record { after = r.0; is = r.1; left = r.2 }
 
 all_so : (a b c d : Bool) → a && b && c && d ≡ true → (b ≡ true) × (c ≡ true) × (d ≡ true)
-all_so a b c d h = let e : b ≡ true = grind (arith) in let f : c ≡ true = grind (arith) in let g : d ≡ true = grind (arith) in (e, f, g)
+all_so a b c d h = let e : b ≡ true = grind (arith) in let f : c ≡ true = grind (arith) in
+    let g : d ≡ true = grind (arith) in (e, f, g)
 
 four_so : (a b c d : Bool) → a && b && c && d ≡ true → a ≡ true
 four_so a b c d h = grind (arith)
@@ -72,7 +79,8 @@ record Unit4 (cs : List ℕ) (h i j k : ℕ) (s : List ℕ) : Type 0 where
   is : cs ≡ 117 ∷ h ∷ i ∷ j ∷ k ∷ after
   left : encode_utf8_all after ≡ s
 
-unit4 : (cs : List ℕ) (h i j k : ℕ) (s : List ℕ) → encode_utf8_all cs ≡ 117 ∷ h ∷ i ∷ j ∷ k ∷ s → is_hex h && is_hex i && is_hex j && is_hex k ≡ true → Unit4 cs h i j k s
+unit4 : (cs : List ℕ) (h i j k : ℕ) (s : List ℕ) → encode_utf8_all cs ≡ 117 ∷ h ∷ i ∷ j ∷ k ∷ s
+    → is_hex h && is_hex i && is_hex j && is_hex k ≡ true → Unit4 cs h i j k s
 unit4 cs h i j k s e p =
     let ph = four_so (is_hex h) (is_hex i) (is_hex j) (is_hex k) p in
     let q = all_so (is_hex h) (is_hex i) (is_hex j) (is_hex k) p in
@@ -83,7 +91,8 @@ unit4 cs h i j k s e p =
     let f = next d.after k s (hex_small k q.2) d.left in
     record {
       after = f.after;
-      is = a.is ∙ ap (λ xs. 117 ∷ xs) (b.is ∙ ap (λ xs. h ∷ xs) (c.is ∙ ap (λ xs. i ∷ xs) (d.is ∙ ap (λ xs. j ∷ xs) f.is)));
+      is = a.is ∙ ap (λ xs. 117 ∷ xs)
+          (b.is ∙ ap (λ xs. h ∷ xs) (c.is ∙ ap (λ xs. i ∷ xs) (d.is ∙ ap (λ xs. j ∷ xs) f.is)));
       left = f.left;
     }
 
@@ -111,7 +120,8 @@ unit_second ds u (by_escape q e s f p y) =
     let n : ⊥ = grind (arith, nat_tests) in absurd n
 unit_second ds u (by_unicode q h i j k s f p y) =
     let a = unit4 ds h i j k s f p in
-    record { l = h; m = i; n = j; o = k; after = a.after; is = ap (λ xs. 92 ∷ xs) a.is; body = subst IsBody (sym a.left) y }
+    record { l = h; m = i; n = j; o = k; after = a.after; is = ap (λ xs. 92 ∷ xs) a.is;
+        body = subst IsBody (sym a.left) y }
 
 unit_front : (es : List ℕ) → is_unicode es ≡ true → IsBody (encode_utf8_all es) → NextUnit es
 unit_front [] u y = let n : ⊥ = cc in absurd n
@@ -120,33 +130,44 @@ unit_front (c ∷ ds) u y =
     let f : char_of (c ∷ ds) 1 ≡ 117 = eqb-true (char_of (c ∷ ds) 1) 117 (second_so _ _ u) in
     let y0 = subst (λ x. IsBody (encode_utf8_all (x ∷ ds))) e y in
     let y1 = subst (λ xs. IsBody (xs ++ encode_utf8_all ds)) (encode_ascii 92 (omega arith)) y0 in
-    subst (λ x. NextUnit (x ∷ ds)) (sym e) (unit_second ds (subst (λ x. char_of (x ∷ ds) 1 ≡ 117) e f) (body_begins y1 92 (encode_utf8_all ds) refl))
+    subst (λ x. NextUnit (x ∷ ds)) (sym e)
+        (unit_second ds (subst (λ x. char_of (x ∷ ds) 1 ≡ 117) e f) (body_begins y1 92 (encode_utf8_all ds) refl))
 
-unit_pair : (h i j k : ℕ) (es : List ℕ) → ((ds : List ℕ) → length ds ≤ length es → IsBody (encode_utf8_all ds) → Stands ds) → is_high_surrogate (four_digits (h ∷ i ∷ j ∷ k ∷ [])) ≡ true → is_low_surrogate (unit es) ≡ true → NextUnit es
+unit_pair : (h i j k : ℕ) (es : List ℕ)
+    → ((ds : List ℕ) → length ds ≤ length es → IsBody (encode_utf8_all ds) → Stands ds)
+    → is_high_surrogate (four_digits (h ∷ i ∷ j ∷ k ∷ [])) ≡ true → is_low_surrogate (unit es) ≡ true → NextUnit es
     → Stands (92 ∷ 117 ∷ h ∷ i ∷ j ∷ k ∷ es)
 unit_pair h i j k es ih a b f =
     let g : length f.after ≤ length es = let e = ap (λ (xs : List ℕ). length xs) f.is in omega arith in
     let r = ih f.after g f.body in
     let low = subst (λ xs. is_low_surrogate (unit xs) ≡ true) f.is b in
-    subst (λ xs. Stands (92 ∷ 117 ∷ h ∷ i ∷ j ∷ k ∷ xs)) (sym f.is) (_, pair h i j k f.l f.m f.n f.o f.after r.0 a low r.1)
+    subst (λ xs. Stands (92 ∷ 117 ∷ h ∷ i ∷ j ∷ k ∷ xs)) (sym f.is)
+        (_, pair h i j k f.l f.m f.n f.o f.after r.0 a low r.1)
 
-unit_case : (h i j k : ℕ) (es : List ℕ) → ((ds : List ℕ) → length ds ≤ length es → IsBody (encode_utf8_all ds) → Stands ds) → IsBody (encode_utf8_all es) → (v : Bool) → is_pair (92 ∷ 117 ∷ h ∷ i ∷ j ∷ k ∷ es) ≡ v → Stands (92 ∷ 117 ∷ h ∷ i ∷ j ∷ k ∷ es)
+unit_case : (h i j k : ℕ) (es : List ℕ)
+    → ((ds : List ℕ) → length ds ≤ length es → IsBody (encode_utf8_all ds) → Stands ds) → IsBody (encode_utf8_all es)
+    → (v : Bool) → is_pair (92 ∷ 117 ∷ h ∷ i ∷ j ∷ k ∷ es) ≡ v → Stands (92 ∷ 117 ∷ h ∷ i ∷ j ∷ k ∷ es)
 unit_case h i j k es ih y true e =
-    let f = all_so true (is_high_surrogate (four_digits (h ∷ i ∷ j ∷ k ∷ []))) (is_unicode es) (is_low_surrogate (unit es)) e in
+    let f = all_so true (is_high_surrogate (four_digits (h ∷ i ∷ j ∷ k ∷ []))) (is_unicode es)
+        (is_low_surrogate (unit es)) e in
     unit_pair h i j k es ih f.0 f.2 (unit_front es f.1 y)
-unit_case h i j k es ih y false e = let r = ih es (omega arith) y in (four_digits (h ∷ i ∷ j ∷ k ∷ []) ∷ r.0, single h i j k es r.0 e r.1)
+unit_case h i j k es ih y false e = let r = ih es (omega arith) y in
+    (four_digits (h ∷ i ∷ j ∷ k ∷ []) ∷ r.0, single h i j k es r.0 e r.1)
 
-ascii_case : (c : ℕ) (cs : List ℕ) → ((ds : List ℕ) → length ds ≤ length cs → IsBody (encode_utf8_all ds) → Stands ds) → BodyBegins c (encode_utf8_all cs) → Stands (c ∷ cs)
+ascii_case : (c : ℕ) (cs : List ℕ) → ((ds : List ℕ) → length ds ≤ length cs → IsBody (encode_utf8_all ds) → Stands ds)
+    → BodyBegins c (encode_utf8_all cs) → Stands (c ∷ cs)
 ascii_case c cs ih (by_plain p y) = let r = ih cs (omega arith) y in (c ∷ r.0, plain c cs r.0 (plain_other c p) r.1)
 ascii_case c cs ih (by_escape q e s f p y) =
     let a = next cs e s (escape_small e p) f in
     let g : length a.after ≤ length cs = let z = ap (λ (xs : List ℕ). length xs) a.is in omega arith in
     let r = ih a.after g (subst IsBody (sym a.left) y) in
-    subst (λ xs. Stands (c ∷ xs)) (sym a.is) (subst (λ d. Stands (d ∷ e ∷ a.after)) (sym q) (_, letter e a.after r.0 (escape_other e p) r.1))
+    subst (λ xs. Stands (c ∷ xs)) (sym a.is)
+        (subst (λ d. Stands (d ∷ e ∷ a.after)) (sym q) (_, letter e a.after r.0 (escape_other e p) r.1))
 ascii_case c cs ih (by_unicode q h i j k s f p y) =
     let a = unit4 cs h i j k s f p in
     let g : length a.after ≤ length cs = let z = ap (λ (xs : List ℕ). length xs) a.is in omega arith in
-    let r = unit_case h i j k a.after (λ ds l b. ih ds (omega arith) b) (subst IsBody (sym a.left) y) (is_pair (92 ∷ 117 ∷ h ∷ i ∷ j ∷ k ∷ a.after)) refl in
+    let r = unit_case h i j k a.after (λ ds l b. ih ds (omega arith) b) (subst IsBody (sym a.left) y)
+        (is_pair (92 ∷ 117 ∷ h ∷ i ∷ j ∷ k ∷ a.after)) refl in
     subst (λ xs. Stands (c ∷ xs)) (sym a.is) (subst (λ d. Stands (d ∷ 117 ∷ h ∷ i ∷ j ∷ k ∷ a.after)) (sym q) r)
 
 stands : (n : ℕ) (cs : List ℕ) → length cs ≤ n → IsBody (encode_utf8_all cs) → Stands cs
@@ -154,8 +175,11 @@ stands n [] l y = ([], done)
 stands zero (c ∷ cs) l y = absurd (omega arith)
 stands (suc n) (c ∷ cs) l y =
     elim (cases_lt c 128) [
-      | inl m ↦ ascii_case c cs (λ ds g b. stands n ds (omega arith) b) (body_begins (subst (λ xs. IsBody (xs ++ encode_utf8_all cs)) (encode_ascii c m) y) c (encode_utf8_all cs) refl)
-      | inr g ↦ let r = stands n cs (omega arith) (strip (encode_utf8 c) (encode_utf8_all cs) (long_bytes c g) y) in let p : nat_eq c 92 ≡ false = grind (arith, nat_tests) in (c ∷ r.0, plain c cs r.0 p r.1)
+      | inl m ↦ ascii_case c cs (λ ds g b. stands n ds (omega arith) b)
+          (body_begins (subst (λ xs. IsBody (xs ++ encode_utf8_all cs)) (encode_ascii c m) y) c (encode_utf8_all cs)
+          refl)
+      | inr g ↦ let r = stands n cs (omega arith) (strip (encode_utf8 c) (encode_utf8_all cs) (long_bytes c g) y) in
+          let p : nat_eq c 92 ≡ false = grind (arith, nat_tests) in (c ∷ r.0, plain c cs r.0 p r.1)
     ]
 
 quote_at : (body : List ℕ) → get_or (body ++ 34 ∷ []) (length body) 0 < 128
@@ -174,7 +198,8 @@ utf8_body body u =
     let v = IsUtf8-past_char (34 ∷ xs) xs 34 u (ap (λ ys. ys ++ xs) (sym (encode_ascii 34 (omega arith)))) in
     let e = length-append body (34 ∷ []) in
     let b = IsCharBoundary-before_ascii xs (length body) (omega arith) (quote_at body) in
-    subst IsUtf8 (take-append-le (length body) body (34 ∷ []) (omega arith) ∙ take-length body) (IsUtf8-take xs (length body) v b)
+    subst IsUtf8 (take-append-le (length body) body (34 ∷ []) (omega arith) ∙ take-length body)
+        (IsUtf8-take xs (length body) v b)
 
 -- the text of a string is told by the cases of the grammar
 pub text_told : (s : List ℕ) → IsString s → IsUtf8 s → (ps : List ℕ) × StandFor (chars (body_of s)) ps
@@ -183,5 +208,6 @@ text_told s h u =
     let v = utf8_body b (subst IsUtf8 h.joined u) in
     let y = subst IsBody (sym v.1.1) h.body_is in
     let r = stands (length v.0) v.0 (omega arith) y in
-    let e : chars (body_of s) ≡ v.0 = ap (λ xs. chars (body_of xs)) h.joined ∙ ap chars (body-joined b ∙ sym v.1.1) ∙ chars-encodes v.0 v.1.0 in
+    let e : chars (body_of s) ≡ v.0 = ap (λ xs. chars (body_of xs)) h.joined ∙ ap chars (body-joined b ∙ sym v.1.1)
+        ∙ chars-encodes v.0 v.1.0 in
     (r.0, subst (λ cs. StandFor cs r.0) (sym e) r.1)

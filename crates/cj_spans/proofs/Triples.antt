@@ -52,7 +52,8 @@ kind_so Object e = cc
 
 pub told_number : (s : List ℕ) → ∥ IsNumber s ∥₁ → IsNumber s
 told_number s m =
-    go (reading s) refl (∥∥₁_elim m (≡_prop coded_bool _ _) (λ n. let w = reading_whole Number s n in ap ends_number w.run ∙ ap is_numeral w.kind))
+    go (reading s) refl (∥∥₁_elim m (≡_prop coded_bool _ _) (λ n. let w = reading_whole Number s n in
+            ap ends_number w.run ∙ ap is_numeral w.kind))
   where
     by_kind : (x : Lex) → reading s ≡ Some x → (o : Option Kind) → lex_kind x ≡ o → is_numeral o ≡ true → IsNumber s
     by_kind x h None e f = absurd (cc)
@@ -98,8 +99,10 @@ whole_from s w each =
     let right = each_right w.int (w.frac ++ w.exp) (each_right w.minus (w.int ++ (w.frac ++ w.exp)) all) in
     let f = no_frac w.frac w.exp w.frac_is right in
     let e = no_exp w.exp w.exp_is (each_right w.frac w.exp right) in
-    let rest : w.int ++ (w.frac ++ w.exp) ≡ w.int = ap (λ z. w.int ++ (z ++ w.exp)) f ∙ ap (λ z. w.int ++ z) e ∙ append-nil w.int in
-    record { minus = w.minus; int = w.int; minus_is = w.minus_is; int_is = w.int_is; joined = w.joined ∙ ap (λ z. w.minus ++ z) rest }
+    let rest : w.int ++ (w.frac ++ w.exp) ≡ w.int = ap (λ z. w.int ++ (z ++ w.exp)) f ∙ ap (λ z. w.int ++ z) e
+        ∙ append-nil w.int in
+    record { minus = w.minus; int = w.int; minus_is = w.minus_is; int_is = w.int_is; joined = w.joined
+        ∙ ap (λ z. w.minus ++ z) rest }
 
 -- ---- a sign of whole numbers, or the bracket after them
 
@@ -111,10 +114,12 @@ sign_kind b (inl h) = let low = h.0 in let high = h.1 in grind (arith, nat_tests
 sign_kind b (inr h) = grind (arith, nat_tests)
 
 sign_in : (b : ℕ) → IsSign b → IsInWhole b
-sign_in b (inl h) = let low = h.0 in let high = h.1 in (λ e. absurd (grind (arith, nat_tests)), (λ e. absurd (omega arith), λ e. absurd (omega arith)))
+sign_in b (inl h) = let low = h.0 in let high = h.1 in
+    (λ e. absurd (grind (arith, nat_tests)), (λ e. absurd (omega arith), λ e. absurd (omega arith)))
 sign_in b (inr h) = (λ e. absurd (omega arith), (λ e. absurd (omega arith), λ e. absurd (omega arith)))
 
-number_size : (b : List ℕ) (i j : ℕ) (ts : List Tree) → kind_by (byte b i) ≡ Number → size (node b (kind_by (byte b i)) i j ts) ≡ 1
+number_size : (b : List ℕ) (i j : ℕ) (ts : List Tree) → kind_by (byte b i) ≡ Number
+    → size (node b (kind_by (byte b i)) i j ts) ≡ 1
 number_size b i j ts e = ap (λ k. size (node b k i j ts)) e
 
 all_three : (P : Tree → Type 0) (x y z : Tree) → P x → P y → P z → All P (x ∷ y ∷ z ∷ [])
@@ -144,7 +149,11 @@ pub record Part (b : List ℕ) (ts : List Token) (t : Token) (m : ℕ) (u : Toke
   pub long : length (spelling_of b (tree_at b (spans_of ts) m)) ≡ u.stop - u.start
   pub lone : link_of u ≡ m + 1
 
-module _ (b : List ℕ) (ts : List Token) (within : AreWithin b ts) (rising : AreRising ts) (nested : AreNested ts) (linked : AreLinked ts) (spelled : AreSpelled b ts) (sized : AreSized b ts) (k : ℕ) (t : Token) (here : slice_get ts k ≡ Some t) (array : byte b t.start ≡ 91) (four : k + 1 + before t.stop (drop (k + 1) ts) ≡ k + 4) (signs : (i : ℕ) → t.start + 1 ≤ i → i < t.stop - 1 → IsWholeSign (byte b i)) where
+module _ (b : List ℕ) (ts : List Token) (within : AreWithin b ts) (rising : AreRising ts) (nested : AreNested ts)
+    (linked : AreLinked ts) (spelled : AreSpelled b ts) (sized : AreSized b ts) (k : ℕ) (t : Token)
+    (here : slice_get ts k ≡ Some t) (array : byte b t.start ≡ 91)
+    (four : k + 1 + before t.stop (drop (k + 1) ts) ≡ k + 4)
+    (signs : (i : ℕ) → t.start + 1 ≤ i → i < t.stop - 1 → IsWholeSign (byte b i)) where
   -- the parts start before the array ends
   inside : (m : ℕ) (u : Token) → k < m → m < k + 4 → slice_get ts m ≡ Some u → u.start < t.stop
   inside m u l h g =
@@ -153,7 +162,8 @@ module _ (b : List ℕ) (ts : List Token) (within : AreWithin b ts) (rising : Ar
       let d = drop (k + 1) ts in
       let at : k + 1 + n ≡ m = omega arith in
       let left = before_drop j n d (omega arith) in
-      let there : before j (drop n d) ≡ before j (drop m ts) = ap (before j) (drop-drop n (k + 1) ts) ∙ ap (λ x. before j (drop x ts)) at in
+      let there : before j (drop n d) ≡ before j (drop m ts) = ap (before j) (drop-drop n (k + 1) ts)
+          ∙ ap (λ x. before j (drop x ts)) at in
       starts_before ts j m u g (omega arith)
 
   sign_at : (i : ℕ) → t.start < i → i < t.stop → IsSign (byte b i)
@@ -173,8 +183,11 @@ module _ (b : List ℕ) (ts : List Token) (within : AreWithin b ts) (rising : Ar
       let number = sign_kind (byte b u.start) (sign_at u.start after o) in
       let shown = spelling_shown b ts m u g in
       let long = slice-length b u.start u.stop (omega arith) w.1 in
-      let whole = whole_from (slice_range b u.start u.stop) (told_number (slice_range b u.start u.stop) ((spelled m u g).0 number))
-      (λ n f. subst IsInWhole (slice_has b u.start u.stop n f) (sign_in (byte b (u.start + n)) (sign_at (u.start + n) (omega arith) (omega arith)))) in
+      let whole =
+          whole_from (slice_range b u.start u.stop)
+              (told_number (slice_range b u.start u.stop) ((spelled m u g).0 number))
+      (λ n f. subst IsInWhole (slice_has b u.start u.stop n f)
+          (sign_in (byte b (u.start + n)) (sign_at (u.start + n) (omega arith) (omega arith)))) in
       let tree = below_at b ts m u g in
       let one = ap size tree.tree ∙ number_size b u.start u.stop _ number in
       let link = sized m u g in
@@ -202,7 +215,8 @@ module _ (b : List ℕ) (ts : List Token) (within : AreWithin b ts) (rising : Ar
       ]
 
   links : (m : ℕ) (u : Token) → Part b ts t m u → LinksTo ts m (m + 1)
-  links m u p = λ v g. let e = linked m v g in let q : link_of v ≡ m + 1 = ap link_of (some_same v u (sym g ∙ p.here)) ∙ p.lone in omega arith
+  links m u p = λ v g. let e = linked m v g in let q : link_of v ≡ m + 1 = ap link_of (some_same v u (sym g ∙ p.here))
+      ∙ p.lone in omega arith
 
   -- the three parts, and that they are all
   pub record Three : Type 0 where
@@ -215,13 +229,16 @@ module _ (b : List ℕ) (ts : List Token) (within : AreWithin b ts) (rising : Ar
     pub z_part : Part b ts t (k + 3) z
     pub x_y : x.stop ≤ y.start
     pub y_z : y.stop ≤ z.start
-    pub all : items_of (tree_at b (spans_of ts) k) ≡ tree_at b (spans_of ts) (k + 1) ∷ tree_at b (spans_of ts) (k + 2) ∷ tree_at b (spans_of ts) (k + 3) ∷ []
+    pub all : items_of (tree_at b (spans_of ts) k) ≡ tree_at b (spans_of ts) (k + 1) ∷ tree_at b (spans_of ts) (k + 2)
+        ∷ tree_at b (spans_of ts) (k + 3) ∷ []
 
   pub three : Three
   three =
       let known = slice_get_within ts k t here in
-      let to_end : LinksTo ts k (k + 4) = λ u g. sym four ∙ ap (λ (v : Token). k + 1 + before v.stop (drop (k + 1) ts)) (some_same t u (sym here ∙ g)) in
-      let w = items_from_link b ts k (k + 4) (k + 4) Array nested linked known to_end (kind_shown b ts k t Array here (sym (ap kind_by array))) refl in
+      let to_end : LinksTo ts k (k + 4) = λ u g. sym four
+          ∙ ap (λ (v : Token). k + 1 + before v.stop (drop (k + 1) ts)) (some_same t u (sym here ∙ g)) in
+      let w = items_from_link b ts k (k + 4) (k + 4) Array nested linked known to_end
+          (kind_shown b ts k t Array here (sym (ap kind_by array))) refl in
       let reach = w.whole.0 in
       let fx = below b ts (k + 1) (omega arith) in
       let fy = below b ts (k + 2) (omega arith) in
@@ -235,9 +252,12 @@ module _ (b : List ℕ) (ts : List Token) (within : AreWithin b ts) (rising : Ar
       let w1 = w.whole in
       let w2 = whole_later ts (k + 1) (k + 2) (k + 4) (omega arith) w1 in
       let w3 = whole_later ts (k + 1) (k + 3) (k + 4) (omega arith) w1 in
-      let s1 = item_on b ts (k + 1) (k + 4) (k + 2) nested linked w1 (omega arith) (subst (LinksTo ts (k + 1)) e2 (links (k + 1) fx.0 px)) in
-      let s2 = item_on b ts (k + 2) (k + 4) (k + 3) nested linked w2 (omega arith) (subst (LinksTo ts (k + 2)) e3 (links (k + 2) fy.0 py)) in
-      let s3 = item_on b ts (k + 3) (k + 4) (k + 4) nested linked w3 (omega arith) (subst (LinksTo ts (k + 3)) e4 (links (k + 3) fz.0 pz)) in
+      let s1 = item_on b ts (k + 1) (k + 4) (k + 2) nested linked w1 (omega arith)
+          (subst (LinksTo ts (k + 1)) e2 (links (k + 1) fx.0 px)) in
+      let s2 = item_on b ts (k + 2) (k + 4) (k + 3) nested linked w2 (omega arith)
+          (subst (LinksTo ts (k + 2)) e3 (links (k + 2) fy.0 py)) in
+      let s3 = item_on b ts (k + 3) (k + 4) (k + 4) nested linked w3 (omega arith)
+          (subst (LinksTo ts (k + 3)) e4 (links (k + 3) fz.0 pz)) in
       let s4 = shown_none b ts (k + 4) (k + 4) (omega arith) in
       record {
         reach = reach;
@@ -249,18 +269,24 @@ module _ (b : List ℕ) (ts : List Token) (within : AreWithin b ts) (rising : Ar
         z_part = pz;
         x_y = apart (k + 1) fx.0 fy.0 px (subst (λ n. slice_get ts n ≡ Some fy.0) (sym e2) fy.1);
         y_z = apart (k + 2) fy.0 fz.0 py (subst (λ n. slice_get ts n ≡ Some fz.0) (sym e3) fz.1);
-        all = sym w.shown ∙ s1 ∙ ap (λ us. tree_at b (spans_of ts) (k + 1) ∷ us) (s2 ∙ ap (λ us. tree_at b (spans_of ts) (k + 2) ∷ us) (s3 ∙ ap (λ us. tree_at b (spans_of ts) (k + 3) ∷ us) s4));
+        all = sym w.shown ∙ s1 ∙ ap (λ us. tree_at b (spans_of ts) (k + 1) ∷ us)
+            (s2 ∙ ap (λ us. tree_at b (spans_of ts) (k + 2) ∷ us)
+            (s3 ∙ ap (λ us. tree_at b (spans_of ts) (k + 3) ∷ us) s4));
       }
 
   -- what is asked of a part
-  whole_part : (m : ℕ) (u : Token) → Part b ts t m u → u.stop ≤ u.start + 18 → IsShortWhole b (tree_at b (spans_of ts) m)
-  whole_part m u p l = let e = p.long in let s = p.some in record { kind = p.kind; whole = p.whole; short = omega arith }
+  whole_part : (m : ℕ) (u : Token) → Part b ts t m u → u.stop ≤ u.start + 18
+      → IsShortWhole b (tree_at b (spans_of ts) m)
+  whole_part m u p l = let e = p.long in let s = p.some in
+      record { kind = p.kind; whole = p.whole; short = omega arith }
 
-  pub wholes : ((m : ℕ) (u : Token) → k < m → m < k + 4 → slice_get ts m ≡ Some u → u.stop ≤ u.start + 18) → All (IsShortWhole b) (items_of (tree_at b (spans_of ts) k))
+  pub wholes : ((m : ℕ) (u : Token) → k < m → m < k + 4 → slice_get ts m ≡ Some u → u.stop ≤ u.start + 18)
+      → All (IsShortWhole b) (items_of (tree_at b (spans_of ts) k))
   wholes short =
       let w = three in
       subst (All (IsShortWhole b)) (sym w.all)
-      (all_three (IsShortWhole b) (tree_at b (spans_of ts) (k + 1)) (tree_at b (spans_of ts) (k + 2)) (tree_at b (spans_of ts) (k + 3))
+      (all_three (IsShortWhole b) (tree_at b (spans_of ts) (k + 1)) (tree_at b (spans_of ts) (k + 2))
+          (tree_at b (spans_of ts) (k + 3))
       (whole_part (k + 1) w.x w.x_part (short (k + 1) w.x (omega arith) (omega arith) w.x_part.here))
       (whole_part (k + 2) w.y w.y_part (short (k + 2) w.y (omega arith) (omega arith) w.y_part.here))
       (whole_part (k + 3) w.z w.z_part (short (k + 3) w.z (omega arith) (omega arith) w.z_part.here)))
@@ -277,8 +303,10 @@ module _ (b : List ℕ) (ts : List Token) (within : AreWithin b ts) (rising : Ar
       let xy = w.x_y in
       let yz = w.y_z in
       subst (All (IsShortWhole b)) (sym w.all)
-      (all_three (IsShortWhole b) (tree_at b (spans_of ts) (k + 1)) (tree_at b (spans_of ts) (k + 2)) (tree_at b (spans_of ts) (k + 3))
-      (whole_part (k + 1) w.x w.x_part (omega arith)) (whole_part (k + 2) w.y w.y_part (omega arith)) (whole_part (k + 3) w.z w.z_part (omega arith)))
+      (all_three (IsShortWhole b) (tree_at b (spans_of ts) (k + 1)) (tree_at b (spans_of ts) (k + 2))
+          (tree_at b (spans_of ts) (k + 3))
+      (whole_part (k + 1) w.x w.x_part (omega arith)) (whole_part (k + 2) w.y w.y_part (omega arith))
+          (whole_part (k + 3) w.z w.z_part (omega arith)))
 
   pub three_long : length (items_of (tree_at b (spans_of ts) k)) ≡ 3
   three_long = ap length three.all

@@ -31,38 +31,53 @@ digit_from x l h = let e : (x + 208) % 256 ≤ 9 = grind (arith, nat_tests) in t
     test x a b = grind (arith, nat_tests)
 
 -- the marks of the lanes above n
-marks_over : (n : ℕ) (v : List ℕ) → length v ≡ 16 → mask_l (map (top 7) (zip2 (λ a c. cond (ltb a c) 255 0) (replicate 16 n) v)) % 2 ^ 64 ≡ mask_l (map (λ y. ltb n y) v)
+marks_over : (n : ℕ) (v : List ℕ) → length v ≡ 16
+    → mask_l (map (top 7) (zip2 (λ a c. cond (ltb a c) 255 0) (replicate 16 n) v)) % 2 ^ 64
+    ≡ mask_l (map (λ y. ltb n y) v)
 marks_over n v long =
     ap (λ ms. mask_l ms % 2 ^ 64) (tops_compared w8 ltb (replicate 16 n) v ∙ zip2_splat_left ltb n 16 v long)
     ∙ mask_l-mod (map (λ y. ltb n y) v) 64 (omega (arith, length-map v (λ y. ltb n y)))
 
 -- the marks of the bytes from i on that are no digits
 abbrev pub digit_marks : List ℕ → ℕ → ℕ
-digit_marks b i = mask_l (map (top 7) (zip2 (λ a c. cond (ltb a c) 255 0) (replicate 16 9) (zip2 (λ a c. (a + (256 - c)) % 256) (chunk i 16 b) (replicate 16 48)))) % 2 ^ 64
+digit_marks b i =
+    mask_l (map (top 7) (zip2 (λ a c. cond (ltb a c) 255 0) (replicate 16 9)
+            (zip2 (λ a c. (a + (256 - c)) % 256) (chunk i 16 b) (replicate 16 48)))) % 2 ^ 64
 
 digit_marks_are : (b : List ℕ) (i : ℕ) → i + 16 ≤ length b → digit_marks b i ≡ mask_l (map other (chunk i 16 b))
 digit_marks_are b i room =
     let v = chunk i 16 b in
     let long : length v ≡ 16 = length-chunk i 16 b room in
-    ap (λ w. mask_l (map (top 7) (zip2 (λ a c. cond (ltb a c) 255 0) (replicate 16 9) w)) % 2 ^ 64) (zip2_splat (λ a c. (a + (256 - c)) % 256) v 16 48 long)
+    ap (λ w. mask_l (map (top 7) (zip2 (λ a c. cond (ltb a c) 255 0) (replicate 16 9) w)) % 2 ^ 64)
+        (zip2_splat (λ a c. (a + (256 - c)) % 256) v 16 48 long)
     ∙ marks_over 9 (map above v) (length-map v above ∙ long)
     ∙ ap mask_l (map-map (λ y. ltb 9 y) above v)
 
-pub all_digits : (b : List ℕ) (i : ℕ) → i + 16 ≤ length b → ((k : ℕ) → byte b k < 256) → digit_marks b i ≡ 0 → (k : ℕ) → i ≤ k → k < i + 16 → is_digit (byte b k) ≡ true
-all_digits b i room small e k l h = digit_from (byte b k) (small k) (none_from_empty_mask other b i 16 0 room (sym (digit_marks_are b i room) ∙ e) k l h)
+pub all_digits : (b : List ℕ) (i : ℕ) → i + 16 ≤ length b → ((k : ℕ) → byte b k < 256) → digit_marks b i ≡ 0 → (k : ℕ)
+    → i ≤ k → k < i + 16 → is_digit (byte b k) ≡ true
+all_digits b i room small e k l h =
+    digit_from (byte b k) (small k)
+        (none_from_empty_mask other b i 16 0 room (sym (digit_marks_are b i room) ∙ e) k l h)
 
-digits_counted : (b : List ℕ) (i : ℕ) → i + 16 ≤ length b → (digit_marks b i ≡ 0 → ⊥) → count_trailing_zeros 64 (digit_marks b i) ≡ prefix_len (λ x. not (other x)) (chunk i 16 b)
+digits_counted : (b : List ℕ) (i : ℕ) → i + 16 ≤ length b → (digit_marks b i ≡ 0 → ⊥)
+    → count_trailing_zeros 64 (digit_marks b i) ≡ prefix_len (λ x. not (other x)) (chunk i 16 b)
 digits_counted b i room n =
     let e = digit_marks_are b i room in
     let long = length-chunk i 16 b room in
     let some : 0 < digit_marks b i = omega arith in
     ap (count_trailing_zeros 64) e ∙ trailing_mask_l other 64 (chunk i 16 b) (omega arith) (subst (λ m. 0 < m) e some)
 
-pub digits_within : (b : List ℕ) (i : ℕ) → i + 16 ≤ length b → (digit_marks b i ≡ 0 → ⊥) → count_trailing_zeros 64 (digit_marks b i) ≤ 16
-digits_within b i room n = run_in_chunk_le other b i 16 (count_trailing_zeros 64 (digit_marks b i)) 0 room (digits_counted b i room n)
+pub digits_within : (b : List ℕ) (i : ℕ) → i + 16 ≤ length b → (digit_marks b i ≡ 0 → ⊥)
+    → count_trailing_zeros 64 (digit_marks b i) ≤ 16
+digits_within b i room n =
+    run_in_chunk_le other b i 16 (count_trailing_zeros 64 (digit_marks b i)) 0 room (digits_counted b i room n)
 
-pub digits_before : (b : List ℕ) (i : ℕ) → i + 16 ≤ length b → ((k : ℕ) → byte b k < 256) → (digit_marks b i ≡ 0 → ⊥) → (k : ℕ) → i ≤ k → k < i + count_trailing_zeros 64 (digit_marks b i) → is_digit (byte b k) ≡ true
-digits_before b i room small n k l h = digit_from (byte b k) (small k) (run_in_chunk_fails other b i 16 (count_trailing_zeros 64 (digit_marks b i)) 0 room (digits_counted b i room n) k l h)
+pub digits_before : (b : List ℕ) (i : ℕ) → i + 16 ≤ length b → ((k : ℕ) → byte b k < 256) → (digit_marks b i ≡ 0 → ⊥)
+    → (k : ℕ) → i ≤ k → k < i + count_trailing_zeros 64 (digit_marks b i) → is_digit (byte b k) ≡ true
+digits_before b i room small n k l h =
+    digit_from (byte b k) (small k)
+        (run_in_chunk_fails other b i 16 (count_trailing_zeros 64 (digit_marks b i)) 0 room (digits_counted b i room n)
+        k l h)
 
 -- ---- bytes of a string
 
@@ -77,7 +92,8 @@ special x = ltb (dropped 92 (dropped 34 x)) 32
 plain_from : (x : ℕ) → special x ≡ false → is_plain x ≡ true
 plain_from x h = grind (arith, nat_tests)
 
-chosen : (p : ℕ → Bool) (n : ℕ) (v : List ℕ) → length v ≡ n → sel_l (map p v) (replicate n 0) v ≡ map (λ x. cond (p x) 0 x) v
+chosen : (p : ℕ → Bool) (n : ℕ) (v : List ℕ) → length v ≡ n
+    → sel_l (map p v) (replicate n 0) v ≡ map (λ x. cond (p x) 0 x) v
 chosen p n [] h = refl
 chosen p zero (x ∷ v) h = absurd (omega arith)
 chosen p (suc n) (x ∷ v) h = ap (λ z. cond (p x) 0 x ∷ z) (chosen p n v (omega arith))
@@ -87,11 +103,15 @@ abbrev without : ℕ → List ℕ → List ℕ
 without n v = sel_l (map (top 7) (zip2 (λ a c. cond (eqb a c) 255 0) v (replicate 16 n))) (replicate 16 0) v
 
 without_is : (n : ℕ) (v : List ℕ) → length v ≡ 16 → without n v ≡ map (dropped n) v
-without_is n v long = ap (λ ms. sel_l ms (replicate 16 0) v) (tops_compared w8 eqb v (replicate 16 n) ∙ zip2_splat eqb v 16 n long) ∙ chosen (λ x. eqb x n) 16 v long
+without_is n v long =
+    ap (λ ms. sel_l ms (replicate 16 0) v) (tops_compared w8 eqb v (replicate 16 n) ∙ zip2_splat eqb v 16 n long)
+    ∙ chosen (λ x. eqb x n) 16 v long
 
 -- the marks of the bytes from i on that do not stand for themselves
 abbrev pub plain_marks : List ℕ → ℕ → ℕ
-plain_marks b i = mask_l (map (top 7) (zip2 (λ a c. cond (ltb a c) 255 0) (without 92 (without 34 (chunk i 16 b))) (replicate 16 32))) % 2 ^ 64
+plain_marks b i =
+    mask_l (map (top 7) (zip2 (λ a c. cond (ltb a c) 255 0) (without 92 (without 34 (chunk i 16 b)))
+            (replicate 16 32))) % 2 ^ 64
 
 plain_marks_are : (b : List ℕ) (i : ℕ) → i + 16 ≤ length b → plain_marks b i ≡ mask_l (map special (chunk i 16 b))
 plain_marks_are b i room =
@@ -100,25 +120,35 @@ plain_marks_are b i room =
     let long1 : length (map (dropped 34) v) ≡ 16 = length-map v (dropped 34) ∙ long in
     let w = map (dropped 92) (map (dropped 34) v) in
     let long2 : length w ≡ 16 = length-map (map (dropped 34) v) (dropped 92) ∙ long1 in
-    ap (λ u. mask_l (map (top 7) (zip2 (λ a c. cond (ltb a c) 255 0) u (replicate 16 32))) % 2 ^ 64) (ap (without 92) (without_is 34 v long) ∙ without_is 92 (map (dropped 34) v) long1)
+    ap (λ u. mask_l (map (top 7) (zip2 (λ a c. cond (ltb a c) 255 0) u (replicate 16 32))) % 2 ^ 64)
+        (ap (without 92) (without_is 34 v long) ∙ without_is 92 (map (dropped 34) v) long1)
     ∙ bitmask_splat w8 ltb w 16 32 long2 (omega arith)
-    ∙ ap mask_l (map-map (λ x. ltb x 32) (dropped 92) (map (dropped 34) v) ∙ map-map (λ x. ltb (dropped 92 x) 32) (dropped 34) v)
+    ∙ ap mask_l (map-map (λ x. ltb x 32) (dropped 92) (map (dropped 34) v)
+        ∙ map-map (λ x. ltb (dropped 92 x) 32) (dropped 34) v)
 
-pub all_plain : (b : List ℕ) (i : ℕ) → i + 16 ≤ length b → plain_marks b i ≡ 0 → (k : ℕ) → i ≤ k → k < i + 16 → is_plain (byte b k) ≡ true
-all_plain b i room e k l h = plain_from (byte b k) (none_from_empty_mask special b i 16 0 room (sym (plain_marks_are b i room) ∙ e) k l h)
+pub all_plain : (b : List ℕ) (i : ℕ) → i + 16 ≤ length b → plain_marks b i ≡ 0 → (k : ℕ) → i ≤ k → k < i + 16
+    → is_plain (byte b k) ≡ true
+all_plain b i room e k l h =
+    plain_from (byte b k) (none_from_empty_mask special b i 16 0 room (sym (plain_marks_are b i room) ∙ e) k l h)
 
-plain_counted : (b : List ℕ) (i : ℕ) → i + 16 ≤ length b → (plain_marks b i ≡ 0 → ⊥) → count_trailing_zeros 64 (plain_marks b i) ≡ prefix_len (λ x. not (special x)) (chunk i 16 b)
+plain_counted : (b : List ℕ) (i : ℕ) → i + 16 ≤ length b → (plain_marks b i ≡ 0 → ⊥)
+    → count_trailing_zeros 64 (plain_marks b i) ≡ prefix_len (λ x. not (special x)) (chunk i 16 b)
 plain_counted b i room n =
     let e = plain_marks_are b i room in
     let long = length-chunk i 16 b room in
     let some : 0 < plain_marks b i = omega arith in
     ap (count_trailing_zeros 64) e ∙ trailing_mask_l special 64 (chunk i 16 b) (omega arith) (subst (λ m. 0 < m) e some)
 
-pub plain_within : (b : List ℕ) (i : ℕ) → i + 16 ≤ length b → (plain_marks b i ≡ 0 → ⊥) → count_trailing_zeros 64 (plain_marks b i) ≤ 16
-plain_within b i room n = run_in_chunk_le special b i 16 (count_trailing_zeros 64 (plain_marks b i)) 0 room (plain_counted b i room n)
+pub plain_within : (b : List ℕ) (i : ℕ) → i + 16 ≤ length b → (plain_marks b i ≡ 0 → ⊥)
+    → count_trailing_zeros 64 (plain_marks b i) ≤ 16
+plain_within b i room n =
+    run_in_chunk_le special b i 16 (count_trailing_zeros 64 (plain_marks b i)) 0 room (plain_counted b i room n)
 
-pub plain_before : (b : List ℕ) (i : ℕ) → i + 16 ≤ length b → (plain_marks b i ≡ 0 → ⊥) → (k : ℕ) → i ≤ k → k < i + count_trailing_zeros 64 (plain_marks b i) → is_plain (byte b k) ≡ true
-plain_before b i room n k l h = plain_from (byte b k) (run_in_chunk_fails special b i 16 (count_trailing_zeros 64 (plain_marks b i)) 0 room (plain_counted b i room n) k l h)
+pub plain_before : (b : List ℕ) (i : ℕ) → i + 16 ≤ length b → (plain_marks b i ≡ 0 → ⊥) → (k : ℕ) → i ≤ k
+    → k < i + count_trailing_zeros 64 (plain_marks b i) → is_plain (byte b k) ≡ true
+plain_before b i room n k l h =
+    plain_from (byte b k) (run_in_chunk_fails special b i 16 (count_trailing_zeros 64 (plain_marks b i)) 0 room
+        (plain_counted b i room n) k l h)
 
 -- ---- bytes of whole numbers and of commas
 
@@ -142,7 +172,9 @@ sign_from x l h =
 
 -- the marks of the bytes from i on that stand in no such array
 abbrev pub foreign_marks : List ℕ → ℕ → ℕ
-foreign_marks b i = mask_l (map (top 7) (zip2 (λ a c. cond (ltb a c) 255 0) (replicate 16 13) (zip2 (λ a c. (a + (256 - c)) % 256) (without 46 (chunk i 16 b)) (replicate 16 44)))) % 2 ^ 64
+foreign_marks b i =
+    mask_l (map (top 7) (zip2 (λ a c. cond (ltb a c) 255 0) (replicate 16 13)
+            (zip2 (λ a c. (a + (256 - c)) % 256) (without 46 (chunk i 16 b)) (replicate 16 44)))) % 2 ^ 64
 
 foreign_marks_are : (b : List ℕ) (i : ℕ) → i + 16 ≤ length b → foreign_marks b i ≡ mask_l (map foreign (chunk i 16 b))
 foreign_marks_are b i room =
@@ -150,21 +182,29 @@ foreign_marks_are b i room =
     let long : length v ≡ 16 = length-chunk i 16 b room in
     let w = map (dropped 46) v in
     let long1 : length w ≡ 16 = length-map v (dropped 46) ∙ long in
-    ap (λ u. mask_l (map (top 7) (zip2 (λ a c. cond (ltb a c) 255 0) (replicate 16 13) (zip2 (λ a c. (a + (256 - c)) % 256) u (replicate 16 44)))) % 2 ^ 64) (without_is 46 v long)
-    ∙ ap (λ u. mask_l (map (top 7) (zip2 (λ a c. cond (ltb a c) 255 0) (replicate 16 13) u)) % 2 ^ 64) (zip2_splat (λ a c. (a + (256 - c)) % 256) w 16 44 long1)
+    ap (λ u. mask_l (map (top 7)
+            (zip2 (λ a c. cond (ltb a c) 255 0) (replicate 16 13)
+                (zip2 (λ a c. (a + (256 - c)) % 256) u (replicate 16 44)))) % 2 ^ 64) (without_is 46 v long)
+    ∙ ap (λ u. mask_l (map (top 7) (zip2 (λ a c. cond (ltb a c) 255 0) (replicate 16 13) u)) % 2 ^ 64)
+        (zip2_splat (λ a c. (a + (256 - c)) % 256) w 16 44 long1)
     ∙ marks_over 13 (map (λ a. (a + 212) % 256) w) (length-map w (λ a. (a + 212) % 256) ∙ long1)
-    ∙ ap mask_l (map-map (λ y. ltb 13 y) (λ a. (a + 212) % 256) w ∙ map-map (λ a. ltb 13 ((a + 212) % 256)) (dropped 46) v)
+    ∙ ap mask_l (map-map (λ y. ltb 13 y) (λ a. (a + 212) % 256) w
+        ∙ map-map (λ a. ltb 13 ((a + 212) % 256)) (dropped 46) v)
 
 -- where the marks stop below a bit, the bytes from there on are signs
-pub signs_above : (b : List ℕ) (i : ℕ) → i + 16 ≤ length b → ((k : ℕ) → byte b k < 256) → (j k : ℕ) → foreign_marks b i < 2 ^ j → j ≤ k → k < 16 → IsWholeSign (byte b (i + k))
+pub signs_above : (b : List ℕ) (i : ℕ) → i + 16 ≤ length b → ((k : ℕ) → byte b k < 256) → (j k : ℕ)
+    → foreign_marks b i < 2 ^ j → j ≤ k → k < 16 → IsWholeSign (byte b (i + k))
 signs_above b i room small j k low order few =
     let v = chunk i 16 b in
     let e = foreign_marks_are b i room in
     let less : mask_l (map foreign v) < 2 ^ k = omega (arith, pow_mono order, e) in
     let none : mask_l (map foreign v) / 2 ^ k ≡ 0 = div-eq_of_lt less in
     let bit = bit_mask_l (map foreign v) k in
-    let at : get_or (map foreign v) k false ≡ foreign (byte b (i + k)) = get_or-map foreign v k 0 false (omega (arith, length-chunk i 16 b room)) ∙ ap foreign (get_or-chunk i 16 b k 0 few) in
-    sign_from (byte b (i + k)) (small (i + k)) (sym at ∙ unset (get_or (map foreign v) k false) (sym bit ∙ ap (λ n. n % 2) none))
+    let at : get_or (map foreign v) k false ≡ foreign (byte b (i + k)) =
+        get_or-map foreign v k 0 false (omega (arith, length-chunk i 16 b room))
+        ∙ ap foreign (get_or-chunk i 16 b k 0 few) in
+    sign_from (byte b (i + k)) (small (i + k))
+        (sym at ∙ unset (get_or (map foreign v) k false) (sym bit ∙ ap (λ n. n % 2) none))
   where
     unset : (x : Bool) → ◌≡◌ {A = ℕ} (cond x 1 0) 0 → x ≡ false
     unset true h = absurd (omega arith)
@@ -181,7 +221,9 @@ shared m v w = sel_l (map (top 7) (zip2 (λ a c. cond (eqb a c) 255 0) v w)) (un
 
 -- the marks of the bytes of both that are not the same, or do not stand for themselves
 abbrev pub alike_marks : ℕ → List ℕ → ℕ → List ℕ → ℕ → ℕ
-alike_marks m b i o j = mask_l (map (top 7) (zip2 (λ a c. cond (ltb a c) 255 0) (replicate m 127) (shared m (chunk i m b) (chunk j m o)))) % 2 ^ 64
+alike_marks m b i o j =
+    mask_l (map (top 7) (zip2 (λ a c. cond (ltb a c) 255 0) (replicate m 127)
+            (shared m (chunk i m b) (chunk j m o)))) % 2 ^ 64
 
 -- a byte that both have and that stands for itself
 abbrev IsShared : ℕ → ℕ → Type 0
@@ -205,7 +247,8 @@ lane_shared x y h =
 abbrev lanes : ℕ → List ℕ → List ℕ → List ℕ
 lanes m v w = sel_l (zip2 eqb v w) (sel_l (map (λ x. eqb x 92) v) (replicate m 255) v) (replicate m 255)
 
-lanes_at : (m : ℕ) (v w : List ℕ) → length v ≡ m → length w ≡ m → (k : ℕ) → k < m → get_or (lanes m v w) k 0 ≡ lane (get_or v k 0) (get_or w k 0)
+lanes_at : (m : ℕ) (v w : List ℕ) → length v ≡ m → length w ≡ m → (k : ℕ) → k < m
+    → get_or (lanes m v w) k 0 ≡ lane (get_or v k 0) (get_or w k 0)
 lanes_at zero v w a b k l = absurd (omega arith)
 lanes_at (suc m) [] w a b k l = absurd (omega arith)
 lanes_at (suc m) (x ∷ v) [] a b k l = absurd (omega arith)
@@ -222,20 +265,25 @@ length_lanes (suc m) (x ∷ v) (y ∷ w) a b = ap suc (length_lanes m v w (omega
 shared_is : (m : ℕ) (v w : List ℕ) → length v ≡ m → shared m v w ≡ lanes m v w
 shared_is m v w a =
     ap (λ ms. sel_l ms (unescaped m v) (replicate m 255)) (tops_compared w8 eqb v w)
-    ∙ ap (λ ms. sel_l (zip2 eqb v w) (sel_l ms (replicate m 255) v) (replicate m 255)) (tops_compared w8 eqb v (replicate m 92) ∙ zip2_splat eqb v m 92 a)
+    ∙ ap (λ ms. sel_l (zip2 eqb v w) (sel_l ms (replicate m 255) v) (replicate m 255))
+        (tops_compared w8 eqb v (replicate m 92) ∙ zip2_splat eqb v m 92 a)
 
 -- the lanes of the bytes from i and from j on
 abbrev lanes_from : ℕ → List ℕ → ℕ → List ℕ → ℕ → List ℕ
 lanes_from m b i o j = lanes m (chunk i m b) (chunk j m o)
 
-lanes_long : (m : ℕ) (b : List ℕ) (i : ℕ) (o : List ℕ) (j : ℕ) → i + m ≤ length b → j + m ≤ length o → length (lanes_from m b i o j) ≡ m
-lanes_long m b i o j room there = length_lanes m (chunk i m b) (chunk j m o) (length-chunk i m b room) (length-chunk j m o there)
+lanes_long : (m : ℕ) (b : List ℕ) (i : ℕ) (o : List ℕ) (j : ℕ) → i + m ≤ length b → j + m ≤ length o
+    → length (lanes_from m b i o j) ≡ m
+lanes_long m b i o j room there =
+    length_lanes m (chunk i m b) (chunk j m o) (length-chunk i m b room) (length-chunk j m o there)
 
-alike_marks_are : (m : ℕ) (b : List ℕ) (i : ℕ) (o : List ℕ) (j : ℕ) → m ≤ 64 → i + m ≤ length b → j + m ≤ length o → alike_marks m b i o j ≡ mask_l (map (λ y. ltb 127 y) (lanes_from m b i o j))
+alike_marks_are : (m : ℕ) (b : List ℕ) (i : ℕ) (o : List ℕ) (j : ℕ) → m ≤ 64 → i + m ≤ length b → j + m ≤ length o
+    → alike_marks m b i o j ≡ mask_l (map (λ y. ltb 127 y) (lanes_from m b i o j))
 alike_marks_are m b i o j few room there =
     let all = lanes_from m b i o j in
     let long : length all ≡ m = lanes_long m b i o j room there in
-    ap (λ u. mask_l (map (top 7) (zip2 (λ x y. cond (ltb x y) 255 0) (replicate m 127) u)) % 2 ^ 64) (shared_is m (chunk i m b) (chunk j m o) (length-chunk i m b room))
+    ap (λ u. mask_l (map (top 7) (zip2 (λ x y. cond (ltb x y) 255 0) (replicate m 127) u)) % 2 ^ 64)
+        (shared_is m (chunk i m b) (chunk j m o) (length-chunk i m b room))
     ∙ ap (λ ms. mask_l ms % 2 ^ 64) (tops_compared w8 ltb (replicate m 127) all ∙ zip2_splat_left ltb 127 m all long)
     ∙ mask_l-mod (map (λ y. ltb 127 y) all) 64 (omega (arith, length-map all (λ y. ltb 127 y)))
 
@@ -243,34 +291,48 @@ alike_marks_are m b i o j few room there =
 abbrev count_before : ℕ → List ℕ → ℕ → List ℕ → ℕ → ℕ
 count_before m b i o j = prefix_len (λ y. not (ltb 127 y)) (lanes_from m b i o j)
 
-within_lanes : (m : ℕ) (b : List ℕ) (i : ℕ) (o : List ℕ) (j : ℕ) → i + m ≤ length b → j + m ≤ length o → count_before m b i o j ≤ m
-within_lanes m b i o j room there = omega (arith, lanes_long m b i o j room there, prefix_len-le-length (λ y. not (ltb 127 y)) (lanes_from m b i o j))
+within_lanes : (m : ℕ) (b : List ℕ) (i : ℕ) (o : List ℕ) (j : ℕ) → i + m ≤ length b → j + m ≤ length o
+    → count_before m b i o j ≤ m
+within_lanes m b i o j room there =
+    omega (arith, lanes_long m b i o j room there, prefix_len-le-length (λ y. not (ltb 127 y)) (lanes_from m b i o j))
 
-alike_before : (m : ℕ) (b : List ℕ) (i : ℕ) (o : List ℕ) (j : ℕ) → i + m ≤ length b → j + m ≤ length o → AreAlike b i o j (count_before m b i o j)
+alike_before : (m : ℕ) (b : List ℕ) (i : ℕ) (o : List ℕ) (j : ℕ) → i + m ≤ length b → j + m ≤ length o
+    → AreAlike b i o j (count_before m b i o j)
 alike_before m b i o j room there k l =
     let v = chunk i m b in
     let w = chunk j m o in
     let h : k < m = omega (arith, l, within_lanes m b i o j room there) in
-    let at : get_or (lanes m v w) k 0 ≡ lane (get_or v k 0) (get_or w k 0) = lanes_at m v w (length-chunk i m b room) (length-chunk j m o there) k h in
-    let s = lane_shared (get_or v k 0) (get_or w k 0) (ap (λ y. not (ltb 127 y)) (sym at) ∙ prefix_len_passes (λ y. not (ltb 127 y)) (lanes m v w) k 0 l) in
+    let at : get_or (lanes m v w) k 0 ≡ lane (get_or v k 0) (get_or w k 0) =
+        lanes_at m v w (length-chunk i m b room) (length-chunk j m o there) k h in
+    let s = lane_shared (get_or v k 0) (get_or w k 0)
+        (ap (λ y. not (ltb 127 y)) (sym at) ∙ prefix_len_passes (λ y. not (ltb 127 y)) (lanes m v w) k 0 l) in
     let x : get_or v k 0 ≡ get_or b (i + k) 0 = get_or-chunk i m b k 0 h in
     let y : get_or w k 0 ≡ get_or o (j + k) 0 = get_or-chunk j m o k 0 h in
     (sym x ∙ s.0 ∙ y, omega arith, ap (λ z. nat_eq z 92) (sym x) ∙ s.2)
 
-pub all_alike : (m : ℕ) (b : List ℕ) (i : ℕ) (o : List ℕ) (j : ℕ) → m ≤ 64 → i + m ≤ length b → j + m ≤ length o → alike_marks m b i o j ≡ 0 → AreAlike b i o j m
+pub all_alike : (m : ℕ) (b : List ℕ) (i : ℕ) (o : List ℕ) (j : ℕ) → m ≤ 64 → i + m ≤ length b → j + m ≤ length o
+    → alike_marks m b i o j ≡ 0 → AreAlike b i o j m
 all_alike m b i o j few room there e =
-    let none = leading_from_mask_l (λ y. ltb 127 y) (lanes_from m b i o j) (sym (alike_marks_are m b i o j few room there) ∙ e) in
+    let none = leading_from_mask_l (λ y. ltb 127 y) (lanes_from m b i o j)
+        (sym (alike_marks_are m b i o j few room there) ∙ e) in
     subst (AreAlike b i o j) (none ∙ lanes_long m b i o j room there) (alike_before m b i o j room there)
 
 -- where not all are alike, those before the first that are not
-counted_alike : (m : ℕ) (b : List ℕ) (i : ℕ) (o : List ℕ) (j : ℕ) → m ≤ 64 → i + m ≤ length b → j + m ≤ length o → (alike_marks m b i o j ≡ 0 → ⊥) → count_trailing_zeros 64 (alike_marks m b i o j) ≡ count_before m b i o j
+counted_alike : (m : ℕ) (b : List ℕ) (i : ℕ) (o : List ℕ) (j : ℕ) → m ≤ 64 → i + m ≤ length b → j + m ≤ length o
+    → (alike_marks m b i o j ≡ 0 → ⊥) → count_trailing_zeros 64 (alike_marks m b i o j) ≡ count_before m b i o j
 counted_alike m b i o j few room there n =
     let e = alike_marks_are m b i o j few room there in
     let some : 0 < alike_marks m b i o j = omega arith in
-    ap (count_trailing_zeros 64) e ∙ trailing_mask_l (λ y. ltb 127 y) 64 (lanes_from m b i o j) (omega (arith, few, lanes_long m b i o j room there)) (subst (λ x. 0 < x) e some)
+    ap (count_trailing_zeros 64) e
+        ∙ trailing_mask_l (λ y. ltb 127 y) 64 (lanes_from m b i o j)
+        (omega (arith, few, lanes_long m b i o j room there)) (subst (λ x. 0 < x) e some)
 
-pub few_alike : (m : ℕ) (b : List ℕ) (i : ℕ) (o : List ℕ) (j : ℕ) → m ≤ 64 → i + m ≤ length b → j + m ≤ length o → (alike_marks m b i o j ≡ 0 → ⊥) → count_trailing_zeros 64 (alike_marks m b i o j) ≤ m
-few_alike m b i o j few room there n = omega (arith, counted_alike m b i o j few room there n, within_lanes m b i o j room there)
+pub few_alike : (m : ℕ) (b : List ℕ) (i : ℕ) (o : List ℕ) (j : ℕ) → m ≤ 64 → i + m ≤ length b → j + m ≤ length o
+    → (alike_marks m b i o j ≡ 0 → ⊥) → count_trailing_zeros 64 (alike_marks m b i o j) ≤ m
+few_alike m b i o j few room there n =
+    omega (arith, counted_alike m b i o j few room there n, within_lanes m b i o j room there)
 
-pub front_alike : (m : ℕ) (b : List ℕ) (i : ℕ) (o : List ℕ) (j : ℕ) → m ≤ 64 → i + m ≤ length b → j + m ≤ length o → (alike_marks m b i o j ≡ 0 → ⊥) → AreAlike b i o j (count_trailing_zeros 64 (alike_marks m b i o j))
-front_alike m b i o j few room there n = subst (AreAlike b i o j) (sym (counted_alike m b i o j few room there n)) (alike_before m b i o j room there)
+pub front_alike : (m : ℕ) (b : List ℕ) (i : ℕ) (o : List ℕ) (j : ℕ) → m ≤ 64 → i + m ≤ length b → j + m ≤ length o
+    → (alike_marks m b i o j ≡ 0 → ⊥) → AreAlike b i o j (count_trailing_zeros 64 (alike_marks m b i o j))
+front_alike m b i o j few room there n =
+    subst (AreAlike b i o j) (sym (counted_alike m b i o j few room there n)) (alike_before m b i o j room there)

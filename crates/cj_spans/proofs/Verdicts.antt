@@ -47,29 +47,39 @@ root_only (root e w) h = (w, refl)
 root_only (in_array e j k ks ts us c o l w) h = cc
 root_only (in_member e j k l ks ts us n c o m d w) h = cc
 
-spells_at : {b : List ℕ} (e j k p q : ℕ) (ks : List ℕ) (ts us : List Token) (t : Tree) → Context b e ks ts → Value b e j t → White b j k → idle After ks (ts ++ flatten (length ts) t) k p ≡ idle After [] us (length b) q → Spells b us
+spells_at : {b : List ℕ} (e j k p q : ℕ) (ks : List ℕ) (ts us : List Token) (t : Tree) → Context b e ks ts
+    → Value b e j t → White b j k → idle After ks (ts ++ flatten (length ts) t) k p ≡ idle After [] us (length b) q
+    → Spells b us
 spells_at {b} e j k p q ks ts us t c v w h =
     let s : ks ≡ [] = ap (λ u. u.stack) h in
     let n : k ≡ length b = ap (λ u. u.place) h in
     let r = root_only c s in
     let z : us ≡ ts ++ flatten (length ts) t = sym (ap (λ u. u.tokens) h) in
-    record { tree = t; json = subst (λ n. Padded b 0 n t) n (padded 0 e j k t r.0 v w); tokens = z ∙ ap (λ y. y ++ flatten (length y) t) r.1 }
+    record { tree = t; json = subst (λ n. Padded b 0 n t) n (padded 0 e j k t r.0 v w);
+        tokens = z ∙ ap (λ y. y ++ flatten (length y) t) r.1 }
 
-other_mode : {A : Type 0} (m : Mode) (ks ls : List ℕ) (ts us : List Token) (i j p q : ℕ) → (m ≡ After → ⊥) → Some (idle m ks ts i p) ≡ Some (idle After ls us j q) → A
+other_mode : {A : Type 0} (m : Mode) (ks ls : List ℕ) (ts us : List Token) (i j p q : ℕ) → (m ≡ After → ⊥)
+    → Some (idle m ks ts i p) ≡ Some (idle After ls us j q) → A
 other_mode m ks ls ts us i j p q n h = absurd (n (same_mode m After (ap (λ u. u.phase) (some_same _ _ h))))
 
-pub spells : {b : List ℕ} (s : State) → Inv b s → (us : List Token) (q : ℕ) → settle s ≡ Some (idle After [] us (length b) q) → Spells b us
+pub spells : {b : List ℕ} (s : State) → Inv b s → (us : List Token) (q : ℕ)
+    → settle s ≡ Some (idle After [] us (length b) q) → Spells b us
 spells s (ready k p ks ts c) us q h = other_mode Ready _ _ _ _ _ _ _ _ (λ (e : Ready ≡ After). cc) h
 spells s (first_item e k p ks ts c o w) us q h = other_mode FirstItem _ _ _ _ _ _ _ _ (λ (e : FirstItem ≡ After). cc) h
 spells s (after_tree e j k p ks ts t c v w) us q h = spells_at e j k p q ks ts us t c v w (some_same _ _ h)
 spells s (first_name e k p ks ts c o w) us q h = other_mode FirstName _ _ _ _ _ _ _ _ (λ (e : FirstName ≡ After). cc) h
-spells s (next_name e j k p ks ts us0 c o l w) us q h = other_mode NextName _ _ _ _ _ _ _ _ (λ (e : NextName ≡ After). cc) h
-spells s (after_name e j l m k p ks ts us0 c o ld w0 wd w) us q h = other_mode AfterName _ _ _ _ _ _ _ _ (λ (e : AfterName ≡ After). cc) h
+spells s (next_name e j k p ks ts us0 c o l w) us q h =
+    other_mode NextName _ _ _ _ _ _ _ _ (λ (e : NextName ≡ After). cc) h
+spells s (after_name e j l m k p ks ts us0 c o ld w0 wd w) us q h =
+    other_mode AfterName _ _ _ _ _ _ _ _ (λ (e : AfterName ≡ After). cc) h
 spells {b} s (in_scalar e k p ks ts x c w) us q h = by_kind (lex_kind x) refl h
   where
-    by_kind : (r : Option Kind) → lex_kind x ≡ r → end_atom After e r (state (in_atom After e x) ks ts k p) ≡ Some (idle After [] us (length b) q) → Spells b us
+    by_kind : (r : Option Kind) → lex_kind x ≡ r → end_atom After e r (state (in_atom After e x) ks ts k p)
+        ≡ Some (idle After [] us (length b) q) → Spells b us
     by_kind None kind h = none_some _ h
-    by_kind (Some kd) kind h = spells_at e k k p q ks ts us (scalar kd (atom_at b e k)) c (atom kd e k (atom_sound w kd kind)) (no_white b k) (some_same _ _ h)
+    by_kind (Some kd) kind h =
+        spells_at e k k p q ks ts us (scalar kd (atom_at b e k)) c (atom kd e k (atom_sound w kd kind)) (no_white b k)
+            (some_same _ _ h)
 spells {b} s (in_name e j l k p ks ts us0 x c o ld w0 y w) us q h = by_name (lex_kind x) h
   where
     by_name : (r : Option Kind) → end_atom AfterName l r s ≡ Some (idle After [] us (length b) q) → Spells b us
@@ -77,7 +87,8 @@ spells {b} s (in_name e j l k p ks ts us0 x c o ld w0 y w) us q h = by_name (lex
     by_name (Some kd) h = other_mode AfterName _ _ _ _ _ _ _ _ (λ (e : AfterName ≡ After). cc) h
 
 -- two ends of one line are the same
-same_end : (b : List ℕ) (x y s t : State) → Reaches b start s → Reaches b start t → settle s ≡ Some x → settle t ≡ Some y → x.place ≡ y.place → x ≡ y
+same_end : (b : List ℕ) (x y s t : State) → Reaches b start s → Reaches b start t → settle s ≡ Some x
+    → settle t ≡ Some y → x.place ≡ y.place → x ≡ y
 same_end b x y s t r q e f p =
     let d : s ≡ t = same_state b s t r q ((settled s x e).place ∙ p ∙ sym (settled t y f).place) in
     some_same x y (sym e ∙ ap settle d ∙ f)
@@ -90,7 +101,8 @@ json_only b t u j k =
     let f : flatten 0 u ≡ flatten 0 t = ap (λ s. s.tokens) e in
     tree_by_preorder b u t k j (sym (spans_of-flatten 0 u) ∙ ap spans_of f ∙ spans_of-flatten 0 t)
 
-pub nest_of : (b : List ℕ) (t : Tree) (s : State) (us : List Token) (p : ℕ) → Json b t → Reaches b start s → settle s ≡ Some (idle After [] us (length b) p) → p ≡ nest t
+pub nest_of : (b : List ℕ) (t : Tree) (s : State) (us : List Token) (p : ℕ) → Json b t → Reaches b start s
+    → settle s ≡ Some (idle After [] us (length b) p) → p ≡ nest t
 nest_of b t s us p j r h =
     let q = run_json b t j in
     let e = same_end b (idle After [] us (length b) p) _ s q.at r q.reached h q.settles refl in
@@ -100,7 +112,8 @@ nest_of b t s us p j r h =
 
 -- ---- the places of faults
 
-next_stuck : (b : List ℕ) (s u : State) → Reaches b start s → step (byte b s.place) s ≡ None → Reaches b start u → u.place ≡ suc s.place → ⊥
+next_stuck : (b : List ℕ) (s u : State) → Reaches b start s → step (byte b s.place) s ≡ None → Reaches b start u
+    → u.place ≡ suc s.place → ⊥
 next_stuck b s u r n here e = absurd (omega arith)
 next_stuck b s u r n (on t v q h) e =
     let z = next_place t v q h in
@@ -110,7 +123,8 @@ next_stuck b s u r n (on t v q h) e =
 front_before : (b : List ℕ) (s : State) (k : ℕ) → Reaches b start s → k ≤ s.place → IsFront b k
 front_before b s k r l =
     let v = state_before b s k r l in
-    record { open_count = length v.at.stack; front = subst (λ n. Front b 0 n (length v.at.stack)) v.place (inv_front v.at (inv_reaches b v.at v.reached)) }
+    record { open_count = length v.at.stack;
+        front = subst (λ n. Front b 0 n (length v.at.stack)) v.place (inv_front v.at (inv_reaches b v.at v.reached)) }
 
 live_at : (b : List ℕ) (i n : ℕ) → Front b 0 i n → Live b start i (n + 0)
 live_at b i n f = front_runs f start Ready [] [] 0 tt here
@@ -121,15 +135,18 @@ sticks_syntax b i a =
     elim a.stuck [
       | inl z ↦ stuck z.0 (λ k h. front_before b a.last (suc k) a.reached (omega arith)) (λ f.
           let v = live_at b (suc i) f.open_count f.front in
-          next_stuck b a.last v.at a.reached (ap (λ n. step (byte b n) a.last) e ∙ z.1) v.reached (v.place ∙ ap suc (sym e)))
+          next_stuck b a.last v.at a.reached (ap (λ n. step (byte b n) a.last) e ∙ z.1) v.reached
+              (v.place ∙ ap suc (sym e)))
       | inr z ↦ short z.0 (λ k h. front_before b a.last (suc k) a.reached (omega arith)) (λ t j.
           let v = run_json b t j in
-          let d : a.last ≡ v.at = same_state b a.last v.at a.reached v.reached (e ∙ z.0 ∙ sym (settled v.at _ v.settles).place) in
+          let d : a.last ≡ v.at =
+              same_state b a.last v.at a.reached v.reached (e ∙ z.0 ∙ sym (settled v.at _ v.settles).place) in
           z.1 (flatten 0 t) (rise 0 0 t) (ap settle d ∙ v.settles))
     ]
 
 -- no state that the machine comes to on its way has more containers open
-not_deeper : (b : List ℕ) (s : State) (d i n : ℕ) → Reaches b start s → s.deepest ≤ d → i ≤ s.place → Front b 0 i n → d < n → ⊥
+not_deeper : (b : List ℕ) (s : State) (d i n : ℕ) → Reaches b start s → s.deepest ≤ d → i ≤ s.place → Front b 0 i n
+    → d < n → ⊥
 not_deeper b s d i n r h l f g =
     let v = live_at b i n f in
     let w = state_before b s i r l in
@@ -139,7 +156,8 @@ not_deeper b s d i n r h l f g =
     let q : v.at.deepest ≡ w.at.deepest = ap (λ u. u.deepest) e in
     absurd (omega arith)
 
-nowhere_deep : (b : List ℕ) (s : State) (d : ℕ) → Reaches b start s → s.deepest ≤ d → (length b ≤ s.place) ⊎ (step (byte b s.place) s ≡ None) → NowhereDeep b d
+nowhere_deep : (b : List ℕ) (s : State) (d : ℕ) → Reaches b start s → s.deepest ≤ d → (length b ≤ s.place)
+    ⊎ (step (byte b s.place) s ≡ None) → NowhereDeep b d
 nowhere_deep b s d r h stop i a =
     elim (cases_lt (suc i) s.place) [
       | inl l ↦ not_deeper b s d (suc i) (suc d) r h (omega arith) a.deep (omega arith)
@@ -159,9 +177,11 @@ pub sticks_nowhere : (b : List ℕ) (d i : ℕ) → SticksAt b d i → NowhereDe
 sticks_nowhere b d i a =
     let e = a.sticks.at in
     nowhere_deep b a.sticks.last d a.sticks.reached a.shallow
-    (elim a.sticks.stuck [ inl z ↦ inr (ap (λ n. step (byte b n) a.sticks.last) e ∙ z.1) | inr z ↦ let q = z.0 in inl (omega arith) ])
+    (elim a.sticks.stuck [ inl z ↦ inr (ap (λ n. step (byte b n) a.sticks.last) e ∙ z.1) | inr z ↦ let q = z.0 in
+            inl (omega arith) ])
 
-accepts_nowhere : (b : List ℕ) (tokens : BoundedList Token) (old new : BoundedList ℕ) → Accepts b tokens old new → NowhereDeep b old.limit
+accepts_nowhere : (b : List ℕ) (tokens : BoundedList Token) (old new : BoundedList ℕ) → Accepts b tokens old new
+    → NowhereDeep b old.limit
 accepts_nowhere b tokens old new a =
     let e = settled a.settles.last _ a.settles.settles in
     let p = e.place in let d = e.deepest in let s = a.shallow in
@@ -176,7 +196,8 @@ sinks_deep b d i a = by_step (step (byte b i) a.last) refl a.deep
         let q : step (byte b a.last.place) a.last ≡ Some u = ap (λ n. step (byte b n) a.last) a.at ∙ e in
         let r = on a.last u a.reached q in
         let p : u.place ≡ suc i = next_place a.last u a.reached q ∙ ap suc a.at in
-        let f : Front b 0 (suc i) (length u.stack) = subst (λ n. Front b 0 n (length u.stack)) p (inv_front u (inv_reaches b u r)) in
+        let f : Front b 0 (suc i) (length u.stack) =
+            subst (λ n. Front b 0 n (length u.stack)) p (inv_front u (inv_reaches b u r)) in
         let at = a.at in
         record {
           within = a.within;
@@ -187,7 +208,9 @@ sinks_deep b d i a = by_step (step (byte b i) a.last) refl a.deep
 -- ---- each line has one verdict
 
 pub one_deep : (b : List ℕ) (d i j : ℕ) → DeepAt b d i → DeepAt b d j → i ≡ j
-one_deep b d i j x y = elim (cases_order i j) [ inl e ↦ e | inr o ↦ elim o [ inl l ↦ absurd (y.least i l x.deep) | inr g ↦ absurd (x.least j g y.deep) ] ]
+one_deep b d i j x y =
+    elim (cases_order i j) [ inl e ↦ e | inr o ↦
+        elim o [ inl l ↦ absurd (y.least i l x.deep) | inr g ↦ absurd (x.least j g y.deep) ] ]
 
 pub fronts_below : {b : List ℕ} {j : ℕ} → SyntaxAt b j → (k : ℕ) → k < j → IsFront b (suc k)
 fronts_below (stuck l f n) k h = f k h
@@ -203,7 +226,9 @@ not_earlier (stuck l f n) y h = n (fronts_below y _ h)
 not_earlier (short e f n) y h = let w = syntax_within y in absurd (omega arith)
 
 pub one_syntax : (b : List ℕ) (i j : ℕ) → SyntaxAt b i → SyntaxAt b j → i ≡ j
-one_syntax b i j x y = elim (cases_order i j) [ inl e ↦ e | inr o ↦ elim o [ inl l ↦ absurd (not_earlier x y l) | inr g ↦ absurd (not_earlier y x g) ] ]
+one_syntax b i j x y =
+    elim (cases_order i j) [ inl e ↦ e | inr o ↦
+        elim o [ inl l ↦ absurd (not_earlier x y l) | inr g ↦ absurd (not_earlier y x g) ] ]
 
 pub json_no_syntax : {b : List ℕ} {i : ℕ} → (t : Tree) → Json b t → SyntaxAt b i → ⊥
 json_no_syntax {b} {i} t j (stuck l f n) =
@@ -229,15 +254,19 @@ pub record Cleared {T : Type 0} (old empty : BoundedList T) : Type 0 where
 pub cleared : {T : Type 0} (old empty : BoundedList T) → Becomes old [] empty → Cleared old empty
 cleared old empty c = let p = c.peak in record { limit = c.limit; peak = omega arith; room = c.room }
 
-pub scan_of : (b : List ℕ) (old empty new : BoundedList Token) (old_stack empty_stack new_stack : BoundedList ℕ) → Cleared old empty → Cleared old_stack empty_stack → KeepsLaw b empty new empty_stack new_stack → length b ≤ 1073741824 → Accepts b new empty_stack new_stack
+pub scan_of : (b : List ℕ) (old empty new : BoundedList Token) (old_stack empty_stack new_stack : BoundedList ℕ)
+    → Cleared old empty → Cleared old_stack empty_stack → KeepsLaw b empty new empty_stack new_stack
+    → length b ≤ 1073741824 → Accepts b new empty_stack new_stack
     → (t : Tree) × IsScanOf b t old new old_stack new_stack
 scan_of b old empty new old_stack empty_stack new_stack c d k few_bytes a =
-    let s = spells a.settles.last (inv_reaches b a.settles.last a.settles.reached) new.elements a.deepest a.settles.settles in
+    let s = spells a.settles.last (inv_reaches b a.settles.last a.settles.reached) new.elements a.deepest
+        a.settles.settles in
     let t = s.tree in
     let n = nest_of b t a.settles.last new.elements a.deepest s.json a.settles.reached a.settles.settles in
     let count : length new.elements ≡ size t = ap length s.tokens ∙ length-flatten 0 t in
     let few : size t < 2 ^ 31 = let l = k.law in let o = ap (λ (ns : List ℕ). length ns) a.closed in omega arith in
-    let p = k.token_peak in let q = a.peak in let e = c.peak in let f = d.peak in let sh = a.shallow in let g = d.limit in (
+    let p = k.token_peak in let q = a.peak in let e = c.peak in let f = d.peak in let sh = a.shallow in
+    let g = d.limit in (
       t,
       record {
         json = s.json;
@@ -254,68 +283,92 @@ scan_of b old empty new old_stack empty_stack new_stack c d k few_bytes a =
     )
 
 -- it leaves no marks
-scan_unmarked : (b : List ℕ) (empty new : BoundedList Token) (empty_stack new_stack : BoundedList ℕ) → KeepsLaw b empty new empty_stack new_stack → length b ≤ 1073741824 → Accepts b new empty_stack new_stack → AreUnmarked new.elements
+scan_unmarked : (b : List ℕ) (empty new : BoundedList Token) (empty_stack new_stack : BoundedList ℕ)
+    → KeepsLaw b empty new empty_stack new_stack → length b ≤ 1073741824 → Accepts b new empty_stack new_stack
+    → AreUnmarked new.elements
 scan_unmarked b empty new empty_stack new_stack k few_bytes a =
-    let s = spells a.settles.last (inv_reaches b a.settles.last a.settles.reached) new.elements a.deepest a.settles.settles in
+    let s = spells a.settles.last (inv_reaches b a.settles.last a.settles.reached) new.elements a.deepest
+        a.settles.settles in
     let t = s.tree in
     let count : length new.elements ≡ size t = ap length s.tokens ∙ length-flatten 0 t in
     let few : size t < 2 ^ 31 = let l = k.law in let o = ap (λ (ns : List ℕ). length ns) a.closed in omega arith in
     subst AreUnmarked (sym s.tokens) (json_unmarked b t s.json few)
 
 module _ (X : Type 0) (b : List ℕ) (old : BoundedList ℕ) (tokens : BoundedList Token) (new : BoundedList ℕ) where
-  pub run_unmarked : (empty : BoundedList Token) (r : Result X LineFault) → RunAnswers b old r tokens new → KeepsLaw b empty tokens old new → length b ≤ 1073741824 → OnOk r (AreUnmarked tokens.elements)
+  pub run_unmarked : (empty : BoundedList Token) (r : Result X LineFault) → RunAnswers b old r tokens new
+      → KeepsLaw b empty tokens old new → length b ≤ 1073741824 → OnOk r (AreUnmarked tokens.elements)
   run_unmarked empty (Ok v) a k few_bytes = scan_unmarked b empty tokens old new k few_bytes a
   run_unmarked empty (Err e) a k few_bytes = search rules
 
-  pub run_deep : (r : Result X LineFault) (i : ℕ) → RunAnswers b old r tokens new → r ≡ Err (TooDeep i) → DeepAt b old.limit i
+  pub run_deep : (r : Result X LineFault) (i : ℕ) → RunAnswers b old r tokens new → r ≡ Err (TooDeep i)
+      → DeepAt b old.limit i
   run_deep r i a e = sinks_deep b old.limit i (subst (λ z. RunAnswers b old z tokens new) e a)
 
-  pub run_syntax : (r : Result X LineFault) (i : ℕ) → RunAnswers b old r tokens new → r ≡ Err (Syntax i) → SyntaxAt b i × NowhereDeep b old.limit
-  run_syntax r i a e = let s : SticksAt b old.limit i = subst (λ z. RunAnswers b old z tokens new) e a in (sticks_syntax b i s.sticks, sticks_nowhere b old.limit i s)
+  pub run_syntax : (r : Result X LineFault) (i : ℕ) → RunAnswers b old r tokens new → r ≡ Err (Syntax i) → SyntaxAt b i
+      × NowhereDeep b old.limit
+  run_syntax r i a e = let s : SticksAt b old.limit i = subst (λ z. RunAnswers b old z tokens new) e a in
+      (sticks_syntax b i s.sticks, sticks_nowhere b old.limit i s)
 
   pub run_utf8 : (r : Result X LineFault) (i : ℕ) → RunAnswers b old r tokens new → r ≡ Err (NotUtf8 i) → ⊥
   run_utf8 r i a e = subst (λ z. RunAnswers b old z tokens new) e a
 
-  pub finds_deep : (r : Result X LineFault) (i : ℕ) → RunAnswers b old r tokens new → DeepAt b old.limit i → r ≡ Err (TooDeep i)
+  pub finds_deep : (r : Result X LineFault) (i : ℕ) → RunAnswers b old r tokens new → DeepAt b old.limit i
+      → r ≡ Err (TooDeep i)
   finds_deep (Ok v) i a d = absurd (accepts_nowhere b tokens old new a i d)
   finds_deep (Err (NotUtf8 j)) i a d = absurd a
   finds_deep (Err (Syntax j)) i a d = absurd (sticks_nowhere b old.limit j a i d)
-  finds_deep (Err (TooDeep j)) i a d = ap (λ n. Err (TooDeep n)) (one_deep b old.limit j i (sinks_deep b old.limit j a) d)
+  finds_deep (Err (TooDeep j)) i a d =
+      ap (λ n. Err (TooDeep n)) (one_deep b old.limit j i (sinks_deep b old.limit j a) d)
 
-  pub finds_syntax : (r : Result X LineFault) (i : ℕ) → RunAnswers b old r tokens new → NowhereDeep b old.limit → SyntaxAt b i → r ≡ Err (Syntax i)
+  pub finds_syntax : (r : Result X LineFault) (i : ℕ) → RunAnswers b old r tokens new → NowhereDeep b old.limit
+      → SyntaxAt b i → r ≡ Err (Syntax i)
   finds_syntax (Ok v) i a n s =
-      let z = spells a.settles.last (inv_reaches b a.settles.last a.settles.reached) tokens.elements a.deepest a.settles.settles in
+      let z = spells a.settles.last (inv_reaches b a.settles.last a.settles.reached) tokens.elements a.deepest
+          a.settles.settles in
       absurd (json_no_syntax z.tree z.json s)
   finds_syntax (Err (NotUtf8 j)) i a n s = absurd a
   finds_syntax (Err (Syntax j)) i a n s = ap (λ k. Err (Syntax k)) (one_syntax b j i (sticks_syntax b j a.sticks) s)
   finds_syntax (Err (TooDeep j)) i a n s = absurd (n j (sinks_deep b old.limit j a))
 
-  pub finds_tree : (r : Result X LineFault) (t : Tree) → RunAnswers b old r tokens new → Json b t → nest t ≤ old.limit → IsOk r
+  pub finds_tree : (r : Result X LineFault) (t : Tree) → RunAnswers b old r tokens new → Json b t → nest t ≤ old.limit
+      → IsOk r
   finds_tree (Ok v) t a j h = search rules
   finds_tree (Err (NotUtf8 i)) t a j h = absurd a
   finds_tree (Err (Syntax i)) t a j h = absurd (json_no_syntax t j (sticks_syntax b i a.sticks))
   finds_tree (Err (TooDeep i)) t a j h = absurd (json_nowhere b old.limit t j h i (sinks_deep b old.limit i a))
 
 -- the same under the limit that the stack had before it was emptied
-module _ (X : Type 0) (b : List ℕ) (old empty new : BoundedList Token) (old_stack empty_stack new_stack : BoundedList ℕ) (c : Cleared old empty) (d : Cleared old_stack empty_stack) where
-  pub answers_tree : (r : Result X LineFault) → RunAnswers b empty_stack r new new_stack → KeepsLaw b empty new empty_stack new_stack → length b ≤ 1073741824 → OnOk r ((t : Tree) × IsScanOf b t old new old_stack new_stack)
+module _ (X : Type 0) (b : List ℕ) (old empty new : BoundedList Token) (old_stack empty_stack new_stack : BoundedList ℕ)
+    (c : Cleared old empty) (d : Cleared old_stack empty_stack) where
+  pub answers_tree : (r : Result X LineFault) → RunAnswers b empty_stack r new new_stack
+      → KeepsLaw b empty new empty_stack new_stack → length b ≤ 1073741824
+      → OnOk r ((t : Tree) × IsScanOf b t old new old_stack new_stack)
   answers_tree (Ok v) a k few_bytes = scan_of b old empty new old_stack empty_stack new_stack c d k few_bytes a
   answers_tree (Err e) a k few_bytes = search rules
 
-  pub answers_deep : (r : Result X LineFault) (i : ℕ) → RunAnswers b empty_stack r new new_stack → r ≡ Err (TooDeep i) → DeepAt b old_stack.limit i
+  pub answers_deep : (r : Result X LineFault) (i : ℕ) → RunAnswers b empty_stack r new new_stack → r ≡ Err (TooDeep i)
+      → DeepAt b old_stack.limit i
   answers_deep r i a e = subst (λ n. DeepAt b n i) d.limit (run_deep X b empty_stack new new_stack r i a e)
 
-  pub answers_syntax : (r : Result X LineFault) (i : ℕ) → RunAnswers b empty_stack r new new_stack → r ≡ Err (Syntax i) → SyntaxAt b i × NowhereDeep b old_stack.limit
-  answers_syntax r i a e = subst (λ n. SyntaxAt b i × NowhereDeep b n) d.limit (run_syntax X b empty_stack new new_stack r i a e)
+  pub answers_syntax : (r : Result X LineFault) (i : ℕ) → RunAnswers b empty_stack r new new_stack → r ≡ Err (Syntax i)
+      → SyntaxAt b i × NowhereDeep b old_stack.limit
+  answers_syntax r i a e =
+      subst (λ n. SyntaxAt b i × NowhereDeep b n) d.limit (run_syntax X b empty_stack new new_stack r i a e)
 
-  pub answers_finds_deep : (r : Result X LineFault) (i : ℕ) → RunAnswers b empty_stack r new new_stack → DeepAt b old_stack.limit i → r ≡ Err (TooDeep i)
-  answers_finds_deep r i a h = finds_deep X b empty_stack new new_stack r i a (subst (λ n. DeepAt b n i) (sym d.limit) h)
+  pub answers_finds_deep : (r : Result X LineFault) (i : ℕ) → RunAnswers b empty_stack r new new_stack
+      → DeepAt b old_stack.limit i → r ≡ Err (TooDeep i)
+  answers_finds_deep r i a h =
+      finds_deep X b empty_stack new new_stack r i a (subst (λ n. DeepAt b n i) (sym d.limit) h)
 
-  pub answers_finds_syntax : (r : Result X LineFault) (i : ℕ) → RunAnswers b empty_stack r new new_stack → NowhereDeep b old_stack.limit → SyntaxAt b i → r ≡ Err (Syntax i)
-  answers_finds_syntax r i a n s = finds_syntax X b empty_stack new new_stack r i a (subst (λ n. NowhereDeep b n) (sym d.limit) n) s
+  pub answers_finds_syntax : (r : Result X LineFault) (i : ℕ) → RunAnswers b empty_stack r new new_stack
+      → NowhereDeep b old_stack.limit → SyntaxAt b i → r ≡ Err (Syntax i)
+  answers_finds_syntax r i a n s =
+      finds_syntax X b empty_stack new new_stack r i a (subst (λ n. NowhereDeep b n) (sym d.limit) n) s
 
-  pub answers_finds_tree : (r : Result X LineFault) (t : Tree) → RunAnswers b empty_stack r new new_stack → Json b t → nest t ≤ old_stack.limit → IsOk r
-  answers_finds_tree r t a j h = finds_tree X b empty_stack new new_stack r t a j (subst (λ n. nest t ≤ n) (sym d.limit) h)
+  pub answers_finds_tree : (r : Result X LineFault) (t : Tree) → RunAnswers b empty_stack r new new_stack → Json b t
+      → nest t ≤ old_stack.limit → IsOk r
+  answers_finds_tree r t a j h =
+      finds_tree X b empty_stack new new_stack r t a j (subst (λ n. nest t ≤ n) (sym d.limit) h)
 
 -- ---- UTF-8
 
@@ -325,7 +378,9 @@ utf8_whole b i v u = let s = v.short in v.longest (length b) s (subst IsUtf8 (sy
 fault_same : (i j : ℕ) → ◌≡◌ {A = Result (Unit {0}) LineFault} (Err (NotUtf8 i)) (Err (NotUtf8 j)) → i ≡ j
 fault_same i j h = cc
 
-pub utf8_fault : (b : List ℕ) (n m : ℕ) → IsValidUpTo b m → m ≡ utf8_valid_len b → n ≡ m → (i : ℕ) → (IsErrOf {T = Unit {0}} (Err (NotUtf8 n)) (NotUtf8 i) → IsValidUpTo b i) × (IsValidUpTo b i → IsErrOf {T = Unit {0}} (Err (NotUtf8 n)) (NotUtf8 i))
+pub utf8_fault : (b : List ℕ) (n m : ℕ) → IsValidUpTo b m → m ≡ utf8_valid_len b → n ≡ m → (i : ℕ)
+    → (IsErrOf {T = Unit {0}} (Err (NotUtf8 n)) (NotUtf8 i) → IsValidUpTo b i)
+    × (IsValidUpTo b i → IsErrOf {T = Unit {0}} (Err (NotUtf8 n)) (NotUtf8 i))
 utf8_fault b n m v e q i = (
   λ h. subst (IsValidUpTo b) (sym q ∙ fault_same n i h) v,
   λ w. ap (λ k. Err (NotUtf8 k)) (q ∙ e ∙ utf8_valid_len-IsValidUpTo b i w),

@@ -22,8 +22,10 @@ use Rattle.cj_spans.proofs.Links.{before_one, before_zero}
 -- ---- one tree at the front
 
 pub below : (b : List ℕ) (ts : List Token) (k : ℕ) → k < length ts → (t : Token) × (slice_get ts k ≡ Some t)
-    × (tree_at b (spans_of ts) k ≡ node b (kind_by (byte b t.start)) t.start t.stop (held t.stop (forest b (drop (suc k) (spans_of ts)))))
-    × (forest b (drop k (spans_of ts)) ≡ tree_at b (spans_of ts) k ∷ past t.stop (forest b (drop (suc k) (spans_of ts))))
+    × (tree_at b (spans_of ts) k ≡ node b (kind_by (byte b t.start)) t.start t.stop
+        (held t.stop (forest b (drop (suc k) (spans_of ts)))))
+    × (forest b (drop k (spans_of ts)) ≡ tree_at b (spans_of ts) k
+        ∷ past t.stop (forest b (drop (suc k) (spans_of ts))))
 unfolding forest tree_at
 below b [] k h = absurd (omega arith)
 below b (t ∷ ts) zero h = (t, refl, refl, refl)
@@ -32,8 +34,10 @@ below b (t ∷ ts) (suc k) h = below b ts k (omega arith)
 -- the k-th token is t, and what its tree and the trees from it on are
 pub record Below (b : List ℕ) (ts : List Token) (k : ℕ) (t : Token) : Type 0 where
   pub found : slice_get ts k ≡ Some t
-  pub tree : tree_at b (spans_of ts) k ≡ node b (kind_by (byte b t.start)) t.start t.stop (held t.stop (forest b (drop (k + 1) (spans_of ts))))
-  pub front : forest b (drop k (spans_of ts)) ≡ tree_at b (spans_of ts) k ∷ past t.stop (forest b (drop (k + 1) (spans_of ts)))
+  pub tree : tree_at b (spans_of ts) k ≡ node b (kind_by (byte b t.start)) t.start t.stop
+      (held t.stop (forest b (drop (k + 1) (spans_of ts))))
+  pub front : forest b (drop k (spans_of ts)) ≡ tree_at b (spans_of ts) k
+      ∷ past t.stop (forest b (drop (k + 1) (spans_of ts)))
   pub start : start_of (tree_at b (spans_of ts) k) ≡ t.start
 
 pub below_at : (b : List ℕ) (ts : List Token) (k : ℕ) (t : Token) → slice_get ts k ≡ Some t → Below b ts k t
@@ -44,9 +48,12 @@ below_at b ts k t h =
     subst P (some_same r.0 t (sym r.1 ∙ h))
     (record {
       found = r.1;
-      tree = subst (λ j. tree_at b (spans_of ts) k ≡ node b (kind_by (byte b r.0.start)) r.0.start r.0.stop (held r.0.stop (forest b (drop j (spans_of ts))))) e r.2;
-      front = subst (λ j. forest b (drop k (spans_of ts)) ≡ tree_at b (spans_of ts) k ∷ past r.0.stop (forest b (drop j (spans_of ts)))) e r.3;
-      start = ap start_of r.2 ∙ start-node b (kind_by (byte b r.0.start)) r.0.start r.0.stop (held r.0.stop (forest b (drop (suc k) (spans_of ts))));
+      tree = subst (λ j. tree_at b (spans_of ts) k ≡ node b (kind_by (byte b r.0.start)) r.0.start r.0.stop
+          (held r.0.stop (forest b (drop j (spans_of ts))))) e r.2;
+      front = subst (λ j. forest b (drop k (spans_of ts)) ≡ tree_at b (spans_of ts) k
+          ∷ past r.0.stop (forest b (drop j (spans_of ts)))) e r.3;
+      start = ap start_of r.2 ∙ start-node b (kind_by (byte b r.0.start)) r.0.start r.0.stop
+          (held r.0.stop (forest b (drop (suc k) (spans_of ts))));
     })
 
 -- ---- trees up to a place, and past it
@@ -67,15 +74,19 @@ past-past (t ∷ ts) i j h =
 
 -- ---- a walk on, over tokens that start before the place
 
-skip_one : (b : List ℕ) (ts : List Token) (k j : ℕ) (t : Token) → Below b ts k t → t.start < j → t.stop ≤ j → past j (forest b (drop k (spans_of ts))) ≡ past j (forest b (drop (k + 1) (spans_of ts)))
+skip_one : (b : List ℕ) (ts : List Token) (k j : ℕ) (t : Token) → Below b ts k t → t.start < j → t.stop ≤ j
+    → past j (forest b (drop k (spans_of ts))) ≡ past j (forest b (drop (k + 1) (spans_of ts)))
 skip_one b ts k j t h l o =
     let e = h.start in
-    ap (past j) h.front ∙ past_on (tree_at b (spans_of ts) k) (past t.stop (forest b (drop (k + 1) (spans_of ts)))) j (omega arith) ∙ past-past (forest b (drop (k + 1) (spans_of ts))) t.stop j o
+    ap (past j) h.front ∙ past_on (tree_at b (spans_of ts) k) (past t.stop (forest b (drop (k + 1) (spans_of ts)))) j
+        (omega arith) ∙ past-past (forest b (drop (k + 1) (spans_of ts))) t.stop j o
 
-skip_end : (b : List ℕ) (ts : List Token) (k j : ℕ) (t : Token) → Below b ts k t → j ≤ t.start → past j (forest b (drop k (spans_of ts))) ≡ forest b (drop k (spans_of ts))
+skip_end : (b : List ℕ) (ts : List Token) (k j : ℕ) (t : Token) → Below b ts k t → j ≤ t.start
+    → past j (forest b (drop k (spans_of ts))) ≡ forest b (drop k (spans_of ts))
 skip_end b ts k j t h l =
     let e = h.start in
-    ap (past j) h.front ∙ past_here (tree_at b (spans_of ts) k) (past t.stop (forest b (drop (k + 1) (spans_of ts)))) j (omega arith) ∙ sym h.front
+    ap (past j) h.front ∙ past_here (tree_at b (spans_of ts) k) (past t.stop (forest b (drop (k + 1) (spans_of ts)))) j
+        (omega arith) ∙ sym h.front
 
 drop_spans : (ts : List Token) (k : ℕ) → length ts ≤ k → drop k (spans_of ts) ≡ []
 drop_spans [] zero h = refl
@@ -89,21 +100,28 @@ forest_out b ts k h = ap (forest b) (drop_spans ts k h)
 
 -- ---- the trees past a place are those from a link on
 
-link_first : (b : List ℕ) (t : Token) (ts : List Token) (j r : ℕ) → t.start < j → t.stop ≤ j → r ≡ before j (t ∷ ts) → ((n : ℕ) → n ≡ before j ts → forest b (drop n (spans_of ts)) ≡ past j (forest b (spans_of ts))) → forest b (drop r (spans_of (t ∷ ts))) ≡ past j (forest b (spans_of (t ∷ ts)))
+link_first : (b : List ℕ) (t : Token) (ts : List Token) (j r : ℕ) → t.start < j → t.stop ≤ j → r ≡ before j (t ∷ ts)
+    → ((n : ℕ) → n ≡ before j ts → forest b (drop n (spans_of ts)) ≡ past j (forest b (spans_of ts)))
+    → forest b (drop r (spans_of (t ∷ ts))) ≡ past j (forest b (spans_of (t ∷ ts)))
 link_first b t ts j zero l o e next = let f = before_one j t ts l in absurd (omega arith)
-link_first b t ts j (suc r) l o e next = let f = before_one j t ts l in next r (omega arith) ∙ sym (skip_one b (t ∷ ts) 0 j t (below_at b (t ∷ ts) 0 t refl) l o)
+link_first b t ts j (suc r) l o e next = let f = before_one j t ts l in
+    next r (omega arith) ∙ sym (skip_one b (t ∷ ts) 0 j t (below_at b (t ∷ ts) 0 t refl) l o)
 
-pub link_past : (b : List ℕ) (ts : List Token) (k j r : ℕ) → StopBefore ts k j → r ≡ k + before j (drop k ts) → forest b (drop r (spans_of ts)) ≡ past j (forest b (drop k (spans_of ts)))
+pub link_past : (b : List ℕ) (ts : List Token) (k j r : ℕ) → StopBefore ts k j → r ≡ k + before j (drop k ts)
+    → forest b (drop r (spans_of ts)) ≡ past j (forest b (drop k (spans_of ts)))
 link_past b [] k j r s e = forest_out b [] r (omega arith) ∙ sym (ap (past j) (forest_out b [] k (omega arith)))
 link_past b (t ∷ ts) (suc k) j zero s e = absurd (omega arith)
-link_past b (t ∷ ts) (suc k) j (suc r) s e = link_past b ts k j r (λ i u h g l. s (suc i) u (omega arith) g l) (omega arith)
+link_past b (t ∷ ts) (suc k) j (suc r) s e =
+    link_past b ts k j r (λ i u h g l. s (suc i) u (omega arith) g l) (omega arith)
 link_past b (t ∷ ts) zero j r s e =
     elim (cases_lt t.start j) [
-      | inl l ↦ link_first b t ts j r l (s 0 t (omega arith) refl l) (omega arith) (λ n f. link_past b ts 0 j n (λ i u h g l. s (suc i) u (omega arith) g l) (omega arith))
+      | inl l ↦ link_first b t ts j r l (s 0 t (omega arith) refl l) (omega arith)
+          (λ n f. link_past b ts 0 j n (λ i u h g l. s (suc i) u (omega arith) g l) (omega arith))
       | inr g ↦
           let f = before_zero j t ts g in
           let q : r ≡ 0 = omega arith in
-          ap (λ n. forest b (drop n (spans_of (t ∷ ts)))) q ∙ sym (skip_end b (t ∷ ts) 0 j t (below_at b (t ∷ ts) 0 t refl) g)
+          ap (λ n. forest b (drop n (spans_of (t ∷ ts)))) q
+              ∙ sym (skip_end b (t ∷ ts) 0 j t (below_at b (t ∷ ts) 0 t refl) g)
     ]
 
 -- ---- what a node shows
@@ -145,19 +163,25 @@ pub list-members_from : (ts : List Tree) → are_members ts ≡ true → pairs_o
 list-members_from [] h = refl
 list-members_from (n ∷ []) h = refl
 list-members_from (n ∷ t ∷ ts) h =
-    ap (λ m. (m, t) ∷ pairs_of ts) (name_is n (first_so _ _ h)) ∙ ap (λ xs. (scalar Text (atom_of n), t) ∷ xs) (list-members_from ts (second_so _ _ h))
+    ap (λ m. (m, t) ∷ pairs_of ts) (name_is n (first_so _ _ h))
+        ∙ ap (λ xs. (scalar Text (atom_of n), t) ∷ xs) (list-members_from ts (second_so _ _ h))
 
 pub kind_object : (c : ℕ) → kind_by c ≡ Object → c ≡ 123
 kind_object c h = grind (arith, nat_tests)
 
-pub kind_shown : (b : List ℕ) (ts : List Token) (k : ℕ) (t : Token) (r : Kind) → slice_get ts k ≡ Some t → r ≡ kind_by (byte b t.start) → r ≡ kind_of (tree_at b (spans_of ts) k)
-kind_shown b ts k t r h e = let w = below_at b ts k t h in e ∙ sym (kind-node b (kind_by (byte b t.start)) t.start t.stop _) ∙ sym (ap kind_of w.tree)
+pub kind_shown : (b : List ℕ) (ts : List Token) (k : ℕ) (t : Token) (r : Kind) → slice_get ts k ≡ Some t
+    → r ≡ kind_by (byte b t.start) → r ≡ kind_of (tree_at b (spans_of ts) k)
+kind_shown b ts k t r h e = let w = below_at b ts k t h in
+    e ∙ sym (kind-node b (kind_by (byte b t.start)) t.start t.stop _) ∙ sym (ap kind_of w.tree)
 
-pub start_shown : (b : List ℕ) (ts : List Token) (k : ℕ) (t : Token) → slice_get ts k ≡ Some t → t.start ≡ start_of (tree_at b (spans_of ts) k)
+pub start_shown : (b : List ℕ) (ts : List Token) (k : ℕ) (t : Token) → slice_get ts k ≡ Some t
+    → t.start ≡ start_of (tree_at b (spans_of ts) k)
 start_shown b ts k t h = sym (below_at b ts k t h).start
 
-pub spelling_shown : (b : List ℕ) (ts : List Token) (k : ℕ) (t : Token) → slice_get ts k ≡ Some t → slice_range b t.start t.stop ≡ spelling_of b (tree_at b (spans_of ts) k)
-spelling_shown b ts k t h = let w = below_at b ts k t h in sym (spelling-node b (kind_by (byte b t.start)) t.start t.stop _) ∙ sym (ap (spelling_of b) w.tree)
+pub spelling_shown : (b : List ℕ) (ts : List Token) (k : ℕ) (t : Token) → slice_get ts k ≡ Some t
+    → slice_range b t.start t.stop ≡ spelling_of b (tree_at b (spans_of ts) k)
+spelling_shown b ts k t h = let w = below_at b ts k t h in
+    sym (spelling-node b (kind_by (byte b t.start)) t.start t.stop _) ∙ sym (ap (spelling_of b) w.tree)
 
 -- ---- no more trees than tokens
 
@@ -165,7 +189,8 @@ length-past : (j : ℕ) (ts : List Tree) → length (past j ts) ≤ length ts
 length-past j [] = omega arith
 length-past j (t ∷ ts) =
     let l = length-past j ts in
-    elim (cases_lt (start_of t) j) [ inl h ↦ let e = ap (λ (us : List Tree). length us) (past_on t ts j h) in omega arith | inr h ↦ let e = ap (λ (us : List Tree). length us) (past_here t ts j h) in omega arith ]
+    elim (cases_lt (start_of t) j) [ inl h ↦ let e = ap (λ (us : List Tree). length us) (past_on t ts j h) in
+        omega arith | inr h ↦ let e = ap (λ (us : List Tree). length us) (past_here t ts j h) in omega arith ]
 
 pub length-forest : (b : List ℕ) (ss : List Span) → length (forest b ss) ≤ length ss
 unfolding forest

@@ -28,7 +28,8 @@ held-held : (ts : List Tree) (i j : ℕ) → i ≤ j → held i (held j ts) ≡ 
 held-held [] i j h = refl
 held-held (t ∷ ts) i j h =
     elim (cases_lt (start_of t) i) [
-      | inl l ↦ ap (held i) (held_on t ts j (omega arith)) ∙ held_on t (held j ts) i l ∙ ap (λ xs. t ∷ xs) (held-held ts i j h) ∙ sym (held_on t ts i l)
+      | inl l ↦ ap (held i) (held_on t ts j (omega arith)) ∙ held_on t (held j ts) i l
+          ∙ ap (λ xs. t ∷ xs) (held-held ts i j h) ∙ sym (held_on t ts i l)
       | inr g ↦ elim (cases_lt (start_of t) j) [
         | inl l ↦ ap (held i) (held_on t ts j l) ∙ held_none t (held j ts) i g ∙ sym (held_none t ts i g)
         | inr m ↦ ap (held i) (held_none t ts j m) ∙ sym (held_none t ts i g)
@@ -39,25 +40,32 @@ past-held : (ts : List Tree) (i j : ℕ) → i ≤ j → past i (held j ts) ≡ 
 past-held [] i j h = refl
 past-held (t ∷ ts) i j h =
     elim (cases_lt (start_of t) i) [
-      | inl l ↦ ap (past i) (held_on t ts j (omega arith)) ∙ past_on t (held j ts) i l ∙ past-held ts i j h ∙ sym (ap (held j) (past_on t ts i l))
+      | inl l ↦ ap (past i) (held_on t ts j (omega arith)) ∙ past_on t (held j ts) i l ∙ past-held ts i j h
+          ∙ sym (ap (held j) (past_on t ts i l))
       | inr g ↦ elim (cases_lt (start_of t) j) [
-        | inl l ↦ ap (past i) (held_on t ts j l) ∙ past_here t (held j ts) i g ∙ sym (held_on t ts j l) ∙ sym (ap (held j) (past_here t ts i g))
+        | inl l ↦ ap (past i) (held_on t ts j l) ∙ past_here t (held j ts) i g ∙ sym (held_on t ts j l)
+            ∙ sym (ap (held j) (past_here t ts i g))
         | inr m ↦ ap (past i) (held_none t ts j m) ∙ sym (held_none t ts j m) ∙ sym (ap (held j) (past_here t ts i g))
       ]
     ]
 
 -- ---- the tokens that start before a place show the trees up to it
 
-taken_one : (b : List ℕ) (t : Token) (ts : List Token) (j n : ℕ) → t.start < j → t.stop ≤ j → forest b (take n (spans_of ts)) ≡ held j (forest b (spans_of ts)) → forest b (take (suc n) (spans_of (t ∷ ts))) ≡ held j (forest b (spans_of (t ∷ ts)))
+taken_one : (b : List ℕ) (t : Token) (ts : List Token) (j n : ℕ) → t.start < j → t.stop ≤ j
+    → forest b (take n (spans_of ts)) ≡ held j (forest b (spans_of ts))
+    → forest b (take (suc n) (spans_of (t ∷ ts))) ≡ held j (forest b (spans_of (t ∷ ts)))
 unfolding forest
 taken_one b t ts j n l o e =
     let k = kind_by (byte b t.start) in
     let f = forest b (spans_of ts) in
     let s = start-node b k t.start t.stop (held t.stop f) in
-    ap (λ z. node b k t.start t.stop (held t.stop z) ∷ past t.stop z) e ∙ ap (λ z. node b k t.start t.stop z ∷ past t.stop (held j f)) (held-held f t.stop j o) ∙ ap (λ z. node b k t.start t.stop (held t.stop f) ∷ z) (past-held f t.stop j o)
+    ap (λ z. node b k t.start t.stop (held t.stop z) ∷ past t.stop z) e
+        ∙ ap (λ z. node b k t.start t.stop z ∷ past t.stop (held j f)) (held-held f t.stop j o)
+        ∙ ap (λ z. node b k t.start t.stop (held t.stop f) ∷ z) (past-held f t.stop j o)
     ∙ sym (held_on (node b k t.start t.stop (held t.stop f)) (past t.stop f) j (omega arith))
 
-taken_none : (b : List ℕ) (t : Token) (ts : List Token) (j : ℕ) → j ≤ t.start → [] ≡ held j (forest b (spans_of (t ∷ ts)))
+taken_none : (b : List ℕ) (t : Token) (ts : List Token) (j : ℕ) → j ≤ t.start
+    → [] ≡ held j (forest b (spans_of (t ∷ ts)))
 unfolding forest
 taken_none b t ts j g =
     let k = kind_by (byte b t.start) in
@@ -81,18 +89,23 @@ unfolding forest
 forest_past b zero = refl
 forest_past b (suc k) = refl
 
-taken : (b : List ℕ) (ts : List Token) (k j n : ℕ) → StopBefore ts k j → n ≡ before j (drop k ts) → forest b (take n (drop k (spans_of ts))) ≡ held j (forest b (drop k (spans_of ts)))
+taken : (b : List ℕ) (ts : List Token) (k j n : ℕ) → StopBefore ts k j → n ≡ before j (drop k ts)
+    → forest b (take n (drop k (spans_of ts))) ≡ held j (forest b (drop k (spans_of ts)))
 taken b [] k j n s e = forest_nil b n k ∙ sym (ap (held j) (forest_past b k))
 taken b (t ∷ ts) (suc k) j n s e = taken b ts k j n (λ i u h g l. s (suc i) u (omega arith) g l) e
 taken b (t ∷ ts) zero j n s e =
     elim (cases_lt t.start j) [
-      | inl l ↦ ap (λ m. forest b (take m (spans_of (t ∷ ts)))) (e ∙ before_one j t ts l) ∙ taken_one b t ts j (before j ts) l (s 0 t (omega arith) refl l) (taken b ts 0 j (before j ts) (λ i u h g l. s (suc i) u (omega arith) g l) refl)
+      | inl l ↦ ap (λ m. forest b (take m (spans_of (t ∷ ts)))) (e ∙ before_one j t ts l)
+          ∙ taken_one b t ts j (before j ts) l (s 0 t (omega arith) refl l)
+          (taken b ts 0 j (before j ts) (λ i u h g l. s (suc i) u (omega arith) g l) refl)
       | inr g ↦ forest_empty b (spans_of (t ∷ ts)) n (e ∙ before_zero j t ts g) ∙ taken_none b t ts j g
     ]
 
 -- ---- more tokens than those do not change the trees up to the place, and show what comes past it
 
-held_one : (b : List ℕ) (t : Token) (ts : List Token) (j n : ℕ) → t.start < j → t.stop ≤ j → held j (forest b (take n (spans_of ts))) ≡ held j (forest b (spans_of ts)) → held j (forest b (take (suc n) (spans_of (t ∷ ts)))) ≡ held j (forest b (spans_of (t ∷ ts)))
+held_one : (b : List ℕ) (t : Token) (ts : List Token) (j n : ℕ) → t.start < j → t.stop ≤ j
+    → held j (forest b (take n (spans_of ts))) ≡ held j (forest b (spans_of ts))
+    → held j (forest b (take (suc n) (spans_of (t ∷ ts)))) ≡ held j (forest b (spans_of (t ∷ ts)))
 unfolding forest
 held_one b t ts j n l o e =
     let k = kind_by (byte b t.start) in
@@ -102,10 +115,13 @@ held_one b t ts j n l o e =
     let r = start-node b k t.start t.stop (held t.stop g) in
     let parts = sym (held-held g t.stop j o) ∙ ap (held t.stop) e ∙ held-held f t.stop j o in
     let rest = sym (past-held g t.stop j o) ∙ ap (past t.stop) e ∙ past-held f t.stop j o in
-    held_on (node b k t.start t.stop (held t.stop g)) (past t.stop g) j (omega arith) ∙ ap (λ z. node b k t.start t.stop z ∷ held j (past t.stop g)) parts ∙ ap (λ z. node b k t.start t.stop (held t.stop f) ∷ z) rest
+    held_on (node b k t.start t.stop (held t.stop g)) (past t.stop g) j (omega arith)
+        ∙ ap (λ z. node b k t.start t.stop z ∷ held j (past t.stop g)) parts
+        ∙ ap (λ z. node b k t.start t.stop (held t.stop f) ∷ z) rest
     ∙ sym (held_on (node b k t.start t.stop (held t.stop f)) (past t.stop f) j (omega arith))
 
-held_first : (b : List ℕ) (t : Token) (ts : List Token) (j n : ℕ) → j ≤ t.start → held j (forest b (take n (spans_of (t ∷ ts)))) ≡ []
+held_first : (b : List ℕ) (t : Token) (ts : List Token) (j n : ℕ) → j ≤ t.start
+    → held j (forest b (take n (spans_of (t ∷ ts)))) ≡ []
 unfolding forest
 held_first b t ts j zero g = refl
 held_first b t ts j (suc n) g =
@@ -114,18 +130,24 @@ held_first b t ts j (suc n) g =
     let s = start-node b k t.start t.stop (held t.stop f) in
     held_none (node b k t.start t.stop (held t.stop f)) (past t.stop f) j (omega arith)
 
-held_more : (b : List ℕ) (ts : List Token) (k j n : ℕ) → StopBefore ts k j → before j (drop k ts) ≤ n → held j (forest b (take n (drop k (spans_of ts)))) ≡ held j (forest b (drop k (spans_of ts)))
+held_more : (b : List ℕ) (ts : List Token) (k j n : ℕ) → StopBefore ts k j → before j (drop k ts) ≤ n
+    → held j (forest b (take n (drop k (spans_of ts)))) ≡ held j (forest b (drop k (spans_of ts)))
 unfolding forest
 held_more b [] k j n s e = ap (held j) (forest_nil b n k) ∙ sym (ap (held j) (forest_past b k))
 held_more b (t ∷ ts) (suc k) j n s e = held_more b ts k j n (λ i u h g l. s (suc i) u (omega arith) g l) e
-held_more b (t ∷ ts) zero j zero s e = elim (cases_lt t.start j) [ inl l ↦ let f = before_one j t ts l in absurd (omega arith) | inr g ↦ taken_none b t ts j g ]
+held_more b (t ∷ ts) zero j zero s e =
+    elim (cases_lt t.start j) [ inl l ↦ let f = before_one j t ts l in
+        absurd (omega arith) | inr g ↦ taken_none b t ts j g ]
 held_more b (t ∷ ts) zero j (suc n) s e =
     elim (cases_lt t.start j) [
-      | inl l ↦ let f = before_one j t ts l in held_one b t ts j n l (s 0 t (omega arith) refl l) (held_more b ts 0 j n (λ i u h g l. s (suc i) u (omega arith) g l) (omega arith))
+      | inl l ↦ let f = before_one j t ts l in
+          held_one b t ts j n l (s 0 t (omega arith) refl l)
+          (held_more b ts 0 j n (λ i u h g l. s (suc i) u (omega arith) g l) (omega arith))
       | inr g ↦ held_first b t ts j (suc n) g ∙ taken_none b t ts j g
     ]
 
-past_one : (b : List ℕ) (t : Token) (ts : List Token) (j n : ℕ) → t.start < j → t.stop ≤ j → past j (forest b (take (suc n) (spans_of (t ∷ ts)))) ≡ past j (forest b (take n (spans_of ts)))
+past_one : (b : List ℕ) (t : Token) (ts : List Token) (j n : ℕ) → t.start < j → t.stop ≤ j
+    → past j (forest b (take (suc n) (spans_of (t ∷ ts)))) ≡ past j (forest b (take n (spans_of ts)))
 unfolding forest
 past_one b t ts j n l o =
     let k = kind_by (byte b t.start) in
@@ -133,7 +155,8 @@ past_one b t ts j n l o =
     let s = start-node b k t.start t.stop (held t.stop f) in
     past_on (node b k t.start t.stop (held t.stop f)) (past t.stop f) j (omega arith) ∙ past-past f t.stop j o
 
-past_first : (b : List ℕ) (t : Token) (ts : List Token) (j n : ℕ) → j ≤ t.start → past j (forest b (take n (spans_of (t ∷ ts)))) ≡ forest b (take n (spans_of (t ∷ ts)))
+past_first : (b : List ℕ) (t : Token) (ts : List Token) (j n : ℕ) → j ≤ t.start
+    → past j (forest b (take n (spans_of (t ∷ ts)))) ≡ forest b (take n (spans_of (t ∷ ts)))
 unfolding forest
 past_first b t ts j zero g = refl
 past_first b t ts j (suc n) g =
@@ -142,20 +165,26 @@ past_first b t ts j (suc n) g =
     let s = start-node b k t.start t.stop (held t.stop f) in
     past_here (node b k t.start t.stop (held t.stop f)) (past t.stop f) j (omega arith)
 
-past_more : (b : List ℕ) (ts : List Token) (k j n m p r : ℕ) → StopBefore ts k j → m ≡ before j (drop k ts) → n ≡ m + p → r ≡ k + m → past j (forest b (take n (drop k (spans_of ts)))) ≡ forest b (take p (drop r (spans_of ts)))
+past_more : (b : List ℕ) (ts : List Token) (k j n m p r : ℕ) → StopBefore ts k j → m ≡ before j (drop k ts) → n ≡ m + p
+    → r ≡ k + m → past j (forest b (take n (drop k (spans_of ts)))) ≡ forest b (take p (drop r (spans_of ts)))
 past_more b [] k j n m p r s e l o = ap (past j) (forest_nil b n k) ∙ sym (forest_nil b p r)
 past_more b (t ∷ ts) (suc k) j n m p zero s e l o = absurd (omega arith)
-past_more b (t ∷ ts) (suc k) j n m p (suc r) s e l o = past_more b ts k j n m p r (λ i u h g l. s (suc i) u (omega arith) g l) e l (omega arith)
+past_more b (t ∷ ts) (suc k) j n m p (suc r) s e l o =
+    past_more b ts k j n m p r (λ i u h g l. s (suc i) u (omega arith) g l) e l (omega arith)
 past_more b (t ∷ ts) zero j n zero p r s e l o =
     elim (cases_lt t.start j) [
       | inl a ↦ let f = before_one j t ts a in absurd (omega arith)
-      | inr g ↦ let f : n ≡ p = omega arith in past_first b t ts j n g ∙ ap (λ q. forest b (take n (drop q (spans_of (t ∷ ts))))) (sym o) ∙ ap (λ q. forest b (take q (drop r (spans_of (t ∷ ts))))) f
+      | inr g ↦ let f : n ≡ p = omega arith in
+          past_first b t ts j n g ∙ ap (λ q. forest b (take n (drop q (spans_of (t ∷ ts))))) (sym o)
+          ∙ ap (λ q. forest b (take q (drop r (spans_of (t ∷ ts))))) f
     ]
 past_more b (t ∷ ts) zero j zero (suc m) p r s e l o = absurd (omega arith)
 past_more b (t ∷ ts) zero j (suc n) (suc m) p zero s e l o = absurd (omega arith)
 past_more b (t ∷ ts) zero j (suc n) (suc m) p (suc r) s e l o =
     elim (cases_lt t.start j) [
-      | inl a ↦ let f = before_one j t ts a in past_one b t ts j n a (s 0 t (omega arith) refl a) ∙ past_more b ts 0 j n m p r (λ i u h g l. s (suc i) u (omega arith) g l) (omega arith) (omega arith) (omega arith)
+      | inl a ↦ let f = before_one j t ts a in past_one b t ts j n a (s 0 t (omega arith) refl a)
+          ∙ past_more b ts 0 j n m p r (λ i u h g l. s (suc i) u (omega arith) g l) (omega arith) (omega arith)
+          (omega arith)
       | inr g ↦ let f = before_zero j t ts g in absurd (omega arith)
     ]
 
@@ -165,16 +194,20 @@ pub shown_none : (b : List ℕ) (ts : List Token) (k n : ℕ) → n ≤ k → sh
 shown_none b ts k n h = forest_empty b (drop k (spans_of ts)) (n - k) (omega arith)
 
 -- the parts of a token's tree are what the tokens up to its link show
-pub shown_parts : (b : List ℕ) (ts : List Token) (k r : ℕ) (t : Token) → AreNested ts → slice_get ts k ≡ Some t → r ≡ k + 1 + before t.stop (drop (k + 1) ts) → shown_between b ts (k + 1) r ≡ held t.stop (forest b (drop (k + 1) (spans_of ts)))
+pub shown_parts : (b : List ℕ) (ts : List Token) (k r : ℕ) (t : Token) → AreNested ts → slice_get ts k ≡ Some t
+    → r ≡ k + 1 + before t.stop (drop (k + 1) ts)
+    → shown_between b ts (k + 1) r ≡ held t.stop (forest b (drop (k + 1) (spans_of ts)))
 shown_parts b ts k r t nested h e = taken b ts (k + 1) t.stop (r - (k + 1)) (nested k t h) (omega arith)
 
-drop_next : (ts : List Token) (k : ℕ) (t : Token) → slice_get ts k ≡ Some t → drop k (spans_of ts) ≡ span_at t.start t.stop ∷ drop (suc k) (spans_of ts)
+drop_next : (ts : List Token) (k : ℕ) (t : Token) → slice_get ts k ≡ Some t
+    → drop k (spans_of ts) ≡ span_at t.start t.stop ∷ drop (suc k) (spans_of ts)
 drop_next [] k t h = cc
 drop_next (u ∷ ts) zero t h = let e : u ≡ t = cc in ap (λ (v : Token). span_at v.start v.stop ∷ spans_of ts) e
 drop_next (u ∷ ts) (suc k) t h = drop_next ts k t h
 
 shown_one : (b : List ℕ) (ts : List Token) (k n : ℕ) (t : Token) → slice_get ts k ≡ Some t → k < n
-    → let f = forest b (take (n - (k + 1)) (drop (k + 1) (spans_of ts))) in shown_between b ts k n ≡ node b (kind_by (byte b t.start)) t.start t.stop (held t.stop f) ∷ past t.stop f
+    → let f = forest b (take (n - (k + 1)) (drop (k + 1) (spans_of ts))) in
+    shown_between b ts k n ≡ node b (kind_by (byte b t.start)) t.start t.stop (held t.stop f) ∷ past t.stop f
 unfolding forest
 shown_one b ts k n t h l =
     let next : suc k ≡ k + 1 = omega arith in
@@ -183,14 +216,20 @@ shown_one b ts k n t h l =
     ap (λ m. forest b (take m (drop k (spans_of ts)))) f ∙ ap (λ xs. forest b (take (suc (n - (k + 1))) xs)) first
 
 -- one step of a walk
-pub walk_on : (b : List ℕ) (ts : List Token) (k n r : ℕ) (t : Token) → AreNested ts → slice_get ts k ≡ Some t → r ≡ k + 1 + before t.stop (drop (k + 1) ts) → r ≤ n → shown_between b ts k n ≡ tree_at b (spans_of ts) k ∷ shown_between b ts r n
+pub walk_on : (b : List ℕ) (ts : List Token) (k n r : ℕ) (t : Token) → AreNested ts → slice_get ts k ≡ Some t
+    → r ≡ k + 1 + before t.stop (drop (k + 1) ts) → r ≤ n
+    → shown_between b ts k n ≡ tree_at b (spans_of ts) k ∷ shown_between b ts r n
 walk_on b ts k n r t nested h e l =
     let s = nested k t h in
     let m = before t.stop (drop (k + 1) ts) in
     let p = n - (k + 1) in
     let w = below_at b ts k t h in
-    shown_one b ts k n t h (omega arith) ∙ ap (λ z. node b (kind_by (byte b t.start)) t.start t.stop z ∷ past t.stop (forest b (take p (drop (k + 1) (spans_of ts))))) (held_more b ts (k + 1) t.stop p s (omega arith))
-    ∙ ap (λ z. node b (kind_by (byte b t.start)) t.start t.stop (held t.stop (forest b (drop (k + 1) (spans_of ts)))) ∷ z) (past_more b ts (k + 1) t.stop p m (n - r) r s refl (omega arith) e)
+    shown_one b ts k n t h (omega arith)
+        ∙ ap (λ z. node b (kind_by (byte b t.start)) t.start t.stop z
+        ∷ past t.stop (forest b (take p (drop (k + 1) (spans_of ts)))))
+        (held_more b ts (k + 1) t.stop p s (omega arith))
+    ∙ ap (λ z. node b (kind_by (byte b t.start)) t.start t.stop (held t.stop (forest b (drop (k + 1) (spans_of ts))))
+        ∷ z) (past_more b ts (k + 1) t.stop p m (n - r) r s refl (omega arith) e)
     ∙ ap (λ z. z ∷ shown_between b ts r n) (sym w.tree)
 
 -- ---- tokens that are whole
@@ -208,31 +247,38 @@ before-less : (i j : ℕ) (ts : List Token) → i ≤ j → before i ts ≤ befo
 before-less i j [] h = omega arith
 before-less i j (t ∷ ts) h =
     elim (cases_lt t.start i) [
-      | inl l ↦ let e = before_one i t ts l in let f = before_one j t ts (omega arith) in let r = before-less i j ts h in omega arith
+      | inl l ↦ let e = before_one i t ts l in let f = before_one j t ts (omega arith) in
+          let r = before-less i j ts h in omega arith
       | inr g ↦ let e = before_zero i t ts g in omega arith
     ]
 
-pub starts_before : (ts : List Token) (j k : ℕ) (t : Token) → slice_get ts k ≡ Some t → 0 < before j (drop k ts) → t.start < j
-starts_before ts j k t h l = elim (cases_lt t.start j) [ inl o ↦ o | inr g ↦ let z = before_stopped ts j k t h g in absurd (omega arith) ]
+pub starts_before : (ts : List Token) (j k : ℕ) (t : Token) → slice_get ts k ≡ Some t → 0 < before j (drop k ts)
+    → t.start < j
+starts_before ts j k t h l =
+    elim (cases_lt t.start j) [ inl o ↦ o | inr g ↦ let z = before_stopped ts j k t h g in absurd (omega arith) ]
 
 -- a part of a token's tree links no further than the token
-part_link : (ts : List Token) (k r i : ℕ) (t u : Token) → AreNested ts → AreLinked ts → slice_get ts k ≡ Some t → r ≡ k + 1 + before t.stop (drop (k + 1) ts) → k + 1 ≤ i → i < r → slice_get ts i ≡ Some u → link_of u ≤ r
+part_link : (ts : List Token) (k r i : ℕ) (t u : Token) → AreNested ts → AreLinked ts → slice_get ts k ≡ Some t
+    → r ≡ k + 1 + before t.stop (drop (k + 1) ts) → k + 1 ≤ i → i < r → slice_get ts i ≡ Some u → link_of u ≤ r
 part_link ts k r i t u nested linked h e o l g =
     let j = t.stop in
     let n = i - (k + 1) in
     let d = drop (k + 1) ts in
     let at : k + 1 + n ≡ i = omega arith in
     let left = before_drop j n d (omega arith) in
-    let here : before j (drop n d) ≡ before j (drop i ts) = ap (before j) (drop-drop n (k + 1) ts) ∙ ap (λ x. before j (drop x ts)) at in
+    let here : before j (drop n d) ≡ before j (drop i ts) = ap (before j) (drop-drop n (k + 1) ts)
+        ∙ ap (λ x. before j (drop x ts)) at in
     let s = starts_before ts j i u g (omega arith) in
     let next = before_walked ts j r i u g s (omega arith) in
     let m = before-less u.stop j (drop (i + 1) ts) (nested k t h i u o g s) in
     let f = linked i u g in
     omega arith
 
-pub whole_parts : (ts : List Token) (k r : ℕ) (t : Token) → AreNested ts → AreLinked ts → slice_get ts k ≡ Some t → r ≡ k + 1 + before t.stop (drop (k + 1) ts) → AreWhole ts (k + 1) r
+pub whole_parts : (ts : List Token) (k r : ℕ) (t : Token) → AreNested ts → AreLinked ts → slice_get ts k ≡ Some t
+    → r ≡ k + 1 + before t.stop (drop (k + 1) ts) → AreWhole ts (k + 1) r
 whole_parts ts k r t nested linked h e =
-    let m = before_length t.stop (drop (k + 1) ts) in let d = length-drop (k + 1) ts in let w = slice_get_within ts k t h in
+    let m = before_length t.stop (drop (k + 1) ts) in let d = length-drop (k + 1) ts in
+    let w = slice_get_within ts k t h in
     (omega arith, λ i u o l g. part_link ts k r i t u nested linked h e o l g)
 
 pub whole_none : (ts : List Token) (k : ℕ) → AreWhole ts k 0
@@ -281,7 +327,8 @@ pub record AtName (b : List ℕ) (ts : List Token) (k n : ℕ) : Type 0 where
   pub value : k + 1 < n
   pub shown : shown_between b ts k n ≡ tree_at b (spans_of ts) k ∷ shown_between b ts (k + 1) n
 
-pub at_name : (b : List ℕ) (ts : List Token) (k n : ℕ) → AreNested ts → AreLinked ts → AreLone b ts → AreWhole ts k n → ShowMembers b ts k n → k < n → AtName b ts k n
+pub at_name : (b : List ℕ) (ts : List Token) (k n : ℕ) → AreNested ts → AreLinked ts → AreLone b ts → AreWhole ts k n
+    → ShowMembers b ts k n → k < n → AtName b ts k n
 at_name b ts k n nested linked lone w named l =
     let whole = w.0 in
     let found = below b ts k (omega arith) in
@@ -290,11 +337,14 @@ at_name b ts k n nested linked lone w named l =
     let r = link_of t in
     let s = walk_on b ts k n r t nested h (linked k t h) (w.1 k t (omega arith) l h) in
     let m = named _ s in
-    let c = kind_string (byte b t.start) (name_node b (kind_by (byte b t.start)) t.start t.stop _ (sym (ap is_name found.2) ∙ name_first _ _ m)) in
+    let c = kind_string (byte b t.start)
+        (name_node b (kind_by (byte b t.start)) t.start t.stop _ (sym (ap is_name found.2) ∙ name_first _ _ m)) in
     let e : r ≡ k + 1 = lone k t h c in
     let shown = subst (λ q. shown_between b ts k n ≡ tree_at b (spans_of ts) k ∷ shown_between b ts q n) e s in
     record {
-      value = elim (cases_lt (k + 1) n) [ inl o ↦ o | inr g ↦ absurd (lone_name (tree_at b (spans_of ts) k) (shown_between b ts (k + 1) n) (named _ shown) (shown_none b ts (k + 1) n g)) ];
+      value = elim (cases_lt (k + 1) n) [ inl o ↦ o | inr g ↦
+          absurd (lone_name (tree_at b (spans_of ts) k) (shown_between b ts (k + 1) n) (named _ shown)
+              (shown_none b ts (k + 1) n g)) ];
       shown = shown;
     }
 
@@ -303,7 +353,8 @@ abbrev pub LinksTo : List Token → ℕ → ℕ → Type 0
 LinksTo ts k r = (t : Token) → slice_get ts k ≡ Some t → r ≡ k + 1 + before t.stop (drop (k + 1) ts)
 
 -- one step of a walk over items
-pub item_on : (b : List ℕ) (ts : List Token) (k n r : ℕ) → AreNested ts → AreLinked ts → AreWhole ts k n → k < n → LinksTo ts k r → shown_between b ts k n ≡ tree_at b (spans_of ts) k ∷ shown_between b ts r n
+pub item_on : (b : List ℕ) (ts : List Token) (k n r : ℕ) → AreNested ts → AreLinked ts → AreWhole ts k n → k < n
+    → LinksTo ts k r → shown_between b ts k n ≡ tree_at b (spans_of ts) k ∷ shown_between b ts r n
 item_on b ts k n r nested linked w l e =
     let whole = w.0 in
     let found = below b ts k (omega arith) in
@@ -315,19 +366,25 @@ item_on b ts k n r nested linked w l e =
 
 -- one step of a walk over names and values
 pub record MemberStep (b : List ℕ) (ts : List Token) (k n r : ℕ) : Type 0 where
-  pub shown : pairs_of (shown_between b ts k n) ≡ (tree_at b (spans_of ts) k, tree_at b (spans_of ts) (k + 1)) ∷ pairs_of (shown_between b ts r n)
+  pub shown : pairs_of (shown_between b ts k n) ≡ (tree_at b (spans_of ts) k, tree_at b (spans_of ts) (k + 1))
+      ∷ pairs_of (shown_between b ts r n)
   pub named : ShowMembers b ts r n
 
-pub member_on : (b : List ℕ) (ts : List Token) (k n r : ℕ) → AreNested ts → AreLinked ts → AreLone b ts → AreWhole ts k n → ShowMembers b ts k n → k < n → LinksTo ts (k + 1) r → MemberStep b ts k n r
+pub member_on : (b : List ℕ) (ts : List Token) (k n r : ℕ) → AreNested ts → AreLinked ts → AreLone b ts
+    → AreWhole ts k n → ShowMembers b ts k n → k < n → LinksTo ts (k + 1) r → MemberStep b ts k n r
 member_on b ts k n r nested linked lone w named l e =
     let a = at_name b ts k n nested linked lone w named l in
     let later = whole_later ts k (k + 1) n (omega arith) w in
-    let both = a.shown ∙ ap (λ xs. tree_at b (spans_of ts) k ∷ xs) (item_on b ts (k + 1) n r nested linked later a.value e) in
-    record { shown = ap pairs_of both; named = λ us f. sym (ap are_members f) ∙ members_on (tree_at b (spans_of ts) k) (tree_at b (spans_of ts) (k + 1)) (shown_between b ts r n) (named _ both) }
+    let both = a.shown ∙ ap (λ xs. tree_at b (spans_of ts) k ∷ xs)
+        (item_on b ts (k + 1) n r nested linked later a.value e) in
+    record { shown = ap pairs_of both; named = λ us f. sym (ap are_members f)
+        ∙ members_on (tree_at b (spans_of ts) k) (tree_at b (spans_of ts) (k + 1)) (shown_between b ts r n)
+        (named _ both) }
 
 -- ---- where a walk begins
 
-items-node : (b : List ℕ) (k : Kind) (i j l : ℕ) (ts : List Tree) (shown : ℕ → List Tree) → shown l ≡ ts → shown 0 ≡ [] → shown (items_end k l) ≡ items_of (node b k i j ts)
+items-node : (b : List ℕ) (k : Kind) (i j l : ℕ) (ts : List Tree) (shown : ℕ → List Tree) → shown l ≡ ts → shown 0 ≡ []
+    → shown (items_end k l) ≡ items_of (node b k i j ts)
 items-node b Null i j l ts shown e z = z
 items-node b Truth i j l ts shown e z = z
 items-node b Number i j l ts shown e z = z
@@ -335,7 +392,9 @@ items-node b Text i j l ts shown e z = z
 items-node b Array i j l ts shown e z = e ∙ sym (list-items_from ts)
 items-node b Object i j l ts shown e z = z
 
-members-node : (b : List ℕ) (k : Kind) (i j l : ℕ) (ts : List Tree) (shown : ℕ → List Tree) → (k ≡ Object → are_members ts ≡ true) → shown l ≡ ts → shown 0 ≡ [] → pairs_of (shown (members_end k l)) ≡ members_of (node b k i j ts)
+members-node : (b : List ℕ) (k : Kind) (i j l : ℕ) (ts : List Tree) (shown : ℕ → List Tree)
+    → (k ≡ Object → are_members ts ≡ true) → shown l ≡ ts → shown 0 ≡ []
+    → pairs_of (shown (members_end k l)) ≡ members_of (node b k i j ts)
 members-node b Null i j l ts shown h e z = ap pairs_of z
 members-node b Truth i j l ts shown h e z = ap pairs_of z
 members-node b Number i j l ts shown h e z = ap pairs_of z
@@ -343,7 +402,8 @@ members-node b Text i j l ts shown h e z = ap pairs_of z
 members-node b Array i j l ts shown h e z = ap pairs_of z
 members-node b Object i j l ts shown h e z = ap pairs_of e ∙ list-members_from ts (h refl)
 
-named-node : (k : Kind) (l : ℕ) (ts : List Tree) (shown : ℕ → List Tree) → (k ≡ Object → are_members ts ≡ true) → shown l ≡ ts → shown 0 ≡ [] → are_members (shown (members_end k l)) ≡ true
+named-node : (k : Kind) (l : ℕ) (ts : List Tree) (shown : ℕ → List Tree) → (k ≡ Object → are_members ts ≡ true)
+    → shown l ≡ ts → shown 0 ≡ [] → are_members (shown (members_end k l)) ≡ true
 named-node Null l ts shown h e z = ap are_members z
 named-node Truth l ts shown h e z = ap are_members z
 named-node Number l ts shown h e z = ap are_members z
@@ -372,7 +432,8 @@ pub record ItemsFrom (b : List ℕ) (ts : List Token) (k n : ℕ) : Type 0 where
   pub whole : AreWhole ts (k + 1) n
   pub shown : shown_between b ts (k + 1) n ≡ items_of (tree_at b (spans_of ts) k)
 
-pub items_from_link : (b : List ℕ) (ts : List Token) (k l n : ℕ) (r : Kind) → AreNested ts → AreLinked ts → k < length ts → LinksTo ts k l → r ≡ kind_of (tree_at b (spans_of ts) k) → n ≡ items_end r l → ItemsFrom b ts k n
+pub items_from_link : (b : List ℕ) (ts : List Token) (k l n : ℕ) (r : Kind) → AreNested ts → AreLinked ts
+    → k < length ts → LinksTo ts k l → r ≡ kind_of (tree_at b (spans_of ts) k) → n ≡ items_end r l → ItemsFrom b ts k n
 items_from_link b ts k l n r nested linked inside e f g =
     let found = below b ts k inside in
     let t = found.0 in
@@ -380,10 +441,13 @@ items_from_link b ts k l n r nested linked inside e f g =
     let d = kind_by (byte b t.start) in
     let parts = held t.stop (forest b (drop (k + 1) (spans_of ts))) in
     let kind : r ≡ d = f ∙ ap kind_of w.tree ∙ kind-node b d t.start t.stop parts in
-    let all = items-node b d t.start t.stop l parts (shown_between b ts (k + 1)) (shown_parts b ts k l t nested found.1 (e t found.1)) (shown_none b ts (k + 1) 0 (omega arith)) ∙ sym (ap items_of w.tree) in
+    let all = items-node b d t.start t.stop l parts (shown_between b ts (k + 1))
+        (shown_parts b ts k l t nested found.1 (e t found.1)) (shown_none b ts (k + 1) 0 (omega arith))
+        ∙ sym (ap items_of w.tree) in
     let stop : items_end d l ≡ n = ap (λ x. items_end x l) (sym kind) ∙ sym g in
     record {
-      whole = subst (AreWhole ts (k + 1)) stop (whole_items ts (k + 1) l d (whole_parts ts k l t nested linked found.1 (e t found.1)));
+      whole = subst (AreWhole ts (k + 1)) stop
+          (whole_items ts (k + 1) l d (whole_parts ts k l t nested linked found.1 (e t found.1)));
       shown = ap (shown_between b ts (k + 1)) (sym stop) ∙ all;
     }
 
@@ -393,7 +457,9 @@ pub record MembersFrom (b : List ℕ) (ts : List Token) (k n : ℕ) : Type 0 whe
   pub named : ShowMembers b ts (k + 1) n
   pub shown : pairs_of (shown_between b ts (k + 1) n) ≡ members_of (tree_at b (spans_of ts) k)
 
-pub members_from_link : (b : List ℕ) (ts : List Token) (k l n : ℕ) (r : Kind) → AreNested ts → AreLinked ts → AreNamed b ts → k < length ts → LinksTo ts k l → r ≡ kind_of (tree_at b (spans_of ts) k) → n ≡ members_end r l → MembersFrom b ts k n
+pub members_from_link : (b : List ℕ) (ts : List Token) (k l n : ℕ) (r : Kind) → AreNested ts → AreLinked ts
+    → AreNamed b ts → k < length ts → LinksTo ts k l → r ≡ kind_of (tree_at b (spans_of ts) k) → n ≡ members_end r l
+    → MembersFrom b ts k n
 members_from_link b ts k l n r nested linked named inside e f g =
     let found = below b ts k inside in
     let t = found.0 in
@@ -404,11 +470,14 @@ members_from_link b ts k l n r nested linked named inside e f g =
     let names : d ≡ Object → are_members parts ≡ true = λ o. named k t found.1 (kind_object (byte b t.start) o) in
     let first = shown_parts b ts k l t nested found.1 (e t found.1) in
     let none = shown_none b ts (k + 1) 0 (omega arith) in
-    let all = members-node b d t.start t.stop l parts (shown_between b ts (k + 1)) names first none ∙ sym (ap members_of w.tree) in
+    let all = members-node b d t.start t.stop l parts (shown_between b ts (k + 1)) names first none
+        ∙ sym (ap members_of w.tree) in
     let stop : members_end d l ≡ n = ap (λ x. members_end x l) (sym kind) ∙ sym g in
     record {
-      whole = subst (AreWhole ts (k + 1)) stop (whole_members ts (k + 1) l d (whole_parts ts k l t nested linked found.1 (e t found.1)));
-      named = λ us q. sym (ap are_members q) ∙ ap (λ m. are_members (shown_between b ts (k + 1) m)) (sym stop) ∙ named-node d l parts (shown_between b ts (k + 1)) names first none;
+      whole = subst (AreWhole ts (k + 1)) stop
+          (whole_members ts (k + 1) l d (whole_parts ts k l t nested linked found.1 (e t found.1)));
+      named = λ us q. sym (ap are_members q) ∙ ap (λ m. are_members (shown_between b ts (k + 1) m)) (sym stop)
+          ∙ named-node d l parts (shown_between b ts (k + 1)) names first none;
       shown = ap (λ m. pairs_of (shown_between b ts (k + 1) m)) (sym stop) ∙ all;
     }
 
@@ -416,7 +485,8 @@ members_from_link b ts k l n r nested linked named inside e f g =
 
 pub few_trees : (b : List ℕ) (ts : List Token) (k n : ℕ) → length (shown_between b ts k n) ≤ length ts
 few_trees b ts k n =
-    let l = length-forest b (slice_range (spans_of ts) k n) in let m = length-slice (spans_of ts) k (n - k) in let s = length-spans_of ts in omega arith
+    let l = length-forest b (slice_range (spans_of ts) k n) in let m = length-slice (spans_of ts) k (n - k) in
+    let s = length-spans_of ts in omega arith
   where
     length-slice : (ss : List Span) (k m : ℕ) → length (take m (drop k ss)) ≤ length ss
     length-slice ss zero zero = omega arith
@@ -431,14 +501,16 @@ few_pairs b ts k n = let l = length-pairs (shown_between b ts k n) in let m = fe
 
 -- ---- a walk that passes over the first trees by how many values and names they are
 
-passed_over : (ts us : List Tree) (t : Tree) (j : ℕ) → us ≡ t ∷ ts → total_size (take (suc j) us) ≡ size t + total_size (take j ts)
+passed_over : (ts us : List Tree) (t : Tree) (j : ℕ) → us ≡ t ∷ ts
+    → total_size (take (suc j) us) ≡ size t + total_size (take j ts)
 passed_over ts us t j e = ap (λ xs. total_size (take (suc j) xs)) e
 
 some_left : (ts : List Tree) (j : ℕ) → suc j ≤ length ts → ts ≡ [] → ⊥
 some_left ts j h e = let n : length ts ≡ 0 = ap length e in absurd (omega arith)
 
 -- a walk from the k-th token on, whose first j trees are m values and names
-pub walk_behind : (b : List ℕ) (ts : List Token) (j k m n : ℕ) → AreNested ts → AreLinked ts → AreSized b ts → AreWhole ts k n → j ≤ length (shown_between b ts k n) → total_size (take j (shown_between b ts k n)) ≡ m
+pub walk_behind : (b : List ℕ) (ts : List Token) (j k m n : ℕ) → AreNested ts → AreLinked ts → AreSized b ts
+    → AreWhole ts k n → j ≤ length (shown_between b ts k n) → total_size (take j (shown_between b ts k n)) ≡ m
     → shown_between b ts (k + m) n ≡ drop j (shown_between b ts k n)
 walk_behind b ts zero k m n nested linked sized w few e = ap (λ i. shown_between b ts i n) (omega arith)
 walk_behind b ts (suc j) k m n nested linked sized w few e =
@@ -451,9 +523,12 @@ walk_behind b ts (suc j) k m n nested linked sized w few e =
           let here = linked k t found.1 in
           let own = sized k t found.1 in
           let step = walk_on b ts k n r t nested found.1 here (w.1 k t (omega arith) l found.1) in
-          let first = passed_over (shown_between b ts r n) (shown_between b ts k n) (tree_at b (spans_of ts) k) j step in
+          let first =
+              passed_over (shown_between b ts r n) (shown_between b ts k n) (tree_at b (spans_of ts) k) j step in
           let count = ap length step in
-          let later = walk_behind b ts j r (total_size (take j (shown_between b ts r n))) n nested linked sized (whole_later ts k r n (omega arith) w) (omega arith) refl in
+          let later =
+              walk_behind b ts j r (total_size (take j (shown_between b ts r n))) n nested linked sized
+                  (whole_later ts k r n (omega arith) w) (omega arith) refl in
           let same : k + m ≡ r + total_size (take j (shown_between b ts r n)) = omega arith in
           ap (λ i. shown_between b ts i n) same ∙ later ∙ sym (ap (drop (suc j)) step)
       | inr g ↦ absurd (some_left (shown_between b ts k n) j few (shown_none b ts k n g))
@@ -461,7 +536,8 @@ walk_behind b ts (suc j) k m n nested linked sized w few e =
 
 -- what a walk shows is no more values and names than tokens
 pub small_trees : (b : List ℕ) (ts : List Token) (k n : ℕ) → total_size (shown_between b ts k n) ≤ n - k
-small_trees b ts k n = let l = forest_small b (slice_range (spans_of ts) k n) in let m = length-range (spans_of ts) k (n - k) in omega arith
+small_trees b ts k n = let l = forest_small b (slice_range (spans_of ts) k n) in
+    let m = length-range (spans_of ts) k (n - k) in omega arith
   where
     length-range : (ss : List Span) (k m : ℕ) → length (take m (drop k ss)) ≤ m
     length-range ss zero zero = omega arith
@@ -487,20 +563,26 @@ link_low ts k l linked h e =
     omega arith
 
 -- the items of a node whose token, at k, links to l
-pub small_items : (b : List ℕ) (ts : List Token) (k l n : ℕ) (r : Kind) → AreLinked ts → k < length ts → LinksTo ts k l → n ≡ items_end r l → total_size (shown_between b ts (k + 1) n) < 2 ^ 31
+pub small_items : (b : List ℕ) (ts : List Token) (k l n : ℕ) (r : Kind) → AreLinked ts → k < length ts → LinksTo ts k l
+    → n ≡ items_end r l → total_size (shown_between b ts (k + 1) n) < 2 ^ 31
 small_items b ts k l n r linked inside e f =
-    let low = link_low ts k l linked inside e in let end = items_end_low r l in let small = small_trees b ts (k + 1) n in omega arith
+    let low = link_low ts k l linked inside e in let end = items_end_low r l in
+    let small = small_trees b ts (k + 1) n in omega arith
 
 -- a walk over them that passes over the first ones
-pub items_behind_link : (b : List ℕ) (ts : List Token) (k l n j m : ℕ) (r : Kind) → AreNested ts → AreLinked ts → AreSized b ts → k < length ts → LinksTo ts k l → r ≡ kind_of (tree_at b (spans_of ts) k) → n ≡ items_end r l
-    → j ≤ length (items_of (tree_at b (spans_of ts) k)) → total_size (take j (items_of (tree_at b (spans_of ts) k))) ≡ m → shown_between b ts (k + 1 + m) n ≡ drop j (items_of (tree_at b (spans_of ts) k))
+pub items_behind_link : (b : List ℕ) (ts : List Token) (k l n j m : ℕ) (r : Kind) → AreNested ts → AreLinked ts
+    → AreSized b ts → k < length ts → LinksTo ts k l → r ≡ kind_of (tree_at b (spans_of ts) k) → n ≡ items_end r l
+    → j ≤ length (items_of (tree_at b (spans_of ts) k)) → total_size (take j (items_of (tree_at b (spans_of ts) k))) ≡ m
+    → shown_between b ts (k + 1 + m) n ≡ drop j (items_of (tree_at b (spans_of ts) k))
 items_behind_link b ts k l n j m r nested linked sized inside e f g few same =
     let w = items_from_link b ts k l n r nested linked inside e f g in
     let count = ap length w.shown in
-    walk_behind b ts j (k + 1) m n nested linked sized w.whole (omega arith) (ap (λ xs. total_size (take j xs)) w.shown ∙ same) ∙ ap (drop j) w.shown
+    walk_behind b ts j (k + 1) m n nested linked sized w.whole (omega arith)
+        (ap (λ xs. total_size (take j xs)) w.shown ∙ same) ∙ ap (drop j) w.shown
 
 -- a token's link, by the size of its tree
-pub linked_size : (b : List ℕ) (ts : List Token) (k l : ℕ) → AreLinked ts → AreSized b ts → k < length ts → LinksTo ts k l → (l ≡ k + size (tree_at b (spans_of ts) k)) × (l < 2 ^ 31)
+pub linked_size : (b : List ℕ) (ts : List Token) (k l : ℕ) → AreLinked ts → AreSized b ts → k < length ts
+    → LinksTo ts k l → (l ≡ k + size (tree_at b (spans_of ts) k)) × (l < 2 ^ 31)
 linked_size b ts k l linked sized inside e =
     let t = below b ts k inside in
     let here = linked k t.0 t.1 in

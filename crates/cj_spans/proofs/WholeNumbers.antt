@@ -24,10 +24,13 @@ not_at : (c n : ℕ) → (c ≡ n → ⊥) → nat_eq c n ≡ false
 not_at c n h = grind (arith, nat_tests)
 
 not_white : (c : ℕ) → 45 ≤ c → is_white_space c ≡ false
-not_white c h = rw (not_at c 32 (λ e. omega arith), not_at c 9 (λ e. omega arith), not_at c 10 (λ e. omega arith), not_at c 13 (λ e. omega arith)) refl
+not_white c h =
+    rw (not_at c 32 (λ e. omega arith), not_at c 9 (λ e. omega arith), not_at c 10 (λ e. omega arith),
+        not_at c 13 (λ e. omega arith)) refl
 
 -- a minus or a digit begins a number where a value may begin
-number_begins : (m : Mode) (c : ℕ) (x : Lex) (ks : List ℕ) (ts : List Token) (i p : ℕ) → BeginsValue m → (45 ≤ c) × (c ≤ 57) → lex_start c ≡ Some x → step c (idle m ks ts i p) ≡ Some (state (in_atom After i x) ks ts (suc i) p)
+number_begins : (m : Mode) (c : ℕ) (x : Lex) (ks : List ℕ) (ts : List Token) (i p : ℕ) → BeginsValue m → (45 ≤ c)
+    × (c ≤ 57) → lex_start c ≡ Some x → step c (idle m ks ts i p) ≡ Some (state (in_atom After i x) ks ts (suc i) p)
 number_begins Ready c x ks ts i p v d h =
     let low = d.0 in let high = d.1 in
     let s = idle Ready ks ts i p in
@@ -52,12 +55,15 @@ ended c (inl e) = subst IsEnd (sym e) comma
 ended c (inr e) = subst IsEnd (sym e) bracket
 
 -- the machine has read a number
-pub number_read : (b : List ℕ) (s : State) (m : Mode) (ks : List ℕ) (ts us : List Token) (i k p : ℕ) → IsNumberUpTo b i k → EndsItem (byte b k) → BeginsValue m → us ≡ ts ++ token_at i k (length ts + 1) ∷ []
+pub number_read : (b : List ℕ) (s : State) (m : Mode) (ks : List ℕ) (ts us : List Token) (i k p : ℕ)
+    → IsNumberUpTo b i k → EndsItem (byte b k) → BeginsValue m → us ≡ ts ++ token_at i k (length ts + 1) ∷ []
     → ComesTo b s (idle m ks ts i p) → ComesTo b s (idle After ks us k p)
 number_read b s m ks ts us i k p n w v q h =
     let below = n.order in let inside = n.within in
-    let r = step_on b s (idle m ks ts i p) (state (in_atom After i n.first) ks ts (suc i) p) h (omega arith) (number_begins m (byte b i) n.first ks ts i p v n.sign n.begins) in
-    settles_both r (ends_ok b i k p n.first n.last Number After ks ts us n.goes (inr (atom_ends n.last (byte b k) Number n.done (ended (byte b k) w))) n.done q)
+    let r = step_on b s (idle m ks ts i p) (state (in_atom After i n.first) ks ts (suc i) p) h (omega arith)
+        (number_begins m (byte b i) n.first ks ts i p v n.sign n.begins) in
+    settles_both r (ends_ok b i k p n.first n.last Number After ks ts us n.goes
+        (inr (atom_ends n.last (byte b k) Number n.done (ended (byte b k) w))) n.done q)
 
 -- ---- what the code's tests say
 
@@ -72,7 +78,8 @@ first_whole : (c : ℕ) → 49 ≤ c → c ≤ 57 → lex_start c ≡ Some Whole
 first_whole c l h = grind (arith, nat_tests)
 
 -- digits alone, of which the first is `0` only if it stands alone
-pub number_is : (b : List ℕ) (i k : ℕ) → (48 ≤ byte b i) × (byte b i ≤ 57) → (byte b i ≡ 48 → k ≡ i + 1) → ((j : ℕ) (x : Lex) → Continues b j x (i + 1) Whole → Continues b j x k Whole) → i + 1 ≤ k → k < length b
+pub number_is : (b : List ℕ) (i k : ℕ) → (48 ≤ byte b i) × (byte b i ≤ 57) → (byte b i ≡ 48 → k ≡ i + 1)
+    → ((j : ℕ) (x : Lex) → Continues b j x (i + 1) Whole → Continues b j x k Whole) → i + 1 ≤ k → k < length b
     → (48 ≤ byte b i) × IsNumberUpTo b i k
 number_is b i k d z same l h = (d.0, choose (split (byte b i)))
   where
@@ -83,23 +90,29 @@ number_is b i k d z same l h = (d.0, choose (split (byte b i)))
     choose (inl q) =
         let f : suc i ≡ k = let g = z q in omega arith in
         let low = d.0 in
-        record { first = Zero; last = Zero; sign = (omega arith, d.1); begins = first_zero (byte b i) q; goes = subst (λ n. Continues b (suc i) Zero n Zero) f still; done = refl; order = omega arith; within = h }
+        record { first = Zero; last = Zero; sign = (omega arith, d.1); begins = first_zero (byte b i) q;
+            goes = subst (λ n. Continues b (suc i) Zero n Zero) f still; done = refl; order = omega arith; within = h }
     choose (inr q) =
         let f : suc i ≡ i + 1 = omega arith in
         let low = d.0 in let high = d.1 in
-        record { first = Whole; last = Whole; sign = (omega arith, high); begins = first_whole (byte b i) (omega arith) high; goes = same (suc i) Whole (subst (λ n. Continues b (suc i) Whole n Whole) f still); done = refl; order = omega arith; within = h }
+        record { first = Whole; last = Whole; sign = (omega arith, high);
+            begins = first_whole (byte b i) (omega arith) high;
+            goes = same (suc i) Whole (subst (λ n. Continues b (suc i) Whole n Whole) f still); done = refl;
+            order = omega arith; within = h }
 
 -- a digit goes on behind a minus as it begins a number
 behind_minus : (c : ℕ) → 48 ≤ c → c ≤ 57 → lex_step Minus c ≡ lex_start c
 behind_minus c l h = grind (arith, nat_tests)
 
 -- one byte more in front
-from_front : {b : List ℕ} {i : ℕ} {x y : Lex} {k : ℕ} {z : Lex} → lex_step x (byte b i) ≡ Some y → Continues b (suc i) y k z → Continues b i x k z
+from_front : {b : List ℕ} {i : ℕ} {x y : Lex} {k : ℕ} {z : Lex} → lex_step x (byte b i) ≡ Some y
+    → Continues b (suc i) y k z → Continues b i x k z
 from_front {b} {i} {x} {y} h still = further i x y still h
 from_front {b} {i} {x} {y} h (further k u v c e) = further k u v (from_front h c) e
 
 -- the same behind a minus
-minus_is : (b : List ℕ) (i k : ℕ) → byte b i ≡ 45 → (48 ≤ byte b (i + 1)) × IsNumberUpTo b (i + 1) k → IsNumberUpTo b i k
+minus_is : (b : List ℕ) (i k : ℕ) → byte b i ≡ 45 → (48 ≤ byte b (i + 1)) × IsNumberUpTo b (i + 1) k
+    → IsNumberUpTo b i k
 minus_is b i k e d =
     let n = d.1 in
     let f : suc i ≡ i + 1 = omega arith in
@@ -116,6 +129,7 @@ minus_is b i k e d =
       within = n.within;
     }
 
-pub behind_minus_stop : (b : List ℕ) (i : ℕ) (r : Option ℕ) → byte b i ≡ 45 → IfSome r (λ k. (48 ≤ byte b (i + 1)) × IsNumberUpTo b (i + 1) k) → IfSome r (λ k. IsNumberUpTo b i k)
+pub behind_minus_stop : (b : List ℕ) (i : ℕ) (r : Option ℕ) → byte b i ≡ 45
+    → IfSome r (λ k. (48 ≤ byte b (i + 1)) × IsNumberUpTo b (i + 1) k) → IfSome r (λ k. IsNumberUpTo b i k)
 behind_minus_stop b i None e h = tt
 behind_minus_stop b i (Some k) e h = minus_is b i k e h

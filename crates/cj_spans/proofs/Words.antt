@@ -13,10 +13,12 @@ use Rattle.cj_spans.proofs.Texts.{plain_code}
 -- ---- the digits by cases
 
 pub digits_few : (w c : ℕ) (cs : List ℕ) → c < 255 → digits w (c ∷ cs) ≡ c * w + digits (w / 256) cs
-digits_few w c cs h = let e : nat_lt c 255 ≡ true = grind (arith, nat_tests) in ap (λ b. cond b (c * w + digits (w / 256) cs) (255 * w)) e
+digits_few w c cs h = let e : nat_lt c 255 ≡ true = grind (arith, nat_tests) in
+    ap (λ b. cond b (c * w + digits (w / 256) cs) (255 * w)) e
 
 pub digits_cut : (w c : ℕ) (cs : List ℕ) → 255 ≤ c → digits w (c ∷ cs) ≡ 255 * w
-digits_cut w c cs h = let e : nat_lt c 255 ≡ false = grind (arith, nat_tests) in ap (λ b. cond b (c * w + digits (w / 256) cs) (255 * w)) e
+digits_cut w c cs h = let e : nat_lt c 255 ≡ false = grind (arith, nat_tests) in
+    ap (λ b. cond b (c * w + digits (w / 256) cs) (255 * w)) e
 
 -- ---- no number is as much as the next digit's weight more
 
@@ -43,14 +45,16 @@ word_fits cs = let h = digits_below (256 ^ 7) cs in omega arith
 
 -- the first code points decide
 first_less : (c d : ℕ) (cs ds : List ℕ) → c < d → compare (c ∷ cs) (d ∷ ds) ≡ Less
-first_less c d cs ds h = let e : nat_lt c d ≡ true = grind (arith, nat_tests) in ap (λ b. ordering_then (cond b Less (cond (nat_eq c d) Equal Greater)) (compare cs ds)) e
+first_less c d cs ds h = let e : nat_lt c d ≡ true = grind (arith, nat_tests) in
+    ap (λ b. ordering_then (cond b Less (cond (nat_eq c d) Equal Greater)) (compare cs ds)) e
 
 -- equal first code points leave the order to what follows
 first_same : (c d : ℕ) (cs ds : List ℕ) → c ≡ d → compare (c ∷ cs) (d ∷ ds) ≡ compare cs ds
 first_same c d cs ds h =
     let e : nat_lt c d ≡ false = grind (arith, nat_tests) in
     let f : nat_eq c d ≡ true = grind (arith, nat_tests) in
-    ap (λ b. ordering_then (cond b Less (cond (nat_eq c d) Equal Greater)) (compare cs ds)) e ∙ ap (λ b. ordering_then (cond b Equal Greater) (compare cs ds)) f
+    ap (λ b. ordering_then (cond b Less (cond (nat_eq c d) Equal Greater)) (compare cs ds)) e
+        ∙ ap (λ b. ordering_then (cond b Equal Greater) (compare cs ds)) f
 
 -- a lesser first code point makes no greater number
 first_no_more : (w c d : ℕ) (cs ds : List ℕ) → d < c → digits w (d ∷ ds) ≤ digits w (c ∷ cs)
@@ -70,7 +74,8 @@ first_no_more w c d cs ds h =
     ]
 
 -- of one first code point it is one that does not end the number
-first_goes_on : (w c : ℕ) (cs ds : List ℕ) → digits w (c ∷ cs) < digits w (c ∷ ds) → digits (w / 256) cs < digits (w / 256) ds
+first_goes_on : (w c : ℕ) (cs ds : List ℕ) → digits w (c ∷ cs) < digits w (c ∷ ds)
+    → digits (w / 256) cs < digits (w / 256) ds
 first_goes_on w c cs ds h =
     elim (cases_lt c 255) [
       | inl l ↦ let e = digits_few w c cs l in let f = digits_few w c ds l in omega arith
@@ -83,7 +88,8 @@ less_by_digits w [] (d ∷ ds) h = refl
 less_by_digits w (c ∷ cs) (d ∷ ds) h =
     elim (cases_order c d) [
       | inl e ↦
-          let g : digits w (c ∷ cs) < digits w (c ∷ ds) = subst (λ x. digits w (c ∷ cs) < digits w (x ∷ ds)) (sym e) h in
+          let g : digits w (c ∷ cs) < digits w (c ∷ ds) =
+              subst (λ x. digits w (c ∷ cs) < digits w (x ∷ ds)) (sym e) h in
           first_same c d cs ds e ∙ less_by_digits (w / 256) cs ds (first_goes_on w c cs ds g)
       | inr (inl l) ↦ first_less c d cs ds l
       | inr (inr l) ↦ let m = first_no_more w c d cs ds l in absurd (omega arith)
@@ -96,7 +102,9 @@ less_by_words (Some s) (Some t) h = less_by_digits (256 ^ 7) s t h
 
 -- ---- a word of plain bytes
 
-plain_digit : (w : ℕ) (bs : List ℕ) (i k : ℕ) → i + 8 ≤ length bs → AreAlike bs i bs i 8 → k < 8 → digits w (code_points_from bs (i + k)) ≡ get_or bs (i + k) 0 * w + digits (w / 256) (code_points_from bs (i + (k + 1)))
+plain_digit : (w : ℕ) (bs : List ℕ) (i k : ℕ) → i + 8 ≤ length bs → AreAlike bs i bs i 8 → k < 8
+    → digits w (code_points_from bs (i + k)) ≡ get_or bs (i + k) 0 * w + digits (w / 256)
+    (code_points_from bs (i + (k + 1)))
 plain_digit w bs i k h a l =
     let b = a k l in
     let low = b.1 in
@@ -106,10 +114,16 @@ plain_digit w bs i k h a l =
     ∙ ap (λ j. get_or bs (i + k) 0 * w + digits (w / 256) (code_points_from bs j)) next
 
 -- it is the sum of their weights
-pub plain_word : (bs : List ℕ) (i : ℕ) → i + 8 ≤ length bs → AreAlike bs i bs i 8 → digits (256 ^ 7) (code_points_from bs i) ≡ from_be_bytes w64 (get_or bs i 0 ∷ get_or bs (i + 1) 0 ∷ get_or bs (i + 2) 0 ∷ get_or bs (i + 3) 0 ∷ get_or bs (i + 4) 0 ∷ get_or bs (i + 5) 0 ∷ get_or bs (i + 6) 0 ∷ get_or bs (i + 7) 0 ∷ [])
+pub plain_word : (bs : List ℕ) (i : ℕ) → i + 8 ≤ length bs → AreAlike bs i bs i 8
+    → digits (256 ^ 7) (code_points_from bs i)
+    ≡ from_be_bytes w64 (get_or bs i 0 ∷ get_or bs (i + 1) 0 ∷ get_or bs (i + 2) 0 ∷ get_or bs (i + 3) 0
+    ∷ get_or bs (i + 4) 0 ∷ get_or bs (i + 5) 0 ∷ get_or bs (i + 6) 0 ∷ get_or bs (i + 7) 0 ∷ [])
 plain_word bs i h a =
     let none : i + 0 ≡ i = omega arith in
-    let start : digits (256 ^ 7) (code_points_from bs i) ≡ get_or bs i 0 * 256 ^ 7 + digits (256 ^ 6) (code_points_from bs (i + 1)) = subst (λ j. digits (256 ^ 7) (code_points_from bs j) ≡ get_or bs j 0 * 256 ^ 7 + digits (256 ^ 6) (code_points_from bs (i + 1))) none (plain_digit (256 ^ 7) bs i 0 h a (omega arith)) in
+    let start : digits (256 ^ 7) (code_points_from bs i) ≡ get_or bs i 0 * 256 ^ 7 + digits (256 ^ 6)
+        (code_points_from bs (i + 1)) =
+        subst (λ j. digits (256 ^ 7) (code_points_from bs j) ≡ get_or bs j 0 * 256 ^ 7 + digits (256 ^ 6)
+            (code_points_from bs (i + 1))) none (plain_digit (256 ^ 7) bs i 0 h a (omega arith)) in
     let e1 = plain_digit (256 ^ 6) bs i 1 h a (omega arith) in
     let e2 = plain_digit (256 ^ 5) bs i 2 h a (omega arith) in
     let e3 = plain_digit (256 ^ 4) bs i 3 h a (omega arith) in

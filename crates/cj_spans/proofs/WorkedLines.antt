@@ -25,7 +25,8 @@ run_next b n t s r h =
     let q : step (byte b t.place) t ≡ Some s = ap (λ k. step (byte b k) t) r.place ∙ h in
     record { reached = on t s r.reached q; place = next_place t s r.reached q ∙ ap suc r.place }
 
-run_last : (b : List ℕ) (n : ℕ) (s : State) (o : Option State) → ((t : State) → o ≡ Some t → Run b n t) → option_and_then (λ t. step (byte b n) t) o ≡ Some s → Run b (suc n) s
+run_last : (b : List ℕ) (n : ℕ) (s : State) (o : Option State) → ((t : State) → o ≡ Some t → Run b n t)
+    → option_and_then (λ t. step (byte b n) t) o ≡ Some s → Run b (suc n) s
 run_last b n s None r h = none_some s h
 run_last b n s (Some t) r h = run_next b n t s (r t refl) h
 
@@ -33,20 +34,26 @@ run : (b : List ℕ) (n : ℕ) (s : State) → after b n ≡ Some s → Run b n 
 run b zero s h = subst (Run b 0) (some_same start s h) (record { reached = here; place = refl })
 run b (suc n) s h = run_last b n s (after b n) (λ t e. run b n t e) h
 
-pub syntax_inside : (b : List ℕ) (n : ℕ) (s : State) → after b n ≡ Some s → n < length b → step (byte b n) s ≡ None → SyntaxAt b n
+pub syntax_inside : (b : List ℕ) (n : ℕ) (s : State) → after b n ≡ Some s → n < length b → step (byte b n) s ≡ None
+    → SyntaxAt b n
 syntax_inside b n s h l stop =
     let r = run b n s h in
-    sticks_syntax b n (record { last = s; reached = r.reached; at = r.place; within = omega arith; stuck = inl (l, stop) })
+    sticks_syntax b n (record { last = s; reached = r.reached; at = r.place; within = omega arith;
+            stuck = inl (l, stop) })
 
-pub syntax_end : (b : List ℕ) (n : ℕ) (s : State) → after b n ≡ Some s → n ≡ length b → ((ts : List Token) (p : ℕ) → settle s ≡ Some (state (between After) [] ts (length b) p) → ⊥) → SyntaxAt b n
+pub syntax_end : (b : List ℕ) (n : ℕ) (s : State) → after b n ≡ Some s → n ≡ length b
+    → ((ts : List Token) (p : ℕ) → settle s ≡ Some (state (between After) [] ts (length b) p) → ⊥) → SyntaxAt b n
 syntax_end b n s h l stop =
     let r = run b n s h in
-    sticks_syntax b n (record { last = s; reached = r.reached; at = r.place; within = omega arith; stuck = inr (l, stop) })
+    sticks_syntax b n (record { last = s; reached = r.reached; at = r.place; within = omega arith;
+            stuck = inr (l, stop) })
 
-pub deep_inside : (b : List ℕ) (n d : ℕ) (s : State) → after b n ≡ Some s → n < length b → s.deepest ≤ d → IsSomeAnd (step (byte b n) s) (λ u. length u.stack ≡ suc d) → DeepAt b d n
+pub deep_inside : (b : List ℕ) (n d : ℕ) (s : State) → after b n ≡ Some s → n < length b → s.deepest ≤ d
+    → IsSomeAnd (step (byte b n) s) (λ u. length u.stack ≡ suc d) → DeepAt b d n
 deep_inside b n d s h l g stop =
     let r = run b n s h in
     sinks_deep b d n (record { last = s; reached = r.reached; at = r.place; within = l; shallow = g; deep = stop })
 
-pub spells_end : (b : List ℕ) (s : State) (us : List Token) (p : ℕ) → after b (length b) ≡ Some s → settle s ≡ Some (state (between After) [] us (length b) p) → Spells b us
+pub spells_end : (b : List ℕ) (s : State) (us : List Token) (p : ℕ) → after b (length b) ≡ Some s
+    → settle s ≡ Some (state (between After) [] us (length b) p) → Spells b us
 spells_end b s us p h e = spells s (inv_reaches b s (run b (length b) s h).reached) us p e

@@ -40,7 +40,8 @@ begun-parts a b w = begun-then a b ∙ ap (λ z. begun (z ++ b)) (none-begun a w
 lines-ended : (a : List ℕ) → whole a ≡ a → lines a ≡ map ended_line (closed a)
 lines-ended a w = let none = none-begun a w in rw (none, append-nil (map ended_line (closed a))) refl
 
-judged-headed : (limits : LimitPair) (h s : List ℕ) → NoLf h → judged limits (headed h s) ≡ ended_line h ∷ judged limits s
+judged-headed : (limits : LimitPair) (h s : List ℕ) → NoLf h
+    → judged limits (headed h s) ≡ ended_line h ∷ judged limits s
 judged-headed limits h s free = rw (closed-ended h s free, begun-ended h s free) refl
 
 judged-parts : (limits : LimitPair) (a b : List ℕ) → whole a ≡ a → judged limits (a ++ b) ≡ lines a ++ judged limits b
@@ -51,22 +52,29 @@ judged-parts limits a b w =
 whole-headed : (h s : List ℕ) → NoLf h → lines (whole (headed h s)) ≡ ended_line h ∷ map ended_line (closed s)
 whole-headed h s free = lines-whole (headed h s) ∙ ap (map ended_line) (closed-ended h s free)
 
-whole-parts : (h a b : List ℕ) → IsCut h a → lines (whole (headed h (a ++ b))) ≡ ended_line h ∷ lines a ++ map ended_line (closed b)
+whole-parts : (h a b : List ℕ) → IsCut h a → lines (whole (headed h (a ++ b))) ≡ ended_line h ∷ lines a
+    ++ map ended_line (closed b)
 whole-parts h a b cut =
     whole-headed h (a ++ b) cut.header
-    ∙ ap (λ z. ended_line h ∷ z) (ap (map ended_line) (closed-parts a b cut.lines) ∙ (map_lines-append (closed a) (closed b) ∙ ap (λ z. z ++ map ended_line (closed b)) (sym (lines-ended a cut.lines))))
+    ∙ ap (λ z. ended_line h ∷ z)
+        (ap (map ended_line) (closed-parts a b cut.lines)
+        ∙ (map_lines-append (closed a) (closed b)
+            ∙ ap (λ z. z ++ map ended_line (closed b)) (sym (lines-ended a cut.lines))))
 
 -- ---- counts
 
 -- some lines, of which the first is a valid header, and the same without a number of them
 module _ (rules : Rules) (l : Line) (valid : verdict rules [] l.content ≡ Valid) (ys : List Line) where
-  features-same : (m : ℕ) → length (filter is_feature (kept_from rules [] (take m (l ∷ ys)))) ≡ length (filter is_feature (later_of (kept_from rules [] (l ∷ take (m - 1) ys))))
+  features-same : (m : ℕ) → length (filter is_feature (kept_from rules [] (take m (l ∷ ys))))
+      ≡ length (filter is_feature (later_of (kept_from rules [] (l ∷ take (m - 1) ys))))
   features-same zero = ap (λ z. length (filter is_feature (later_of z))) (sym (kept-first rules l valid []))
   features-same (suc k) =
       let one : suc k - 1 ≡ k = omega arith in
-      rw one (ap (λ z. length (filter is_feature z)) (kept-first rules l valid (take k ys)) ∙ ap (λ z. length (filter is_feature (later_of z))) (sym (kept-first rules l valid (take k ys))))
+      rw one (ap (λ z. length (filter is_feature z)) (kept-first rules l valid (take k ys))
+          ∙ ap (λ z. length (filter is_feature (later_of z))) (sym (kept-first rules l valid (take k ys))))
 
-  reported-same : (m : ℕ) → length (reported_from rules [] (take m (l ∷ ys))) ≡ length (reported_from rules [] (l ∷ take (m - 1) ys))
+  reported-same : (m : ℕ) → length (reported_from rules [] (take m (l ∷ ys)))
+      ≡ length (reported_from rules [] (l ∷ take (m - 1) ys))
   reported-same zero = ap length (sym (reported-first rules l valid []))
   reported-same (suc k) = let one : suc k - 1 ≡ k = omega arith in rw one refl
 
@@ -74,7 +82,8 @@ module _ (rules : Rules) (l : Line) (valid : verdict rules [] l.content ≡ Vali
   none-same zero h = refusal-first rules l valid []
   none-same (suc k) h = let one : suc k - 1 ≡ k = omega arith in rw one h
 
-module _ (rules : Rules) (h a : List ℕ) (cut : IsCut h a) (done : ending rules (headed h a) ≡ Complete) (b : List ℕ) (n m : ℕ) (all : n ≡ length (good rules (headed h a))) where
+module _ (rules : Rules) (h a : List ℕ) (cut : IsCut h a) (done : ending rules (headed h a) ≡ Complete) (b : List ℕ)
+    (n m : ℕ) (all : n ≡ length (good rules (headed h a))) where
   count : n ≡ length (ended_line h ∷ lines a)
   count = all ∙ ap length (front-good rules h a cut done)
 
@@ -84,35 +93,49 @@ module _ (rules : Rules) (h a : List ℕ) (cut : IsCut h a) (done : ending rules
   taken : take (n + (m - 1)) (lines (headed h (a ++ b))) ≡ ended_line h ∷ lines a ++ take (m - 1) (lines b)
   taken =
       ap (λ z. take (n + (m - 1)) z) (all-lines rules h a cut b)
-      ∙ (ap (λ k. take (k + (m - 1)) (ended_line h ∷ lines a ++ lines b)) count ∙ take-append-add (ended_line h ∷ lines a) (lines b) (m - 1))
+      ∙ (ap (λ k. take (k + (m - 1)) (ended_line h ∷ lines a ++ lines b)) count
+          ∙ take-append-add (ended_line h ∷ lines a) (lines b) (m - 1))
 
   few-joined : m ≤ length (lines (headed h b)) → n + (m - 1) ≤ length (lines (headed h (a ++ b)))
-  few-joined few = omega (arith, few, count, ap length (all-lines rules h a cut b), ap length (back-lines rules h a cut b), length-append (ended_line h ∷ lines a) (lines b))
+  few-joined few =
+      omega (arith, few, count, ap length (all-lines rules h a cut b), ap length (back-lines rules h a cut b),
+          length-append (ended_line h ∷ lines a) (lines b))
 
-  good-so_far : refusal_in rules (take m (lines (headed h b))) ≡ None → refusal_in rules (take (n + (m - 1)) (lines (headed h (a ++ b)))) ≡ None
+  good-so_far : refusal_in rules (take m (lines (headed h b))) ≡ None
+      → refusal_in rules (take (n + (m - 1)) (lines (headed h (a ++ b)))) ≡ None
   good-so_far good =
       let valid = header-valid rules h a cut done in
       let zs = take (m - 1) (lines b) in
-      let later : refusal_in rules (ended_line h ∷ zs) ≡ None = none-same rules (ended_line h) valid (lines b) m (let k = rw (back-lines rules h a cut b) at good in k) in
+      let later : refusal_in rules (ended_line h ∷ zs) ≡ None =
+          none-same rules (ended_line h) valid (lines b) m (let k = rw (back-lines rules h a cut b) at good in k) in
       ap (refusal_in rules) taken
-      ∙ (refusal-joined rules (ended_line h) valid (lines a) (front-none rules h a cut done) zs ∙ ap (option_map (moved_end (length (lines a)))) later)
+      ∙ (refusal-joined rules (ended_line h) valid (lines a) (front-none rules h a cut done) zs
+          ∙ ap (option_map (moved_end (length (lines a)))) later)
 
-  features-joined : (f g : ℕ) → f ≡ length (filter is_feature (kept_first rules n (headed h a))) → g ≡ length (filter is_feature (kept_first rules m (headed h b)))
+  features-joined : (f g : ℕ) → f ≡ length (filter is_feature (kept_first rules n (headed h a)))
+      → g ≡ length (filter is_feature (kept_first rules m (headed h b)))
       → f + g ≡ length (filter is_feature (kept_first rules (n + (m - 1)) (headed h (a ++ b))))
   features-joined f g first second =
       let valid = header-valid rules h a cut done in
       let zs = take (m - 1) (lines b) in
       let front = kept_from rules [] (ended_line h ∷ lines a) in
       let back = later_of (kept_from rules [] (ended_line h ∷ zs)) in
-      let joined : kept_first rules (n + (m - 1)) (headed h (a ++ b)) ≡ front ++ back = ap (λ z. kept_from rules [] z) taken ∙ kept-joined rules (ended_line h) valid (lines a) zs in
-      let of_first : kept_first rules n (headed h a) ≡ front = kept_first-good rules n (headed h a) all ∙ ap (λ z. kept_from rules [] z) (front-good rules h a cut done) in
+      let joined : kept_first rules (n + (m - 1)) (headed h (a ++ b)) ≡ front ++ back =
+          ap (λ z. kept_from rules [] z) taken ∙ kept-joined rules (ended_line h) valid (lines a) zs in
+      let of_first : kept_first rules n (headed h a) ≡ front = kept_first-good rules n (headed h a) all
+          ∙ ap (λ z. kept_from rules [] z) (front-good rules h a cut done) in
       let of_second : g ≡ length (filter is_feature back) =
-      second ∙ (ap (λ z. length (filter is_feature (kept_from rules [] (take m z)))) (back-lines rules h a cut b) ∙ features-same rules (ended_line h) valid (lines b) m) in
-      let sum : length (filter is_feature (front ++ back)) ≡ length (filter is_feature front) + length (filter is_feature back) =
-      ap length (filter-append is_feature front back) ∙ length-append (filter is_feature front) (filter is_feature back) in
-      omega (arith, first, of_second, sum, ap (λ z. length (filter is_feature z)) joined, ap (λ z. length (filter is_feature z)) of_first)
+      second ∙ (ap (λ z. length (filter is_feature (kept_from rules [] (take m z)))) (back-lines rules h a cut b)
+          ∙ features-same rules (ended_line h) valid (lines b) m) in
+      let sum : length (filter is_feature (front ++ back)) ≡ length (filter is_feature front)
+          + length (filter is_feature back) =
+      ap length (filter-append is_feature front back)
+          ∙ length-append (filter is_feature front) (filter is_feature back) in
+      omega (arith, first, of_second, sum, ap (λ z. length (filter is_feature z)) joined,
+          ap (λ z. length (filter is_feature z)) of_first)
 
-  refusals-joined : (f g : ℕ) → f ≡ length (reported_first rules n (headed h a)) → g ≡ length (reported_first rules m (headed h b))
+  refusals-joined : (f g : ℕ) → f ≡ length (reported_first rules n (headed h a))
+      → g ≡ length (reported_first rules m (headed h b))
       → f + g ≡ length (reported_first rules (n + (m - 1)) (headed h (a ++ b)))
   refusals-joined f g first second =
       let valid = header-valid rules h a cut done in
@@ -122,11 +145,16 @@ module _ (rules : Rules) (h a : List ℕ) (cut : IsCut h a) (done : ending rules
       let moved = moved_report (length (lines a)) in
       let joined : reported_first rules (n + (m - 1)) (headed h (a ++ b)) ≡ front ++ map moved back =
       ap (λ z. reported_from rules [] z) taken ∙ reported-joined rules (ended_line h) valid (lines a) zs in
-      let of_first : reported_first rules n (headed h a) ≡ front = reported_first-good rules n (headed h a) all ∙ ap (λ z. reported_from rules [] z) (front-good rules h a cut done) in
-      let of_second : g ≡ length back = second ∙ (ap (λ z. length (reported_from rules [] (take m z))) (back-lines rules h a cut b) ∙ reported-same rules (ended_line h) valid (lines b) m) in
-      omega (arith, first, of_second, length-append front (map moved back), length-map back moved, ap length joined, ap length of_first)
+      let of_first : reported_first rules n (headed h a) ≡ front = reported_first-good rules n (headed h a) all
+          ∙ ap (λ z. reported_from rules [] z) (front-good rules h a cut done) in
+      let of_second : g ≡ length back =
+          second ∙ (ap (λ z. length (reported_from rules [] (take m z))) (back-lines rules h a cut b)
+              ∙ reported-same rules (ended_line h) valid (lines b) m) in
+      omega (arith, first, of_second, length-append front (map moved back), length-map back moved, ap length joined,
+          ap length of_first)
 
-  Counts-joined : (f g r s : ℕ) → Counts rules (headed h a) n f r → Counts rules (headed h b) m g s → Counts rules (headed h (a ++ b)) (n + (m - 1)) (f + g) (r + s)
+  Counts-joined : (f g r s : ℕ) → Counts rules (headed h a) n f r → Counts rules (headed h b) m g s
+      → Counts rules (headed h (a ++ b)) (n + (m - 1)) (f + g) (r + s)
   Counts-joined f g r s first second = record {
     few = few-joined second.few;
     good = good-so_far second.good;
@@ -139,37 +167,49 @@ module _ (rules : Rules) (h a : List ℕ) (cut : IsCut h a) (done : ending rules
   all-counted : m ≡ length (good rules (headed h b)) → n + (m - 1) ≡ length (good rules (headed h (a ++ b)))
   all-counted e = omega (arith, e, all, lines-counted rules h a cut done b, ap length (back-good rules h a cut done b))
 
-  judged-joined : (e : End) → refusal_in rules (judged rules.limits (headed h b)) ≡ Some e → refusal_in rules (judged rules.limits (headed h (a ++ b))) ≡ Some (moved_end (n - 1) e)
+  judged-joined : (e : End) → refusal_in rules (judged rules.limits (headed h b)) ≡ Some e
+      → refusal_in rules (judged rules.limits (headed h (a ++ b))) ≡ Some (moved_end (n - 1) e)
   judged-joined e told =
       let later = judged rules.limits b in
-      let second : refusal_in rules (ended_line h ∷ later) ≡ Some e = ap (refusal_in rules) (sym (judged-headed rules.limits h b cut.header)) ∙ told in
+      let second : refusal_in rules (ended_line h ∷ later) ≡ Some e =
+          ap (refusal_in rules) (sym (judged-headed rules.limits h b cut.header)) ∙ told in
       let stream : judged rules.limits (headed h (a ++ b)) ≡ ended_line h ∷ lines a ++ later =
-      judged-headed rules.limits h (a ++ b) cut.header ∙ ap (λ z. ended_line h ∷ z) (judged-parts rules.limits a b cut.lines) in
+      judged-headed rules.limits h (a ++ b) cut.header
+          ∙ ap (λ z. ended_line h ∷ z) (judged-parts rules.limits a b cut.lines) in
       ap (refusal_in rules) stream
-      ∙ (refusal-joined rules (ended_line h) (header-valid rules h a cut done) (lines a) (front-none rules h a cut done) later
+      ∙ (refusal-joined rules (ended_line h) (header-valid rules h a cut done) (lines a) (front-none rules h a cut done)
+          later
       ∙ (ap (option_map (moved_end (length (lines a)))) second ∙ ap (λ k. Some (moved_end k e)) (sym before)))
 
   whole-joined : (refusal_in rules (lines (whole (headed h b))) ≡ None) × (m ≡ length (lines (whole (headed h b))))
-      → (refusal_in rules (lines (whole (headed h (a ++ b)))) ≡ None) × (n + (m - 1) ≡ length (lines (whole (headed h (a ++ b)))))
+      → (refusal_in rules (lines (whole (headed h (a ++ b)))) ≡ None)
+      × (n + (m - 1) ≡ length (lines (whole (headed h (a ++ b)))))
   whole-joined told =
       let later = map ended_line (closed b) in
-      let second : refusal_in rules (ended_line h ∷ later) ≡ None = ap (refusal_in rules) (sym (whole-headed h b cut.header)) ∙ told.0 in
+      let second : refusal_in rules (ended_line h ∷ later) ≡ None =
+          ap (refusal_in rules) (sym (whole-headed h b cut.header)) ∙ told.0 in
       let stream = whole-parts h a b cut in (
         ap (refusal_in rules) stream
-            ∙ (refusal-joined rules (ended_line h) (header-valid rules h a cut done) (lines a) (front-none rules h a cut done) later ∙ ap (option_map (moved_end (length (lines a)))) second),
-        omega (arith, told.1, count, ap length stream, ap length (whole-headed h b cut.header), length-append (ended_line h ∷ lines a) later),
+            ∙ (refusal-joined rules (ended_line h) (header-valid rules h a cut done) (lines a)
+                (front-none rules h a cut done) later ∙ ap (option_map (moved_end (length (lines a)))) second),
+        omega (arith, told.1, count, ap length stream, ap length (whole-headed h b cut.header),
+            length-append (ended_line h ∷ lines a) later),
       )
 
-  Ends-joined : (at_end : Type 0) (e : End) → Ends rules (headed h b) m at_end e → Ends rules (headed h (a ++ b)) (n + (m - 1)) at_end (moved_end (n - 1) e)
-  Ends-joined at_end Complete told = (ending-parts rules h a cut done b ∙ ap (moved_end (length (lines a))) told.0, all-counted told.1, told.2)
+  Ends-joined : (at_end : Type 0) (e : End) → Ends rules (headed h b) m at_end e
+      → Ends rules (headed h (a ++ b)) (n + (m - 1)) at_end (moved_end (n - 1) e)
+  Ends-joined at_end Complete told =
+      (ending-parts rules h a cut done b ∙ ap (moved_end (length (lines a))) told.0, all-counted told.1, told.2)
   Ends-joined at_end (Refused number place reason) told = (
-    ending-parts rules h a cut done b ∙ (ap (moved_end (length (lines a))) told.0 ∙ ap (λ k. Refused (number + k) place reason) (sym before)),
+    ending-parts rules h a cut done b
+        ∙ (ap (moved_end (length (lines a))) told.0 ∙ ap (λ k. Refused (number + k) place reason) (sym before)),
     all-counted told.1,
     seen told.2,
   )
     where
       seen : at_end ⊎ (refusal_in rules (judged rules.limits (headed h b)) ≡ Some (Refused number place reason))
-          → at_end ⊎ (refusal_in rules (judged rules.limits (headed h (a ++ b))) ≡ Some (Refused (number + (n - 1)) place reason))
+          → at_end ⊎ (refusal_in rules (judged rules.limits (headed h (a ++ b)))
+              ≡ Some (Refused (number + (n - 1)) place reason))
       seen (inl end) = inl end
       seen (inr k) = inr (judged-joined (Refused number place reason) k)
   Ends-joined at_end ReadFault told = whole-joined told
@@ -200,26 +240,34 @@ module _ (limits : LimitPair) (h a b : List ℕ) (cut : IsCut h a) where
   two-below : (x y n : ℕ) → x ≤ n → y ≤ n → max x y ≤ n
   two-below x y n p q = omega (arith, p, q)
 
-  Bounded-joined : (p q : Peaks) → IsBounded limits (headed h a) p → IsBounded limits (headed h b) q → IsBounded limits (headed h (a ++ b)) (greater_peaks p q)
+  Bounded-joined : (p q : Peaks) → IsBounded limits (headed h a) p → IsBounded limits (headed h b) q
+      → IsBounded limits (headed h (a ++ b)) (greater_peaks p q)
   Bounded-joined p q first second =
       let x = Bounded-stays p first in
       record {
-        bytes = two-below p.bytes q.bytes _ x.bytes (subst (λ (n : ℕ). q.bytes ≤ n) (same-bytes b (a ++ b)) second.bytes);
-        tokens = two-below p.tokens q.tokens _ x.tokens (subst (λ (n : ℕ). q.tokens ≤ n) (same-tokens b (a ++ b)) second.tokens);
+        bytes = two-below p.bytes q.bytes _ x.bytes
+            (subst (λ (n : ℕ). q.bytes ≤ n) (same-bytes b (a ++ b)) second.bytes);
+        tokens = two-below p.tokens q.tokens _ x.tokens
+            (subst (λ (n : ℕ). q.tokens ≤ n) (same-tokens b (a ++ b)) second.tokens);
         depth = two-below p.depth q.depth _ first.depth second.depth;
       }
 
   legible-headed : (s : List ℕ) → is_legible limits (headed h s) ≡ list_all (is_readable limits) (contents s)
   legible-headed s = ap (λ z. list_all (is_readable limits) (later_of z)) (contents-headed h s cut.header)
 
-  legible-parts : is_legible limits (headed h (a ++ b)) ≡ true → (is_legible limits (headed h a) ≡ true) × (is_legible limits (headed h b) ≡ true)
+  legible-parts : is_legible limits (headed h (a ++ b)) ≡ true → (is_legible limits (headed h a) ≡ true)
+      × (is_legible limits (headed h b) ≡ true)
   legible-parts h_ab =
       let all : list_all (is_readable limits) (contents a) && list_all (is_readable limits) (contents b) ≡ true =
-      sym (legible-headed (a ++ b) ∙ (ap (list_all (is_readable limits)) (contents-parts a b cut.lines) ∙ list_all-append (is_readable limits) (contents a) (contents b))) ∙ h_ab in
-      let both = and-both (list_all (is_readable limits) (contents a)) (list_all (is_readable limits) (contents b)) all in
+      sym (legible-headed (a ++ b)
+          ∙ (ap (list_all (is_readable limits)) (contents-parts a b cut.lines)
+              ∙ list_all-append (is_readable limits) (contents a) (contents b))) ∙ h_ab in
+      let both = and-both (list_all (is_readable limits) (contents a)) (list_all (is_readable limits) (contents b))
+          all in
       (legible-headed a ∙ both.0, legible-headed b ∙ both.1)
 
-  Exact-joined : (p q : Peaks) → IsExact limits (headed h a) p → IsExact limits (headed h b) q → IsExact limits (headed h (a ++ b)) (greater_peaks p q)
+  Exact-joined : (p q : Peaks) → IsExact limits (headed h a) p → IsExact limits (headed h b) q
+      → IsExact limits (headed h (a ++ b)) (greater_peaks p q)
   Exact-joined p q first second =
       let stream = exact-parts limits h a b cut in
       record {
@@ -231,7 +279,8 @@ module _ (limits : LimitPair) (h a b : List ℕ) (cut : IsCut h a) where
         };
         legible = λ all.
             let both = legible-parts all in
-            ap (λ z. greater_peaks z q) (first.legible both.0) ∙ (ap (λ z. greater_peaks (exact_peaks limits (headed h a)) z) (second.legible both.1) ∙ sym stream);
+            ap (λ z. greater_peaks z q) (first.legible both.0)
+                ∙ (ap (λ z. greater_peaks (exact_peaks limits (headed h a)) z) (second.legible both.1) ∙ sym stream);
       }
 
 -- ---- the account
@@ -242,14 +291,18 @@ run_over rules r outcome = record { rules = rules; read = r; outcome = outcome }
 
 module _ (rules : Rules) (h a b : List ℕ) (cut : IsCut h a) (first second : Outcome) (at_end at_last : Type 0) where
   -- where the first run is complete
-  pub Account-joined : first.ended ≡ Complete → Account (run_over rules (headed h a) first) at_end → Account (run_over rules (headed h b) second) at_last
+  pub Account-joined : first.ended ≡ Complete → Account (run_over rules (headed h a) first) at_end
+      → Account (run_over rules (headed h b) second) at_last
       → Account (run_over rules (headed h (a ++ b)) (both_outcomes first second)) at_last
   Account-joined is x y =
-      let told : Ends rules (headed h a) first.lines at_end Complete = subst (λ (e : End). Ends rules (headed h a) first.lines at_end e) is x.ends in
+      let told : Ends rules (headed h a) first.lines at_end Complete =
+          subst (λ (e : End). Ends rules (headed h a) first.lines at_end e) is x.ends in
       record {
         bounded = Bounded-joined rules.limits h a b cut first.peaks second.peaks x.bounded y.bounded;
-        exact = λ done. Exact-joined rules.limits h a b cut first.peaks second.peaks (x.exact is) (y.exact (was_complete second.ended done));
-        counts = Counts-joined rules h a cut told.0 b first.lines second.lines told.1 first.kept second.kept first.refused second.refused x.counts y.counts;
+        exact = λ done. Exact-joined rules.limits h a b cut first.peaks second.peaks (x.exact is)
+            (y.exact (was_complete second.ended done));
+        counts = Counts-joined rules h a cut told.0 b first.lines second.lines told.1 first.kept second.kept
+            first.refused second.refused x.counts y.counts;
         ends = Ends-joined rules h a cut told.0 b first.lines second.lines told.1 at_last second.ended y.ends;
       }
     where
@@ -262,20 +315,24 @@ module _ (rules : Rules) (h a b : List ℕ) (cut : IsCut h a) (first second : Ou
       was_complete Memory k = cc
 
   -- where it is refused, or failed in writing, or for want of memory
-  refused-is : (o : Option End) (number place : ℕ) (reason : Reason) → unwrap_or o Complete ≡ Refused number place reason → o ≡ Some (Refused number place reason)
+  refused-is : (o : Option End) (number place : ℕ) (reason : Reason)
+      → unwrap_or o Complete ≡ Refused number place reason → o ≡ Some (Refused number place reason)
   refused-is None number place reason k = cc
   refused-is (Some x) number place reason k = ap (λ z. Some z) k
 
-  Ends-stays : (n : ℕ) (e : End) → ¬ (e ≡ Complete) → IsUnread e → Ends rules (headed h a) n at_end e → Ends rules (headed h (a ++ b)) n at_last e
+  Ends-stays : (n : ℕ) (e : End) → ¬ (e ≡ Complete) → IsUnread e → Ends rules (headed h a) n at_end e
+      → Ends rules (headed h (a ++ b)) n at_last e
   Ends-stays n Complete other unread told = absurd (other refl)
   Ends-stays n (Refused number place reason) other unread told =
       let e = Refused number place reason in
       let stays = refused-stays rules h a cut b (λ k. other (sym told.0 ∙ k)) in
       let front : refusal_in rules (ended_line h ∷ lines a) ≡ Some (Refused number place reason) =
-      refused-is (refusal_in rules (ended_line h ∷ lines a)) number place reason (ap (λ z. ending_of rules z) (sym (front-lines rules h a cut)) ∙ told.0) in
+      refused-is (refusal_in rules (ended_line h ∷ lines a)) number place reason
+          (ap (λ z. ending_of rules z) (sym (front-lines rules h a cut)) ∙ told.0) in
       let later = judged rules.limits b in
       let stream : judged rules.limits (headed h (a ++ b)) ≡ ended_line h ∷ lines a ++ later =
-      judged-headed rules.limits h (a ++ b) cut.header ∙ ap (λ z. ended_line h ∷ z) (judged-parts rules.limits a b cut.lines) in (
+      judged-headed rules.limits h (a ++ b) cut.header
+          ∙ ap (λ z. ended_line h ∷ z) (judged-parts rules.limits a b cut.lines) in (
         stays.0 ∙ told.0,
         told.1 ∙ sym (ap length stays.1),
         inr (ap (refusal_in rules) stream ∙ refusal-stays rules [] (ended_line h ∷ lines a) later e front),
@@ -290,7 +347,8 @@ module _ (rules : Rules) (h a b : List ℕ) (cut : IsCut h a) (first second : Ou
 
   Counts-stays : (n f r : ℕ) → Counts rules (headed h a) n f r → Counts rules (headed h (a ++ b)) n f r
   Counts-stays n f r x =
-      let same : take n (lines (headed h (a ++ b))) ≡ take n (lines (headed h a)) = ap (λ z. take n z) stream-lines ∙ take-append-le n (lines (headed h a)) (lines b) x.few in
+      let same : take n (lines (headed h (a ++ b))) ≡ take n (lines (headed h a)) = ap (λ z. take n z) stream-lines
+          ∙ take-append-le n (lines (headed h a)) (lines b) x.few in
       record {
         few = omega (arith, x.few, ap length stream-lines, length-append (lines (headed h a)) (lines b));
         good = ap (refusal_in rules) same ∙ x.good;
@@ -298,7 +356,8 @@ module _ (rules : Rules) (h a b : List ℕ) (cut : IsCut h a) (first second : Ou
         refused = x.refused ∙ ap (λ z. length (reported_from rules [] z)) (sym same);
       }
 
-  pub Account-stays : ¬ (first.ended ≡ Complete) → IsUnread first.ended → Account (run_over rules (headed h a) first) at_end → Account (run_over rules (headed h (a ++ b)) first) at_last
+  pub Account-stays : ¬ (first.ended ≡ Complete) → IsUnread first.ended
+      → Account (run_over rules (headed h a) first) at_end → Account (run_over rules (headed h (a ++ b)) first) at_last
   Account-stays other unread x = record {
     bounded = Bounded-stays rules.limits h a b cut first.peaks x.bounded;
     exact = λ done. absurd (other done);

@@ -55,8 +55,10 @@ digit-not b low h = go (eqb b 32) (eqb b 9) (eqb b 13) refl refl refl h
 
 blank-int : (s t : List ℕ) → IsInt s → AllBlank (s ++ t) → ⊥
 blank-int [] t n h = n
-blank-int (b ∷ s) t (inl n) h = digit-not b (omega (arith, n.0)) (and-both (is_blank_byte b) (list_all is_blank_byte (s ++ t)) h).0
-blank-int (b ∷ s) t (inr n) h = digit-not b (omega (arith, n.0)) (and-both (is_blank_byte b) (list_all is_blank_byte (s ++ t)) h).0
+blank-int (b ∷ s) t (inl n) h =
+    digit-not b (omega (arith, n.0)) (and-both (is_blank_byte b) (list_all is_blank_byte (s ++ t)) h).0
+blank-int (b ∷ s) t (inr n) h =
+    digit-not b (omega (arith, n.0)) (and-both (is_blank_byte b) (list_all is_blank_byte (s ++ t)) h).0
 
 blank-minus : (m s t : List ℕ) → IsMinus m → IsInt s → AllBlank (m ++ (s ++ t)) → ⊥
 blank-minus m s t (inl e) n h = blank-int s t n (let k = rw e at h in k)
@@ -67,13 +69,15 @@ blank-scalar : (k : Kind) (s : List ℕ) → IsScalar k s → AllBlank s → ⊥
 blank-scalar Null s e h = let k = rw e at h in cc
 blank-scalar Truth s (inl e) h = let k = rw e at h in cc
 blank-scalar Truth s (inr e) h = let k = rw e at h in cc
-blank-scalar Number s n h = blank-minus n.minus n.int (n.frac ++ n.exp) n.minus_is n.int_is (let k = rw n.joined at h in k)
+blank-scalar Number s n h =
+    blank-minus n.minus n.int (n.frac ++ n.exp) n.minus_is n.int_is (let k = rw n.joined at h in k)
 blank-scalar Text s e h = let k = rw e.joined at h in cc
 blank-scalar Array s e h = e
 blank-scalar Object s e h = e
 
 blank-value : (b : List ℕ) (i j : ℕ) (t : Tree) → AllBlank b → Value b i j t → ⊥
-blank-value b i j t h (atom k from to a) = blank-scalar k (slice_range b from to) a.spelled (blank-take (to - from) (drop from b) (blank-drop from b h))
+blank-value b i j t h (atom k from to a) =
+    blank-scalar k (slice_range b from to) a.spelled (blank-take (to - from) (drop from b) (blank-drop from b h))
 blank-value b i j t h (empty_array from k e w f) = not-at b from 90 h e refl
 blank-value b i j t h (full_array from k l ts u e w p f) = not-at b from 90 h e refl
 blank-value b i j t h (empty_object from k e w f) = not-at b from 122 h e refl
@@ -88,12 +92,14 @@ blank-judged (broken i s n) h = (refl, refl)
 blank-judged (sunk i s) h = (refl, refl)
 
 -- a blank content has no tree
-pub blank-tree : (limits : LimitPair) (c : List ℕ) → list_all is_blank_byte c ≡ true → (tree_size limits c ≡ 0) × (tree_nest limits c ≡ 0)
+pub blank-tree : (limits : LimitPair) (c : List ℕ) → list_all is_blank_byte c ≡ true → (tree_size limits c ≡ 0)
+    × (tree_nest limits c ≡ 0)
 blank-tree limits c h = go (is_text limits c)
   where
     none : (judged_size (judgement c limits.depth) ≡ 0) × (judged_nest (judgement c limits.depth) ≡ 0)
     none = blank-judged (judgement c limits.depth) h
 
-    go : (x : Bool) → (cond x (judged_size (judgement c limits.depth)) 0 ≡ 0) × (cond x (judged_nest (judgement c limits.depth)) 0 ≡ 0)
+    go : (x : Bool) → (cond x (judged_size (judgement c limits.depth)) 0 ≡ 0)
+        × (cond x (judged_nest (judgement c limits.depth)) 0 ≡ 0)
     go true = none
     go false = (refl, refl)

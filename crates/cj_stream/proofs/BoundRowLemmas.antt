@@ -47,11 +47,13 @@ module _ {b : List ℕ} {d : ℕ} (t : Tree) (json : Json b t) (shallow : nest t
   nested (sunk i s) = absurd (say_same (sunk i s) (spelled t json shallow))
 
 -- of one line, and of two
-module _ (limits : LimitPair) (s a : List ℕ) (n d : ℕ) (first : first_content s ≡ a) (size : tree_size limits a ≡ n) (nest : tree_nest limits a ≡ d) where
+module _ (limits : LimitPair) (s a : List ℕ) (n d : ℕ) (first : first_content s ≡ a) (size : tree_size limits a ≡ n)
+    (nest : tree_nest limits a ≡ d) where
   one-line : contents s ≡ a ∷ [] → exact_peaks limits s ≡ held (length a + 0) (n + 0) (max d 0)
   one-line all = rw (all, first, size, nest) refl
 
-  two-lines : (b : List ℕ) (m e : ℕ) → contents s ≡ a ∷ b ∷ [] → tree_size limits b ≡ m → tree_nest limits b ≡ e → exact_peaks limits s ≡ held (length a + max (min (length b) limits.line) 0) (n + max m 0) (max d (max e 0))
+  two-lines : (b : List ℕ) (m e : ℕ) → contents s ≡ a ∷ b ∷ [] → tree_size limits b ≡ m → tree_nest limits b ≡ e
+      → exact_peaks limits s ≡ held (length a + max (min (length b) limits.line) 0) (n + max m 0) (max d (max e 0))
   two-lines b m e all more deep = rw (all, first, size, nest, more, deep) refl
 
 is_header : is_utf8 small_header ≡ true
@@ -75,5 +77,6 @@ feature-nest = rw is_feature (nested plain_feature.tree feature_json (lit≤ tt)
 pub exact : ExactRow
 exact = (
   one-line usual small_header small_header 21 3 refl header-size header-nest refl,
-  two-lines usual (small_header ++ 10 ∷ (small_feature ++ 10 ∷ [])) small_header 21 3 refl header-size header-nest small_feature 13 3 refl feature-size feature-nest,
+  two-lines usual (small_header ++ 10 ∷ (small_feature ++ 10 ∷ [])) small_header 21 3 refl header-size header-nest
+      small_feature 13 3 refl feature-size feature-nest,
 )

@@ -28,12 +28,14 @@ use borrow.Author.Differences.{up, down, product_is}
 product_rises : (s : ℕ) (v w : ℤ) → v ≤ℤ w → (v *ℤ pos s) ≤ℤ (w *ℤ pos s)
 product_rises s v w h =
     let below : up v + down w ≤ up w + down v = omega (arith, ints) in
-    omega (arith, ints, product_is v (pos s), product_is w (pos s), mul-le-mul_right {m = up v + down w} {n = up w + down v} s below)
+    omega (arith, ints, product_is v (pos s), product_is w (pos s),
+        mul-le-mul_right {m = up v + down w} {n = up w + down v} s below)
 
 product_falls : (s : ℕ) (v w : ℤ) → v ≤ℤ w → (w *ℤ negsuc s) ≤ℤ (v *ℤ negsuc s)
 product_falls s v w h =
     let below : up v + down w ≤ up w + down v = omega (arith, ints) in
-    omega (arith, ints, product_is v (negsuc s), product_is w (negsuc s), mul-le-mul_right {m = up v + down w} {n = up w + down v} (suc s) below)
+    omega (arith, ints, product_is v (negsuc s), product_is w (negsuc s),
+        mul-le-mul_right {m = up v + down w} {n = up w + down v} (suc s) below)
 
 image_rises : (m : AffineMap) (s : ℕ) (v w : ℤ) → m.scale ≡ pos s → v ≤ℤ w → image m v ≤ℤ image m w
 image_rises m s v w e h =
@@ -88,11 +90,13 @@ module _ (test : ℤ → Bool) where
 
   least_tells : Falls test → (x : ℤ) (xs : List ℤ) → test (fold int_min x xs) ≡ list_any test (x ∷ xs)
   least_tells falls x [] = sym (or_false (test x))
-  least_tells falls x (y ∷ ys) = least_tells falls (int_min x y) ys ∙ ap (λ b. b || list_any test ys) (less_of_two falls x y) ∙ or_assoc (test x) (test y) (list_any test ys)
+  least_tells falls x (y ∷ ys) = least_tells falls (int_min x y) ys
+      ∙ ap (λ b. b || list_any test ys) (less_of_two falls x y) ∙ or_assoc (test x) (test y) (list_any test ys)
 
   greatest_tells : Rises test → (x : ℤ) (xs : List ℤ) → test (fold int_max x xs) ≡ list_any test (x ∷ xs)
   greatest_tells rises x [] = sym (or_false (test x))
-  greatest_tells rises x (y ∷ ys) = greatest_tells rises (int_max x y) ys ∙ ap (λ b. b || list_any test ys) (greater_of_two rises x y) ∙ or_assoc (test x) (test y) (list_any test ys)
+  greatest_tells rises x (y ∷ ys) = greatest_tells rises (int_max x y) ys
+      ∙ ap (λ b. b || list_any test ys) (greater_of_two rises x y) ∙ or_assoc (test x) (test y) (list_any test ys)
 
   in_order : (x : ℤ) (xs : List ℤ) → fold int_min x xs ≤ℤ fold int_max x xs
   in_order x xs =
@@ -100,7 +104,8 @@ module _ (test : ℤ → Bool) where
       let high = (fold-int_max_bounds x xs _ refl).0 in
       omega (arith, ints, low, high)
 
-  ends_tell : (Falls test ⊎ Rises test) → (x : ℤ) (xs : List ℤ) → (test (fold int_min x xs) || test (fold int_max x xs)) ≡ list_any test (x ∷ xs)
+  ends_tell : (Falls test ⊎ Rises test) → (x : ℤ) (xs : List ℤ) → (test (fold int_min x xs) || test (fold int_max x xs))
+      ≡ list_any test (x ∷ xs)
   ends_tell (inl falls) x xs = or_left _ _ (falls _ _ (in_order x xs)) ∙ least_tells falls x xs
   ends_tell (inr rises) x xs = or_right _ _ (rises _ _ (in_order x xs)) ∙ greatest_tells rises x xs
 
@@ -120,20 +125,26 @@ one_way_above m end = by_sign m.scale refl
     by_sign (pos s) e = inr (λ v w h passes. let image_is = image_rises m s v w e h in grind (arith, ints))
     by_sign (negsuc s) e = inl (λ v w h passes. let image_is = image_falls m s v w e h in grind (arith, ints))
 
-pub at_most-ends : (m : AffineMap) (end x : ℤ) (xs : List ℤ) → (int_le (image m (fold int_min x xs)) end || int_le (image m (fold int_max x xs)) end) ≡ list_any (λ v. int_le (image m v) end) (x ∷ xs)
+pub at_most-ends : (m : AffineMap) (end x : ℤ) (xs : List ℤ)
+    → (int_le (image m (fold int_min x xs)) end || int_le (image m (fold int_max x xs)) end)
+    ≡ list_any (λ v. int_le (image m v) end) (x ∷ xs)
 at_most-ends m end x xs = ends_tell (λ v. int_le (image m v) end) (one_way_below m end) x xs
 
-pub at_least-ends : (m : AffineMap) (end x : ℤ) (xs : List ℤ) → (int_le end (image m (fold int_min x xs)) || int_le end (image m (fold int_max x xs))) ≡ list_any (λ v. int_le end (image m v)) (x ∷ xs)
+pub at_least-ends : (m : AffineMap) (end x : ℤ) (xs : List ℤ)
+    → (int_le end (image m (fold int_min x xs)) || int_le end (image m (fold int_max x xs)))
+    ≡ list_any (λ v. int_le end (image m v)) (x ∷ xs)
 at_least-ends m end x xs = ends_tell (λ v. int_le end (image m v)) (one_way_above m end) x xs
 
 -- of any numbers that have a range
-pub at_most-range : (m : AffineMap) (end : ℤ) (r : Range) (ns : List ℤ) → range_of ns ≡ Some r → (int_le (image m r.least) end || int_le (image m r.greatest) end) ≡ list_any (λ n. int_le (image m n) end) ns
+pub at_most-range : (m : AffineMap) (end : ℤ) (r : Range) (ns : List ℤ) → range_of ns ≡ Some r
+    → (int_le (image m r.least) end || int_le (image m r.greatest) end) ≡ list_any (λ n. int_le (image m n) end) ns
 at_most-range m end r [] e = absurd (cc e)
 at_most-range m end r (n ∷ ns) e =
     let same : widened (alone n) ns ≡ r = cc e in
     rw (← same) (at_most-ends m end n ns)
 
-pub at_least-range : (m : AffineMap) (end : ℤ) (r : Range) (ns : List ℤ) → range_of ns ≡ Some r → (int_le end (image m r.least) || int_le end (image m r.greatest)) ≡ list_any (λ n. int_le end (image m n)) ns
+pub at_least-range : (m : AffineMap) (end : ℤ) (r : Range) (ns : List ℤ) → range_of ns ≡ Some r
+    → (int_le end (image m r.least) || int_le end (image m r.greatest)) ≡ list_any (λ n. int_le end (image m n)) ns
 at_least-range m end r [] e = absurd (cc e)
 at_least-range m end r (n ∷ ns) e =
     let same : widened (alone n) ns ≡ r = cc e in
@@ -145,7 +156,8 @@ or_more true true c d h = refl
 or_more true false c d h = absurd (cc h)
 or_more false b c d h = absurd (cc h)
 
-pub first_meets : (m : AffineMap) (low high n : ℤ) (ns : List ℤ) → meets m low high (n ∷ []) ≡ true → meets m low high (n ∷ ns) ≡ true
+pub first_meets : (m : AffineMap) (low high n : ℤ) (ns : List ℤ) → meets m low high (n ∷ []) ≡ true
+    → meets m low high (n ∷ ns) ≡ true
 first_meets m low high n ns h = or_more (int_le (image m n) high) (int_le low (image m n)) _ _ h
 
 -- ---- how the code asks whether a number is at most, or at least, at an end
@@ -153,7 +165,8 @@ first_meets m low high n ns h = or_more (int_le (image m n) high) (int_le low (i
 le_told : (x y : ℤ) → is_le (int_cmp x y) ≡ int_le x y
 le_told x y = by_order (int_lt x y) (int_lt y x) refl refl
   where
-    by_order : (less more : Bool) → int_lt x y ≡ less → int_lt y x ≡ more → is_le (cond less Less (cond more Greater Equal)) ≡ int_le x y
+    by_order : (less more : Bool) → int_lt x y ≡ less → int_lt y x ≡ more
+        → is_le (cond less Less (cond more Greater Equal)) ≡ int_le x y
     by_order true more e f = grind (arith, ints)
     by_order false true e f = grind (arith, ints)
     by_order false false e f = grind (arith, ints)
@@ -161,18 +174,21 @@ le_told x y = by_order (int_lt x y) (int_lt y x) refl refl
 ge_told : (x y : ℤ) → is_ge (int_cmp x y) ≡ int_le y x
 ge_told x y = by_order (int_lt x y) (int_lt y x) refl refl
   where
-    by_order : (less more : Bool) → int_lt x y ≡ less → int_lt y x ≡ more → is_ge (cond less Less (cond more Greater Equal)) ≡ int_le y x
+    by_order : (less more : Bool) → int_lt x y ≡ less → int_lt y x ≡ more
+        → is_ge (cond less Less (cond more Greater Equal)) ≡ int_le y x
     by_order true more e f = grind (arith, ints)
     by_order false true e f = grind (arith, ints)
     by_order false false e f = grind (arith, ints)
 
 -- of a number that went to bits and back
-pub at_most_told : (m : AffineMap) (v end : ℤ) (r : Ordering) → unsigned_abs v < 10 ^ 18 → r ≡ int_cmp (image m (cast_signed w64 (cast_unsigned w64 v))) end → is_le r ≡ int_le (image m v) end
+pub at_most_told : (m : AffineMap) (v end : ℤ) (r : Ordering) → unsigned_abs v < 10 ^ 18
+    → r ≡ int_cmp (image m (cast_signed w64 (cast_unsigned w64 v))) end → is_le r ≡ int_le (image m v) end
 at_most_told m v end r small e =
     let same = to_z-of_z w64 v (fits_signed_from_abs w64 v (omega arith)) in
     ap is_le (e ∙ ap (λ x. int_cmp (image m x) end) same) ∙ le_told (image m v) end
 
-pub at_least_told : (m : AffineMap) (v end : ℤ) (r : Ordering) → unsigned_abs v < 10 ^ 18 → r ≡ int_cmp (image m (cast_signed w64 (cast_unsigned w64 v))) end → is_ge r ≡ int_le end (image m v)
+pub at_least_told : (m : AffineMap) (v end : ℤ) (r : Ordering) → unsigned_abs v < 10 ^ 18
+    → r ≡ int_cmp (image m (cast_signed w64 (cast_unsigned w64 v))) end → is_ge r ≡ int_le end (image m v)
 at_least_told m v end r small e =
     let same = to_z-of_z w64 v (fits_signed_from_abs w64 v (omega arith)) in
     ap is_ge (e ∙ ap (λ x. int_cmp (image m x) end) same) ∙ ge_told (image m v) end
@@ -189,7 +205,8 @@ whole_small (out_of_range n) = omega arith
 whole_small (not_whole v value range n) = omega arith
 whole_small (whole v w value range is) = is.small
 
-of_small : (number : Bool) (t : Tree) → unsigned_abs (unwrap_or (cond number (whole_by (class (spelling t))) None) (pos 0)) < 10 ^ 18
+of_small : (number : Bool) (t : Tree)
+    → unsigned_abs (unwrap_or (cond number (whole_by (class (spelling t))) None) (pos 0)) < 10 ^ 18
 of_small true t = whole_small (class (spelling t))
 of_small false t = omega arith
 
@@ -198,32 +215,39 @@ number_small axis [] = omega arith
 number_small zero (t ∷ ts) = of_small (is_number (kind_of t)) t
 number_small (suc axis) (t ∷ ts) = number_small axis ts
 
-least_small : (axis : ℕ) (n : ℤ) (ts : List Tree) → unsigned_abs n < 10 ^ 18 → unsigned_abs (fold int_min n (map (number_on axis) (map vertex_of ts))) < 10 ^ 18
+least_small : (axis : ℕ) (n : ℤ) (ts : List Tree) → unsigned_abs n < 10 ^ 18
+    → unsigned_abs (fold int_min n (map (number_on axis) (map vertex_of ts))) < 10 ^ 18
 least_small axis n [] h = h
-least_small axis n (t ∷ ts) h = least_small axis (int_min n (number_on axis (vertex_of t))) ts (of_two (int_lt (number_on axis (vertex_of t)) n))
+least_small axis n (t ∷ ts) h =
+    least_small axis (int_min n (number_on axis (vertex_of t))) ts (of_two (int_lt (number_on axis (vertex_of t)) n))
   where
     of_two : (less : Bool) → unsigned_abs (cond less (number_on axis (vertex_of t)) n) < 10 ^ 18
     of_two true = number_small axis (items_of t)
     of_two false = h
 
-greatest_small : (axis : ℕ) (n : ℤ) (ts : List Tree) → unsigned_abs n < 10 ^ 18 → unsigned_abs (fold int_max n (map (number_on axis) (map vertex_of ts))) < 10 ^ 18
+greatest_small : (axis : ℕ) (n : ℤ) (ts : List Tree) → unsigned_abs n < 10 ^ 18
+    → unsigned_abs (fold int_max n (map (number_on axis) (map vertex_of ts))) < 10 ^ 18
 greatest_small axis n [] h = h
-greatest_small axis n (t ∷ ts) h = greatest_small axis (int_max n (number_on axis (vertex_of t))) ts (of_two (int_lt (number_on axis (vertex_of t)) n))
+greatest_small axis n (t ∷ ts) h =
+    greatest_small axis (int_max n (number_on axis (vertex_of t))) ts (of_two (int_lt (number_on axis (vertex_of t)) n))
   where
     of_two : (less : Bool) → unsigned_abs (cond less n (number_on axis (vertex_of t))) < 10 ^ 18
     of_two true = h
     of_two false = number_small axis (items_of t)
 
 -- so their least and greatest are small
-pub range_small : (axis : ℕ) (r : Range) (ts : List Tree) → range_of (map (number_on axis) (map vertex_of ts)) ≡ Some r → IsSmall r
+pub range_small : (axis : ℕ) (r : Range) (ts : List Tree) → range_of (map (number_on axis) (map vertex_of ts)) ≡ Some r
+    → IsSmall r
 range_small axis r [] e = absurd (cc e)
 range_small axis r (t ∷ ts) e =
     let first = number_on axis (vertex_of t) in
     let same : widened (alone first) (map (number_on axis) (map vertex_of ts)) ≡ r = cc e in
-    rw (← same) (record { least = least_small axis first ts (number_small axis (items_of t)); greatest = greatest_small axis first ts (number_small axis (items_of t)) })
+    rw (← same) (record { least = least_small axis first ts (number_small axis (items_of t));
+            greatest = greatest_small axis first ts (number_small axis (items_of t)) })
 
 -- and so is the first of them alone
-pub first_small : (axis : ℕ) (n : ℤ) (ns : List ℤ) (ts : List Tree) → map (number_on axis) (map vertex_of ts) ≡ n ∷ ns → IsSmall (alone n)
+pub first_small : (axis : ℕ) (n : ℤ) (ns : List ℤ) (ts : List Tree) → map (number_on axis) (map vertex_of ts) ≡ n ∷ ns
+    → IsSmall (alone n)
 first_small axis n ns [] e = absurd (cc e)
 first_small axis n ns (t ∷ ts) e =
     let same : number_on axis (vertex_of t) ≡ n = cc e in
@@ -231,7 +255,8 @@ first_small axis n ns (t ∷ ts) e =
 
 -- ---- the box, by the numbers on each axis
 
-any-numbers : (test : ℤ → Bool) (axis : ℕ) (vs : List (List (Option ℤ))) → list_any (λ v. test (number_on axis v)) vs ≡ list_any test (map (number_on axis) vs)
+any-numbers : (test : ℤ → Bool) (axis : ℕ) (vs : List (List (Option ℤ)))
+    → list_any (λ v. test (number_on axis v)) vs ≡ list_any test (map (number_on axis) vs)
 any-numbers test axis [] = refl
 any-numbers test axis (v ∷ vs) = ap (λ b. test (number_on axis v) || b) (any-numbers test axis vs)
 
@@ -240,7 +265,9 @@ and_assoc true true c d = refl
 and_assoc true false c d = refl
 and_assoc false b c d = refl
 
-pub box-numbers : (box : Box) (header t : Tree) → is_in box header t ≡ (meets (axis_map header 0) box.min_x box.max_x (map (number_on 0) (vertices_of t)) && meets (axis_map header 1) box.min_y box.max_y (map (number_on 1) (vertices_of t)))
+pub box-numbers : (box : Box) (header t : Tree)
+    → is_in box header t ≡ (meets (axis_map header 0) box.min_x box.max_x (map (number_on 0) (vertices_of t))
+    && meets (axis_map header 1) box.min_y box.max_y (map (number_on 1) (vertices_of t)))
 box-numbers box header t =
     let x = axis_map header 0 in
     let y = axis_map header 1 in
@@ -249,10 +276,12 @@ box-numbers box header t =
     let east = any-numbers (λ n. int_le box.min_x (image x n)) 0 vs in
     let south = any-numbers (λ n. int_le (image y n) box.max_y) 1 vs in
     let north = any-numbers (λ n. int_le box.min_y (image y n)) 1 vs in
-    and_assoc (some_at_most header t 0 box.max_x) (some_at_least header t 0 box.min_x) (some_at_most header t 1 box.max_y) (some_at_least header t 1 box.min_y) ∙ cc
+    and_assoc (some_at_most header t 0 box.max_x) (some_at_least header t 0 box.min_x)
+        (some_at_most header t 1 box.max_y) (some_at_least header t 1 box.min_y) ∙ cc
 
 -- the maps that a header shows with a box are those of its tree
-pub maps_shown : (with_box : Bool) (header : Tree) (shown : Option (List AffineMap)) (maps : List AffineMap) → with_box ≡ true → shown ≡ maps_if with_box header → shown ≡ Some maps → maps ≡ maps_of header
+pub maps_shown : (with_box : Bool) (header : Tree) (shown : Option (List AffineMap)) (maps : List AffineMap)
+    → with_box ≡ true → shown ≡ maps_if with_box header → shown ≡ Some maps → maps ≡ maps_of header
 maps_shown true header shown maps is e f = same maps (maps_of header) (sym f ∙ e)
   where
     same : (a b : List AffineMap) → Some a ≡ Some b → a ≡ b
@@ -260,10 +289,14 @@ maps_shown true header shown maps is e f = same maps (maps_of header) (sym f ∙
 maps_shown false header shown maps is e f = absurd (cc is)
 
 -- what is told by the map at an index is told by that of the axis
-pub axis_told : (header : Tree) (axis : ℕ) (maps : List AffineMap) (d : AffineMap) (low high : ℤ) (ns : List ℤ) (told : Bool)
-    → maps ≡ maps_of header → axis < length maps → told ≡ meets (get_or maps axis d) low high ns → told ≡ meets (axis_map header axis) low high ns
+pub axis_told : (header : Tree) (axis : ℕ) (maps : List AffineMap) (d : AffineMap) (low high : ℤ) (ns : List ℤ)
+    (told : Bool)
+    → maps ≡ maps_of header → axis < length maps → told ≡ meets (get_or maps axis d) low high ns
+    → told ≡ meets (axis_map header axis) low high ns
 axis_told header axis maps d low high ns told are within tells =
-    let map_is : get_or maps axis d ≡ axis_map header axis = get_or_default maps axis d (record { scale = pos 0; shift = pos 0 }) within ∙ ap (λ ms. get_or ms axis (record { scale = pos 0; shift = pos 0 })) are in
+    let map_is : get_or maps axis d ≡ axis_map header axis =
+        get_or_default maps axis d (record { scale = pos 0; shift = pos 0 }) within
+        ∙ ap (λ ms. get_or ms axis (record { scale = pos 0; shift = pos 0 })) are in
     tells ∙ ap (λ m. meets m low high ns) map_is
 
 -- two tests, of which the first is known

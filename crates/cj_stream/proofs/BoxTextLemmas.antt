@@ -29,7 +29,8 @@ abbrev pub Gives : Split ℕ → List (List ℕ) → Type 0
 Gives s fs = AlwaysYields steps (λ x. x.now) s fs
 
 module _ (s t : Split ℕ) where
-  next-some : (fs : List (List ℕ)) (x : Bor (List ℕ)) → Gives s fs → steps s (Some x) t → (rest : List (List ℕ)) × (fs ≡ x.now ∷ rest) × Gives t rest
+  next-some : (fs : List (List ℕ)) (x : Bor (List ℕ)) → Gives s fs → steps s (Some x) t → (rest : List (List ℕ))
+      × (fs ≡ x.now ∷ rest) × Gives t rest
   next-some [] x h k = absurd (h x t k)
   next-some (y ∷ ys) x h k = (ys, ap (λ z. z ∷ ys) (sym (h.1 x t k).0), (h.1 x t k).1)
 
@@ -53,7 +54,8 @@ module _ (fs front : List (List ℕ)) (s t : Split ℕ) (came : Came fs front s)
 -- ---- the number of a field
 
 module _ (s : List ℕ) where
-  pub in-class : (u : Number) → IsValue s u → IsInRange u → (c : Class s) → (is_number_by c ≡ true) × (value_by c ≡ Some u)
+  pub in-class : (u : Number) → IsValue s u → IsInRange u → (c : Class s) → (is_number_by c ≡ true)
+      × (value_by c ≡ Some u)
   in-class u is range (no_number n) = absurd (n (value_is_number s u is))
   in-class u is range (out_of_range n) = absurd (not_both s (u, is, range) n)
   in-class u is range (not_whole v value inside n) = (refl, ap Some ((has_one_value s).one v u value is))
@@ -75,11 +77,14 @@ module _ (s : List ℕ) where
   abbrev answer : Result (Option ℤ) QueryFault
   answer = if is_number s then Ok (if is_edge s then Some (edge s) else None) else Err BadBox
 
-  units-answer : (u : Number) → IsNormal u → (r : Option ℤ) → IfSome r (IsFixed u) → (IsSome r ↔ ((n : ℤ) × IsFixed u n)) → r ≡ (if is_fixed u then Some (units_of u) else None)
-  units-answer u normal (Some n) value fixed = rw (test-decides u normal (Some n) fixed) (ap Some (units-only u n (test-decides u normal (Some n) fixed) value))
+  units-answer : (u : Number) → IsNormal u → (r : Option ℤ) → IfSome r (IsFixed u)
+      → (IsSome r ↔ ((n : ℤ) × IsFixed u n)) → r ≡ (if is_fixed u then Some (units_of u) else None)
+  units-answer u normal (Some n) value fixed =
+      rw (test-decides u normal (Some n) fixed) (ap Some (units-only u n (test-decides u normal (Some n) fixed) value))
   units-answer u normal None value fixed = rw (test-decides u normal None fixed) refl
 
-  pub answer-read : (u : Number) → IsValue s u → IsInRange u → (r : Option ℤ) → IfSome r (IsFixed u) → (IsSome r ↔ ((n : ℤ) × IsFixed u n)) → Ok r ≡ answer
+  pub answer-read : (u : Number) → IsValue s u → IsInRange u → (r : Option ℤ) → IfSome r (IsFixed u)
+      → (IsSome r ↔ ((n : ℤ) × IsFixed u n)) → Ok r ≡ answer
   answer-read u is range r value fixed =
       let told = in-class u is range (class s) in
       rw (told.0, told.1) (ap Ok (units-answer u is.normal r value fixed))
@@ -93,7 +98,8 @@ module _ (s : List ℕ) where
   answer-none none = rw (no-class none (class s)) refl
 
   -- what an answer says of the field
-  by-number : (b : Bool) (o e : Option ℤ) → is_number s ≡ b → Ok o ≡ (if b then Ok e else Err BadBox) → (is_number s ≡ true) × (o ≡ e)
+  by-number : (b : Bool) (o e : Option ℤ) → is_number s ≡ b → Ok o ≡ (if b then Ok e else Err BadBox)
+      → (is_number s ≡ true) × (o ≡ e)
   by-number true o e t h = (t, cc h)
   by-number false o e t h = absurd (cc h)
 
@@ -115,17 +121,20 @@ by_edges (Some a) (Some b) (Some c) (Some d) =
 module _ (s a b c d : List ℕ) (four : fields s ≡ a ∷ b ∷ c ∷ d ∷ []) where
   module _ (na : is_number a ≡ true) (nb : is_number b ≡ true) (nc : is_number c ≡ true) (nd : is_number d ≡ true) where
     by-tests : (i j k l : Bool) → is_edge a ≡ i → is_edge b ≡ j → is_edge c ≡ k → is_edge d ≡ l
-        → box_text s ≡ by_edges (if i then Some (edge a) else None) (if j then Some (edge b) else None) (if k then Some (edge c) else None) (if l then Some (edge d) else None)
+        → box_text s ≡ by_edges (if i then Some (edge a) else None) (if j then Some (edge b) else None)
+            (if k then Some (edge c) else None) (if l then Some (edge d) else None)
     by-tests true true true true ea eb ec ed = rw (four, na, nb, nc, nd, ea, eb, ec, ed) refl
     by-tests true true true false ea eb ec ed = rw (four, na, nb, nc, nd, ea, eb, ec, ed) refl
     by-tests true true false l ea eb ec ed = rw (four, na, nb, nc, nd, ea, eb, ec) refl
     by-tests true false k l ea eb ec ed = rw (four, na, nb, nc, nd, ea, eb) refl
     by-tests false j k l ea eb ec ed = rw (four, na, nb, nc, nd, ea) refl
 
-  pub read-edges : (o p q r : Option ℤ) → Ok o ≡ answer a → Ok p ≡ answer b → Ok q ≡ answer c → Ok r ≡ answer d → box_text s ≡ by_edges o p q r
+  pub read-edges : (o p q r : Option ℤ) → Ok o ≡ answer a → Ok p ≡ answer b → Ok q ≡ answer c → Ok r ≡ answer d
+      → box_text s ≡ by_edges o p q r
   read-edges o p q r ho hp hq hr =
       let ta = answered a o ho in
       let tb = answered b p hp in
       let tc = answered c q hq in
       let td = answered d r hr in
-      rw (ta.1, tb.1, tc.1, td.1) (by-tests ta.0 tb.0 tc.0 td.0 (is_edge a) (is_edge b) (is_edge c) (is_edge d) refl refl refl refl)
+      rw (ta.1, tb.1, tc.1, td.1)
+          (by-tests ta.0 tb.0 tc.0 td.0 (is_edge a) (is_edge b) (is_edge c) (is_edge d) refl refl refl refl)

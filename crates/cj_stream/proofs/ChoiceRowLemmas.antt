@@ -56,46 +56,63 @@ module _ (tree exclude : Bool) where
   header_valid : (t : Tree) → verdict_at rules 1 t small_header ≡ Valid
   header_valid t =
       verdict-json rules 1 t small_header (lit≤ tt) header_text refl
-      ∙ (by-tree plain_header header_json (lit≤ tt) rules 1 t (judgement small_header 64) ∙ tree-valid rules 1 t plain_header plain_header-valid refl)
+      ∙ (by-tree plain_header header_json (lit≤ tt) rules 1 t (judgement small_header 64)
+          ∙ tree-valid rules 1 t plain_header plain_header-valid refl)
 
-  module _ (c : List ℕ) (t : Tree) (json : Json c t) (shallow : nest t ≤ 64) (short : length c ≤ 8388608) (is_text : IsUtf8 c) (full : nat_lt 1 2 && list_all is_blank_byte c ≡ false) where
+  module _ (c : List ℕ) (t : Tree) (json : Json c t) (shallow : nest t ≤ 64) (short : length c ≤ 8388608)
+      (is_text : IsUtf8 c) (full : nat_lt 1 2 && list_all is_blank_byte c ≡ false) where
     second : verdict_at rules 2 (tree_of 64 small_header) c ≡ tree_verdict rules 2 plain_header t
-    second = rw header_tree (verdict-json rules 2 plain_header c short is_text full ∙ by-tree t json shallow rules 2 plain_header (judgement c 64))
+    second = rw header_tree (verdict-json rules 2 plain_header c short is_text full
+        ∙ by-tree t json shallow rules 2 plain_header (judgement c 64))
 
     refused : (place : ℕ) → least None (feature plain_header t tree) ≡ Some (found_at place NotReached)
-        → (ending_of rules (ended_line small_header ∷ open_line c ∷ []) ≡ Refused 2 place NotReached) × (written rules (ended_line small_header ∷ open_line c ∷ []) ≡ raw (ended_line small_header) ++ [])
+        → (ending_of rules (ended_line small_header ∷ open_line c ∷ []) ≡ Refused 2 place NotReached)
+        × (written rules (ended_line small_header ∷ open_line c ∷ []) ≡ raw (ended_line small_header) ++ [])
     refused place least_is =
-        second-refused rules place NotReached (ended_line small_header) (header_valid _) refl (open_line c) [] (second ∙ ap (by_least (is_kept_if_valid rules 2 plain_header t)) least_is)
+        second-refused rules place NotReached (ended_line small_header) (header_valid _) refl (open_line c) []
+            (second ∙ ap (by_least (is_kept_if_valid rules 2 plain_header t)) least_is)
 
     kept : feature plain_header t tree ≡ [] → is_kept_if_valid rules 2 plain_header t ≡ true
-        → (ending_of rules (ended_line small_header ∷ open_line c ∷ []) ≡ Complete) × (written rules (ended_line small_header ∷ open_line c ∷ []) ≡ raw (ended_line small_header) ++ (c ++ []))
-    kept valid keep = two-good rules (ended_line small_header) (header_valid _) (open_line c) (second ∙ tree-valid rules 2 plain_header t valid keep)
+        → (ending_of rules (ended_line small_header ∷ open_line c ∷ []) ≡ Complete)
+        × (written rules (ended_line small_header ∷ open_line c ∷ []) ≡ raw (ended_line small_header) ++ (c ++ []))
+    kept valid keep =
+        two-good rules (ended_line small_header) (header_valid _) (open_line c)
+            (second ∙ tree-valid rules 2 plain_header t valid keep)
 
     left_out : feature plain_header t tree ≡ [] → is_kept_if_valid rules 2 plain_header t ≡ false
-        → (ending_of rules (ended_line small_header ∷ open_line c ∷ []) ≡ Complete) × (written rules (ended_line small_header ∷ open_line c ∷ []) ≡ raw (ended_line small_header) ++ [])
+        → (ending_of rules (ended_line small_header ∷ open_line c ∷ []) ≡ Complete)
+        × (written rules (ended_line small_header ∷ open_line c ∷ []) ≡ raw (ended_line small_header) ++ [])
     left_out valid leave =
-        let out : verdict rules (ended_line small_header ∷ []) c ≡ LeftOut = second ∙ tree-unasked rules 2 plain_header t valid leave in
+        let out : verdict rules (ended_line small_header ∷ []) c ≡ LeftOut =
+            second ∙ tree-unasked rules 2 plain_header t valid leave in
         rw (header_valid _, out) (refl, rw (header_valid _, out) refl)
 
 -- ---- rows
 
 pub row_apart : ApartRow
 row_apart = (
-  kept false false part_apart.line part_apart.tree apart_json (lit≤ tt) (lit≤ tt) apart_text refl part_apart-valid (holds-everything plain_header part_apart.tree),
-  refused true false part_apart.line part_apart.tree apart_json (lit≤ tt) (lit≤ tt) apart_text refl 78 part_apart-refused,
-  refused true true part_apart.line part_apart.tree apart_json (lit≤ tt) (lit≤ tt) apart_text refl 78 part_apart-refused,
+  kept false false part_apart.line part_apart.tree apart_json (lit≤ tt) (lit≤ tt) apart_text refl part_apart-valid
+      (holds-everything plain_header part_apart.tree),
+  refused true false part_apart.line part_apart.tree apart_json (lit≤ tt) (lit≤ tt) apart_text refl 78
+      part_apart-refused,
+  refused true true part_apart.line part_apart.tree apart_json (lit≤ tt) (lit≤ tt) apart_text refl 78
+      part_apart-refused,
   refused true false main_part.line main_part.tree main_json (lit≤ tt) (lit≤ tt) main_text refl 98 main_part-refused,
   refused true true main_part.line main_part.tree main_json (lit≤ tt) (lit≤ tt) main_text refl 98 main_part-refused,
 )
 
 pub row_chain : ChainRow
 row_chain = (
-  kept true false chain.line chain.tree chain_json (lit≤ tt) (lit≤ tt) chain_text refl chain-valid (holds-everything plain_header chain.tree),
-  left_out true true chain.line chain.tree chain_json (lit≤ tt) (lit≤ tt) chain_text refl chain-valid (ap not (holds-everything plain_header chain.tree)),
+  kept true false chain.line chain.tree chain_json (lit≤ tt) (lit≤ tt) chain_text refl chain-valid
+      (holds-everything plain_header chain.tree),
+  left_out true true chain.line chain.tree chain_json (lit≤ tt) (lit≤ tt) chain_text refl chain-valid
+      (ap not (holds-everything plain_header chain.tree)),
 )
 
 pub row_exclude : ExcludeRow
 row_exclude = (
-  left_out false true small_feature plain_feature.tree feature_json (lit≤ tt) (lit≤ tt) feature_text refl plain_feature-valid (ap not (holds-everything plain_header plain_feature.tree)),
-  left_out false true part_apart.line part_apart.tree apart_json (lit≤ tt) (lit≤ tt) apart_text refl part_apart-valid (ap not (holds-everything plain_header part_apart.tree)),
+  left_out false true small_feature plain_feature.tree feature_json (lit≤ tt) (lit≤ tt) feature_text refl
+      plain_feature-valid (ap not (holds-everything plain_header plain_feature.tree)),
+  left_out false true part_apart.line part_apart.tree apart_json (lit≤ tt) (lit≤ tt) apart_text refl part_apart-valid
+      (ap not (holds-everything plain_header part_apart.tree)),
 )

@@ -12,7 +12,8 @@ use Rattle.cj_stream.specs.Sink.{Took, TookFront, prefixes}
 use Rattle.cj_stream.specs.Verdict.{Rules, reported, reported_first, stretch, stream_of}
 
 -- a sink that counted some reports goes up by them
-reports-more : (a b : CountReports) (rs : List Report) → a.reports ≤ 2 ^ 64 - 1 → Took CountsReport a rs b → b.reports ≡ min (a.reports + length rs) (2 ^ 64 - 1)
+reports-more : (a b : CountReports) (rs : List Report) → a.reports ≤ 2 ^ 64 - 1 → Took CountsReport a rs b
+    → b.reports ≡ min (a.reports + length rs) (2 ^ 64 - 1)
 reports-more a b [] h took = omega (arith, h, ap (λ c. c.reports) took)
 reports-more a b (r ∷ rs) h took =
     let later = reports-more took.0 b rs (omega (arith, took.1)) took.2 in
@@ -23,13 +24,15 @@ reports-all : (c : CountReports) (rs : List Report) → Took CountsReport (no_re
 reports-all c rs took =
     let all = reports-more (no_reports) c rs (omega arith) took in
     let same : c.reports ≡ min (length rs) (2 ^ 64 - 1) = omega (arith, all) in
-    let counts : ◌≡◌ {A = CountReports} (record { reports = c.reports }) (record { reports = min (length rs) (2 ^ 64 - 1) }) = ap (λ n. record { reports = n }) same in
+    let counts : ◌≡◌ {A = CountReports} (record { reports = c.reports })
+        (record { reports = min (length rs) (2 ^ 64 - 1) }) = ap (λ n. record { reports = n }) same in
     counts
 
 -- of the first ones, where no more were noted
 reports-first : (rs : List Report) (c : CountReports) → TookFront CountsReport (λ others a b. b ≡ a) (prefixes rs [])
     (no_reports) c → CountsFirst rs c
-reports-first rs c h = record { front = h.more; others = h.others; all = h.front; counts = reports-all c h.more (rw h.left h.took) }
+reports-first rs c h =
+    record { front = h.more; others = h.others; all = h.front; counts = reports-all c h.more (rw h.left h.took) }
 
 -- of lines, one after another
 pub counts-lines : (rules : Rules) (q : List ℕ) (n : ℕ) (c : CountReports) → Notes CountsReport (stretch rules q 0 n)

@@ -32,35 +32,48 @@ use Rattle.cj_stream.proofs.Apart.{none-some}
 pub lines-more : (q more : List ℕ) → lines (q ++ more) ≡ map ended_line (closed q) ++ lines (begun q ++ more)
 lines-more q more =
     rw (closed-then q more, begun-then q more, map_lines-append (closed q) (closed (begun q ++ more)))
-    (append_assoc (map ended_line (closed q)) (map ended_line (closed (begun q ++ more))) (last_line (begun (begun q ++ more))))
+    (append_assoc (map ended_line (closed q)) (map ended_line (closed (begun q ++ more)))
+        (last_line (begun (begun q ++ more))))
 
 -- the first line of some begun bytes is as long as they are
-first-line : (c t : List ℕ) → NoLf c → 0 < length c → (l : Line) × (rest : List Line) × (lines (c ++ t) ≡ l ∷ rest) × (length c ≤ length l.content)
+first-line : (c t : List ℕ) → NoLf c → 0 < length c → (l : Line) × (rest : List Line) × (lines (c ++ t) ≡ l ∷ rest)
+    × (length c ≤ length l.content)
 first-line c t free some = go (closed (c ++ t)) (begun (c ++ t)) (first_content-long c t free)
   where
-    go : (cs : List (List ℕ)) (u : List ℕ) → length c ≤ length (first_of cs u) → (l : Line) × (rest : List Line) × (map ended_line cs ++ last_line u ≡ l ∷ rest) × (length c ≤ length l.content)
+    go : (cs : List (List ℕ)) (u : List ℕ) → length c ≤ length (first_of cs u) → (l : Line) × (rest : List Line)
+        × (map ended_line cs ++ last_line u ≡ l ∷ rest) × (length c ≤ length l.content)
     go [] [] h = absurd (omega arith)
     go [] (b ∷ u) h = (record { content = b ∷ u; lf = false }, [], refl, h)
     go (d ∷ ds) u h = (ended_line d, map ended_line ds ++ last_line u, refl, h)
 
 -- lines after a refusal change nothing of what is good
-pub good-stays : (rules : Rules) (before xs ys : List Line) (e : End) → refusal_from rules before xs ≡ Some e → good_from rules before (xs ++ ys) ≡ good_from rules before xs
+pub good-stays : (rules : Rules) (before xs ys : List Line) (e : End) → refusal_from rules before xs ≡ Some e
+    → good_from rules before (xs ++ ys) ≡ good_from rules before xs
 good-stays rules before [] ys e h = absurd (none-some e h)
-good-stays rules before (x ∷ xs) ys e h = step (refusal_of rules (length before + 1) (verdict rules before x.content)) (good-stays rules (before ++ x ∷ []) xs ys e) h
+good-stays rules before (x ∷ xs) ys e h =
+    step (refusal_of rules (length before + 1) (verdict rules before x.content))
+        (good-stays rules (before ++ x ∷ []) xs ys e) h
   where
-    step : (first : Option End) → (refusal_from rules (before ++ x ∷ []) xs ≡ Some e → good_from rules (before ++ x ∷ []) (xs ++ ys) ≡ good_from rules (before ++ x ∷ []) xs)
+    step : (first : Option End)
+        → (refusal_from rules (before ++ x ∷ []) xs ≡ Some e
+        → good_from rules (before ++ x ∷ []) (xs ++ ys) ≡ good_from rules (before ++ x ∷ []) xs)
         → cond (is_some first) first (refusal_from rules (before ++ x ∷ []) xs) ≡ Some e
-        → cond (is_some first) [] (x ∷ good_from rules (before ++ x ∷ []) (xs ++ ys)) ≡ cond (is_some first) [] (x ∷ good_from rules (before ++ x ∷ []) xs)
+        → cond (is_some first) [] (x ∷ good_from rules (before ++ x ∷ []) (xs ++ ys))
+        ≡ cond (is_some first) [] (x ∷ good_from rules (before ++ x ∷ []) xs)
     step None later h = ap (λ z. x ∷ z) (later h)
     step (Some y) later h = refl
 
 -- a line that is too long, and is the end
-refusal-long : (rules : Rules) (before : List Line) (l : Line) (rest : List Line) → rules.limits.line < length l.content → goes_on rules (length before + 1) ≡ false
-    → (refusal_from rules before (l ∷ rest) ≡ Some (Refused (length before + 1) rules.limits.line LineTooLong)) × (good_from rules before (l ∷ rest) ≡ [])
-refusal-long rules before l rest long on = let v = verdict-long rules (length before + 1) (header_of rules before) l.content long in (rw (v, on) refl, rw (v, on) refl)
+refusal-long : (rules : Rules) (before : List Line) (l : Line) (rest : List Line) → rules.limits.line < length l.content
+    → goes_on rules (length before + 1) ≡ false
+    → (refusal_from rules before (l ∷ rest) ≡ Some (Refused (length before + 1) rules.limits.line LineTooLong))
+    × (good_from rules before (l ∷ rest) ≡ [])
+refusal-long rules before l rest long on = let v =
+    verdict-long rules (length before + 1) (header_of rules before) l.content long in (rw (v, on) refl, rw (v, on) refl)
 
 -- a line that is too long, and none that reading goes on after, since it is the end
-long-ends : (rules : Rules) (before : List Line) (l : Line) (e : End) → rules.limits.line < length l.content → refusal_from rules before (l ∷ []) ≡ Some e → goes_on rules (length before + 1) ≡ false
+long-ends : (rules : Rules) (before : List Line) (l : Line) (e : End) → rules.limits.line < length l.content
+    → refusal_from rules before (l ∷ []) ≡ Some e → goes_on rules (length before + 1) ≡ false
 long-ends rules before l e long k = go (goes_on rules (length before + 1)) refl
   where
     go : (b : Bool) → goes_on rules (length before + 1) ≡ b → goes_on rules (length before + 1) ≡ false
@@ -72,17 +85,21 @@ long-ends rules before l e long k = go (goes_on rules (length before + 1)) refl
 module _ (rules : Rules) (q more : List ℕ) (e : End) where
   -- the refusal of what can be judged of a text is that of each text that begins so
   Stays : Type 0
-  Stays = (refusal_in rules (lines (q ++ more)) ≡ Some e) × (good_from rules [] (lines (q ++ more)) ≡ good_from rules [] (map ended_line (closed q)))
+  Stays = (refusal_in rules (lines (q ++ more)) ≡ Some e)
+      × (good_from rules [] (lines (q ++ more)) ≡ good_from rules [] (map ended_line (closed q)))
 
-  ended-stays : (x : End) → refusal_in rules (map ended_line (closed q)) ≡ Some x → refusal_in rules (judged rules.limits q) ≡ Some e → Stays
+  ended-stays : (x : End) → refusal_in rules (map ended_line (closed q)) ≡ Some x
+      → refusal_in rules (judged rules.limits q) ≡ Some e → Stays
   unfolding Stays
   ended-stays x h k =
       let cs = map ended_line (closed q) in
       let stays = refusal-stays rules [] (map ended_line (closed q)) (long_line rules.limits (begun q)) x h in
       let same : ◌≡◌ {A = Option End} (Some x) (Some e) = sym stays ∙ k in
-      rw (lines-more q more) (refusal-stays rules [] cs (lines (begun q ++ more)) x h ∙ same, good-stays rules [] cs (lines (begun q ++ more)) x h)
+      rw (lines-more q more) (refusal-stays rules [] cs (lines (begun q ++ more)) x h
+          ∙ same, good-stays rules [] cs (lines (begun q ++ more)) x h)
 
-  long-stays : (is : Bool) → ltb rules.limits.line (length (begun q)) ≡ is → refusal_in rules (map ended_line (closed q)) ≡ None
+  long-stays : (is : Bool) → ltb rules.limits.line (length (begun q)) ≡ is
+      → refusal_in rules (map ended_line (closed q)) ≡ None
       → refusal_from rules (map ended_line (closed q)) (cond is (last_line (begun q)) []) ≡ Some e → Stays
   unfolding Stays
   long-stays true is h k =
@@ -94,17 +111,23 @@ module _ (rules : Rules) (q more : List ℕ) (e : End) where
       let now = refused_now (begun q) long on k in
       rw (lines-more q more, first.2) (
         refusal-append rules [] cs (first.0 ∷ first.1) h ∙ (later.0 ∙ now),
-        good-append rules [] cs (first.0 ∷ first.1) h ∙ (ap (λ z. cs ++ z) later.1 ∙ (append-nil cs ∙ sym (good-all rules [] cs h))),
+        good-append rules [] cs (first.0 ∷ first.1) h
+            ∙ (ap (λ z. cs ++ z) later.1 ∙ (append-nil cs ∙ sym (good-all rules [] cs h))),
       )
     where
-      ends_now : (c : List ℕ) → rules.limits.line < length c → refusal_from rules (map ended_line (closed q)) (last_line c) ≡ Some e → goes_on rules (length (map ended_line (closed q)) + 1) ≡ false
+      ends_now : (c : List ℕ) → rules.limits.line < length c
+          → refusal_from rules (map ended_line (closed q)) (last_line c) ≡ Some e
+          → goes_on rules (length (map ended_line (closed q)) + 1) ≡ false
       ends_now [] long k = absurd (omega arith)
-      ends_now (b ∷ c) long k = long-ends rules (map ended_line (closed q)) (record { content = b ∷ c; lf = false }) e long k
+      ends_now (b ∷ c) long k =
+          long-ends rules (map ended_line (closed q)) (record { content = b ∷ c; lf = false }) e long k
 
-      refused_now : (c : List ℕ) → rules.limits.line < length c → goes_on rules (length (map ended_line (closed q)) + 1) ≡ false → refusal_from rules (map ended_line (closed q)) (last_line c) ≡ Some e
+      refused_now : (c : List ℕ) → rules.limits.line < length c → goes_on rules (length (map ended_line (closed q)) + 1)
+          ≡ false → refusal_from rules (map ended_line (closed q)) (last_line c) ≡ Some e
           → Some (Refused (length (map ended_line (closed q)) + 1) rules.limits.line LineTooLong) ≡ Some e
       refused_now [] long on k = absurd (omega arith)
-      refused_now (b ∷ c) long on k = sym (refusal-long rules (map ended_line (closed q)) (record { content = b ∷ c; lf = false }) [] long on).0 ∙ k
+      refused_now (b ∷ c) long on k =
+          sym (refusal-long rules (map ended_line (closed q)) (record { content = b ∷ c; lf = false }) [] long on).0 ∙ k
   long-stays false is h k = absurd (none-some e k)
 
   judged-stays : refusal_in rules (judged rules.limits q) ≡ Some e → Stays
@@ -118,30 +141,39 @@ module _ (rules : Rules) (q more : List ℕ) (e : End) where
 
 -- the ending of a text, its output and what is reported of it, where what came first of it was the end
 pub refused-more : (rules : Rules) (q more : List ℕ) (e : End) → refusal_in rules (judged rules.limits q) ≡ Some e
-    → (ending rules (q ++ more) ≡ e) × (kept rules (q ++ more) ≡ kept rules q) × (reported rules (q ++ more) ≡ reported rules q)
+    → (ending rules (q ++ more) ≡ e) × (kept rules (q ++ more) ≡ kept rules q)
+    × (reported rules (q ++ more) ≡ reported rules q)
 unfolding Stays
 refused-more rules q more e k =
     let all = judged-stays rules q more e k in
     let front = judged-stays rules q [] e k in
-    let same : good_from rules [] (lines q) ≡ good_from rules [] (map ended_line (closed q)) = let z = front.1 in rw (append-nil q) at z in
-    (ending-refused rules (lines (q ++ more)) e all.0, ap (λ z. kept_from rules [] z) (all.1 ∙ sym same), ap (λ z. reported_from rules [] z) (all.1 ∙ sym same))
+    let same : good_from rules [] (lines q) ≡ good_from rules [] (map ended_line (closed q)) = let z = front.1 in
+    rw (append-nil q) at z in
+    (ending-refused rules (lines (q ++ more)) e all.0, ap (λ z. kept_from rules [] z) (all.1 ∙ sym same),
+        ap (λ z. reported_from rules [] z) (all.1 ∙ sym same))
 
 -- and so are the good lines
-pub good-more : (rules : Rules) (q more : List ℕ) (e : End) → refusal_in rules (judged rules.limits q) ≡ Some e → good rules (q ++ more) ≡ good rules q
+pub good-more : (rules : Rules) (q more : List ℕ) (e : End) → refusal_in rules (judged rules.limits q) ≡ Some e
+    → good rules (q ++ more) ≡ good rules q
 unfolding Stays
 good-more rules q more e k =
     let all = judged-stays rules q more e k in
     let front = judged-stays rules q [] e k in
-    let same : good_from rules [] (lines q) ≡ good_from rules [] (map ended_line (closed q)) = let z = front.1 in rw (append-nil q) at z in
+    let same : good_from rules [] (lines q) ≡ good_from rules [] (map ended_line (closed q)) = let z = front.1 in
+    rw (append-nil q) at z in
     all.1 ∙ sym same
 
 -- what is kept of some pieces, of whose whole lines none is refused, are kept lines of these and the next
-kept-pieces : (rules : Rules) (pieces : List (List ℕ)) (n : ℕ) → refusal_in rules (lines (whole (joined (take n pieces)))) ≡ None
-    → (kept_first rules (length (closed (joined (take n pieces)))) (joined (take n pieces)) ≡ kept rules (whole (joined (take n pieces))))
-    × (kept_first rules (length (closed (joined (take n pieces)))) (joined (take (n + 1) pieces)) ≡ kept rules (whole (joined (take n pieces))))
+kept-pieces : (rules : Rules) (pieces : List (List ℕ)) (n : ℕ)
+    → refusal_in rules (lines (whole (joined (take n pieces)))) ≡ None
+    → (kept_first rules (length (closed (joined (take n pieces)))) (joined (take n pieces))
+        ≡ kept rules (whole (joined (take n pieces))))
+    × (kept_first rules (length (closed (joined (take n pieces)))) (joined (take (n + 1) pieces))
+        ≡ kept rules (whole (joined (take n pieces))))
 kept-pieces rules pieces n good =
     let q = joined (take n pieces) in
-    let all : length (closed (joined (take n pieces))) ≡ length (lines (whole (joined (take n pieces)))) = sym (ap length (lines-whole q) ∙ length-map_lines (closed q)) in
+    let all : length (closed (joined (take n pieces))) ≡ length (lines (whole (joined (take n pieces)))) =
+        sym (ap length (lines-whole q) ∙ length-map_lines (closed q)) in
     let whole_kept = kept-whole rules (length (closed q)) q good all in
     let next = joined-next n pieces in
     let same = kept_first-same rules (length (closed q)) q next.0 refl in
@@ -181,11 +213,13 @@ module _ {S : Type 0} (law : SinkLaw S) (rules : Rules) (pieces : List (List ℕ
       all : Took law.takes s (kept rules (joined (take (n + 1) pieces))) t
       all = Took-all law rules (joined (take (n + 1) pieces)) count s t (Refused number place reason) d d.fault ends.1
 
-      go : (joined (take (n + 1) pieces) ≡ joined pieces) ⊎ (refusal_in rules (judged rules.limits (joined (take (n + 1) pieces))) ≡ Some (Refused number place reason))
+      go : (joined (take (n + 1) pieces) ≡ joined pieces)
+          ⊎ (refusal_in rules (judged rules.limits (joined (take (n + 1) pieces))) ≡ Some (Refused number place reason))
           → PutsPieces law (in_pieces rules pieces n) (Refused number place reason) s t
       go (inl same) = rw (← same) (ends.0, all)
       go (inr told) =
-          let more = refused-more rules (joined (take (n + 1) pieces)) (joined (drop (n + 1) pieces)) (Refused number place reason) told in
+          let more = refused-more rules (joined (take (n + 1) pieces)) (joined (drop (n + 1) pieces))
+              (Refused number place reason) told in
           rw (← joined-cut (n + 1) pieces) (more.0, rw more.1 all)
   PutsPieces-ends ReadFault ends d k u = absurd u
   PutsPieces-ends ReadLimit ends d k u = absurd u
@@ -198,14 +232,16 @@ module _ {S : Type 0} (law : SinkLaw S) (rules : Rules) (pieces : List (List ℕ
         more = took.0;
         others = item_after rules (take count (lines r)) fault.0 ∷ next.0;
         middle = took.1;
-        front = next.1 ∙ ap (λ z. z ++ item_after rules (take count (lines (joined (take (n + 1) pieces)))) fault.0 ∷ next.0) took.2;
+        front = next.1 ∙ ap (λ z. z ++ item_after rules (take count (lines (joined (take (n + 1) pieces)))) fault.0
+            ∷ next.0) took.2;
         took = took.3;
         left = fault.3;
       }
   PutsPieces-ends Memory ends d k u =
       let r = joined (take (n + 1) pieces) in
       let took = taken Memory k in
-      let others : List Item = kept_from rules (take count (lines r)) (good_from rules (take count (lines r)) (drop count (lines r))) in
+      let others : List Item =
+          kept_from rules (take count (lines r)) (good_from rules (take count (lines r)) (drop count (lines r))) in
       record {
         more = took.0;
         others = others;
@@ -227,12 +263,15 @@ Copies-puts contents failures rules pieces n s t (Refused number place reason) h
 Copies-puts contents failures rules pieces n s t ReadFault h = h
 Copies-puts contents failures rules pieces n s t ReadLimit h = h
 Copies-puts contents failures rules pieces n s t WriteFault h =
-    front-bytes contents (LeavesNext (writes_part contents)) (next-bytes contents) (kept rules (joined (take (n + 1) pieces))) (kept rules (whole (joined (take n pieces)))) s t h
+    front-bytes contents (LeavesNext (writes_part contents)) (next-bytes contents)
+        (kept rules (joined (take (n + 1) pieces))) (kept rules (whole (joined (take n pieces)))) s t h
 Copies-puts contents failures rules pieces n s t Memory h =
-    front-bytes contents (λ others a b. b ≡ a) (no-bytes contents) (kept rules (joined (take (n + 1) pieces))) (kept rules (whole (joined (take n pieces)))) s t h
+    front-bytes contents (λ others a b. b ≡ a) (no-bytes contents) (kept rules (joined (take (n + 1) pieces)))
+        (kept rules (whole (joined (take n pieces)))) s t h
 
 -- where a piece, or the end, ended it
-pub EndsAt-told : (rules : Rules) (before : List ℕ) (pieces : List (List ℕ)) (k n : ℕ) (e : End) → Tells rules (before ++ joined (take (k + 1) pieces)) n e → EndsAt rules before pieces k e
+pub EndsAt-told : (rules : Rules) (before : List ℕ) (pieces : List (List ℕ)) (k n : ℕ) (e : End)
+    → Tells rules (before ++ joined (take (k + 1) pieces)) n e → EndsAt rules before pieces k e
 EndsAt-told rules before pieces k n Complete c = absurd c
 EndsAt-told rules before pieces k n (Refused number place reason) c = inr c.0
 EndsAt-told rules before pieces k n ReadFault c = c
@@ -240,7 +279,8 @@ EndsAt-told rules before pieces k n ReadLimit c = c
 EndsAt-told rules before pieces k n WriteFault c = tt
 EndsAt-told rules before pieces k n Memory c = tt
 
-pub EndsAt-concludes : (rules : Rules) (before : List ℕ) (pieces : List (List ℕ)) (k : ℕ) (p : List ℕ) (n : ℕ) (e : End) → k ≡ length pieces → Concludes rules p n e → EndsAt rules before pieces k e
+pub EndsAt-concludes : (rules : Rules) (before : List ℕ) (pieces : List (List ℕ)) (k : ℕ) (p : List ℕ) (n : ℕ) (e : End)
+    → k ≡ length pieces → Concludes rules p n e → EndsAt rules before pieces k e
 EndsAt-concludes rules before pieces k p n Complete all c = all
 EndsAt-concludes rules before pieces k p n (Refused number place reason) all c = inl all
 EndsAt-concludes rules before pieces k p n ReadFault all c = c
@@ -249,7 +289,8 @@ EndsAt-concludes rules before pieces k p n WriteFault all c = tt
 EndsAt-concludes rules before pieces k p n Memory all c = tt
 
 -- such an end is none that a reader makes
-pub unread-at : (rules : Rules) (before : List ℕ) (pieces : List (List ℕ)) (k : ℕ) (e : End) → EndsAt rules before pieces k e → IsUnread e
+pub unread-at : (rules : Rules) (before : List ℕ) (pieces : List (List ℕ)) (k : ℕ) (e : End)
+    → EndsAt rules before pieces k e → IsUnread e
 unread-at rules before pieces k Complete c = tt
 unread-at rules before pieces k (Refused number place reason) c = tt
 unread-at rules before pieces k ReadFault c = c

@@ -25,7 +25,8 @@ use Rattle.cj_stream.proofs.ReadingLemmas.{length-map_lines, map_lines-append, d
 use Rattle.cj_stream.proofs.Apart.{some-none}
 
 -- what is held is within the peaks
-pub held-below : (e : EngineState) → IsWithin e.reading.header → IsWithin e.reading.line → HasRoom (limits_of e) e.scanning → IsBelow (held_by e) (peaks_of e)
+pub held-below : (e : EngineState) → IsWithin e.reading.header → IsWithin e.reading.line
+    → HasRoom (limits_of e) e.scanning → IsBelow (held_by e) (peaks_of e)
 held-below e header line room = record {
   bytes = omega (arith, header.below_peak, line.below_peak);
   tokens = omega (arith, room.header_within.below_peak, room.line_within.below_peak);
@@ -33,7 +34,8 @@ held-below e header line room = record {
 }
 
 -- the peaks of lists that hold few tokens are within the bound
-pub peaks-bounded : (limits : LimitPair) (s : List ℕ) (bytes : ℕ) (f : Scanning) → bytes ≤ bytes_bound limits s → HasRoom limits f → HoldsFew limits (length (first_content s)) f
+pub peaks-bounded : (limits : LimitPair) (s : List ℕ) (bytes : ℕ) (f : Scanning) → bytes ≤ bytes_bound limits s
+    → HasRoom limits f → HoldsFew limits (length (first_content s)) f
     → IsBounded limits s (record { bytes = bytes; tokens = f.header.peak + f.line.peak; depth = f.opened.peak })
 peaks-bounded limits s bytes f h room few = record {
   bytes = h;
@@ -41,12 +43,15 @@ peaks-bounded limits s bytes f h room few = record {
   depth = omega (arith, room.opened_within.below_limit, room.opened);
 }
 
-pub same-peaks : (a b c x y z : ℕ) → a ≡ x → b ≡ y → c ≡ z → ◌≡◌ {A = Peaks} (record { bytes = a; tokens = b; depth = c }) (record { bytes = x; tokens = y; depth = z })
+pub same-peaks : (a b c x y z : ℕ) → a ≡ x → b ≡ y → c ≡ z
+    → ◌≡◌ {A = Peaks} (record { bytes = a; tokens = b; depth = c }) (record { bytes = x; tokens = y; depth = z })
 same-peaks a b c x y z e f g = rw (e, f, g) refl
 
-pub peak-le : (f : Reading) (p more : List ℕ) → IsSound f → Reads f p → f.header.peak + f.line.peak ≤ bytes_bound f.rules.limits (p ++ more)
+pub peak-le : (f : Reading) (p more : List ℕ) → IsSound f → Reads f p
+    → f.header.peak + f.line.peak ≤ bytes_bound f.rules.limits (p ++ more)
 peak-le f p more s h =
-    omega (arith, h.peak, ap length h.header, first_content-grows p more, h.header_within.below_limit, h.line_within.below_limit, s.header, s.line)
+    omega (arith, h.peak, ap length h.header, first_content-grows p more, h.header_within.below_limit,
+        h.line_within.below_limit, s.header, s.line)
 
 pub take-front : (xs ys : List Line) (n : ℕ) → n ≡ length xs → take n (xs ++ ys) ≡ xs
 take-front xs ys n e = rw e (go xs ys)
@@ -63,21 +68,26 @@ get-next xs ys l n e = rw e (go xs)
     go (x ∷ xs) = go xs
 
 -- the lines that LF ended in a prefix, counted
-pub lines-front : (n : ℕ) (p more : List ℕ) → n ≡ length (closed p) → take n (lines (p ++ more)) ≡ map ended_line (closed p)
+pub lines-front : (n : ℕ) (p more : List ℕ) → n ≡ length (closed p)
+    → take n (lines (p ++ more)) ≡ map ended_line (closed p)
 lines-front n p more e =
     let cs = map ended_line (closed p) in
     let ds = map ended_line (closed (begun p ++ more)) ++ last_line (begun (p ++ more)) in
     let t : take n (cs ++ ds) ≡ cs = take-front cs ds n (e ∙ sym (length-map_lines (closed p))) in
-    rw (closed-then p more, map_lines-append (closed p) (closed (begun p ++ more)), append_assoc cs (map ended_line (closed (begun p ++ more))) (last_line (begun (p ++ more))), t) refl
+    rw (closed-then p more, map_lines-append (closed p) (closed (begun p ++ more)),
+        append_assoc cs (map ended_line (closed (begun p ++ more))) (last_line (begun (p ++ more))), t) refl
 
-pub kept_first-front : (rules : Rules) (n : ℕ) (p more : List ℕ) → n ≡ length (closed p) → kept_first rules n (p ++ more) ≡ kept_closed rules p
+pub kept_first-front : (rules : Rules) (n : ℕ) (p more : List ℕ) → n ≡ length (closed p)
+    → kept_first rules n (p ++ more) ≡ kept_closed rules p
 kept_first-front rules n p more e = ap (λ z. kept_from rules [] z) (lines-front n p more e)
 
 few-front : (n : ℕ) (p more : List ℕ) → n ≡ length (closed p) → n ≤ length (lines (p ++ more))
 few-front n p more e =
     let cs = map ended_line (closed p) in
-    rw (closed-then p more, map_lines-append (closed p) (closed (begun p ++ more)), append_assoc cs (map ended_line (closed (begun p ++ more))) (last_line (begun (p ++ more))))
-    (omega (arith, e, length-map_lines (closed p), length-append cs (map ended_line (closed (begun p ++ more)) ++ last_line (begun (p ++ more)))))
+    rw (closed-then p more, map_lines-append (closed p) (closed (begun p ++ more)),
+        append_assoc cs (map ended_line (closed (begun p ++ more))) (last_line (begun (p ++ more))))
+    (omega (arith, e, length-map_lines (closed p),
+            length-append cs (map ended_line (closed (begun p ++ more)) ++ last_line (begun (p ++ more)))))
 
 -- the counts of what has been read, whatever bytes follow
 pub Counts-front : (f : Reading) (p more : List ℕ) → Reads f p → Counts f.rules (p ++ more) f.lines f.kept f.refused
@@ -92,25 +102,31 @@ Counts-front f p more h = record {
 pub judged-front : (limits : LimitPair) (q : List ℕ) → (extra : List Line) × (lines q ≡ judged limits q ++ extra)
 judged-front limits q = go (nat_lt limits.line (length (begun q)))
   where
-    go : (b : Bool) → (extra : List Line) × (lines q ≡ (map ended_line (closed q) ++ cond b (last_line (begun q)) []) ++ extra)
+    go : (b : Bool) → (extra : List Line)
+        × (lines q ≡ (map ended_line (closed q) ++ cond b (last_line (begun q)) []) ++ extra)
     go true = ([], sym (append-nil _))
     go false = (last_line (begun q), ap (λ z. z ++ last_line (begun q)) (sym (append-nil (map ended_line (closed q)))))
 
-pub next-line : (limits : LimitPair) (n : ℕ) (p q : List ℕ) (l : Line) → IsNext limits p q l → n ≡ length (closed p) → slice_get (lines q) n ≡ Some l
+pub next-line : (limits : LimitPair) (n : ℕ) (p q : List ℕ) (l : Line) → IsNext limits p q l → n ≡ length (closed p)
+    → slice_get (lines q) n ≡ Some l
 next-line limits n p q l h e =
     let x = judged-front limits q in
     let cs = map ended_line (closed p) in
     rw (x.1, h.1, append_assoc cs (l ∷ h.0) x.0) (get-next cs (h.0 ++ x.0) l n (e ∙ sym (length-map_lines (closed p))))
 
 -- as many lines as LF ended in a prefix, of a text that goes on with a line that can be judged
-front-next : (limits : LimitPair) (p q : List ℕ) (l : Line) (n : ℕ) → IsNext limits p q l → n ≡ length (closed p) → take n (lines q) ≡ map ended_line (closed p)
+front-next : (limits : LimitPair) (p q : List ℕ) (l : Line) (n : ℕ) → IsNext limits p q l → n ≡ length (closed p)
+    → take n (lines q) ≡ map ended_line (closed p)
 front-next limits p q l n h e =
     let x = judged-front limits q in
     let cs = map ended_line (closed p) in
-    rw (x.1, h.1, append_assoc cs (l ∷ h.0) x.0) (take-front cs (l ∷ h.0 ++ x.0) n (e ∙ sym (length-map_lines (closed p))))
+    rw (x.1, h.1, append_assoc cs (l ∷ h.0) x.0)
+        (take-front cs (l ∷ h.0 ++ x.0) n (e ∙ sym (length-map_lines (closed p))))
 
-pub next-refusal : (rules : Rules) (n place : ℕ) (reason : _) (p q : List ℕ) (l : Line) → IsNext rules.limits p q l → n ≡ length (closed p) + 1
-    → refusal_in rules (map ended_line (closed p)) ≡ None → verdict rules (map ended_line (closed p)) l.content ≡ Refuse place reason → goes_on rules n ≡ false
+pub next-refusal : (rules : Rules) (n place : ℕ) (reason : _) (p q : List ℕ) (l : Line) → IsNext rules.limits p q l
+    → n ≡ length (closed p) + 1
+    → refusal_in rules (map ended_line (closed p)) ≡ None → verdict rules (map ended_line (closed p)) l.content
+    ≡ Refuse place reason → goes_on rules n ≡ false
     → refusal_in rules (judged rules.limits q) ≡ Some (Refused n place reason)
 next-refusal rules n place reason p q l h e good v on =
     let at : length (map ended_line (closed p)) + 1 ≡ n = omega (arith, length-map_lines (closed p), e) in
@@ -143,11 +159,14 @@ Faults-cause law rules p q n s t Memory len c = c.0
 pub begun-good : (f : Reading) (q : List ℕ) → Reads f q → refusal_in f.rules (judged f.rules.limits q) ≡ None
 begun-good f q h = go f.dropped refl
   where
-    after : (c : List ℕ) → f.rules.limits.line < length c → is_lenient f ≡ true → refusal_from f.rules (map ended_line (closed q)) (last_line c) ≡ None
+    after : (c : List ℕ) → f.rules.limits.line < length c → is_lenient f ≡ true
+        → refusal_from f.rules (map ended_line (closed q)) (last_line c) ≡ None
     after [] long on = absurd (omega arith)
     after (b ∷ c) long on =
-        let v = verdict-long f.rules (length (map ended_line (closed q)) + 1) (header_of f.rules (map ended_line (closed q))) (b ∷ c) long in
-        let at : length (map ended_line (closed q)) + 1 ≡ f.lines + 1 = omega (arith, length-map_lines (closed q), h.lines) in
+        let v = verdict-long f.rules (length (map ended_line (closed q)) + 1)
+            (header_of f.rules (map ended_line (closed q))) (b ∷ c) long in
+        let at : length (map ended_line (closed q)) + 1 ≡ f.lines + 1 =
+            omega (arith, length-map_lines (closed q), h.lines) in
         rw (v, at, on) refl
 
     go : (d : Bool) → f.dropped ≡ d → refusal_in f.rules (judged f.rules.limits q) ≡ None
@@ -156,23 +175,28 @@ begun-good f q h = go f.dropped refl
         rw (short, append-nil (map ended_line (closed q))) h.good
     go true dropped =
         let long : ltb f.rules.limits.line (length (begun q)) ≡ true = sym h.begun.dropped ∙ dropped in
-        rw (long, refusal-append f.rules [] (map ended_line (closed q)) (last_line (begun q)) h.good) (after (begun q) (dropped-long f (begun q) h.begun dropped) (h.lenient dropped))
+        rw (long, refusal-append f.rules [] (map ended_line (closed q)) (last_line (begun q)) h.good)
+            (after (begun q) (dropped-long f (begun q) h.begun dropped) (h.lenient dropped))
 
-pub Going-reads : (e : EngineState) (q : List ℕ) → Reads e.reading q → Scanned (limits_of e) (closed q) e.scanning → Going e q
+pub Going-reads : (e : EngineState) (q : List ℕ) → Reads e.reading q → Scanned (limits_of e) (closed q) e.scanning
+    → Going e q
 Going-reads e q h sc = record {
   good = begun-good e.reading q h;
   lines = rw (lines-whole q) (h.lines ∙ sym (length-map_lines (closed q)));
-  held = same-peaks _ _ _ _ _ _ (rw (h.header, h.line) refl) (omega (arith, sc.header, ap length sc.line)) (ap length sc.opened);
+  held = same-peaks _ _ _ _ _ _ (rw (h.header, h.line) refl) (omega (arith, sc.header, ap length sc.line))
+      (ap length sc.opened);
 }
 
-pub StandsFor-reads : (e : EngineState) (p : List ℕ) → e.taken ≡ length p → IsSound e.reading → HasRoom (limits_of e) e.scanning → Reads e.reading p → Scanned (limits_of e) (closed p) e.scanning
+pub StandsFor-reads : (e : EngineState) (p : List ℕ) → e.taken ≡ length p → IsSound e.reading
+    → HasRoom (limits_of e) e.scanning → Reads e.reading p → Scanned (limits_of e) (closed p) e.scanning
     → StandsFor e p
 StandsFor-reads e p taken s room h sc = record {
   held = held-below e h.header_within h.line_within room;
   bounded =
       let bytes = let k = peak-le e.reading p [] s h in rw (append-nil p) at k in
       let first = let k = first-closed p [] in rw (append-nil p) at k in
-      peaks-bounded (limits_of e) p (e.reading.header.peak + e.reading.line.peak) e.scanning bytes room (few-scanned (limits_of e) (closed p) e.scanning (length (first_content p)) sc first);
+      peaks-bounded (limits_of e) p (e.reading.header.peak + e.reading.line.peak) e.scanning bytes room
+          (few-scanned (limits_of e) (closed p) e.scanning (length (first_content p)) sc first);
   counts = let k = Counts-front e.reading p [] h in rw (append-nil p) at k;
   going = λ _. (h, sc, taken);
 }
@@ -193,13 +217,15 @@ module _ {S : Type 0} (law : SinkLaw S) where
         added = h.puts.0;
         middle = t;
         kept =
-            let new_front : kept_first rules g.lines (p ++ more) ≡ kept_closed rules (p ++ more) = front_all rules g.lines (p ++ more) h.reads.lines in
+            let new_front : kept_first rules g.lines (p ++ more) ≡ kept_closed rules (p ++ more) =
+                front_all rules g.lines (p ++ more) h.reads.lines in
             new_front ∙ (h.puts.1 ∙ ap (λ z. z ++ h.puts.0) (sym (kept_first-front rules f.lines p more r.lines)));
         took = h.puts.2;
         fault = refl;
       }
     where
-      front_all : (rules : Rules) (n : ℕ) (q : List ℕ) → n ≡ length (closed q) → kept_first rules n q ≡ kept_closed rules q
+      front_all : (rules : Rules) (n : ℕ) (q : List ℕ) → n ≡ length (closed q)
+          → kept_first rules n q ≡ kept_closed rules q
       front_all rules n q e = let k = kept_first-front rules n q [] e in rw (append-nil q) at k
 
   pub Delivers-stops : (f g : Reading) (s t : S) (p more : List ℕ) (e : End) → Reads f p → Stops law (further p more)
@@ -211,19 +237,22 @@ module _ {S : Type 0} (law : SinkLaw S) where
       record {
         added = h.puts.0;
         middle = h.middle;
-        kept = rw (kept_first-front rules f.lines p more r.lines, whole, kept_first-front rules g.lines (p ++ h.done) h.left h.reads.lines) h.puts.1;
+        kept = rw (kept_first-front rules f.lines p more r.lines, whole,
+            kept_first-front rules g.lines (p ++ h.done) h.left h.reads.lines) h.puts.1;
         took = h.puts.2;
         fault = (Faults-cause law rules (p ++ h.done) (p ++ more) g.lines h.middle t e h.reads.lines h.cause);
       }
 
-  pub StandsFor-stops : (old new : EngineState) (s t : S) (p more : List ℕ) (e : End) → new.ended ≡ Some e → IsSound new.reading → HasRoom (limits_of new) new.scanning
+  pub StandsFor-stops : (old new : EngineState) (s t : S) (p more : List ℕ) (e : End) → new.ended ≡ Some e
+      → IsSound new.reading → HasRoom (limits_of new) new.scanning
       → HoldsFew (limits_of new) (length (first_content (p ++ more))) new.scanning → Stops law (further p more)
       (with_sink old.reading s) e (with_sink new.reading t) → StandsFor new (p ++ more)
   StandsFor-stops old new s t p more e ended sound room few h =
       let whole : p ++ more ≡ (p ++ h.done) ++ h.left = ap (λ z. p ++ z) h.cut ∙ sym (append_assoc p h.done h.left) in
       record {
         held = held-below new h.reads.header_within h.reads.line_within room;
-        bounded = peaks-bounded (limits_of new) (p ++ more) (new.reading.header.peak + new.reading.line.peak) new.scanning (rw whole (peak-le new.reading (p ++ h.done) h.left sound h.reads)) room few;
+        bounded = peaks-bounded (limits_of new) (p ++ more) (new.reading.header.peak + new.reading.line.peak)
+            new.scanning (rw whole (peak-le new.reading (p ++ h.done) h.left sound h.reads)) room few;
         counts = rw whole (Counts-front new.reading (p ++ h.done) h.left h.reads);
         going = λ none. absurd (some-none e (sym ended ∙ none));
       }

@@ -39,17 +39,20 @@ Concluded rules p n Memory = Unit {0}
 
 pub Concludes-concluded : (rules : Rules) (p : List ℕ) (n : ℕ) (e : End) → Concluded rules p n e → Concludes rules p n e
 Concludes-concluded rules p n Complete h = (h.0, h.1 ∙ ap length (sym (good-complete rules p h.0)))
-Concludes-concluded rules p n (Refused number place reason) h = (h.0, omega (arith, h.1, good-refused rules p number place reason h.0))
+Concludes-concluded rules p n (Refused number place reason) h =
+    (h.0, omega (arith, h.1, good-refused rules p number place reason h.0))
 Concludes-concluded rules p n ReadFault h = h
 Concludes-concluded rules p n ReadLimit h = h
 Concludes-concluded rules p n WriteFault h = h
 Concludes-concluded rules p n Memory h = h
 
-ending-some : (rules : Rules) (xs ys : List Line) → 0 < length xs → ending_of rules (xs ++ ys) ≡ unwrap_or (refusal_in rules (xs ++ ys)) Complete
+ending-some : (rules : Rules) (xs ys : List Line) → 0 < length xs
+    → ending_of rules (xs ++ ys) ≡ unwrap_or (refusal_in rules (xs ++ ys)) Complete
 ending-some rules [] ys h = absurd (omega arith)
 ending-some rules (x ∷ xs) ys h = refl
 
-ending-last : (rules : Rules) (xs : List Line) (l : Line) → ending_of rules (xs ++ l ∷ []) ≡ unwrap_or (refusal_in rules (xs ++ l ∷ [])) Complete
+ending-last : (rules : Rules) (xs : List Line) (l : Line)
+    → ending_of rules (xs ++ l ∷ []) ≡ unwrap_or (refusal_in rules (xs ++ l ∷ [])) Complete
 ending-last rules [] l = refl
 ending-last rules (x ∷ xs) l = refl
 
@@ -58,7 +61,8 @@ pub contents-closed : (cs : List (List ℕ)) → map (λ l. l.content) (map ende
 contents-closed [] = refl
 contents-closed (c ∷ cs) = ap (λ z. c ∷ z) (contents-closed cs)
 
-pub contents-last : (cs : List (List ℕ)) (c : List ℕ) → map (λ l. l.content) (map ended_line cs ++ record { content = c; lf = false } ∷ []) ≡ cs ++ c ∷ []
+pub contents-last : (cs : List (List ℕ)) (c : List ℕ)
+    → map (λ l. l.content) (map ended_line cs ++ record { content = c; lf = false } ∷ []) ≡ cs ++ c ∷ []
 contents-last [] c = refl
 contents-last (d ∷ cs) c = ap (λ z. d ∷ z) (contents-last cs c)
 
@@ -86,14 +90,17 @@ finishes-with law [] f g s t r some d = absurd (omega arith)
 finishes-with law (b ∷ c) f g s t r some d = d
 
 -- the lists after a last line was dealt with, and of a text without one
-pub scanned-last : (f : Reading) (p : List ℕ) (a b : Scanning) → Reads f p → 0 < length (begun p) → Scanned f.rules.limits (closed p) a → ScansNext f a b → Scanned f.rules.limits (contents p) b
+pub scanned-last : (f : Reading) (p : List ℕ) (a b : Scanning) → Reads f p → 0 < length (begun p)
+    → Scanned f.rules.limits (closed p) a → ScansNext f a b → Scanned f.rules.limits (contents p) b
 scanned-last f p a b reads some s deal = go (begun p) some (deal (closed p) (begun p) (sym reads.lines) reads.begun s)
   where
-    go : (c : List ℕ) → 0 < length c → Scanned f.rules.limits (closed p ++ c ∷ []) b → Scanned f.rules.limits (map (λ l. l.content) (map ended_line (closed p) ++ last_line c)) b
+    go : (c : List ℕ) → 0 < length c → Scanned f.rules.limits (closed p ++ c ∷ []) b
+        → Scanned f.rules.limits (map (λ l. l.content) (map ended_line (closed p) ++ last_line c)) b
     go [] some k = absurd (omega arith)
     go (x ∷ c) some k = rw (contents-last (closed p) (x ∷ c)) k
 
-pub scanned-closed : (limits : LimitPair) (p : List ℕ) (a : Scanning) → begun p ≡ [] → Scanned limits (closed p) a → Scanned limits (contents p) a
+pub scanned-closed : (limits : LimitPair) (p : List ℕ) (a : Scanning) → begun p ≡ [] → Scanned limits (closed p) a
+    → Scanned limits (contents p) a
 scanned-closed limits p a e s = rw (e, contents-closed (closed p)) s
 
 -- a last line of these bytes
@@ -108,10 +115,13 @@ module _ {S : Type 0} (law : SinkLaw S) (f g : Reading) (s t : S) (p : List ℕ)
   lines-last b c e = rw e refl
 
   -- all lines, counted
-  take-last : (b : ℕ) (c : List ℕ) → begun p ≡ b ∷ c → take (f.lines + 1) (lines p) ≡ map ended_line (closed p) ++ unended b c ∷ []
+  take-last : (b : ℕ) (c : List ℕ) → begun p ≡ b ∷ c → take (f.lines + 1) (lines p) ≡ map ended_line (closed p)
+      ++ unended b c ∷ []
   take-last b c e =
       let xs = map ended_line (closed p) in
-      let every = take-front (map ended_line (closed p) ++ unended b c ∷ []) [] (f.lines + 1) (omega (arith, length-cs, length-append xs (unended b c ∷ []))) in
+      let every =
+          take-front (map ended_line (closed p) ++ unended b c ∷ []) [] (f.lines + 1)
+              (omega (arith, length-cs, length-append xs (unended b c ∷ []))) in
       rw (lines-last b c e) (rw (append-nil (map ended_line (closed p) ++ unended b c ∷ [])) at every)
 
   -- the lines but the last, counted
@@ -119,25 +129,32 @@ module _ {S : Type 0} (law : SinkLaw S) (f g : Reading) (s t : S) (p : List ℕ)
   take-closed = let k = lines-front f.lines p [] reads.lines in rw (append-nil p) at k
 
   -- the end, where a last line has this verdict
-  ending-verdict : (b : ℕ) (c : List ℕ) → begun p ≡ b ∷ c → ending f.rules p ≡ unwrap_or (refusal_from f.rules (map ended_line (closed p)) (unended b c ∷ [])) Complete
+  ending-verdict : (b : ℕ) (c : List ℕ) → begun p ≡ b ∷ c
+      → ending f.rules p ≡ unwrap_or (refusal_from f.rules (map ended_line (closed p)) (unended b c ∷ [])) Complete
   ending-verdict b c e =
       let l : Line = unended b c in
-      rw (lines-last b c e, ending-last f.rules (map ended_line (closed p)) l, refusal-append f.rules [] (map ended_line (closed p)) (l ∷ []) reads.good) refl
+      rw (lines-last b c e, ending-last f.rules (map ended_line (closed p)) l,
+          refusal-append f.rules [] (map ended_line (closed p)) (l ∷ []) reads.good) refl
 
   count-last : (b : ℕ) (c : List ℕ) → begun p ≡ b ∷ c → g.lines ≡ f.lines + 1 → g.lines ≡ length (lines p)
-  count-last b c e h = rw (lines-last b c e) (omega (arith, h, length-cs, length-append (map ended_line (closed p)) (unended b c ∷ [])))
+  count-last b c e h =
+      rw (lines-last b c e) (omega (arith, h, length-cs, length-append (map ended_line (closed p)) (unended b c ∷ [])))
 
   -- reading goes on after the last line, or not
   last-lenient : (on : Bool) → is_lenient f ≡ on → goes_on f.rules (length (map ended_line (closed p)) + 1) ≡ on
   last-lenient on is = rw length-cs is
 
-  concluded-refused : (b : ℕ) (c : List ℕ) (place : ℕ) (reason : Reason) (on : Bool) (r : Result (Unit {0}) End) → begun p ≡ b ∷ c → verdict f.rules (map ended_line (closed p)) (b ∷ c) ≡ Refuse place reason
+  concluded-refused : (b : ℕ) (c : List ℕ) (place : ℕ) (reason : Reason) (on : Bool) (r : Result (Unit {0}) End)
+      → begun p ≡ b ∷ c → verdict f.rules (map ended_line (closed p)) (b ∷ c) ≡ Refuse place reason
       → is_lenient f ≡ on → Refuses on (Refused (f.lines + 1) place reason) f r g → Concluded f.rules p g.lines
       (end_of r)
-  concluded-refused b c place reason true r e h is d = rw d.0 (ending-verdict b c e ∙ rw (h, last-lenient true is) refl, count-last b c e d.1.lines)
-  concluded-refused b c place reason false r e h is d = rw d.0 (ending-verdict b c e ∙ rw (h, last-lenient false is, length-cs) refl, ap (λ x. x.lines + 1) (sym d.1))
+  concluded-refused b c place reason true r e h is d =
+      rw d.0 (ending-verdict b c e ∙ rw (h, last-lenient true is) refl, count-last b c e d.1.lines)
+  concluded-refused b c place reason false r e h is d =
+      rw d.0 (ending-verdict b c e ∙ rw (h, last-lenient false is, length-cs) refl, ap (λ x. x.lines + 1) (sym d.1))
 
-  concluded-last : (b : ℕ) (c : List ℕ) (v : Verdict) (r : Result (Unit {0}) End) → begun p ≡ b ∷ c → verdict f.rules (map ended_line (closed p)) (b ∷ c) ≡ v
+  concluded-last : (b : ℕ) (c : List ℕ) (v : Verdict) (r : Result (Unit {0}) End) → begun p ≡ b ∷ c
+      → verdict f.rules (map ended_line (closed p)) (b ∷ c) ≡ v
       → Deals law (judged_next f (is_lenient f) v (unended b c)) (with_sink f s) r (with_sink g t)
       → Concluded f.rules p g.lines (end_of r)
   concluded-last b c (Refuse place reason) r e h d = concluded-refused b c place reason (is_lenient f) r e h refl d.0
@@ -157,8 +174,11 @@ module _ {S : Type 0} (law : SinkLaw S) (f g : Reading) (s t : S) (p : List ℕ)
       go (inr z) =
           let no : eqb f.lines 0 ≡ false = grind (arith, nat_tests) in
           let whole : lines p ≡ map ended_line (closed p) ++ [] = rw e refl in
-          let good : refusal_in f.rules (map ended_line (closed p) ++ []) ≡ None = rw (append-nil (map ended_line (closed p))) reads.good in
-          rw (d.0, no, d.1, whole) (ending-some f.rules (map ended_line (closed p)) [] (omega (arith, length-cs)) ∙ rw good refl, rw (append-nil (map ended_line (closed p))) (sym length-cs))
+          let good : refusal_in f.rules (map ended_line (closed p) ++ []) ≡ None =
+              rw (append-nil (map ended_line (closed p))) reads.good in
+          rw (d.0, no, d.1, whole)
+              (ending-some f.rules (map ended_line (closed p)) [] (omega (arith, length-cs)) ∙ rw good refl,
+              rw (append-nil (map ended_line (closed p))) (sym length-cs))
 
   pub Finishes-concludes : (r : Result (Unit {0}) End) → Finishes law p (with_sink f s) r (with_sink g t)
       → Concludes f.rules p g.lines (end_of r)
@@ -178,24 +198,31 @@ module _ {S : Type 0} (law : SinkLaw S) (f g : Reading) (s t : S) (p : List ℕ)
   counts-left left = let k = Counts-front f p [] reads in rw left.same (rw (append-nil p) at k)
 
   counts-passed : (b : ℕ) (c : List ℕ) (put refuses : Bool) → begun p ≡ b ∷ c → Passes put refuses f g
-      → refusal_of f.rules (length (map ended_line (closed p)) + 1) (verdict f.rules (map ended_line (closed p)) (b ∷ c)) ≡ None
-      → put ≡ is_kept (verdict f.rules (map ended_line (closed p)) (b ∷ c)) → refuses ≡ is_refused (verdict f.rules (map ended_line (closed p)) (b ∷ c)) → Counts f.rules p g.lines g.kept g.refused
+      → refusal_of f.rules (length (map ended_line (closed p)) + 1)
+          (verdict f.rules (map ended_line (closed p)) (b ∷ c)) ≡ None
+      → put ≡ is_kept (verdict f.rules (map ended_line (closed p)) (b ∷ c))
+      → refuses ≡ is_refused (verdict f.rules (map ended_line (closed p)) (b ∷ c))
+      → Counts f.rules p g.lines g.kept g.refused
   counts-passed b c put refuses e d fine k bad =
       let xs = map ended_line (closed p) in
       record {
         few = omega (arith, count-last b c e d.lines);
         good = rw (d.lines, take-last b c e, refusal-append f.rules [] xs (unended b c ∷ []) reads.good, fine) refl;
-        kept = rw (d.lines, take-last b c e) (kept-next f g xs (unended b c) put refuses (sym length-cs) reads.kept d k);
+        kept = rw (d.lines, take-last b c e)
+            (kept-next f g xs (unended b c) put refuses (sym length-cs) reads.kept d k);
         refused = rw (d.lines, take-last b c e) (refused-next f g xs (unended b c) put refuses reads.refused d bad);
       }
 
-  counts-refused : (b : ℕ) (c : List ℕ) (place : ℕ) (reason : Reason) (on : Bool) (r : Result (Unit {0}) End) → begun p ≡ b ∷ c → verdict f.rules (map ended_line (closed p)) (b ∷ c) ≡ Refuse place reason
+  counts-refused : (b : ℕ) (c : List ℕ) (place : ℕ) (reason : Reason) (on : Bool) (r : Result (Unit {0}) End)
+      → begun p ≡ b ∷ c → verdict f.rules (map ended_line (closed p)) (b ∷ c) ≡ Refuse place reason
       → is_lenient f ≡ on → Refuses on (Refused (f.lines + 1) place reason) f r g → Counts f.rules p g.lines g.kept
       g.refused
-  counts-refused b c place reason true r e h is d = counts-passed b c false true e d.1 (rw (h, last-lenient true is) refl) (rw h refl) (rw h refl)
+  counts-refused b c place reason true r e h is d =
+      counts-passed b c false true e d.1 (rw (h, last-lenient true is) refl) (rw h refl) (rw h refl)
   counts-refused b c place reason false r e h is d = counts-same d.1
 
-  counts-last : (b : ℕ) (c : List ℕ) (v : Verdict) (r : Result (Unit {0}) End) → begun p ≡ b ∷ c → verdict f.rules (map ended_line (closed p)) (b ∷ c) ≡ v
+  counts-last : (b : ℕ) (c : List ℕ) (v : Verdict) (r : Result (Unit {0}) End) → begun p ≡ b ∷ c
+      → verdict f.rules (map ended_line (closed p)) (b ∷ c) ≡ v
       → Deals law (judged_next f (is_lenient f) v (unended b c)) (with_sink f s) r (with_sink g t)
       → Counts f.rules p g.lines g.kept g.refused
   counts-last b c (Refuse place reason) r e h d = counts-refused b c place reason (is_lenient f) r e h refl d.0
@@ -223,7 +250,9 @@ module _ {S : Type 0} (law : SinkLaw S) (f g : Reading) (s t : S) (p : List ℕ)
     pub onward : f.lines ≤ g.lines
 
   settled-same : g ≡ f → Settled
-  settled-same e = rw e (record { rules = refl; header = reads.header_within; line = reads.line_within; peaks = refl; onward = omega arith })
+  settled-same e =
+      rw e (record { rules = refl; header = reads.header_within; line = reads.line_within; peaks = refl;
+              onward = omega arith })
 
   settled-left : IsLeft f g → Settled
   settled-left left = rw left.same (record {
@@ -268,32 +297,40 @@ module _ {S : Type 0} (law : SinkLaw S) (f g : Reading) (s t : S) (p : List ℕ)
       → f.lines ≤ g.lines
   finishes-onward r d = (Settled-finished r d).onward
 
-  pub StandsFor-finished : (r : Result (Unit {0}) End) (sc : Scanning) (n : ℕ) (e : End) → f.header.peak + f.line.peak ≤ bytes_bound f.rules.limits p → HasRoom f.rules.limits sc
+  pub StandsFor-finished : (r : Result (Unit {0}) End) (sc : Scanning) (n : ℕ) (e : End)
+      → f.header.peak + f.line.peak ≤ bytes_bound f.rules.limits p → HasRoom f.rules.limits sc
       → HoldsFew f.rules.limits (length (first_content p)) sc → Finishes law p (with_sink f s) r (with_sink g t)
       → StandsFor (record { reading = g; scanning = sc; taken = n; ended = Some e }) p
   StandsFor-finished r sc n e bounded room few d =
       let k = Settled-finished r d in
       let counts = Counts-finished r d in
       record {
-        held = held-below (record { reading = g; scanning = sc; taken = n; ended = Some e }) k.header k.line (rw k.rules room);
-        bounded = rw k.rules (peaks-bounded f.rules.limits p (g.header.peak + g.line.peak) sc (omega (arith, k.peaks, bounded)) room few);
+        held = held-below (record { reading = g; scanning = sc; taken = n; ended = Some e }) k.header k.line
+            (rw k.rules room);
+        bounded = rw k.rules (peaks-bounded f.rules.limits p (g.header.peak + g.line.peak) sc
+            (omega (arith, k.peaks, bounded)) room few);
         counts = rw k.rules counts;
         going = λ none. absurd (some-none e none);
       }
 
   -- what was held at most, of all lines
-  peak-all : (put refuses : Bool) (b : ℕ) (c : List ℕ) → begun p ≡ b ∷ c → Passes put refuses f g → g.header.peak + g.line.peak ≡ (exact_peaks f.rules.limits p).bytes
+  peak-all : (put refuses : Bool) (b : ℕ) (c : List ℕ) → begun p ≡ b ∷ c → Passes put refuses f g
+      → g.header.peak + g.line.peak ≡ (exact_peaks f.rules.limits p).bytes
   peak-all put refuses b c e d =
       let none = held-nothing f.rules.limits in
       let more = greatest-later (held_length f.rules.limits) none (closed p) (begun p) in
-      let later : greatest (held_length f.rules.limits) (later_of (contents p)) ≡ max (greatest (held_length f.rules.limits) (later_of (closed p))) (held_length f.rules.limits (begun_after (closed p) (begun p))) =
+      let later : greatest (held_length f.rules.limits) (later_of (contents p))
+          ≡ max (greatest (held_length f.rules.limits) (later_of (closed p)))
+          (held_length f.rules.limits (begun_after (closed p) (begun p))) =
       rw (lines-last b c e, contents-last (closed p) (b ∷ c), ← e) (omega (arith, more, none)) in
-      let first : g.header.peak ≡ length (first_content p) = ap (λ x. x.peak) d.header ∙ (reads.peak ∙ ap length reads.header) in
+      let first : g.header.peak ≡ length (first_content p) = ap (λ x. x.peak) d.header
+          ∙ (reads.peak ∙ ap length reads.header) in
       omega (arith, later, first, d.line.peak, reads.line_peak)
 
   peak-closed : g ≡ f → begun p ≡ [] → g.header.peak + g.line.peak ≡ (exact_peaks f.rules.limits p).bytes
   peak-closed same e =
-      let later : greatest (held_length f.rules.limits) (later_of (contents p)) ≡ greatest (held_length f.rules.limits) (later_of (closed p)) = rw (e, contents-closed (closed p)) refl in
+      let later : greatest (held_length f.rules.limits) (later_of (contents p)) ≡ greatest (held_length f.rules.limits)
+          (later_of (closed p)) = rw (e, contents-closed (closed p)) refl in
       let first : f.header.peak ≡ length (first_content p) = reads.peak ∙ ap length reads.header in
       let line = rw (e, begun_after-empty (closed p)) at reads.line_peak in
       rw same (omega (arith, later, first, line, held-nothing f.rules.limits))
@@ -337,11 +374,13 @@ module _ {S : Type 0} (law : SinkLaw S) (f g : Reading) (s t : S) (p : List ℕ)
       → r ≡ Ok tt
   finished-ok r d done = go (begun p) r d done
     where
-      refused : (n place : ℕ) (reason : Reason) (r : Result (Unit {0}) End) → r ≡ Err (Refused n place reason) → end_of r ≡ Complete → r ≡ Ok tt
+      refused : (n place : ℕ) (reason : Reason) (r : Result (Unit {0}) End) → r ≡ Err (Refused n place reason)
+          → end_of r ≡ Complete → r ≡ Ok tt
       refused n place reason (Ok x) e h = refl
       refused n place reason (Err x) e h = cc
 
-      none : (first : Bool) (r : Result (Unit {0}) End) → r ≡ (if first then Err (Refused 1 0 NoHeader) else Ok tt) → end_of r ≡ Complete → r ≡ Ok tt
+      none : (first : Bool) (r : Result (Unit {0}) End) → r ≡ (if first then Err (Refused 1 0 NoHeader) else Ok tt)
+          → end_of r ≡ Complete → r ≡ Ok tt
       none true r e h = refused 1 0 NoHeader r e h
       none false r e h = e
 
@@ -372,17 +411,22 @@ module _ {S : Type 0} (law : SinkLaw S) (f g : Reading) (s t : S) (p : List ℕ)
   -- and of all three counts
   pub peaks-finished : (r : Result (Unit {0}) End) (sc : Scanning) → Finishes law p (with_sink f s) r (with_sink g t)
       → end_of r ≡ Complete → Scanned f.rules.limits (contents p) sc
-      → IsExact f.rules.limits p (record { bytes = g.header.peak + g.line.peak; tokens = sc.header.peak + sc.line.peak; depth = sc.opened.peak })
+      → IsExact f.rules.limits p
+          (record { bytes = g.header.peak + g.line.peak; tokens = sc.header.peak + sc.line.peak;
+              depth = sc.opened.peak })
   peaks-finished r sc d done k =
       let bytes = peak-finished r d done in
       record {
         bytes = bytes;
-        least = record { bytes = omega (arith, bytes); tokens = omega (arith, k.header_peak, k.line_peak.least); depth = k.opened_peak.least };
-        legible = λ all. same-peaks _ _ _ _ _ _ bytes (omega (arith, k.header_peak, k.line_peak.exact all)) (k.opened_peak.exact all);
+        least = record { bytes = omega (arith, bytes); tokens = omega (arith, k.header_peak, k.line_peak.least);
+            depth = k.opened_peak.least };
+        legible = λ all. same-peaks _ _ _ _ _ _ bytes (omega (arith, k.header_peak, k.line_peak.exact all))
+            (k.opened_peak.exact all);
       }
 
   kept-last : (b : ℕ) (c : List ℕ) → begun p ≡ b ∷ c
-      → kept_first f.rules (f.lines + 1) p ≡ kept_first f.rules f.lines p ++ kept_from f.rules (map ended_line (closed p)) (unended b c ∷ [])
+      → kept_first f.rules (f.lines + 1) p ≡ kept_first f.rules f.lines p
+      ++ kept_from f.rules (map ended_line (closed p)) (unended b c ∷ [])
   kept-last b c e =
       let xs = map ended_line (closed p) in
       rw (take-last b c e, take-closed, kept-append f.rules [] xs (unended b c ∷ [])) refl
@@ -397,7 +441,8 @@ module _ {S : Type 0} (law : SinkLaw S) (f g : Reading) (s t : S) (p : List ℕ)
     fault = fault;
   }
 
-  skipped : (b : ℕ) (c : List ℕ) (put refuses : Bool) → begun p ≡ b ∷ c → Passes put refuses f g → is_kept (verdict f.rules (map ended_line (closed p)) (b ∷ c)) ≡ false → t ≡ s
+  skipped : (b : ℕ) (c : List ℕ) (put refuses : Bool) → begun p ≡ b ∷ c → Passes put refuses f g
+      → is_kept (verdict f.rules (map ended_line (closed p)) (b ∷ c)) ≡ false → t ≡ s
       → Delivers law (stretch f.rules p f.lines g.lines) s t (Some Complete)
   skipped b c put refuses e d unkept still = record {
     added = [];
@@ -407,13 +452,16 @@ module _ {S : Type 0} (law : SinkLaw S) (f g : Reading) (s t : S) (p : List ℕ)
     fault = still;
   }
 
-  delivers-refused : (b : ℕ) (c : List ℕ) (place : ℕ) (reason : Reason) (on : Bool) (r : Result (Unit {0}) End) → begun p ≡ b ∷ c → verdict f.rules (map ended_line (closed p)) (b ∷ c) ≡ Refuse place reason
+  delivers-refused : (b : ℕ) (c : List ℕ) (place : ℕ) (reason : Reason) (on : Bool) (r : Result (Unit {0}) End)
+      → begun p ≡ b ∷ c → verdict f.rules (map ended_line (closed p)) (b ∷ c) ≡ Refuse place reason
       → Refuses on (Refused (f.lines + 1) place reason) f r g → t ≡ s → Delivers law (stretch f.rules p f.lines g.lines)
       s t (Some (end_of r))
   delivers-refused b c place reason true r e h d still = rw d.0 (skipped b c false true e d.1 (rw h refl) still)
-  delivers-refused b c place reason false r e h d still = rw d.0 (quiet (Refused (f.lines + 1) place reason) (ap (λ x. x.lines) d.1) still)
+  delivers-refused b c place reason false r e h d still =
+      rw d.0 (quiet (Refused (f.lines + 1) place reason) (ap (λ x. x.lines) d.1) still)
 
-  delivers-last : (b : ℕ) (c : List ℕ) (v : Verdict) (r : Result (Unit {0}) End) → begun p ≡ b ∷ c → verdict f.rules (map ended_line (closed p)) (b ∷ c) ≡ v
+  delivers-last : (b : ℕ) (c : List ℕ) (v : Verdict) (r : Result (Unit {0}) End) → begun p ≡ b ∷ c
+      → verdict f.rules (map ended_line (closed p)) (b ∷ c) ≡ v
       → Deals law (judged_next f (is_lenient f) v (unended b c)) (with_sink f s) r (with_sink g t)
       → Delivers law (stretch f.rules p f.lines g.lines) s t (Some (end_of r))
   delivers-last b c (Refuse place reason) r e h d = delivers-refused b c place reason (is_lenient f) r e h d.0 d.1
@@ -427,15 +475,19 @@ module _ {S : Type 0} (law : SinkLaw S) (f g : Reading) (s t : S) (p : List ℕ)
     fault = refl;
   }
   delivers-last b c Valid (Err x) e h d = rw d.0 (quiet WriteFault (ap (λ x. x.lines) d.1.same)
-      (unended b c, rw (d.1.same, lines-last b c e) (get-next (map ended_line (closed p)) [] (unended b c) f.lines (sym length-cs)), rw (d.1.same, take-closed, h) refl, rw (d.1.same, take-closed, ← next-item f p reads (unended b c)) d.2))
+      (unended b c, rw (d.1.same, lines-last b c e)
+          (get-next (map ended_line (closed p)) [] (unended b c) f.lines (sym length-cs)),
+          rw (d.1.same, take-closed, h) refl, rw (d.1.same, take-closed, ← next-item f p reads (unended b c)) d.2))
 
   delivers-none : (r : Result (Unit {0}) End) → FinishesWith law [] (with_sink f s) r (with_sink g t)
       → Delivers law (stretch f.rules p f.lines g.lines) s t (Some (end_of r))
   delivers-none r d = go (zero_or f.lines)
     where
       go : (f.lines ≡ 0) ⊎ (0 < f.lines) → Delivers law (stretch f.rules p f.lines g.lines) s t (Some (end_of r))
-      go (inl z) = let yes_none : eqb f.lines 0 ≡ true = grind (arith, nat_tests) in rw (d.0, yes_none) (quiet (Refused 1 0 NoHeader) (ap (λ x. x.lines) d.1) d.2)
-      go (inr z) = let not_none : eqb f.lines 0 ≡ false = grind (arith, nat_tests) in rw (d.0, not_none) (quiet Complete (ap (λ x. x.lines) d.1) d.2)
+      go (inl z) = let yes_none : eqb f.lines 0 ≡ true = grind (arith, nat_tests) in
+          rw (d.0, yes_none) (quiet (Refused 1 0 NoHeader) (ap (λ x. x.lines) d.1) d.2)
+      go (inr z) = let not_none : eqb f.lines 0 ≡ false = grind (arith, nat_tests) in
+          rw (d.0, not_none) (quiet Complete (ap (λ x. x.lines) d.1) d.2)
 
   pub Finishes-delivers : (r : Result (Unit {0}) End) → Finishes law p (with_sink f s) r (with_sink g t)
       → Delivers law (stretch f.rules p f.lines g.lines) s t (Some (end_of r))

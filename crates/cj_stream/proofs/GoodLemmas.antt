@@ -13,57 +13,80 @@ use Rattle.cj_stream.proofs.VerdictLemmas.{kept-append, before-more}
 use Rattle.cj_stream.proofs.Apart.{false-true, none-some, some-none}
 
 -- good lines are a prefix
-pub good-take : (rules : Rules) (before ls : List Line) → take (length (good_from rules before ls)) ls ≡ good_from rules before ls
+pub good-take : (rules : Rules) (before ls : List Line)
+    → take (length (good_from rules before ls)) ls ≡ good_from rules before ls
 good-take rules before [] = refl
-good-take rules before (l ∷ ls) = step (refusal_of rules (length before + 1) (verdict rules before l.content)) (good-take rules (before ++ l ∷ []) ls)
+good-take rules before (l ∷ ls) =
+    step (refusal_of rules (length before + 1) (verdict rules before l.content)) (good-take rules (before ++ l ∷ []) ls)
   where
-    step : (first : Option End) → take (length (good_from rules (before ++ l ∷ []) ls)) ls ≡ good_from rules (before ++ l ∷ []) ls
-        → take (length (cond (is_some first) [] (l ∷ good_from rules (before ++ l ∷ []) ls))) (l ∷ ls) ≡ cond (is_some first) [] (l ∷ good_from rules (before ++ l ∷ []) ls)
+    step : (first : Option End) → take (length (good_from rules (before ++ l ∷ []) ls)) ls
+        ≡ good_from rules (before ++ l ∷ []) ls
+        → take (length (cond (is_some first) [] (l ∷ good_from rules (before ++ l ∷ []) ls))) (l ∷ ls)
+        ≡ cond (is_some first) [] (l ∷ good_from rules (before ++ l ∷ []) ls)
     step None e = ap (λ z. l ∷ z) e
     step (Some x) e = refl
 
 -- as many lines as are good: what is kept of them is what is kept
-pub kept_first-good : (rules : Rules) (n : ℕ) (r : List ℕ) → n ≡ length (good rules r) → kept_first rules n r ≡ kept rules r
+pub kept_first-good : (rules : Rules) (n : ℕ) (r : List ℕ) → n ≡ length (good rules r)
+    → kept_first rules n r ≡ kept rules r
 kept_first-good rules n r e = rw e (ap (λ z. kept_from rules [] z) (good-take rules [] (lines r)))
 
 -- lines without a refusal, and then others
-pub good-append : (rules : Rules) (before xs ys : List Line) → refusal_from rules before xs ≡ None → good_from rules before (xs ++ ys) ≡ xs ++ good_from rules (before ++ xs) ys
+pub good-append : (rules : Rules) (before xs ys : List Line) → refusal_from rules before xs ≡ None
+    → good_from rules before (xs ++ ys) ≡ xs ++ good_from rules (before ++ xs) ys
 good-append rules before [] ys h = rw (append-nil before) refl
-good-append rules before (l ∷ xs) ys h = step (refusal_of rules (length before + 1) (verdict rules before l.content)) (good-append rules (before ++ l ∷ []) xs ys) h
+good-append rules before (l ∷ xs) ys h =
+    step (refusal_of rules (length before + 1) (verdict rules before l.content))
+        (good-append rules (before ++ l ∷ []) xs ys) h
   where
-    step : (first : Option End) → (refusal_from rules (before ++ l ∷ []) xs ≡ None → good_from rules (before ++ l ∷ []) (xs ++ ys) ≡ xs ++ good_from rules ((before ++ l ∷ []) ++ xs) ys)
+    step : (first : Option End)
+        → (refusal_from rules (before ++ l ∷ []) xs ≡ None → good_from rules (before ++ l ∷ []) (xs ++ ys) ≡ xs
+        ++ good_from rules ((before ++ l ∷ []) ++ xs) ys)
         → cond (is_some first) first (refusal_from rules (before ++ l ∷ []) xs) ≡ None
-        → cond (is_some first) [] (l ∷ good_from rules (before ++ l ∷ []) (xs ++ ys)) ≡ (l ∷ xs) ++ good_from rules (before ++ l ∷ xs) ys
+        → cond (is_some first) [] (l ∷ good_from rules (before ++ l ∷ []) (xs ++ ys)) ≡ (l ∷ xs)
+        ++ good_from rules (before ++ l ∷ xs) ys
     step None later h = ap (λ z. l ∷ z) (later h ∙ ap (λ z. xs ++ good_from rules z ys) (before-more before l xs))
     step (Some x) later h = absurd (some-none x h)
 
-pub good-all : (rules : Rules) (before ls : List Line) → refusal_from rules before ls ≡ None → good_from rules before ls ≡ ls
+pub good-all : (rules : Rules) (before ls : List Line) → refusal_from rules before ls ≡ None
+    → good_from rules before ls ≡ ls
 good-all rules before [] h = refl
 good-all rules before (l ∷ ls) h =
-    step (refusal_of rules (length before + 1) (verdict rules before l.content)) (refusal_from rules (before ++ l ∷ []) ls) (good-all rules (before ++ l ∷ []) ls) h
+    step (refusal_of rules (length before + 1) (verdict rules before l.content))
+        (refusal_from rules (before ++ l ∷ []) ls) (good-all rules (before ++ l ∷ []) ls) h
   where
-    step : (first rest : Option End) → (rest ≡ None → good_from rules (before ++ l ∷ []) ls ≡ ls) → cond (is_some first) first rest ≡ None
+    step : (first rest : Option End) → (rest ≡ None → good_from rules (before ++ l ∷ []) ls ≡ ls)
+        → cond (is_some first) first rest ≡ None
         → cond (is_some first) [] (l ∷ good_from rules (before ++ l ∷ []) ls) ≡ l ∷ ls
     step None rest k h = ap (λ z. l ∷ z) (k h)
     step (Some x) rest k h = absurd (some-none x h)
 
 -- the first refusal among lines stands after the good ones
-refusal-good : (rules : Rules) (before : List Line) (m place : ℕ) (reason : Reason) (ls : List Line) → refusal_from rules before ls ≡ Some (Refused m place reason)
+refusal-good : (rules : Rules) (before : List Line) (m place : ℕ) (reason : Reason) (ls : List Line)
+    → refusal_from rules before ls ≡ Some (Refused m place reason)
     → m ≡ length before + 1 + length (good_from rules before ls)
 refusal-good rules before m place reason [] h = absurd (none-some (Refused m place reason) h)
-refusal-good rules before m place reason (l ∷ ls) h = step (verdict rules before l.content) (refusal-good rules (before ++ l ∷ []) m place reason ls) h
+refusal-good rules before m place reason (l ∷ ls) h =
+    step (verdict rules before l.content) (refusal-good rules (before ++ l ∷ []) m place reason ls) h
   where
     one : length (before ++ l ∷ []) ≡ length before + 1
     one = length-append before (l ∷ [])
 
-    step : (v : Verdict) → (refusal_from rules (before ++ l ∷ []) ls ≡ Some (Refused m place reason) → m ≡ length (before ++ l ∷ []) + 1 + length (good_from rules (before ++ l ∷ []) ls))
-        → cond (is_some (refusal_of rules (length before + 1) v)) (refusal_of rules (length before + 1) v) (refusal_from rules (before ++ l ∷ []) ls) ≡ Some (Refused m place reason)
-        → m ≡ length before + 1 + length (cond (is_some (refusal_of rules (length before + 1) v)) [] (l ∷ good_from rules (before ++ l ∷ []) ls))
+    step : (v : Verdict) → (refusal_from rules (before ++ l ∷ []) ls ≡ Some (Refused m place reason)
+        → m ≡ length (before ++ l ∷ []) + 1 + length (good_from rules (before ++ l ∷ []) ls))
+        → cond (is_some (refusal_of rules (length before + 1) v)) (refusal_of rules (length before + 1) v)
+            (refusal_from rules (before ++ l ∷ []) ls) ≡ Some (Refused m place reason)
+        → m ≡ length before + 1 + length
+            (cond (is_some (refusal_of rules (length before + 1) v)) [] (l ∷ good_from rules (before ++ l ∷ []) ls))
     step (Refuse q why) later h = on (goes_on rules (length before + 1)) h
       where
         on : (b : Bool)
-            → cond (is_some (cond b None (Some (Refused (length before + 1) q why)))) (cond b None (Some (Refused (length before + 1) q why))) (refusal_from rules (before ++ l ∷ []) ls) ≡ Some (Refused m place reason)
-            → m ≡ length before + 1 + length (cond (is_some (cond b None (Some (Refused (length before + 1) q why)))) [] (l ∷ good_from rules (before ++ l ∷ []) ls))
+            → cond (is_some (cond b None (Some (Refused (length before + 1) q why))))
+                (cond b None (Some (Refused (length before + 1) q why))) (refusal_from rules (before ++ l ∷ []) ls)
+            ≡ Some (Refused m place reason)
+            → m ≡ length before + 1 + length
+                (cond (is_some (cond b None (Some (Refused (length before + 1) q why)))) []
+                (l ∷ good_from rules (before ++ l ∷ []) ls))
         on true h = omega (arith, later h, one)
         on false h = let same : length before + 1 ≡ m = cc in omega (arith, same)
     step Blank later h = omega (arith, later h, one)
@@ -73,14 +96,18 @@ refusal-good rules before m place reason (l ∷ ls) h = step (verdict rules befo
 -- a refusal is no completion
 pub refusal-kind : (rules : Rules) (before ls : List Line) → refusal_from rules before ls ≡ Some Complete → ⊥
 refusal-kind rules before [] h = none-some Complete h
-refusal-kind rules before (l ∷ ls) h = step (verdict rules before l.content) (refusal-kind rules (before ++ l ∷ []) ls) h
+refusal-kind rules before (l ∷ ls) h =
+    step (verdict rules before l.content) (refusal-kind rules (before ++ l ∷ []) ls) h
   where
     step : (v : Verdict) → (refusal_from rules (before ++ l ∷ []) ls ≡ Some Complete → ⊥)
-        → cond (is_some (refusal_of rules (length before + 1) v)) (refusal_of rules (length before + 1) v) (refusal_from rules (before ++ l ∷ []) ls) ≡ Some Complete → ⊥
+        → cond (is_some (refusal_of rules (length before + 1) v)) (refusal_of rules (length before + 1) v)
+            (refusal_from rules (before ++ l ∷ []) ls) ≡ Some Complete → ⊥
     step (Refuse q why) later h = on (goes_on rules (length before + 1)) h
       where
         on : (b : Bool)
-            → cond (is_some (cond b None (Some (Refused (length before + 1) q why)))) (cond b None (Some (Refused (length before + 1) q why))) (refusal_from rules (before ++ l ∷ []) ls) ≡ Some Complete → ⊥
+            → cond (is_some (cond b None (Some (Refused (length before + 1) q why))))
+                (cond b None (Some (Refused (length before + 1) q why))) (refusal_from rules (before ++ l ∷ []) ls)
+            ≡ Some Complete → ⊥
         on true h = later h
         on false h = cc
     step Blank later h = later h
@@ -91,7 +118,8 @@ none_of : (o : Option End) → (o ≡ Some Complete → ⊥) → unwrap_or o Com
 none_of None n h = refl
 none_of (Some x) n h = absurd (n (ap (λ z. Some z) h))
 
-some_of : (o : Option End) (m place : ℕ) (reason : Reason) → unwrap_or o Complete ≡ Refused m place reason → o ≡ Some (Refused m place reason)
+some_of : (o : Option End) (m place : ℕ) (reason : Reason) → unwrap_or o Complete ≡ Refused m place reason
+    → o ≡ Some (Refused m place reason)
 some_of None m place reason h = cc
 some_of (Some x) m place reason h = ap (λ z. Some z) h
 
@@ -104,26 +132,34 @@ good-complete rules r e = go (lines r) e
     go (l ∷ ls) h = good-all rules [] (l ∷ ls) (none_of (refusal_in rules (l ∷ ls)) (refusal-kind rules [] (l ∷ ls)) h)
 
 -- of a text that is refused, the refused line comes after the good ones
-pub good-refused : (rules : Rules) (r : List ℕ) (number place : ℕ) (reason : Reason) → ending rules r ≡ Refused number place reason → number ≡ length (good rules r) + 1
+pub good-refused : (rules : Rules) (r : List ℕ) (number place : ℕ) (reason : Reason)
+    → ending rules r ≡ Refused number place reason → number ≡ length (good rules r) + 1
 good-refused rules r number place reason e = go (lines r) e
   where
-    go : (ls : List Line) → ending_of rules ls ≡ Refused number place reason → number ≡ length (good_from rules [] ls) + 1
+    go : (ls : List Line) → ending_of rules ls ≡ Refused number place reason
+        → number ≡ length (good_from rules [] ls) + 1
     go [] h = number_of h
       where
         number_of : Refused 1 0 NoHeader ≡ Refused number place reason → number ≡ 1
         number_of h = cc
-    go (l ∷ ls) h = omega (arith, refusal-good rules [] number place reason (l ∷ ls) (some_of (refusal_in rules (l ∷ ls)) number place reason h))
+    go (l ∷ ls) h =
+        omega (arith, refusal-good rules [] number place reason (l ∷ ls)
+            (some_of (refusal_in rules (l ∷ ls)) number place reason h))
 
 -- what is kept: of the first n lines, where none of them is refused, and then of the others
 pub kept-split : (rules : Rules) (n : ℕ) (r : List ℕ) → refusal_in rules (take n (lines r)) ≡ None
-    → kept rules r ≡ kept_first rules n r ++ kept_from rules (take n (lines r)) (good_from rules (take n (lines r)) (drop n (lines r)))
+    → kept rules r ≡ kept_first rules n r
+    ++ kept_from rules (take n (lines r)) (good_from rules (take n (lines r)) (drop n (lines r)))
 kept-split rules n r h =
     let xs = take n (lines r) in
     let ys = drop n (lines r) in
     let whole : lines r ≡ take n (lines r) ++ drop n (lines r) = sym (take-append-drop n (lines r)) in
-    let g : good_from rules [] (take n (lines r) ++ drop n (lines r)) ≡ take n (lines r) ++ good_from rules (take n (lines r)) (drop n (lines r)) = good-append rules [] xs ys h in
+    let g : good_from rules [] (take n (lines r) ++ drop n (lines r)) ≡ take n (lines r)
+        ++ good_from rules (take n (lines r)) (drop n (lines r)) = good-append rules [] xs ys h in
     let k : kept_from rules [] (take n (lines r) ++ good_from rules (take n (lines r)) (drop n (lines r)))
-    ≡ kept_from rules [] (take n (lines r)) ++ kept_from rules (take n (lines r)) (good_from rules (take n (lines r)) (drop n (lines r))) = kept-append rules [] xs (good_from rules xs ys) in
+    ≡ kept_from rules [] (take n (lines r))
+    ++ kept_from rules (take n (lines r)) (good_from rules (take n (lines r)) (drop n (lines r))) =
+    kept-append rules [] xs (good_from rules xs ys) in
     ap (λ z. kept_from rules [] (good_from rules [] z)) whole ∙ (ap (λ z. kept_from rules [] z) g ∙ k)
 
 drop-next : (ls : List Line) (n : ℕ) (l : Line) → slice_get ls n ≡ Some l → (rest : List Line) × (drop n ls ≡ l ∷ rest)
@@ -135,12 +171,15 @@ drop-next (x ∷ ls) zero l h = (ls, ap (λ z. z ∷ ls) (same h))
 drop-next (x ∷ ls) (suc n) l h = drop-next ls n l h
 
 -- a line that is kept is good
-kept-head : (rules : Rules) (before : List Line) (l : Line) (rest : List Line) → is_kept (verdict rules before l.content) ≡ true
-    → kept_from rules before (good_from rules before (l ∷ rest)) ≡ item_after rules before l ∷ kept_from rules (before ++ l ∷ []) (good_from rules (before ++ l ∷ []) rest)
+kept-head : (rules : Rules) (before : List Line) (l : Line) (rest : List Line)
+    → is_kept (verdict rules before l.content) ≡ true
+    → kept_from rules before (good_from rules before (l ∷ rest)) ≡ item_after rules before l ∷ kept_from rules
+        (before ++ l ∷ []) (good_from rules (before ++ l ∷ []) rest)
 kept-head rules before l rest h = step (verdict rules before l.content) refl h
   where
     step : (v : Verdict) → verdict rules before l.content ≡ v → is_kept v ≡ true
-        → kept_from rules before (good_from rules before (l ∷ rest)) ≡ item_after rules before l ∷ kept_from rules (before ++ l ∷ []) (good_from rules (before ++ l ∷ []) rest)
+        → kept_from rules before (good_from rules before (l ∷ rest)) ≡ item_after rules before l ∷ kept_from rules
+            (before ++ l ∷ []) (good_from rules (before ++ l ∷ []) rest)
     step (Refuse place reason) e k = absurd (false-true k)
     step Blank e k = absurd (false-true k)
     step LeftOut e k = absurd (false-true k)
@@ -154,5 +193,7 @@ kept-next_line rules n r l h at k =
     let d = drop-next (lines r) n l at in
     let before = take n (lines r) in (
       kept_from rules (before ++ l ∷ []) (good_from rules (before ++ l ∷ []) d.0),
-      kept-split rules n r h ∙ ap (λ z. kept_first rules n r ++ z) (ap (λ z. kept_from rules (take n (lines r)) (good_from rules (take n (lines r)) z)) d.1 ∙ kept-head rules (take n (lines r)) l d.0 k),
+      kept-split rules n r h ∙ ap (λ z. kept_first rules n r ++ z)
+          (ap (λ z. kept_from rules (take n (lines r)) (good_from rules (take n (lines r)) z)) d.1
+          ∙ kept-head rules (take n (lines r)) l d.0 k),
     )

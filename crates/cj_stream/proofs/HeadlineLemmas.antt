@@ -45,9 +45,11 @@ fault-not_complete h = cc
 memory-not_complete : Memory ≡ Complete → ⊥
 memory-not_complete h = cc
 
-module _ {N : Type 0} (notes : N → Report → N → Type 0) (a b : N) (rules : Rules) (r : List ℕ) (at_end : Type 0) (n : ℕ) (peaks : Peaks) (bounded : IsBounded rules.limits r peaks) where
+module _ {N : Type 0} (notes : N → Report → N → Type 0) (a b : N) (rules : Rules) (r : List ℕ) (at_end : Type 0) (n : ℕ)
+    (peaks : Peaks) (bounded : IsBounded rules.limits r peaks) where
   -- a run whose end is that of each text that begins so
-  told : (e : End) (old new : Channel) (rest : List ℕ) → (e ≡ ending rules (r ++ rest)) → Appends old.bytes new.bytes (output rules (r ++ rest)) → Took notes a (reported rules (r ++ rest)) b
+  told : (e : End) (old new : Channel) (rest : List ℕ) → (e ≡ ending rules (r ++ rest))
+      → Appends old.bytes new.bytes (output rules (r ++ rest)) → Took notes a (reported rules (r ++ rest)) b
       → (e ≡ WriteFault → HasRisen old.failures new.failures) → (e ≡ Complete → IsExact rules.limits (r ++ rest) peaks)
       → Headline notes (fate_of rules (r ++ rest) r e peaks) (outputs old a) (outputs new b)
   told e old new rest ends writes gives cause exact = record {
@@ -67,7 +69,8 @@ module _ {N : Type 0} (notes : N → Report → N → Type 0) (a b : N) (rules :
   ended Complete old new ends exact w noted c rest all u =
       let none = all ends.2 in
       let nothing : r ++ rest ≡ r = rw none (append-nil r) in
-      told Complete old new rest (rw nothing (sym ends.0)) (rw nothing w) (rw nothing noted) c (λ h. rw nothing (exact h))
+      told Complete old new rest (rw nothing (sym ends.0)) (rw nothing w) (rw nothing noted) c
+          (λ h. rw nothing (exact h))
   ended (Refused number place reason) old new ends exact w noted c rest all u = go ends.2
     where
       go : at_end ⊎ (refusal_in rules (judged rules.limits r) ≡ Some (Refused number place reason))
@@ -76,10 +79,12 @@ module _ {N : Type 0} (notes : N → Report → N → Type 0) (a b : N) (rules :
       go (inl end) =
           let none = all end in
           let nothing : r ++ rest ≡ r = rw none (append-nil r) in
-          told (Refused number place reason) old new rest (rw nothing (sym ends.0)) (rw nothing w) (rw nothing noted) c (λ h. absurd (refusal-not_complete number place reason h))
+          told (Refused number place reason) old new rest (rw nothing (sym ends.0)) (rw nothing w) (rw nothing noted) c
+              (λ h. absurd (refusal-not_complete number place reason h))
       go (inr refused) =
           let more = refused-more rules r rest (Refused number place reason) refused in
-          told (Refused number place reason) old new rest (sym more.0) (rw more.1 w) (rw more.2 noted) c (λ h. absurd (refusal-not_complete number place reason h))
+          told (Refused number place reason) old new rest (sym more.0) (rw more.1 w) (rw more.2 noted) c
+              (λ h. absurd (refusal-not_complete number place reason h))
   ended ReadFault old new ends exact w noted c rest all u = absurd u
   ended ReadLimit old new ends exact w noted c rest all u = absurd u
   ended WriteFault old new ends exact w noted c rest all u = record {
@@ -100,14 +105,16 @@ module _ {N : Type 0} (notes : N → Report → N → Type 0) (a b : N) (rules :
   }
 
 -- what a run over a writer tells is the headline
-pub Headline-run : {N : Type 0} (notes : N → Report → N → Type 0) (run : Run) (at_end : Type 0) (old new : Channel) (a b : N) → Account run at_end
+pub Headline-run : {N : Type 0} (notes : N → Report → N → Type 0) (run : Run) (at_end : Type 0) (old new : Channel)
+    (a b : N) → Account run at_end
     → Writes (stream_of run.rules run.read) run.outcome.ended old.bytes new.bytes
     → NotesRun notes (stream_of run.rules run.read)
     run.outcome.ended a b
     → (run.outcome.ended ≡ WriteFault → HasRisen old.failures new.failures) → HeadlineOfRun notes run at_end
     (outputs old a) (outputs new b)
 Headline-run notes run at_end old new a b account writes noted cause =
-    ended notes a b run.rules run.read at_end run.outcome.lines run.outcome.peaks account.bounded run.outcome.ended old new account.ends account.exact writes noted cause
+    ended notes a b run.rules run.read at_end run.outcome.lines run.outcome.peaks account.bounded run.outcome.ended old
+        new account.ends account.exact writes noted cause
 
 -- what was noted of pieces, where nothing hindered it
 pub NotesPieces-gives : {N : Type 0} (notes : N → Report → N → Type 0) (rules : Rules) (pieces : List (List ℕ)) (n : ℕ)

@@ -29,7 +29,9 @@ use Rattle.cj_stream.specs.Ids.{Key, key_of, compare_keys, pieces, may_cut, piec
 
 -- keys have one order
 pub keys_total : IsTotalOrder compare_keys
-keys_total = then_total (on_total (λ (k : Key). k.number) nat_cmp_total) (on_total (λ (k : Key). k.text) (options_total nat_list_cmp_total))
+keys_total =
+    then_total (on_total (λ (k : Key). k.number) nat_cmp_total)
+        (on_total (λ (k : Key). k.text) (options_total nat_list_cmp_total))
 
 -- ---- what is the same key
 
@@ -52,10 +54,13 @@ reversed Greater = refl
 same_texts : (s t : List ℕ) → compare s t ≡ Equal → s ≡ t
 same_texts s t h = (bytes_decides s t).0 (texts_ties s t ∙ ap is_eq h)
 
-pub same_key : (s : List ℕ) (o : Option (List ℕ)) → is_eq (compare_keys (key_of (Some s)) (key_of o)) ≡ are_same_texts o (Some s)
+pub same_key : (s : List ℕ) (o : Option (List ℕ)) → is_eq (compare_keys (key_of (Some s)) (key_of o))
+    ≡ are_same_texts o (Some s)
 same_key s None = then_equal (nat_cmp (tail_of (Some s)) (tail_of None)) Greater (λ h. cc)
 same_key s (Some t) =
-    let equal : compare s t ≡ Equal → nat_cmp (tail_of (Some s)) (tail_of (Some t)) ≡ Equal = λ h. subst (λ u. nat_cmp (tail_of (Some s)) (tail_of (Some u)) ≡ Equal) (same_texts s t h) (tied_itself nat_cmp_total (tail_of (Some s))) in
+    let equal : compare s t ≡ Equal → nat_cmp (tail_of (Some s)) (tail_of (Some t)) ≡ Equal =
+        λ h. subst (λ u. nat_cmp (tail_of (Some s)) (tail_of (Some u)) ≡ Equal) (same_texts s t h)
+            (tied_itself nat_cmp_total (tail_of (Some s))) in
     then_equal (nat_cmp (tail_of (Some s)) (tail_of (Some t))) (compare s t) equal
     ∙ sym (reversed (compare s t))
     ∙ ap is_eq (sym (nat_list_cmp_total.antisymm t s))
@@ -65,11 +70,14 @@ same_key s (Some t) =
 pub has_key : (ids : List (List ℕ)) (t : Tree)
     → list_any (λ key. is_eq (compare_keys key (key_of (text_of t)))) (keys_of ids) ≡ is_one_of ids t
 has_key [] t = refl
-has_key (id ∷ ids) t = ap (λ b. b || list_any (λ key. is_eq (compare_keys key (key_of (text_of t)))) (keys_of ids)) (same_key (chars id) (text_of t))
+has_key (id ∷ ids) t = ap (λ b. b || list_any (λ key. is_eq (compare_keys key (key_of (text_of t)))) (keys_of ids))
+    (same_key (chars id) (text_of t))
     ∙ ap (λ b. are_same_texts (text_of t) (Some (chars id)) || b) (has_key ids t)
 
 -- where the numbers are equal, a key is the same where the text is
-pub same_beside : (n : ℕ) (s : List ℕ) (o : Option (List ℕ)) → are_same_texts o (Some s) ≡ is_eq (compare_keys (record { number = n; text = Some s }) (record { number = n; text = o }))
+pub same_beside : (n : ℕ) (s : List ℕ) (o : Option (List ℕ))
+    → are_same_texts o (Some s)
+    ≡ is_eq (compare_keys (record { number = n; text = Some s }) (record { number = n; text = o }))
 same_beside n s None = ap (λ r. is_eq (ordering_then r Greater)) (sym (tied_itself nat_cmp_total n))
 same_beside n s (Some t) =
     texts_ties t s
@@ -79,7 +87,8 @@ same_beside n s (Some t) =
 
 -- a text beside a key is compared by the turned answer, where the numbers are equal
 pub compare_turned : (n m : ℕ) (s : List ℕ) (o : Option (List ℕ)) → nat_cmp n m ≡ Equal
-    → ordering_reverse (compare_texts o (Some s)) ≡ compare_keys (record { number = n; text = Some s }) (record { number = m; text = o })
+    → ordering_reverse (compare_texts o (Some s)) ≡ compare_keys (record { number = n; text = Some s })
+        (record { number = m; text = o })
 compare_turned n m s o e =
     let total = options_total nat_list_cmp_total in
     sym (ap (λ r. ordering_then r (compare_texts (Some s) o)) e ∙ total.antisymm (Some s) o)
@@ -109,15 +118,19 @@ module _ {X : Type 0} (f : X → Key) where
 
   -- a binary search in what is in order finds a key where there is one
   pub found : (q : Key) (xs : List X) (r : Result ℕ ℕ) → Ascend (map f xs) → IsSearchInRange r (length xs)
-      → IsBinarySearchResult (λ x. compare_keys (f x) q) xs r → is_ok r ≡ list_any (λ key. is_eq (compare_keys key q)) (map f xs)
+      → IsBinarySearchResult (λ x. compare_keys (f x) q) xs r
+      → is_ok r ≡ list_any (λ key. is_eq (compare_keys key q)) (map f xs)
   found q [] (Ok i) up within is = absurd (omega arith)
   found q (x ∷ xs) (Ok i) up within is =
-      sym (list_any_map (λ key. is_eq (compare_keys key q)) (x ∷ xs) ∙ list_any_at (λ y. is_eq (compare_keys (f y) q)) (x ∷ xs) i x within (ap is_eq (is x)))
+      sym (list_any_map (λ key. is_eq (compare_keys key q)) (x ∷ xs)
+          ∙ list_any_at (λ y. is_eq (compare_keys (f y) q)) (x ∷ xs) i x within (ap is_eq (is x)))
   found q xs (Err i) up within is =
       let parts = is (searchable_from_sorted keys_total f xs q (ascend_by_keys xs up)) in
       let none : All (λ y. is_eq (compare_keys (f y) q) ≡ false) xs =
-      λ k d h. elim (cases_lt k i) [ inl below ↦ ap is_eq (parts.0 k d (omega arith) below) | inr above ↦ ap is_eq (parts.1 k d above h) ] in
-      sym (list_any_map (λ key. is_eq (compare_keys key q)) xs ∙ list_any_none (λ y. is_eq (compare_keys (f y) q)) xs none)
+      λ k d h. elim (cases_lt k i) [ inl below ↦ ap is_eq (parts.0 k d (omega arith) below) | inr above ↦
+          ap is_eq (parts.1 k d above h) ] in
+      sym (list_any_map (λ key. is_eq (compare_keys key q)) xs
+          ∙ list_any_none (λ y. is_eq (compare_keys (f y) q)) xs none)
 
 -- ---- runs
 
@@ -129,7 +142,8 @@ runs_sum keys (n ∷ ns) runs =
     sum_by-cons (λ x. x) n ns ∙ omega (arith, rest, runs.0, length-drop n keys)
 
 -- the first runs
-runs_front : (keys : List Key) (ns : List ℕ) (j : ℕ) → AreRuns keys ns → AreRuns (take (sum (take j ns)) keys) (take j ns)
+runs_front : (keys : List Key) (ns : List ℕ) (j : ℕ) → AreRuns keys ns
+    → AreRuns (take (sum (take j ns)) keys) (take j ns)
 runs_front keys ns zero runs = refl
 runs_front keys [] (suc j) runs = refl
 runs_front keys (n ∷ ns) (suc j) runs =
@@ -142,14 +156,17 @@ runs_front keys (n ∷ ns) (suc j) runs =
     )
 
 -- one run more
-runs_back : (keys more : List Key) (ns : List ℕ) → AreRuns keys ns → Ascend more → AreRuns (keys ++ more) (ns ++ length more ∷ [])
+runs_back : (keys more : List Key) (ns : List ℕ) → AreRuns keys ns → Ascend more
+    → AreRuns (keys ++ more) (ns ++ length more ∷ [])
 runs_back keys more [] runs up =
     subst (λ ks. AreRuns (ks ++ more) (length more ∷ [])) (sym runs)
-    (omega arith, subst Ascend (sym (take_all (length more) more (omega arith))) up, drop_all (length more) more (omega arith))
+    (omega arith, subst Ascend (sym (take_all (length more) more (omega arith))) up,
+        drop_all (length more) more (omega arith))
 runs_back keys more (n ∷ ns) runs up = (
   omega (arith, runs.0, length-append keys more),
   subst Ascend (sym (take-append-le n keys more runs.0)) runs.1,
-  subst (λ ks. AreRuns ks (ns ++ length more ∷ [])) (sym (drop-append-le n keys more runs.0)) (runs_back (drop n keys) more ns runs.2 up),
+  subst (λ ks. AreRuns ks (ns ++ length more ∷ [])) (sym (drop-append-le n keys more runs.0))
+      (runs_back (drop n keys) more ns runs.2 up),
 )
 
 -- ---- one id more
@@ -157,18 +174,22 @@ runs_back keys more (n ∷ ns) runs up = (
 -- where a text may be cut, it may be where another follows it
 seam_kept : (xs ys : List ℕ) (i : ℕ) → IsUtf8 ys → IsCharBoundary xs i → IsCharBoundary (xs ++ ys) i
 seam_kept xs ys i utf8 seam = elim (cases_lt i (length xs)) [
-  | inl below ↦ (omega (arith, below, length-append xs ys), λ l a. let same = get_or_append_left xs ys 0 i below in omega (arith, seam.1 below (omega (arith, a, same)), same))
-  | inr above ↦ subst (IsCharBoundary (xs ++ ys)) (omega (arith, above, seam.0)) (IsCharBoundary-at_seam (xs ++ ys) xs ys refl utf8)
+  | inl below ↦ (omega (arith, below, length-append xs ys), λ l a. let same = get_or_append_left xs ys 0 i below in
+      omega (arith, seam.1 below (omega (arith, a, same)), same))
+  | inr above ↦ subst (IsCharBoundary (xs ++ ys)) (omega (arith, above, seam.0))
+      (IsCharBoundary-at_seam (xs ++ ys) xs ys refl utf8)
 ]
 
 cuts : (bytes : List ℕ) (i : ℕ) → IsCharBoundary bytes i → may_cut bytes i ≡ true
 cuts bytes i seam = grind (arith, nat_tests, seam)
 
-piece_is : (bytes : List ℕ) (start end : ℕ) → start ≤ end → IsCharBoundary bytes start → IsCharBoundary bytes end → piece bytes start end ≡ slice_range bytes start end
+piece_is : (bytes : List ℕ) (start end : ℕ) → start ≤ end → IsCharBoundary bytes start → IsCharBoundary bytes end
+    → piece bytes start end ≡ slice_range bytes start end
 piece_is bytes start end up first last = grind (arith, nat_tests, up, cuts bytes start first, cuts bytes end last)
 
 -- the ids and one more
-pub pieces_more : (bytes id : List ℕ) (ns : List ℕ) → sum ns ≡ length bytes → pieces (bytes ++ id) (ns ++ length id ∷ []) ≡ pieces bytes ns ++ id ∷ []
+pub pieces_more : (bytes id : List ℕ) (ns : List ℕ) → sum ns ≡ length bytes
+    → pieces (bytes ++ id) (ns ++ length id ∷ []) ≡ pieces bytes ns ++ id ∷ []
 pieces_more [] id [] h = ap (λ t. t ∷ []) (take_all (length id) id (omega arith))
 pieces_more (b ∷ bytes) id [] h = absurd (omega (arith, h))
 pieces_more bytes id (n ∷ ns) h =
@@ -186,15 +207,19 @@ module _ (bytes id : List ℕ) (utf8 : IsUtf8 id) where
   same_keys (e ∷ entries) within =
       let here : IsCut bytes e = within 0 e (omega arith) in
       let rest = same_keys entries (λ k d h. within (suc k) d (omega arith)) in
-      let same : key_at (bytes ++ id) e ≡ key_at bytes e = ap (λ s. record { number = e.number; text = Some (chars s) }) (kept e here) in
+      let same : key_at (bytes ++ id) e ≡ key_at bytes e =
+          ap (λ s. record { number = e.number; text = Some (chars s) }) (kept e here) in
       ap (λ k. k ∷ keys_at (bytes ++ id) entries) same ∙ ap (λ ks. key_at bytes e ∷ ks) rest
     where
       kept : (e : Entry) → IsCut bytes e → piece (bytes ++ id) e.start e.end ≡ piece bytes e.start e.end
       kept e cut =
           let low : e.start ≤ length bytes = cut.1.0 in
-          let short : e.end - e.start ≤ length (drop e.start bytes) = omega (arith, cut.2.0, length-drop e.start bytes) in
-          piece_is (bytes ++ id) e.start e.end cut.0 (seam_kept bytes id e.start utf8 cut.1) (seam_kept bytes id e.end utf8 cut.2)
-          ∙ ap (take (e.end - e.start)) (drop-append-le e.start bytes id low) ∙ take-append-le (e.end - e.start) (drop e.start bytes) id short
+          let short : e.end - e.start ≤ length (drop e.start bytes) =
+              omega (arith, cut.2.0, length-drop e.start bytes) in
+          piece_is (bytes ++ id) e.start e.end cut.0 (seam_kept bytes id e.start utf8 cut.1)
+              (seam_kept bytes id e.end utf8 cut.2)
+          ∙ ap (take (e.end - e.start)) (drop-append-le e.start bytes id low)
+          ∙ take-append-le (e.end - e.start) (drop e.start bytes) id short
           ∙ sym (piece_is bytes e.start e.end cut.0 cut.1 cut.2)
 
   -- the new id's entry is cut out of it
@@ -206,19 +231,22 @@ module _ (bytes id : List ℕ) (utf8 : IsUtf8 id) where
   )
 
   -- and has its key
-  new_key : (e : Entry) → e.number ≡ tail_of (Some (chars id)) → e.start ≡ length bytes → e.end ≡ length (bytes ++ id) → key_at (bytes ++ id) e ≡ key_of (Some (chars id))
+  new_key : (e : Entry) → e.number ≡ tail_of (Some (chars id)) → e.start ≡ length bytes → e.end ≡ length (bytes ++ id)
+      → key_at (bytes ++ id) e ≡ key_of (Some (chars id))
   new_key e n start end =
       let cut = new_cut e start end in
       let told : piece (bytes ++ id) e.start e.end ≡ id =
       piece_is (bytes ++ id) e.start e.end cut.0 cut.1 cut.2
       ∙ ap (take (e.end - e.start)) (drop_at bytes id e.start (sym start))
       ∙ take_all (e.end - e.start) id (omega (arith, start, end, length-append bytes id)) in
-      let numbered : key_at (bytes ++ id) e ≡ record { number = tail_of (Some (chars id)); text = Some (chars (piece (bytes ++ id) e.start e.end)) } =
+      let numbered : key_at (bytes ++ id) e
+          ≡ record { number = tail_of (Some (chars id)); text = Some (chars (piece (bytes ++ id) e.start e.end)) } =
       ap (λ m. record { number = m; text = Some (chars (piece (bytes ++ id) e.start e.end)) }) n in
       numbered ∙ ap (λ s. record { number = tail_of (Some (chars id)); text = Some (chars s) }) told
 
   -- the entries of one id more, sorted from a place on that joins the runs that were taken off
-  pub indexed_more : (lengths : List ℕ) (entries sorted : List Entry) (runs left : List ℕ) (e : Entry) (count start : ℕ) → AreIndexed bytes lengths entries runs
+  pub indexed_more : (lengths : List ℕ) (entries sorted : List Entry) (runs left : List ℕ) (e : Entry) (count start : ℕ)
+      → AreIndexed bytes lengths entries runs
       → e.number ≡ tail_of (Some (chars id)) → e.start ≡ length bytes → e.end ≡ length (bytes ++ id)
       → left ≡ take (length left) runs → sum left + count ≡ sum runs + 1 → start + count ≡ length entries + 1
       → take start sorted ≡ take start (entries ++ e ∷ []) → IsPermutation (entries ++ e ∷ []) sorted
@@ -230,20 +258,26 @@ module _ (bytes id : List ℕ) (utf8 : IsUtf8 id) where
       let key : Key = key_of (Some (chars id)) in
       let ids : List (List ℕ) = pieces bytes lengths in
       let held : sum runs ≡ length keys = runs_sum keys runs old.ordered in
-      let few : sum left ≤ sum runs = subst (λ ns. sum ns ≤ sum runs) (sym front) (sum_by-take-le (λ x. x) runs (length left)) in
+      let few : sum left ≤ sum runs =
+          subst (λ ns. sum ns ≤ sum runs) (sym front) (sum_by-take-le (λ x. x) runs (length left)) in
       let first : sum left ≡ start = omega (arith, counts, starts, held, length-map entries (key_at bytes)) in
       let low : start ≤ length entries = omega (arith, first, few, held, length-map entries (key_at bytes)) in
-      let front_runs : AreRuns (take (sum left) keys) left = subst (λ ns. AreRuns (take (sum ns) keys) ns) (sym front) (runs_front keys runs (length left) old.ordered) in
+      let front_runs : AreRuns (take (sum left) keys) left =
+          subst (λ ns. AreRuns (take (sum ns) keys) ns) (sym front) (runs_front keys runs (length left) old.ordered) in
       let same : keys_at more (take start sorted) ≡ take start keys =
-      ap (keys_at more) (kept ∙ take-append-le start entries (e ∷ []) low) ∙ sym (take-map (key_at more) start entries) ∙ ap (take start) (same_keys entries old.within) in
+      ap (keys_at more) (kept ∙ take-append-le start entries (e ∷ []) low) ∙ sym (take-map (key_at more) start entries)
+          ∙ ap (take start) (same_keys entries old.within) in
       let fronts : AreRuns (keys_at more (take start sorted)) left =
       subst (λ ks. AreRuns ks left) (sym same) (subst (λ m. AreRuns (take m keys) left) first front_runs) in
       let back : length (keys_at more (drop start sorted)) ≡ count =
-      omega (arith, length-map (drop start sorted) (key_at more), length-drop start sorted, length_permutation (entries ++ e ∷ []) sorted moved, length-append entries (e ∷ []), starts, low) in
+      omega (arith, length-map (drop start sorted) (key_at more), length-drop start sorted,
+          length_permutation (entries ++ e ∷ []) sorted moved, length-append entries (e ∷ []), starts, low) in
       let whole : keys_at more (take start sorted) ++ keys_at more (drop start sorted) ≡ keys_at more sorted =
-      sym (map-append (key_at more) (take start sorted) (drop start sorted)) ∙ ap (keys_at more) (take-append-drop start sorted) in
+      sym (map-append (key_at more) (take start sorted) (drop start sorted))
+          ∙ ap (keys_at more) (take-append-drop start sorted) in
       let ended : keys_at more (entries ++ e ∷ []) ≡ keys ++ key ∷ [] =
-      map-append (key_at more) entries (e ∷ []) ∙ ap (λ ks. ks ++ key_at more e ∷ []) (same_keys entries old.within) ∙ ap (λ k. keys ++ k ∷ []) (new_key e number begins ends) in
+      map-append (key_at more) entries (e ∷ []) ∙ ap (λ ks. ks ++ key_at more e ∷ []) (same_keys entries old.within)
+          ∙ ap (λ k. keys ++ k ∷ []) (new_key e number begins ends) in
       let added : keys_of (pieces more (lengths ++ length id ∷ [])) ≡ keys_of ids ++ key ∷ [] =
       ap keys_of (pieces_more bytes id lengths old.held) ∙ map-append (λ i. key_of (Some (chars i))) ids (id ∷ []) in
       let each : IsPermutation (keys_of (pieces more (lengths ++ length id ∷ []))) (keys ++ key ∷ []) =
@@ -252,17 +286,24 @@ module _ (bytes id : List ℕ) (utf8 : IsUtf8 id) where
       record {
         held = sum_by-append (λ x. x) lengths (length id ∷ []) ∙ omega (arith, old.held, length-append bytes id);
         within = All-permutation (IsCut more) (entries ++ e ∷ []) sorted moved
-            (All-append (IsCut more) entries (e ∷ []) (λ k d h. let cut = old.within k d h in (cut.0, seam_kept bytes id (get_or entries k d).start utf8 cut.1, seam_kept bytes id (get_or entries k d).end utf8 cut.2))
+            (All-append (IsCut more) entries (e ∷ []) (λ k d h. let cut = old.within k d h in
+                    (cut.0, seam_kept bytes id (get_or entries k d).start utf8 cut.1,
+                        seam_kept bytes id (get_or entries k d).end utf8 cut.2))
             (All-cons (IsCut more) e [] (new_cut e begins ends) (All-nil (IsCut more))));
-        each = IsPermutation-trans (keys_of (pieces more (lengths ++ length id ∷ []))) (keys_at more (entries ++ e ∷ [])) (keys_at more sorted)
-            (subst (IsPermutation (keys_of (pieces more (lengths ++ length id ∷ [])))) (sym ended) each) (IsPermutation-map (key_at more) (entries ++ e ∷ []) sorted moved);
+        each = IsPermutation-trans (keys_of (pieces more (lengths ++ length id ∷ [])))
+            (keys_at more (entries ++ e ∷ [])) (keys_at more sorted)
+            (subst (IsPermutation (keys_of (pieces more (lengths ++ length id ∷ [])))) (sym ended) each)
+                (IsPermutation-map (key_at more) (entries ++ e ∷ []) sorted moved);
         ordered = subst (λ ks. AreRuns ks (left ++ count ∷ [])) whole
-            (subst (λ n. AreRuns (keys_at more (take start sorted) ++ keys_at more (drop start sorted)) (left ++ n ∷ [])) back
+            (subst (λ n. AreRuns (keys_at more (take start sorted) ++ keys_at more (drop start sorted))
+                    (left ++ n ∷ [])) back
             (runs_back (keys_at more (take start sorted)) (keys_at more (drop start sorted)) left fronts up));
       }
 
 -- all entries in one run
-pub indexed_whole : (bytes lengths : List ℕ) (entries sorted : List Entry) (runs : List ℕ) (count : ℕ) → AreIndexed bytes lengths entries runs → IsPermutation entries sorted → Ascend (keys_at bytes sorted) → count ≡ length sorted
+pub indexed_whole : (bytes lengths : List ℕ) (entries sorted : List Entry) (runs : List ℕ) (count : ℕ)
+    → AreIndexed bytes lengths entries runs → IsPermutation entries sorted → Ascend (keys_at bytes sorted)
+    → count ≡ length sorted
     → AreIndexed bytes lengths sorted (count ∷ [])
 indexed_whole bytes lengths entries sorted runs count old moved up all =
     let keys = keys_at bytes sorted in
@@ -270,24 +311,32 @@ indexed_whole bytes lengths entries sorted runs count old moved up all =
     record {
       held = old.held;
       within = All-permutation (IsCut bytes) entries sorted moved old.within;
-      each = IsPermutation-trans (keys_of (pieces bytes lengths)) (keys_at bytes entries) keys old.each (IsPermutation-map (key_at bytes) entries sorted moved);
-      ordered = (omega arith, subst Ascend (sym (take_all count keys (omega arith))) up, drop_all count keys (omega arith));
+      each = IsPermutation-trans (keys_of (pieces bytes lengths)) (keys_at bytes entries) keys old.each
+          (IsPermutation-map (key_at bytes) entries sorted moved);
+      ordered = (omega arith, subst Ascend (sym (take_all count keys (omega arith))) up,
+          drop_all count keys (omega arith));
     }
 
 -- the first run of some is in order
-pub first_run : (keys : List Key) (runs left : List ℕ) (n : ℕ) → runs ≡ n ∷ left → AreRuns keys runs → Ascend (take n keys)
+pub first_run : (keys : List Key) (runs left : List ℕ) (n : ℕ) → runs ≡ n ∷ left → AreRuns keys runs
+    → Ascend (take n keys)
 first_run keys runs left n e ordered = (subst (AreRuns keys) e ordered).1
 
 -- there are as many keys in runs as ids
-pub runs_held : (bytes lengths : List ℕ) (entries : List Entry) (runs : List ℕ) → AreIndexed bytes lengths entries runs → sum runs ≡ length entries
-runs_held bytes lengths entries runs old = runs_sum (keys_at bytes entries) runs old.ordered ∙ length-map entries (key_at bytes)
+pub runs_held : (bytes lengths : List ℕ) (entries : List Entry) (runs : List ℕ) → AreIndexed bytes lengths entries runs
+    → sum runs ≡ length entries
+runs_held bytes lengths entries runs old = runs_sum (keys_at bytes entries) runs old.ordered
+    ∙ length-map entries (key_at bytes)
 
 -- what stands behind a place once it was written anew
-pub drop_put : {X : Type 0} (start : ℕ) (xs ys : List X) → start ≤ length xs → drop start (put_mid start (length xs - start) xs ys) ≡ ys
+pub drop_put : {X : Type 0} (start : ℕ) (xs ys : List X) → start ≤ length xs
+    → drop start (put_mid start (length xs - start) xs ys) ≡ ys
 drop_put start xs ys h =
     let rest = drop (length xs - start) (drop start xs) in
-    let here : drop start (take start xs ++ (ys ++ rest)) ≡ ys ++ rest = drop_at (take start xs) (ys ++ rest) start (length-take-le start xs h) in
-    here ∙ ap (λ zs. ys ++ zs) (drop_all (length xs - start) (drop start xs) (omega (arith, length-drop start xs))) ∙ append-nil ys
+    let here : drop start (take start xs ++ (ys ++ rest)) ≡ ys ++ rest =
+        drop_at (take start xs) (ys ++ rest) start (length-take-le start xs h) in
+    here ∙ ap (λ zs. ys ++ zs) (drop_all (length xs - start) (drop start xs) (omega (arith, length-drop start xs)))
+        ∙ append-nil ys
 
 -- ---- a part of what is in order
 
@@ -296,7 +345,8 @@ not_less : (a b : Key) → is_lt (compare_keys a b) ≡ false → b.number ≤ a
 not_less a b h = grind (arith, nat_tests, h)
 
 -- the numbers of what is in order do not fall
-pub numbers_rise : {X : Type 0} (f : X → Key) (xs : List X) → Ascend (map f xs) → IsNonDecreasingBy (λ x. (f x).number) xs
+pub numbers_rise : {X : Type 0} (f : X → Key) (xs : List X) → Ascend (map f xs)
+    → IsNonDecreasingBy (λ x. (f x).number) xs
 numbers_rise f xs up = IsNonDecreasingBy-from_all_adjacent (λ x. (f x).number) xs
     (λ k d h. not_less (f (get_or xs (k + 1) d)) (f (get_or xs k d)) (ascend_by_keys f xs up k d (omega arith) h))
 
@@ -317,7 +367,8 @@ no_more false = refl
 no_more true = refl
 
 -- entries between one of a lesser number and one of a greater number are all of this number
-pub part_has : (number : ℕ) (x : Entry) (xs : List Entry) (start stop : ℕ) → IsNonDecreasingBy (λ (e : Entry). e.number) xs → start < stop → stop ≤ length xs
+pub part_has : (number : ℕ) (x : Entry) (xs : List Entry) (start stop : ℕ)
+    → IsNonDecreasingBy (λ (e : Entry). e.number) xs → start < stop → stop ≤ length xs
     → (0 < start → (get_or xs start x).number < number) → (stop < length xs → number < (get_or xs (stop - 1) x).number)
     → HasAllOf number (take (stop - start) (drop start xs)) xs
 part_has number x xs start stop up ordered within before after test only =
@@ -333,18 +384,22 @@ part_has number x xs start stop up ordered within before after test only =
     let back : list_any test past ≡ false = none_there test past number only
     (λ k d h e.
     let long : length past ≡ length xs - stop = omega (arith, length-drop (stop - start) rest, length-drop start xs) in
-    let same = get_or-drop (stop - start) rest k d ∙ get_or-drop start xs ((stop - start) + k) d ∙ get_or_default xs (start + ((stop - start) + k)) d x (omega (arith, h, long)) in
+    let same = get_or-drop (stop - start) rest k d ∙ get_or-drop start xs ((stop - start) + k) d
+        ∙ get_or_default xs (start + ((stop - start) + k)) d x (omega (arith, h, long)) in
     let rise = up (stop - 1) (start + ((stop - start) + k)) x (omega arith) (omega (arith, h, long)) in
     absurd (omega (arith, after (omega (arith, h, long)), rise, e, ap (λ (y : Entry). y.number) same))) in
     let whole : list_any test xs ≡ (list_any test (take start xs) || list_any test rest) =
     ap (list_any test) (sym (take-append-drop start xs)) ∙ list_any-append test (take start xs) rest in
     let halves : list_any test rest ≡ (list_any test part || list_any test past) =
     ap (list_any test) (sym (take-append-drop (stop - start) rest)) ∙ list_any-append test part past in
-    sym (whole ∙ ap (λ b. b || list_any test rest) front ∙ halves ∙ ap (λ b. list_any test part || b) back ∙ no_more (list_any test part))
+    sym (whole ∙ ap (λ b. b || list_any test rest) front ∙ halves ∙ ap (λ b. list_any test part || b) back
+        ∙ no_more (list_any test part))
 
 -- a key is among those of a part where it is among all
 pub part_keys : (bytes : List ℕ) (q : Key) (part whole : List Entry) → HasAllOf q.number part whole
-    → list_any (λ key. is_eq (compare_keys key q)) (keys_at bytes part) ≡ list_any (λ key. is_eq (compare_keys key q)) (keys_at bytes whole)
+    → list_any (λ key. is_eq (compare_keys key q)) (keys_at bytes part) ≡ list_any (λ key. is_eq (compare_keys key q))
+        (keys_at bytes whole)
 part_keys bytes q part whole has =
     let test : Key → Bool = λ key. is_eq (compare_keys key q) in
-    list_any_map (key_at bytes) test part ∙ has (λ e. test (key_at bytes e)) (λ e h. same_number (key_at bytes e) q h) ∙ sym (list_any_map (key_at bytes) test whole)
+    list_any_map (key_at bytes) test part ∙ has (λ e. test (key_at bytes e)) (λ e h. same_number (key_at bytes e) q h)
+        ∙ sym (list_any_map (key_at bytes) test whole)

@@ -26,19 +26,22 @@ same-line l b h = ap (λ x. record { content = l.content; lf = x }) h
 lines-of : (ls : List Line) → HaveNoLf ls → AreEnded ls → ls ≡ lines (flat_map raw ls)
 lines-of [] h e = refl
 lines-of (l ∷ []) h (inl t) =
-    rw (raw-ended l t, append-nil (l.content ++ 10 ∷ [])) (ap (λ x. x ∷ []) (same-line l true t) ∙ sym (lines-ended l.content [] h.0))
+    rw (raw-ended l t, append-nil (l.content ++ 10 ∷ []))
+        (ap (λ x. x ∷ []) (same-line l true t) ∙ sym (lines-ended l.content [] h.0))
 lines-of (l ∷ []) h (inr t) =
     rw (t.0, append-nil l.content) (sym (last_line-some l.content t.1) ∙ sym (lines-begun l.content h.0))
 lines-of (l ∷ m ∷ ls) h e =
     let later : m ∷ ls ≡ lines (flat_map raw (m ∷ ls)) = lines-of (m ∷ ls) h.1 e.1 in
     rw (raw-ended l e.0, append_assoc l.content (10 ∷ []) (flat_map raw (m ∷ ls)))
-    (ap (λ x. x ∷ m ∷ ls) (same-line l true e.0) ∙ (ap (λ x. ended_line l.content ∷ x) later ∙ sym (lines-ended l.content (flat_map raw (m ∷ ls)) h.0)))
+    (ap (λ x. x ∷ m ∷ ls) (same-line l true e.0)
+        ∙ (ap (λ x. ended_line l.content ∷ x) later ∙ sym (lines-ended l.content (flat_map raw (m ∷ ls)) h.0)))
 
 pub only-lines : (s : List ℕ) (ls : List Line) → IsLines s ls → ls ≡ lines s
 only-lines s ls h = lines-of ls h.contents h.ended ∙ ap lines h.joined
 
 -- what LF ended, joined again, and then what it has not ended
-joined-byte : (b : ℕ) (is : Bool) (cs : List (List ℕ)) (u s : List ℕ) → eqb b 10 ≡ is → flat_map raw (map ended_line cs) ++ u ≡ s
+joined-byte : (b : ℕ) (is : Bool) (cs : List (List ℕ)) (u s : List ℕ) → eqb b 10 ≡ is → flat_map raw (map ended_line cs)
+    ++ u ≡ s
     → flat_map raw (map ended_line (cond is ([] ∷ cs) (onto_first b cs))) ++ cond is u (begun_with cs b u) ≡ b ∷ s
 joined-byte b true cs u s h e = let lf : b ≡ 10 = eqb-true b 10 h in rw lf (ap (λ z. 10 ∷ z) e)
 joined-byte b false [] u s h e = ap (λ z. b ∷ z) e
@@ -52,7 +55,8 @@ HaveNoLf-append : (xs ys : List Line) → HaveNoLf xs → HaveNoLf ys → HaveNo
 HaveNoLf-append [] ys p q = q
 HaveNoLf-append (x ∷ xs) ys p q = (p.0, HaveNoLf-append xs ys p.1 q)
 
-HaveNoLf-byte : (b : ℕ) (is : Bool) (cs : List (List ℕ)) → eqb b 10 ≡ is → HaveNoLf (map ended_line cs) → HaveNoLf (map ended_line (cond is ([] ∷ cs) (onto_first b cs)))
+HaveNoLf-byte : (b : ℕ) (is : Bool) (cs : List (List ℕ)) → eqb b 10 ≡ is → HaveNoLf (map ended_line cs)
+    → HaveNoLf (map ended_line (cond is ([] ∷ cs) (onto_first b cs)))
 HaveNoLf-byte b true cs h k = (tt, k)
 HaveNoLf-byte b false [] h k = tt
 HaveNoLf-byte b false (c ∷ cs) h k = ((h, k.0), k.1)
@@ -69,9 +73,11 @@ raw-last : (c : List ℕ) → flat_map raw (last_line c) ≡ c
 raw-last [] = refl
 raw-last (b ∷ c) = append-nil (b ∷ c)
 
-pub joined-append : {X : Type 0} (f : X → List ℕ) (xs ys : List X) → flat_map f (xs ++ ys) ≡ flat_map f xs ++ flat_map f ys
+pub joined-append : {X : Type 0} (f : X → List ℕ) (xs ys : List X) → flat_map f (xs ++ ys) ≡ flat_map f xs
+    ++ flat_map f ys
 joined-append f [] ys = refl
-joined-append f (x ∷ xs) ys = ap (λ z. f x ++ z) (joined-append f xs ys) ∙ sym (append_assoc (f x) (flat_map f xs) (flat_map f ys))
+joined-append f (x ∷ xs) ys = ap (λ z. f x ++ z) (joined-append f xs ys)
+    ∙ sym (append_assoc (f x) (flat_map f xs) (flat_map f ys))
 
 raw-append : (xs ys : List Line) → flat_map raw (xs ++ ys) ≡ flat_map raw xs ++ flat_map raw ys
 raw-append xs ys = joined-append raw xs ys
@@ -88,8 +94,10 @@ AreEnded-last (d ∷ e ∷ cs) c = (refl, AreEnded-last (e ∷ cs) c)
 
 pub lines-are_lines : (s : List ℕ) → IsLines s (lines s)
 lines-are_lines s = record {
-  contents = HaveNoLf-append (map ended_line (closed s)) (last_line (begun s)) (HaveNoLf-closed s) (HaveNoLf-last (begun s) (NoLf-begun s));
-  joined = raw-append (map ended_line (closed s)) (last_line (begun s)) ∙ (ap (λ z. whole s ++ z) (raw-last (begun s)) ∙ whole-begun s);
+  contents = HaveNoLf-append (map ended_line (closed s)) (last_line (begun s)) (HaveNoLf-closed s)
+      (HaveNoLf-last (begun s) (NoLf-begun s));
+  joined = raw-append (map ended_line (closed s)) (last_line (begun s))
+      ∙ (ap (λ z. whole s ++ z) (raw-last (begun s)) ∙ whole-begun s);
   ended = AreEnded-last (closed s) (begun s);
 }
 
@@ -100,14 +108,18 @@ AreEnded-closed (d ∷ e ∷ cs) = (refl, AreEnded-closed (e ∷ cs))
 
 -- the lines of a text up to its last LF are those that LF ended
 pub lines-whole : (s : List ℕ) → lines (whole s) ≡ map ended_line (closed s)
-lines-whole s = sym (only-lines (whole s) (map ended_line (closed s)) (record { contents = HaveNoLf-closed s; joined = refl; ended = AreEnded-closed (closed s) }))
+lines-whole s =
+    sym (only-lines (whole s) (map ended_line (closed s))
+        (record { contents = HaveNoLf-closed s; joined = refl; ended = AreEnded-closed (closed s) }))
 
-whole-ends : (cs : List (List ℕ)) → (flat_map raw (map ended_line cs) ≡ [] → ⊥) → (front : List ℕ) × (flat_map raw (map ended_line cs) ≡ front ++ 10 ∷ [])
+whole-ends : (cs : List (List ℕ)) → (flat_map raw (map ended_line cs) ≡ [] → ⊥) → (front : List ℕ)
+    × (flat_map raw (map ended_line cs) ≡ front ++ 10 ∷ [])
 whole-ends [] h = absurd (h refl)
 whole-ends (c ∷ []) h = (c, append-nil (c ++ 10 ∷ []))
 whole-ends (c ∷ d ∷ cs) h =
     let later = whole-ends (d ∷ cs) (some_bytes d cs) in
-    ((c ++ 10 ∷ []) ++ later.0, ap (λ z. (c ++ 10 ∷ []) ++ z) later.1 ∙ sym (append_assoc (c ++ 10 ∷ []) later.0 (10 ∷ [])))
+    ((c ++ 10 ∷ []) ++ later.0, ap (λ z. (c ++ 10 ∷ []) ++ z) later.1
+        ∙ sym (append_assoc (c ++ 10 ∷ []) later.0 (10 ∷ [])))
   where
     some_bytes : (d : List ℕ) (cs : List (List ℕ)) → flat_map raw (map ended_line (d ∷ cs)) ≡ [] → ⊥
     some_bytes [] cs e = cc

@@ -14,7 +14,8 @@ pub joined-all : (n : ℕ) (ps : List (List ℕ)) → length ps ≤ n → joined
 joined-all n ps h = ap joined (take_all n ps h)
 
 -- pieces, and at most one more
-pub joined-next : (n : ℕ) (ps : List (List ℕ)) → (more : List ℕ) × (joined (take (n + 1) ps) ≡ joined (take n ps) ++ more)
+pub joined-next : (n : ℕ) (ps : List (List ℕ)) → (more : List ℕ)
+    × (joined (take (n + 1) ps) ≡ joined (take n ps) ++ more)
 joined-next zero [] = ([], refl)
 joined-next zero (x ∷ xs) = (x, append-nil x)
 joined-next (suc n) [] = ([], let next : suc n + 1 ≡ suc (n + 1) = omega arith in rw next refl)
@@ -24,16 +25,21 @@ joined-next (suc n) (x ∷ xs) =
     (later.0, rw next (ap (λ z. x ++ z) later.1 ∙ sym (append_assoc x (joined (take n xs)) later.0)))
 
 -- one piece more
-pub joined-more : {A : Type 0} (now : A → List ℕ) (xs : List A) (i : ℕ) (d : A) → i < length xs → joined (take (i + 1) (map now xs)) ≡ joined (take i (map now xs)) ++ now (get_or xs i d)
+pub joined-more : {A : Type 0} (now : A → List ℕ) (xs : List A) (i : ℕ) (d : A) → i < length xs
+    → joined (take (i + 1) (map now xs)) ≡ joined (take i (map now xs)) ++ now (get_or xs i d)
 joined-more now [] i d h = absurd (omega arith)
 joined-more now (x ∷ xs) zero d h = append-nil (now x)
 joined-more now (x ∷ xs) (suc i) d h =
     let later = joined-more now xs i d (omega arith) in
     let next : suc i + 1 ≡ suc (i + 1) = omega arith in
-    rw next (ap (λ z. now x ++ z) later ∙ sym (append_assoc (now x) (joined (take i (map now xs))) (now (get_or xs i d))))
+    rw next (ap (λ z. now x ++ z) later
+        ∙ sym (append_assoc (now x) (joined (take i (map now xs))) (now (get_or xs i d))))
 
-pub joined-short : {A : Type 0} (now : A → List ℕ) (xs : List A) (i : ℕ) (d : A) → i < length xs → length (joined (take i (map now xs))) + length (now (get_or xs i d)) ≤ length (joined (map now xs))
+pub joined-short : {A : Type 0} (now : A → List ℕ) (xs : List A) (i : ℕ) (d : A) → i < length xs
+    → length (joined (take i (map now xs))) + length (now (get_or xs i d)) ≤ length (joined (map now xs))
 joined-short now xs i d h =
     let front = joined (take i (map now xs)) in
     let piece = now (get_or xs i d) in
-    omega (arith, ap length (joined-more now xs i d h), length-append front piece, ap length (joined-cut (i + 1) (map now xs)), length-append (joined (take (i + 1) (map now xs))) (joined (drop (i + 1) (map now xs))))
+    omega (arith, ap length (joined-more now xs i d h), length-append front piece,
+        ap length (joined-cut (i + 1) (map now xs)),
+        length-append (joined (take (i + 1) (map now xs))) (joined (drop (i + 1) (map now xs))))

@@ -14,14 +14,16 @@ use Rattle.cj_stream.specs.Item.{judged_tree}
 use Rattle.cj_stream.specs.Verdict.{Rules, Refuse, tree_verdict, text_verdict}
 
 -- a scan that answers Ok has found the tree
-pub ok-tree : {b : List ℕ} {d : ℕ} (j : Judgement b d) (x : Unit {0}) (t : Tree) → ((u : Tree) → Json b u → u ≡ t) → IsReservedAnswerOf j (Ok x)
+pub ok-tree : {b : List ℕ} {d : ℕ} (j : Judgement b d) (x : Unit {0}) (t : Tree) → ((u : Tree) → Json b u → u ≡ t)
+    → IsReservedAnswerOf j (Ok x)
     → (judged_tree j ≡ t) × (judged_size j ≡ size t) × (judged_nest j ≡ nest t)
 ok-tree (spelled u json shallow) x t only h = (only u json, ap size (only u json), ap nest (only u json))
 ok-tree (broken i s n) x t only e = cc
 ok-tree (sunk i s) x t only e = cc
 
 -- and the verdict goes by that tree
-pub ok-verdict : {b : List ℕ} {d : ℕ} (rules : Rules) (n : ℕ) (header : Tree) (j : Judgement b d) (x : Unit {0}) → IsReservedAnswerOf j (Ok x)
+pub ok-verdict : {b : List ℕ} {d : ℕ} (rules : Rules) (n : ℕ) (header : Tree) (j : Judgement b d) (x : Unit {0})
+    → IsReservedAnswerOf j (Ok x)
     → text_verdict rules n header j ≡ tree_verdict rules n header (judged_tree j)
 ok-verdict rules n header (spelled u json shallow) x h = refl
 ok-verdict rules n header (broken i s k) x e = cc
@@ -29,12 +31,14 @@ ok-verdict rules n header (sunk i s) x e = cc
 
 -- and each fault the place
 module _ {b : List ℕ} {d : ℕ} (rules : Rules) (n : ℕ) (header : Tree) where
-  pub syntax-refused : (j : Judgement b d) (i : ℕ) → IsReservedAnswerOf j (Err (Syntax i)) → text_verdict rules n header j ≡ Refuse i SyntaxReason
+  pub syntax-refused : (j : Judgement b d) (i : ℕ) → IsReservedAnswerOf j (Err (Syntax i))
+      → text_verdict rules n header j ≡ Refuse i SyntaxReason
   syntax-refused (spelled u json shallow) i e = cc
   syntax-refused (broken k s m) i e = cc
   syntax-refused (sunk k s) i e = cc
 
-  pub deep-refused : (j : Judgement b d) (i : ℕ) → IsReservedAnswerOf j (Err (TooDeep i)) → text_verdict rules n header j ≡ Refuse i TooDeepReason
+  pub deep-refused : (j : Judgement b d) (i : ℕ) → IsReservedAnswerOf j (Err (TooDeep i))
+      → text_verdict rules n header j ≡ Refuse i TooDeepReason
   deep-refused (spelled u json shallow) i e = cc
   deep-refused (broken k s m) i e = cc
   deep-refused (sunk k s) i e = cc
@@ -51,12 +55,14 @@ pub deep-text : (r : Result (Unit {0}) LineFault) (k : ℕ) → r ≡ Err (TooDe
 deep-text r k e i f = cc
 
 -- a scan that finds such a fault has found no tree
-pub syntax-unspelled : {b : List ℕ} {d : ℕ} (j : Judgement b d) (i : ℕ) → IsReservedAnswerOf j (Err (Syntax i)) → is_spelled j ≡ false
+pub syntax-unspelled : {b : List ℕ} {d : ℕ} (j : Judgement b d) (i : ℕ) → IsReservedAnswerOf j (Err (Syntax i))
+    → is_spelled j ≡ false
 syntax-unspelled (spelled u json shallow) i e = cc
 syntax-unspelled (broken k s m) i e = refl
 syntax-unspelled (sunk k s) i e = refl
 
-pub deep-unspelled : {b : List ℕ} {d : ℕ} (j : Judgement b d) (i : ℕ) → IsReservedAnswerOf j (Err (TooDeep i)) → is_spelled j ≡ false
+pub deep-unspelled : {b : List ℕ} {d : ℕ} (j : Judgement b d) (i : ℕ) → IsReservedAnswerOf j (Err (TooDeep i))
+    → is_spelled j ≡ false
 deep-unspelled (spelled u json shallow) i e = cc
 deep-unspelled (broken k s m) i e = refl
 deep-unspelled (sunk k s) i e = refl

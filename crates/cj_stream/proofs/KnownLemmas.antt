@@ -16,10 +16,13 @@ Appends-nothing None = tt
 Appends-nothing (Some a) = sym (append-nil a)
 
 -- what is left of a slice after its first n bytes were taken
-pub taken_more : (all done rest : List ℕ) (n : ℕ) → n ≤ length rest → all ≡ done ++ rest → all ≡ (done ++ take n rest) ++ take (length rest - n) (drop n rest)
+pub taken_more : (all done rest : List ℕ) (n : ℕ) → n ≤ length rest → all ≡ done ++ rest
+    → all ≡ (done ++ take n rest) ++ take (length rest - n) (drop n rest)
 taken_more all done rest n le e =
-    let d : take (length rest - n) (drop n rest) ≡ drop n rest = take_all (length rest - n) (drop n rest) (omega (arith, length-drop n rest)) in
-    rw d (e ∙ (ap (λ z. done ++ z) (sym (take-append-drop n rest)) ∙ sym (append_assoc done (take n rest) (drop n rest))))
+    let d : take (length rest - n) (drop n rest) ≡ drop n rest =
+        take_all (length rest - n) (drop n rest) (omega (arith, length-drop n rest)) in
+    rw d (e ∙ (ap (λ z. done ++ z) (sym (take-append-drop n rest))
+            ∙ sym (append_assoc done (take n rest) (drop n rest))))
 
 -- a fact, whatever the result
 pub on_err_any : {T E P : Type 0} (r : Result T E) → P → OnErr r P
@@ -27,7 +30,8 @@ on_err_any (Ok x) p = tt
 on_err_any (Err x) p = p
 
 -- some bytes, and then a prefix of others
-pub AppendsPart-after : (a b c : Option (List ℕ)) (x y : List ℕ) → Appends a b x → AppendsPart b c y → AppendsPart a c (x ++ y)
+pub AppendsPart-after : (a b c : Option (List ℕ)) (x y : List ℕ) → Appends a b x → AppendsPart b c y
+    → AppendsPart a c (x ++ y)
 AppendsPart-after a b c x y p q = record {
   front = x ++ q.front;
   rest = q.rest;

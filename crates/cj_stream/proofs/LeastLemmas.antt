@@ -19,9 +19,11 @@ use Rattle.cj_stream.proofs.ScanningLemmas.{first-closed}
 use Rattle.cj_stream.proofs.StaysLemmas.{settled-err}
 
 pub held-scanned : (limits : LimitPair) (cs : List (List ℕ)) (s : Scanning) → Scanned limits cs s → HeldAll limits cs s
-held-scanned limits cs s k = record { header = omega (arith, k.header_peak); line = k.line_peak.least; opened = k.opened_peak.least }
+held-scanned limits cs s k =
+    record { header = omega (arith, k.header_peak); line = k.line_peak.least; opened = k.opened_peak.least }
 
-pub held-rises : (limits : LimitPair) (cs : List (List ℕ)) (s t : Scanning) → Rises s t → HeldAll limits cs s → HeldAll limits cs t
+pub held-rises : (limits : LimitPair) (cs : List (List ℕ)) (s t : Scanning) → Rises s t → HeldAll limits cs s
+    → HeldAll limits cs t
 held-rises limits cs s t r k = record {
   header = omega (arith, k.header, r.header);
   line = omega (arith, k.line, r.line);
@@ -29,7 +31,8 @@ held-rises limits cs s t r k = record {
 }
 
 -- nothing more was dealt with
-pub held-until : (limits : LimitPair) (p done left : List ℕ) (n : ℕ) (s t : Scanning) → n ≡ length (closed (p ++ done)) → Scanned limits (closed (p ++ done)) s → Rises s t
+pub held-until : (limits : LimitPair) (p done left : List ℕ) (n : ℕ) (s t : Scanning) → n ≡ length (closed (p ++ done))
+    → Scanned limits (closed (p ++ done)) s → Rises s t
     → HeldUntil limits p (done ++ left) n t
 held-until limits p done left n s t count k r = record {
   done = done;
@@ -39,8 +42,10 @@ held-until limits p done left n s t count k r = record {
   held = held-rises limits (closed (p ++ done)) s t r (held-scanned limits (closed (p ++ done)) s k);
 }
 
-pub held-now : (limits : LimitPair) (p more : List ℕ) (n : ℕ) (s t : Scanning) → n ≡ length (closed p) → Scanned limits (closed p) s → Rises s t → HeldUntil limits p more n t
-held-now limits p more n s t count k r = held-until limits p [] more n s t (rw (append-nil p) count) (rw (append-nil p) k) r
+pub held-now : (limits : LimitPair) (p more : List ℕ) (n : ℕ) (s t : Scanning) → n ≡ length (closed p)
+    → Scanned limits (closed p) s → Rises s t → HeldUntil limits p more n t
+held-now limits p more n s t count k r =
+    held-until limits p [] more n s t (rw (append-nil p) count) (rw (append-nil p) k) r
 
 -- ---- the lines that were dealt with, seen as a stream
 
@@ -55,7 +60,8 @@ contents-whole q = rw (lines-whole q) (contents-ended (closed q))
 first-contents : (s : List ℕ) → length (first_content s) ≡ length (first_of (contents s) [])
 first-contents s = go (closed s) (begun s)
   where
-    go : (cs : List (List ℕ)) (b : List ℕ) → length (first_of cs b) ≡ length (first_of (map (λ l. l.content) (map ended_line cs ++ last_line b)) [])
+    go : (cs : List (List ℕ)) (b : List ℕ)
+        → length (first_of cs b) ≡ length (first_of (map (λ l. l.content) (map ended_line cs ++ last_line b)) [])
     go [] [] = refl
     go [] (x ∷ b) = refl
     go (c ∷ cs) b = refl
@@ -65,31 +71,43 @@ first-front : (n : ℕ) (q more : List ℕ) → n ≡ length (closed q) → firs
 first-front n q more e = ap (λ ls. flat_map raw ls) (lines-front n q more e)
 
 -- two prefixes in which LF ended as many lines
-same-closed : (n : ℕ) (a x b y : List ℕ) → a ++ x ≡ b ++ y → n ≡ length (closed a) → n ≡ length (closed b) → closed a ≡ closed b
+same-closed : (n : ℕ) (a x b y : List ℕ) → a ++ x ≡ b ++ y → n ≡ length (closed a) → n ≡ length (closed b)
+    → closed a ≡ closed b
 same-closed n a x b y same e f =
-    let both : map ended_line (closed a) ≡ map ended_line (closed b) = sym (lines-front n a x e) ∙ (ap (λ z. take n (lines z)) same ∙ lines-front n b y f) in
+    let both : map ended_line (closed a) ≡ map ended_line (closed b) = sym (lines-front n a x e)
+        ∙ (ap (λ z. take n (lines z)) same ∙ lines-front n b y f) in
     sym (contents-ended (closed a)) ∙ (ap (λ ls. map (λ l. l.content) ls) both ∙ contents-ended (closed b))
 
-least-peaks : (limits : LimitPair) (q : List ℕ) (s : Scanning) (bytes : ℕ) → length (first_of (closed q) []) + greatest (held_length limits) (later_of (closed q)) ≤ bytes → HeldAll limits (closed q) s
-    → IsBelow (exact_peaks limits (whole q)) (record { bytes = bytes; tokens = s.header.peak + s.line.peak; depth = s.opened.peak })
+least-peaks : (limits : LimitPair) (q : List ℕ) (s : Scanning) (bytes : ℕ)
+    → length (first_of (closed q) []) + greatest (held_length limits) (later_of (closed q)) ≤ bytes
+    → HeldAll limits (closed q) s
+    → IsBelow (exact_peaks limits (whole q))
+        (record { bytes = bytes; tokens = s.header.peak + s.line.peak; depth = s.opened.peak })
 least-peaks limits q s bytes some k = record {
   bytes = rw (first-contents (whole q), contents-whole q) some;
   tokens = rw (contents-whole q) (omega (arith, k.header, k.line));
   depth = rw (contents-whole q) k.opened;
 }
 
-bytes-read : (f : Reading) (q : List ℕ) → Reads f q → length (first_of (closed q) []) + greatest (held_length f.rules.limits) (later_of (closed q)) ≤ f.header.peak + f.line.peak
+bytes-read : (f : Reading) (q : List ℕ) → Reads f q
+    → length (first_of (closed q) []) + greatest (held_length f.rules.limits) (later_of (closed q)) ≤ f.header.peak
+    + f.line.peak
 bytes-read f q h =
-    let first : length (first_of (closed q) []) ≤ length (first_content q) = let k = first-closed q [] in rw (append-nil q) at k in
+    let first : length (first_of (closed q) []) ≤ length (first_content q) = let k = first-closed q [] in
+    rw (append-nil q) at k in
     omega (arith, first, h.peak, ap length h.header, h.line_peak)
 
 -- so it is of all whole lines of what was read
-pub least-read : (e : EngineState) (q more : List ℕ) → Reads e.reading q → HeldAll (limits_of e) (closed q) e.scanning → IsBelow (exact_peaks (limits_of e) (first_lines (lines_of e) (q ++ more))) (peaks_of e)
+pub least-read : (e : EngineState) (q more : List ℕ) → Reads e.reading q → HeldAll (limits_of e) (closed q) e.scanning
+    → IsBelow (exact_peaks (limits_of e) (first_lines (lines_of e) (q ++ more))) (peaks_of e)
 least-read e q more reads k =
-    rw (first-front (lines_of e) q more reads.lines) (least-peaks (limits_of e) q e.scanning (e.reading.header.peak + e.reading.line.peak) (bytes-read e.reading q reads) k)
+    rw (first-front (lines_of e) q more reads.lines)
+        (least-peaks (limits_of e) q e.scanning (e.reading.header.peak + e.reading.line.peak)
+        (bytes-read e.reading q reads) k)
 
 -- and where reading stopped within these bytes
-pub least-until : (e : EngineState) (limits : LimitPair) (p bytes done left : List ℕ) → limits_of e ≡ limits → bytes ≡ done ++ left → Reads e.reading (p ++ done) → HeldUntil limits p bytes (lines_of e) e.scanning
+pub least-until : (e : EngineState) (limits : LimitPair) (p bytes done left : List ℕ) → limits_of e ≡ limits
+    → bytes ≡ done ++ left → Reads e.reading (p ++ done) → HeldUntil limits p bytes (lines_of e) e.scanning
     → IsBelow (exact_peaks limits (first_lines (lines_of e) (p ++ bytes))) (peaks_of e)
 least-until e limits p bytes done left under cut reads h =
     let here : (p ++ done) ++ left ≡ p ++ bytes = append_assoc p done left ∙ ap (λ z. p ++ z) (sym cut) in
@@ -99,14 +117,20 @@ least-until e limits p bytes done left under cut reads h =
     rw (← here, ← under) (least-read e (p ++ done) left reads (rw under held))
 
 -- the bytes of the begun line were held too
-pub begun-held : (f : Reading) (q : List ℕ) → Reads f q → (exact_peaks f.rules.limits q).bytes ≤ f.header.peak + f.line.peak
+pub begun-held : (f : Reading) (q : List ℕ) → Reads f q
+    → (exact_peaks f.rules.limits q).bytes ≤ f.header.peak + f.line.peak
 begun-held f q h =
     omega (arith, h.peak, ap length h.header, h.line_peak, later (begun q))
   where
-    later : (b : List ℕ) → greatest (held_length f.rules.limits) (later_of (map (λ l. l.content) (map ended_line (closed q) ++ last_line b)))
-        ≤ max (greatest (held_length f.rules.limits) (later_of (closed q))) (held_length f.rules.limits (begun_after (closed q) b))
+    later : (b : List ℕ) → greatest (held_length f.rules.limits)
+        (later_of (map (λ l. l.content) (map ended_line (closed q) ++ last_line b)))
+        ≤ max (greatest (held_length f.rules.limits) (later_of (closed q)))
+            (held_length f.rules.limits (begun_after (closed q) b))
     later [] = rw (contents-closed (closed q)) (omega arith)
-    later (x ∷ b) = rw (contents-last (closed q) (x ∷ b)) (omega (arith, greatest-later (held_length f.rules.limits) (held-nothing f.rules.limits) (closed q) (x ∷ b), held-nothing f.rules.limits))
+    later (x ∷ b) =
+        rw (contents-last (closed q) (x ∷ b))
+            (omega (arith, greatest-later (held_length f.rules.limits) (held-nothing f.rules.limits) (closed q) (x ∷ b),
+                held-nothing f.rules.limits))
 
 -- ---- the end of a stream
 
@@ -126,7 +150,8 @@ module _ {S : Type 0} (law : SinkLaw S) where
 
   pub least-finished : (old new : EngineState) (s t : S) (p : List ℕ) (r : Result (Unit {0}) End) → Reads old.reading p
       → Finishes law p (with_sink old.reading s) r (with_sink new.reading t)
-      → Stays old.reading new.reading → Rises old.scanning new.scanning → Scanned (limits_of old) (closed p) old.scanning → OnOk r (Scanned (limits_of old) (contents p) new.scanning)
+      → Stays old.reading new.reading → Rises old.scanning new.scanning
+      → Scanned (limits_of old) (closed p) old.scanning → OnOk r (Scanned (limits_of old) (contents p) new.scanning)
       → IsBelow (exact_peaks (limits_of old) (first_lines (lines_of new) p)) (peaks_of new)
   least-finished old new s t p (Ok x) reads d stays rises k now =
       let told = Finishes-concludes law old.reading new.reading s t p reads (Ok x) d in
@@ -135,7 +160,9 @@ module _ {S : Type 0} (law : SinkLaw S) where
       refl now).least
   least-finished old new s t p (Err e) reads d stays rises k now =
       let count : lines_of new ≡ length (closed p) = finished-err old.reading new.reading s t p e d ∙ reads.lines in
-      let front : first_lines (lines_of new) p ≡ whole p = let x = first-front (lines_of new) p [] count in rw (append-nil p) at x in
+      let front : first_lines (lines_of new) p ≡ whole p = let x = first-front (lines_of new) p [] count in
+      rw (append-nil p) at x in
       rw front (least-peaks (limits_of old) p new.scanning (new.reading.header.peak + new.reading.line.peak)
       (omega (arith, bytes-read old.reading p reads, stays.header_rises, stays.line_rises))
-      (held-rises (limits_of old) (closed p) old.scanning new.scanning rises (held-scanned (limits_of old) (closed p) old.scanning k)))
+      (held-rises (limits_of old) (closed p) old.scanning new.scanning rises
+          (held-scanned (limits_of old) (closed p) old.scanning k)))

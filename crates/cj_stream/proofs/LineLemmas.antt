@@ -29,8 +29,11 @@ onto_first-then : (b : ℕ) (cs : List (List ℕ)) (u t : List ℕ) → eqb b 10
 onto_first-then b [] u t h = rw h
 onto_first-then b (c ∷ cs) u t h = refl
 
-closed-then-byte : (b : ℕ) (is : Bool) (s t : List ℕ) → eqb b 10 ≡ is → closed (s ++ t) ≡ closed s ++ closed (begun s ++ t)
-    → cond is ([] ∷ closed (s ++ t)) (onto_first b (closed (s ++ t))) ≡ cond is ([] ∷ closed s) (onto_first b (closed s)) ++ closed (cond is (begun s) (begun_with (closed s) b (begun s)) ++ t)
+closed-then-byte : (b : ℕ) (is : Bool) (s t : List ℕ) → eqb b 10 ≡ is
+    → closed (s ++ t) ≡ closed s ++ closed (begun s ++ t)
+    → cond is ([] ∷ closed (s ++ t)) (onto_first b (closed (s ++ t)))
+    ≡ cond is ([] ∷ closed s) (onto_first b (closed s))
+    ++ closed (cond is (begun s) (begun_with (closed s) b (begun s)) ++ t)
 closed-then-byte b true s t h e = ap (λ x. [] ∷ x) e
 closed-then-byte b false s t h e = rw e (onto_first-then b (closed s) (begun s) t h)
 
@@ -44,7 +47,8 @@ begun_with-then b [] u t h = rw h
 begun_with-then b (c ∷ cs) u t h = refl
 
 begun-then-byte : (b : ℕ) (is : Bool) (s t : List ℕ) → eqb b 10 ≡ is → begun (s ++ t) ≡ begun (begun s ++ t)
-    → cond is (begun (s ++ t)) (begun_with (closed (s ++ t)) b (begun (s ++ t))) ≡ begun (cond is (begun s) (begun_with (closed s) b (begun s)) ++ t)
+    → cond is (begun (s ++ t)) (begun_with (closed (s ++ t)) b (begun (s ++ t)))
+    ≡ begun (cond is (begun s) (begun_with (closed s) b (begun s)) ++ t)
 begun-then-byte b true s t h e = e
 begun-then-byte b false s t h e = rw (closed-then s t, e) (begun_with-then b (closed s) (begun s) t h)
 
@@ -60,7 +64,8 @@ NoLf-begun_with : (cs : List (List ℕ)) (b : ℕ) (s : List ℕ) → eqb b 10 �
 NoLf-begun_with [] b s h k = (h, k)
 NoLf-begun_with (c ∷ cs) b s h k = k
 
-NoLf-byte : (b : ℕ) (is : Bool) (s : List ℕ) → eqb b 10 ≡ is → NoLf (begun s) → NoLf (cond is (begun s) (begun_with (closed s) b (begun s)))
+NoLf-byte : (b : ℕ) (is : Bool) (s : List ℕ) → eqb b 10 ≡ is → NoLf (begun s)
+    → NoLf (cond is (begun s) (begun_with (closed s) b (begun s)))
 NoLf-byte b true s h k = k
 NoLf-byte b false s h k = NoLf-begun_with (closed s) b (begun s) h k
 
@@ -79,7 +84,9 @@ NoLf-from_places (b ∷ s) h = (not_true _ (h 0 (omega arith)), NoLf-from_places
 
 -- bytes without LF
 pub closed-more : (p t : List ℕ) → NoLf t → closed (p ++ t) ≡ closed p
-closed-more p t h = closed-then p t ∙ (ap (λ z. closed p ++ z) (closed-none (begun p ++ t) (NoLf-append (begun p) t (NoLf-begun p) h)) ∙ append-nil (closed p))
+closed-more p t h = closed-then p t
+    ∙ (ap (λ z. closed p ++ z) (closed-none (begun p ++ t) (NoLf-append (begun p) t (NoLf-begun p) h))
+    ∙ append-nil (closed p))
 
 pub begun-more : (p t : List ℕ) → NoLf t → begun (p ++ t) ≡ begun p ++ t
 begun-more p t h = begun-then p t ∙ begun-none (begun p ++ t) (NoLf-append (begun p) t (NoLf-begun p) h)
@@ -111,7 +118,8 @@ pub none-from_length : {A : Type 0} (cs : List A) → length cs ≡ 0 → cs ≡
 none-from_length [] h = refl
 none-from_length (c ∷ cs) h = absurd (omega arith)
 
-first_of-onto : (b : ℕ) (cs : List (List ℕ)) (s : List ℕ) → first_of (onto_first b cs) (begun_with cs b s) ≡ b ∷ first_of cs s
+first_of-onto : (b : ℕ) (cs : List (List ℕ)) (s : List ℕ)
+    → first_of (onto_first b cs) (begun_with cs b s) ≡ b ∷ first_of cs s
 first_of-onto b [] s = refl
 first_of-onto b (c ∷ cs) s = refl
 
@@ -127,6 +135,7 @@ first_content-long (b ∷ c) t h = rw (first_content-byte b (c ++ t) h.0) (omega
 pub first_content-grows : (p t : List ℕ) → length (first_content p) ≤ length (first_content (p ++ t))
 first_content-grows p t = first_of-grows (closed p) (begun p) (p ++ t) (closed-then p t) (begun-then p t) (NoLf-begun p)
   where
-    first_of-grows : (cs : List (List ℕ)) (b : List ℕ) (q : List ℕ) → closed q ≡ cs ++ closed (b ++ t) → begun q ≡ begun (b ++ t) → NoLf b → length (first_of cs b) ≤ length (first_of (closed q) (begun q))
+    first_of-grows : (cs : List (List ℕ)) (b : List ℕ) (q : List ℕ) → closed q ≡ cs ++ closed (b ++ t)
+        → begun q ≡ begun (b ++ t) → NoLf b → length (first_of cs b) ≤ length (first_of (closed q) (begun q))
     first_of-grows [] b q e f h = rw (e, f) (first_content-long b t h)
     first_of-grows (c ∷ cs) b q e f h = rw e (omega arith)

@@ -20,14 +20,19 @@ unfolding verdict_at is_utf8 chars encode judgement over by_step by_depth at_end
 feed_second header = refl
 
 -- a valid header alone
-header-alone : (rules : Rules) (h : Line) → verdict rules [] h.content ≡ Valid → (ending_of rules (h ∷ []) ≡ Complete) × (written rules (h ∷ []) ≡ raw h ++ [])
+header-alone : (rules : Rules) (h : Line) → verdict rules [] h.content ≡ Valid → (ending_of rules (h ∷ []) ≡ Complete)
+    × (written rules (h ∷ []) ≡ raw h ++ [])
 header-alone rules h valid = rw valid (refl, rw valid refl)
 
-tab_between : Gives wide_rules (small_header ++ 10 ∷ 9 ∷ 10 ∷ small_feature) Complete (small_header ++ 10 ∷ small_feature)
-tab_between = blank-between wide_rules (ended_line small_header) (header_first _) (ended_line (9 ∷ [])) (open_line small_feature) (verdict-blank wide_rules 2 _ (9 ∷ []) (lit≤ tt) refl) feature_third
+tab_between : Gives wide_rules (small_header ++ 10 ∷ 9 ∷ 10 ∷ small_feature) Complete
+    (small_header ++ 10 ∷ small_feature)
+tab_between =
+    blank-between wide_rules (ended_line small_header) (header_first _) (ended_line (9 ∷ [])) (open_line small_feature)
+        (verdict-blank wide_rules 2 _ (9 ∷ []) (lit≤ tt) refl) feature_third
 
 tab_first : Gives wide_rules (9 ∷ []) (Refused 1 1 Syntax) []
-unfolding verdict_at is_utf8 chars encode utf8_valid_len judgement over by_step by_depth sinks at_end by_end text_of no_end ends_at
+unfolding verdict_at is_utf8 chars encode utf8_valid_len judgement over by_step by_depth sinks at_end by_end text_of
+    no_end ends_at
 tab_first = (refl, refl)
 
 feed_after : Gives wide_rules (small_header ++ 10 ∷ 12 ∷ []) (Refused 2 0 Syntax) (small_header ++ 10 ∷ [])

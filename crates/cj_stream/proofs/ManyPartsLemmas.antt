@@ -17,10 +17,12 @@ whole-parts : (a b : List ℕ) → whole a ≡ a → whole b ≡ b → whole (a 
 whole-parts a b u v =
     ap (λ z. flat_map raw (map ended_line z)) (closed-parts a b u)
     ∙ (ap (flat_map raw) (map_lines-append (closed a) (closed b))
-    ∙ (joined-append raw (map ended_line (closed a)) (map ended_line (closed b)) ∙ (ap (λ z. z ++ whole b) u ∙ ap (λ z. a ++ z) v)))
+    ∙ (joined-append raw (map ended_line (closed a)) (map ended_line (closed b))
+        ∙ (ap (λ z. z ++ whole b) u ∙ ap (λ z. a ++ z) v)))
 
 module _ (rules : Rules) (h : List ℕ) (alone : IsCut h []) (done : ending rules (headed h []) ≡ Complete) where
-  pub complete-parts : (parts : List (List ℕ)) → AreComplete rules h parts → IsCut h (joined parts) × (ending rules (headed h (joined parts)) ≡ Complete)
+  pub complete-parts : (parts : List (List ℕ)) → AreComplete rules h parts → IsCut h (joined parts)
+      × (ending rules (headed h (joined parts)) ≡ Complete)
   complete-parts [] all = (alone, done)
   complete-parts (a ∷ parts) all =
       let later = complete-parts parts all.2 in (
@@ -34,13 +36,15 @@ module _ (rules : Rules) (h : List ℕ) (alone : IsCut h []) (done : ending rule
 
   header-kept : kept rules (headed h []) ≡ header-item ∷ []
   unfolding header-item
-  header-kept = ap (λ z. kept_from rules [] z) (front-good rules h [] alone done) ∙ kept-first rules (ended_line h) (header-valid rules h [] alone done) []
+  header-kept = ap (λ z. kept_from rules [] z) (front-good rules h [] alone done)
+      ∙ kept-first rules (ended_line h) (header-valid rules h [] alone done) []
 
   part-kept : (a : List ℕ) → kept rules (headed h a) ≡ header-item ∷ later_of (kept rules (headed h a))
   unfolding header-item
   part-kept a = back-kept rules h [] alone done a
 
-  all-kept : (parts : List (List ℕ)) → AreComplete rules h parts → kept rules (headed h (joined parts)) ≡ header-item ∷ flat_map (λ a. later_of (kept rules (headed h a))) parts
+  all-kept : (parts : List (List ℕ)) → AreComplete rules h parts
+      → kept rules (headed h (joined parts)) ≡ header-item ∷ flat_map (λ a. later_of (kept rules (headed h a))) parts
   all-kept [] all = header-kept
   all-kept (a ∷ parts) all =
       let rest = flat_map (λ a. later_of (kept rules (headed h a))) parts in
@@ -48,33 +52,43 @@ module _ (rules : Rules) (h : List ℕ) (alone : IsCut h []) (done : ending rule
       ∙ (ap (λ z. kept rules (headed h a) ++ later_of z) (all-kept parts all.2) ∙ ap (λ z. z ++ rest) (part-kept a))
 
   pub kept-all_parts : (parts : List (List ℕ)) → AreComplete rules h parts
-      → kept rules (headed h (joined parts)) ≡ kept rules (headed h []) ++ flat_map (λ a. later_of (kept rules (headed h a))) parts
-  kept-all_parts parts all = all-kept parts all ∙ ap (λ z. z ++ flat_map (λ a. later_of (kept rules (headed h a))) parts) (sym header-kept)
+      → kept rules (headed h (joined parts)) ≡ kept rules (headed h [])
+      ++ flat_map (λ a. later_of (kept rules (headed h a))) parts
+  kept-all_parts parts all = all-kept parts all
+      ∙ ap (λ z. z ++ flat_map (λ a. later_of (kept rules (headed h a))) parts) (sym header-kept)
 
   -- the bytes of a header and of items behind it
   header-raw : (is : List Item) → flat_map raw_item (header-item ∷ is) ≡ headed h (flat_map raw_item is)
   unfolding header-item
   header-raw is = append_assoc h (10 ∷ []) (flat_map raw_item is)
 
-  part-written : (a : List ℕ) → flat_map raw_item (later_of (kept rules (headed h a))) ≡ drop (length h + 1) (output rules (headed h a))
+  part-written : (a : List ℕ) → flat_map raw_item (later_of (kept rules (headed h a)))
+      ≡ drop (length h + 1) (output rules (headed h a))
   part-written a =
       let rest = flat_map raw_item (later_of (kept rules (headed h a))) in
-      let written : output rules (headed h a) ≡ h ++ 10 ∷ rest = ap (flat_map raw_item) (part-kept a) ∙ header-raw (later_of (kept rules (headed h a))) in
+      let written : output rules (headed h a) ≡ h ++ 10 ∷ rest = ap (flat_map raw_item) (part-kept a)
+          ∙ header-raw (later_of (kept rules (headed h a))) in
       sym (ap (drop (length h + 1)) written ∙ dropped h rest)
     where
       dropped : (h rest : List ℕ) → drop (length h + 1) (h ++ 10 ∷ rest) ≡ rest
       dropped [] rest = refl
-      dropped (b ∷ h) rest = let next : length (b ∷ h) + 1 ≡ suc (length h + 1) = omega arith in rw next (dropped h rest)
+      dropped (b ∷ h) rest = let next : length (b ∷ h) + 1 ≡ suc (length h + 1) = omega arith in
+          rw next (dropped h rest)
 
   parts-written : (parts : List (List ℕ))
-      → flat_map raw_item (flat_map (λ a. later_of (kept rules (headed h a))) parts) ≡ flat_map (λ a. drop (length h + 1) (output rules (headed h a))) parts
+      → flat_map raw_item (flat_map (λ a. later_of (kept rules (headed h a))) parts)
+      ≡ flat_map (λ a. drop (length h + 1) (output rules (headed h a))) parts
   parts-written [] = refl
   parts-written (a ∷ parts) =
       let rest = flat_map (λ a. later_of (kept rules (headed h a))) parts in
       joined-append raw_item (later_of (kept rules (headed h a))) rest
-      ∙ (ap (λ z. z ++ flat_map raw_item rest) (part-written a) ∙ ap (λ z. drop (length h + 1) (output rules (headed h a)) ++ z) (parts-written parts))
+      ∙ (ap (λ z. z ++ flat_map raw_item rest) (part-written a)
+          ∙ ap (λ z. drop (length h + 1) (output rules (headed h a)) ++ z) (parts-written parts))
 
   pub output-all_parts : (parts : List (List ℕ)) → AreComplete rules h parts
-      → output rules (headed h (joined parts)) ≡ headed h (flat_map (λ a. drop (length h + 1) (output rules (headed h a))) parts)
+      → output rules (headed h (joined parts))
+      ≡ headed h (flat_map (λ a. drop (length h + 1) (output rules (headed h a))) parts)
   output-all_parts parts all =
-      ap (flat_map raw_item) (all-kept parts all) ∙ (header-raw (flat_map (λ a. later_of (kept rules (headed h a))) parts) ∙ ap (headed h) (parts-written parts))
+      ap (flat_map raw_item) (all-kept parts all)
+          ∙ (header-raw (flat_map (λ a. later_of (kept rules (headed h a))) parts)
+          ∙ ap (headed h) (parts-written parts))

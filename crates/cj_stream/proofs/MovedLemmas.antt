@@ -16,12 +16,14 @@ module _ (rules : Rules) where
   -- ---- one line
 
   -- by any two numbers of later lines
-  text-same : {c : List ℕ} {d : ℕ} (n m : ℕ) (header : Tree) (j : Judgement c d) → eqb n 1 ≡ false → eqb m 1 ≡ false → text_verdict rules n header j ≡ text_verdict rules m header j
+  text-same : {c : List ℕ} {d : ℕ} (n m : ℕ) (header : Tree) (j : Judgement c d) → eqb n 1 ≡ false → eqb m 1 ≡ false
+      → text_verdict rules n header j ≡ text_verdict rules m header j
   text-same n m header (spelled t json shallow) e f = rw (e, f) refl
   text-same n m header (broken i s k) e f = refl
   text-same n m header (sunk i s) e f = refl
 
-  verdict-same : (n m : ℕ) (header : Tree) (c : List ℕ) → 1 < n → 1 < m → verdict_at rules n header c ≡ verdict_at rules m header c
+  verdict-same : (n m : ℕ) (header : Tree) (c : List ℕ) → 1 < n → 1 < m
+      → verdict_at rules n header c ≡ verdict_at rules m header c
   unfolding verdict_at
   verdict-same n m header c p q =
       let n_later : ltb 1 n ≡ true = grind (arith, nat_tests) in
@@ -41,13 +43,15 @@ module _ (rules : Rules) where
       rw (n, m) refl
 
   -- by numbers of which one is so much more than the other
-  one-refusal : (n m k : ℕ) (v : Verdict) → 1 < m → n ≡ m + k → refusal_of rules n v ≡ option_map (moved_end k) (refusal_of rules m v)
+  one-refusal : (n m k : ℕ) (v : Verdict) → 1 < m → n ≡ m + k
+      → refusal_of rules n v ≡ option_map (moved_end k) (refusal_of rules m v)
   one-refusal n m k (Refuse place reason) later e =
       let n_later : ltb 1 n ≡ true = grind (arith, nat_tests) in
       let m_later : ltb 1 m ≡ true = grind (arith, nat_tests) in
       rw (n_later, m_later, e) (go rules.options.keep_going)
     where
-      go : (on : Bool) → ◌≡◌ {A = Option End} (cond on None (Some (Refused (m + k) place reason))) (option_map (moved_end k) (cond on None (Some (Refused m place reason))))
+      go : (on : Bool) → ◌≡◌ {A = Option End} (cond on None (Some (Refused (m + k) place reason)))
+          (option_map (moved_end k) (cond on None (Some (Refused m place reason))))
       go true = refl
       go false = refl
   one-refusal n m k Blank later e = refl
@@ -62,42 +66,57 @@ module _ (rules : Rules) where
 
   module _ (l : Line) where
     after-refusal : (xs ys : List Line) (k : ℕ) (c : List ℕ) → length xs ≡ length ys + k
-        → refusal_of rules (length (l ∷ xs) + 1) (verdict rules (l ∷ xs) c) ≡ option_map (moved_end k) (refusal_of rules (length (l ∷ ys) + 1) (verdict rules (l ∷ ys) c))
+        → refusal_of rules (length (l ∷ xs) + 1) (verdict rules (l ∷ xs) c)
+        ≡ option_map (moved_end k) (refusal_of rules (length (l ∷ ys) + 1) (verdict rules (l ∷ ys) c))
     after-refusal xs ys k c e =
-        rw (after-same l xs ys c) (one-refusal (length (l ∷ xs) + 1) (length (l ∷ ys) + 1) k (verdict rules (l ∷ ys) c) (omega arith) (omega (arith, e)))
+        rw (after-same l xs ys c)
+            (one-refusal (length (l ∷ xs) + 1) (length (l ∷ ys) + 1) k (verdict rules (l ∷ ys) c) (omega arith)
+            (omega (arith, e)))
 
     -- one line more before the others
-    longer : (xs ys : List Line) (z : Line) (k : ℕ) → length xs ≡ length ys + k → length (xs ++ z ∷ []) ≡ length (ys ++ z ∷ []) + k
+    longer : (xs ys : List Line) (z : Line) (k : ℕ) → length xs ≡ length ys + k
+        → length (xs ++ z ∷ []) ≡ length (ys ++ z ∷ []) + k
     longer xs ys z k e = omega (arith, e, length-append xs (z ∷ []), length-append ys (z ∷ []))
 
     -- ---- all lines
 
-    moved-step : (k : ℕ) (a b rest others : Option End) → a ≡ option_map (moved_end k) b → rest ≡ option_map (moved_end k) others
+    moved-step : (k : ℕ) (a b rest others : Option End) → a ≡ option_map (moved_end k) b
+        → rest ≡ option_map (moved_end k) others
         → cond (is_some a) a rest ≡ option_map (moved_end k) (cond (is_some b) b others)
     moved-step k a None rest others e f = rw e f
     moved-step k a (Some x) rest others e f = rw e refl
 
-    pub refusal-moved : (xs ys zs : List Line) (k : ℕ) → length xs ≡ length ys + k → refusal_from rules (l ∷ xs) zs ≡ option_map (moved_end k) (refusal_from rules (l ∷ ys) zs)
+    pub refusal-moved : (xs ys zs : List Line) (k : ℕ) → length xs ≡ length ys + k
+        → refusal_from rules (l ∷ xs) zs ≡ option_map (moved_end k) (refusal_from rules (l ∷ ys) zs)
     refusal-moved xs ys [] k e = refl
-    refusal-moved xs ys (z ∷ zs) k e = moved-step k _ _ _ _ (after-refusal xs ys k z.content e) (refusal-moved (xs ++ z ∷ []) (ys ++ z ∷ []) zs k (longer xs ys z k e))
+    refusal-moved xs ys (z ∷ zs) k e =
+        moved-step k _ _ _ _ (after-refusal xs ys k z.content e)
+            (refusal-moved (xs ++ z ∷ []) (ys ++ z ∷ []) zs k (longer xs ys z k e))
 
-    good-step : (k : ℕ) (a b : Option End) (z : Line) (rest others : List Line) → a ≡ option_map (moved_end k) b → rest ≡ others
+    good-step : (k : ℕ) (a b : Option End) (z : Line) (rest others : List Line) → a ≡ option_map (moved_end k) b
+        → rest ≡ others
         → cond (is_some a) [] (z ∷ rest) ≡ cond (is_some b) [] (z ∷ others)
     good-step k a None z rest others e f = rw e (ap (λ x. z ∷ x) f)
     good-step k a (Some x) z rest others e f = rw e refl
 
-    pub good-moved : (xs ys zs : List Line) (k : ℕ) → length xs ≡ length ys + k → good_from rules (l ∷ xs) zs ≡ good_from rules (l ∷ ys) zs
+    pub good-moved : (xs ys zs : List Line) (k : ℕ) → length xs ≡ length ys + k
+        → good_from rules (l ∷ xs) zs ≡ good_from rules (l ∷ ys) zs
     good-moved xs ys [] k e = refl
-    good-moved xs ys (z ∷ zs) k e = good-step k _ _ z _ _ (after-refusal xs ys k z.content e) (good-moved (xs ++ z ∷ []) (ys ++ z ∷ []) zs k (longer xs ys z k e))
+    good-moved xs ys (z ∷ zs) k e =
+        good-step k _ _ z _ _ (after-refusal xs ys k z.content e)
+            (good-moved (xs ++ z ∷ []) (ys ++ z ∷ []) zs k (longer xs ys z k e))
 
     pub kept-moved : (xs ys zs : List Line) → kept_from rules (l ∷ xs) zs ≡ kept_from rules (l ∷ ys) zs
     kept-moved xs ys [] = refl
-    kept-moved xs ys (z ∷ zs) = rw (after-same l xs ys z.content, item-same l xs ys z, kept-moved (xs ++ z ∷ []) (ys ++ z ∷ []) zs) refl
+    kept-moved xs ys (z ∷ zs) =
+        rw (after-same l xs ys z.content, item-same l xs ys z, kept-moved (xs ++ z ∷ []) (ys ++ z ∷ []) zs) refl
 
-    pub reported-moved : (xs ys zs : List Line) (k : ℕ) → length xs ≡ length ys + k → reported_from rules (l ∷ xs) zs ≡ map (moved_report k) (reported_from rules (l ∷ ys) zs)
+    pub reported-moved : (xs ys zs : List Line) (k : ℕ) → length xs ≡ length ys + k
+        → reported_from rules (l ∷ xs) zs ≡ map (moved_report k) (reported_from rules (l ∷ ys) zs)
     reported-moved xs ys [] k e = refl
     reported-moved xs ys (z ∷ zs) k e =
         let n = length (l ∷ ys) + 1 in
         let v = verdict rules (l ∷ ys) z.content in
-        rw (after-same l xs ys z.content, one-report (length (l ∷ xs) + 1) n k v (omega (arith, e)), reported-moved (xs ++ z ∷ []) (ys ++ z ∷ []) zs k (longer xs ys z k e))
+        rw (after-same l xs ys z.content, one-report (length (l ∷ xs) + 1) n k v (omega (arith, e)),
+            reported-moved (xs ++ z ∷ []) (ys ++ z ∷ []) zs k (longer xs ys z k e))
         (sym (map-append (moved_report k) (report_of n v) (reported_from rules (l ∷ ys ++ z ∷ []) zs)))

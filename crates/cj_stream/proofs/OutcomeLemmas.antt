@@ -23,16 +23,19 @@ filter-short : {X : Type 0} (p : X → Bool) (xs : List X) → length (filter p 
 filter-short p [] = omega arith
 filter-short p (x ∷ xs) = go (p x) (filter-short p xs)
   where
-    go : (b : Bool) → length (filter p xs) ≤ length xs → length (cond b (x ∷ filter p xs) (filter p xs)) ≤ length (x ∷ xs)
+    go : (b : Bool) → length (filter p xs) ≤ length xs
+        → length (cond b (x ∷ filter p xs) (filter p xs)) ≤ length (x ∷ xs)
     go true k = omega (arith, k)
     go false k = omega (arith, k)
 
 kept-short : (rules : Rules) (before ls : List Line) → length (kept_from rules before ls) ≤ length ls
 kept-short rules before [] = omega arith
-kept-short rules before (l ∷ ls) = go (is_kept (verdict rules before l.content)) (kept-short rules (before ++ l ∷ []) ls)
+kept-short rules before (l ∷ ls) =
+    go (is_kept (verdict rules before l.content)) (kept-short rules (before ++ l ∷ []) ls)
   where
     go : (b : Bool) → length (kept_from rules (before ++ l ∷ []) ls) ≤ length ls
-        → length (cond b (item_after rules before l ∷ kept_from rules (before ++ l ∷ []) ls) (kept_from rules (before ++ l ∷ []) ls)) ≤ length (l ∷ ls)
+        → length (cond b (item_after rules before l ∷ kept_from rules (before ++ l ∷ []) ls)
+            (kept_from rules (before ++ l ∷ []) ls)) ≤ length (l ∷ ls)
     go true k = omega (arith, k)
     go false k = omega (arith, k)
 
@@ -40,7 +43,8 @@ reported-short : (rules : Rules) (before ls : List Line) → length (reported_fr
 reported-short rules before [] = omega arith
 reported-short rules before (l ∷ ls) =
     let now = report_of (length before + 1) (verdict rules before l.content) in
-    omega (arith, one (length before + 1) (verdict rules before l.content), reported-short rules (before ++ l ∷ []) ls, length-append now (reported_from rules (before ++ l ∷ []) ls))
+    omega (arith, one (length before + 1) (verdict rules before l.content), reported-short rules (before ++ l ∷ []) ls,
+        length-append now (reported_from rules (before ++ l ∷ []) ls))
   where
     one : (n : ℕ) (v : Verdict) → length (report_of n v) ≤ 1
     one n (Refuse place reason) = omega arith
@@ -52,12 +56,14 @@ reported-short rules before (l ∷ ls) =
 few-counted : (rules : Rules) (r : List ℕ) (n f k : ℕ) → Counts rules r n f k → (f ≤ n) × (k ≤ n)
 few-counted rules r n f k x =
     let ls = take n (lines r) in (
-      omega (arith, x.kept, filter-short is_feature (kept_from rules [] ls), kept-short rules [] ls, length-take n (lines r)),
+      omega (arith, x.kept, filter-short is_feature (kept_from rules [] ls), kept-short rules [] ls,
+          length-take n (lines r)),
       omega (arith, x.refused, reported-short rules [] ls, length-take n (lines r)),
     )
 
 -- the number of a refused line is that after the lines that were dealt with
-capped-end : (rules : Rules) (r : List ℕ) (n m : ℕ) (at_end : Type 0) (e : End) → Ends rules r m at_end e → 1 ≤ n → n + m < 2 ^ 64 → capped_end (moved_end (n - 1) e) ≡ moved_end (n - 1) e
+capped-end : (rules : Rules) (r : List ℕ) (n m : ℕ) (at_end : Type 0) (e : End) → Ends rules r m at_end e → 1 ≤ n
+    → n + m < 2 ^ 64 → capped_end (moved_end (n - 1) e) ≡ moved_end (n - 1) e
 capped-end rules r n m at_end Complete told some few = refl
 capped-end rules r n m at_end (Refused number place reason) told some few =
     let place_of = good-refused rules r number place reason told.0 in
@@ -69,15 +75,20 @@ capped-end rules r n m at_end WriteFault told some few = refl
 capped-end rules r n m at_end Memory told some few = refl
 
 same-outcome : (l k r x y z : ℕ) (peaks : Peaks) (e f : End) → l ≡ x → k ≡ y → r ≡ z → e ≡ f
-    → ◌≡◌ {A = Outcome} (record { lines = l; kept = k; refused = r; peaks = peaks; ended = e }) (record { lines = x; kept = y; refused = z; peaks = peaks; ended = f })
+    → ◌≡◌ {A = Outcome} (record { lines = l; kept = k; refused = r; peaks = peaks; ended = e })
+        (record { lines = x; kept = y; refused = z; peaks = peaks; ended = f })
 same-outcome l k r x y z peaks e f p q s t = rw (p, q, s, t) refl
 
 -- a run over both parts, with counts that stop at the greatest u64
-module _ (rules : Rules) (h a b : List ℕ) (cut : IsCut h a) (first second result : Outcome) (at_end at_last : Type 0) where
-  pub Account-then : first.ended ≡ Complete → result ≡ capped_outcome (both_outcomes first second) → first.lines + second.lines < 2 ^ 64
-      → Account (run_over rules (headed h a) first) at_end → Account (run_over rules (headed h b) second) at_last → Account (run_over rules (headed h (a ++ b)) result) at_last
+module _ (rules : Rules) (h a b : List ℕ) (cut : IsCut h a) (first second result : Outcome) (at_end at_last : Type 0)
+    where
+  pub Account-then : first.ended ≡ Complete → result ≡ capped_outcome (both_outcomes first second)
+      → first.lines + second.lines < 2 ^ 64
+      → Account (run_over rules (headed h a) first) at_end → Account (run_over rules (headed h b) second) at_last
+      → Account (run_over rules (headed h (a ++ b)) result) at_last
   Account-then is told few x y =
-      let ends : Ends rules (headed h a) first.lines at_end Complete = subst (λ (e : End). Ends rules (headed h a) first.lines at_end e) is x.ends in
+      let ends : Ends rules (headed h a) first.lines at_end Complete =
+          subst (λ (e : End). Ends rules (headed h a) first.lines at_end e) is x.ends in
       let some : 1 ≤ first.lines = omega (arith, ends.1, ap length (front-good rules h a cut ends.0)) in
       let of_first = few-counted rules (headed h a) first.lines first.kept first.refused x.counts in
       let of_second = few-counted rules (headed h b) second.lines second.kept second.refused y.counts in
@@ -87,4 +98,5 @@ module _ (rules : Rules) (h a b : List ℕ) (cut : IsCut h a) (first second resu
       (omega (arith, few, of_first.0, of_second.0))
       (omega (arith, few, of_first.1, of_second.1))
       (capped-end rules (headed h b) first.lines second.lines at_last second.ended y.ends some few) in
-      subst (λ (o : Outcome). Account (run_over rules (headed h (a ++ b)) o) at_last) (sym (told ∙ same)) (Account-joined rules h a b cut first second at_end at_last is x y)
+      subst (λ (o : Outcome). Account (run_over rules (headed h (a ++ b)) o) at_last) (sym (told ∙ same))
+          (Account-joined rules h a b cut first second at_end at_last is x y)

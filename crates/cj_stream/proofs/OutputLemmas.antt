@@ -22,22 +22,28 @@ use Rattle.cj_stream.proofs.KnownLemmas.{Appends-then, Appends-nothing, AppendsP
 
 -- lines that a writer took, one after another
 pub Took-appends : {S : Type 0} (contents : S → Option (List ℕ)) (s t : S) (ls : List Item)
-    → Took (λ a l b. Appends (contents a) (contents b) (raw_item l)) s ls t → Appends (contents s) (contents t) (flat_map raw_item ls)
+    → Took (λ a l b. Appends (contents a) (contents b) (raw_item l)) s ls t
+    → Appends (contents s) (contents t) (flat_map raw_item ls)
 Took-appends contents s t [] h = rw h (Appends-nothing (contents s))
 Took-appends contents s t (l ∷ ls) h =
-    Appends-then (contents s) (contents h.0) (contents t) (raw_item l) (flat_map raw_item ls) h.1 (Took-appends contents h.0 t ls h.2)
+    Appends-then (contents s) (contents h.0) (contents t) (raw_item l) (flat_map raw_item ls) h.1
+        (Took-appends contents h.0 t ls h.2)
 
 -- what is kept of the whole lines of a text, of which none is refused
-pub kept-whole : (rules : Rules) (n : ℕ) (r : List ℕ) → refusal_in rules (lines (whole r)) ≡ None → n ≡ length (lines (whole r)) → kept_first rules n r ≡ kept rules (whole r)
+pub kept-whole : (rules : Rules) (n : ℕ) (r : List ℕ) → refusal_in rules (lines (whole r)) ≡ None
+    → n ≡ length (lines (whole r)) → kept_first rules n r ≡ kept rules (whole r)
 kept-whole rules n r none e =
     let count : n ≡ length (closed r) = e ∙ (ap length (lines-whole r) ∙ length-map_lines (closed r)) in
     let front = rw (append-nil r) at (kept_first-front rules n r [] count) in
-    front ∙ (ap (λ z. kept_from rules [] z) (sym (lines-whole r)) ∙ ap (λ z. kept_from rules [] z) (sym (good-all rules [] (lines (whole r)) none)))
+    front ∙ (ap (λ z. kept_from rules [] z) (sym (lines-whole r))
+        ∙ ap (λ z. kept_from rules [] z) (sym (good-all rules [] (lines (whole r)) none)))
 
 -- steps, taken apart
-pub Took-split : {S : Type 0} (step : S → Item → S → Type 0) (s t : S) (xs ys : List Item) → Took step s (xs ++ ys) t → (m : S) × Took step s xs m × Took step m ys t
+pub Took-split : {S : Type 0} (step : S → Item → S → Type 0) (s t : S) (xs ys : List Item) → Took step s (xs ++ ys) t
+    → (m : S) × Took step s xs m × Took step m ys t
 Took-split step s t [] ys h = (s, refl, h)
-Took-split step s t (x ∷ xs) ys h = let later = Took-split step h.0 t xs ys h.2 in (later.0, (h.0, h.1, later.1), later.2)
+Took-split step s t (x ∷ xs) ys h = let later = Took-split step h.0 t xs ys h.2 in
+    (later.0, (h.0, h.1, later.1), later.2)
 
 -- a sink that was given all good lines, and then left as it was
 pub Took-all : {S : Type 0} (law : SinkLaw S) (rules : Rules) (r : List ℕ) (n : ℕ) (s t : S) (e : End)
@@ -73,7 +79,8 @@ module _ {S : Type 0} (law : SinkLaw S) (rules : Rules) (r : List ℕ) (at_end :
         left = fault.3;
       }
   puts-told Memory ends counts d =
-      let others : List Item = kept_from rules (take n (lines r)) (good_from rules (take n (lines r)) (drop n (lines r))) in
+      let others : List Item =
+          kept_from rules (take n (lines r)) (good_from rules (take n (lines r)) (drop n (lines r))) in
       record {
         more = d.added;
         others = others;
@@ -111,27 +118,36 @@ module _ {S : Type 0} (contents : S → Option (List ℕ)) where
   writes_part a l b = AppendsPart (contents a) (contents b) (raw_item l)
 
   -- the bytes of a prefix of some items
-  pub front-bytes : (then : List Item → S → S → Type 0) → ((others : List Item) (a b : S) → then others a b → AppendsPart (contents a) (contents b) (flat_map raw_item others))
+  pub front-bytes : (then : List Item → S → S → Type 0)
+      → ((others : List Item) (a b : S) → then others a b
+      → AppendsPart (contents a) (contents b) (flat_map raw_item others))
       → (all first : List Item) (s t : S) → TookFront writes then (prefixes all first) s t
-      → AppendsPart (contents s) (contents t) (flat_map raw_item all) × AppendsMore (contents s) (contents t) (flat_map raw_item first)
+      → AppendsPart (contents s) (contents t) (flat_map raw_item all)
+      × AppendsMore (contents s) (contents t) (flat_map raw_item first)
   front-bytes then bytes all first s t h =
       let cut = Took-split writes s h.middle first h.more h.took in
       let left = bytes h.others h.middle t h.left in (
-        rw (h.front, joined-append raw_item (first ++ h.more) h.others) (AppendsPart-after (contents s) (contents h.middle) (contents t) (flat_map raw_item (first ++ h.more)) (flat_map raw_item h.others) (Took-appends contents s h.middle (first ++ h.more) h.took) left),
+        rw (h.front, joined-append raw_item (first ++ h.more) h.others)
+            (AppendsPart-after (contents s) (contents h.middle) (contents t) (flat_map raw_item (first ++ h.more))
+            (flat_map raw_item h.others) (Took-appends contents s h.middle (first ++ h.more) h.took) left),
         record {
           middle = contents cut.0;
           more = flat_map raw_item h.more ++ left.front;
           first = Took-appends contents s cut.0 first cut.1;
-          grows = Appends-then (contents cut.0) (contents h.middle) (contents t) (flat_map raw_item h.more) left.front (Took-appends contents cut.0 h.middle h.more cut.2) left.grows;
+          grows = Appends-then (contents cut.0) (contents h.middle) (contents t) (flat_map raw_item h.more) left.front
+              (Took-appends contents cut.0 h.middle h.more cut.2) left.grows;
         },
       )
 
-  pub next-bytes : (others : List Item) (a b : S) → LeavesNext writes_part others a b → AppendsPart (contents a) (contents b) (flat_map raw_item others)
+  pub next-bytes : (others : List Item) (a b : S) → LeavesNext writes_part others a b
+      → AppendsPart (contents a) (contents b) (flat_map raw_item others)
   next-bytes [] a b h = absurd h
   next-bytes (i ∷ is) a b h = AppendsPart-front (contents a) (contents b) (raw_item i) (flat_map raw_item is) h
 
-  pub no-bytes : (others : List Item) (a b : S) → b ≡ a → AppendsPart (contents a) (contents b) (flat_map raw_item others)
-  no-bytes others a b h = rw h (record { front = []; rest = flat_map raw_item others; whole = refl; grows = Appends-nothing (contents a) })
+  pub no-bytes : (others : List Item) (a b : S) → b ≡ a
+      → AppendsPart (contents a) (contents b) (flat_map raw_item others)
+  no-bytes others a b h =
+      rw h (record { front = []; rest = flat_map raw_item others; whole = refl; grows = Appends-nothing (contents a) })
 
   -- the bytes that a writer got, by the end of the run
   pub Writes-puts : (failures : S → ℕ) (rules : Rules) (r : List ℕ) (s t : S) (e : End)
@@ -176,7 +192,8 @@ module _ {S : Type 0} (contents : S → Option (List ℕ)) where
           front = fault.3.front;
           rest = fault.3.rest;
           cut = fault.3.whole;
-          grows = Appends-then (contents s) (contents d.middle) (contents t) (output_first rules n r) fault.3.front (dealt-bytes d) fault.3.grows;
+          grows = Appends-then (contents s) (contents d.middle) (contents t) (output_first rules n r) fault.3.front
+              (dealt-bytes d) fault.3.grows;
         }
     WritesLines-told Memory none d =
         let nothing : n ≡ 0 = none refl in

@@ -37,7 +37,9 @@ use Rattle.cj_stream.proofs.VerdictLemmas.{blank-is, refusal-append, kept-append
 
 -- behind whole lines none has begun
 pub none-begun : (a : List ℕ) → whole a ≡ a → begun a ≡ []
-none-begun a w = none-from_length (begun a) (omega (arith, ap length (whole-begun a), ap length w, length-append (whole a) (begun a)))
+none-begun a w =
+    none-from_length (begun a)
+        (omega (arith, ap length (whole-begun a), ap length w, length-append (whole a) (begun a)))
 
 pub lines-headed : (h s : List ℕ) → NoLf h → lines (headed h s) ≡ ended_line h ∷ lines s
 lines-headed h s free = rw (closed-ended h s free, begun-ended h s free) refl
@@ -52,14 +54,17 @@ lines-parts a b w =
 -- a header is never left out
 first-not_left_out : (rules : Rules) (header : Tree) (c : List ℕ) → verdict_at rules 1 header c ≡ LeftOut → ⊥
 unfolding verdict_at
-first-not_left_out rules header c h = go (ltb rules.limits.line (length c)) (is_utf8 c) (judgement c rules.limits.depth) h
+first-not_left_out rules header c h =
+    go (ltb rules.limits.line (length c)) (is_utf8 c) (judgement c rules.limits.depth) h
   where
     asked : (o : Option Finding) → by_least true o ≡ LeftOut → ⊥
     asked None e = cc
     asked (Some f) e = cc
 
     go : {d : ℕ} (long text : Bool) (j : Judgement c d)
-        → cond long (Refuse rules.limits.line LineTooLong) (cond (not text) (Refuse (utf8_valid_len c) NotUtf8) (cond (false && list_all is_blank_byte c) Blank (text_verdict rules 1 header j))) ≡ LeftOut → ⊥
+        → cond long (Refuse rules.limits.line LineTooLong)
+            (cond (not text) (Refuse (utf8_valid_len c) NotUtf8)
+            (cond (false && list_all is_blank_byte c) Blank (text_verdict rules 1 header j))) ≡ LeftOut → ⊥
     go true text j e = cc
     go false false j e = cc
     go false true (spelled t json shallow) e = asked (least None (findings rules 1 header t)) e
@@ -90,26 +95,38 @@ module _ (rules : Rules) (l : Line) (valid : verdict rules [] l.content ≡ Vali
   pub refusal-first : (zs : List Line) → refusal_in rules (l ∷ zs) ≡ refusal_from rules (l ∷ []) zs
   refusal-first zs = rw valid refl
 
-  pub kept-joined : (xs zs : List Line) → kept_from rules [] (l ∷ xs ++ zs) ≡ kept_from rules [] (l ∷ xs) ++ later_of (kept_from rules [] (l ∷ zs))
-  kept-joined xs zs = kept-append rules [] (l ∷ xs) zs ∙ ap (λ z. kept_from rules [] (l ∷ xs) ++ z) (kept-moved rules l xs [] zs ∙ sym (ap later_of (kept-first zs)))
+  pub kept-joined : (xs zs : List Line) → kept_from rules [] (l ∷ xs ++ zs) ≡ kept_from rules [] (l ∷ xs)
+      ++ later_of (kept_from rules [] (l ∷ zs))
+  kept-joined xs zs = kept-append rules [] (l ∷ xs) zs
+      ∙ ap (λ z. kept_from rules [] (l ∷ xs) ++ z) (kept-moved rules l xs [] zs ∙ sym (ap later_of (kept-first zs)))
 
-  pub reported-joined : (xs zs : List Line) → reported_from rules [] (l ∷ xs ++ zs) ≡ reported_from rules [] (l ∷ xs) ++ map (moved_report (length xs)) (reported_from rules [] (l ∷ zs))
+  pub reported-joined : (xs zs : List Line) → reported_from rules [] (l ∷ xs ++ zs) ≡ reported_from rules [] (l ∷ xs)
+      ++ map (moved_report (length xs)) (reported_from rules [] (l ∷ zs))
   reported-joined xs zs =
       reported-append rules [] (l ∷ xs) zs
-      ∙ ap (λ z. reported_from rules [] (l ∷ xs) ++ z) (reported-moved rules l xs [] zs (length xs) (omega arith) ∙ sym (ap (map (moved_report (length xs))) (reported-first zs)))
+      ∙ ap (λ z. reported_from rules [] (l ∷ xs) ++ z)
+          (reported-moved rules l xs [] zs (length xs) (omega arith)
+          ∙ sym (ap (map (moved_report (length xs))) (reported-first zs)))
 
   module _ (xs : List Line) (none : refusal_in rules (l ∷ xs) ≡ None) where
-    pub refusal-joined : (zs : List Line) → refusal_in rules (l ∷ xs ++ zs) ≡ option_map (moved_end (length xs)) (refusal_in rules (l ∷ zs))
+    pub refusal-joined : (zs : List Line)
+        → refusal_in rules (l ∷ xs ++ zs) ≡ option_map (moved_end (length xs)) (refusal_in rules (l ∷ zs))
     refusal-joined zs =
-        refusal-append rules [] (l ∷ xs) zs none ∙ (refusal-moved rules l xs [] zs (length xs) (omega arith) ∙ sym (ap (option_map (moved_end (length xs))) (refusal-first zs)))
+        refusal-append rules [] (l ∷ xs) zs none
+            ∙ (refusal-moved rules l xs [] zs (length xs) (omega arith)
+            ∙ sym (ap (option_map (moved_end (length xs))) (refusal-first zs)))
 
-    pub good-joined : (zs : List Line) → good_from rules [] (l ∷ xs ++ zs) ≡ l ∷ xs ++ later_of (good_from rules [] (l ∷ zs))
+    pub good-joined : (zs : List Line) → good_from rules [] (l ∷ xs ++ zs) ≡ l ∷ xs
+        ++ later_of (good_from rules [] (l ∷ zs))
     good-joined zs =
-        good-append rules [] (l ∷ xs) zs none ∙ ap (λ z. l ∷ xs ++ z) (good-moved rules l xs [] zs (length xs) (omega arith) ∙ sym (ap later_of (good-first zs)))
+        good-append rules [] (l ∷ xs) zs none
+            ∙ ap (λ z. l ∷ xs ++ z) (good-moved rules l xs [] zs (length xs) (omega arith)
+            ∙ sym (ap later_of (good-first zs)))
 
 -- ---- streams
 
-moved-ending : (k : ℕ) (o : Option End) → unwrap_or (option_map (moved_end k) o) Complete ≡ moved_end k (unwrap_or o Complete)
+moved-ending : (k : ℕ) (o : Option End) → unwrap_or (option_map (moved_end k) o) Complete
+    ≡ moved_end k (unwrap_or o Complete)
 moved-ending k None = refl
 moved-ending k (Some x) = refl
 
@@ -129,7 +146,9 @@ module _ (rules : Rules) (h a : List ℕ) (cut : IsCut h a) where
     front-none = let k = complete-none rules (lines (headed h a)) done in rw front-lines at k
 
     pub header-valid : verdict rules [] h ≡ Valid
-    header-valid = valid-first rules h (first-none (refusal_of rules 1 (verdict rules [] h)) (refusal_from rules (ended_line h ∷ []) (lines a)) front-none).0
+    header-valid =
+        valid-first rules h (first-none (refusal_of rules 1 (verdict rules [] h))
+            (refusal_from rules (ended_line h ∷ []) (lines a)) front-none).0
 
     pub front-good : good rules (headed h a) ≡ ended_line h ∷ lines a
     front-good = ap (λ z. good_from rules [] z) front-lines ∙ good-all rules [] (ended_line h ∷ lines a) front-none
@@ -142,11 +161,14 @@ module _ (rules : Rules) (h a : List ℕ) (cut : IsCut h a) where
           ∙ ap (λ z. ended_line h ∷ lines a ++ later_of (good_from rules [] z)) (sym (back-lines b)))
 
       pub back-good : good rules (headed h b) ≡ ended_line h ∷ later_of (good rules (headed h b))
-      back-good = let k = ap (λ z. good_from rules [] z) (back-lines b) ∙ good-first rules (ended_line h) header-valid (lines b) in k ∙ ap (λ z. ended_line h ∷ z) (sym (ap later_of k))
+      back-good = let k = ap (λ z. good_from rules [] z) (back-lines b)
+          ∙ good-first rules (ended_line h) header-valid (lines b) in
+          k ∙ ap (λ z. ended_line h ∷ z) (sym (ap later_of k))
 
       pub back-kept : kept rules (headed h b) ≡ item_after rules [] (ended_line h) ∷ later_of (kept rules (headed h b))
       back-kept =
-          let k = ap (λ z. kept_from rules [] z) back-good ∙ kept-first rules (ended_line h) header-valid (later_of (good rules (headed h b))) in
+          let k = ap (λ z. kept_from rules [] z) back-good
+              ∙ kept-first rules (ended_line h) header-valid (later_of (good rules (headed h b))) in
           k ∙ ap (λ z. item_after rules [] (ended_line h) ∷ z) (sym (ap later_of k))
 
       pub kept-parts : kept rules (headed h (a ++ b)) ≡ kept rules (headed h a) ++ later_of (kept rules (headed h b))
@@ -157,7 +179,8 @@ module _ (rules : Rules) (h a : List ℕ) (cut : IsCut h a) where
           ∙ (ap (λ z. kept_from rules [] z ++ later_of (kept_from rules [] (ended_line h ∷ later))) (sym front-good)
           ∙ ap (λ z. kept rules (headed h a) ++ later_of (kept_from rules [] z)) (sym back-good)))
 
-      pub output-parts : (rest : List ℕ) × (output rules (headed h b) ≡ headed h rest) × (output rules (headed h (a ++ b)) ≡ output rules (headed h a) ++ rest)
+      pub output-parts : (rest : List ℕ) × (output rules (headed h b) ≡ headed h rest)
+          × (output rules (headed h (a ++ b)) ≡ output rules (headed h a) ++ rest)
       output-parts =
           let later = later_of (kept rules (headed h b)) in (
             flat_map raw_item later,
@@ -168,26 +191,33 @@ module _ (rules : Rules) (h a : List ℕ) (cut : IsCut h a) where
       pub ending-parts : ending rules (headed h (a ++ b)) ≡ moved_end (length (lines a)) (ending rules (headed h b))
       ending-parts =
           ap (λ z. ending_of rules z) (all-lines b)
-          ∙ (ap (λ o. unwrap_or o Complete) (refusal-joined rules (ended_line h) header-valid (lines a) front-none (lines b))
-          ∙ (moved-ending (length (lines a)) (refusal_in rules (ended_line h ∷ lines b)) ∙ ap (λ z. moved_end (length (lines a)) (ending_of rules z)) (sym (back-lines b))))
+          ∙ (ap (λ o. unwrap_or o Complete)
+              (refusal-joined rules (ended_line h) header-valid (lines a) front-none (lines b))
+          ∙ (moved-ending (length (lines a)) (refusal_in rules (ended_line h ∷ lines b))
+              ∙ ap (λ z. moved_end (length (lines a)) (ending_of rules z)) (sym (back-lines b))))
 
-      pub reported-parts : reported rules (headed h (a ++ b)) ≡ reported rules (headed h a) ++ map (moved_report (length (lines a))) (reported rules (headed h b))
+      pub reported-parts : reported rules (headed h (a ++ b)) ≡ reported rules (headed h a)
+          ++ map (moved_report (length (lines a))) (reported rules (headed h b))
       reported-parts =
           let later = later_of (good rules (headed h b)) in
           let moved = map (moved_report (length (lines a))) in
           ap (λ z. reported_from rules [] z) good-parts
           ∙ (reported-joined rules (ended_line h) header-valid (lines a) later
-          ∙ (ap (λ z. reported_from rules [] z ++ moved (reported_from rules [] (ended_line h ∷ later))) (sym front-good)
+          ∙ (ap (λ z. reported_from rules [] z ++ moved (reported_from rules [] (ended_line h ∷ later)))
+              (sym front-good)
           ∙ ap (λ z. reported rules (headed h a) ++ moved (reported_from rules [] z)) (sym back-good)))
 
       -- ---- counts
 
-      pub lines-counted : length (good rules (headed h (a ++ b))) + 1 ≡ length (good rules (headed h a)) + length (good rules (headed h b))
+      pub lines-counted : length (good rules (headed h (a ++ b))) + 1 ≡ length (good rules (headed h a))
+          + length (good rules (headed h b))
       lines-counted =
           let later = later_of (good rules (headed h b)) in
-          omega (arith, ap length good-parts, ap length front-good, ap length back-good, length-append (ended_line h ∷ lines a) later)
+          omega (arith, ap length good-parts, ap length front-good, ap length back-good,
+              length-append (ended_line h ∷ lines a) later)
 
-      pub features-counted : length (filter is_feature (kept rules (headed h (a ++ b)))) ≡ length (filter is_feature (kept rules (headed h a))) + length (filter is_feature (kept rules (headed h b)))
+      pub features-counted : length (filter is_feature (kept rules (headed h (a ++ b))))
+          ≡ length (filter is_feature (kept rules (headed h a))) + length (filter is_feature (kept rules (headed h b)))
       features-counted =
           let first = kept rules (headed h a) in
           let later = later_of (kept rules (headed h b)) in
@@ -196,36 +226,46 @@ module _ (rules : Rules) (h a : List ℕ) (cut : IsCut h a) where
           ∙ (length-append (filter is_feature first) (filter is_feature later)
           ∙ ap (λ z. length (filter is_feature first) + length (filter is_feature z)) (sym back-kept)))
 
-      pub refused-counted : length (reported rules (headed h (a ++ b))) ≡ length (reported rules (headed h a)) + length (reported rules (headed h b))
+      pub refused-counted : length (reported rules (headed h (a ++ b))) ≡ length (reported rules (headed h a))
+          + length (reported rules (headed h b))
       refused-counted =
           let moved = moved_report (length (lines a)) in
           ap length reported-parts
-          ∙ (length-append (reported rules (headed h a)) (map moved (reported rules (headed h b))) ∙ ap (λ n. length (reported rules (headed h a)) + n) (length-map (reported rules (headed h b)) moved))
+          ∙ (length-append (reported rules (headed h a)) (map moved (reported rules (headed h b)))
+              ∙ ap (λ n. length (reported rules (headed h a)) + n) (length-map (reported rules (headed h b)) moved))
 
   -- the first part is refused
   module _ (b : List ℕ) where
     part-stays : (e : End) → refusal_in rules (ended_line h ∷ lines a) ≡ Some e
-        → (ending rules (headed h (a ++ b)) ≡ ending rules (headed h a)) × (good rules (headed h (a ++ b)) ≡ good rules (headed h a))
+        → (ending rules (headed h (a ++ b)) ≡ ending rules (headed h a))
+        × (good rules (headed h (a ++ b)) ≡ good rules (headed h a))
     part-stays e refused =
         let first = ended_line h ∷ lines a in
-        let all : ending rules (headed h (a ++ b)) ≡ e = ending-refused rules (lines (headed h (a ++ b))) e (rw (all-lines b) (refusal-stays rules [] first (lines b) e refused)) in
-        let front : ending rules (headed h a) ≡ e = ending-refused rules (lines (headed h a)) e (rw front-lines refused) in (
+        let all : ending rules (headed h (a ++ b)) ≡ e =
+            ending-refused rules (lines (headed h (a ++ b))) e
+                (rw (all-lines b) (refusal-stays rules [] first (lines b) e refused)) in
+        let front : ending rules (headed h a) ≡ e =
+            ending-refused rules (lines (headed h a)) e (rw front-lines refused) in (
           all ∙ sym front,
-          ap (λ z. good_from rules [] z) (all-lines b) ∙ (good-stays rules [] first (lines b) e refused ∙ ap (λ z. good_from rules [] z) (sym front-lines)),
+          ap (λ z. good_from rules [] z) (all-lines b)
+              ∙ (good-stays rules [] first (lines b) e refused ∙ ap (λ z. good_from rules [] z) (sym front-lines)),
         )
 
     pub refused-stays : ¬ (ending rules (headed h a) ≡ Complete)
-        → (ending rules (headed h (a ++ b)) ≡ ending rules (headed h a)) × (good rules (headed h (a ++ b)) ≡ good rules (headed h a))
+        → (ending rules (headed h (a ++ b)) ≡ ending rules (headed h a))
+        × (good rules (headed h (a ++ b)) ≡ good rules (headed h a))
     refused-stays refused = go (refusal_in rules (ended_line h ∷ lines a)) refl
       where
         go : (o : Option End) → refusal_in rules (ended_line h ∷ lines a) ≡ o
-            → (ending rules (headed h (a ++ b)) ≡ ending rules (headed h a)) × (good rules (headed h (a ++ b)) ≡ good rules (headed h a))
+            → (ending rules (headed h (a ++ b)) ≡ ending rules (headed h a))
+            × (good rules (headed h (a ++ b)) ≡ good rules (headed h a))
         go None is = absurd (refused (ap (λ z. ending_of rules z) front-lines ∙ ap (λ o. unwrap_or o Complete) is))
         go (Some e) is = part-stays e is
 
 -- ---- what is held at most
 
-greatest-two : (measure : List ℕ → ℕ) (cs ds : List (List ℕ)) → greatest measure (cs ++ ds) ≡ max (greatest measure cs) (greatest measure ds)
+greatest-two : (measure : List ℕ → ℕ) (cs ds : List (List ℕ))
+    → greatest measure (cs ++ ds) ≡ max (greatest measure cs) (greatest measure ds)
 greatest-two measure [] ds = omega arith
 greatest-two measure (c ∷ cs) ds = omega (arith, greatest-two measure cs ds)
 
@@ -252,7 +292,8 @@ module _ (limits : LimitPair) (h : List ℕ) where
   exact-headed s free = rw (first-headed h s free, contents-headed h s free) refl
 
   -- of more contents
-  peaks-two : (cs ds : List (List ℕ)) → peaks_behind limits h (cs ++ ds) ≡ greater_peaks (peaks_behind limits h cs) (peaks_behind limits h ds)
+  peaks-two : (cs ds : List (List ℕ))
+      → peaks_behind limits h (cs ++ ds) ≡ greater_peaks (peaks_behind limits h cs) (peaks_behind limits h ds)
   unfolding peaks_behind
   peaks-two cs ds =
       same-peaks _ _ _ _ _ _
@@ -260,7 +301,9 @@ module _ (limits : LimitPair) (h : List ℕ) where
       (omega (arith, greatest-two (tree_size limits) cs ds))
       (omega (arith, greatest-two (tree_nest limits) cs ds))
 
-  pub exact-parts : (a b : List ℕ) → IsCut h a → exact_peaks limits (headed h (a ++ b)) ≡ greater_peaks (exact_peaks limits (headed h a)) (exact_peaks limits (headed h b))
+  pub exact-parts : (a b : List ℕ) → IsCut h a
+      → exact_peaks limits (headed h (a ++ b)) ≡ greater_peaks (exact_peaks limits (headed h a))
+      (exact_peaks limits (headed h b))
   exact-parts a b cut =
       exact-headed (a ++ b) cut.header
       ∙ (ap (λ z. peaks_behind limits h z) (contents-parts a b cut.lines)

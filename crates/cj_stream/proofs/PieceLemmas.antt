@@ -21,7 +21,8 @@ use Rattle.cj_stream.proofs.ReadingLemmas.{left-same, strict-first, Reads-left, 
 use Rattle.cj_stream.proofs.EngineLemmas.{next-line}
 
 -- steps, and then others
-pub Took-append : {S X : Type 0} (step : S → X → S → Type 0) (a b c : S) (xs ys : List X) → Took step a xs b → Took step b ys c → Took step a (xs ++ ys) c
+pub Took-append : {S X : Type 0} (step : S → X → S → Type 0) (a b c : S) (xs ys : List X) → Took step a xs b
+    → Took step b ys c → Took step a (xs ++ ys) c
 Took-append step a b c [] ys h k = subst (λ z. Took step z ys c) h k
 Took-append step a b c (x ∷ xs) ys h k = (h.0, h.1, Took-append step h.0 b c xs ys h.2 k)
 
@@ -69,7 +70,8 @@ module _ {S : Type 0} (law : SinkLaw S) where
   }
 
   passed : (g h : Reading) (s t : S) (p : List ℕ) (put refuses : Bool) → Reads g p → Passes put refuses g h
-      → refusal_of g.rules (g.lines + 1) (next_verdict g (begun p)) ≡ None → put ≡ is_kept (next_verdict g (begun p)) → refuses ≡ is_refused (next_verdict g (begun p))
+      → refusal_of g.rules (g.lines + 1) (next_verdict g (begun p)) ≡ None → put ≡ is_kept (next_verdict g (begun p))
+      → refuses ≡ is_refused (next_verdict g (begun p))
       → Took law.takes s (if put then item_after g.rules (map ended_line (closed p)) (ended_line (begun p))
       ∷ [] else []) t → Advances law (further p (10 ∷ [])) (with_sink g s) (with_sink h t)
   passed g h s t p put refuses r x fine k bad took = record {
@@ -82,18 +84,23 @@ module _ {S : Type 0} (law : SinkLaw S) where
   clash-err r x a b = cc
 
   -- a refused line that reading goes on after
-  gone-on : (g h : Reading) (s t : S) (p : List ℕ) (place : ℕ) (reason : Reason) (on : Bool) (r : Result (Unit {0}) End) → Reads g p → next_verdict g (begun p) ≡ Refuse place reason
+  gone-on : (g h : Reading) (s t : S) (p : List ℕ) (place : ℕ) (reason : Reason) (on : Bool) (r : Result (Unit {0}) End)
+      → Reads g p → next_verdict g (begun p) ≡ Refuse place reason
       → is_lenient g ≡ on → Refuses on (Refused (g.lines + 1) place reason) g r h → t ≡ s → r ≡ Ok tt
       → Advances law (further p (10 ∷ [])) (with_sink g s) (with_sink h t)
-  gone-on g h s t p place reason true r reads e is d still ok = passed g h s t p false true reads d.1 (rw (e, is) refl) (rw e refl) (rw e refl) still
+  gone-on g h s t p place reason true r reads e is d still ok =
+      passed g h s t p false true reads d.1 (rw (e, is) refl) (rw e refl) (rw e refl) still
   gone-on g h s t p place reason false r reads e is d still ok = absurd (clash-err r _ d.0 ok)
 
-  dealt : (g h : Reading) (s t : S) (p : List ℕ) (v : Verdict) (r : Result (Unit {0}) End) → Reads g p → next_verdict g (begun p) ≡ v
+  dealt : (g h : Reading) (s t : S) (p : List ℕ) (v : Verdict) (r : Result (Unit {0}) End) → Reads g p
+      → next_verdict g (begun p) ≡ v
       → Deals law (judged_next g (is_lenient g) v (ended_line (begun p))) (with_sink g s) r (with_sink h t) → r ≡ Ok tt
       → Advances law (further p (10 ∷ [])) (with_sink g s) (with_sink h t)
-  dealt g h s t p (Refuse place reason) r reads e d ok = gone-on g h s t p place reason (is_lenient g) r reads e refl d.0 d.1 ok
+  dealt g h s t p (Refuse place reason) r reads e d ok =
+      gone-on g h s t p place reason (is_lenient g) r reads e refl d.0 d.1 ok
   dealt g h s t p Blank r reads e d ok = passed g h s t p false false reads d.1 (rw e refl) (rw e refl) (rw e refl) d.2
-  dealt g h s t p LeftOut r reads e d ok = passed g h s t p false false reads d.1 (rw e refl) (rw e refl) (rw e refl) d.2
+  dealt g h s t p LeftOut r reads e d ok =
+      passed g h s t p false false reads d.1 (rw e refl) (rw e refl) (rw e refl) d.2
   dealt g h s t p Valid (Err x) reads e d ok = absurd (clash-err (Err x) x refl ok)
   dealt g h s t p Valid (Ok x) reads e d ok =
       let is = next-item g p reads (ended_line (begun p)) in
@@ -106,7 +113,8 @@ module _ {S : Type 0} (law : SinkLaw S) where
   settled g h s t p r reads (inr m) ok = absurd (clash-err r Memory m.0 ok)
 
   -- what came of the begun line, told by its content, of which nothing is known where it is dropped
-  pub Settles-begun : (on : Bool) (g h : Reading) (s t : S) (c : List ℕ) (lf : Bool) (r : Result (Unit {0}) End) → IsBegun g c
+  pub Settles-begun : (on : Bool) (g h : Reading) (s t : S) (c : List ℕ) (lf : Bool) (r : Result (Unit {0}) End)
+      → IsBegun g c
       → Settles law (judged_next g on (told_verdict g) (record { content = begun_of g; lf = lf })) (with_sink g s) r
       (with_sink h t)
       → Settles law (judged_next g on (next_verdict g c) (record { content = c; lf = lf })) (with_sink g s) r
@@ -133,7 +141,9 @@ module _ {S : Type 0} (law : SinkLaw S) where
           (record { content = begun_of g; lf = lf })) (with_sink g s) r (with_sink h t)
           → Settles law (judged_next g on (next_verdict g c) (record { content = c; lf = lf })) (with_sink g s) r
           (with_sink h t)
-      go true dropped k = no-item _ g.rules.limits.line LineTooLong (next_verdict g c) (verdict-long g.rules _ _ c (dropped-long g c is dropped)) k
+      go true dropped k =
+          no-item _ g.rules.limits.line LineTooLong (next_verdict g c)
+              (verdict-long g.rules _ _ c (dropped-long g c is dropped)) k
       go false held k = subst (λ x. Settles law (judged_next g on (next_verdict g c) (record { content = x; lf = lf }))
           (with_sink g s) r (with_sink h t)) (held-whole g c is held).0 k
 
@@ -172,30 +182,39 @@ module _ {S : Type 0} (law : SinkLaw S) where
     cause = let k = rw x.rules at y.cause in rw (← append_assoc p a y.done, ← append_assoc p a b) k;
   }
 
-  IsNext-ended : (limits : LimitPair) (p part more : List ℕ) → NoLf part → IsNext limits (p ++ part) (p ++ (part ++ 10 ∷ more)) (ended_line (begun p ++ part))
+  IsNext-ended : (limits : LimitPair) (p part more : List ℕ) → NoLf part
+      → IsNext limits (p ++ part) (p ++ (part ++ 10 ∷ more)) (ended_line (begun p ++ part))
   IsNext-ended limits p part more n = (
     map ended_line (closed more) ++ long_line limits (begun more),
-    rw (← append_assoc p part (10 ∷ more), closed-lf (p ++ part) more, begun-lf (p ++ part) more, map_lines-append (closed (p ++ part)) (begun (p ++ part) ∷ closed more), begun-more p part n)
-        (append_assoc (map ended_line (closed (p ++ part))) (ended_line (begun p ++ part) ∷ map ended_line (closed more)) (long_line limits (begun more))),
+    rw (← append_assoc p part (10 ∷ more), closed-lf (p ++ part) more, begun-lf (p ++ part) more,
+        map_lines-append (closed (p ++ part)) (begun (p ++ part) ∷ closed more), begun-more p part n)
+        (append_assoc (map ended_line (closed (p ++ part)))
+            (ended_line (begun p ++ part) ∷ map ended_line (closed more)) (long_line limits (begun more))),
   )
 
-  long_line-long : (limits : LimitPair) (c : List ℕ) → limits.line < length c → long_line limits c ≡ record { content = c; lf = false } ∷ []
+  long_line-long : (limits : LimitPair) (c : List ℕ) → limits.line < length c
+      → long_line limits c ≡ record { content = c; lf = false } ∷ []
   long_line-long limits [] h = absurd (omega arith)
-  long_line-long limits (b ∷ c) h = let e : ltb limits.line (length (b ∷ c)) ≡ true = grind (arith, nat_tests) in rw e refl
+  long_line-long limits (b ∷ c) h = let e : ltb limits.line (length (b ∷ c)) ≡ true = grind (arith, nat_tests) in
+      rw e refl
 
-  IsNext-long : (limits : LimitPair) (p part : List ℕ) → NoLf part → limits.line < length (begun p ++ part) → IsNext limits p (p ++ part) (record { content = begun p ++ part; lf = false })
+  IsNext-long : (limits : LimitPair) (p part : List ℕ) → NoLf part → limits.line < length (begun p ++ part)
+      → IsNext limits p (p ++ part) (record { content = begun p ++ part; lf = false })
   IsNext-long limits p part n long = (
     [],
     rw (closed-more p part n, begun-more p part n, long_line-long limits (begun p ++ part) long) refl,
   )
 
   Unstored-cause : (f : Reading) (s : S) (p part q : List ℕ) (lf : Bool) (e : End) → Reads f p → Unstored f part e
-      → (f.rules.limits.line < length (begun p ++ part) → IsNext f.rules.limits p q (record { content = begun p ++ part; lf = lf }))
+      → (f.rules.limits.line < length (begun p ++ part)
+          → IsNext f.rules.limits p q (record { content = begun p ++ part; lf = lf }))
       → HasCause law (stop_at f.rules p q f.lines) s s e
   Unstored-cause f s p part q lf e reads d next =
       let whole = held-whole f (begun p) reads.begun d.3 in
-      let long : f.rules.limits.line < length (begun p ++ part) = omega (arith, length-append (begun p) part, ap length whole.0, d.1) in
-      rw d.0 (record { content = begun p ++ part; lf = lf }, next long, refl, verdict-long f.rules _ _ (begun p ++ part) long, refl, d.2)
+      let long : f.rules.limits.line < length (begun p ++ part) =
+          omega (arith, length-append (begun p) part, ap length whole.0, d.1) in
+      rw d.0 (record { content = begun p ++ part; lf = lf }, next long, refl,
+          verdict-long f.rules _ _ (begun p ++ part) long, refl, d.2)
 
   stopped : (f : Reading) (s : S) (p more : List ℕ) (e : End) → Reads f p
       → HasCause law (stop_at f.rules p (p ++ more) f.lines) s s e → Stops law (further p more) (with_sink f s) e
@@ -230,7 +249,8 @@ module _ {S : Type 0} (law : SinkLaw S) where
   good-bad r e x y = cc
 
   -- a refused line that is the end
-  unforgiven : (g h : Reading) (s t : S) (p part more : List ℕ) (place : ℕ) (reason : Reason) (on : Bool) (r : Result (Unit {0}) End) (e : End) → NoLf part → Reads g (p ++ part)
+  unforgiven : (g h : Reading) (s t : S) (p part more : List ℕ) (place : ℕ) (reason : Reason) (on : Bool)
+      (r : Result (Unit {0}) End) (e : End) → NoLf part → Reads g (p ++ part)
       → next_verdict g (begun (p ++ part)) ≡ Refuse place reason → is_lenient g ≡ on
       → Refuses on (Refused (g.lines + 1) place reason) g r h → t ≡ s → r ≡ Err e
       → IsLeft g h × HasCause law (stop_at g.rules (p ++ part) (p ++ (part ++ 10 ∷ more)) g.lines) s t e
@@ -238,15 +258,19 @@ module _ {S : Type 0} (law : SinkLaw S) where
   unforgiven g h s t p part more place reason false r e n reads is on d still err =
       let same : e ≡ Refused (g.lines + 1) place reason = cc in
       let told = sym (next-verdict g (p ++ part) reads (begun (p ++ part))) ∙ is in
-      (left-same g h d.1, rw same (ended_line (begun p ++ part), IsNext-ended g.rules.limits p part more n, refl, rw (begun-more p part n) at told, still, on))
+      (left-same g h d.1, rw same
+          (ended_line (begun p ++ part), IsNext-ended g.rules.limits p part more n, refl,
+              rw (begun-more p part n) at told, still, on))
 
   -- a line that has begun, and was not dealt with: g has read p, whose last bytes they are
-  undealt : (g h : Reading) (s t : S) (p part more : List ℕ) (v : Verdict) (r : Result (Unit {0}) End) (e : End) → NoLf part → Reads g (p ++ part)
+  undealt : (g h : Reading) (s t : S) (p part more : List ℕ) (v : Verdict) (r : Result (Unit {0}) End) (e : End)
+      → NoLf part → Reads g (p ++ part)
       → next_verdict g (begun (p ++ part)) ≡ v
       → Deals law (judged_next g (is_lenient g) v (ended_line (begun (p ++ part)))) (with_sink g s) r (with_sink h t)
       → r ≡ Err e
       → IsLeft g h × HasCause law (stop_at g.rules (p ++ part) (p ++ (part ++ 10 ∷ more)) g.lines) s t e
-  undealt g h s t p part more (Refuse place reason) r e n reads is d err = unforgiven g h s t p part more place reason (is_lenient g) r e n reads is refl d.0 d.1 err
+  undealt g h s t p part more (Refuse place reason) r e n reads is d err =
+      unforgiven g h s t p part more place reason (is_lenient g) r e n reads is refl d.0 d.1 err
   undealt g h s t p part more Blank r e n reads is d err = absurd (good-bad r e d.0 err)
   undealt g h s t p part more LeftOut r e n reads is d err = absurd (good-bad r e d.0 err)
   undealt g h s t p part more Valid (Ok x) e n reads is d err = absurd (clash err)
@@ -256,13 +280,16 @@ module _ {S : Type 0} (law : SinkLaw S) where
   undealt g h s t p part more Valid (Err x) e n reads is d err =
       let same : e ≡ WriteFault = cc in
       let b = begun-more p part n in
-      let told : is_kept (verdict g.rules (map ended_line (closed (p ++ part))) (begun (p ++ part))) ≡ true = ap is_kept (sym (next-verdict g (p ++ part) reads (begun (p ++ part))) ∙ is) in
+      let told : is_kept (verdict g.rules (map ended_line (closed (p ++ part))) (begun (p ++ part))) ≡ true =
+          ap is_kept (sym (next-verdict g (p ++ part) reads (begun (p ++ part))) ∙ is) in
       let item = next-item g (p ++ part) reads (ended_line (begun (p ++ part))) in
       let left : law.leaves s (item_after g.rules (map ended_line (closed (p ++ part)))
       (ended_line (begun (p ++ part)))) t = rw (← item) d.2 in
-      (d.1, rw same (ended_line (begun p ++ part), IsNext-ended g.rules.limits p part more n, rw b at told, rw b at left))
+      (d.1, rw same (ended_line (begun p ++ part), IsNext-ended g.rules.limits p part more n, rw b at told,
+              rw b at left))
 
-  unsettled : (g h : Reading) (s t : S) (p part more : List ℕ) (r : Result (Unit {0}) End) (e : End) → NoLf part → Reads g (p ++ part)
+  unsettled : (g h : Reading) (s t : S) (p part more : List ℕ) (r : Result (Unit {0}) End) (e : End) → NoLf part
+      → Reads g (p ++ part)
       → Settles law (judged_next g (is_lenient g) (next_verdict g (begun (p ++ part))) (ended_line (begun (p ++ part))))
       (with_sink g s) r (with_sink h t) → r ≡ Err e
       → IsLeft g h × HasCause law (stop_at g.rules (p ++ part) (p ++ (part ++ 10 ∷ more)) g.lines) s t e
@@ -271,21 +298,24 @@ module _ {S : Type 0} (law : SinkLaw S) where
       let same : e ≡ Memory = cc in
       let none : closed (p ++ part) ≡ [] = none-from_length (closed (p ++ part)) (sym reads.lines ∙ m.3) in
       let valid = sym (next-verdict g (p ++ part) reads (begun (p ++ part))) ∙ m.4 in
-      let next = next-line g.rules.limits g.lines (p ++ part) (p ++ (part ++ 10 ∷ more)) (ended_line (begun p ++ part)) (IsNext-ended g.rules.limits p part more n) reads.lines in (
+      let next = next-line g.rules.limits g.lines (p ++ part) (p ++ (part ++ 10 ∷ more)) (ended_line (begun p ++ part))
+          (IsNext-ended g.rules.limits p part more n) reads.lines in (
         m.1,
         rw same (
           m.2,
           record {
             none = m.3;
             header = begun p ++ part;
-            first = subst (λ k. slice_get (lines (p ++ (part ++ 10 ∷ more))) k ≡ Some (ended_line (begun p ++ part))) m.3 next;
+            first = subst (λ k. slice_get (lines (p ++ (part ++ 10 ∷ more))) k ≡ Some (ended_line (begun p ++ part)))
+                m.3 next;
             valid = rw (none, begun-more p part n) at valid;
           },
         ),
       )
 
   -- a part that is stored, and a line that is not dealt with
-  pub Stops-undealt : {f g h : Reading} {s t : S} {p part : List ℕ} (more : List ℕ) {r : Result (Unit {0}) End} {e : End}
+  pub Stops-undealt : {f g h : Reading} {s t : S} {p part : List ℕ} (more : List ℕ) {r : Result (Unit {0}) End}
+      {e : End}
       → Reads f p → NoLf part → Stores f part g
       → Settles law (judged_next g (is_lenient g) (told_verdict g) (ended_line (begun_of g))) (with_sink g s) r
       (with_sink h t) → r ≡ Err e

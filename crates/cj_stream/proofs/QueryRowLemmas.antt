@@ -41,10 +41,13 @@ each = (refl, refl, refl, refl)
 abbrev met : Box → List (List (Option ℤ)) → List AffineMap → Bool
 met box vs maps =
     let none : AffineMap = record { scale = pos 0; shift = pos 0 } in
-    list_any (λ v. int_le (image (get_or maps 0 none) (number_on 0 v)) box.max_x) vs && list_any (λ v. int_le box.min_x (image (get_or maps 0 none) (number_on 0 v))) vs
-    && list_any (λ v. int_le (image (get_or maps 1 none) (number_on 1 v)) box.max_y) vs && list_any (λ v. int_le box.min_y (image (get_or maps 1 none) (number_on 1 v))) vs
+    list_any (λ v. int_le (image (get_or maps 0 none) (number_on 0 v)) box.max_x) vs
+        && list_any (λ v. int_le box.min_x (image (get_or maps 0 none) (number_on 0 v))) vs
+    && list_any (λ v. int_le (image (get_or maps 1 none) (number_on 1 v)) box.max_y) vs
+    && list_any (λ v. int_le box.min_y (image (get_or maps 1 none) (number_on 1 v))) vs
 
-in-box : (header t : Tree) (box : Box) (vs : List (List (Option ℤ))) (maps : List AffineMap) → vertices_of t ≡ vs → maps_of header ≡ maps → holds (boxed box) header t ≡ met box vs maps
+in-box : (header t : Tree) (box : Box) (vs : List (List (Option ℤ))) (maps : List AffineMap) → vertices_of t ≡ vs
+    → maps_of header ≡ maps → holds (boxed box) header t ≡ met box vs maps
 unfolding holds
 in-box header t box vs maps vertices its_maps = rw (vertices, its_maps) refl
 
@@ -56,7 +59,8 @@ unfolding text code_points_after first_code_point first_width chars encode
 maps = rw (zero.1, one.1) refl
 
 abbrev two_vertices : List (List (Option ℤ))
-two_vertices = (Some (pos 0) ∷ Some (pos 0) ∷ Some (pos 1) ∷ []) ∷ (Some (pos 1) ∷ Some (pos 0) ∷ Some (pos 0) ∷ []) ∷ []
+two_vertices = (Some (pos 0) ∷ Some (pos 0) ∷ Some (pos 1) ∷ []) ∷ (Some (pos 1) ∷ Some (pos 0) ∷ Some (pos 0) ∷ [])
+    ∷ []
 
 vertices : vertices_of two_objects ≡ two_vertices
 unfolding text code_points_after first_code_point first_width chars encode

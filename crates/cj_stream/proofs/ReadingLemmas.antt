@@ -62,7 +62,8 @@ true-false true x y = cc
 true-false false x y = cc
 
 -- the begun line is held whole where it is not dropped
-pub held-whole : (f : Reading) (c : List ℕ) → IsBegun f c → f.dropped ≡ false → (begun_of f ≡ c) × (length c ≤ f.rules.limits.line)
+pub held-whole : (f : Reading) (c : List ℕ) → IsBegun f c → f.dropped ≡ false → (begun_of f ≡ c)
+    × (length c ≤ f.rules.limits.line)
 held-whole f c is held =
     let short : length c ≤ f.rules.limits.line = short-from f.rules.limits.line (length c) (sym is.dropped ∙ held) in
     (is.content ∙ (stored-short f.rules.limits.line c short).0, short)
@@ -83,7 +84,8 @@ has-begun f c is (inl some) = go f.dropped refl
 pub told-verdict : (f : Reading) (c : List ℕ) → IsBegun f c → told_verdict f ≡ next_verdict f c
 told-verdict f c is = go f.dropped refl
   where
-    go : (b : Bool) → f.dropped ≡ b → cond f.dropped (Refuse f.rules.limits.line LineTooLong) (next_verdict f (begun_of f)) ≡ next_verdict f c
+    go : (b : Bool) → f.dropped ≡ b
+        → cond f.dropped (Refuse f.rules.limits.line LineTooLong) (next_verdict f (begun_of f)) ≡ next_verdict f c
     go true d = rw d (sym (verdict-long f.rules (f.lines + 1) (held_header f) c (dropped-long f c is d)))
     go false d = rw d (ap (next_verdict f) (held-whole f c is d).0)
 
@@ -111,8 +113,10 @@ module _ (f g : Reading) (p part : List ℕ) (h : Reads f p) (s : Stores f part 
   grown w = go (zero_or f.lines)
     where
       go : (f.lines ≡ 0) ⊎ (0 < f.lines) → begun_of g ≡ begun_of f ++ part
-      go (inl z) = begun_of-first g (s.lines ∙ z) ∙ ((w.first z).0.elements ∙ ap (λ x. x ++ part) (sym (begun_of-first f z)))
-      go (inr z) = begun_of-later g (omega (arith, s.lines)) ∙ ((w.later z).0.elements ∙ ap (λ x. x ++ part) (sym (begun_of-later f z)))
+      go (inl z) = begun_of-first g (s.lines ∙ z)
+          ∙ ((w.first z).0.elements ∙ ap (λ x. x ++ part) (sym (begun_of-first f z)))
+      go (inr z) = begun_of-later g (omega (arith, s.lines))
+          ∙ ((w.later z).0.elements ∙ ap (λ x. x ++ part) (sym (begun_of-later f z)))
 
   limit : g.rules.limits.line ≡ f.rules.limits.line
   limit = ap (λ x. x.limits.line) s.rules
@@ -124,7 +128,8 @@ module _ (f g : Reading) (p part : List ℕ) (h : Reads f p) (s : Stores f part 
       go : Fits f part g ⊎ Drops f part g ⊎ StaysDropped f g → IsBegun g (begun p ++ part)
       go (inl w) =
           let whole = held-whole f (begun p) h.begun w.held in
-          let short : length (begun p ++ part) ≤ f.rules.limits.line = omega (arith, w.short, ap length whole.0, length-append (begun p) part) in
+          let short : length (begun p ++ part) ≤ f.rules.limits.line =
+              omega (arith, w.short, ap length whole.0, length-append (begun p) part) in
           let now = stored-short f.rules.limits.line (begun p ++ part) short in
           record {
             content = rw limit (grown w ∙ (ap (λ x. x ++ part) whole.0 ∙ sym now.0));
@@ -132,7 +137,8 @@ module _ (f g : Reading) (p part : List ℕ) (h : Reads f p) (s : Stores f part 
           }
       go (inr (inl w)) =
           let whole = held-whole f (begun p) h.begun w.held in
-          let long : f.rules.limits.line < length (begun p ++ part) = omega (arith, w.long, ap length whole.0, length-append (begun p) part) in
+          let long : f.rules.limits.line < length (begun p ++ part) =
+              omega (arith, w.long, ap length whole.0, length-append (begun p) part) in
           let now = stored-long f.rules.limits.line (begun p ++ part) long in
           let later = goes_on-later f.rules f.lines w.lenient in
           record {
@@ -141,7 +147,8 @@ module _ (f g : Reading) (p part : List ℕ) (h : Reads f p) (s : Stores f part 
           }
       go (inr (inr w)) =
           let before = dropped-long f (begun p) h.begun w.0 in
-          let long : f.rules.limits.line < length (begun p ++ part) = omega (arith, before, length-append (begun p) part) in
+          let long : f.rules.limits.line < length (begun p ++ part) =
+              omega (arith, before, length-append (begun p) part) in
           let now = stored-long f.rules.limits.line (begun p ++ part) long in
           let was = stored-long f.rules.limits.line (begun p) before in
           record {
@@ -161,26 +168,33 @@ module _ (f g : Reading) (p part : List ℕ) (h : Reads f p) (s : Stores f part 
       go (inr (inr w)) = same ∙ h.lenient w.0
 
   -- the most that was held of later lines
-  peak-stored : 0 < f.lines → g.line.peak ≡ max (greatest (held_length f.rules.limits) (later_of (closed p))) (held_length f.rules.limits (begun p ++ part))
+  peak-stored : 0 < f.lines
+      → g.line.peak ≡ max (greatest (held_length f.rules.limits) (later_of (closed p)))
+      (held_length f.rules.limits (begun p ++ part))
   peak-stored z = go s.grows
     where
       some : 0 < length (closed p)
       some = omega (arith, h.lines, z)
 
-      before : f.line.peak ≡ max (greatest (held_length f.rules.limits) (later_of (closed p))) (held_length f.rules.limits (begun p))
+      before : f.line.peak ≡ max (greatest (held_length f.rules.limits) (later_of (closed p)))
+          (held_length f.rules.limits (begun p))
       before = rw (begun_after-some (closed p) (begun p) some) at h.line_peak
 
       joined : length (begun p ++ part) ≡ length (begun p) + length part
       joined = length-append (begun p) part
 
-      go : Fits f part g ⊎ Drops f part g ⊎ StaysDropped f g → g.line.peak ≡ max (greatest (held_length f.rules.limits) (later_of (closed p))) (held_length f.rules.limits (begun p ++ part))
+      go : Fits f part g ⊎ Drops f part g ⊎ StaysDropped f g
+          → g.line.peak ≡ max (greatest (held_length f.rules.limits) (later_of (closed p)))
+          (held_length f.rules.limits (begun p ++ part))
       go (inl w) =
           let whole = held-whole f (begun p) h.begun w.held in
           let held : length f.line.elements ≡ length (begun p) = ap length (sym (begun_of-later f z) ∙ whole.0) in
-          omega (arith, (w.later z).0.peak, before, held, w.short, ap length whole.0, length-append f.line.elements part, joined)
+          omega (arith, (w.later z).0.peak, before, held, w.short, ap length whole.0,
+              length-append f.line.elements part, joined)
       go (inr (inl w)) =
           let whole = held-whole f (begun p) h.begun w.held in
-          omega (arith, w.line.peak, w.long, ap length whole.0, joined, greatest-held f.rules.limits (later_of (closed p)))
+          omega (arith, w.line.peak, w.long, ap length whole.0, joined,
+              greatest-held f.rules.limits (later_of (closed p)))
       go (inr (inr w)) = omega (arith, ap (λ x. x.line.peak) w.1, before, dropped-long f (begun p) h.begun w.0, joined)
 
   line_within-stored : IsWithin g.line
@@ -219,23 +233,31 @@ module _ (f g : Reading) (p part : List ℕ) (h : Reads f p) (s : Stores f part 
           let none : closed p ≡ [] = none-from_length (closed p) (sym h.lines ∙ z) in
           let w = first-fits z in
           let whole = held-whole f (begun p) h.begun w.held in
-          rw (more, begun-more p part n, none) ((w.first z).0.elements ∙ ap (λ x. x ++ part) (sym (begun_of-first f z) ∙ whole.0))
-      header (inr z) = ap (λ x. x.elements) (same-header_later z) ∙ (h.header ∙ (first_of-some (closed p) (begun p) (begun (p ++ part)) (omega (arith, h.lines, z)) ∙ ap (λ x. first_of x (begun (p ++ part))) (sym more)))
+          rw (more, begun-more p part n, none)
+              ((w.first z).0.elements ∙ ap (λ x. x ++ part) (sym (begun_of-first f z) ∙ whole.0))
+      header (inr z) = ap (λ x. x.elements) (same-header_later z)
+          ∙ (h.header ∙ (first_of-some (closed p) (begun p) (begun (p ++ part)) (omega (arith, h.lines, z))
+              ∙ ap (λ x. first_of x (begun (p ++ part))) (sym more)))
 
       line : (f.lines ≡ 0) ⊎ (0 < f.lines) → g.line.elements ≡ stored g.rules.limits.line (begun_later (p ++ part))
       line (inl z) =
           let none : closed p ≡ [] = none-from_length (closed p) (sym h.lines ∙ z) in
           let before = rw none at h.line in
-          rw (more, none) (ap (λ x. x.elements) ((first-fits z).first z).1 ∙ (before ∙ ((stored-short f.rules.limits.line [] (omega arith)).0 ∙ sym nothing)))
+          rw (more, none) (ap (λ x. x.elements) ((first-fits z).first z).1
+              ∙ (before ∙ ((stored-short f.rules.limits.line [] (omega arith)).0 ∙ sym nothing)))
       line (inr z) =
           let some : 0 < length (closed p) = omega (arith, h.lines, z) in
-          rw (more, begun-more p part n, begun_after-some (closed p) (begun p ++ part) some) (sym (begun_of-later g (omega (arith, s.lines, z))) ∙ IsBegun-stored.content)
+          rw (more, begun-more p part n, begun_after-some (closed p) (begun p ++ part) some)
+              (sym (begun_of-later g (omega (arith, s.lines, z))) ∙ IsBegun-stored.content)
 
       peak : (f.lines ≡ 0) ⊎ (0 < f.lines) → g.header.peak ≡ length g.header.elements
-      peak (inl z) = let b = ((first-fits z).first z).0 in rw (b.peak, b.elements, h.peak) (omega (arith, length-append f.header.elements part))
+      peak (inl z) = let b = ((first-fits z).first z).0 in
+          rw (b.peak, b.elements, h.peak) (omega (arith, length-append f.header.elements part))
       peak (inr z) = rw (same-header_later z) h.peak
 
-      line_peak : (f.lines ≡ 0) ⊎ (0 < f.lines) → g.line.peak ≡ max (greatest (held_length g.rules.limits) (later_of (closed (p ++ part)))) (held_length g.rules.limits (begun_later (p ++ part)))
+      line_peak : (f.lines ≡ 0) ⊎ (0 < f.lines)
+          → g.line.peak ≡ max (greatest (held_length g.rules.limits) (later_of (closed (p ++ part))))
+          (held_length g.rules.limits (begun_later (p ++ part)))
       line_peak (inl z) =
           let none : closed p ≡ [] = none-from_length (closed p) (sym h.lines ∙ z) in
           let before = rw none at h.line_peak in
@@ -279,7 +301,8 @@ map_lines-append (c ∷ cs) ds = ap (λ x. ended_line c ∷ x) (map_lines-append
 
 -- ---- the line that comes next
 
-first-verdict : (rules : Rules) (n : ℕ) (x y : Tree) (c : List ℕ) → n ≡ 1 → verdict_at rules n x c ≡ verdict_at rules n y c
+first-verdict : (rules : Rules) (n : ℕ) (x y : Tree) (c : List ℕ) → n ≡ 1
+    → verdict_at rules n x c ≡ verdict_at rules n y c
 first-verdict rules n x y c e = rw e (verdict-first rules x y c)
 
 first-item : (depth n : ℕ) (x y : Tree) (l : Line) → n ≡ 1 → item_at depth n x l ≡ item_at depth n y l
@@ -292,7 +315,8 @@ module _ (f : Reading) (p : List ℕ) (h : Reads f p) where
   number : f.lines + 1 ≡ length (map ended_line (closed p)) + 1
   number = omega (arith, h.lines, length-map_lines (closed p))
 
-  same-header : (d : List ℕ) (ds : List (List ℕ)) → closed p ≡ d ∷ ds → held_header f ≡ header_of f.rules (map ended_line (closed p))
+  same-header : (d : List ℕ) (ds : List (List ℕ)) → closed p ≡ d ∷ ds
+      → held_header f ≡ header_of f.rules (map ended_line (closed p))
   same-header d ds e = rw (h.header, e) refl
 
   -- its verdict, told by what is held and by the lines before it
@@ -302,8 +326,10 @@ module _ (f : Reading) (p : List ℕ) (h : Reads f p) where
       go : (cs : List (List ℕ)) → closed p ≡ cs → next_verdict f c ≡ verdict f.rules (map ended_line (closed p)) c
       go [] e =
           let one : f.lines + 1 ≡ 1 = omega (arith, h.lines, ap length e) in
-          first-verdict f.rules (f.lines + 1) (held_header f) (header_of f.rules (map ended_line (closed p))) c one ∙ ap (λ n. verdict_at f.rules n (header_of f.rules (map ended_line (closed p))) c) number
-      go (d ∷ ds) e = ap (λ x. verdict_at f.rules (f.lines + 1) x c) (same-header d ds e) ∙ ap (λ n. verdict_at f.rules n (header_of f.rules (map ended_line (closed p))) c) number
+          first-verdict f.rules (f.lines + 1) (held_header f) (header_of f.rules (map ended_line (closed p))) c one
+              ∙ ap (λ n. verdict_at f.rules n (header_of f.rules (map ended_line (closed p))) c) number
+      go (d ∷ ds) e = ap (λ x. verdict_at f.rules (f.lines + 1) x c) (same-header d ds e)
+          ∙ ap (λ n. verdict_at f.rules n (header_of f.rules (map ended_line (closed p))) c) number
 
   -- and the item that it is
   pub next-item : (l : Line) → next_item f l ≡ item_after f.rules (map ended_line (closed p)) l
@@ -312,34 +338,45 @@ module _ (f : Reading) (p : List ℕ) (h : Reads f p) where
       go : (cs : List (List ℕ)) → closed p ≡ cs → next_item f l ≡ item_after f.rules (map ended_line (closed p)) l
       go [] e =
           let one : f.lines + 1 ≡ 1 = omega (arith, h.lines, ap length e) in
-          first-item f.rules.limits.depth (f.lines + 1) (held_header f) (header_of f.rules (map ended_line (closed p))) l one ∙ ap (λ n. item_at f.rules.limits.depth n (header_of f.rules (map ended_line (closed p))) l) number
-      go (d ∷ ds) e = ap (λ x. item_at f.rules.limits.depth (f.lines + 1) x l) (same-header d ds e) ∙ ap (λ n. item_at f.rules.limits.depth n (header_of f.rules (map ended_line (closed p))) l) number
+          first-item f.rules.limits.depth (f.lines + 1) (held_header f) (header_of f.rules (map ended_line (closed p)))
+              l one ∙ ap (λ n. item_at f.rules.limits.depth n (header_of f.rules (map ended_line (closed p))) l) number
+      go (d ∷ ds) e = ap (λ x. item_at f.rules.limits.depth (f.lines + 1) x l) (same-header d ds e)
+          ∙ ap (λ n. item_at f.rules.limits.depth n (header_of f.rules (map ended_line (closed p))) l) number
 
 -- ---- what is kept
 
 -- the kept ones after one more line
-pub kept_closed-lf : (rules : Rules) (p : List ℕ) (put : Bool) → put ≡ is_kept (verdict rules (map ended_line (closed p)) (begun p))
-    → kept_closed rules (p ++ 10 ∷ []) ≡ kept_closed rules p ++ (if put then item_after rules (map ended_line (closed p)) (ended_line (begun p)) ∷ [] else [])
+pub kept_closed-lf : (rules : Rules) (p : List ℕ) (put : Bool)
+    → put ≡ is_kept (verdict rules (map ended_line (closed p)) (begun p))
+    → kept_closed rules (p ++ 10 ∷ []) ≡ kept_closed rules p
+    ++ (if put then item_after rules (map ended_line (closed p)) (ended_line (begun p)) ∷ [] else [])
 kept_closed-lf rules p put k =
-    rw (closed-lf p [], map_lines-append (closed p) (begun p ∷ []), kept-append rules [] (map ended_line (closed p)) (map ended_line (begun p ∷ [])), k) refl
+    rw (closed-lf p [], map_lines-append (closed p) (begun p ∷ []),
+        kept-append rules [] (map ended_line (closed p)) (map ended_line (begun p ∷ [])), k) refl
 
-filter-append : {A : Type 0} (test : A → Bool) (xs ys : List A) → filter test (xs ++ ys) ≡ filter test xs ++ filter test ys
+filter-append : {A : Type 0} (test : A → Bool) (xs ys : List A) → filter test (xs ++ ys) ≡ filter test xs
+    ++ filter test ys
 filter-append test [] ys = refl
 filter-append test (x ∷ xs) ys = go (test x) (filter-append test xs ys)
   where
-    go : (b : Bool) → filter test (xs ++ ys) ≡ filter test xs ++ filter test ys → cond b (x ∷ filter test (xs ++ ys)) (filter test (xs ++ ys)) ≡ cond b (x ∷ filter test xs) (filter test xs) ++ filter test ys
+    go : (b : Bool) → filter test (xs ++ ys) ≡ filter test xs ++ filter test ys
+        → cond b (x ∷ filter test (xs ++ ys)) (filter test (xs ++ ys)) ≡ cond b (x ∷ filter test xs) (filter test xs)
+        ++ filter test ys
     go true e = ap (λ z. x ∷ z) e
     go false e = e
 
 -- one item more, if it is put, is one feature more, if it is no header
-count-feature : (put later : Bool) (i : Item) (n : ℕ) (xs : List Item) → is_feature i ≡ later → n ≡ length (filter is_feature xs)
+count-feature : (put later : Bool) (i : Item) (n : ℕ) (xs : List Item) → is_feature i ≡ later
+    → n ≡ length (filter is_feature xs)
     → cond (put && later) (n + 1) n ≡ length (filter is_feature (xs ++ cond put (i ∷ []) []))
-count-feature true true i n xs e h = rw (filter-append is_feature xs (i ∷ []), e) (omega (arith, h, length-append (filter is_feature xs) (i ∷ [])))
+count-feature true true i n xs e h =
+    rw (filter-append is_feature xs (i ∷ []), e) (omega (arith, h, length-append (filter is_feature xs) (i ∷ [])))
 count-feature true false i n xs e h = rw (filter-append is_feature xs (i ∷ []), e, append-nil (filter is_feature xs)) h
 count-feature false later i n xs e h = rw (append-nil xs) h
 
 -- a line after others is a feature, and the first one is none
-pub after-feature : (rules : Rules) (before : List Line) (l : Line) → is_feature (item_after rules before l) ≡ nat_lt 0 (length before)
+pub after-feature : (rules : Rules) (before : List Line) (l : Line)
+    → is_feature (item_after rules before l) ≡ nat_lt 0 (length before)
 after-feature rules [] l = refl
 after-feature rules (x ∷ xs) l =
     let no_header : eqb (suc (length xs) + 1) 1 ≡ false = grind (arith, nat_tests) in
@@ -347,12 +384,17 @@ after-feature rules (x ∷ xs) l =
     rw (no_header, later) refl
 
 -- the features that are kept, after one line more
-pub kept-next : (f g : Reading) (xs : List Line) (l : Line) (put refused : Bool) → f.lines ≡ length xs → f.kept ≡ length (filter is_feature (kept_from f.rules [] xs))
-    → Passes put refused f g → put ≡ is_kept (verdict f.rules xs l.content) → g.kept ≡ length (filter is_feature (kept_from f.rules [] (xs ++ l ∷ [])))
+pub kept-next : (f g : Reading) (xs : List Line) (l : Line) (put refused : Bool) → f.lines ≡ length xs
+    → f.kept ≡ length (filter is_feature (kept_from f.rules [] xs))
+    → Passes put refused f g → put ≡ is_kept (verdict f.rules xs l.content)
+    → g.kept ≡ length (filter is_feature (kept_from f.rules [] (xs ++ l ∷ [])))
 kept-next f g xs l put refused n k s e =
-    rw (s.kept, kept-append f.rules [] xs (l ∷ []), ← e, n) (count-feature put (nat_lt 0 (length xs)) (item_after f.rules xs l) f.kept (kept_from f.rules [] xs) (after-feature f.rules xs l) k)
+    rw (s.kept, kept-append f.rules [] xs (l ∷ []), ← e, n)
+        (count-feature put (nat_lt 0 (length xs)) (item_after f.rules xs l) f.kept (kept_from f.rules [] xs)
+        (after-feature f.rules xs l) k)
 
-pub greatest-append : (measure : List ℕ → ℕ) (cs : List (List ℕ)) (c : List ℕ) → greatest measure (cs ++ c ∷ []) ≡ max (greatest measure cs) (measure c)
+pub greatest-append : (measure : List ℕ → ℕ) (cs : List (List ℕ)) (c : List ℕ)
+    → greatest measure (cs ++ c ∷ []) ≡ max (greatest measure cs) (measure c)
 greatest-append measure [] c = omega arith
 greatest-append measure (d ∷ cs) c = omega (arith, greatest-append measure cs c)
 
@@ -361,7 +403,8 @@ max-zero n = omega arith
 
 -- the greatest of later contents by a measure of which nothing has 0, after one line more
 pub greatest-later : (measure : List ℕ → ℕ) → measure [] ≡ 0 → (cs : List (List ℕ)) (b : List ℕ)
-    → max (greatest measure (later_of (cs ++ b ∷ []))) (measure []) ≡ max (greatest measure (later_of cs)) (measure (begun_after cs b))
+    → max (greatest measure (later_of (cs ++ b ∷ []))) (measure []) ≡ max (greatest measure (later_of cs))
+        (measure (begun_after cs b))
 greatest-later measure none [] b = refl
 greatest-later measure none (c ∷ cs) b = omega (arith, greatest-append measure cs b, none)
 
@@ -370,12 +413,14 @@ held-nothing limits = omega arith
 
 -- ---- what is reported
 
-pub reported-append : (rules : Rules) (before xs ys : List Line) → reported_from rules before (xs ++ ys) ≡ reported_from rules before xs ++ reported_from rules (before ++ xs) ys
+pub reported-append : (rules : Rules) (before xs ys : List Line)
+    → reported_from rules before (xs ++ ys) ≡ reported_from rules before xs ++ reported_from rules (before ++ xs) ys
 reported-append rules before [] ys = rw (append-nil before) refl
 reported-append rules before (x ∷ xs) ys =
     let r = reported-append rules (before ++ x ∷ []) xs ys in
     let now = report_of (length before + 1) (verdict rules before x.content) in
-    ap (λ z. now ++ z) (r ∙ ap (λ z. reported_from rules (before ++ x ∷ []) xs ++ reported_from rules z ys) (before-more before x xs))
+    ap (λ z. now ++ z) (r ∙ ap (λ z. reported_from rules (before ++ x ∷ []) xs ++ reported_from rules z ys)
+        (before-more before x xs))
     ∙ sym (append_assoc now (reported_from rules (before ++ x ∷ []) xs) (reported_from rules (before ++ x ∷ xs) ys))
 
 -- a refused line
@@ -396,35 +441,49 @@ one-more true n m e = omega (arith, e)
 one-more false n m e = omega (arith, e)
 
 -- the lines that were refused, after one line more
-pub refused-next : (f g : Reading) (xs : List Line) (l : Line) (put refused : Bool) → f.refused ≡ length (reported_from f.rules [] xs) → Passes put refused f g
+pub refused-next : (f g : Reading) (xs : List Line) (l : Line) (put refused : Bool)
+    → f.refused ≡ length (reported_from f.rules [] xs) → Passes put refused f g
     → refused ≡ is_refused (verdict f.rules xs l.content) → g.refused ≡ length (reported_from f.rules [] (xs ++ l ∷ []))
 refused-next f g xs l put refused k s e =
     let v = verdict f.rules xs l.content in
     let now = report_of (length xs + 1) v in
-    let count : length (report_of (length xs + 1) (verdict f.rules xs l.content)) ≡ (if refused then 1 else 0) = rw e (count-reported (length xs + 1) v) in
-    rw (s.refused, reported-append f.rules [] xs (l ∷ []), append-nil (report_of (length xs + 1) (verdict f.rules xs l.content)))
-    (one-more refused f.refused (length now) count ∙ (ap (λ z. z + length now) k ∙ sym (length-append (reported_from f.rules [] xs) now)))
+    let count : length (report_of (length xs + 1) (verdict f.rules xs l.content)) ≡ (if refused then 1 else 0) =
+        rw e (count-reported (length xs + 1) v) in
+    rw (s.refused, reported-append f.rules [] xs (l ∷ []),
+        append-nil (report_of (length xs + 1) (verdict f.rules xs l.content)))
+    (one-more refused f.refused (length now) count
+        ∙ (ap (λ z. z + length now) k ∙ sym (length-append (reported_from f.rules [] xs) now)))
 
 pub Reads-passed : (f g : Reading) (p : List ℕ) (put refused : Bool) → Reads f p → Passes put refused f g
-    → refusal_of f.rules (f.lines + 1) (next_verdict f (begun p)) ≡ None → put ≡ is_kept (next_verdict f (begun p)) → refused ≡ is_refused (next_verdict f (begun p))
+    → refusal_of f.rules (f.lines + 1) (next_verdict f (begun p)) ≡ None → put ≡ is_kept (next_verdict f (begun p))
+    → refused ≡ is_refused (next_verdict f (begun p))
     → Reads g (p ++ 10 ∷ [])
 Reads-passed f g p put refused h s fine k bad = record {
   lines = rw (closed-lf p [], s.lines, h.lines) (sym (length-append (closed p) (begun p ∷ [])));
-  begun = rw (begun-lf p []) (record { content = begun_of-later g (omega (arith, s.lines)) ∙ (s.line.elements ∙ sym nothing.0); dropped = s.dropped ∙ sym nothing.1 });
+  begun = rw (begun-lf p [])
+      (record { content = begun_of-later g (omega (arith, s.lines)) ∙ (s.line.elements ∙ sym nothing.0);
+          dropped = s.dropped ∙ sym nothing.1 });
   lenient = λ d. absurd (true-false g.dropped d s.dropped);
   header = rw (closed-lf p [], begun-lf p [], s.header) (h.header ∙ sym (first_of-lf (closed p) (begun p)));
-  line = rw (closed-lf p [], begun-lf p [], begun_after-empty (closed p ++ begun p ∷ [])) (s.line.elements ∙ sym nothing.0);
-  good = rw (closed-lf p [], map_lines-append (closed p) (begun p ∷ []), s.rules, refusal-append f.rules [] (map ended_line (closed p)) (map ended_line (begun p ∷ [])) h.good, ← is, ← at, fine) refl;
+  line = rw (closed-lf p [], begun-lf p [], begun_after-empty (closed p ++ begun p ∷ []))
+      (s.line.elements ∙ sym nothing.0);
+  good = rw (closed-lf p [], map_lines-append (closed p) (begun p ∷ []), s.rules,
+      refusal-append f.rules [] (map ended_line (closed p)) (map ended_line (begun p ∷ [])) h.good, ← is, ← at, fine)
+      refl;
   kept =
       rw (closed-lf p [], map_lines-append (closed p) (begun p ∷ []), s.rules)
-      (kept-next f g (map ended_line (closed p)) (ended_line (begun p)) put refused (h.lines ∙ sym (length-map_lines (closed p))) h.kept s (k ∙ ap is_kept is));
+      (kept-next f g (map ended_line (closed p)) (ended_line (begun p)) put refused
+          (h.lines ∙ sym (length-map_lines (closed p))) h.kept s (k ∙ ap is_kept is));
   refused =
       rw (closed-lf p [], map_lines-append (closed p) (begun p ∷ []), s.rules)
-      (refused-next f g (map ended_line (closed p)) (ended_line (begun p)) put refused h.refused s (bad ∙ ap is_refused is));
+      (refused-next f g (map ended_line (closed p)) (ended_line (begun p)) put refused h.refused s
+          (bad ∙ ap is_refused is));
   peak = rw s.header h.peak;
   line_peak =
       rw (closed-lf p [], begun-lf p [], begun_after-empty (closed p ++ begun p ∷ []), s.rules)
-      (s.line.peak ∙ (ap (λ n. max n 0) h.line_peak ∙ (max-zero _ ∙ sym (greatest-later (held_length f.rules.limits) (held-nothing f.rules.limits) (closed p) (begun p)))));
+      (s.line.peak ∙ (ap (λ n. max n 0) h.line_peak
+              ∙ (max-zero _ ∙ sym (greatest-later (held_length f.rules.limits) (held-nothing f.rules.limits) (closed p)
+                  (begun p)))));
   header_within = rw s.header h.header_within;
   line_within = s.line.within;
 }

@@ -37,7 +37,8 @@ first : {A : Type 0} (x y : A) → x ∷ [] ≡ y ∷ [] → x ≡ y
 first x y e = cc
 
 -- a line whose run is known spells the tree that its tokens show
-pub spelled-tree : (b : List ℕ) (s : State) (us : List Token) (p : ℕ) (t : Tree) → after b (length b) ≡ Some s → settle s ≡ Some (state (between After) [] us (length b) p) → forest b (spans_of us) ≡ t ∷ [] → Json b t
+pub spelled-tree : (b : List ℕ) (s : State) (us : List Token) (p : ℕ) (t : Tree) → after b (length b) ≡ Some s
+    → settle s ≡ Some (state (between After) [] us (length b) p) → forest b (spans_of us) ≡ t ∷ [] → Json b t
 spelled-tree b s us p t h e f =
     let z = spells_end b s us p h e in
     let spans : spans_of us ≡ preorder z.tree = ap spans_of z.tokens ∙ spans_of-flatten 0 z.tree in
@@ -50,8 +51,10 @@ module _ {b : List ℕ} {d : ℕ} (t : Tree) (json : Json b t) (shallow : nest t
   judged (broken i s m) = absurd (say_same (broken i s m) (spelled t json shallow))
   judged (sunk i s) = absurd (say_same (sunk i s) (spelled t json shallow))
 
-  pub by-tree : (rules : Rules) (n : ℕ) (header : Tree) (j : Judgement b d) → text_verdict rules n header j ≡ tree_verdict rules n header t
-  by-tree rules n header (spelled u k m) = ap (tree_verdict rules n header) (say_same (spelled u k m) (spelled t json shallow))
+  pub by-tree : (rules : Rules) (n : ℕ) (header : Tree) (j : Judgement b d)
+      → text_verdict rules n header j ≡ tree_verdict rules n header t
+  by-tree rules n header (spelled u k m) =
+      ap (tree_verdict rules n header) (say_same (spelled u k m) (spelled t json shallow))
   by-tree rules n header (broken i s m) = absurd (say_same (broken i s m) (spelled t json shallow))
   by-tree rules n header (sunk i s) = absurd (say_same (sunk i s) (spelled t json shallow))
 
@@ -83,8 +86,10 @@ module _ (n : ℕ) (header : Tree) (c : List ℕ) (t : Tree) (json : Json c t) (
   abbrev under : ℕ → Rules
   under line = record { limits = record { line = line; depth = 64 }; criteria = everything; options = usual_options }
 
-  sound : (line : ℕ) → length c ≤ line → IsUtf8 c → nat_lt 1 n && list_all is_blank_byte c ≡ false → verdict_at (under line) n header c ≡ tree_verdict (under line) n header t
-  sound line short is_text full = verdict-json (under line) n header c short is_text full ∙ by-tree t json shallow (under line) n header (judgement c 64)
+  sound : (line : ℕ) → length c ≤ line → IsUtf8 c → nat_lt 1 n && list_all is_blank_byte c ≡ false
+      → verdict_at (under line) n header c ≡ tree_verdict (under line) n header t
+  sound line short is_text full = verdict-json (under line) n header c short is_text full
+      ∙ by-tree t json shallow (under line) n header (judgement c 64)
 
 pub header_text : IsUtf8 small_header
 unfolding is_utf8 chars encode
@@ -110,31 +115,45 @@ pub feature_tree : tree_of 64 small_feature ≡ plain_feature.tree
 feature_tree = judged plain_feature.tree feature_json (lit≤ tt) (judgement small_feature 64)
 
 pub header_first : (t : Tree) → verdict_at wide_rules 1 t small_header ≡ Valid
-header_first t = sound 1 t small_header plain_header header_json (lit≤ tt) 8388608 (lit≤ tt) header_text refl ∙ tree-valid wide_rules 1 t plain_header plain_header-valid refl
+header_first t = sound 1 t small_header plain_header header_json (lit≤ tt) 8388608 (lit≤ tt) header_text refl
+    ∙ tree-valid wide_rules 1 t plain_header plain_header-valid refl
 
 pub header_tight : (t : Tree) → verdict_at tight_rules 1 t small_header ≡ Valid
-header_tight t = sound 1 t small_header plain_header header_json (lit≤ tt) 116 (lit≤ tt) header_text refl ∙ tree-valid tight_rules 1 t plain_header plain_header-valid refl
+header_tight t = sound 1 t small_header plain_header header_json (lit≤ tt) 116 (lit≤ tt) header_text refl
+    ∙ tree-valid tight_rules 1 t plain_header plain_header-valid refl
 
 euro_second : verdict_at wide_rules 2 (tree_of 64 small_header) euro_feature ≡ Valid
 euro_second =
-    rw header_tree (sound 2 plain_header euro_feature euro_tree euro_json (lit≤ tt) 8388608 (lit≤ tt) euro_text refl ∙ tree-valid wide_rules 2 plain_header euro_tree euro_feature-valid (holds-everything plain_header euro_tree))
+    rw header_tree (sound 2 plain_header euro_feature euro_tree euro_json (lit≤ tt) 8388608 (lit≤ tt) euro_text refl
+        ∙ tree-valid wide_rules 2 plain_header euro_tree euro_feature-valid (holds-everything plain_header euro_tree))
 
 feature_second : verdict_at wide_rules 2 (tree_of 64 small_header) small_feature ≡ Valid
 feature_second =
-    rw header_tree (sound 2 plain_header small_feature plain_feature.tree feature_json (lit≤ tt) 8388608 (lit≤ tt) feature_text refl ∙ tree-valid wide_rules 2 plain_header plain_feature.tree plain_feature-valid (holds-everything plain_header plain_feature.tree))
+    rw header_tree (sound 2 plain_header small_feature plain_feature.tree feature_json (lit≤ tt) 8388608
+        (lit≤ tt) feature_text refl
+        ∙ tree-valid wide_rules 2 plain_header plain_feature.tree plain_feature-valid
+        (holds-everything plain_header plain_feature.tree))
 
 pub feature_third : verdict_at wide_rules 3 (tree_of 64 small_header) small_feature ≡ Valid
 feature_third =
-    rw header_tree (sound 3 plain_header small_feature plain_feature.tree feature_json (lit≤ tt) 8388608 (lit≤ tt) feature_text refl ∙ tree-valid wide_rules 3 plain_header plain_feature.tree plain_feature-valid (holds-everything plain_header plain_feature.tree))
+    rw header_tree (sound 3 plain_header small_feature plain_feature.tree feature_json (lit≤ tt) 8388608
+        (lit≤ tt) feature_text refl
+        ∙ tree-valid wide_rules 3 plain_header plain_feature.tree plain_feature-valid
+        (holds-everything plain_header plain_feature.tree))
 
 pub feature_first : (t : Tree) → verdict_at wide_rules 1 t small_feature ≡ Refuse 0 MissingMember
-feature_first t = sound 1 t small_feature plain_feature.tree feature_json (lit≤ tt) 8388608 (lit≤ tt) feature_text refl ∙ ap (by_least true) feature-no_header
+feature_first t = sound 1 t small_feature plain_feature.tree feature_json (lit≤ tt) 8388608 (lit≤ tt) feature_text refl
+    ∙ ap (by_least true) feature-no_header
 
 header_second : verdict_at wide_rules 2 (tree_of 64 small_header) small_header ≡ Refuse 0 MissingMember
-header_second = rw header_tree (sound 2 plain_header small_header plain_header header_json (lit≤ tt) 8388608 (lit≤ tt) header_text refl ∙ ap (by_least (is_kept_if_valid wide_rules 2 plain_header plain_header)) header-no_feature)
+header_second =
+    rw header_tree (sound 2 plain_header small_header plain_header header_json (lit≤ tt) 8388608 (lit≤ tt) header_text
+        refl ∙ ap (by_least (is_kept_if_valid wide_rules 2 plain_header plain_header)) header-no_feature)
 
 lost_third : verdict_at wide_rules 3 (tree_of 64 small_header) lost_feature ≡ Refuse 31 IdNotFound
-lost_third = rw header_tree (sound 3 plain_header lost_feature other_id.tree lost_json (lit≤ tt) 8388608 (lit≤ tt) lost_text refl ∙ ap (by_least (is_kept_if_valid wide_rules 3 plain_header other_id.tree)) other_id-refused)
+lost_third =
+    rw header_tree (sound 3 plain_header lost_feature other_id.tree lost_json (lit≤ tt) 8388608 (lit≤ tt) lost_text refl
+        ∙ ap (by_least (is_kept_if_valid wide_rules 3 plain_header other_id.tree)) other_id-refused)
 
 -- what is no JSON text is refused whatever the header
 abbrev cut : List ℕ
@@ -172,24 +191,31 @@ module _ (rules : Rules) where
   written ls = flat_map raw_item (kept_from rules [] (good_from rules [] ls))
 
   module _ (place : ℕ) (reason : Reason) where
-    first-refused : (l : Line) (rest : List Line) → verdict rules [] l.content ≡ Refuse place reason → (ending_of rules (l ∷ rest) ≡ Refused 1 place reason) × (written (l ∷ rest) ≡ [])
+    first-refused : (l : Line) (rest : List Line) → verdict rules [] l.content ≡ Refuse place reason
+        → (ending_of rules (l ∷ rest) ≡ Refused 1 place reason) × (written (l ∷ rest) ≡ [])
     first-refused l rest bad = rw bad (refl, refl)
 
     module _ (h : Line) (valid : verdict rules [] h.content ≡ Valid) where
-      pub second-refused : goes_on rules 2 ≡ false → (l : Line) (rest : List Line) → verdict rules (h ∷ []) l.content ≡ Refuse place reason → (ending_of rules (h ∷ l ∷ rest) ≡ Refused 2 place reason) × (written (h ∷ l ∷ rest) ≡ raw h ++ [])
+      pub second-refused : goes_on rules 2 ≡ false → (l : Line) (rest : List Line)
+          → verdict rules (h ∷ []) l.content ≡ Refuse place reason
+          → (ending_of rules (h ∷ l ∷ rest) ≡ Refused 2 place reason) × (written (h ∷ l ∷ rest) ≡ raw h ++ [])
       unfolding verdict_at
       second-refused on l rest bad = rw (valid, bad, on) (refl, rw valid refl)
 
-      third-refused : goes_on rules 3 ≡ false → (f l : Line) (rest : List Line) → verdict rules (h ∷ []) f.content ≡ Valid → verdict rules (h ∷ f ∷ []) l.content ≡ Refuse place reason
-          → (ending_of rules (h ∷ f ∷ l ∷ rest) ≡ Refused 3 place reason) × (written (h ∷ f ∷ l ∷ rest) ≡ raw h ++ (raw f ++ []))
+      third-refused : goes_on rules 3 ≡ false → (f l : Line) (rest : List Line)
+          → verdict rules (h ∷ []) f.content ≡ Valid → verdict rules (h ∷ f ∷ []) l.content ≡ Refuse place reason
+          → (ending_of rules (h ∷ f ∷ l ∷ rest) ≡ Refused 3 place reason)
+          × (written (h ∷ f ∷ l ∷ rest) ≡ raw h ++ (raw f ++ []))
       unfolding verdict_at
       third-refused on f l rest good bad = rw (valid, good, bad, on) (refl, rw (valid, good) refl)
 
   module _ (h : Line) (valid : verdict rules [] h.content ≡ Valid) where
-    pub two-good : (f : Line) → verdict rules (h ∷ []) f.content ≡ Valid → (ending_of rules (h ∷ f ∷ []) ≡ Complete) × (written (h ∷ f ∷ []) ≡ raw h ++ (raw f ++ []))
+    pub two-good : (f : Line) → verdict rules (h ∷ []) f.content ≡ Valid → (ending_of rules (h ∷ f ∷ []) ≡ Complete)
+        × (written (h ∷ f ∷ []) ≡ raw h ++ (raw f ++ []))
     two-good f good = rw (valid, good) (refl, rw (valid, good) refl)
 
-    pub blank-between : (b f : Line) → verdict rules (h ∷ []) b.content ≡ Blank → verdict rules (h ∷ b ∷ []) f.content ≡ Valid
+    pub blank-between : (b f : Line) → verdict rules (h ∷ []) b.content ≡ Blank
+        → verdict rules (h ∷ b ∷ []) f.content ≡ Valid
         → (ending_of rules (h ∷ b ∷ f ∷ []) ≡ Complete) × (written (h ∷ b ∷ f ∷ []) ≡ raw h ++ (raw f ++ []))
     blank-between b f blank good = rw (valid, blank, good) (refl, rw (valid, blank, good) refl)
 
@@ -199,33 +225,45 @@ pub whole : WholeRow
 whole = two-good wide_rules (ended_line small_header) (header_first _) (ended_line small_feature) feature_second
 
 pub blank : BlankRow
-blank = blank-between wide_rules (ended_line small_header) (header_first _) (ended_line (13 ∷ [])) (record { content = small_feature; lf = false }) (verdict-blank wide_rules 2 _ (13 ∷ []) (lit≤ tt) refl) feature_third
+blank = blank-between wide_rules (ended_line small_header) (header_first _) (ended_line (13 ∷ []))
+    (record { content = small_feature; lf = false }) (verdict-blank wide_rules 2 _ (13 ∷ []) (lit≤ tt) refl)
+    feature_third
 
 pub order : OrderRow
 order = (
-  first-refused wide_rules 0 MissingMember (ended_line small_feature) (record { content = small_header; lf = false } ∷ []) (feature_first _),
-  second-refused wide_rules 0 MissingMember (ended_line small_header) (header_first _) refl (record { content = small_header; lf = false }) [] header_second,
+  first-refused wide_rules 0 MissingMember (ended_line small_feature)
+      (record { content = small_header; lf = false } ∷ []) (feature_first _),
+  second-refused wide_rules 0 MissingMember (ended_line small_header) (header_first _) refl
+      (record { content = small_header; lf = false }) [] header_second,
 )
 
 pub bad : BadRow
-bad = third-refused wide_rules 31 IdNotFound (ended_line small_header) (header_first _) refl (ended_line small_feature) (ended_line lost_feature) (ended_line small_feature ∷ []) feature_second lost_third
+bad = third-refused wide_rules 31 IdNotFound (ended_line small_header) (header_first _) refl (ended_line small_feature)
+    (ended_line lost_feature) (ended_line small_feature ∷ []) feature_second lost_third
 
 -- the last line, after the small header
 module _ (c : List ℕ) (place : ℕ) (reason : Reason) where
-  pub after_header : verdict_at wide_rules 2 (tree_of 64 small_header) c ≡ Refuse place reason → (l : Line) → l.content ≡ c
-      → (ending_of wide_rules (ended_line small_header ∷ l ∷ []) ≡ Refused 2 place reason) × (written wide_rules (ended_line small_header ∷ l ∷ []) ≡ small_header ++ 10 ∷ [])
-  after_header refused l same = second-refused wide_rules place reason (ended_line small_header) (header_first _) refl l [] (rw same refused)
+  pub after_header : verdict_at wide_rules 2 (tree_of 64 small_header) c ≡ Refuse place reason → (l : Line)
+      → l.content ≡ c
+      → (ending_of wide_rules (ended_line small_header ∷ l ∷ []) ≡ Refused 2 place reason)
+      × (written wide_rules (ended_line small_header ∷ l ∷ []) ≡ small_header ++ 10 ∷ [])
+  after_header refused l same =
+      second-refused wide_rules place reason (ended_line small_header) (header_first _) refl l [] (rw same refused)
 
 abbrev pub open_line : List ℕ → Line
 open_line c = record { content = c; lf = false }
 
 module _ (l : Line) (same : l.content ≡ small_header ++ 32 ∷ []) where
-  long_second : (ending_of tight_rules (ended_line small_header ∷ l ∷ []) ≡ Refused 2 116 LineTooLong) × (written tight_rules (ended_line small_header ∷ l ∷ []) ≡ small_header ++ 10 ∷ [])
+  long_second : (ending_of tight_rules (ended_line small_header ∷ l ∷ []) ≡ Refused 2 116 LineTooLong)
+      × (written tight_rules (ended_line small_header ∷ l ∷ []) ≡ small_header ++ 10 ∷ [])
   long_second =
-      second-refused tight_rules 116 LineTooLong (ended_line small_header) (header_tight _) refl l [] (rw same (verdict-long tight_rules 2 (tree_of 64 small_header) (small_header ++ 32 ∷ []) (lit< tt)))
+      second-refused tight_rules 116 LineTooLong (ended_line small_header) (header_tight _) refl l []
+          (rw same (verdict-long tight_rules 2 (tree_of 64 small_header) (small_header ++ 32 ∷ []) (lit< tt)))
 
   long_first : (ending_of tight_rules (l ∷ []) ≡ Refused 1 116 LineTooLong) × (written tight_rules (l ∷ []) ≡ [])
-  long_first = first-refused tight_rules 116 LineTooLong l [] (rw same (verdict-long tight_rules 1 (tree_of 64 []) (small_header ++ 32 ∷ []) (lit< tt)))
+  long_first =
+      first-refused tight_rules 116 LineTooLong l []
+          (rw same (verdict-long tight_rules 1 (tree_of 64 []) (small_header ++ 32 ∷ []) (lit< tt)))
 
 pub long : LongRow
 long = (
@@ -244,10 +282,12 @@ cut_after = after_header _ 6 NotUtf8 (cut_second _) (open_line _) refl
 pub comma_after : Gives wide_rules (small_header ++ 10 ∷ comma) (Refused 2 26 Syntax) (small_header ++ 10 ∷ [])
 comma_after = after_header _ 26 Syntax (comma_second _) (open_line _) refl
 
-pub short_after : Gives wide_rules (small_header ++ 10 ∷ take 80 small_feature) (Refused 2 80 Syntax) (small_header ++ 10 ∷ [])
+pub short_after : Gives wide_rules (small_header ++ 10 ∷ take 80 small_feature) (Refused 2 80 Syntax)
+    (small_header ++ 10 ∷ [])
 short_after = after_header _ 80 Syntax (short_second _) (open_line _) refl
 
-pub deep_after : Gives wide_rules (small_header ++ 10 ∷ replicate 65 91) (Refused 2 64 TooDeep) (small_header ++ 10 ∷ [])
+pub deep_after : Gives wide_rules (small_header ++ 10 ∷ replicate 65 91) (Refused 2 64 TooDeep)
+    (small_header ++ 10 ∷ [])
 deep_after = after_header _ 64 TooDeep (deep_second _) (open_line _) refl
 
 pub open_after : Gives wide_rules (small_header ++ 10 ∷ replicate 64 91) (Refused 2 64 Syntax) (small_header ++ 10 ∷ [])

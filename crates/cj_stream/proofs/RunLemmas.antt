@@ -45,7 +45,8 @@ pub Delivers-join : {S : Type 0} {law : SinkLaw S} {rules : Rules} {r q : List �
 Delivers-join {S} {law} {rules} {r} {q} {from} {n} {m} {s} {t} {u} first same h k = record {
   added = h.added ++ k.added;
   middle = k.middle;
-  kept = k.kept ∙ (ap (λ z. z ++ k.added) (same ∙ (h.kept ∙ ap (λ z. z ++ h.added) (sym first))) ∙ append_assoc (kept_first rules from q) h.added k.added);
+  kept = k.kept ∙ (ap (λ z. z ++ k.added) (same ∙ (h.kept ∙ ap (λ z. z ++ h.added) (sym first)))
+      ∙ append_assoc (kept_first rules from q) h.added k.added);
   took = Took-append law.takes s t k.middle h.added k.added
       (subst (λ z. Took law.takes s h.added z) (sym h.fault) h.took) k.took;
   fault = k.fault;
@@ -56,7 +57,8 @@ pub Delivers-then : {S : Type 0} {law : SinkLaw S} {rules : Rules} {r q : List �
     → Delivers law (stretch rules q n m) t u e → Delivers law (stretch rules q 0 m) s u e
 Delivers-then same h k = Delivers-join refl same h k
 
-pub Ends-finished : (rules : Rules) (r : List ℕ) (n : ℕ) (at_end : Type 0) (e : End) → at_end → Concludes rules r n e → Ends rules r n at_end e
+pub Ends-finished : (rules : Rules) (r : List ℕ) (n : ℕ) (at_end : Type 0) (e : End) → at_end → Concludes rules r n e
+    → Ends rules r n at_end e
 Ends-finished rules r n at_end Complete h c = (c.0, c.1, h)
 Ends-finished rules r n at_end (Refused number place reason) h c = (c.0, c.1, inl h)
 Ends-finished rules r n at_end ReadFault h c = absurd c
@@ -64,11 +66,15 @@ Ends-finished rules r n at_end ReadLimit h c = absurd c
 Ends-finished rules r n at_end WriteFault h c = tt
 Ends-finished rules r n at_end Memory h c = tt
 
-pub refusal-stays : (rules : Rules) (before xs ys : List Line) (e : End) → refusal_from rules before xs ≡ Some e → refusal_from rules before (xs ++ ys) ≡ Some e
+pub refusal-stays : (rules : Rules) (before xs ys : List Line) (e : End) → refusal_from rules before xs ≡ Some e
+    → refusal_from rules before (xs ++ ys) ≡ Some e
 refusal-stays rules before [] ys e h = absurd (none-some e h)
-refusal-stays rules before (x ∷ xs) ys e h = step (refusal_of rules (length before + 1) (verdict rules before x.content)) _ _ (refusal-stays rules (before ++ x ∷ []) xs ys e) h
+refusal-stays rules before (x ∷ xs) ys e h =
+    step (refusal_of rules (length before + 1) (verdict rules before x.content)) _ _
+        (refusal-stays rules (before ++ x ∷ []) xs ys e) h
   where
-    step : (first rest all : Option End) → (rest ≡ Some e → all ≡ Some e) → cond (is_some first) first rest ≡ Some e → cond (is_some first) first all ≡ Some e
+    step : (first rest all : Option End) → (rest ≡ Some e → all ≡ Some e) → cond (is_some first) first rest ≡ Some e
+        → cond (is_some first) first all ≡ Some e
     step None rest all k h = k h
     step (Some y) rest all k h = h
 
@@ -76,12 +82,14 @@ pub ending-refused : (rules : Rules) (ls : List Line) (e : End) → refusal_in r
 ending-refused rules [] e h = absurd (none-some e h)
 ending-refused rules (l ∷ ls) e h = rw h refl
 
-pub ending-told : (rules : Rules) (q : List ℕ) (e : End) → refusal_in rules (judged rules.limits q) ≡ Some e → ending rules q ≡ e
+pub ending-told : (rules : Rules) (q : List ℕ) (e : End) → refusal_in rules (judged rules.limits q) ≡ Some e
+    → ending rules q ≡ e
 ending-told rules q e h =
     let x = judged-front rules.limits q in
     ending-refused rules (lines q) e (rw x.1 (refusal-stays rules [] (judged rules.limits q) x.0 e h))
 
-pub Ends-fed : (rules : Rules) (r : List ℕ) (n : ℕ) (at_end : Type 0) (e : End) → Tells rules r n e → Ends rules r n at_end e
+pub Ends-fed : (rules : Rules) (r : List ℕ) (n : ℕ) (at_end : Type 0) (e : End) → Tells rules r n e
+    → Ends rules r n at_end e
 Ends-fed rules r n at_end Complete c = absurd c
 Ends-fed rules r n at_end (Refused number place reason) c =
     let told = ending-told rules r (Refused number place reason) c.0 in
@@ -92,11 +100,13 @@ Ends-fed rules r n at_end WriteFault c = tt
 Ends-fed rules r n at_end Memory c = tt
 
 -- no more bytes came: no whole line was refused
-pub whole-good : (e : EngineState) (r : List ℕ) → Reads e.reading r → (refusal_in (rules_of e) (lines (whole r)) ≡ None) × (lines_of e ≡ length (lines (whole r)))
+pub whole-good : (e : EngineState) (r : List ℕ) → Reads e.reading r → (refusal_in (rules_of e) (lines (whole r)) ≡ None)
+    × (lines_of e ≡ length (lines (whole r)))
 whole-good e r h = (rw (lines-whole r) h.good, rw (lines-whole r) (h.lines ∙ sym (length-map_lines (closed r))))
 
 -- more bytes change none of the lines that LF ended
-pub kept_first-same : (rules : Rules) (n : ℕ) (r more : List ℕ) → n ≡ length (closed r) → kept_first rules n (r ++ more) ≡ kept_first rules n r
+pub kept_first-same : (rules : Rules) (n : ℕ) (r more : List ℕ) → n ≡ length (closed r)
+    → kept_first rules n (r ++ more) ≡ kept_first rules n r
 kept_first-same rules n r more e =
     let k = kept_first-front rules n r [] e in
     kept_first-front rules n r more e ∙ sym (rw (append-nil r) at k)
@@ -174,7 +184,8 @@ last-none WriteFault = omega arith
 last-none Memory = omega arith
 
 -- a piece gave it
-pub last-piece : (rules : Rules) (q : List ℕ) (n : ℕ) (e : End) (piece : List ℕ) → Tells rules q n e → length piece ≤ 8192 → IsLastRead e piece
+pub last-piece : (rules : Rules) (q : List ℕ) (n : ℕ) (e : End) (piece : List ℕ) → Tells rules q n e
+    → length piece ≤ 8192 → IsLastRead e piece
 last-piece rules q n Complete piece told few = absurd told
 last-piece rules q n (Refused number place reason) piece told few = few
 last-piece rules q n ReadFault piece told few = absurd told
@@ -183,8 +194,10 @@ last-piece rules q n WriteFault piece told few = few
 last-piece rules q n Memory piece told few = few
 
 -- before these last bytes no line was the end
-pub stops-after : (f : Reading) (run : Run) (front last : List ℕ) → Reads f front → f.rules ≡ run.rules → run.read ≡ front ++ last → IsLastRead run.outcome.ended last
-    → f.lines ≤ run.outcome.lines → (run.outcome.ended ≡ Memory → LacksRoom run) → IsBelow (exact_peaks run.rules.limits (first_lines run.outcome.lines run.read)) run.outcome.peaks
+pub stops-after : (f : Reading) (run : Run) (front last : List ℕ) → Reads f front → f.rules ≡ run.rules
+    → run.read ≡ front ++ last → IsLastRead run.outcome.ended last
+    → f.lines ≤ run.outcome.lines → (run.outcome.ended ≡ Memory → LacksRoom run)
+    → IsBelow (exact_peaks run.rules.limits (first_lines run.outcome.lines run.read)) run.outcome.peaks
     → HeldBegun run run.outcome.ended → StopsInTime run
 stops-after f run front last reads same cut short onward memory least begun = record {
   front = front;
@@ -208,13 +221,17 @@ begun-judged run WriteFault u = tt
 begun-judged run Memory u = tt
 
 -- an engine that has not ended has held what all that it has read needs
-pub least-going : (e : EngineState) (r : List ℕ) → Reads e.reading r → Scanned (limits_of e) (closed r) e.scanning → IsBelow (exact_peaks (limits_of e) (first_lines (lines_of e) r)) (peaks_of e)
+pub least-going : (e : EngineState) (r : List ℕ) → Reads e.reading r → Scanned (limits_of e) (closed r) e.scanning
+    → IsBelow (exact_peaks (limits_of e) (first_lines (lines_of e) r)) (peaks_of e)
 least-going e r reads scanned =
     let k = least-read e r [] reads (held-scanned (limits_of e) (closed r) e.scanning scanned) in
     rw (append-nil r) at k
 
 -- memory was refused before the first read
-pub Stops-memory : (rules : Rules) → StopsInTime (record { rules = rules; read = []; outcome = record { lines = 0; kept = 0; refused = 0; peaks = record { bytes = 0; tokens = 0; depth = 0 }; ended = Memory } })
+pub Stops-memory : (rules : Rules)
+    → StopsInTime (record { rules = rules; read = [];
+        outcome = record { lines = 0; kept = 0; refused = 0; peaks = record { bytes = 0; tokens = 0; depth = 0 };
+            ended = Memory } })
 Stops-memory rules = record {
   front = [];
   last = [];
@@ -269,10 +286,12 @@ all-gave : (reads : ℕ) (r : List ℕ) (e : End) → e ≡ ReadLimit → (w : I
 all-gave reads r e is w = subst (λ z. Gave reads w.giving z) is w.gave
 
 -- one read more than there are bytes is enough
-pub enough-reads : (a b : Option (List ℕ)) (reads : ℕ) (r : List ℕ) (e : End) → Consumes a b r → IsReadWithin reads r e → IfSome a (λ bytes. length bytes < reads → e ≢ ReadLimit)
+pub enough-reads : (a b : Option (List ℕ)) (reads : ℕ) (r : List ℕ) (e : End) → Consumes a b r → IsReadWithin reads r e
+    → IfSome a (λ bytes. length bytes < reads → e ≢ ReadLimit)
 enough-reads None b reads r e c w = tt
 enough-reads (Some a) None reads r e c w = absurd c
-enough-reads (Some a) (Some b) reads r e c w = λ few is. absurd (omega (arith, all-gave reads r e is w, w.least, ap length c, length-append r b))
+enough-reads (Some a) (Some b) reads r e c w =
+    λ few is. absurd (omega (arith, all-gave reads r e is w, w.least, ap length c, length-append r b))
 
 -- a run that was refused memory has read nothing, has not run out of reads, nor has its sink failed
 pub memory-no_fault : Memory ≡ WriteFault → ⊥
@@ -281,7 +300,8 @@ memory-no_fault h = cc
 pub unread-memory : (reads : ℕ) (e : End) → e ≡ Memory → IsReadWithin reads [] e
 unread-memory reads e is = rw is (record { giving = 0; gave = omega arith; least = omega arith; most = omega arith })
 
-pub enough-memory : (a : Option (List ℕ)) (reads : ℕ) (e : End) → e ≡ Memory → IfSome a (λ bytes. length bytes < reads → e ≢ ReadLimit)
+pub enough-memory : (a : Option (List ℕ)) (reads : ℕ) (e : End) → e ≡ Memory
+    → IfSome a (λ bytes. length bytes < reads → e ≢ ReadLimit)
 enough-memory None reads e is = tt
 enough-memory (Some a) reads e is = λ few limit. absurd (apart (sym is ∙ limit))
   where
@@ -289,7 +309,10 @@ enough-memory (Some a) reads e is = λ few limit. absurd (apart (sym is ∙ limi
     apart h = cc
 
 -- by no read no line is dealt with
-pub none-counted : (rules : Rules) (reads : ℕ) (r : List ℕ) (n features refusals : ℕ) (e : End) → reads ≡ 0 → e ≡ ReadLimit → IsReadWithin reads r e → Counts rules r n features refusals → (n ≡ 0) × (features ≡ 0)
+pub none-counted : (rules : Rules) (reads : ℕ) (r : List ℕ) (n features refusals : ℕ) (e : End) → reads ≡ 0
+    → e ≡ ReadLimit → IsReadWithin reads r e → Counts rules r n features refusals → (n ≡ 0) × (features ≡ 0)
 none-counted rules reads [] zero features refusals e nothing is w h = (refl, h.kept)
-none-counted rules reads [] (suc n) features refusals e nothing is w h = let few : suc n ≤ 0 = h.few in absurd (omega arith)
-none-counted rules reads (x ∷ r) n features refusals e nothing is w h = absurd (omega (arith, all-gave reads (x ∷ r) e is w, w.most))
+none-counted rules reads [] (suc n) features refusals e nothing is w h = let few : suc n ≤ 0 = h.few in
+    absurd (omega arith)
+none-counted rules reads (x ∷ r) n features refusals e nothing is w h =
+    absurd (omega (arith, all-gave reads (x ∷ r) e is w, w.most))

@@ -37,7 +37,8 @@ length-bare (t ∷ ts) = ap suc (length-bare ts)
 
 -- ---- within the bound
 
-pub few-scanned : (limits : LimitPair) (cs : List (List ℕ)) (f : Scanning) (h : ℕ) → Scanned limits cs f → length (first_of cs []) ≤ h → HoldsFew limits h f
+pub few-scanned : (limits : LimitPair) (cs : List (List ℕ)) (f : Scanning) (h : ℕ) → Scanned limits cs f
+    → length (first_of cs []) ≤ h → HoldsFew limits h f
 few-scanned limits cs f h s le = omega (arith, s.header_law, s.line_law, le)
 
 -- ---- a line that was dealt with
@@ -50,10 +51,12 @@ held-at : {all : Bool} {n peak now : ℕ} → HasHeld all n peak → now ≡ pea
 held-at h e = rw e h
 
 -- the later lines of some, and one more, can be read: so they can, and so can it
-readable-more : (limits : LimitPair) (ds : List (List ℕ)) (c : List ℕ) → list_all (is_readable limits) (ds ++ c ∷ []) ≡ true
+readable-more : (limits : LimitPair) (ds : List (List ℕ)) (c : List ℕ)
+    → list_all (is_readable limits) (ds ++ c ∷ []) ≡ true
     → (list_all (is_readable limits) ds ≡ true) × (is_readable limits c ≡ true)
 readable-more limits ds c h =
-    let both = and-both (list_all (is_readable limits) ds) (list_all (is_readable limits) (c ∷ [])) (sym (list_all-append (is_readable limits) ds (c ∷ [])) ∙ h) in
+    let both = and-both (list_all (is_readable limits) ds) (list_all (is_readable limits) (c ∷ []))
+        (sym (list_all-append (is_readable limits) ds (c ∷ [])) ∙ h) in
     (both.0, (and-both (is_readable limits c) true both.1).0)
 
 -- a later line more: the greater of what was held and of what it holds
@@ -76,19 +79,24 @@ unread-long limits c long =
     let e : ltb limits.line (length c) ≡ true = grind (arith, nat_tests) in
     record { bad = rw e refl; size = rw e refl; nest = rw e refl }
 
-unspelled : {c : List ℕ} {depth : ℕ} (j : Judgement c depth) → is_spelled j ≡ false → (judged_size j ≡ 0) × (judged_nest j ≡ 0)
+unspelled : {c : List ℕ} {depth : ℕ} (j : Judgement c depth) → is_spelled j ≡ false → (judged_size j ≡ 0)
+    × (judged_nest j ≡ 0)
 unspelled (spelled t json shallow) h = cc
 unspelled (broken i at none) h = (refl, refl)
 unspelled (sunk i at) h = (refl, refl)
 
-pub unread-told : (limits : LimitPair) (c : List ℕ) → list_all is_blank_byte c ≡ false → is_utf8 c && is_spelled (judgement c limits.depth) ≡ false → IsUnread limits c
-unread-told limits c blank bad = go (ltb limits.line (length c)) (is_utf8 c) (is_spelled (judgement c limits.depth)) refl refl refl bad
+pub unread-told : (limits : LimitPair) (c : List ℕ) → list_all is_blank_byte c ≡ false
+    → is_utf8 c && is_spelled (judgement c limits.depth) ≡ false → IsUnread limits c
+unread-told limits c blank bad =
+    go (ltb limits.line (length c)) (is_utf8 c) (is_spelled (judgement c limits.depth)) refl refl refl bad
   where
-    go : (long text found : Bool) → ltb limits.line (length c) ≡ long → is_utf8 c ≡ text → is_spelled (judgement c limits.depth) ≡ found → text && found ≡ false → IsUnread limits c
+    go : (long text found : Bool) → ltb limits.line (length c) ≡ long → is_utf8 c ≡ text
+        → is_spelled (judgement c limits.depth) ≡ found → text && found ≡ false → IsUnread limits c
     go true text found l t s h = record { bad = rw l refl; size = rw l refl; nest = rw l refl }
     go false false found l t s h = record { bad = rw (l, t) refl; size = rw (l, t) refl; nest = rw (l, t) refl }
     go false true true l t s h = cc
-    go false true false l t s h = let k = unspelled (judgement c limits.depth) s in record { bad = rw (l, t, blank, s) refl; size = rw (l, t) k.0; nest = rw (l, t) k.1 }
+    go false true false l t s h = let k = unspelled (judgement c limits.depth) s in
+        record { bad = rw (l, t, blank, s) refl; size = rw (l, t) k.0; nest = rw (l, t) k.1 }
 
 -- ---- a later line that was scanned
 
@@ -159,7 +167,8 @@ ScansNext-dropped x f h later dropped k = λ cs c count is s.
 
 -- the lines that LF ended, after a part and an LF
 pub closed-line : (p part : List ℕ) → NoLf part → closed (p ++ (part ++ 10 ∷ [])) ≡ closed p ++ (begun p ++ part) ∷ []
-closed-line p part n = rw (← append_assoc p part (10 ∷ []), closed-lf (p ++ part) [], closed-more p part n, begun-more p part n) refl
+closed-line p part n =
+    rw (← append_assoc p part (10 ∷ []), closed-lf (p ++ part) [], closed-more p part n, begun-more p part n) refl
 
 none-shorter : (cs : List (List ℕ)) (b : List ℕ) → length (first_of cs []) ≤ length (first_of cs b)
 none-shorter [] b = omega arith
@@ -169,7 +178,8 @@ none-shorter (c ∷ cs) b = omega arith
 pub first-closed : (p more : List ℕ) → length (first_of (closed p) []) ≤ length (first_content (p ++ more))
 first-closed p more = omega (arith, none-shorter (closed p) (begun p), first_content-grows p more)
 
-pub first-part : (p part more : List ℕ) → NoLf part → length (first_of (closed p) (begun p ++ part)) ≤ length (first_content (p ++ (part ++ 10 ∷ more)))
+pub first-part : (p part more : List ℕ) → NoLf part
+    → length (first_of (closed p) (begun p ++ part)) ≤ length (first_content (p ++ (part ++ 10 ∷ more)))
 first-part p part more n =
     let grows = first_content-grows (p ++ part) (10 ∷ more) in
     let k = rw (closed-more p part n, begun-more p part n, append_assoc p part (10 ∷ more)) at grows in
@@ -180,22 +190,28 @@ few-more limits h i f le s = omega (arith, le, s)
 
 -- ---- a part that was stored, and its line dealt with
 
-module _ (f g : Reading) (p part : List ℕ) (now mid new : Scanning) (reads : Reads f p) (n : NoLf part) (st : Stores f part g) (same : mid ≡ now) (s : Scanned f.rules.limits (closed p) now) where
+module _ (f g : Reading) (p part : List ℕ) (now mid new : Scanning) (reads : Reads f p) (n : NoLf part)
+    (st : Stores f part g) (same : mid ≡ now) (s : Scanned f.rules.limits (closed p) now) where
   before : Scanned g.rules.limits (closed p) mid
   before = rw (same, st.rules) s
 
   pub scanned-line : ScansNext g mid new → Scanned f.rules.limits (closed (p ++ (part ++ 10 ∷ []))) new
   scanned-line deal =
-      let k = deal (closed p) (begun p ++ part) (sym (st.lines ∙ reads.lines)) (IsBegun-stored f g p part reads st) before in
+      let k = deal (closed p) (begun p ++ part) (sym (st.lines ∙ reads.lines)) (IsBegun-stored f g p part reads st)
+          before in
       let j = rw st.rules at k in
       rw (closed-line p part n) j
 
-  pub few-line : (more : List ℕ) → HoldsFewNext g mid new → HoldsFew f.rules.limits (length (first_content (p ++ (part ++ 10 ∷ more)))) new
+  pub few-line : (more : List ℕ) → HoldsFewNext g mid new
+      → HoldsFew f.rules.limits (length (first_content (p ++ (part ++ 10 ∷ more)))) new
   few-line more deal =
-      let k = deal (closed p) (begun p ++ part) (sym (st.lines ∙ reads.lines)) (IsBegun-stored f g p part reads st) before in
+      let k = deal (closed p) (begun p ++ part) (sym (st.lines ∙ reads.lines)) (IsBegun-stored f g p part reads st)
+          before in
       let j = rw st.rules at k in
-      few-more f.rules.limits (length (first_of (closed p) (begun p ++ part))) (length (first_content (p ++ (part ++ 10 ∷ more)))) new (first-part p part more n) j
+      few-more f.rules.limits (length (first_of (closed p) (begun p ++ part)))
+          (length (first_content (p ++ (part ++ 10 ∷ more)))) new (first-part p part more n) j
 
 -- bytes without LF end no line
-pub scanned-begun : (limits : LimitPair) (p part : List ℕ) (f g : Scanning) → NoLf part → g ≡ f → Scanned limits (closed p) f → Scanned limits (closed (p ++ part)) g
+pub scanned-begun : (limits : LimitPair) (p part : List ℕ) (f g : Scanning) → NoLf part → g ≡ f
+    → Scanned limits (closed p) f → Scanned limits (closed (p ++ part)) g
 scanned-begun limits p part f g n e s = rw (closed-more p part n, e) s

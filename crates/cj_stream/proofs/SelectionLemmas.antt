@@ -20,17 +20,21 @@ map-none f (Some x) h = absurd (cc h)
 
 module _ (rules : Rules) (e : Line) where
   -- one line more before some others changes nothing
-  none-before : (l : Line) (zs : List Line) → refusal_from rules (e ∷ l ∷ []) zs ≡ None → refusal_from rules (e ∷ []) zs ≡ None
+  none-before : (l : Line) (zs : List Line) → refusal_from rules (e ∷ l ∷ []) zs ≡ None
+      → refusal_from rules (e ∷ []) zs ≡ None
   none-before l zs h = map-none (moved_end 1) _ (sym (refusal-moved rules e (l ∷ []) [] zs 1 refl) ∙ h)
 
-  none-after : (l : Line) (zs : List Line) → refusal_from rules (e ∷ []) zs ≡ None → refusal_from rules (e ∷ l ∷ []) zs ≡ None
+  none-after : (l : Line) (zs : List Line) → refusal_from rules (e ∷ []) zs ≡ None
+      → refusal_from rules (e ∷ l ∷ []) zs ≡ None
   none-after l zs h = refusal-moved rules e (l ∷ []) [] zs 1 refl ∙ ap (option_map (moved_end 1)) h
 
-  none-step : (l : Line) (stays : Bool) (zs ms : List Line) → (refusal_from rules (e ∷ []) zs ≡ None → refusal_from rules (e ∷ []) ms ≡ None)
+  none-step : (l : Line) (stays : Bool) (zs ms : List Line)
+      → (refusal_from rules (e ∷ []) zs ≡ None → refusal_from rules (e ∷ []) ms ≡ None)
       → refusal_from rules (e ∷ []) (l ∷ zs) ≡ None → refusal_from rules (e ∷ []) (cond stays (l ∷ ms) ms) ≡ None
   none-step l stays zs ms later h = go stays
     where
-      both : (refusal_of rules 2 (verdict rules (e ∷ []) l.content) ≡ None) × (refusal_from rules (e ∷ l ∷ []) zs ≡ None)
+      both : (refusal_of rules 2 (verdict rules (e ∷ []) l.content) ≡ None)
+          × (refusal_from rules (e ∷ l ∷ []) zs ≡ None)
       both = first-none _ _ h
 
       go : (b : Bool) → refusal_from rules (e ∷ []) (cond b (l ∷ ms) ms) ≡ None
@@ -38,25 +42,34 @@ module _ (rules : Rules) (e : Line) where
       go false = later (none-before l zs both.1)
 
   -- no refusal is an end among the lines that stay
-  none-staying : (xs : List (Line × Bool)) → refusal_from rules (e ∷ []) (all_lines xs) ≡ None → refusal_from rules (e ∷ []) (staying xs) ≡ None
+  none-staying : (xs : List (Line × Bool)) → refusal_from rules (e ∷ []) (all_lines xs) ≡ None
+      → refusal_from rules (e ∷ []) (staying xs) ≡ None
   none-staying [] h = refl
   none-staying (x ∷ xs) h = none-step x.0 x.1 (all_lines xs) (staying xs) (none-staying xs) h
 
-  kept-after : (l : Line) (zs ms : List Line) → kept_from rules (e ∷ []) ms ≡ kept_from rules (e ∷ []) zs → kept_from rules (e ∷ l ∷ []) ms ≡ kept_from rules (e ∷ l ∷ []) zs
+  kept-after : (l : Line) (zs ms : List Line) → kept_from rules (e ∷ []) ms ≡ kept_from rules (e ∷ []) zs
+      → kept_from rules (e ∷ l ∷ []) ms ≡ kept_from rules (e ∷ l ∷ []) zs
   kept-after l zs ms h = kept-moved rules e (l ∷ []) [] ms ∙ (h ∙ sym (kept-moved rules e (l ∷ []) [] zs))
 
-  kept-step : (l : Line) (stays : Bool) (zs ms : List Line) → (stays ≡ false → is_kept (verdict rules (e ∷ []) l.content) ≡ false) → kept_from rules (e ∷ []) ms ≡ kept_from rules (e ∷ []) zs
+  kept-step : (l : Line) (stays : Bool) (zs ms : List Line)
+      → (stays ≡ false → is_kept (verdict rules (e ∷ []) l.content) ≡ false)
+      → kept_from rules (e ∷ []) ms ≡ kept_from rules (e ∷ []) zs
       → kept_from rules (e ∷ []) (cond stays (l ∷ ms) ms) ≡ kept_from rules (e ∷ []) (l ∷ zs)
   kept-step l true zs ms left same =
-      ap (λ z. cond (is_kept (verdict rules (e ∷ []) l.content)) (item_after rules (e ∷ []) l ∷ z) z) (kept-after l zs ms same)
+      ap (λ z. cond (is_kept (verdict rules (e ∷ []) l.content)) (item_after rules (e ∷ []) l ∷ z) z)
+          (kept-after l zs ms same)
   kept-step l false zs ms left same = rw (left refl) (same ∙ sym (kept-moved rules e (l ∷ []) [] zs))
 
   -- the same is kept of them
-  kept-staying : (xs : List (Line × Bool)) → LeavesKept rules e xs → kept_from rules (e ∷ []) (staying xs) ≡ kept_from rules (e ∷ []) (all_lines xs)
+  kept-staying : (xs : List (Line × Bool)) → LeavesKept rules e xs
+      → kept_from rules (e ∷ []) (staying xs) ≡ kept_from rules (e ∷ []) (all_lines xs)
   kept-staying [] h = refl
-  kept-staying (x ∷ xs) h = kept-step x.0 x.1 (all_lines xs) (staying xs) (h 0 x (omega arith)) (kept-staying xs (λ k d small. h (suc k) d (omega (arith, small))))
+  kept-staying (x ∷ xs) h =
+      kept-step x.0 x.1 (all_lines xs) (staying xs) (h 0 x (omega arith))
+          (kept-staying xs (λ k d small. h (suc k) d (omega (arith, small))))
 
-module _ (rules : Rules) (h a b : List ℕ) (xs : List (Line × Bool)) (free : NoLf h) (all : lines a ≡ all_lines xs) (some : lines b ≡ staying xs)
+module _ (rules : Rules) (h a b : List ℕ) (xs : List (Line × Bool)) (free : NoLf h) (all : lines a ≡ all_lines xs)
+    (some : lines b ≡ staying xs)
     (left : LeavesKept rules (ended_line h) xs) (done : ending rules (headed h a) ≡ Complete) where
   whole : lines (headed h a) ≡ ended_line h ∷ all_lines xs
   whole = lines-headed h a free ∙ ap (λ z. ended_line h ∷ z) all
@@ -69,7 +82,8 @@ module _ (rules : Rules) (h a b : List ℕ) (xs : List (Line × Bool)) (free : N
 
   none-part : refusal_in rules (ended_line h ∷ staying xs) ≡ None
   none-part =
-      let both = first-none (refusal_of rules 1 (verdict rules [] h)) (refusal_from rules (ended_line h ∷ []) (all_lines xs)) none-whole in
+      let both = first-none (refusal_of rules 1 (verdict rules [] h))
+          (refusal_from rules (ended_line h ∷ []) (all_lines xs)) none-whole in
       let later = none-staying rules (ended_line h) xs both.1 in
       rw (both.0, later) refl
 
@@ -78,9 +92,14 @@ module _ (rules : Rules) (h a b : List ℕ) (xs : List (Line × Bool)) (free : N
 
   pub kept-selection : kept rules (headed h b) ≡ kept rules (headed h a)
   kept-selection =
-      let of_part = ap (λ z. kept_from rules [] z) (ap (λ z. good_from rules [] z) part ∙ good-all rules [] (ended_line h ∷ staying xs) none-part) in
-      let of_whole = ap (λ z. kept_from rules [] z) (ap (λ z. good_from rules [] z) whole ∙ good-all rules [] (ended_line h ∷ all_lines xs) none-whole) in
-      let same = ap (λ z. cond (is_kept (verdict rules [] h)) (item_after rules [] (ended_line h) ∷ z) z) (kept-staying rules (ended_line h) xs left) in
+      let of_part =
+          ap (λ z. kept_from rules [] z)
+              (ap (λ z. good_from rules [] z) part ∙ good-all rules [] (ended_line h ∷ staying xs) none-part) in
+      let of_whole =
+          ap (λ z. kept_from rules [] z)
+              (ap (λ z. good_from rules [] z) whole ∙ good-all rules [] (ended_line h ∷ all_lines xs) none-whole) in
+      let same = ap (λ z. cond (is_kept (verdict rules [] h)) (item_after rules [] (ended_line h) ∷ z) z)
+          (kept-staying rules (ended_line h) xs left) in
       of_part ∙ (same ∙ sym of_whole)
 
   pub output-selection : output rules (headed h b) ≡ output rules (headed h a)

@@ -24,31 +24,38 @@ use Rattle.cj_stream.proofs.Ranges.{Widens-no, Widens-two}
 
 -- how often a number is among two lists
 pub how_often-append : (n : ℕ) (xs ys : List ℕ) → how_often n (xs ++ ys) ≡ how_often n xs + how_often n ys
-how_often-append n xs ys = ap length (filter-append (nat_eq n) xs ys) ∙ length-append (filter (nat_eq n) xs) (filter (nat_eq n) ys)
+how_often-append n xs ys = ap length (filter-append (nat_eq n) xs ys)
+    ∙ length-append (filter (nat_eq n) xs) (filter (nat_eq n) ys)
 
 -- a count that each item raises by a number of its own is raised by their sum
 module _ (count : Tally → ℕ) (own : Item → ℕ) (sum : List Item → ℕ)
     (none : sum [] ≡ 0) (some : (i : Item) (is : List Item) → sum (i ∷ is) ≡ own i + sum is)
-    (step : (a : Tally) (i : Item) (b : Tally) → Tallies a i b → count a ≤ 2 ^ 64 - 1 → count b ≡ capped (count a + own i)) where
-  count-more : (a b : Tally) (is : List Item) → count a ≤ 2 ^ 64 - 1 → Took Tallies a is b → count b ≡ capped (count a + sum is)
+    (step : (a : Tally) (i : Item) (b : Tally) → Tallies a i b → count a ≤ 2 ^ 64 - 1
+        → count b ≡ capped (count a + own i)) where
+  count-more : (a b : Tally) (is : List Item) → count a ≤ 2 ^ 64 - 1 → Took Tallies a is b
+      → count b ≡ capped (count a + sum is)
   count-more a b [] fits took = omega (arith, ap count took, none, fits)
   count-more a b (i ∷ is) fits took =
       let first : count took.0 ≡ capped (count a + own i) = step a i took.0 took.1 fits in
       let rest : count b ≡ capped (count took.0 + sum is) = count-more took.0 b is (omega (arith, first)) took.2 in
       omega (arith, first, rest, some i is)
 
-features-more : (a b : Tally) (is : List Item) → a.features ≤ 2 ^ 64 - 1 → Took Tallies a is b → b.features ≡ capped (a.features + length (filter is_feature is))
-features-more = count-more (λ t. t.features) (λ i. one i.header) (λ is. length (filter is_feature is)) refl (λ i is. split i.header i (filter is_feature is)) (λ a i b. step a i.header i.tree b)
+features-more : (a b : Tally) (is : List Item) → a.features ≤ 2 ^ 64 - 1 → Took Tallies a is b
+    → b.features ≡ capped (a.features + length (filter is_feature is))
+features-more = count-more (λ t. t.features) (λ i. one i.header) (λ is. length (filter is_feature is)) refl
+    (λ i is. split i.header i (filter is_feature is)) (λ a i b. step a i.header i.tree b)
   where
     one : Option Tree → ℕ
     one None = 0
     one (Some header) = 1
 
-    split : (o : Option Tree) (i : Item) (rest : List Item) → length (cond (is_some o) (i ∷ rest) rest) ≡ one o + length rest
+    split : (o : Option Tree) (i : Item) (rest : List Item)
+        → length (cond (is_some o) (i ∷ rest) rest) ≡ one o + length rest
     split None i rest = omega arith
     split (Some header) i rest = omega arith
 
-    step : (a : Tally) (o : Option Tree) (t : Tree) (b : Tally) → TalliesBy a o t b → a.features ≤ 2 ^ 64 - 1 → b.features ≡ capped (a.features + one o)
+    step : (a : Tally) (o : Option Tree) (t : Tree) (b : Tally) → TalliesBy a o t b → a.features ≤ 2 ^ 64 - 1
+        → b.features ≡ capped (a.features + one o)
     step a None t b h fits = omega (arith, h.features, fits)
     step a (Some header) t b h fits = omega (arith, h.features)
 
@@ -57,12 +64,16 @@ module _ (part : Tree → Tree → List ℕ) (n : ℕ) where
   often : List Item → ℕ
   often is = how_often n (over_features part is)
 
-  often-some : (i : Item) (is : List Item) → how_often n (over_features part (i ∷ is)) ≡ how_often n (beside part i.header i.tree) + how_often n (over_features part is)
+  often-some : (i : Item) (is : List Item)
+      → how_often n (over_features part (i ∷ is)) ≡ how_often n (beside part i.header i.tree)
+      + how_often n (over_features part is)
   often-some i is = how_often-append n (beside part i.header i.tree) (over_features part is)
 
 types-more : (n : ℕ) → n < 33 → (a b : Tally) (is : List Item) → get_or a.types n 0 ≤ 2 ^ 64 - 1 → Took Tallies a is b
     → get_or b.types n 0 ≡ capped (get_or a.types n 0 + how_often n (over_features (λ header t. type_numbers t) is))
-types-more n inside = count-more (λ t. get_or t.types n 0) (λ i. how_often n (beside (λ header t. type_numbers t) i.header i.tree)) (λ is. how_often n (over_features (λ header t. type_numbers t) is)) refl
+types-more n inside =
+    count-more (λ t. get_or t.types n 0) (λ i. how_often n (beside (λ header t. type_numbers t) i.header i.tree))
+        (λ is. how_often n (over_features (λ header t. type_numbers t) is)) refl
     (often-some (λ header t. type_numbers t) n) (λ a i b. step a i.header i.tree b)
   where
     step : (a : Tally) (o : Option Tree) (t : Tree) (b : Tally) → TalliesBy a o t b → get_or a.types n 0 ≤ 2 ^ 64 - 1
@@ -72,7 +83,8 @@ types-more n inside = count-more (λ t. get_or t.types n 0) (λ i. how_often n (
 
 lods-more : (n : ℕ) → n < 6 → (a b : Tally) (is : List Item) → get_or a.lods n 0 ≤ 2 ^ 64 - 1 → Took Tallies a is b
     → get_or b.lods n 0 ≡ capped (get_or a.lods n 0 + how_often n (over_features lod_classes is))
-lods-more n inside = count-more (λ t. get_or t.lods n 0) (λ i. how_often n (beside lod_classes i.header i.tree)) (λ is. how_often n (over_features lod_classes is)) refl
+lods-more n inside = count-more (λ t. get_or t.lods n 0) (λ i. how_often n (beside lod_classes i.header i.tree))
+    (λ is. how_often n (over_features lod_classes is)) refl
     (often-some lod_classes n) (λ a i b. step a i.header i.tree b)
   where
     step : (a : Tally) (o : Option Tree) (t : Tree) (b : Tally) → TalliesBy a o t b → get_or a.lods n 0 ≤ 2 ^ 64 - 1
@@ -84,13 +96,19 @@ lods-more n inside = count-more (λ t. get_or t.lods n 0) (λ i. how_often n (be
 
 ranges-more : (axis : ℕ) → axis < 3 → (a b : Tally) (is : List Item) → Took Tallies a is b
     → Widens (get_or a.ranges axis None) (over_features (λ header. numbers_on axis) is) (get_or b.ranges axis None)
-ranges-more axis inside a b [] took = subst (λ (t : Tally). Widens (get_or a.ranges axis None) [] (get_or t.ranges axis None)) (sym took) (Widens-no (get_or a.ranges axis None))
+ranges-more axis inside a b [] took =
+    subst (λ (t : Tally). Widens (get_or a.ranges axis None) [] (get_or t.ranges axis None)) (sym took)
+        (Widens-no (get_or a.ranges axis None))
 ranges-more axis inside a b (i ∷ is) took =
-    Widens-two (beside (λ header. numbers_on axis) i.header i.tree) (over_features (λ header. numbers_on axis) is) (get_or a.ranges axis None) (get_or took.0.ranges axis None) (get_or b.ranges axis None)
+    Widens-two (beside (λ header. numbers_on axis) i.header i.tree) (over_features (λ header. numbers_on axis) is)
+        (get_or a.ranges axis None) (get_or took.0.ranges axis None) (get_or b.ranges axis None)
     (step i.header i.tree took.0 took.1) (ranges-more axis inside took.0 b is took.2)
   where
-    step : (o : Option Tree) (t : Tree) (m : Tally) → TalliesBy a o t m → Widens (get_or a.ranges axis None) (beside (λ header. numbers_on axis) o t) (get_or m.ranges axis None)
-    step None t m h = subst (λ (rs : List (Option (ℤ × ℤ))). Widens (get_or a.ranges axis None) [] (get_or rs axis None)) (sym h.ranges) (Widens-no (get_or a.ranges axis None))
+    step : (o : Option Tree) (t : Tree) (m : Tally) → TalliesBy a o t m
+        → Widens (get_or a.ranges axis None) (beside (λ header. numbers_on axis) o t) (get_or m.ranges axis None)
+    step None t m h =
+        subst (λ (rs : List (Option (ℤ × ℤ))). Widens (get_or a.ranges axis None) [] (get_or rs axis None))
+            (sym h.ranges) (Widens-no (get_or a.ranges axis None))
     step (Some header) t m h = h.ranges axis inside
 
 -- ---- the transform
@@ -101,26 +119,35 @@ IsSet name None t old new = Shows name t new
 IsSet name (Some header) t old new = new ≡ old
 
 module _ (name : List ℕ) (numbers : Tally → Option (List Number))
-    (step : (a : Tally) (i : Item) (b : Tally) → Tallies a i b → IsSet name i.header i.tree (numbers a) (numbers b)) where
+    (step : (a : Tally) (i : Item) (b : Tally) → Tallies a i b → IsSet name i.header i.tree (numbers a) (numbers b))
+        where
   -- numbers that each header sets are those of the last one
   shown-more : (a b : Tally) (is : List Item) → Took Tallies a is b
-      → option_map (map Some) (numbers b) ≡ last_or (option_map (map Some) (numbers a)) (map (λ i. transform_values (chars name) i.tree) (filter is_header is))
+      → option_map (map Some) (numbers b) ≡ last_or (option_map (map Some) (numbers a))
+          (map (λ i. transform_values (chars name) i.tree) (filter is_header is))
   shown-more a b [] took = ap (λ t. option_map (map Some) (numbers t)) took
-  shown-more a b (i ∷ is) took = one i.header i.tree took.0 i (filter is_header is) (step a i took.0 took.1) refl (shown-more took.0 b is took.2)
+  shown-more a b (i ∷ is) took =
+      one i.header i.tree took.0 i (filter is_header is) (step a i took.0 took.1) refl (shown-more took.0 b is took.2)
     where
-      one : (o : Option Tree) (t : Tree) (m : Tally) (j : Item) (rest : List Item) → IsSet name o t (numbers a) (numbers m) → j.tree ≡ t
-          → option_map (map Some) (numbers b) ≡ last_or (option_map (map Some) (numbers m)) (map (λ k. transform_values (chars name) k.tree) rest)
-          → option_map (map Some) (numbers b) ≡ last_or (option_map (map Some) (numbers a)) (map (λ k. transform_values (chars name) k.tree) (cond (not (is_some o)) (j ∷ rest) rest))
+      one : (o : Option Tree) (t : Tree) (m : Tally) (j : Item) (rest : List Item)
+          → IsSet name o t (numbers a) (numbers m) → j.tree ≡ t
+          → option_map (map Some) (numbers b) ≡ last_or (option_map (map Some) (numbers m))
+              (map (λ k. transform_values (chars name) k.tree) rest)
+          → option_map (map Some) (numbers b) ≡ last_or (option_map (map Some) (numbers a))
+              (map (λ k. transform_values (chars name) k.tree) (cond (not (is_some o)) (j ∷ rest) rest))
       one None t m j rest set same later =
-          later ∙ ap (λ o. last_or o (map (λ k. transform_values (chars name) k.tree) rest)) (set ∙ ap (λ u. Some (transform_values (chars name) u)) (sym same))
+          later ∙ ap (λ o. last_or o (map (λ k. transform_values (chars name) k.tree) rest))
+              (set ∙ ap (λ u. Some (transform_values (chars name) u)) (sym same))
       one (Some header) t m j rest set same later =
           later ∙ ap (λ o. last_or (option_map (map Some) o) (map (λ k. transform_values (chars name) k.tree) rest)) set
 
-scale-set : (a : Tally) (o : Option Tree) (t : Tree) (b : Tally) → TalliesBy a o t b → IsSet (codes "scale") o t a.scale b.scale
+scale-set : (a : Tally) (o : Option Tree) (t : Tree) (b : Tally) → TalliesBy a o t b
+    → IsSet (codes "scale") o t a.scale b.scale
 scale-set a None t b h = h.scale
 scale-set a (Some header) t b h = h.scale
 
-translate-set : (a : Tally) (o : Option Tree) (t : Tree) (b : Tally) → TalliesBy a o t b → IsSet (codes "translate") o t a.translate b.translate
+translate-set : (a : Tally) (o : Option Tree) (t : Tree) (b : Tally) → TalliesBy a o t b
+    → IsSet (codes "translate") o t a.translate b.translate
 translate-set a None t b h = h.translate
 translate-set a (Some header) t b h = h.translate
 
@@ -142,10 +169,15 @@ tally-new : (t : Tally) (is : List Item) → Took Tallies no_tally is t → IsTa
 tally-new t is took = record {
   features = omega (arith, features-more no_tally t is (omega arith) took);
   types = λ n b. omega (arith, types-more n b no_tally t is (omega (arith, zeros 33 n b)) took, zeros 33 n b);
-  lods = λ n b. omega (arith, lods-more n (omega (arith, b)) no_tally t is (omega (arith, zeros 6 n (omega (arith, b)))) took, zeros 6 n (omega (arith, b)));
-  ranges = λ axis b. subst (λ (r : Option (ℤ × ℤ)). Widens r (over_features (λ header. numbers_on axis) is) (get_or t.ranges axis None)) (no_ranges 3 axis) (ranges-more axis b no_tally t is took) [] refl;
+  lods = λ n b. omega (arith,
+      lods-more n (omega (arith, b)) no_tally t is (omega (arith, zeros 6 n (omega (arith, b)))) took,
+      zeros 6 n (omega (arith, b)));
+  ranges = λ axis b. subst
+      (λ (r : Option (ℤ × ℤ)). Widens r (over_features (λ header. numbers_on axis) is) (get_or t.ranges axis None))
+      (no_ranges 3 axis) (ranges-more axis b no_tally t is took) [] refl;
   scale = shown-more (codes "scale") (λ s. s.scale) (λ a i b. scale-set a i.header i.tree b) no_tally t is took;
-  translate = shown-more (codes "translate") (λ s. s.translate) (λ a i b. translate-set a i.header i.tree b) no_tally t is took;
+  translate =
+      shown-more (codes "translate") (λ s. s.translate) (λ a i b. translate-set a i.header i.tree b) no_tally t is took;
 }
 
 tally-all : (start t : Tally) (is : List Item) → start ≡ no_tally → Took Tallies start is t → IsTallyOf is t
@@ -163,14 +195,17 @@ TalliesRun-puts rules r start t (Refused number place reason) new h = tally-all 
 TalliesRun-puts rules r start t ReadFault new h = tally-all start t (kept rules (whole r)) new h
 TalliesRun-puts rules r start t ReadLimit new h = tally-all start t (kept rules (whole r)) new h
 TalliesRun-puts rules r start t WriteFault new h = never h.others h.middle t h.left
-TalliesRun-puts rules r start t Memory new h = record { more = h.more; others = h.others; front = h.front; tally = tally-all start t h.more new (rw h.left h.took) }
+TalliesRun-puts rules r start t Memory new h =
+    record { more = h.more; others = h.others; front = h.front;
+        tally = tally-all start t h.more new (rw h.left h.took) }
 
 -- what was tallied of pieces
 pub TalliesPieces-puts : (rules : Rules) (pieces : List (List ℕ)) (n : ℕ) (start t : Tally) (e : End) → start ≡ no_tally
     → PutsPieces (never_fails Tallies) (in_pieces rules pieces n) e start t
     → TalliesPieces (in_pieces rules pieces n) e t
 TalliesPieces-puts rules pieces n start t Complete new h = (h.0, tally-all start t (kept rules (joined pieces)) new h.1)
-TalliesPieces-puts rules pieces n start t (Refused number place reason) new h = (h.0, tally-all start t (kept rules (joined pieces)) new h.1)
+TalliesPieces-puts rules pieces n start t (Refused number place reason) new h =
+    (h.0, tally-all start t (kept rules (joined pieces)) new h.1)
 TalliesPieces-puts rules pieces n start t ReadFault new h = h
 TalliesPieces-puts rules pieces n start t ReadLimit new h = h
 TalliesPieces-puts rules pieces n start t WriteFault new h = never h.others h.middle t h.left

@@ -26,7 +26,8 @@ module _ (rules : Rules) (count features refusals : ℕ) (peaks : Peaks) where
   }
 
   -- the same of a stream with the same good lines
-  same-counted : (r s : List ℕ) (e : End) → good rules s ≡ good rules r → kept rules s ≡ kept rules r → reported rules s ≡ reported rules r
+  same-counted : (r s : List ℕ) (e : End) → good rules s ≡ good rules r → kept rules s ≡ kept rules r
+      → reported rules s ≡ reported rules r
       → CountsAll rules r (record { lines = count; kept = features; refused = refusals; peaks = peaks; ended = e })
       → CountsAll rules s (record { lines = count; kept = features; refused = refusals; peaks = peaks; ended = e })
   same-counted r s e lines items reports h = record {
@@ -36,24 +37,32 @@ module _ (rules : Rules) (count features refusals : ℕ) (peaks : Peaks) where
   }
 
   -- what was counted of the pieces that were given, by the end
-  pub CountsAll-ends : (pieces : List (List ℕ)) (k : ℕ) (e : End) → Counts rules (joined (take (k + 1) pieces)) count features refusals
-      → Ends rules (joined (take (k + 1) pieces)) count (joined (take (k + 1) pieces) ≡ joined pieces) e → IsUnread e → IsUnhindered e
-      → CountsAll rules (joined pieces) (record { lines = count; kept = features; refused = refusals; peaks = peaks; ended = e })
-  CountsAll-ends pieces k Complete h ends u free = rw (← ends.2) (all-counted (joined (take (k + 1) pieces)) Complete h ends.1)
+  pub CountsAll-ends : (pieces : List (List ℕ)) (k : ℕ) (e : End)
+      → Counts rules (joined (take (k + 1) pieces)) count features refusals
+      → Ends rules (joined (take (k + 1) pieces)) count (joined (take (k + 1) pieces) ≡ joined pieces) e → IsUnread e
+      → IsUnhindered e
+      → CountsAll rules (joined pieces)
+          (record { lines = count; kept = features; refused = refusals; peaks = peaks; ended = e })
+  CountsAll-ends pieces k Complete h ends u free =
+      rw (← ends.2) (all-counted (joined (take (k + 1) pieces)) Complete h ends.1)
   CountsAll-ends pieces k (Refused number place reason) h ends u free = go ends.2
     where
       given : List ℕ
       given = joined (take (k + 1) pieces)
 
-      go : (joined (take (k + 1) pieces) ≡ joined pieces) ⊎ (refusal_in rules (judged rules.limits (joined (take (k + 1) pieces))) ≡ Some (Refused number place reason))
-          → CountsAll rules (joined pieces) (record { lines = count; kept = features; refused = refusals; peaks = peaks; ended = Refused number place reason })
+      go : (joined (take (k + 1) pieces) ≡ joined pieces)
+          ⊎ (refusal_in rules (judged rules.limits (joined (take (k + 1) pieces))) ≡ Some (Refused number place reason))
+          → CountsAll rules (joined pieces)
+              (record { lines = count; kept = features; refused = refusals; peaks = peaks;
+                  ended = Refused number place reason })
       go (inl same) = rw (← same) (all-counted (joined (take (k + 1) pieces)) (Refused number place reason) h ends.1)
       go (inr told) =
           let end = Refused number place reason in
           let more = refused-more rules (joined (take (k + 1) pieces)) (joined (drop (k + 1) pieces)) end told in
           let lines = good-more rules (joined (take (k + 1) pieces)) (joined (drop (k + 1) pieces)) end told in
           rw (← joined-cut (k + 1) pieces)
-          (same-counted (joined (take (k + 1) pieces)) _ end lines more.1 more.2 (all-counted (joined (take (k + 1) pieces)) end h ends.1))
+          (same-counted (joined (take (k + 1) pieces)) _ end lines more.1 more.2
+              (all-counted (joined (take (k + 1) pieces)) end h ends.1))
   CountsAll-ends pieces k ReadFault h ends u free = absurd u
   CountsAll-ends pieces k ReadLimit h ends u free = absurd u
   CountsAll-ends pieces k WriteFault h ends u free = absurd free

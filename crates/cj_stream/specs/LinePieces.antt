@@ -51,9 +51,9 @@ later_taken later k = later.before ++ joined (take k later.pieces)
 abbrev pub later_given : LaterPieces → ℕ → List ℕ
 later_given later k = later.before ++ joined (take (k + 1) later.pieces)
 
--- A sink that was given these pieces. Unless a step of it failed, the end is the ending of the whole stream, and it took
--- what is kept of it after those lines. After a fault it took a prefix of that, of the pieces that were given, with all
--- that is kept of the whole lines of those that were wholly taken, and then what the failed step leaves.
+-- A sink that was given these pieces. Unless a step of it failed, the end is the ending of the whole stream, and it
+-- took what is kept of it after those lines. After a fault it took a prefix of that, of the pieces that were given,
+-- with all that is kept of the whole lines of those that were wholly taken, and then what the failed step leaves.
 pub record PutsLines {S : Type 0} (law : SinkLaw S) (later : LaterPieces) (outcome : LinesOutcome) (s t : S) :
     Type 0 where
   pub ends : outcome.ended ≢ WriteFault → line_end outcome.ended ≡ ending later.rules (later_whole later)

@@ -1,5 +1,5 @@
-//! What the tests of `cj_stream` share: lines of streams, queries, readers and writers that are slow
-//! or that fail, and calls of the engine. The tests are in crates of their own, such as
+//! What the tests of `cj_stream` share: lines of streams, queries, readers and writers that are
+//! slow or that fail, and calls of the engine. The tests are in crates of their own, such as
 //! `cj_stream_rows`, which are proved beside each other. Tests of the program share some of it too.
 //!
 //! ```text

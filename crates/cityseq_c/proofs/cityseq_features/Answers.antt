@@ -20,9 +20,11 @@ returns-clause-lists c =
       went = c.judge.result;
       goes = goes-known (never_fails ListsItem) c.args.request.now header part s t c.args.reports.now
           c.judge.new.reports
-          (IsFit c.args.request.now header part) (λ rules o. IsUnhindered o.ended → HoldsRecords (spots rules (header ++ part)) before after)
+          (IsFit c.args.request.now header part)
+              (λ rules o. IsUnhindered o.ended → HoldsRecords (spots rules (header ++ part)) before after)
           (λ fit rules o judged free. recorded rules header part s t before after fit.cut (judged.took free)
-          c.new-listed.ensures.count c.new-listed.ensures.room c.new-listed.ensures.place (λ loan. c.records-1.given.1.1 (sym c.new-listed.ensures.loan ∙ sym loan)))
+          c.new-listed.ensures.count c.new-listed.ensures.room c.new-listed.ensures.place
+              (λ loan. c.records-1.given.1.1 (sym c.new-listed.ensures.loan ∙ sym loan)))
           c.judge.result j.fit j.ok j.declined j.unread;
       told = c.of.ensures;
     }
@@ -39,5 +41,6 @@ returns-clause-unjudged c which =
     c.args.reports.now c.judge.new.reports c.judge.result c.of.result 0 c.of.ensures j.ok j.unread which in (
       same.0,
       same.1,
-      c.records-1.given.1.1 (sym c.new-listed.ensures.loan ∙ sym (ap listed_loan same.2)) ∙ (ap listed_room same.2 ∙ c.new-listed.ensures.room),
+      c.records-1.given.1.1 (sym c.new-listed.ensures.loan ∙ sym (ap listed_loan same.2))
+          ∙ (ap listed_room same.2 ∙ c.new-listed.ensures.room),
     )

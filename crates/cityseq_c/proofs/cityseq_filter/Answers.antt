@@ -15,11 +15,13 @@ returns-clause-filters c =
     let a = c.new-room.result in
     let b = c.judge-judged.new.sink in
     let new = c.judge-judged.new.reports in
-    filters c.args.request.now header part c.args.reports.now new out written c.of.result c.judge-judged.result c.of.ensures
+    filters c.args.request.now header part c.args.reports.now new out written c.of.result c.judge-judged.result
+        c.of.ensures
     (goes room_law c.args.request.now header part a b c.args.reports.now new
     (λ rules o. Copied rules (header ++ part) out written o)
     (λ rules o judged. copied rules (header ++ part) o a b c.args.reports.now new out written judged
-    c.new-room.ensures.written (λ loan. c.output-1.given.1.1 (sym c.new-room.ensures.loan ∙ sym loan)) c.written.ensures)
+    c.new-room.ensures.written (λ loan. c.output-1.given.1.1 (sym c.new-room.ensures.loan ∙ sym loan))
+        c.written.ensures)
     c.judge-judged.result j.ok j.declined j.unread)
 
 pub returns-clause-unjudged : goal.returns-clause-unjudged
@@ -32,5 +34,6 @@ returns-clause-unjudged c which =
     j.unread which in (
       same.0,
       same.1,
-      c.output-1.given.1.1 (sym c.new-room.ensures.loan ∙ sym (ap room_loan same.2)) ∙ (ap room_bytes same.2 ∙ c.new-room.ensures.bytes),
+      c.output-1.given.1.1 (sym c.new-room.ensures.loan ∙ sym (ap room_loan same.2))
+          ∙ (ap room_bytes same.2 ∙ c.new-room.ensures.bytes),
     )

@@ -30,8 +30,10 @@ returns-clause-tallies c =
       goes = goes-known (never_fails Tallies) c.args.request.now header part c.new-sink.result sink c.args.reports.now
           c.judge-judged.new.reports
           (IsTally sink told) (λ rules o. IsUnhindered o.ended → IsTalliedOf rules (header ++ part) told)
-          (λ same rules o judged free. tallied rules (header ++ part) o c.new-sink.result sink c.args.reports.now c.judge-judged.new.reports judged c.new-sink.ensures told same
-          (λ fresh puts. c.puts_are_tallied.ensures.runs (stream_of rules (header ++ part)) Complete c.new-sink.result sink fresh puts) free)
+          (λ same rules o judged free. tallied rules (header ++ part) o c.new-sink.result sink c.args.reports.now
+              c.judge-judged.new.reports judged c.new-sink.ensures told same
+          (λ fresh puts. c.puts_are_tallied.ensures.runs (stream_of rules (header ++ part)) Complete c.new-sink.result
+              sink fresh puts) free)
           went known j.ok j.declined j.unread;
       told = c.of-2.ensures;
     }

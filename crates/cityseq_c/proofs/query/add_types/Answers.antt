@@ -22,11 +22,13 @@ flags_by names flags row = option_and_then (λ (row : ObjectRow). flags_with nam
 
 -- what `add_type` says of the row of a name
 abbrev Adds : Criteria → Criteria → Result (Unit {0}) QueryFault → Option ObjectRow → Type 0
-Adds old new r row = MatchOption row ((r ≡ Err UnknownTypeName) × (new ≡ old)) (λ row. (r ≡ Ok tt) × (new ≡ with_type row.number old))
+Adds old new r row =
+    MatchOption row ((r ≡ Err UnknownTypeName) × (new ≡ old)) (λ row. (r ≡ Ok tt) × (new ≡ with_type row.number old))
 
 module _ (old new : Criteria) (r : Result (Unit {0}) QueryFault) where
   -- where a name was added, the names after it go on from the flags with its own
-  flags-added : (names : List (List ℕ)) (row : Option ObjectRow) → Adds old new r row → is_err r ≡ false → flags_with names (flags_of new) ≡ flags_by names (flags_of old) row
+  flags-added : (names : List (List ℕ)) (row : Option ObjectRow) → Adds old new r row → is_err r ≡ false
+      → flags_with names (flags_of new) ≡ flags_by names (flags_of old) row
   flags-added names None h ok = absurd (cc (ap (λ z. is_err z) h.0, ok))
   flags-added names (Some row) h ok = ap (λ a. flags_with names (flags_of a)) h.1
 
@@ -35,35 +37,44 @@ module _ (old new : Criteria) (r : Result (Unit {0}) QueryFault) where
       → old ≡ record entry { types = Some (flags_of old) } → new ≡ record entry { types = Some (flags_of new) }
   others-stay entry None h ok only = absurd (cc (ap (λ z. is_err z) h.0, ok))
   others-stay entry (Some row) h ok only =
-      h.1 ∙ ap (λ a. with_type row.number a) only ∙ ap (λ flags. record entry { types = Some flags }) (sym (ap flags_of h.1))
+      h.1 ∙ ap (λ a. with_type row.number a) only
+          ∙ ap (λ flags. record entry { types = Some flags }) (sym (ap flags_of h.1))
 
   -- where a name was declined, it is no type's
-  flags-declined : (names : List (List ℕ)) (row : Option ObjectRow) → Adds old new r row → is_err r ≡ true → flags_by names (flags_of old) row ≡ None
+  flags-declined : (names : List (List ℕ)) (row : Option ObjectRow) → Adds old new r row → is_err r ≡ true
+      → flags_by names (flags_of old) row ≡ None
   flags-declined names None h err = refl
   flags-declined names (Some row) h err = absurd (cc (ap (λ z. is_err z) h.0, err))
 
 -- the name that comes next, and those after it, go on from the flags so far to those of all names
-flags-here : (all : List (List ℕ)) (i : ℕ) (name : List ℕ) (flags : List Bool) → (i < length all) × (name ≡ get_or all i name)
-    → flags_with (drop i all) flags ≡ flags_with all no_types → flags_by (drop (i + 1) all) flags (row_named name) ≡ flags_with all no_types
+flags-here : (all : List (List ℕ)) (i : ℕ) (name : List ℕ) (flags : List Bool) → (i < length all)
+    × (name ≡ get_or all i name)
+    → flags_with (drop i all) flags ≡ flags_with all no_types → flags_by (drop (i + 1) all) flags (row_named name)
+    ≡ flags_with all no_types
 flags-here all i name flags next so_far =
-    ap (λ name. flags_with (name ∷ drop (i + 1) all) flags) next.1 ∙ sym (at_drop_more (λ names. flags_with names flags) all i name next.0) ∙ so_far
+    ap (λ name. flags_with (name ∷ drop (i + 1) all) flags) next.1
+        ∙ sym (at_drop_more (λ names. flags_with names flags) all i name next.0) ∙ so_far
 
 pub loop-name-preserved : goal.loop-name-preserved
 loop-name-preserved c =
     let name = c.in-Some.name in
     let yielded = c.loop-name.yielded in
     let split = c.split-name-items.ensures in
-    let texts = items-split c.args.types.now (sym c.is_empty.ensures ∙ c.if-is_empty.false) split.text split.has_more split.pattern c.into_iter-name-iterator.ensures.into_iter_gives in
+    let texts =
+        items-split c.args.types.now (sym c.is_empty.ensures ∙ c.if-is_empty.false) split.text split.has_more
+            split.pattern c.into_iter-name-iterator.ensures.into_iter_gives in
     let next = YieldsList-turn texts yielded _ c.loop-name.yielded_by _ _ name c.in-Some.is c.next.ensures.steps in
     let all = items c.args.types.now in
     let old = criteria c.loop-name.query in
     let new = criteria c.add_type.new.self in
     let row = row_named name.now in
     record {
-      set = others-stay old new c.add_type.result (criteria c.args.query.now) row c.add_type.ensures.asks (sym c.is_err.ensures.value ∙ c.if-is_err.false) c.loop-name.invariant.set;
+      set = others-stay old new c.add_type.result (criteria c.args.query.now) row c.add_type.ensures.asks
+          (sym c.is_err.ensures.value ∙ c.if-is_err.false) c.loop-name.invariant.set;
       left =
           ap (λ n. flags_with (drop n all) (flags_of new)) (length_push yielded name)
-          ∙ flags-added old new c.add_type.result (drop (length yielded + 1) all) row c.add_type.ensures.asks (sym c.is_err.ensures.value ∙ c.if-is_err.false)
+          ∙ flags-added old new c.add_type.result (drop (length yielded + 1) all) row c.add_type.ensures.asks
+              (sym c.is_err.ensures.value ∙ c.if-is_err.false)
           ∙ flags-here all (length yielded) name.now (flags_of old) next c.loop-name.invariant.left;
     }
 
@@ -72,21 +83,28 @@ returns-then-is_err c =
     let name = c.in-Some.name in
     let yielded = c.loop-name.yielded in
     let split = c.split-name-items.ensures in
-    let texts = items-split c.args.types.now (sym c.is_empty.ensures ∙ c.if-is_empty.false) split.text split.has_more split.pattern c.into_iter-name-iterator.ensures.into_iter_gives in
+    let texts =
+        items-split c.args.types.now (sym c.is_empty.ensures ∙ c.if-is_empty.false) split.text split.has_more
+            split.pattern c.into_iter-name-iterator.ensures.into_iter_gives in
     let next = YieldsList-turn texts yielded _ c.loop-name.yielded_by _ _ name c.in-Some.is c.next.ensures.steps in
     let all = items c.args.types.now in
     let old = criteria c.loop-name.query in
-    let declined = flags-declined old (criteria c.add_type.new.self) c.add_type.result (drop (length yielded + 1) all) (row_named name.now) c.add_type.ensures.asks (sym c.is_err.ensures.value ∙ c.if-is_err.true) in
-    let none : flags_with all no_types ≡ None = sym (flags-here all (length yielded) name.now (flags_of old) next c.loop-name.invariant.left) ∙ declined in
+    let declined = flags-declined old (criteria c.add_type.new.self) c.add_type.result (drop (length yielded + 1) all)
+        (row_named name.now) c.add_type.ensures.asks (sym c.is_err.ensures.value ∙ c.if-is_err.true) in
+    let none : flags_with all no_types ≡ None =
+        sym (flags-here all (length yielded) name.now (flags_of old) next c.loop-name.invariant.left) ∙ declined in
     rw none refl
 
 pub returns : goal.returns
 returns c =
     let split = c.split-name-items.ensures in
-    let texts = items-split c.args.types.now (sym c.is_empty.ensures ∙ c.if-is_empty.false) split.text split.has_more split.pattern c.into_iter-name-iterator.ensures.into_iter_gives in
+    let texts =
+        items-split c.args.types.now (sym c.is_empty.ensures ∙ c.if-is_empty.false) split.text split.has_more
+            split.pattern c.into_iter-name-iterator.ensures.into_iter_gives in
     let end = YieldsList-end texts c.loop-name.yielded _ c.loop-name.yielded_by _ _ c.in-None.is c.next.ensures.steps in
     let all = items c.args.types.now in
     let flags = flags_of (criteria c.loop-name.query) in
     let told : flags_with all no_types ≡ Some flags =
-    sym c.loop-name.invariant.left ∙ at_drop_all (λ names. flags_with names flags) all (length c.loop-name.yielded) (omega (arith, end.1)) in
+    sym c.loop-name.invariant.left
+        ∙ at_drop_all (λ names. flags_with names flags) all (length c.loop-name.yielded) (omega (arith, end.1)) in
     rw told (refl, c.loop-name.invariant.set)

@@ -3,10 +3,13 @@ use Rattle.cj_decimal.proofs.Ways.{passes_step, carries_step, stops_here, carrie
 use Rattle.cj_decimal.proofs.digits.read_long.Goals as goal
 
 pub loop-digits-smaller : goal.loop-digits-smaller
-loop-digits-smaller c = let there = is_digit_at c.args.spelling.now c.loop-digits.at (sym c.has_digit.ensures ∙ c.if-not-has_digit.false) in omega (arith, there.0)
+loop-digits-smaller c = let there =
+    is_digit_at c.args.spelling.now c.loop-digits.at (sym c.has_digit.ensures ∙ c.if-not-has_digit.false) in
+    omega (arith, there.0)
 
 pub bounds-spelling-at : goal.bounds-spelling-at
-bounds-spelling-at c = (is_digit_at c.args.spelling.now c.loop-digits.at (sym c.has_digit.ensures ∙ c.if-not-has_digit.false)).0
+bounds-spelling-at c =
+    (is_digit_at c.args.spelling.now c.loop-digits.at (sym c.has_digit.ensures ∙ c.if-not-has_digit.false)).0
 
 pub overflow_sub-spelling : goal.overflow_sub-spelling
 overflow_sub-spelling c =

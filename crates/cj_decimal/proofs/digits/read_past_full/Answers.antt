@@ -18,7 +18,9 @@ loop-at-preserved c =
     }
 
 pub loop-lost-smaller : goal.loop-lost-smaller
-loop-lost-smaller c = let there = is_digit_at c.args.spelling.now c.loop-lost.at (sym c.has_digit.ensures ∙ c.loop-lost-test.true) in omega (arith, there.0)
+loop-lost-smaller c = let there =
+    is_digit_at c.args.spelling.now c.loop-lost.at (sym c.has_digit.ensures ∙ c.loop-lost-test.true) in
+    omega (arith, there.0)
 
 pub loop-lost-preserved : goal.loop-lost-preserved
 loop-lost-preserved c =
@@ -30,14 +32,16 @@ loop-lost-preserved c =
           let so_far = c.loop-lost.invariant.stands n s in (
             _,
             carries_step _ _ _ _ _ so_far.1 there.0 there.1,
-            push_lost _ _ _ _ _ c.requires.full (λ e. omega (arith, c.loop-lost.invariant.other e there.0, bounds.0)) (omega (arith, bounds.1)) so_far.2,
+            push_lost _ _ _ _ _ c.requires.full (λ e. omega (arith, c.loop-lost.invariant.other e there.0, bounds.0))
+                (omega (arith, bounds.1)) so_far.2,
           );
       other = λ e. absurd (cc e);
       bounded = omega arith;
     }
 
 pub returns-clause-stops : goal.returns-clause-stops
-returns-clause-stops c = stops_here _ _ _ c.loop-lost.invariant.passes (sym c.has_digit.ensures ∙ c.loop-lost-test.false)
+returns-clause-stops c =
+    stops_here _ _ _ c.loop-lost.invariant.passes (sym c.has_digit.ensures ∙ c.loop-lost-test.false)
 
 pub returns-clause-stands : goal.returns-clause-stands
 returns-clause-stands c = λ n s.

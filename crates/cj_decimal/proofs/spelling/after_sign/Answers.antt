@@ -14,4 +14,5 @@ returns-then-has_one_of-clause-within c =
     omega (arith, within)
 
 pub returns-else-has_one_of-clause-digits : goal.returns-else-has_one_of-clause-digits
-returns-else-has_one_of-clause-digits c = sym (no_sign (drop c.args.at c.args.spelling.now) (sym c.has_one_of.ensures ∙ c.if-has_one_of.false))
+returns-else-has_one_of-clause-digits c =
+    sym (no_sign (drop c.args.at c.args.spelling.now) (sym c.has_one_of.ensures ∙ c.if-has_one_of.false))

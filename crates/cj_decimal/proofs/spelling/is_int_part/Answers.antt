@@ -10,4 +10,5 @@ pub returns-in-1 : goal.returns-in-1
 returns-in-1 c = sym (int_alone _ (omega (arith, c.requires.count, c.requires.order)))
 
 pub returns-in_default : goal.returns-in_default
-returns-in_default c = ap not c.has_byte.ensures ∙ sym (int_longer _ (omega (arith, c.requires.count, c.requires.order)))
+returns-in_default c = ap not c.has_byte.ensures
+    ∙ sym (int_longer _ (omega (arith, c.requires.count, c.requires.order)))

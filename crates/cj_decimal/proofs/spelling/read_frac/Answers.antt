@@ -19,7 +19,8 @@ returns-then-run-from-clause-reads c =
     let point = sym c.has_byte.ensures ∙ c.if-not-has_byte.false in
     let pointed = frac_pointed (drop c.args.from s) point in
     let next = drop_one s c.args.from (begins_within 46 s c.args.from point) in
-    pointed.0 ∙ ap begins_digit next ∙ no_first_digit (drop (c.args.from + 1) s) (omega (arith, c.read_digits-run.ensures.stops.count))
+    pointed.0 ∙ ap begins_digit next
+        ∙ no_first_digit (drop (c.args.from + 1) s) (omega (arith, c.read_digits-run.ensures.stops.count))
 
 pub returns-clause-reads : goal.returns-clause-reads
 returns-clause-reads c =
@@ -29,7 +30,8 @@ returns-clause-reads c =
     let next = drop_one s c.args.from (begins_within 46 s c.args.from point) in
     let stops = c.read_digits-run.ensures.stops in
     let digits = pointed.1 ∙ ap digits_front next in (
-      pointed.0 ∙ ap begins_digit next ∙ first_digit_there (drop (c.args.from + 1) s) (omega (arith, stops.count, stops.order)),
+      pointed.0 ∙ ap begins_digit next
+          ∙ first_digit_there (drop (c.args.from + 1) s) (omega (arith, stops.count, stops.order)),
       stops.rest ∙ sym (pointed.2 ∙ ap digits_rest next),
       ap length digits ∙ omega (arith, stops.count),
       λ n t. rw digits (c.read_digits-run.ensures.stands n t),

@@ -5,7 +5,8 @@ use Rattle.cj_decimal.proofs.Parts.{no_whole_digits, digits_then_more, whole_dig
 use Rattle.cj_decimal.proofs.spelling.read_size.Goals as goal
 
 pub returns-then-run-from-clause-reads : goal.returns-then-run-from-clause-reads
-returns-then-run-from-clause-reads c = let stops = c.read_long-run.ensures.stops in no_whole_digits _ (omega (arith, stops.count, stops.order))
+returns-then-run-from-clause-reads c = let stops = c.read_long-run.ensures.stops in
+    no_whole_digits _ (omega (arith, stops.count, stops.order))
 
 pub returns-then-run-spelling-clause-reads : goal.returns-then-run-spelling-clause-reads
 returns-then-run-spelling-clause-reads c =
@@ -20,4 +21,5 @@ returns-clause-reads c =
     let run = c.read_long-run.result in
     let none = sym stops.rest ∙ drop_all s run.stop (omega arith) in
     let whole = whole_digits (drop c.args.from s) (omega (arith, stops.count, stops.order)) none in
-    (whole.0, saturates_size _ _ _ _ run.digits.extra_after_full run.digits.lost_after_full (rw whole.1 at (c.read_long-run.ensures.stands 0 (short_stands 0))))
+    (whole.0, saturates_size _ _ _ _ run.digits.extra_after_full run.digits.lost_after_full
+        (rw whole.1 at (c.read_long-run.ensures.stands 0 (short_stands 0))))

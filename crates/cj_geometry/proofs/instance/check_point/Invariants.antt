@@ -8,4 +8,5 @@ use Rattle.cj_geometry.specs.Rule.{index}
 use Rattle.cj_geometry.proofs.instance.check_point.Given as goal
 
 abbrev pub invariant-loop-item : goal.invariant-loop-item
-invariant-loop-item l = least l.found (flat_map (index VertexIndex l.vertices) (items_left l.item-iterator)) ≡ least l.initial.found (flat_map (index VertexIndex l.vertices) (items_of (tree l.node)))
+invariant-loop-item l = least l.found (flat_map (index VertexIndex l.vertices) (items_left l.item-iterator))
+    ≡ least l.initial.found (flat_map (index VertexIndex l.vertices) (items_of (tree l.node)))

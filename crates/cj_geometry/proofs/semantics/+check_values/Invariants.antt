@@ -10,6 +10,9 @@ decreases-check_values l = l.depth
 
 abbrev pub invariant-loop-item : goal.invariant-loop-item
 invariant-loop-item l = record {
-  found : least l.found (beside (values l.surfaces.count (l.depth - 1)) (items_left l.item-iterator) (left_of l.parts)) ≡ least l.initial.found (beside (values l.surfaces.count (l.depth - 1)) (items_left l.initial.item-iterator) (left_of l.initial.parts));
-  even : l.even && nat_eq (length (items_left l.item-iterator)) (length (left_of l.parts)) ≡ nat_eq (length (items_of (tree l.node))) (length (parts_of (option_map tree l.part)));
+  found : least l.found (beside (values l.surfaces.count (l.depth - 1)) (items_left l.item-iterator) (left_of l.parts))
+      ≡ least l.initial.found (beside (values l.surfaces.count (l.depth - 1)) (items_left l.initial.item-iterator)
+      (left_of l.initial.parts));
+  even : l.even && nat_eq (length (items_left l.item-iterator)) (length (left_of l.parts))
+      ≡ nat_eq (length (items_of (tree l.node))) (length (parts_of (option_map tree l.part)));
 }

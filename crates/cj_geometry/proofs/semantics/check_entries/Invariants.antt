@@ -8,6 +8,8 @@ use Rattle.cj_geometry.proofs.semantics.check_entries.Given as goal
 
 abbrev pub invariant-loop-item : goal.invariant-loop-item
 invariant-loop-item l = record {
-  found : least l.found (flat_map (entry l.surfaces.count) (items_left l.item-iterator)) ≡ least l.initial.found (flat_map (entry l.surfaces.count) (items_of (tree l.node)));
-  even : l.even && nat_eq (length (items_left l.item-iterator)) (length (left_of l.parts)) ≡ nat_eq (length (items_of (tree l.node))) (length (parts_of (option_map tree l.part)));
+  found : least l.found (flat_map (entry l.surfaces.count) (items_left l.item-iterator))
+      ≡ least l.initial.found (flat_map (entry l.surfaces.count) (items_of (tree l.node)));
+  even : l.even && nat_eq (length (items_left l.item-iterator)) (length (left_of l.parts))
+      ≡ nat_eq (length (items_of (tree l.node))) (length (parts_of (option_map tree l.part)));
 }

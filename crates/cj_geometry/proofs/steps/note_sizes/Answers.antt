@@ -14,6 +14,10 @@ loop-item-preserved c =
     let l = c.loop-item in
     let step = c.in-Some.ensures.steps.0 in
     elim c.if-until-eq0.branch [
-      | then-until-eq0 w ↦ on_then (length c.args.sizes.now) c.args.step ts left t rest l.sizes c.if-until-eq0.sizes l.place c.if-until-eq0.place l.until c.if-until-eq0.until l.size c.size-size.result l.invariant step w.if-until-eq0.true w.sizes-is w.place-is w.until-is c.size-size.ensures
-      | else-until-eq0 w ↦ on_else (length c.args.sizes.now) c.args.step ts left t rest l.sizes c.if-until-eq0.sizes l.place c.if-until-eq0.place l.until c.if-until-eq0.until l.size c.size-size.result l.invariant step w.if-until-eq0.false w.sizes-is w.place-is w.until-is c.size-size.ensures
+      | then-until-eq0 w ↦ on_then (length c.args.sizes.now) c.args.step ts left t rest l.sizes c.if-until-eq0.sizes
+          l.place c.if-until-eq0.place l.until c.if-until-eq0.until l.size c.size-size.result l.invariant step
+          w.if-until-eq0.true w.sizes-is w.place-is w.until-is c.size-size.ensures
+      | else-until-eq0 w ↦ on_else (length c.args.sizes.now) c.args.step ts left t rest l.sizes c.if-until-eq0.sizes
+          l.place c.if-until-eq0.place l.until c.if-until-eq0.until l.size c.size-size.result l.invariant step
+          w.if-until-eq0.false w.sizes-is w.place-is w.until-is c.size-size.ensures
     ]

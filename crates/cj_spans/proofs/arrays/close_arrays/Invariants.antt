@@ -10,7 +10,8 @@ use Rattle.cj_spans.proofs.arrays.close_arrays.Given as goal
 abbrev pub invariant-loop-place : goal.invariant-loop-place
 invariant-loop-place l = record {
   stands : Stands l.line l.tokens l.stack After l.place;
-  answer : (ts : BoundedList Token) (ks : BoundedList ℕ) → Standing l.line ts ks l.fn.tokens l.fn.stack After l.fn.from → Standing l.line ts ks l.tokens l.stack After l.place;
+  answer : (ts : BoundedList Token) (ks : BoundedList ℕ) → Standing l.line ts ks l.fn.tokens l.fn.stack After l.fn.from
+      → Standing l.line ts ks l.tokens l.stack After l.place;
   array : InArray l.stack.elements l.tokens.elements;
   within : l.place < length l.line;
   bracket : byte l.line l.place ≡ 93;

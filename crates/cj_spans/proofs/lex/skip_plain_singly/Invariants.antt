@@ -5,7 +5,9 @@ use Rattle.cj_spans.specs.Machine.{Continues}
 use Rattle.cj_spans.proofs.lex.skip_plain_singly.Given as goal
 
 abbrev pub invariant-loop-stop : goal.invariant-loop-stop
-invariant-loop-stop l = ((i : ℕ) (x : Lex) → Continues l.line i x l.place InString → Continues l.line i x l.stop InString) × (l.place ≤ l.stop) × (l.stop ≤ length l.line)
+invariant-loop-stop l =
+    ((i : ℕ) (x : Lex) → Continues l.line i x l.place InString → Continues l.line i x l.stop InString)
+    × (l.place ≤ l.stop) × (l.stop ≤ length l.line)
 
 abbrev pub decreases-loop-stop : goal.decreases-loop-stop
 decreases-loop-stop l = length l.line - l.stop

@@ -5,21 +5,27 @@ use Rattle.cj_spans.proofs.Marking.{with_mark, marked_here, marked_elsewhere, ke
 use Rattle.cj_spans.proofs.mark.set_mark.Goals as goal
 
 -- the elements afterwards
-become : (c : goal.After-set) → c.set.new.self.elements ≡ slice_set c.args.tokens.now.elements c.args.number (with_mark c.token_at-token.result)
-become c = ap (λ b. b.elements) c.set.ensures.set ∙ ap (slice_set c.args.tokens.now.elements c.args.number) c.with_mark.ensures
+become : (c : goal.After-set)
+    → c.set.new.self.elements ≡ slice_set c.args.tokens.now.elements c.args.number (with_mark c.token_at-token.result)
+become c = ap (λ b. b.elements) c.set.ensures.set
+    ∙ ap (slice_set c.args.tokens.now.elements c.args.number) c.with_mark.ensures
 
 pub returns-clause-marked : goal.returns-clause-marked
-returns-clause-marked c = ap (λ ts. is_marked_at ts c.args.number) (become c) ∙ marked_here c.args.tokens.now.elements c.args.number c.token_at-token.result c.requires
+returns-clause-marked c = ap (λ ts. is_marked_at ts c.args.number) (become c)
+    ∙ marked_here c.args.tokens.now.elements c.args.number c.token_at-token.result c.requires
 
 pub returns-clause-others : goal.returns-clause-others
 returns-clause-others c = λ k h.
-    ap (λ ts. is_marked_at ts k) (become c) ∙ marked_elsewhere c.args.tokens.now.elements c.args.number k (with_mark c.token_at-token.result) h
+    ap (λ ts. is_marked_at ts k) (become c)
+        ∙ marked_elsewhere c.args.tokens.now.elements c.args.number k (with_mark c.token_at-token.result) h
 
 pub returns-clause-kept : goal.returns-clause-kept
 returns-clause-kept c =
     let old = c.args.tokens.now in
     let new = c.set.new.self in
     let t = c.token_at-token.result in
-    let found : slice_get old.elements c.args.number ≡ Some t = ap (λ ts. slice_get ts c.args.number) (sym c.as_slice.ensures.value) ∙ c.token_at-token.ensures in
-    let list : new ≡ record old { elements = new.elements } = c.set.ensures.set ∙ ap (λ ts. record old { elements = ts }) (sym (ap (λ b. b.elements) c.set.ensures.set)) in
+    let found : slice_get old.elements c.args.number ≡ Some t =
+        ap (λ ts. slice_get ts c.args.number) (sym c.as_slice.ensures.value) ∙ c.token_at-token.ensures in
+    let list : new ≡ record old { elements = new.elements } = c.set.ensures.set
+        ∙ ap (λ ts. record old { elements = ts }) (sym (ap (λ b. b.elements) c.set.ensures.set)) in
     keeps old new c.args.number t found (become c) list c.set.ensures.within

@@ -10,7 +10,8 @@ returns-in_default c =
     let n = c.pass_name-named in
     let order = l.invariant.order in let more = n.ensures.order in
     record {
-      leads = leads_on c.args.line.now c.args.tokens.now l.tokens n.new.tokens c.args.from.mode l.next.mode n.result.mode c.args.from.place l.next.place n.result.place l.invariant.leads n.ensures.leads;
+      leads = leads_on c.args.line.now c.args.tokens.now l.tokens n.new.tokens c.args.from.mode l.next.mode
+          n.result.mode c.args.from.place l.next.place n.result.place l.invariant.leads n.ensures.leads;
       order = omega arith;
     }
 
@@ -20,7 +21,8 @@ pass_value-next-requires c =
     let n = c.pass_name-named in
     record {
       stands = subst (λ m. StandsInObject c.args.line.now n.new.tokens m n.result.place) c.in-Ready.is
-          (stands_leads c.args.line.now l.tokens n.new.tokens l.next.mode n.result.mode l.next.place n.result.place l.invariant.stands n.ensures.leads);
+          (stands_leads c.args.line.now l.tokens n.new.tokens l.next.mode n.result.mode l.next.place n.result.place
+              l.invariant.stands n.ensures.leads);
     }
 
 pub loop-next-preserved : goal.loop-next-preserved
@@ -29,10 +31,15 @@ loop-next-preserved c =
     let n = c.pass_name-named in
     let s = c.pass_value-next in
     let order = l.invariant.order in let more = n.ensures.order in let most = s.ensures.order in
-    let named = subst (λ m. Leads c.args.line.now l.tokens l.next.mode l.next.place n.new.tokens m n.result.place) c.in-Ready.is n.ensures.leads in
-    let go = leads_on c.args.line.now l.tokens n.new.tokens s.new.tokens l.next.mode Ready s.result.mode l.next.place n.result.place s.result.place named s.ensures.leads in
+    let named =
+        subst (λ m. Leads c.args.line.now l.tokens l.next.mode l.next.place n.new.tokens m n.result.place) c.in-Ready.is
+            n.ensures.leads in
+    let go = leads_on c.args.line.now l.tokens n.new.tokens s.new.tokens l.next.mode Ready s.result.mode l.next.place
+        n.result.place s.result.place named s.ensures.leads in
     record {
-      stands = stands_leads c.args.line.now l.tokens s.new.tokens l.next.mode s.result.mode l.next.place s.result.place l.invariant.stands go;
-      leads = leads_on c.args.line.now c.args.tokens.now l.tokens s.new.tokens c.args.from.mode l.next.mode s.result.mode c.args.from.place l.next.place s.result.place l.invariant.leads go;
+      stands = stands_leads c.args.line.now l.tokens s.new.tokens l.next.mode s.result.mode l.next.place s.result.place
+          l.invariant.stands go;
+      leads = leads_on c.args.line.now c.args.tokens.now l.tokens s.new.tokens c.args.from.mode l.next.mode
+          s.result.mode c.args.from.place l.next.place s.result.place l.invariant.leads go;
       order = omega arith;
     }

@@ -4,7 +4,8 @@ use Rattle.cj_spans.proofs.next.first_from.Goals as goal
 
 pub returns-then-token_at-stop-clause-first : goal.returns-then-token_at-stop-clause-first
 returns-then-token_at-stop-clause-first c =
-    let e = before_stopped c.args.tokens.now c.args.stop c.loop-next.next c.token_at.result c.token_at.ensures c.if-token_at-stop.true in
+    let e = before_stopped c.args.tokens.now c.args.stop c.loop-next.next c.token_at.result c.token_at.ensures
+        c.if-token_at-stop.true in
     let h = c.loop-next.invariant.0 in
     omega arith
 
@@ -17,6 +18,7 @@ returns-clause-first c =
 pub loop-next-preserved : goal.loop-next-preserved
 loop-next-preserved c =
     let h = c.loop-next-test.true in (
-      before_walked c.args.tokens.now c.args.stop _ c.loop-next.next c.token_at.result c.token_at.ensures c.if-token_at-stop.false c.loop-next.invariant.0,
+      before_walked c.args.tokens.now c.args.stop _ c.loop-next.next c.token_at.result c.token_at.ensures
+          c.if-token_at-stop.false c.loop-next.invariant.0,
       omega arith,
     )

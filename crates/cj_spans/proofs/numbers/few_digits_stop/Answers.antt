@@ -8,7 +8,8 @@ use Rattle.cj_spans.proofs.numbers.few_digits_stop.Goals as goal
 pub returns-then-line-place-eq48 : goal.returns-then-line-place-eq48
 returns-then-line-place-eq48 c =
     let room = c.requires.room in
-    (number_is c.args.line.now c.args.place (c.args.place + 1) c.requires.digit (λ e. refl) (λ i x r. r) (omega arith) (omega arith)).1
+    (number_is c.args.line.now c.args.place (c.args.place + 1) c.requires.digit (λ e. refl) (λ i x r. r) (omega arith)
+        (omega arith)).1
 
 pub returns : goal.returns
 returns c =
@@ -17,4 +18,5 @@ returns c =
     let f = c.in_ok-stop.ensures.found in
     let order = f.0 in let end = f.1 in
     (number_is c.args.line.now c.args.place k c.requires.digit (λ e. absurd (c.if-line-place-eq48.false e))
-    (λ i x r. read_to c.args.line.now i (c.args.place + 1) k x Whole f.0 (λ j low high. whole_stays (byte c.args.line.now j) (f.2 j low high)) r) (omega arith) (omega arith)).1
+    (λ i x r. read_to c.args.line.now i (c.args.place + 1) k x Whole f.0
+        (λ j low high. whole_stays (byte c.args.line.now j) (f.2 j low high)) r) (omega arith) (omega arith)).1

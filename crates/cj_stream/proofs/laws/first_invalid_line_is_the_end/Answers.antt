@@ -9,4 +9,5 @@ pub returns-clause-peaks : goal.returns-clause-peaks
 returns-clause-peaks c = λ rules r peaks off done exact. usual-exact rules r peaks off done exact
 
 pub returns-clause-unreported_first : goal.returns-clause-unreported_first
-returns-clause-unreported_first c = λ rules r n off good_first. first-silent rules n r (never-reported rules r off) good_first
+returns-clause-unreported_first c =
+    λ rules r n off good_first. first-silent rules n r (never-reported rules r off) good_first

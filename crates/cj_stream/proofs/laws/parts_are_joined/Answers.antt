@@ -27,4 +27,5 @@ pub returns-clause-peaks : goal.returns-clause-peaks
 returns-clause-peaks c = λ limits h a b cut. exact-parts limits h a b cut
 
 pub returns-clause-tally : goal.returns-clause-tally
-returns-clause-tally c = λ rules h a b first second both cut done x y joins. tally-parts rules h a b cut done first second both x y joins
+returns-clause-tally c = λ rules h a b first second both cut done x y joins.
+    tally-parts rules h a b cut done first second both x y joins

@@ -13,10 +13,14 @@ pub returns-clause-good : goal.returns-clause-good
 returns-clause-good c = λ rules h a b cut refused. (refused-stays rules h a cut b refused).1
 
 pub returns-clause-kept : goal.returns-clause-kept
-returns-clause-kept c = λ rules h a b cut refused. ap (λ z. kept_from rules [] z) (refused-stays rules h a cut b refused).1
+returns-clause-kept c =
+    λ rules h a b cut refused. ap (λ z. kept_from rules [] z) (refused-stays rules h a cut b refused).1
 
 pub returns-clause-output : goal.returns-clause-output
-returns-clause-output c = λ rules h a b cut refused. ap (λ z. flat_map raw_item (kept_from rules [] z)) (refused-stays rules h a cut b refused).1
+returns-clause-output c =
+    λ rules h a b cut refused. ap (λ z. flat_map raw_item (kept_from rules [] z))
+        (refused-stays rules h a cut b refused).1
 
 pub returns-clause-reported : goal.returns-clause-reported
-returns-clause-reported c = λ rules h a b cut refused. ap (λ z. reported_from rules [] z) (refused-stays rules h a cut b refused).1
+returns-clause-reported c =
+    λ rules h a b cut refused. ap (λ z. reported_from rules [] z) (refused-stays rules h a cut b refused).1

@@ -14,7 +14,8 @@ returns-clause-headline g c =
     c.put_pieces.new.sink r.ended c.put_pieces.ensures.puts in
     record {
       writes = Copies-writes rules pieces r.taken _ _ r.ended e;
-      gives = NotesPieces-gives g.N.ReportSink.notes rules pieces r.taken c.args.reports.now c.put_pieces.new.reports r.ended c.put_pieces.ensures.notes;
+      gives = NotesPieces-gives g.N.ReportSink.notes rules pieces r.taken c.args.reports.now c.put_pieces.new.reports
+          r.ended c.put_pieces.ensures.notes;
       ends = Copies-ends rules pieces r.taken _ _ r.ended e;
       cause = c.put_pieces.ensures.cause;
       held = c.put_pieces.ensures.fed.bounded;

@@ -2,4 +2,6 @@ use Rattle.cj_stream.proofs.QueryRowLemmas.{ids, types, lods, instance, within, 
 use Rattle.cj_stream.proofs.row_laws.queries_compute.Goals as goal
 
 pub returns : goal.returns
-returns c = record { ids = ids; types = types; lods = lods; instance = instance; in_box = within; out_of_box = outside; each = each }
+returns c =
+    record { ids = ids; types = types; lods = lods; instance = instance; in_box = within; out_of_box = outside;
+        each = each }

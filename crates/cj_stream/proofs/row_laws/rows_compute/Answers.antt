@@ -9,7 +9,8 @@ use Rattle.cj_stream.proofs.RowLemmas.{whole, blank, order, bad, long, euro, cut
 use Rattle.cj_stream.proofs.row_laws.rows_compute.Goals as goal
 
 pub returns : goal.returns
-unfolding verdict_at is_utf8 chars encode utf8_valid_len judgement over by_step by_depth sinks at_end by_end text_of no_end ends_at text code_points_after first_code_point first_width
+unfolding verdict_at is_utf8 chars encode utf8_valid_len judgement over by_step by_depth sinks at_end by_end text_of
+    no_end ends_at text code_points_after first_code_point first_width
 returns c = record {
   empty = ((refl, refl), (refl, refl));
   whole = whole;

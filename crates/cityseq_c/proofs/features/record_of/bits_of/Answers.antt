@@ -10,7 +10,8 @@ pub loop-count-init : goal.loop-count-init
 loop-count-init c = (refl, sym (bits-none _), omega arith)
 
 pub overflow_mul-bit : goal.overflow_mul-bit
-overflow_mul-bit c = omega (arith, c.loop-count.invariant.0, pow_mono {i = c.loop-count.count-index} {j = 62} (omega arith))
+overflow_mul-bit c =
+    omega (arith, c.loop-count.invariant.0, pow_mono {i = c.loop-count.count-index} {j = 62} (omega arith))
 
 pub loop-count-preserved : goal.loop-count-preserved
 loop-count-preserved c =
@@ -18,6 +19,8 @@ loop-count-preserved c =
     let p : ℕ → Bool = λ n. nat_lt 0 (get_or c.args.counts.now n 0) in
     let index = c.loop-count.count-index in
     elim c.if-count-gt0.branch [
-      | then-count-gt0 w ↦ bits-step p index c.loop-count.bit c.loop-count.bits c.if-count-gt0.bits true (grind (arith, nat_tests, w.if-count-gt0.true)) i.0 i.1 i.2 w.bits-is
-      | else-count-gt0 w ↦ bits-step p index c.loop-count.bit c.loop-count.bits c.if-count-gt0.bits false (grind (arith, nat_tests, w.if-count-gt0.false)) i.0 i.1 i.2 w.bits-is
+      | then-count-gt0 w ↦ bits-step p index c.loop-count.bit c.loop-count.bits c.if-count-gt0.bits true
+          (grind (arith, nat_tests, w.if-count-gt0.true)) i.0 i.1 i.2 w.bits-is
+      | else-count-gt0 w ↦ bits-step p index c.loop-count.bit c.loop-count.bits c.if-count-gt0.bits false
+          (grind (arith, nat_tests, w.if-count-gt0.false)) i.0 i.1 i.2 w.bits-is
     ]

@@ -8,7 +8,8 @@ use Rattle.cityseq_c.proofs.features.record_of.tally_objects.Goals as goal
 
 pub loop-object-init : goal.loop-object-init
 loop-object-init c =
-    let all = ap objects_left c.into_iter-object-iterator.ensures.into_iter_gives ∙ c.objects-object-items.ensures.objects in
+    let all = ap objects_left c.into_iter-object-iterator.ensures.into_iter_gives
+        ∙ c.objects-object-items.ensures.objects in
     let long = ap length all in
     record {
       few = omega arith;
@@ -27,7 +28,8 @@ loop-object-preserved c =
     record {
       few = c.saturating_add-count.type_inv;
       counted = omega (arith, long, before.few, before.counted, c.saturating_add-count.ensures);
-      marked = Marking-step 33 _ c.loop-object.types c.number.result _ _ _ c.number.ensures.below (omega arith) first refl before.marked;
+      marked = Marking-step 33 _ c.loop-object.types c.number.result _ _ _ c.number.ensures.below (omega arith) first
+          refl before.marked;
     }
 
 pub returns-clause-count : goal.returns-clause-count

@@ -10,6 +10,8 @@ use Rattle.cityseq_c.proofs.features.record_of.tally_objects.Given as goal
 abbrev pub invariant-loop-object : goal.invariant-loop-object
 invariant-loop-object l = record {
   few : l.count < 2 ^ 64;
-  counted : capped (l.count + length (objects_left l.object-iterator)) ≡ capped (length (objects_of (feature_tree l.feature)));
-  marked : Marking 33 (type_numbers (feature_tree l.feature)) l.types (map (λ m. row_number (type_row m.1)) (objects_left l.object-iterator));
+  counted : capped (l.count + length (objects_left l.object-iterator))
+      ≡ capped (length (objects_of (feature_tree l.feature)));
+  marked : Marking 33 (type_numbers (feature_tree l.feature)) l.types
+      (map (λ m. row_number (type_row m.1)) (objects_left l.object-iterator));
 }

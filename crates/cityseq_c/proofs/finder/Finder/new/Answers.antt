@@ -7,4 +7,5 @@ pub invariant_of-result-clause-behind : goal.invariant_of-result-clause-behind
 invariant_of-result-clause-behind c = behind c.args.header.now c.args.part.now c.requires
 
 pub invariant_of-result-clause-along : goal.invariant_of-result-clause-along
-invariant_of-result-clause-along c = subst (λ p. IsAlong c.args.part.now p) (sym c.new.ensures.place) (along-new c.args.part.now)
+invariant_of-result-clause-along c =
+    subst (λ p. IsAlong c.args.part.now p) (sym c.new.ensures.place) (along-new c.args.part.now)

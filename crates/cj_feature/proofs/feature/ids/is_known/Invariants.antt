@@ -5,4 +5,5 @@ use Rattle.cj_feature.specs.Links.{is_known}
 use Rattle.cj_feature.proofs.feature.ids.is_known.Given as goal
 
 abbrev pub invariant-loop-name : goal.invariant-loop-name
-invariant-loop-name l = is_known (members_left l.name-iterator) (tree l.id) ≡ is_known (members_of (tree l.objects)) (tree l.id)
+invariant-loop-name l = is_known (members_left l.name-iterator) (tree l.id) ≡ is_known (members_of (tree l.objects))
+    (tree l.id)

@@ -5,4 +5,6 @@ use Rattle.cj_feature.specs.Links.{object_links}
 use Rattle.cj_feature.proofs.feature.links.check_few_links.Goals as goal
 
 pub loop-name-preserved : goal.loop-name-preserved
-loop-name-preserved c = least_on (object_links (members_of (tree c.args.objects))) _ _ _ _ _ _ c.loop-name.invariant c.in-Some.ensures.steps.0 c.check_object_links.ensures
+loop-name-preserved c =
+    least_on (object_links (members_of (tree c.args.objects))) _ _ _ _ _ _ c.loop-name.invariant
+        c.in-Some.ensures.steps.0 c.check_object_links.ensures

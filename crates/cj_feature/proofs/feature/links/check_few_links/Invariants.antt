@@ -7,4 +7,6 @@ use Rattle.cj_feature.specs.Links.{object_links}
 use Rattle.cj_feature.proofs.feature.links.check_few_links.Given as goal
 
 abbrev pub invariant-loop-name : goal.invariant-loop-name
-invariant-loop-name l = least l.found (flat_map (object_links (members_of (tree l.objects))) (members_left l.name-iterator)) ≡ least l.initial.found (flat_map (object_links (members_of (tree l.objects))) (members_of (tree l.objects)))
+invariant-loop-name l =
+    least l.found (flat_map (object_links (members_of (tree l.objects))) (members_left l.name-iterator))
+    ≡ least l.initial.found (flat_map (object_links (members_of (tree l.objects))) (members_of (tree l.objects)))

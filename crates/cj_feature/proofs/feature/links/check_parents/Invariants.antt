@@ -7,4 +7,7 @@ use Rattle.cj_feature.specs.Links.{parent}
 use Rattle.cj_feature.proofs.feature.links.check_parents.Given as goal
 
 abbrev pub invariant-loop-item : goal.invariant-loop-item
-invariant-loop-item l = least l.found (flat_map (parent (members_of (tree l.objects)) (tree l.name)) (items_left l.item-iterator)) ≡ least l.initial.found (flat_map (parent (members_of (tree l.objects)) (tree l.name)) (items_left l.initial.item-iterator))
+invariant-loop-item l =
+    least l.found (flat_map (parent (members_of (tree l.objects)) (tree l.name)) (items_left l.item-iterator))
+    ≡ least l.initial.found (flat_map (parent (members_of (tree l.objects)) (tree l.name))
+        (items_left l.initial.item-iterator))

@@ -8,4 +8,5 @@ use Rattle.cj_geometry.specs.Geometry.{geometry}
 use Rattle.cj_feature.proofs.feature.objects.check_geometries.Given as goal
 
 abbrev pub invariant-loop-item : goal.invariant-loop-item
-invariant-loop-item l = least l.found (flat_map (geometry l.vertices (given l.templates)) (items_left l.item-iterator)) ≡ least l.initial.found (flat_map (geometry l.vertices (given l.templates)) (items_of (tree l.node)))
+invariant-loop-item l = least l.found (flat_map (geometry l.vertices (given l.templates)) (items_left l.item-iterator))
+    ≡ least l.initial.found (flat_map (geometry l.vertices (given l.templates)) (items_of (tree l.node)))

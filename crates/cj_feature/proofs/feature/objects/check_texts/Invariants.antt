@@ -8,4 +8,5 @@ use Rattle.cj_geometry.specs.Rule.{of_kind, nothing}
 use Rattle.cj_feature.proofs.feature.objects.check_texts.Given as goal
 
 abbrev pub invariant-loop-item : goal.invariant-loop-item
-invariant-loop-item l = least l.found (flat_map (of_kind is_text nothing) (items_left l.item-iterator)) ≡ least l.initial.found (flat_map (of_kind is_text nothing) (items_of (tree l.node)))
+invariant-loop-item l = least l.found (flat_map (of_kind is_text nothing) (items_left l.item-iterator))
+    ≡ least l.initial.found (flat_map (of_kind is_text nothing) (items_of (tree l.node)))

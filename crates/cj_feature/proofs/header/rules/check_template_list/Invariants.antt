@@ -7,4 +7,5 @@ use Rattle.cj_geometry.specs.Geometry.{geometry, itself}
 use Rattle.cj_feature.proofs.header.rules.check_template_list.Given as goal
 
 abbrev pub invariant-loop-item : goal.invariant-loop-item
-invariant-loop-item l = least l.found (flat_map (geometry l.vertices itself) (items_left l.item-iterator)) ≡ least l.initial.found (flat_map (geometry l.vertices itself) (items_of (tree l.node)))
+invariant-loop-item l = least l.found (flat_map (geometry l.vertices itself) (items_left l.item-iterator))
+    ≡ least l.initial.found (flat_map (geometry l.vertices itself) (items_of (tree l.node)))

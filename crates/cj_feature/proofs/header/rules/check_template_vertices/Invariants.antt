@@ -8,4 +8,5 @@ use Rattle.cj_geometry.specs.Rule.{number, of_length}
 use Rattle.cj_feature.proofs.header.rules.check_template_vertices.Given as goal
 
 abbrev pub invariant-loop-item : goal.invariant-loop-item
-invariant-loop-item l = least l.found (flat_map (of_length NotThree 3 number) (items_left l.item-iterator)) ≡ least l.initial.found (flat_map (of_length NotThree 3 number) (items_of (tree l.node)))
+invariant-loop-item l = least l.found (flat_map (of_length NotThree 3 number) (items_left l.item-iterator))
+    ≡ least l.initial.found (flat_map (of_length NotThree 3 number) (items_of (tree l.node)))

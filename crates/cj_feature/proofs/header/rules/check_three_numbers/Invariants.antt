@@ -7,4 +7,5 @@ use Rattle.cj_geometry.specs.Rule.{number}
 use Rattle.cj_feature.proofs.header.rules.check_three_numbers.Given as goal
 
 abbrev pub invariant-loop-item : goal.invariant-loop-item
-invariant-loop-item l = least l.found (flat_map number (items_left l.item-iterator)) ≡ least l.initial.found (flat_map number (items_of (tree l.node)))
+invariant-loop-item l = least l.found (flat_map number (items_left l.item-iterator))
+    ≡ least l.initial.found (flat_map number (items_of (tree l.node)))

@@ -45,7 +45,8 @@ returns-in-Road-clause-only c t h = rw c.in-Road.is (of-name-type Road t h)
 
 pub returns-in-SolitaryVegetationObject-clause-only : goal.returns-in-SolitaryVegetationObject-clause-only
 unfolding object_types
-returns-in-SolitaryVegetationObject-clause-only c t h = rw c.in-SolitaryVegetationObject.is (of-name-type SolitaryVegetationObject t h)
+returns-in-SolitaryVegetationObject-clause-only c t h =
+    rw c.in-SolitaryVegetationObject.is (of-name-type SolitaryVegetationObject t h)
 
 pub returns-in-TINRelief-clause-only : goal.returns-in-TINRelief-clause-only
 unfolding object_types
@@ -69,7 +70,8 @@ returns-in-Waterway-clause-only c t h = rw c.in-Waterway.is (of-name-type Waterw
 
 pub returns-in-BridgeConstructiveElement-clause-only : goal.returns-in-BridgeConstructiveElement-clause-only
 unfolding object_types
-returns-in-BridgeConstructiveElement-clause-only c t h = rw c.in-BridgeConstructiveElement.is (of-name-type BridgeConstructiveElement t h)
+returns-in-BridgeConstructiveElement-clause-only c t h =
+    rw c.in-BridgeConstructiveElement.is (of-name-type BridgeConstructiveElement t h)
 
 pub returns-in-BridgeFurniture-clause-only : goal.returns-in-BridgeFurniture-clause-only
 unfolding object_types
@@ -89,7 +91,8 @@ returns-in-BridgeRoom-clause-only c t h = rw c.in-BridgeRoom.is (of-name-type Br
 
 pub returns-in-BuildingConstructiveElement-clause-only : goal.returns-in-BuildingConstructiveElement-clause-only
 unfolding object_types
-returns-in-BuildingConstructiveElement-clause-only c t h = rw c.in-BuildingConstructiveElement.is (of-name-type BuildingConstructiveElement t h)
+returns-in-BuildingConstructiveElement-clause-only c t h =
+    rw c.in-BuildingConstructiveElement.is (of-name-type BuildingConstructiveElement t h)
 
 pub returns-in-BuildingFurniture-clause-only : goal.returns-in-BuildingFurniture-clause-only
 unfolding object_types
@@ -97,7 +100,8 @@ returns-in-BuildingFurniture-clause-only c t h = rw c.in-BuildingFurniture.is (o
 
 pub returns-in-BuildingInstallation-clause-only : goal.returns-in-BuildingInstallation-clause-only
 unfolding object_types
-returns-in-BuildingInstallation-clause-only c t h = rw c.in-BuildingInstallation.is (of-name-type BuildingInstallation t h)
+returns-in-BuildingInstallation-clause-only c t h =
+    rw c.in-BuildingInstallation.is (of-name-type BuildingInstallation t h)
 
 pub returns-in-BuildingPart-clause-only : goal.returns-in-BuildingPart-clause-only
 unfolding object_types
@@ -117,7 +121,8 @@ returns-in-BuildingUnit-clause-only c t h = rw c.in-BuildingUnit.is (of-name-typ
 
 pub returns-in-TunnelConstructiveElement-clause-only : goal.returns-in-TunnelConstructiveElement-clause-only
 unfolding object_types
-returns-in-TunnelConstructiveElement-clause-only c t h = rw c.in-TunnelConstructiveElement.is (of-name-type TunnelConstructiveElement t h)
+returns-in-TunnelConstructiveElement-clause-only c t h =
+    rw c.in-TunnelConstructiveElement.is (of-name-type TunnelConstructiveElement t h)
 
 pub returns-in-TunnelFurniture-clause-only : goal.returns-in-TunnelFurniture-clause-only
 unfolding object_types

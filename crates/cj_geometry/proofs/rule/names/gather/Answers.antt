@@ -12,14 +12,16 @@ loop-node-init c =
     let s = source_of c.args.object in
     let ms = members_of (tree c.args.object) in
     let walk = c.into_iter-node-iterator.ensures.into_iter_gives in
-    let all : members_left c.into_iter-node-iterator.result ≡ ms = ap members_left walk ∙ c.members-node-items.ensures.members in
+    let all : members_left c.into_iter-node-iterator.result ≡ ms = ap members_left walk
+        ∙ c.members-node-items.ensures.members in
     record {
       some = c.requires.some;
       fewer = c.requires.fewer;
       count = omega arith;
       more = λ h. cc;
       source = ap members_source walk ∙ c.members-node-items.ensures.source;
-      gathered = subst (λ xs. HasGathered s (names_of ms) (names_of xs) (limit_in s c.args.floor) None []) (sym all) (gathered_first s (names_of ms) (limit_in s c.args.floor));
+      gathered = subst (λ xs. HasGathered s (names_of ms) (names_of xs) (limit_in s c.args.floor) None []) (sym all)
+          (gathered_first s (names_of ms) (limit_in s c.args.floor));
     }
 
 pub loop-node-preserved-then-has_place : goal.loop-node-preserved-then-has_place
@@ -39,10 +41,14 @@ loop-node-preserved-then-has_place c =
       count = r.count.1;
       more = λ h. r.count.0;
       source = y.3 ∙ i.source;
-      gathered = gathered_more s names (names_of (members_left c.next.new.self)) (limit_in s c.args.floor) c.loop-node.held.ceiling c.put-held.result.ceiling name (tree c.in-Some.node) (take c.loop-node.held.count c.loop-node.room) _
-          (subst (λ x. name_in x name ≡ tree c.in-Some.node) e c.of-name.ensures.name) (subst (λ x. IsWorded x name) e c.of-name.ensures.word)
+      gathered = gathered_more s names (names_of (members_left c.next.new.self)) (limit_in s c.args.floor)
+          c.loop-node.held.ceiling c.put-held.result.ceiling name (tree c.in-Some.node)
+          (take c.loop-node.held.count c.loop-node.room) _
+          (subst (λ x. name_in x name ≡ tree c.in-Some.node) e c.of-name.ensures.name)
+              (subst (λ x. IsWorded x name) e c.of-name.ensures.word)
           (sym c.is_left.ensures ∙ c.if-is_left.true) (sym c.has_place.ensures ∙ c.if-has_place.true) r.taken
-          (subst (λ xs. HasGathered s names (names_of xs) (limit_in s c.args.floor) c.loop-node.held.ceiling (take c.loop-node.held.count c.loop-node.room)) y.0 i.gathered);
+          (subst (λ xs. HasGathered s names (names_of xs) (limit_in s c.args.floor) c.loop-node.held.ceiling
+                  (take c.loop-node.held.count c.loop-node.room)) y.0 i.gathered);
     }
 
 pub loop-node-preserved : goal.loop-node-preserved
@@ -57,8 +63,11 @@ loop-node-preserved c =
     let name = c.of-name.result in
     let unwanted : is_above floor (name_in s name) && is_below (limit_in s ceiling) (name_in s name) ≡ false =
     elim c.else-is_left.branch [
-      | else-is_left-via-then-is_left+else-has_place w ↦ both_or (is_above floor (name_in s name)) (is_below (limit_in s ceiling) (name_in s name)) (sym w.has_place.ensures ∙ w.if-has_place.false)
-      | else-is_left-via-else-is_left w ↦ ap (λ v. v && is_below (limit_in s ceiling) (name_in s name)) (sym c.is_left.ensures ∙ w.if-is_left.false)
+      | else-is_left-via-then-is_left+else-has_place w ↦
+          both_or (is_above floor (name_in s name)) (is_below (limit_in s ceiling) (name_in s name))
+          (sym w.has_place.ensures ∙ w.if-has_place.false)
+      | else-is_left-via-else-is_left w ↦
+          ap (λ v. v && is_below (limit_in s ceiling) (name_in s name)) (sym c.is_left.ensures ∙ w.if-is_left.false)
     ] in
     record {
       some = i.some;
@@ -66,9 +75,11 @@ loop-node-preserved c =
       count = i.count;
       more = i.more;
       source = y.3 ∙ i.source;
-      gathered = gathered_passed s names (names_of (members_left c.next.new.self)) floor ceiling name (tree c.in-Some.node) (take c.loop-node.held.count c.loop-node.room)
+      gathered = gathered_passed s names (names_of (members_left c.next.new.self)) floor ceiling name
+          (tree c.in-Some.node) (take c.loop-node.held.count c.loop-node.room)
           (subst (λ x. name_in x name ≡ tree c.in-Some.node) e c.of-name.ensures.name) unwanted
-          (subst (λ xs. HasGathered s names (names_of xs) floor ceiling (take c.loop-node.held.count c.loop-node.room)) y.0 i.gathered);
+          (subst (λ xs. HasGathered s names (names_of xs) floor ceiling (take c.loop-node.held.count c.loop-node.room))
+              y.0 i.gathered);
     }
   where
     both_or : (a b : Bool) → b ≡ false → a && b ≡ false

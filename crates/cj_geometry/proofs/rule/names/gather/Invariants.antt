@@ -14,5 +14,7 @@ invariant-loop-node l = record {
   count : l.held.count < length l.room;
   more : IsSome l.held.ceiling → 0 < l.held.count;
   source : members_source l.node-iterator ≡ source_of l.object;
-  gathered : HasGathered (source_of l.object) (names_of (members_of (tree l.object))) (names_of (members_left l.node-iterator)) (limit_in (source_of l.object) l.fn.floor) l.held.ceiling (take l.held.count l.room);
+  gathered : HasGathered (source_of l.object) (names_of (members_of (tree l.object)))
+      (names_of (members_left l.node-iterator)) (limit_in (source_of l.object) l.fn.floor) l.held.ceiling
+      (take l.held.count l.room);
 }

@@ -16,12 +16,18 @@ loop-key-preserved c =
     let of_line = y.4.1 ∙ i.source in
     record {
       source = y.3 ∙ i.source;
-      first = first-on (chars c.args.a.now) c.loop-key.kept.first c.keep_three.new.kept.first key value left rest _ i.first y.0 c.keep_three.ensures.first;
-      second = first-on (chars c.args.b.now) c.loop-key.kept.second c.keep_three.new.kept.second key value left rest _ i.second y.0 c.keep_three.ensures.second;
-      third = first-on (chars c.args.c.now) c.loop-key.kept.third c.keep_three.new.kept.third key value left rest _ i.third y.0 c.keep_three.ensures.third;
+      first = first-on (chars c.args.a.now) c.loop-key.kept.first c.keep_three.new.kept.first key value left rest _
+          i.first y.0 c.keep_three.ensures.first;
+      second = first-on (chars c.args.b.now) c.loop-key.kept.second c.keep_three.new.kept.second key value left rest _
+          i.second y.0 c.keep_three.ensures.second;
+      third = first-on (chars c.args.c.now) c.loop-key.kept.third c.keep_three.new.kept.third key value left rest _
+          i.third y.0 c.keep_three.ensures.third;
       sources = (
-        first-source (chars c.args.a.now) c.loop-key.kept.first c.keep_three.new.kept.first key value whole i.sources.0 of_line c.keep_three.ensures.first,
-        first-source (chars c.args.b.now) c.loop-key.kept.second c.keep_three.new.kept.second key value whole i.sources.1 of_line c.keep_three.ensures.second,
-        first-source (chars c.args.c.now) c.loop-key.kept.third c.keep_three.new.kept.third key value whole i.sources.2 of_line c.keep_three.ensures.third,
+        first-source (chars c.args.a.now) c.loop-key.kept.first c.keep_three.new.kept.first key value whole i.sources.0
+            of_line c.keep_three.ensures.first,
+        first-source (chars c.args.b.now) c.loop-key.kept.second c.keep_three.new.kept.second key value whole
+            i.sources.1 of_line c.keep_three.ensures.second,
+        first-source (chars c.args.c.now) c.loop-key.kept.third c.keep_three.new.kept.third key value whole i.sources.2
+            of_line c.keep_three.ensures.third,
       );
     }

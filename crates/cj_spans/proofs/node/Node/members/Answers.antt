@@ -9,22 +9,30 @@ pub invariant_of-result : goal.invariant_of-result
 unfolding tree
 invariant_of-result c =
     let n = c.args.self in
-    let w = members_from_link n.source.line.now n.source.tokens.now n.index c.after.result c.members_end-stop.result c.kind.result n.source.nested n.source.linked n.source.named n.known c.after.ensures.link c.kind.ensures c.members_end-stop.ensures in
+    let w = members_from_link n.source.line.now n.source.tokens.now n.index c.after.result c.members_end-stop.result
+        c.kind.result n.source.nested n.source.linked n.source.named n.known c.after.ensures.link c.kind.ensures
+        c.members_end-stop.ensures in
     record { whole = w.whole; named = w.named }
 
 pub returns-clause-members : goal.returns-clause-members
 unfolding tree members_left
 returns-clause-members c =
     let n = c.args.self in
-    (members_from_link n.source.line.now n.source.tokens.now n.index c.after.result c.members_end-stop.result c.kind.result n.source.nested n.source.linked n.source.named n.known c.after.ensures.link c.kind.ensures c.members_end-stop.ensures).shown
+    (members_from_link n.source.line.now n.source.tokens.now n.index c.after.result c.members_end-stop.result
+        c.kind.result n.source.nested n.source.linked n.source.named n.known c.after.ensures.link c.kind.ensures
+        c.members_end-stop.ensures).shown
 
 pub returns-clause-order : goal.returns-clause-order
 unfolding members_left
-returns-clause-order c = let s = c.args.self.source in pairs_rise (shown_between s.line.now s.tokens.now (c.args.self.index + 1) c.members_end-stop.result) (shown_rise s.line.now s.tokens.now (c.args.self.index + 1) c.members_end-stop.result s.within)
+returns-clause-order c = let s = c.args.self.source in
+    pairs_rise (shown_between s.line.now s.tokens.now (c.args.self.index + 1) c.members_end-stop.result)
+    (shown_rise s.line.now s.tokens.now (c.args.self.index + 1) c.members_end-stop.result s.within)
 
 pub returns-clause-values : goal.returns-clause-values
 unfolding members_left
-returns-clause-values c = let s = c.args.self.source in values_rise (shown_between s.line.now s.tokens.now (c.args.self.index + 1) c.members_end-stop.result) (shown_rise s.line.now s.tokens.now (c.args.self.index + 1) c.members_end-stop.result s.within)
+returns-clause-values c = let s = c.args.self.source in
+    values_rise (shown_between s.line.now s.tokens.now (c.args.self.index + 1) c.members_end-stop.result)
+    (shown_rise s.line.now s.tokens.now (c.args.self.index + 1) c.members_end-stop.result s.within)
 
 pub returns-clause-line : goal.returns-clause-line
 unfolding line_of members_line
@@ -36,4 +44,5 @@ returns-clause-source c = refl
 
 pub returns-clause-few : goal.returns-clause-few
 unfolding members_left
-returns-clause-few c = let s = c.args.self.source in let l = few_pairs s.line.now s.tokens.now (c.args.self.index + 1) c.members_end-stop.result in omega arith
+returns-clause-few c = let s = c.args.self.source in
+    let l = few_pairs s.line.now s.tokens.now (c.args.self.index + 1) c.members_end-stop.result in omega arith

@@ -6,7 +6,8 @@ use Rattle.cj_spans.proofs.Walks.{number_linked}
 use Rattle.cj_spans.proofs.node.Node.number.Goals as goal
 
 pub overflow_cast-result : goal.overflow_cast-result
-overflow_cast-result c = let n = c.args.self in let l = number_linked n.source.tokens.now n.index n.source.linked n.known in omega arith
+overflow_cast-result c = let n = c.args.self in
+    let l = number_linked n.source.tokens.now n.index n.source.linked n.known in omega arith
 
 pub returns-clause-node : goal.returns-clause-node
 unfolding tree source_of tree_in

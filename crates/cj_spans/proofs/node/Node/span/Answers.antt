@@ -5,12 +5,15 @@ use Rattle.cj_spans.proofs.node.Node.span.Goals as goal
 
 pub returns-clause-spelling : goal.returns-clause-spelling
 unfolding tree line_of
-returns-clause-spelling c = let s = c.args.self.source in spelling_shown s.line.now s.tokens.now c.args.self.index c.token_at-token.result c.token_at-token.ensures
+returns-clause-spelling c = let s = c.args.self.source in
+    spelling_shown s.line.now s.tokens.now c.args.self.index c.token_at-token.result c.token_at-token.ensures
 
 pub returns-clause-kind : goal.returns-clause-kind
 unfolding tree line_of
-returns-clause-kind c = let s = c.args.self.source in kind_shown s.line.now s.tokens.now c.args.self.index c.token_at-token.result _ c.token_at-token.ensures refl
+returns-clause-kind c = let s = c.args.self.source in
+    kind_shown s.line.now s.tokens.now c.args.self.index c.token_at-token.result _ c.token_at-token.ensures refl
 
 pub returns-clause-within : goal.returns-clause-within
 unfolding line_of
-returns-clause-within c = (c.args.self.source.within c.args.self.index c.token_at-token.result c.token_at-token.ensures).1
+returns-clause-within c =
+    (c.args.self.source.within c.args.self.index c.token_at-token.result c.token_at-token.ensures).1

@@ -4,4 +4,5 @@ use Rattle.cj_spans.proofs.node.Node.start.Goals as goal
 
 pub returns : goal.returns
 unfolding tree
-returns c = let s = c.args.self.source in start_shown s.line.now s.tokens.now c.args.self.index c.token_at.result c.token_at.ensures
+returns c = let s = c.args.self.source in
+    start_shown s.line.now s.tokens.now c.args.self.index c.token_at.result c.token_at.ensures

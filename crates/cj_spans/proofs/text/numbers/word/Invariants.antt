@@ -4,4 +4,5 @@ use Rattle.cj_spans.specs.Order.{digits}
 use Rattle.cj_spans.proofs.text.numbers.word.Given as goal
 
 abbrev pub invariant-loop-point : goal.invariant-loop-point
-invariant-loop-point l = l.word + digits l.weight (code_points_left l.point-iterator) ≡ digits (256 ^ 7) (code_points_left l.fn.points)
+invariant-loop-point l = l.word + digits l.weight (code_points_left l.point-iterator)
+    ≡ digits (256 ^ 7) (code_points_left l.fn.points)

@@ -6,4 +6,5 @@ use Rattle.cj_spans_rows.specs.Examples.{not_numbers, not_lists_of_numbers}
 use Rattle.cj_spans_rows.proofs.examples.rules.are_lists_of_numbers.Given as goal
 
 abbrev pub invariant-loop-item : goal.invariant-loop-item
-invariant-loop-item l = least l.found (flat_map not_numbers (items_left l.item-iterator)) ≡ least l.initial.found (not_lists_of_numbers (tree l.node))
+invariant-loop-item l = least l.found (flat_map not_numbers (items_left l.item-iterator))
+    ≡ least l.initial.found (not_lists_of_numbers (tree l.node))

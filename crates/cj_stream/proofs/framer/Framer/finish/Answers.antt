@@ -15,10 +15,13 @@ returns-then-has_begun-clause-finishes g c =
     (c.has_begun.ensures.some c.if-has_begun.true) in
     record {
       answers = λ p reads. finishes-with g.S.LineSink.law (begun p) f c.deal.new.self.reading c.args.sink.now
-          c.deal.new.sink (answer_of line_end c.deal.result) (some p reads) (Settles-begun g.S.LineSink.law (is_lenient f) f
-          c.deal.new.self.reading c.args.sink.now c.deal.new.sink (begun p) false (answer_of line_end c.deal.result) reads.begun
+          c.deal.new.sink (answer_of line_end c.deal.result) (some p reads)
+              (Settles-begun g.S.LineSink.law (is_lenient f) f
+          c.deal.new.self.reading c.args.sink.now c.deal.new.sink (begun p) false (answer_of line_end c.deal.result)
+              reads.begun
           c.deal.ensures.settles);
-      scanned = ok-answer line_end _ c.deal.result (ok-then _ _ c.deal.result (λ deal p reads s. scanned-last f p c.args.self.now.scanning
+      scanned = ok-answer line_end _ c.deal.result
+          (ok-then _ _ c.deal.result (λ deal p reads s. scanned-last f p c.args.self.now.scanning
           c.deal.new.self.scanning reads (some p reads) s deal) c.deal.ensures.scanned);
       held = search rules;
     }
@@ -29,7 +32,8 @@ returns-then-has_begun-clause-reports g c = λ p reads.
     let some = has-begun f (begun p) reads.begun (c.has_begun.ensures.some c.if-has_begun.true) in
     Notes-finished g.N.ReportSink.notes g.S.LineSink.law _ _ _ f c.deal.new.self.reading c.args.sink.now c.deal.new.sink
     p c.args.reports.now c.deal.new.reports (answer_of line_end c.deal.result)
-    reads some c.deal.ensures.settles (ok-answer line_end _ c.deal.result c.deal.ensures.one) (ok-answer line_end _ c.deal.result c.deal.ensures.noted)
+    reads some c.deal.ensures.settles (ok-answer line_end _ c.deal.result c.deal.ensures.one)
+        (ok-answer line_end _ c.deal.result c.deal.ensures.noted)
     (err-answer line_end _ c.deal.result c.deal.ensures.silent)
 
 pub returns-clause-finishes : goal.returns-clause-finishes

@@ -27,7 +27,8 @@ loop-at-init g c = record {
       scanned = λ q reads s. rw (append-nil q) s;
     },
   );
-  reports = λ q reads. Notes-none g.N.ReportSink.notes c.args.self.now.reading.rules (q ++ c.args.piece.now) _ _ _ _ refl refl;
+  reports = λ q reads. Notes-none g.N.ReportSink.notes c.args.self.now.reading.rules (q ++ c.args.piece.now) _ _ _ _
+      refl refl;
 }
 
 pub loop-at-preserved : goal.loop-at-preserved

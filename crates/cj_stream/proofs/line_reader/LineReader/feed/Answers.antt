@@ -24,10 +24,14 @@ returns-in-Err-clause-feeds g c =
     c.in-Err.ensures.err c.in-Err.ensures.least)
 
 pub returns-in-Ok-clause-reports : goal.returns-in-Ok-clause-reports
-returns-in-Ok-clause-reports g c = rw (← c.self.view_is) (λ p st going. c.take_piece.ensures.reports p (st.going going).0)
+returns-in-Ok-clause-reports g c =
+    rw (← c.self.view_is) (λ p st going. c.take_piece.ensures.reports p (st.going going).0)
 
 pub returns-in-Err-clause-reports : goal.returns-in-Err-clause-reports
-returns-in-Err-clause-reports g c = rw (← c.self.view_is) (λ p st going. c.take_piece.ensures.reports p (st.going going).0)
+returns-in-Err-clause-reports g c =
+    rw (← c.self.view_is) (λ p st going. c.take_piece.ensures.reports p (st.going going).0)
 
 pub returns-in-Some-clause-reports : goal.returns-in-Some-clause-reports
-returns-in-Some-clause-reports g c = λ p st going. absurd (not-going c.args.self.now.ended (line_end c.in-Some.end) (rw (← c.self.view_is) (ap (option_map line_end) c.in-Some.is)) going)
+returns-in-Some-clause-reports g c =
+    λ p st going. absurd (not-going c.args.self.now.ended (line_end c.in-Some.end)
+        (rw (← c.self.view_is) (ap (option_map line_end) c.in-Some.is)) going)

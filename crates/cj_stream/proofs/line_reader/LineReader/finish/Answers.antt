@@ -21,4 +21,6 @@ pub returns-clause-reports : goal.returns-clause-reports
 returns-clause-reports g c = rw (← c.self.view_is) (λ p st going. c.finish.ensures.reports p (st.going going).0)
 
 pub returns-in-Some-clause-reports : goal.returns-in-Some-clause-reports
-returns-in-Some-clause-reports g c = λ p st going. absurd (not-going c.args.self.now.ended (line_end c.in-Some.end) (rw (← c.self.view_is) (ap (option_map line_end) c.in-Some.is)) going)
+returns-in-Some-clause-reports g c =
+    λ p st going. absurd (not-going c.args.self.now.ended (line_end c.in-Some.end)
+        (rw (← c.self.view_is) (ap (option_map line_end) c.in-Some.is)) going)

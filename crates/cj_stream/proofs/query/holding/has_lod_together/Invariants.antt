@@ -12,5 +12,7 @@ use Rattle.cj_stream.proofs.query.holding.has_lod_together.Given as goal
 abbrev pub invariant-loop-geometry : goal.invariant-loop-geometry
 invariant-loop-geometry l = record {
   templates : given_to l.known ≡ templates_of (header_tree l.fn.header);
-  left : list_any (λ g. there_is (is_one_of (map string_bytes l.lods)) (lod (templates_of (header_tree l.fn.header)) g)) (geometries_left l.geometry-iterator) ≡ has_lod (map string_bytes l.lods) (header_tree l.fn.header) (feature_tree l.fn.feature);
+  left : list_any (λ g. there_is (is_one_of (map string_bytes l.lods)) (lod (templates_of (header_tree l.fn.header)) g))
+      (geometries_left l.geometry-iterator) ≡ has_lod (map string_bytes l.lods) (header_tree l.fn.header)
+      (feature_tree l.fn.feature);
 }

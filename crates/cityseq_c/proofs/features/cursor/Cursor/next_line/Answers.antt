@@ -12,6 +12,9 @@ returns-clause-passes c =
     let same : rest ≡ drop at part = take_all (length part - at) (drop at part) (omega (arith, length-drop at part)) in
     let line = c.args.self.now.line in
     elim c.match-memchr.branch [
-      | in-Some w ↦ rw w.length-is (passes-ended line at part rest same w.in-Some.length (rw w.in-Some.is at c.memchr.ensures))
-      | in-None w ↦ rw (w.length-is, take_all (length rest) rest (omega arith)) (passes-begun line at part rest same (rw w.in-None.is at c.memchr.ensures) (omega (arith, ap length same, length-drop at part, c.requires)))
+      | in-Some w ↦ rw w.length-is
+          (passes-ended line at part rest same w.in-Some.length (rw w.in-Some.is at c.memchr.ensures))
+      | in-None w ↦ rw (w.length-is, take_all (length rest) rest (omega arith))
+          (passes-begun line at part rest same (rw w.in-None.is at c.memchr.ensures)
+          (omega (arith, ap length same, length-drop at part, c.requires)))
     ]

@@ -13,7 +13,8 @@ returns c lf = record {
     id = tree c.id-id.result;
     member = c.id-id.ensures.tree;
     begin = c.start.ensures;
-    long = ap length c.bytes-2.ensures.spelling ∙ ap (λ l. length (spelling_of l (tree c.id-id.result))) c.id-id.ensures.line;
+    long = ap length c.bytes-2.ensures.spelling
+        ∙ ap (λ l. length (spelling_of l (tree c.id-id.result))) c.id-id.ensures.line;
   };
   objects = c.tally_objects-objects.ensures.count;
   geometries = c.tally_geometries-geometries.ensures.count;
@@ -22,6 +23,7 @@ returns c lf = record {
   ranges = λ axis small. record {
     range = get_or c.widen_all.result axis None;
     ends = c.widen_all.ensures axis small [] (nothing-ranged axis small);
-    told = ranges-told c.widen_all.result c.range_of.result c.range_of-2.result c.range_of-3.result c.range_of.ensures c.range_of-2.ensures c.range_of-3.ensures axis small;
+    told = ranges-told c.widen_all.result c.range_of.result c.range_of-2.result c.range_of-3.result c.range_of.ensures
+        c.range_of-2.ensures c.range_of-3.ensures axis small;
   };
 }

@@ -11,7 +11,8 @@ use Rattle.cj_feature.proofs.feature.search.many_links.check_all_parents.Given a
 
 abbrev pub invariant-loop-name : goal.invariant-loop-name
 invariant-loop-name g l = record {
-  found : least l.found (flat_map (parents_and_part (members_of (tree l.objects))) (members_left l.later)) ≡ least l.initial.found (flat_map (parents_and_part (members_of (tree l.objects))) (members_of (tree l.objects)));
+  found : least l.found (flat_map (parents_and_part (members_of (tree l.objects))) (members_left l.later))
+      ≡ least l.initial.found (flat_map (parents_and_part (members_of (tree l.objects))) (members_of (tree l.objects)));
   answered : AreAnswered (chars (codes "children")) l.objects [] l.questions;
   source : members_source l.later ≡ source_of l.objects;
 }

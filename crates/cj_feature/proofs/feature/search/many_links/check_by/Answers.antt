@@ -15,4 +15,5 @@ check_all_parents-requires g c = (search rules, c.clear.ensures _ c.args.objects
 pub returns : goal.returns
 returns g c =
     let all = members_of (tree c.args.objects) in
-    c.check_all_parents.ensures ∙ ap (λ o. least o (flat_map (parents_and_part all) all)) c.check_all_children.ensures ∙ walks all all c.args.found.now
+    c.check_all_parents.ensures ∙ ap (λ o. least o (flat_map (parents_and_part all) all)) c.check_all_children.ensures
+        ∙ walks all all c.args.found.now

@@ -10,9 +10,12 @@ use Rattle.cj_feature.proofs.feature.search.many_links.check_items.Given as goal
 
 abbrev pub invariant-loop-item : goal.invariant-loop-item
 invariant-loop-item g l = record {
-  found : least l.found (flat_map (linked l.link (members_of (tree l.objects)) (noted_in l.objects l.name)) (items_left l.items)) ≡ least l.initial.found (flat_map (linked l.link (members_of (tree l.objects)) (noted_in l.objects l.name)) (items_left l.list.items));
+  found : least l.found (flat_map (linked l.link (members_of (tree l.objects)) (noted_in l.objects l.name))
+      (items_left l.items)) ≡ least l.initial.found
+      (flat_map (linked l.link (members_of (tree l.objects)) (noted_in l.objects l.name)) (items_left l.list.items));
   known : l.known ≡ true → list_any (is_known (members_of (tree l.objects))) (items_left l.list.items) ≡ true;
-  later : list_any (is_known (members_of (tree l.objects))) (items_left l.items) ≡ true → list_any (is_known (members_of (tree l.objects))) (items_left l.list.items) ≡ true;
+  later : list_any (is_known (members_of (tree l.objects))) (items_left l.items) ≡ true
+      → list_any (is_known (members_of (tree l.objects))) (items_left l.list.items) ≡ true;
   answered : AreAnswered (back_of l.link) l.objects [] l.questions;
 }
 

@@ -10,7 +10,8 @@ use Rattle.cj_feature.proofs.feature.search.many_links.has_known_item.Given as g
 
 abbrev pub invariant-loop-item : goal.invariant-loop-item
 invariant-loop-item g l = record {
-  known : list_any (is_known (members_of (tree l.objects))) (items_left l.items) ≡ list_any (is_known (members_of (tree l.objects))) (items_of (tree l.array));
+  known : list_any (is_known (members_of (tree l.objects))) (items_left l.items)
+      ≡ list_any (is_known (members_of (tree l.objects))) (items_of (tree l.array));
   answered : AreAnswered (chars (codes "children")) l.objects [] l.questions;
 }
 

@@ -17,5 +17,7 @@ loop-object-preserved c =
     let here = marked-beside all n line source (tree n) (c.marked.ensures.yes c.if-not-marked.false) in
     record {
       walk = later-among all c.loop-object.object-iterator c.next.new.self _ walk steps.0 steps.1 steps.3;
-      left = λ h. c.loop-object.invariant.left (each-more P (members_left c.loop-object.object-iterator) (tree c.in-Some.field-0-0, tree n) (members_left c.next.new.self) steps.0 here h);
+      left = λ h. c.loop-object.invariant.left
+          (each-more P (members_left c.loop-object.object-iterator) (tree c.in-Some.field-0-0, tree n)
+          (members_left c.next.new.self) steps.0 here h);
     }

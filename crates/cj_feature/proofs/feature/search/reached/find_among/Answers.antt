@@ -18,7 +18,8 @@ returns-in-Some-find_child-clause-found c =
     record {
       parent = (tree c.in-Some.field-0-0, tree n);
       held = first-among all c.loop-object.object-iterator c.next.new.self _ walk steps.0;
-      marked = marked-beside all n (steps.2.1 ∙ walk.line) (steps.4.1 ∙ walk.source) (tree n) (c.marked.ensures.yes c.if-marked.true);
+      marked = marked-beside all n (steps.2.1 ∙ walk.line) (steps.4.1 ∙ walk.source) (tree n)
+          (c.marked.ensures.yes c.if-marked.true);
       listed = c.in-Some-find_child.ensures.found;
     }
 
@@ -28,10 +29,13 @@ loop-object-preserved-in_default c =
     let n = c.in-Some.object in
     let steps = c.in-Some.ensures.steps in
     let walk = c.loop-object.invariant.walk in
-    let P : Tree × Tree → Type 0 = λ m. IsMarkedBy all m.1 → SoughtHaveMarks all c.args.names (listed_in (chars (codes "children")) m.1) in
+    let P : Tree × Tree → Type 0 = λ m. IsMarkedBy all m.1
+        → SoughtHaveMarks all c.args.names (listed_in (chars (codes "children")) m.1) in
     record {
       walk = later-among all c.loop-object.object-iterator c.next.new.self _ walk steps.0 steps.1 steps.3;
-      left = λ h. c.loop-object.invariant.left (each-more P (members_left c.loop-object.object-iterator) (tree c.in-Some.field-0-0, tree n) (members_left c.next.new.self) steps.0 (λ m. c.in_default.ensures.none) h);
+      left = λ h. c.loop-object.invariant.left
+          (each-more P (members_left c.loop-object.object-iterator) (tree c.in-Some.field-0-0, tree n)
+          (members_left c.next.new.self) steps.0 (λ m. c.in_default.ensures.none) h);
     }
 
 pub loop-object-preserved : goal.loop-object-preserved
@@ -42,9 +46,13 @@ loop-object-preserved c =
     let walk = c.loop-object.invariant.walk in
     let line : line_of n ≡ line_of all = steps.2.1 ∙ walk.line in
     let source : source_of n ≡ source_of all = steps.4.1 ∙ walk.source in
-    let P : Tree × Tree → Type 0 = λ m. IsMarkedBy all m.1 → SoughtHaveMarks all c.args.names (listed_in (chars (codes "children")) m.1) in
-    let none : P (tree c.in-Some.field-0-0, tree n) = λ h. absurd (c.marked.ensures.no c.if-marked.false (marked-beside n all (sym line) (sym source) (tree n) h)) in
+    let P : Tree × Tree → Type 0 = λ m. IsMarkedBy all m.1
+        → SoughtHaveMarks all c.args.names (listed_in (chars (codes "children")) m.1) in
+    let none : P (tree c.in-Some.field-0-0, tree n) =
+        λ h. absurd (c.marked.ensures.no c.if-marked.false (marked-beside n all (sym line) (sym source) (tree n) h)) in
     record {
       walk = later-among all c.loop-object.object-iterator c.next.new.self _ walk steps.0 steps.1 steps.3;
-      left = λ h. c.loop-object.invariant.left (each-more P (members_left c.loop-object.object-iterator) (tree c.in-Some.field-0-0, tree n) (members_left c.next.new.self) steps.0 none h);
+      left = λ h. c.loop-object.invariant.left
+          (each-more P (members_left c.loop-object.object-iterator) (tree c.in-Some.field-0-0, tree n)
+          (members_left c.next.new.self) steps.0 none h);
     }

@@ -15,8 +15,10 @@ invariant-loop-later l = record {
   same : length l.names ≡ length l.fn.names;
   line : members_line l.later ≡ line_of l.objects;
   source : members_source l.later ≡ source_of l.objects;
-  left : (p : Tree × Tree) → Contains (members_of (tree l.objects)) p → IsMarkedBy l.objects p.1 → (item : Tree) → Contains (listed_in (chars (codes "children")) p.1) item
-      → (m : Tree × Tree) → Contains (members_of (tree l.objects)) m → same_text m.0 item ≡ true → Contains (members_left l.later) m ⊎ IsMarkedBy l.objects m.1;
+  left : (p : Tree × Tree) → Contains (members_of (tree l.objects)) p → IsMarkedBy l.objects p.1 → (item : Tree)
+      → Contains (listed_in (chars (codes "children")) p.1) item
+      → (m : Tree × Tree) → Contains (members_of (tree l.objects)) m → same_text m.0 item ≡ true
+      → Contains (members_left l.later) m ⊎ IsMarkedBy l.objects m.1;
 }
 
 abbrev pub decreases-loop-later : goal.decreases-loop-later

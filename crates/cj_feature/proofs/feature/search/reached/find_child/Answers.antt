@@ -16,7 +16,8 @@ returns-in-Some-find_unmarked-clause-found c =
     let item = tree c.in-Some-item.item in
     record {
       item = item;
-      held = c.loop-item.invariant.among item (subst (λ ts. Contains ts item) (sym c.in-Some-item.ensures.steps.0) (here item _));
+      held = c.loop-item.invariant.among item
+          (subst (λ ts. Contains ts item) (sym c.in-Some-item.ensures.steps.0) (here item _));
       unmarked = c.in-Some-find_unmarked.ensures.found;
     }
 
@@ -25,10 +26,13 @@ loop-item-preserved-in_default-find_unmarked c =
     let item = tree c.in-Some-item.item in
     let e = c.in-Some-item.ensures.steps.0 in
     let objects = c.args.objects in
-    let P : Tree → Type 0 = λ t. (m : Tree × Tree) → Contains (members_of (tree objects)) m → same_text m.0 t ≡ true → IsSought objects c.args.names m.0 → IsMarkedBy objects m.1 in
+    let P : Tree → Type 0 = λ t. (m : Tree × Tree) → Contains (members_of (tree objects)) m → same_text m.0 t ≡ true
+        → IsSought objects c.args.names m.0 → IsMarkedBy objects m.1 in
     record {
       among = λ t h. c.loop-item.invariant.among t (subst (λ ts. Contains ts t) (sym e) (there item _ t h));
-      left = λ h. c.loop-item.invariant.left (each-more P (items_left c.loop-item.item-iterator) item (items_left c.next.new.self) e (λ m held same n. c.in_default-find_unmarked.ensures.none m held same) h);
+      left = λ h. c.loop-item.invariant.left
+          (each-more P (items_left c.loop-item.item-iterator) item (items_left c.next.new.self) e
+          (λ m held same n. c.in_default-find_unmarked.ensures.none m held same) h);
     }
 
 pub loop-item-preserved : goal.loop-item-preserved
@@ -36,9 +40,12 @@ loop-item-preserved c =
     let item = tree c.in-Some-item.item in
     let e = c.in-Some-item.ensures.steps.0 in
     let objects = c.args.objects in
-    let P : Tree → Type 0 = λ t. (m : Tree × Tree) → Contains (members_of (tree objects)) m → same_text m.0 t ≡ true → IsSought objects c.args.names m.0 → IsMarkedBy objects m.1 in
-    let none : P item = λ m held same n. absurd (c.has.ensures c.if-has.false (sought-same objects c.args.names m.0 item same n)) in
+    let P : Tree → Type 0 = λ t. (m : Tree × Tree) → Contains (members_of (tree objects)) m → same_text m.0 t ≡ true
+        → IsSought objects c.args.names m.0 → IsMarkedBy objects m.1 in
+    let none : P item =
+        λ m held same n. absurd (c.has.ensures c.if-has.false (sought-same objects c.args.names m.0 item same n)) in
     record {
       among = λ t h. c.loop-item.invariant.among t (subst (λ ts. Contains ts t) (sym e) (there item _ t h));
-      left = λ h. c.loop-item.invariant.left (each-more P (items_left c.loop-item.item-iterator) item (items_left c.next.new.self) e none h);
+      left = λ h. c.loop-item.invariant.left
+          (each-more P (items_left c.loop-item.item-iterator) item (items_left c.next.new.self) e none h);
     }

@@ -14,7 +14,8 @@ use Rattle.cj_feature.proofs.Walking.{if-none}
 use Rattle.cj_feature.proofs.feature.search.reached.find_next.Goals as goal
 
 -- what is so of a root is so of its document
-of-document : (P : Tree → List ℕ → Source → Type 0) (t u : Tree) (l m : List ℕ) (r s : Source) → t ≡ u → l ≡ m → r ≡ s → P t l r → P u m s
+of-document : (P : Tree → List ℕ → Source → Type 0) (t u : Tree) (l m : List ℕ) (r s : Source) → t ≡ u → l ≡ m → r ≡ s
+    → P t l r → P u m s
 of-document P t u l m r s e f g h = subst (P u m) g (subst (λ k. P u k r) f (subst (λ v. P v l r) e h))
 
 pub returns-in-Some-clause-found : goal.returns-in-Some-clause-found
@@ -23,10 +24,13 @@ returns-in-Some-clause-found c =
     let e = c.root-root.ensures in
     let n = c.in-Some-Some.objects in
     let id = tree c.in-Some-Some.id in
-    let i : member_of (chars (codes "id")) (tree f) ≡ Some id = sym c.get.ensures.value ∙ ap (option_map tree) c.in-Some-Some.is-0 in
-    let o : member_of (chars (codes "CityObjects")) (tree f) ≡ Some (tree n) = sym c.get-2.ensures.value ∙ ap (option_map tree) c.in-Some-Some.is-1 in
+    let i : member_of (chars (codes "id")) (tree f) ≡ Some id = sym c.get.ensures.value
+        ∙ ap (option_map tree) c.in-Some-Some.is-0 in
+    let o : member_of (chars (codes "CityObjects")) (tree f) ≡ Some (tree n) = sym c.get-2.ensures.value
+        ∙ ap (option_map tree) c.in-Some-Some.is-1 in
     of-document (λ t l s. IsToMark t l (tokens_in s) c.in-Some.number) _ _ _ _ _ _ e.tree e.line e.source
-    (first-to-mark f n id i o c.in-Some-Some.ensures'.line c.in-Some-Some.ensures'.source c.in-Some.number c.in-Some.ensures.found)
+    (first-to-mark f n id i o c.in-Some-Some.ensures'.line c.in-Some-Some.ensures'.source c.in-Some.number
+        c.in-Some.ensures.found)
 
 pub returns-in-None-clause-found : goal.returns-in-None-clause-found
 returns-in-None-clause-found c =
@@ -34,8 +38,10 @@ returns-in-None-clause-found c =
     let e = c.root-root.ensures in
     let n = c.in-Some-Some.objects in
     let id = tree c.in-Some-Some.id in
-    let i : member_of (chars (codes "id")) (tree f) ≡ Some id = sym c.get.ensures.value ∙ ap (option_map tree) c.in-Some-Some.is-0 in
-    let o : member_of (chars (codes "CityObjects")) (tree f) ≡ Some (tree n) = sym c.get-2.ensures.value ∙ ap (option_map tree) c.in-Some-Some.is-1 in
+    let i : member_of (chars (codes "id")) (tree f) ≡ Some id = sym c.get.ensures.value
+        ∙ ap (option_map tree) c.in-Some-Some.is-0 in
+    let o : member_of (chars (codes "CityObjects")) (tree f) ≡ Some (tree n) = sym c.get-2.ensures.value
+        ∙ ap (option_map tree) c.in-Some-Some.is-1 in
     IfSome_then c.find_listed.result c.find_listed.ensures.found
     (λ number x.
     of-document (λ t l s. IsToMark t l (tokens_in s) number) _ _ _ _ _ _ e.tree e.line e.source
@@ -47,10 +53,14 @@ returns-in-None-clause-none c =
     let e = c.root-root.ensures in
     let n = c.in-Some-Some.objects in
     let id = tree c.in-Some-Some.id in
-    let i : member_of (chars (codes "id")) (tree f) ≡ Some id = sym c.get.ensures.value ∙ ap (option_map tree) c.in-Some-Some.is-0 in
-    let o : member_of (chars (codes "CityObjects")) (tree f) ≡ Some (tree n) = sym c.get-2.ensures.value ∙ ap (option_map tree) c.in-Some-Some.is-1 in
+    let i : member_of (chars (codes "id")) (tree f) ≡ Some id = sym c.get.ensures.value
+        ∙ ap (option_map tree) c.in-Some-Some.is-0 in
+    let o : member_of (chars (codes "CityObjects")) (tree f) ≡ Some (tree n) = sym c.get-2.ensures.value
+        ∙ ap (option_map tree) c.in-Some-Some.is-1 in
     if-none c.find_listed.result
     (λ listed.
-    of-document (λ t l s. (u : Tree) → IsReachedObject t u → IsMarked l (tokens_in s) u) _ _ _ _ _ _ e.tree e.line e.source
-    (all-are-marked f n id i o c.in-Some-Some.ensures'.line c.in-Some-Some.ensures'.source c.in-None.ensures.none listed))
+    of-document (λ t l s. (u : Tree) → IsReachedObject t u → IsMarked l (tokens_in s) u) _ _ _ _ _ _ e.tree e.line
+        e.source
+    (all-are-marked f n id i o c.in-Some-Some.ensures'.line c.in-Some-Some.ensures'.source c.in-None.ensures.none
+        listed))
     c.find_listed.ensures.none

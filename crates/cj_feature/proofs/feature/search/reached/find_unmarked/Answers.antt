@@ -35,11 +35,15 @@ loop-name-preserved c =
     let source : source_of n ≡ source_of all = steps.4.1 ∙ walk.source in
     let has : same_text (tree c.in-Some.name) (tree c.args.id) ≡ true → IsMarkedBy all (tree n) = λ same.
     elim c.else-not-marked.branch [
-      | else-not-marked-via-then-not-marked+else-same_text w ↦ absurd (cc (w.same_text.ensures.test, w.if-same_text.false, same))
-      | else-not-marked-via-else-not-marked w ↦ marked-beside all n line source (tree n) (c.marked.ensures.yes w.if-not-marked.false)
+      | else-not-marked-via-then-not-marked+else-same_text w ↦
+          absurd (cc (w.same_text.ensures.test, w.if-same_text.false, same))
+      | else-not-marked-via-else-not-marked w ↦
+          marked-beside all n line source (tree n) (c.marked.ensures.yes w.if-not-marked.false)
     ] in
     let P : Tree × Tree → Type 0 = λ m. same_text m.0 (tree c.args.id) ≡ true → IsMarkedBy all m.1 in
     record {
       walk = later-among all c.loop-name.name-iterator c.next.new.self _ walk steps.0 steps.1 steps.3;
-      left = λ h. c.loop-name.invariant.left (each-more P (members_left c.loop-name.name-iterator) (tree c.in-Some.name, tree n) (members_left c.next.new.self) steps.0 has h);
+      left = λ h. c.loop-name.invariant.left
+          (each-more P (members_left c.loop-name.name-iterator) (tree c.in-Some.name, tree n)
+          (members_left c.next.new.self) steps.0 has h);
     }

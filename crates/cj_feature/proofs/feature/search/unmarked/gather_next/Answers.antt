@@ -16,6 +16,7 @@ returns-clause-passed c = λ m h.
       | inl k ↦ inl k
       | inr k ↦ inr (elim k [
         | inl marked ↦ inl marked
-        | inr n ↦ inr (subst (λ xs. IsNoted objects xs m.0) (sym e) (noted-moved objects (take count c.note_next-count.new.names) sorted m.0 c.sort.ensures.moved n))
+        | inr n ↦ inr (subst (λ xs. IsNoted objects xs m.0) (sym e)
+            (noted-moved objects (take count c.note_next-count.new.names) sorted m.0 c.sort.ensures.moved n))
       ])
     ]

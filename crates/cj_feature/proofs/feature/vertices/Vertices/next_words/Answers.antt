@@ -6,4 +6,5 @@ use Rattle.cj_feature.proofs.feature.vertices.Vertices.next_words.Goals as goal
 
 pub returns-clause-words : goal.returns-clause-words
 unfolding vertices_left
-returns-clause-words c = (vertex_of (tree c.in-Some.node), ap (map vertex_of) c.in-Some.ensures.steps.0, c.in_ok-words.ensures)
+returns-clause-words c =
+    (vertex_of (tree c.in-Some.node), ap (map vertex_of) c.in-Some.ensures.steps.0, c.in_ok-words.ensures)

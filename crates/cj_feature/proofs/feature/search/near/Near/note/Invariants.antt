@@ -7,5 +7,7 @@ abbrev pub invariant-loop-place : goal.invariant-loop-place
 invariant-loop-place g l = record {
   hand : AddsNone l.initial.self.lists l.self.lists;
   known : Knows l.objects l.self.lists;
-  pending : (feature : Tree) → ReachesName feature l.objects (tree l.text) → WaitsFor feature (line_of l.objects) (spans_by l.objects) l.initial.self.pending → WaitsFor feature (line_of l.objects) (spans_by l.objects) l.self.pending;
+  pending : (feature : Tree) → ReachesName feature l.objects (tree l.text)
+      → WaitsFor feature (line_of l.objects) (spans_by l.objects) l.initial.self.pending
+      → WaitsFor feature (line_of l.objects) (spans_by l.objects) l.self.pending;
 }

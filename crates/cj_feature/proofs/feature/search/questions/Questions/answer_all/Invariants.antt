@@ -11,7 +11,8 @@ use Rattle.cj_feature.proofs.feature.search.questions.Questions.answer_all.Given
 abbrev pub invariant-loop-name : goal.invariant-loop-name
 invariant-loop-name g l = record {
   answered : AreAnswered (chars l.list) l.objects (members_left l.later) l.self;
-  left : (from to : Tree) → lists (chars l.list) (members_left l.later) from to ≡ true → lists (chars l.list) (members_of (tree l.objects)) from to ≡ true;
+  left : (from to : Tree) → lists (chars l.list) (members_left l.later) from to ≡ true
+      → lists (chars l.list) (members_of (tree l.objects)) from to ≡ true;
 }
 
 abbrev pub decreases-loop-name : goal.decreases-loop-name

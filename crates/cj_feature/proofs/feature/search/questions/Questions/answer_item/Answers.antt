@@ -13,6 +13,8 @@ returns-in-Some g c =
     record {
       few = c.requires.answered.few;
       order = c.requires.answered.order;
-      listed = subst (AreListed list c.args.objects (noted a)) (sym c.set_flag.ensures) (listed_on c.args.objects (noted a) list a.listed (tree pair.from.node) (tree pair.to.node) c.in-Some.place c.requires.answered.listed c.in-Some.ensures c.requires.listed);
+      listed = subst (AreListed list c.args.objects (noted a)) (sym c.set_flag.ensures)
+          (listed_on c.args.objects (noted a) list a.listed (tree pair.from.node) (tree pair.to.node) c.in-Some.place
+          c.requires.answered.listed c.in-Some.ensures c.requires.listed);
       known = c.requires.answered.known;
     }

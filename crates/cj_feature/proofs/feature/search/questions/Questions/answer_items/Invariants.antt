@@ -10,5 +10,6 @@ use Rattle.cj_feature.proofs.feature.search.questions.Questions.answer_items.Giv
 abbrev pub invariant-loop-item : goal.invariant-loop-item
 invariant-loop-item g l = record {
   answered : AreAnswered (chars l.list) l.objects (members_left l.later) l.self;
-  left : (to : Tree) → has_item (items_left l.item-iterator) to ≡ true → has_item (listed_in (chars l.list) (tree l.object)) to ≡ true;
+  left : (to : Tree) → has_item (items_left l.item-iterator) to ≡ true
+      → has_item (listed_in (chars l.list) (tree l.object)) to ≡ true;
 }

@@ -11,7 +11,9 @@ answer_all-requires g c = (
   search rules,
   record {
     few = grind (arith, common_steps);
-    order = subst (AreInOrder c.args.objects) (sym (take-append-le c.gather-self.result c.gather-self.new.questions _ c.gather-self.ensures.few)) c.gather-self.ensures.order;
+    order = subst (AreInOrder c.args.objects)
+        (sym (take-append-le c.gather-self.result c.gather-self.new.questions _ c.gather-self.ensures.few))
+        c.gather-self.ensures.order;
     listed = none_listed c.args.objects _ (chars c.args.list.now) _ c.clear-2.ensures;
     known = λ t i f clear. refl;
   },

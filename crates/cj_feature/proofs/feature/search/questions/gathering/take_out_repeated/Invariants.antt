@@ -7,5 +7,6 @@ abbrev pub invariant-loop-i : goal.invariant-loop-i
 invariant-loop-i l = record {
   few : l.kept ≤ l.i;
   length : length l.questions ≡ length l.initial.questions;
-  order : AreInOrder l.objects l.initial.questions → AreInOrder l.objects (take l.kept l.questions ++ drop l.i l.questions);
+  order : AreInOrder l.objects l.initial.questions
+      → AreInOrder l.objects (take l.kept l.questions ++ drop l.i l.questions);
 }

@@ -9,6 +9,9 @@ loop-list-preserved g c =
     let a = c.args.self.now in
     let b = c.loop-list.self in
     elim c.if-end-start-gt-LONG.branch [
-      | then-end-start-gt-LONG w ↦ subst (AddsNone a) (sym w.self-is) (more-hand a b _ c.loop-list.invariant (record { slots = λ k n s at ready. among-moved b.slots _ k s w.sort.ensures at }))
+      | then-end-start-gt-LONG w ↦
+          subst (AddsNone a) (sym w.self-is)
+          (more-hand a b _ c.loop-list.invariant
+          (record { slots = λ k n s at ready. among-moved b.slots _ k s w.sort.ensures at }))
       | else-end-start-gt-LONG w ↦ subst (AddsNone a) (sym w.self-is) c.loop-list.invariant
     ]
