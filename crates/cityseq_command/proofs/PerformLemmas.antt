@@ -1,5 +1,5 @@
 -- What is told of texts that the program writes.
-use Rattle.std.proofs.Common.{◌≡◌, inl, inr, arith, ℕ, ◌<◌, ◌≤◌, List, [], Option, Some, None, Result, Ok, Err, length, refl, ap, sym, subst, ◌∙◌}
+use Rattle.std.proofs.Common.{◌≡◌, inl, inr, arith, ℕ, ◌<◌, ◌≤◌, ◌^◌, List, [], Option, Some, None, Result, Ok, Err, length, refl, ap, sym, subst, ◌∙◌}
 use Rattle.std.specs.List.{filter}
 use Rattle.std.specs.Io.KnownBytes.{Appends, Keeps}
 use Rattle.cj_budget.specs.declared.limits.Peaks.{Peaks}
@@ -13,15 +13,14 @@ use Rattle.cj_stream.specs.Headline.{Headline, fate_of, outputs}
 use Rattle.cj_stream.specs.Item.{is_feature}
 use Rattle.cj_stream.specs.Output.{Channel}
 use Rattle.cj_stream.specs.ReportSink.{Collects}
-use Rattle.cj_stream.specs.Run.{Run, Gave, IsReadWithin, RunsNoting, Writes, WritesLines}
+use Rattle.cj_stream.specs.Run.{Account, Gave, IsReadWithin, RunsNoting, StopsInTime, Writes, WritesLines}
 use Rattle.cj_stream.specs.Sink.{HasRisen, RisesOnErr, AppendsPart, Took}
 use Rattle.cj_stream.specs.Verdict.{Rules, good, kept, kept_first, reported, reported_first, up_to, stream_of}
 use Rattle.cj_stream.specs.Bound.{exact_peaks}
 use Rattle.cj_stream.specs.TallySink.{Tally, IsTallyOf, no_tally}
 use Rattle.cj_stream.specs.Query.{rules_for}
-use Rattle.cityseq_command.specs.Performed.{end_of_writing, Says, SaysCheck, SaysSummary, Answers, went}
+use Rattle.cityseq_command.specs.Performed.{end_of_writing, Says, SaysCheck, SaysSummary, Answers, Does, asked, ended_by, rules_of_ask, run_of, went}
 use Rattle.cityseq_command.specs.FaultLines.{Wrote}
-use Rattle.cityseq_command.specs.ReportWriter.{AreReported}
 use Rattle.cityseq_command.specs.declared.ask.Ask.{Ask}
 use Rattle.cityseq_command.specs.declared.ask.Ask.TheVariants.{Check, Filter, Info}
 use Rattle.cityseq_command.specs.Summary.{check_text, summary_text}
@@ -120,10 +119,30 @@ pub lines-refused : (rules : Rules) (r : List ℕ) (n features refused : ℕ) �
     → Counts rules r n features refused → n ≡ length (good rules r) → refused ≡ length (reported rules r)
 lines-refused rules r n features refused all counts lines = counts.refused ∙ ap (λ rs. length rs) (all lines)
 
--- the reports of a run, which a sink has taken
-pub Reported-told : {N : Type 0} (notes : N → Report → N → Type 0) (run : Run) (n m : N) → RunsNoting notes run n m
-    → RunsNoting Collects run [] (reported_first run.rules run.outcome.lines run.read) → AreReported notes run (reported_first run.rules run.outcome.lines run.read) n m
-Reported-told notes run n m told collected = record { collected = collected; took = subst (λ rs. Took notes n rs m) (sym told.reports.told) told.reports.noted }
+-- a run does what is asked, where this is what it answers; told is its outcome, or one with another end
+pub Does-run : {N : Type 0} (notes : N → Report → N → Type 0) (ask : Ask) (r : List ℕ) (at_end : Type 0)
+    (outcome told : Outcome) (a b : Channel) (n m : N) → told ≡ ended_by outcome told.ended
+    → Account (run_of ask r outcome) at_end → IsReadWithin (2 ^ 40) r outcome.ended
+    → RunsNoting notes (run_of ask r outcome) n m → StopsInTime (run_of ask r outcome)
+    → RunsNoting Collects (run_of ask r outcome) [] (reported_first (rules_of_ask ask) outcome.lines r)
+    → Answers ask (went r at_end outcome (reported_first (rules_of_ask ask) outcome.lines r)) told.ended a b
+    → (told.ended ≡ WriteFault → HasRisen a.failures b.failures)
+    → Does notes (asked ask r at_end) told (outputs a n) (outputs b m)
+Does-run notes ask r at_end outcome told a b n m rest account within noted stops collected answers cause =
+    let all = reported_first (rules_of_ask ask) outcome.lines r in
+    let took = subst (λ rs. Took notes n rs m) (sym noted.reports.told) noted.reports.noted in
+    record {
+      outcome = outcome;
+      refused = all;
+      rest = rest;
+      account = account;
+      stops = stops;
+      within = within;
+      reported = record { collected = collected; took = took };
+      answers = answers;
+      cause = cause;
+      count = ap (λ (o : Outcome). o.refused) rest ∙ account.counts.refused;
+    }
 
 -- a check or a summary after a complete run, of what that counted
 pub Says-check : (rules : Rules) (r : List ℕ) (n m k : ℕ) (written : Result (Unit {0}) Unwritten) (told : End) (old new : Channel)

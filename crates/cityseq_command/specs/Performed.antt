@@ -30,7 +30,6 @@ use Rattle.cityseq_command.specs.ReportWriter.{AreReported, report_lines}
 use Rattle.cityseq_command.specs.Summary.{check_text, summary_text}
 use Rattle.cityseq_command.specs.declared.ask.Ask.{Ask}
 use Rattle.cityseq_command.specs.declared.ask.Ask.TheVariants.{Check, Filter, Info}
-use Rattle.cityseq_command.specs.declared.ask.Told.{Told}
 use Rattle.cityseq_command.specs.declared.asking.NoAsk.{NoAsk}
 use Rattle.cityseq_command.specs.declared.asking.NoAsk.TheVariants.{Words, NoCommand, Limits, Query}
 use Rattle.cityseq_command.specs.declared.fault_lines.Shown.{Shown}
@@ -122,19 +121,31 @@ Answers (Filter limits query options) run told old new =
 Answers (Info limits options) run told old new =
     SaysSummary (stream_of (all_under limits options) run.read) run.outcome.ended told old new
 
+-- an outcome with this end in place of its own
+abbrev pub ended_by : Outcome → End → Outcome
+ended_by outcome end = record {
+  lines = outcome.lines;
+  kept = outcome.kept;
+  refused = outcome.refused;
+  peaks = outcome.peaks;
+  ended = end;
+}
+
 -- What is asked was done with bytes r that were read, but for what is said at its end: the account of the run over
 -- them, which stopped in time; its reports, which a sink of reports has taken; what standard output has got, and that a
--- write to it failed where that is told; and how many lines were refused that reading went on after.
-pub record Does {N : Type 0} (notes : N → Report → N → Type 0) (of : Asked) (told : Told) (old new : Outputs N) :
+-- write to it failed where that is told; and how many lines were refused that reading went on after. Told is the run's
+-- outcome, but for its end.
+pub record Does {N : Type 0} (notes : N → Report → N → Type 0) (of : Asked) (told : Outcome) (old new : Outputs N) :
     Type 0 where
   pub outcome : Outcome
   pub refused : List Report
+  pub rest : told ≡ ended_by outcome told.ended
   pub account : Account (run_of of.ask of.read outcome) of.at_end
   pub stops : StopsInTime (run_of of.ask of.read outcome)
   pub within : IsReadWithin (2 ^ 40) of.read outcome.ended
   pub reported : AreReported notes (run_of of.ask of.read outcome) refused old.reports new.reports
-  pub answers : Answers of.ask (went of.read of.at_end outcome refused) told.end old.channel new.channel
-  pub cause : told.end ≡ WriteFault → HasRisen old.channel.failures new.channel.failures
+  pub answers : Answers of.ask (went of.read of.at_end outcome refused) told.ended old.channel new.channel
+  pub cause : told.ended ≡ WriteFault → HasRisen old.channel.failures new.channel.failures
   pub count : told.refused ≡ length refused
 
 -- What is asked was done with bytes r that were read: the account of the run over them, which stopped in time; that its

@@ -9,7 +9,8 @@ use crate::fault_lines::{show_after, status_after};
 use crate::report_writer::WriteReports;
 use crate::summary::{write_check, write_summary};
 use cj_stream::{
-    End, IgnoreSink, Limits, Options, Output, Query, ReportSink, TallySink, WriteFault, laws, run,
+    End, IgnoreSink, Limits, Options, Outcome, Output, Query, ReportSink, TallySink, WriteFault,
+    laws, run,
 };
 use std::alloc::Global;
 use std::io::{Read, Write};
@@ -26,13 +27,6 @@ pub enum Ask {
     Info(Limits, Options),
 }
 
-/// The outcome to report: the end, and the number of invalid lines after which reading went on.
-#[derive(Clone, Copy)]
-struct Told {
-    end: End,
-    refused: u64,
-}
-
 /// Returns the end of a complete run after which a text of the program was written with this
 /// result.
 pub fn end_of_writing(written: Result<(), WriteFault>) -> End
@@ -45,6 +39,7 @@ pub fn end_of_writing(written: Result<(), WriteFault>) -> End
 }
 
 /// Judges the stream. Unless a line or a fault ends it, writes how many lines and features it has.
+/// Returns the outcome of the run, with the end to report.
 fn check<R: Read, W: Write + Drop, N: ReportSink>(
     alloc: Global,
     limits: Limits,
@@ -52,7 +47,7 @@ fn check<R: Read, W: Write + Drop, N: ReportSink>(
     reader: &mut R,
     out: &mut Output<W>,
     reports: &mut N,
-) -> Told
+) -> Outcome
     ensures { (r : List ℕ) × Consumes (R.remaining reader.old) (R.remaining reader.new) r
         × Does N.notes (asked (Ask.Check limits options) r (IsAtEnd (R.remaining reader.new))) result
         (outputs (channel W.contents out.old) reports.old) (outputs (channel W.contents out.new) reports.new) }
@@ -70,18 +65,16 @@ fn check<R: Read, W: Write + Drop, N: ReportSink>(
     laws::good_lines_are_kept();
     laws::reports_are_collected::<W>();
     match outcome.ended {
-        End::Complete => Told {
-            end: end_of_writing(write_check(out, outcome.lines, outcome.kept, outcome.refused)),
-            refused: outcome.refused,
+        End::Complete => Outcome {
+            ended: end_of_writing(write_check(out, outcome.lines, outcome.kept, outcome.refused)),
+            ..outcome
         },
-        ended => Told {
-            end: ended,
-            refused: outcome.refused,
-        },
+        _ => outcome,
     }
 }
 
-/// Tallies the stream, and writes its summary if it is valid.
+/// Tallies the stream, and writes its summary if it is valid. Returns the outcome of the run, with
+/// the end to report.
 fn info<R: Read, W: Write + Drop, N: ReportSink>(
     alloc: Global,
     limits: Limits,
@@ -89,7 +82,7 @@ fn info<R: Read, W: Write + Drop, N: ReportSink>(
     reader: &mut R,
     out: &mut Output<W>,
     reports: &mut N,
-) -> Told
+) -> Outcome
     requires { TakesOptions (Ask.Info limits options) }
     ensures { (r : List ℕ) × Consumes (R.remaining reader.old) (R.remaining reader.new) r
         × Does N.notes (asked (Ask.Info limits options) r (IsAtEnd (R.remaining reader.new))) result
@@ -102,59 +95,11 @@ fn info<R: Read, W: Write + Drop, N: ReportSink>(
     laws::first_invalid_line_is_the_end();
     laws::reports_are_collected::<W>();
     match outcome.ended {
-        End::Complete => Told {
-            end: end_of_writing(write_summary(out, outcome.lines, &tally, outcome.peaks)),
-            refused: outcome.refused,
+        End::Complete => Outcome {
+            ended: end_of_writing(write_summary(out, outcome.lines, &tally, outcome.peaks)),
+            ..outcome
         },
-        ended => Told {
-            end: ended,
-            refused: outcome.refused,
-        },
-    }
-}
-
-/// Copies the header and the features that the query and the options keep.
-fn filter<R: Read, W: Write + Drop, N: ReportSink>(
-    alloc: Global,
-    limits: Limits,
-    query: &Query,
-    options: Options,
-    reader: &mut R,
-    out: &mut Output<W>,
-    reports: &mut N,
-) -> Told
-    ensures { (r : List ℕ) × Consumes (R.remaining reader.old) (R.remaining reader.new) r
-        × Does N.notes (asked (Ask.Filter limits query.now options) r (IsAtEnd (R.remaining reader.new))) result
-        (outputs (channel W.contents out.old) reports.old) (outputs (channel W.contents out.new) reports.new) }
-{
-    laws::puts_are_written::<W, N>();
-    laws::reports_are_collected::<W>();
-    let outcome = run(alloc, reader, out, reports, limits, query, options);
-    Told {
-        end: outcome.ended,
-        refused: outcome.refused,
-    }
-}
-
-/// Does what is asked with the bytes of the reader, and returns the outcome.
-fn answer<R: Read, W: Write + Drop, N: ReportSink>(
-    alloc: Global,
-    ask: &Ask,
-    reader: &mut R,
-    out: &mut Output<W>,
-    reports: &mut N,
-) -> Told
-    requires { TakesOptions ask.now }
-    ensures { (r : List ℕ) × Consumes (R.remaining reader.old) (R.remaining reader.new) r
-        × Does N.notes (asked ask.now r (IsAtEnd (R.remaining reader.new))) result
-        (outputs (channel W.contents out.old) reports.old) (outputs (channel W.contents out.new) reports.new) }
-{
-    match ask {
-        Ask::Check(limits, options) => check(alloc, *limits, *options, reader, out, reports),
-        Ask::Filter(limits, query, options) => {
-            filter(alloc, *limits, query, *options, reader, out, reports)
-        }
-        Ask::Info(limits, options) => info(alloc, *limits, *options, reader, out, reports),
+        _ => outcome,
     }
 }
 
@@ -176,9 +121,19 @@ pub fn perform<R: Read, W: Write + Drop, E: Write + Drop>(
         (record { out = channel W.contents out.new; err = channel E.contents err.new }) }
 {
     laws::first_invalid_line_is_the_end();
+    laws::puts_are_written::<W, WriteReports<'_, E>>();
+    laws::reports_are_collected::<W>();
     let mut reports = WriteReports::new(err);
-    let told = answer(alloc, ask, reader, out, &mut reports);
+    let outcome = match ask {
+        Ask::Check(limits, options) => {
+            check(alloc, *limits, *options, reader, out, &mut reports)
+        }
+        Ask::Filter(limits, query, options) => {
+            run(alloc, reader, out, &mut reports, *limits, query, *options)
+        }
+        Ask::Info(limits, options) => info(alloc, *limits, *options, reader, out, &mut reports),
+    };
     let reported = reports.written();
-    let shown = show_after(reported, out.flush(), told.end, err);
-    status_after(told.refused, shown.end)
+    let shown = show_after(reported, out.flush(), outcome.ended, err);
+    status_after(outcome.refused, shown.end)
 }

@@ -1,50 +1,109 @@
-use Rattle.std.proofs.Common.{◌≡◌, [], Ok, ap, sym, subst, ◌∙◌}
+use Rattle.std.proofs.Common.{◌≡◌, ◌∙◌, List, ℕ, [], Ok, ap, refl, subst, sym}
+use Rattle.std.specs.Io.KnownBytes.{Consumes, IsAtEnd}
+use Rattle.cj_stream.specs.Headline.{outputs}
 use Rattle.cj_stream.specs.Output.{channel, output_failures}
 use Rattle.cj_stream.specs.Sink.{HasRisen}
-use Rattle.cityseq_command.specs.Performed.{rules_of_ask}
+use Rattle.cj_stream.specs.Verdict.{stream_of}
+use Rattle.cj_stream.specs.declared.ending.End.TheVariants.{Memory}
+use Rattle.cityseq_command.specs.Performed.{Does, Performs, asked, rules_of_ask, run_of}
 use Rattle.cityseq_command.specs.FaultLines.{fault_line, status_after}
-use Rattle.cityseq_command.specs.ReportWriter.{lent_output, report_lines}
-use Rattle.cityseq_command.proofs.PerformLemmas.{Answers-kept, enough-told}
+use Rattle.cityseq_command.specs.ReportWriter.{WritesReport, lent_output, report_lines}
+use Rattle.cityseq_command.specs.declared.ask.Ask.TheVariants.{Filter}
+use Rattle.cityseq_command.proofs.PerformLemmas.{Answers-kept, Does-run, enough-told}
 use Rattle.cityseq_command.proofs.WroteLemmas.{WroteAfter-then, wrote-reports}
+use Rattle.cityseq_command.proofs.ask.perform.Given.{Over}
 use Rattle.cityseq_command.proofs.ask.perform.Goals as goal
+use Rattle.cityseq_command.proofs.ask.perform.Goals.{in-Check, in-Filter, in-Info}
 
--- The sink of reports holds the same loan to the end, so what it left is what the end is told on.
-pub returns : goal.returns
-returns g c =
-    let e = c.answer-told.ensures in
-    let d = e.2 in
-    let shown = c.show_after-shown.result in
-    let wrote = wrote-reports g.E.Write.contents d.refused c.new-reports.result c.answer-told.new.reports d.reported.took in
-    let back : c.err-1.given.0 ≡ lent_output c.answer-told.new.reports = c.err-1.given.1 (sym c.new-reports.ensures.same_loan ∙ sym wrote.0) in
-    let lines = rw (c.new-reports.ensures.unwritten, c.new-reports.ensures.output, ← back, ← c.written-reported.ensures) at wrote.1 in
-    let line = WroteAfter-then (Ok tt) c.written-reported.result shown.line (report_lines d.refused) (fault_line shown.end) (channel g.E.Write.contents c.args.err.now) (channel g.E.Write.contents c.err-1.given.0) (channel g.E.Write.contents c.show_after-shown.new.err)
-    lines c.show_after-shown.ensures.line in (
+-- what is asked was done before the flush
+abbrev Did : (g : Over) → goal.After-status_after g → List ℕ → Type 0
+Did g c r =
+    Does (WritesReport g.E.Write.contents)
+    (asked c.args.ask.now r (IsAtEnd (g.R.Read.remaining c.match-ask.reader))) c.match-ask.outcome
+    (outputs (channel g.W.Write.contents c.args.out.now) c.new-reports.result)
+    (outputs (channel g.W.Write.contents c.match-ask.out) c.match-ask.reports)
+
+did : (g : Over) (c : goal.After-status_after g) → (r : List ℕ)
+    × Consumes (g.R.Read.remaining c.args.reader.now) (g.R.Read.remaining c.match-ask.reader) r × Did g c r
+did g c = elim c.match-ask.branch [
+  | in-Check w ↦ rw (w.reader-is, w.out-is, w.reports-is, w.outcome-is, w.in-Check.is) w.check-outcome.ensures
+  | in-Filter w ↦
+    let ran = w.run-outcome.ensures in
+    let e = ran.runs in
+    let ended = w.run-outcome.result.ended in
+    let ask = Filter w.in-Filter.limits w.in-Filter.query w.in-Filter.options in
+    let run = run_of ask e.0 w.run-outcome.result in
+    let left = g.R.Read.remaining w.run-outcome.new.reader in
+    let old = c.args.out.now in
+    let new = w.run-outcome.new.sink in
+    let none = λ (is : ended ≡ Memory). (ran.memory is).0 in
+    let writes = c.puts_are_written.ensures in
+    let law = c.reports_are_collected.ensures in
+    rw (w.reader-is, w.out-is, w.reports-is, w.outcome-is, w.in-Filter.is) (
       e.0,
       e.1,
-      record {
-        outcome = d.outcome;
-        refused = d.refused;
-        told = c.answer-told.result.end;
-        shown = c.show_after-shown.result;
-        account = d.account;
-        stops = d.stops;
-        within = d.within;
-        enough = λ few is. enough-told c.args.ask.now e.0 _ d.outcome d.refused c.answer-told.result.end _ _ _ d.answers d.within few is;
-        reported = d.reported.collected;
-        usual = λ off.
-            let added = d.reported.collected.reports in
-            let none : added.added ≡ [] = sym added.told ∙ c.first_invalid_line_is_the_end.ensures.unreported_first (rules_of_ask c.args.ask.now) e.0 d.outcome.lines off d.account.counts.good in
-            let taken = rw none at added.noted in
-            taken;
-        answers = Answers-kept c.args.ask.now e.0 _ d.outcome d.refused c.answer-told.result.end (channel g.W.Write.contents c.args.out.now) (channel g.W.Write.contents c.answer-told.new.out) (channel g.W.Write.contents c.flush.new.self)
-            d.answers c.flush.ensures.bytes c.flush.ensures.failures;
-        cause = λ is. subst (λ n. HasRisen (output_failures c.args.out.now) n) (sym c.flush.ensures.failures) (d.cause is);
-        reports = record {
-          flushed = c.flush.result;
-          told = c.flush.ensures.noted;
-          end = c.show_after-shown.ensures.end;
-          line = line;
-        };
-        status = c.status_after.ensures ∙ ap (λ n. status_after n c.show_after-shown.result.end) d.count;
-      },
+      Does-run (WritesReport g.E.Write.contents) ask e.0 (IsAtEnd left) run.outcome run.outcome
+          (channel g.W.Write.contents old) (channel g.W.Write.contents new) c.new-reports.result
+          w.run-outcome.new.reports refl e.3.account e.2 e.4 e.5 (law.runs run left e.3.account none) (
+            refl,
+            writes.runs (stream_of run.rules e.0) ended old new e.3.puts,
+            law.headline run left old new e.3 none ran.cause,
+            writes.lines run left old new e.3 none,
+          ) ran.cause,
     )
+  | in-Info w ↦ rw (w.reader-is, w.out-is, w.reports-is, w.outcome-is, w.in-Info.is) w.info-outcome.ensures
+]
+
+-- The sink of reports holds the same loan to the end, so what it left is what the end is told on.
+performs : (g : Over) (c : goal.After-status_after g) (r : List ℕ) → Did g c r
+    → Performs (asked c.args.ask.now r (IsAtEnd (g.R.Read.remaining c.match-ask.reader))) c.status_after.result
+    (record { out = channel g.W.Write.contents c.args.out.now; err = channel g.E.Write.contents c.args.err.now })
+    (record {
+      out = channel g.W.Write.contents c.flush.new.self;
+      err = channel g.E.Write.contents c.show_after-shown.new.err;
+    })
+performs g c r d =
+    let told = c.match-ask.outcome.ended in
+    let shown = c.show_after-shown.result in
+    let wrote = wrote-reports g.E.Write.contents d.refused c.new-reports.result c.match-ask.reports d.reported.took in
+    let back : c.err-1.given.0 ≡ lent_output c.match-ask.reports =
+    c.err-1.given.1 (sym c.new-reports.ensures.same_loan ∙ sym wrote.0) in
+    let new = c.new-reports.ensures in
+    let lines = rw (new.unwritten, new.output, ← back, ← c.written-reported.ensures) at wrote.1 in
+    let line = WroteAfter-then (Ok tt) c.written-reported.result shown.line (report_lines d.refused)
+    (fault_line shown.end) (channel g.E.Write.contents c.args.err.now) (channel g.E.Write.contents c.err-1.given.0)
+    (channel g.E.Write.contents c.show_after-shown.new.err) lines c.show_after-shown.ensures.line in
+    record {
+      outcome = d.outcome;
+      refused = d.refused;
+      told = told;
+      shown = shown;
+      account = d.account;
+      stops = d.stops;
+      within = d.within;
+      enough = λ few is.
+          enough-told c.args.ask.now r _ d.outcome d.refused told _ _ _ d.answers d.within few is;
+      reported = d.reported.collected;
+      usual = λ off.
+          let added = d.reported.collected.reports in
+          let law = c.first_invalid_line_is_the_end.ensures.unreported_first in
+          let none : added.added ≡ [] =
+          sym added.told ∙ law (rules_of_ask c.args.ask.now) r d.outcome.lines off d.account.counts.good in
+          let taken = rw none at added.noted in
+          taken;
+      answers = Answers-kept c.args.ask.now r _ d.outcome d.refused told (channel g.W.Write.contents c.args.out.now)
+          (channel g.W.Write.contents c.match-ask.out) (channel g.W.Write.contents c.flush.new.self) d.answers
+          c.flush.ensures.bytes c.flush.ensures.failures;
+      cause = λ is.
+          subst (λ n. HasRisen (output_failures c.args.out.now) n) (sym c.flush.ensures.failures) (d.cause is);
+      reports = record {
+        flushed = c.flush.result;
+        told = c.flush.ensures.noted;
+        end = c.show_after-shown.ensures.end;
+        line = line;
+      };
+      status = c.status_after.ensures ∙ ap (λ n. status_after n shown.end) d.count;
+    }
+
+pub returns : goal.returns
+returns g c = let e = did g c in (e.0, e.1, performs g c e.0 e.2)
