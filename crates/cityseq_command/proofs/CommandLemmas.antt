@@ -6,14 +6,16 @@ use Rattle.clap.specs.declared.builder.command.Command.{Command}
 use Rattle.cityseq_command.specs.Commands.{IsOption, IsCommand}
 
 -- a command with one more option
-pub with_option : {old new : Command} {a : Arg} {s : App} {r : Rule} → IsCommand old s → IsOption a r → AddsArg old a new → IsCommand new (with_rule s r)
+pub with_option : {old new : Command} {a : Arg} {s : App} {r : Rule} → IsCommand old s → IsOption a r
+    → AddsArg old a new → IsCommand new (with_rule s r)
 with_option is_old is_option adds = record {
   app = adds.shape is_option.local ∙ ap₂ with_rule is_old.app is_option.rule;
   local = adds.globals ∙ rw (is_old.local, is_option.local) refl;
 }
 
 -- a command with one more command below it
-pub with_command : {old sub new : Command} {s u : App} → IsCommand old s → IsCommand sub u → AddsSubcommand old sub new → IsCommand new (with_subcommand s u.top)
+pub with_command : {old sub new : Command} {s u : App} → IsCommand old s → IsCommand sub u → AddsSubcommand old sub new
+    → IsCommand new (with_subcommand s u.top)
 with_command is_old is_sub adds = record {
   app = adds.shape is_sub.local ∙ ap₂ with_subcommand is_old.app (ap (λ (a : App). a.top) is_sub.app);
   local = adds.globals ∙ rw (is_old.local, is_sub.local) refl;

@@ -12,5 +12,7 @@ use Rattle.cj_stream.specs.BoxText.{fields}
 abbrev pub steps : Split ℕ → Option (Bor (List ℕ)) → Split ℕ → Type 0
 steps = split_steps FindsChar (λ a b. b ≡ a)
 
-pub fields-split : (text : List ℕ) {s t : Split ℕ} → split_text s ≡ text → split_has_more s ≡ true → split_pattern s ≡ 44 → t ≡ s → YieldsList steps (λ x. x.now) t (fields text)
-fields-split text is has_more comma same = YieldsList-at same (YieldsList-from_str_split 44 text (lit< tt) is has_more comma)
+pub fields-split : (text : List ℕ) {s t : Split ℕ} → split_text s ≡ text → split_has_more s ≡ true
+    → split_pattern s ≡ 44 → t ≡ s → YieldsList steps (λ x. x.now) t (fields text)
+fields-split text is has_more comma same =
+    YieldsList-at same (YieldsList-from_str_split 44 text (lit< tt) is has_more comma)

@@ -43,7 +43,8 @@ Appends-kept (Some a) (Some b) None x p q = absurd q
 Appends-kept (Some a) (Some b) (Some c) x p q = q ∙ p
 
 AppendsPart-kept : (a b c : Option (List ℕ)) (x : List ℕ) → AppendsPart a b x → Keeps b c → AppendsPart a c x
-AppendsPart-kept a b c x p q = record { front = p.front; rest = p.rest; whole = p.whole; grows = Appends-kept a b c p.front p.grows q }
+AppendsPart-kept a b c x p q =
+    record { front = p.front; rest = p.rest; whole = p.whole; grows = Appends-kept a b c p.front p.grows q }
 
 Writes-kept : (rules : Rules) (r : List ℕ) (e : End) (a b c : Option (List ℕ)) → Writes (stream_of rules r) e a b
     → Keeps b c → Writes (stream_of rules r) e a c
@@ -71,8 +72,10 @@ WritesLines-kept rules r n WriteFault a b c h k = record {
 }
 WritesLines-kept rules r n Memory a b c h k = (h.0, Keeps-then a b c h.1 k)
 
-Wrote-kept : (text : List ℕ) (answer : Result (Unit {0}) Unwritten) (a b c : Channel) → Wrote text answer a b → Keeps b.bytes c.bytes → c.failures ≡ b.failures → Wrote text answer a c
-Wrote-kept text (Ok x) a b c w k f = record { whole = Appends-kept a.bytes b.bytes c.bytes text w.whole k; front = tt; failures = f ∙ w.failures }
+Wrote-kept : (text : List ℕ) (answer : Result (Unit {0}) Unwritten) (a b c : Channel) → Wrote text answer a b
+    → Keeps b.bytes c.bytes → c.failures ≡ b.failures → Wrote text answer a c
+Wrote-kept text (Ok x) a b c w k f =
+    record { whole = Appends-kept a.bytes b.bytes c.bytes text w.whole k; front = tt; failures = f ∙ w.failures }
 Wrote-kept text (Err e) a b c w k f = record {
   whole = tt;
   front = AppendsPart-kept a.bytes b.bytes c.bytes text w.front k;
@@ -80,7 +83,8 @@ Wrote-kept text (Err e) a b c w k f = record {
 }
 
 -- a write fault that is told of a text has its cause
-pub cause-text : (written : Result (Unit {0}) Unwritten) (told : End) (a b : ℕ) → told ≡ end_of_writing written → RisesOnErr written a b → told ≡ WriteFault → HasRisen a b
+pub cause-text : (written : Result (Unit {0}) Unwritten) (told : End) (a b : ℕ) → told ≡ end_of_writing written
+    → RisesOnErr written a b → told ≡ WriteFault → HasRisen a b
 cause-text (Ok x) told a b tells rises is = let other : Complete ≡ WriteFault = sym tells ∙ is in cc
 cause-text (Err e) told a b tells rises is = rises
 
@@ -93,7 +97,8 @@ pub no_fault : (e : End) → (e ≡ WriteFault → HasRisen 0 0) → e ≡ Write
 no_fault e cause is = unrisen (cause is)
 
 -- nothing was written after a run that is not complete
-pub Says-nothing : (text : List ℕ) (e : End) (a : Channel) → (e ≡ Complete → ⊥) → (e ≡ WriteFault → ⊥) → Says text e e a a
+pub Says-nothing : (text : List ℕ) (e : End) (a : Channel) → (e ≡ Complete → ⊥) → (e ≡ WriteFault → ⊥)
+    → Says text e e a a
 Says-nothing text Complete a other well = absurd (other refl)
 Says-nothing text (Refused line place reason) a other well = (refl, Keeps-refl a.bytes)
 Says-nothing text ReadFault a other well = (refl, Keeps-refl a.bytes)
@@ -102,7 +107,8 @@ Says-nothing text WriteFault a other well = well refl
 Says-nothing text Memory a other well = (refl, Keeps-refl a.bytes)
 
 -- what was said stays where the writer keeps its bytes
-pub Says-kept : (text : List ℕ) (e told : End) (a b c : Channel) → Says text e told a b → Keeps b.bytes c.bytes → c.failures ≡ b.failures → Says text e told a c
+pub Says-kept : (text : List ℕ) (e told : End) (a b c : Channel) → Says text e told a b → Keeps b.bytes c.bytes
+    → c.failures ≡ b.failures → Says text e told a c
 Says-kept text Complete told a b c p k f = (p.0, p.1, Wrote-kept text p.0 a b c p.2 k f)
 Says-kept text (Refused line place reason) told a b c p k f = (p.0, Keeps-then a.bytes b.bytes c.bytes p.1 k)
 Says-kept text ReadFault told a b c p k f = (p.0, Keeps-then a.bytes b.bytes c.bytes p.1 k)
@@ -110,12 +116,17 @@ Says-kept text ReadLimit told a b c p k f = (p.0, Keeps-then a.bytes b.bytes c.b
 Says-kept text WriteFault told a b c p k f = p
 Says-kept text Memory told a b c p k f = (p.0, Keeps-then a.bytes b.bytes c.bytes p.1 k)
 
--- the features that a complete run kept are those among what is kept, and the lines that it refused those that are reported
-pub features-kept : (rules : Rules) (r : List ℕ) (n features refused : ℕ) → (n ≡ length (good rules r) → kept_first rules n r ≡ kept rules r)
-    → Counts rules r n features refused → n ≡ length (good rules r) → features ≡ length (filter is_feature (kept rules r))
-features-kept rules r n features refused all counts lines = counts.kept ∙ ap (λ is. length (filter is_feature is)) (all lines)
+-- the features that a complete run kept are those among what is kept, and the lines that it refused those that are
+-- reported
+pub features-kept : (rules : Rules) (r : List ℕ) (n features refused : ℕ)
+    → (n ≡ length (good rules r) → kept_first rules n r ≡ kept rules r)
+    → Counts rules r n features refused → n ≡ length (good rules r)
+    → features ≡ length (filter is_feature (kept rules r))
+features-kept rules r n features refused all counts lines = counts.kept
+    ∙ ap (λ is. length (filter is_feature is)) (all lines)
 
-pub lines-refused : (rules : Rules) (r : List ℕ) (n features refused : ℕ) → (n ≡ length (good rules r) → reported_first rules n r ≡ reported rules r)
+pub lines-refused : (rules : Rules) (r : List ℕ) (n features refused : ℕ)
+    → (n ≡ length (good rules r) → reported_first rules n r ≡ reported rules r)
     → Counts rules r n features refused → n ≡ length (good rules r) → refused ≡ length (reported rules r)
 lines-refused rules r n features refused all counts lines = counts.refused ∙ ap (λ rs. length rs) (all lines)
 
@@ -145,15 +156,20 @@ Does-run notes ask r at_end outcome told a b n m rest account within noted stops
     }
 
 -- a check or a summary after a complete run, of what that counted
-pub Says-check : (rules : Rules) (r : List ℕ) (n m k : ℕ) (written : Result (Unit {0}) Unwritten) (told : End) (old new : Channel)
-    → n ≡ length (good rules r) → m ≡ length (filter is_feature (kept rules r)) → k ≡ length (reported rules r) → told ≡ end_of_writing written
+pub Says-check : (rules : Rules) (r : List ℕ) (n m k : ℕ) (written : Result (Unit {0}) Unwritten) (told : End)
+    (old new : Channel)
+    → n ≡ length (good rules r) → m ≡ length (filter is_feature (kept rules r)) → k ≡ length (reported rules r)
+    → told ≡ end_of_writing written
     → Wrote (check_text n m k) written old new → SaysCheck (stream_of rules r) Complete told old new
 Says-check rules r n m k written told old new lines features refused tells wrote =
-    let now : Wrote (check_text (length (good rules r)) (length (filter is_feature (kept rules r))) (length (reported rules r))) written old new = rw (← lines, ← features, ← refused) wrote in
+    let now : Wrote (check_text (length (good rules r)) (length (filter is_feature (kept rules r)))
+        (length (reported rules r))) written old new = rw (← lines, ← features, ← refused) wrote in
     (written, tells, now)
 
-pub Says-summary : (rules : Rules) (r : List ℕ) (n : ℕ) (t : Tally) (peaks : Peaks) (written : Result (Unit {0}) Unwritten) (told : End) (old new : Channel)
-    → n ≡ length (good rules r) → IsTallyOf (kept rules r) t → peaks ≡ exact_peaks rules.limits r → told ≡ end_of_writing written
+pub Says-summary : (rules : Rules) (r : List ℕ) (n : ℕ) (t : Tally) (peaks : Peaks)
+    (written : Result (Unit {0}) Unwritten) (told : End) (old new : Channel)
+    → n ≡ length (good rules r) → IsTallyOf (kept rules r) t → peaks ≡ exact_peaks rules.limits r
+    → told ≡ end_of_writing written
     → Wrote (summary_text n t peaks) written old new → SaysSummary (stream_of rules r) Complete told old new
 Says-summary rules r n t peaks written told old new lines tally held tells wrote = record {
   tally = t;
@@ -198,14 +214,17 @@ Headline-kept notes rules text given e peaks a b c n m h k f = record {
 pub Answers-kept : (ask : Ask) (r : List ℕ) (at_end : Type 0) (outcome : Outcome) (reports : List Report) (told : End)
     (a b c : Channel) → Answers ask (went r at_end outcome reports) told a b
     → Keeps b.bytes c.bytes → c.failures ≡ b.failures → Answers ask (went r at_end outcome reports) told a c
-Answers-kept (Check limits options) r at_end outcome reports told a b c says k f = Says-kept _ outcome.ended told a b c says k f
+Answers-kept (Check limits options) r at_end outcome reports told a b c says k f =
+    Says-kept _ outcome.ended told a b c says k f
 Answers-kept (Filter limits query options) r at_end outcome reports told a b c says k f = (
   says.0,
   Writes-kept (rules_for limits query options) r outcome.ended a.bytes b.bytes c.bytes says.1 k,
-  λ rest all u. Headline-kept Collects (rules_for limits query options) _ r outcome.ended outcome.peaks a b c [] reports (says.2 rest all u) k f,
+  λ rest all u. Headline-kept Collects (rules_for limits query options) _ r outcome.ended outcome.peaks a b c [] reports
+      (says.2 rest all u) k f,
   WritesLines-kept (rules_for limits query options) r outcome.lines outcome.ended a.bytes b.bytes c.bytes says.3 k,
 )
-Answers-kept (Info limits options) r at_end outcome reports told a b c says k f = SaysSummary-kept _ r outcome.ended told a b c says k f
+Answers-kept (Info limits options) r at_end outcome reports told a b c says k f =
+    SaysSummary-kept _ r outcome.ended told a b c says k f
 
 -- ---- the reads of a run
 
@@ -214,7 +233,8 @@ text-limit : (written : Result (Unit {0}) Unwritten) → end_of_writing written 
 text-limit (Ok x) h = cc
 text-limit (Err e) h = cc
 
-Says-limit : (text : List ℕ) (e told : End) (old new : Channel) → Says text e told old new → told ≡ ReadLimit → e ≡ ReadLimit
+Says-limit : (text : List ℕ) (e told : End) (old new : Channel) → Says text e told old new → told ≡ ReadLimit
+    → e ≡ ReadLimit
 Says-limit text Complete told old new says is = absurd (text-limit says.0 (sym says.1 ∙ is))
 Says-limit text (Refused line place reason) told old new says is = sym says.0 ∙ is
 Says-limit text ReadFault told old new says is = sym says.0 ∙ is
@@ -225,9 +245,11 @@ Says-limit text Memory told old new says is = sym says.0 ∙ is
 Answers-limit : (ask : Ask) (r : List ℕ) (at_end : Type 0) (outcome : Outcome) (reports : List Report) (told : End)
     (old new : Channel) → Answers ask (went r at_end outcome reports) told old new
     → told ≡ ReadLimit → outcome.ended ≡ ReadLimit
-Answers-limit (Check limits options) r at_end outcome reports told old new says is = Says-limit _ outcome.ended told old new says is
+Answers-limit (Check limits options) r at_end outcome reports told old new says is =
+    Says-limit _ outcome.ended told old new says is
 Answers-limit (Filter limits query options) r at_end outcome reports told old new says is = sym says.0 ∙ is
-Answers-limit (Info limits options) r at_end outcome reports told old new says is = Says-limit _ outcome.ended told old new says.says is
+Answers-limit (Info limits options) r at_end outcome reports told old new says is =
+    Says-limit _ outcome.ended told old new says.says is
 
 -- where the reads ran out, each of them gave a byte
 limit-reads : (reads : ℕ) (r : List ℕ) (e : End) → e ≡ ReadLimit → IsReadWithin reads r e → reads ≤ length r
@@ -236,8 +258,10 @@ limit-reads reads r e is w =
     omega (arith, all, w.least)
 
 -- of too few bytes it is never told that the reads ran out
-pub enough-told : (ask : Ask) (r : List ℕ) (at_end : Type 0) (outcome : Outcome) (reports : List Report) (told : End) (old new : Channel) (reads : ℕ)
+pub enough-told : (ask : Ask) (r : List ℕ) (at_end : Type 0) (outcome : Outcome) (reports : List Report) (told : End)
+    (old new : Channel) (reads : ℕ)
     → Answers ask (went r at_end outcome reports) told old new → IsReadWithin reads r outcome.ended → length r < reads
     → told ≡ ReadLimit → ⊥
 enough-told ask r at_end outcome reports told old new reads says within few is =
-    omega (arith, few, limit-reads reads r outcome.ended (Answers-limit ask r at_end outcome reports told old new says is) within)
+    omega (arith, few, limit-reads reads r outcome.ended
+        (Answers-limit ask r at_end outcome reports told old new says is) within)

@@ -23,7 +23,8 @@ Appends-then (Some a) (Some b) None x y p q = absurd q
 Appends-then (Some a) (Some b) (Some c) x y p q = q ∙ (ap (λ z. z ++ y) p ∙ append_assoc a x y)
 
 -- some bytes, and then a prefix of others
-pub AppendsPart-after : (a b c : Option (List ℕ)) (x y : List ℕ) → Appends a b x → AppendsPart b c y → AppendsPart a c (x ++ y)
+pub AppendsPart-after : (a b c : Option (List ℕ)) (x y : List ℕ) → Appends a b x → AppendsPart b c y
+    → AppendsPart a c (x ++ y)
 AppendsPart-after a b c x y p q = record {
   front = x ++ q.front;
   rest = q.rest;
@@ -61,7 +62,8 @@ module _ {A : Type 0} (f : A → List ℕ) (xs : List A) (i : ℕ) where
       ∙ ap (λ z. flat_map f (take i xs) ++ z) (append-nil (f (get_or xs i d)))
 
   -- all parts: those before one, that one, and those after it
-  pub parts_at : (d : A) → i < length xs → flat_map f xs ≡ (flat_map f (take i xs) ++ f (get_or xs i d)) ++ flat_map f (drop (i + 1) xs)
+  pub parts_at : (d : A) → i < length xs → flat_map f xs ≡ (flat_map f (take i xs) ++ f (get_or xs i d))
+      ++ flat_map f (drop (i + 1) xs)
   parts_at d small =
       ap (flat_map f) (sym (take-append-drop (i + 1) xs))
       ∙ flat_map-append f (take (i + 1) xs) (drop (i + 1) xs)
@@ -84,14 +86,20 @@ module _ {T E : Type 0} (r : Result T E) (a b : Option (List ℕ)) (x : List ℕ
   -- one text, and what came of the others
   module _ (c : Option (List ℕ)) (y : List ℕ) (first : Appends a b x) where
     pub written-after : OnOk r (Appends b c y) → OnOk r (Appends a c (x ++ y))
-    written-after = elim r as (λ r. OnOk r (Appends b c y) → OnOk r (Appends a c (x ++ y))) [ Ok v ↦ λ h. Appends-then a b c x y first h | Err e ↦ λ h. tt ]
+    written-after =
+        elim r as (λ r. OnOk r (Appends b c y) → OnOk r (Appends a c (x ++ y))) [ Ok v ↦
+            λ h. Appends-then a b c x y first h | Err e ↦ λ h. tt ]
 
     pub fault-after : OnErr r (AppendsPart b c y) → OnErr r (AppendsPart a c (x ++ y))
-    fault-after = elim r as (λ r. OnErr r (AppendsPart b c y) → OnErr r (AppendsPart a c (x ++ y))) [ Ok v ↦ λ h. tt | Err e ↦ λ h. AppendsPart-after a b c x y first h ]
+    fault-after =
+        elim r as (λ r. OnErr r (AppendsPart b c y) → OnErr r (AppendsPart a c (x ++ y))) [ Ok v ↦ λ h. tt | Err e ↦
+            λ h. AppendsPart-after a b c x y first h ]
 
 -- ---- what `check` says of a stream with lines that are refused
 
 pub check-refused : (lines features refused : ℕ) → 0 < refused
-    → check_text lines features refused ≡ joined (codes "invalid lines=" ∷ decimal lines ∷ codes " features=" ∷ decimal features ∷ codes " refused=" ∷ decimal refused ∷ codes "\n" ∷ [])
+    → check_text lines features refused
+    ≡ joined (codes "invalid lines=" ∷ decimal lines ∷ codes " features=" ∷ decimal features ∷ codes " refused="
+        ∷ decimal refused ∷ codes "\n" ∷ [])
 check-refused lines features zero some = absurd (omega (arith, some))
 check-refused lines features (suc n) some = refl

@@ -17,7 +17,8 @@ pub Wrote-nothing : (v : Unit {0}) (a : Channel) → Wrote [] (Ok v) a a
 Wrote-nothing v a = record { whole = Appends-nothing a.bytes; front = tt; failures = refl }
 
 -- one text, and what came of the one after it
-pub Wrote-then : (r : Result (Unit {0}) WriteFault) (v : Unit {0}) (x y : List ℕ) (a b c : Channel) → Wrote x (Ok v) a b → Wrote y r b c → Wrote (x ++ y) r a c
+pub Wrote-then : (r : Result (Unit {0}) WriteFault) (v : Unit {0}) (x y : List ℕ) (a b c : Channel) → Wrote x (Ok v) a b
+    → Wrote y r b c → Wrote (x ++ y) r a c
 Wrote-then (Ok w) v x y a b c p q = record {
   whole = Appends-then a.bytes b.bytes c.bytes x y p.whole q.whole;
   front = tt;
@@ -38,12 +39,14 @@ module _ (r : Result (Unit {0}) WriteFault) (is : IsErr r) where
   pub Wrote-front : (x y : List ℕ) (a b : Channel) → Wrote x r a b → Wrote (x ++ y) r a b
   Wrote-front = elim r as (λ r. IsErr r → (x y : List ℕ) (a b : Channel) → Wrote x r a b → Wrote (x ++ y) r a b) [
     | Ok v ↦ λ is x y a b p. absurd (cc is)
-    | Err e ↦ λ is x y a b p. record { whole = tt; front = AppendsPart-front a.bytes b.bytes x y p.front; failures = p.failures }
+    | Err e ↦ λ is x y a b p.
+        record { whole = tt; front = AppendsPart-front a.bytes b.bytes x y p.front; failures = p.failures }
   ] is
 
   -- any answer that tells a failure does
   pub Wrote-told : (e : WriteFault) (x : List ℕ) (a b : Channel) → Wrote x (Err e) a b → Wrote x r a b
-  Wrote-told = elim r as (λ r. IsErr r → (e : WriteFault) (x : List ℕ) (a b : Channel) → Wrote x (Err e) a b → Wrote x r a b) [
+  Wrote-told =
+      elim r as (λ r. IsErr r → (e : WriteFault) (x : List ℕ) (a b : Channel) → Wrote x (Err e) a b → Wrote x r a b) [
     | Ok v ↦ λ is e x a b p. absurd (cc is)
     | Err f ↦ λ is e x a b p. record { whole = tt; front = p.front; failures = p.failures }
   ] is
@@ -54,10 +57,12 @@ module _ (r : Result (Unit {0}) WriteFault) (is : IsErr r) where
 -- ---- after other texts
 
 -- a text after others, and then one more
-pub WroteAfter-then : (p q r : Result (Unit {0}) WriteFault) (x y : List ℕ) (a b c : Channel) → WroteAfter p x q a b → WroteAfter q y r b c → WroteAfter p (x ++ y) r a c
+pub WroteAfter-then : (p q r : Result (Unit {0}) WriteFault) (x y : List ℕ) (a b c : Channel) → WroteAfter p x q a b
+    → WroteAfter q y r b c → WroteAfter p (x ++ y) r a c
 WroteAfter-then (Ok v) (Ok w) r x y a b c first second = Wrote-then r w x y a b c first second
 WroteAfter-then (Ok v) (Err e) r x y a b c first second =
-    rw (second.0, second.1) (record { whole = tt; front = AppendsPart-front a.bytes b.bytes x y first.front; failures = first.failures })
+    rw (second.0, second.1) (record { whole = tt; front = AppendsPart-front a.bytes b.bytes x y first.front;
+            failures = first.failures })
 WroteAfter-then (Err e) q r x y a b c first second = let k = rw (first.0, first.1) at second in k
 
 WroteAfter-nothing : (p : Result (Unit {0}) WriteFault) (a : Channel) → WroteAfter p [] p a a
@@ -65,25 +70,37 @@ WroteAfter-nothing (Ok v) a = Wrote-nothing v a
 WroteAfter-nothing (Err e) a = (refl, refl)
 
 -- reports that a sink wrote, in turn
-pub wrote-reports : {E : Type 0} (contents : E → Option (List ℕ)) (xs : List Report) (a b : WriteReports E) → Took (WritesReport contents) a xs b
-    → (loan_name b ≡ loan_name a) × WroteAfter (writing a) (report_lines xs) (writing b) (channel contents (lent_output a)) (channel contents (lent_output b))
+pub wrote-reports : {E : Type 0} (contents : E → Option (List ℕ)) (xs : List Report) (a b : WriteReports E)
+    → Took (WritesReport contents) a xs b
+    → (loan_name b ≡ loan_name a)
+    × WroteAfter (writing a) (report_lines xs) (writing b) (channel contents (lent_output a))
+        (channel contents (lent_output b))
 wrote-reports contents [] a b took = rw took (refl, WroteAfter-nothing (writing a) (channel contents (lent_output a)))
 wrote-reports contents (x ∷ xs) a b took =
     let rest = wrote-reports contents xs took.0 b took.2 in
-    (rest.0 ∙ took.1.same_loan, WroteAfter-then (writing a) (writing took.0) (writing b) (report_line x) (report_lines xs) _ _ _ took.1.line rest.1)
+    (rest.0 ∙ took.1.same_loan,
+        WroteAfter-then (writing a) (writing took.0) (writing b) (report_line x) (report_lines xs) _ _ _ took.1.line
+        rest.1)
 
 -- ---- parts of a list
 
-module _ {A : Type 0} (f : A → List ℕ) (xs : List A) (i : ℕ) (a b : Channel) (before : Wrote (flat_map f (take i xs)) (Ok tt) a b) where
+module _ {A : Type 0} (f : A → List ℕ) (xs : List A) (i : ℕ) (a b : Channel)
+    (before : Wrote (flat_map f (take i xs)) (Ok tt) a b) where
   -- one part more
-  pub part-wrote : (c : Channel) (d : A) (v : Unit {0}) → i < length xs → Wrote (f (get_or xs i d)) (Ok v) b c → Wrote (flat_map f (take (i + 1) xs)) (Ok tt) a c
+  pub part-wrote : (c : Channel) (d : A) (v : Unit {0}) → i < length xs → Wrote (f (get_or xs i d)) (Ok v) b c
+      → Wrote (flat_map f (take (i + 1) xs)) (Ok tt) a c
   part-wrote c d v small now =
-      rw (parts_more f xs i d small) (Wrote-then (Ok tt) tt (flat_map f (take i xs)) (f (get_or xs i d)) a b c before (record { whole = now.whole; front = tt; failures = now.failures }))
+      rw (parts_more f xs i d small)
+          (Wrote-then (Ok tt) tt (flat_map f (take i xs)) (f (get_or xs i d)) a b c before
+          (record { whole = now.whole; front = tt; failures = now.failures }))
 
   -- one part that failed
-  pub part-stops : (c : Channel) (r : Result (Unit {0}) WriteFault) → IsErr r → (d : A) (e : WriteFault) → i < length xs → Wrote (f (get_or xs i d)) (Err e) b c → Wrote (flat_map f xs) r a c
+  pub part-stops : (c : Channel) (r : Result (Unit {0}) WriteFault) → IsErr r → (d : A) (e : WriteFault) → i < length xs
+      → Wrote (f (get_or xs i d)) (Err e) b c → Wrote (flat_map f xs) r a c
   part-stops c r is d e small now =
-      rw (parts_at f xs i d small) (Wrote-stops r is e _ _ a c (Wrote-then (Err e) tt (flat_map f (take i xs)) (f (get_or xs i d)) a b c before now))
+      rw (parts_at f xs i d small)
+          (Wrote-stops r is e _ _ a c
+          (Wrote-then (Err e) tt (flat_map f (take i xs)) (f (get_or xs i d)) a b c before now))
 
   -- all parts
   pub parts-wrote : length xs ≤ i → Wrote (flat_map f xs) (Ok tt) a b

@@ -14,21 +14,29 @@ use Rattle.cityseq_command.proofs.asking.query_of.Goals as goal
 -- what `add_types` and `bbox` answer, with the criteria before and after
 module _ (r : Result (Unit {0}) QueryFault) (old new : Criteria) where
   abbrev SetsTypes : Option (List Bool) → Type 0
-  SetsTypes flags = MatchOption flags (r ≡ Err UnknownTypeName) (λ flags. (r ≡ Ok tt) × (new ≡ record old { types = Some flags }))
+  SetsTypes flags =
+      MatchOption flags (r ≡ Err UnknownTypeName) (λ flags. (r ≡ Ok tt) × (new ≡ record old { types = Some flags }))
 
   abbrev SetsBox : Result Box QueryFault → Type 0
-  SetsBox box = MatchResult box (λ box. (r ≡ Ok tt) × (new ≡ record old { box = Some box })) (λ fault. (r ≡ Err fault) × (new ≡ old))
+  SetsBox box =
+      MatchResult box (λ box. (r ≡ Ok tt) × (new ≡ record old { box = Some box }))
+          (λ fault. (r ≡ Err fault) × (new ≡ old))
 
-  types-set : (flags : Option (List Bool)) → SetsTypes flags → r ≡ Ok tt → (types_or_fault flags ≡ Ok new.types) × (new ≡ record old { types = new.types })
+  types-set : (flags : Option (List Bool)) → SetsTypes flags → r ≡ Ok tt → (types_or_fault flags ≡ Ok new.types)
+      × (new ≡ record old { types = new.types })
   types-set None h ok = absurd (cc (h, ok))
-  types-set (Some flags) h ok = (ap (λ a. Ok a.types) (sym h.1), h.1 ∙ ap (λ types. record old { types = types }) (sym (ap (λ a. a.types) h.1)))
+  types-set (Some flags) h ok =
+      (ap (λ a. Ok a.types) (sym h.1), h.1 ∙ ap (λ types. record old { types = types }) (sym (ap (λ a. a.types) h.1)))
 
-  types-declined : (fault : QueryFault) (flags : Option (List Bool)) → SetsTypes flags → r ≡ Err fault → (fault ≡ UnknownTypeName) × (flags ≡ None)
+  types-declined : (fault : QueryFault) (flags : Option (List Bool)) → SetsTypes flags → r ≡ Err fault
+      → (fault ≡ UnknownTypeName) × (flags ≡ None)
   types-declined fault None h err = (cc (h, err), refl)
   types-declined fault (Some flags) h err = absurd (cc (h.0, err))
 
-  box-set : (box : Result Box QueryFault) → SetsBox box → r ≡ Ok tt → (box_or_fault box ≡ Ok new.box) × (new ≡ record old { box = new.box })
-  box-set (Ok box) h ok = (ap (λ a. Ok a.box) (sym h.1), h.1 ∙ ap (λ box. record old { box = box }) (sym (ap (λ a. a.box) h.1)))
+  box-set : (box : Result Box QueryFault) → SetsBox box → r ≡ Ok tt → (box_or_fault box ≡ Ok new.box)
+      × (new ≡ record old { box = new.box })
+  box-set (Ok box) h ok =
+      (ap (λ a. Ok a.box) (sym h.1), h.1 ∙ ap (λ box. record old { box = box }) (sym (ap (λ a. a.box) h.1)))
   box-set (Err fault) h ok = absurd (cc (h.0, ok))
 
   box-declined : (fault : QueryFault) (box : Result Box QueryFault) → SetsBox box → r ≡ Err fault → box ≡ Err fault
@@ -36,14 +44,18 @@ module _ (r : Result (Unit {0}) QueryFault) (old new : Criteria) where
   box-declined fault (Err other) h err = cc (h.0, err)
 
 -- memory is no reason to decline a box
-declined-by-text : (wrong wide empty : Bool) (box : Box) → (if wrong then Err BadBox else if wide then Err BoxRange else if empty then Err EmptyBox else Ok box) ≡ Err Memory → ⊥
+declined-by-text : (wrong wide empty : Bool) (box : Box)
+    → (if wrong then Err BadBox else if wide then Err BoxRange else if empty then Err EmptyBox else Ok box) ≡ Err Memory
+    → ⊥
 declined-by-text true wide empty box e = cc e
 declined-by-text false true empty box e = cc e
 declined-by-text false false true box e = cc e
 declined-by-text false false false box e = cc e
 
 box-takes-none : (s : List ℕ) → box_text s ≡ Err Memory → ⊥
-box-takes-none s = declined-by-text (not (are_four_numbers (fields s))) (not (list_all is_edge (fields s))) (is_empty (box_between (fields s))) (box_between (fields s))
+box-takes-none s =
+    declined-by-text (not (are_four_numbers (fields s))) (not (list_all is_edge (fields s)))
+        (is_empty (box_between (fields s))) (box_between (fields s))
 
 pub returns-clause-ok : goal.returns-clause-ok
 returns-clause-ok c =
@@ -54,12 +66,16 @@ returns-clause-ok c =
     let last = criteria c.match-texts-4.query in
     let ids : first ≡ record everything { ids = option_map fields texts.ids } =
     elim c.match-texts.branch [
-      | in-Some+in_ok-add_ids w ↦ rw (w.query-is, w.in_ok-add_ids.ensures.ok, c.all-query.ensures.all, w.in-Some.is) refl
+      | in-Some+in_ok-add_ids w ↦
+          rw (w.query-is, w.in_ok-add_ids.ensures.ok, c.all-query.ensures.all, w.in-Some.is) refl
       | in_default w ↦ rw (w.query-is, c.all-query.ensures.all, w.in_default.is) refl
     ] in
     let types : (types_wanted texts.types ≡ Ok second.types) × (second ≡ record first { types = second.types }) =
     elim c.match-texts-2.branch [
-      | in-Some-types+in_ok-add_types w ↦ rw (w.query-is, w.in-Some-types.is) (types-set w.add_types.result first (criteria w.add_types.new.query) _ w.add_types.ensures w.in_ok-add_types.was)
+      | in-Some-types+in_ok-add_types w ↦
+          rw (w.query-is, w.in-Some-types.is)
+          (types-set w.add_types.result first (criteria w.add_types.new.query) _ w.add_types.ensures
+          w.in_ok-add_types.was)
       | in_default-types w ↦ rw (w.query-is, w.in_default-types.is, ids) (refl, refl)
     ] in
     let lods : third ≡ record second { lods = option_map fields texts.lods } =
@@ -69,7 +85,9 @@ returns-clause-ok c =
     ] in
     let box : (box_wanted texts.box ≡ Ok last.box) × (last ≡ record third { box = last.box }) =
     elim c.match-texts-4.branch [
-      | in-Some-bbox+in_ok-bbox w ↦ rw (w.query-is, w.in-Some-bbox.is) (box-set w.bbox.result third (criteria w.bbox.new.self) _ w.bbox.ensures.asks w.in_ok-bbox.was)
+      | in-Some-bbox+in_ok-bbox w ↦
+          rw (w.query-is, w.in-Some-bbox.is)
+          (box-set w.bbox.result third (criteria w.bbox.new.self) _ w.bbox.ensures.asks w.in_ok-bbox.was)
       | in_default-bbox w ↦ rw (w.query-is, w.in_default-bbox.is, lods, types.1, ids) (refl, refl)
     ] in
     rw (types.0, box.0, box.1, lods, types.1, ids) refl
@@ -91,18 +109,25 @@ returns-in_err-add_ids-clause-err c =
 pub returns-in_err-add_types-clause-err : goal.returns-in_err-add_types-clause-err
 returns-in_err-add_types-clause-err c =
     let texts = texts_of c.args.texts.now in
-    let returned = err_from_is_err_and c.from_residual-in_err-add_types.result c.from_residual-in_err-add_types.ensures.1 in
-    let types = types-declined c.add_types.result (criteria c.match-texts.query) (criteria c.add_types.new.query) c.in_err-add_types.field-0.0 _ c.add_types.ensures c.in_err-add_types.was in
+    let returned =
+        err_from_is_err_and c.from_residual-in_err-add_types.result c.from_residual-in_err-add_types.ensures.1 in
+    let types =
+        types-declined c.add_types.result (criteria c.match-texts.query) (criteria c.add_types.new.query)
+            c.in_err-add_types.field-0.0 _ c.add_types.ensures c.in_err-add_types.was in
     rw (returned.1, returned.2, types.0) (rw (c.in-Some-types.is, types.1) refl)
 
 pub returns-in_err-add_lods-clause-err : goal.returns-in_err-add_lods-clause-err
 returns-in_err-add_lods-clause-err c =
     let texts = texts_of c.args.texts.now in
-    let returned = err_from_is_err_and c.from_residual-in_err-add_lods.result c.from_residual-in_err-add_lods.ensures.1 in
+    let returned =
+        err_from_is_err_and c.from_residual-in_err-add_lods.result c.from_residual-in_err-add_lods.ensures.1 in
     let memory : c.in_err-add_lods.field-0.0 ≡ Memory = c.in_err-add_lods.ensures.memory in
     let types : (flags : Option (List Bool)) × (types_wanted texts.types ≡ Ok flags) =
     elim c.match-texts-2.branch [
-      | in-Some-types+in_ok-add_types w ↦ rw w.in-Some-types.is (_, (types-set w.add_types.result (criteria c.match-texts.query) (criteria w.add_types.new.query) _ w.add_types.ensures w.in_ok-add_types.was).0)
+      | in-Some-types+in_ok-add_types w ↦
+          rw w.in-Some-types.is (_,
+          (types-set w.add_types.result (criteria c.match-texts.query) (criteria w.add_types.new.query) _
+              w.add_types.ensures w.in_ok-add_types.was).0)
       | in_default-types w ↦ rw w.in_default-types.is (None, refl)
     ] in
     rw (returned.1, returned.2, memory) (inr (rw c.in-Some-lods.is refl, rw types.1 refl))
@@ -112,11 +137,16 @@ returns-in_err-bbox-clause-err c =
     let texts = texts_of c.args.texts.now in
     let types : (flags : Option (List Bool)) × (types_wanted texts.types ≡ Ok flags) =
     elim c.match-texts-2.branch [
-      | in-Some-types+in_ok-add_types w ↦ rw w.in-Some-types.is (_, (types-set w.add_types.result (criteria c.match-texts.query) (criteria w.add_types.new.query) _ w.add_types.ensures w.in_ok-add_types.was).0)
+      | in-Some-types+in_ok-add_types w ↦
+          rw w.in-Some-types.is (_,
+          (types-set w.add_types.result (criteria c.match-texts.query) (criteria w.add_types.new.query) _
+              w.add_types.ensures w.in_ok-add_types.was).0)
       | in_default-types w ↦ rw w.in_default-types.is (None, refl)
     ] in
     let fault = c.in_err-bbox.field-0.0 in
-    let box = box-declined c.bbox.result (criteria c.match-texts-3.query) (criteria c.bbox.new.self) fault (box_text c.in-Some-bbox.bbox.now) c.bbox.ensures.asks c.in_err-bbox.was in
+    let box = box-declined c.bbox.result (criteria c.match-texts-3.query) (criteria c.bbox.new.self) fault
+        (box_text c.in-Some-bbox.bbox.now) c.bbox.ensures.asks c.in_err-bbox.was in
     let asks : criteria_by texts ≡ Err fault = rw (types.1, c.in-Some-bbox.is, box) refl in
     let returned = err_from_is_err_and c.from_residual-in_err-bbox.result c.from_residual-in_err-bbox.ensures.1 in
-    rw (returned.1, returned.2) (declined texts fault asks (λ same. box-takes-none c.in-Some-bbox.bbox.now (box ∙ ap Err same)))
+    rw (returned.1, returned.2)
+        (declined texts fault asks (λ same. box-takes-none c.in-Some-bbox.bbox.now (box ∙ ap Err same)))

@@ -17,7 +17,9 @@ returns c =
     let parse = c.try_get_matches_from in
     let words = map string_bytes c.args.words.now in
     record {
-      ok = IfOk-weaker parse.result _ _ (λ m h. (h (ap is_simple is ∙ simple)).1 ∙ ap (λ (a : App). subcommand_of a words) is) parse.ensures.matches;
+      ok = IfOk-weaker parse.result _ _
+          (λ m h. (h (ap is_simple is ∙ simple)).1 ∙ ap (λ (a : App). subcommand_of a words) is) parse.ensures.matches;
       err = IfErr-weaker parse.result _ _ (λ e h t. h (ap (λ (a : App). takes a words) is ∙ t)) parse.ensures.passes;
-      kinds = subst (λ (a : App). FailsBy (fault_of a words) parse.result) is (parse.ensures.kinds (ap is_simple_and_free is ∙ free));
+      kinds = subst (λ (a : App). FailsBy (fault_of a words) parse.result) is
+          (parse.ensures.kinds (ap is_simple_and_free is ∙ free));
     }
