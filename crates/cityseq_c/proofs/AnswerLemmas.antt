@@ -60,7 +60,7 @@ pub ended-of : {rules : Rules} {text : List ℕ} {a : Answer} → (x : IsAnswerO
     → ended_by a ≡ Some x.outcome.ended
 ended-of {a = a} x =
     end-told x.outcome.ended x.judged a (ap (λ z. z.status) x.told) (ap (λ z. z.code) x.told) (ap (λ z. z.line) x.told)
-        (ap (λ z. z.place) x.told)
+    (ap (λ z. z.place) x.told)
 
 pub outcome-of : {rules : Rules} {text : List ℕ} {a : Answer} → (x : IsAnswerOf rules text a) → (e : End)
     → e ≡ x.outcome.ended → outcome_by a e ≡ x.outcome

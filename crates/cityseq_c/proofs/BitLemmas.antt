@@ -56,7 +56,7 @@ pub bits-among : (size : ℕ) (old ns counts : List ℕ) → ((n : ℕ) → n < 
     → bits (λ n. nat_lt 0 (get_or counts n 0)) size ≡ bits (is_among ns) size
 bits-among size old ns counts none rises =
     bits-same _ _ size (λ n small.
-        some-same (get_or counts n 0) (how_often n ns) (omega (arith, rises n small, none n small)))
+    some-same (get_or counts n 0) (how_often n ns) (omega (arith, rises n small, none n small)))
 
 -- ---- the digits of such a number
 
@@ -106,7 +106,7 @@ pub bits-digits : (p : ℕ → Bool) (size : ℕ) → HasDigits p size (bits p s
 bits-digits p zero = (rw (bits-none p) (omega arith), λ i low. absurd (omega (arith, low)))
 bits-digits p (suc n) =
     subst (λ (k : ℕ). HasDigits p k (bits p k)) (add-one n)
-        (rw (bits-more p n) (digits-more p n (bits p n) (bits-digits p n)))
+    (rw (bits-more p n) (digits-more p n (bits p n) (bits-digits p n)))
 
 -- ---- marks
 
@@ -138,14 +138,14 @@ set-digit : (k marks next n : ℕ) (left : List ℕ) (total : ℕ) (b : Bool) �
 set-digit k marks next n left total true inside is e h =
     let here : bit_at (bit_or marks (1 * 2 ^ k % 2 ^ 64)) n ≡ 1 =
     subst (λ (j : ℕ). bit_at (bit_or marks (1 * 2 ^ k % 2 ^ 64)) j ≡ 1) (sym (eqb-true n k e))
-        (bit_at_set_same w64 marks k inside) in
+    (bit_at_set_same w64 marks k inside) in
     let set : bit_at next n ≡ 1 = ap (λ m. bit_at m n) is ∙ here in
     let one : digit (nat_lt 0 (length (k ∷ filter (nat_eq n) left))) ≡ 1 =
-        ap digit (one-among (length (filter (nat_eq n) left))) in
+    ap digit (one-among (length (filter (nat_eq n) left))) in
     omega (arith, set, one, h, bit_at-lt marks n, digit-small (is_among left n))
 set-digit k marks next n left total false inside is e h =
     let stays : bit_at next n ≡ bit_at marks n = ap (λ m. bit_at m n) is
-        ∙ bit_at_set_other w64 marks k inside n (eqb-false n k e) in
+    ∙ bit_at_set_other w64 marks k inside n (eqb-false n k e) in
     omega (arith, stays, h)
 
 pub Marking-step : (size : ℕ) (all : List ℕ) (marks k next : ℕ) (whole left : List ℕ) → k < size → size ≤ 64
@@ -155,12 +155,12 @@ Marking-step size all marks k next whole left inside few first is h =
     let within : k < 64 = omega (arith, inside, few) in
     let same : 1 * 2 ^ k ≡ 2 ^ k = omega arith in
     let power : 1 * 2 ^ k % 2 ^ 64 < 2 ^ size =
-        omega (arith, same, mod-le (1 * 2 ^ k) (2 ^ 64), pow-lt {i = k} {j = size} inside) in
+    omega (arith, same, mod-le (1 * 2 ^ k) (2 ^ 64), pow-lt {i = k} {j = size} inside) in
     record {
       small = subst (λ (m : ℕ). m < 2 ^ size) (sym is) (or_lt size marks (1 * 2 ^ k % 2 ^ 64) h.small power);
       set = λ n. set-digit k marks next n left _ (nat_eq n k) within is refl
           (subst (λ (ns : List ℕ). max (bit_at marks n) (digit (is_among ns n)) ≡ digit (is_among all n)) first
-              (h.set n));
+          (h.set n));
     }
 
 -- at the end none is left
@@ -168,4 +168,4 @@ pub Marking-end : (size : ℕ) (all : List ℕ) (marks : ℕ) → Marking size a
 Marking-end size all marks h =
     let d = bits-digits (is_among all) size in
     same_from_bits_below size marks (bits (is_among all) size) h.small d.0
-        (λ i low. let e = h.set i in omega (arith, e) ∙ sym (d.1 i low))
+    (λ i low. let e = h.set i in omega (arith, e) ∙ sym (d.1 i low))

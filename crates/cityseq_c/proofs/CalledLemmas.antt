@@ -59,7 +59,7 @@ module _ {S : Type 0} (law : SinkLaw S) (r : Request) (header part : List ℕ) (
       → IsUnjudged answer → (answer ≡ not_judged answer.status answer.code) × (new ≡ old) × (t ≡ s)
   unjudged (Ok o) answer written is ok unread which =
       absurd (status-judged o.ended ok.2.tells.judged
-          (let same : answer.status ≡ status_of o.ended = ap (λ a. a.status) is in rw same at which))
+      (let same : answer.status ≡ status_of o.ended = ap (λ a. a.status) is in rw same at which))
   unjudged (Err (Fault fault)) answer written is ok unread which = (rw is refl, unread.1, unread.0)
   unjudged (Err Memory) answer written is ok unread which = (rw is refl, unread.1, unread.0)
 

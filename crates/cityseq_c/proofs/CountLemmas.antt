@@ -14,7 +14,7 @@ capped-sum (x ∷ xs) [] same each = absurd (omega (arith, same))
 capped-sum (x ∷ xs) (y ∷ ys) same each =
     let first : x ≡ capped y = each 0 (omega arith) in
     let rest : capped (sum xs) ≡ capped (sum ys) =
-        capped-sum xs ys (omega (arith, same)) (λ n low. each (suc n) (omega (arith, low))) in
+    capped-sum xs ys (omega (arith, same)) (λ n low. each (suc n) (omega (arith, low))) in
     let left : sum (x ∷ xs) ≡ x + sum xs = sum_by-cons (λ n. n) x xs in
     let right : sum (y ∷ ys) ≡ y + sum ys = sum_by-cons (λ n. n) y ys in
     omega (arith, first, rest, left, right)

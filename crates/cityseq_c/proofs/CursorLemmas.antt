@@ -40,9 +40,9 @@ module _ (line at : ℕ) (part s : List ℕ) (same : s ≡ drop at part) where
       (place (line + 1) (at + (k + 1)) (lines (drop (at + (k + 1)) part)))
   passes-ended k h =
       let size : length (raw (ended_line (take k s))) ≡ k + 1 =
-          omega (arith, length-append (take k s) (10 ∷ []), length-take k s, h.0.high) in
+      omega (arith, length-append (take k s) (10 ∷ []), length-take k s, h.0.high) in
       let left : lines s ≡ ended_line (take k s) ∷ lines (drop (at + (k + 1)) part) = first-ended s k h
-          ∙ ap (λ z. ended_line (take k s) ∷ lines z) (after (k + 1)) in
+      ∙ ap (λ z. ended_line (take k s) ∷ lines z) (after (k + 1)) in
       rw (← same) (passes line at (k + 1) s (ended_line (take k s)) (lines (drop (at + (k + 1)) part)) left size)
 
   pub passes-begun : IsFirstByte (is_byte 10) s None → 0 < length s
@@ -51,6 +51,6 @@ module _ (line at : ℕ) (part s : List ℕ) (same : s ≡ drop at part) where
   passes-begun h some =
       let none : drop (at + length s) part ≡ [] = sym (after (length s)) ∙ drop_all (length s) s (omega arith) in
       let left : lines s ≡ record { content = s; lf = false } ∷ lines (drop (at + length s) part) = first-begun s h some
-          ∙ ap (λ z. record { content = s; lf = false } ∷ lines z) (sym none) in
+      ∙ ap (λ z. record { content = s; lf = false } ∷ lines z) (sym none) in
       rw (← same) (passes line at (length s) s (record { content = s; lf = false }) (lines (drop (at + length s) part))
-          left refl)
+      left refl)

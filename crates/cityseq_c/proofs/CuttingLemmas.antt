@@ -28,16 +28,16 @@ module _ (s : List ℕ) (k : ℕ) (last : IsLastByte (is_byte 10) s (Some k)) wh
   none-after : NoLf (drop (k + 1) s)
   none-after =
       NoLf-from_places (drop (k + 1) s)
-          (λ j lt e. last.0.after (k + 1 + j) (omega arith) (omega (arith, lt, length-drop (k + 1) s, last.0.high))
-          (rw (get_or-drop (k + 1) s j 0) at e))
+      (λ j lt e. last.0.after (k + 1 + j) (omega arith) (omega (arith, lt, length-drop (k + 1) s, last.0.high))
+      (rw (get_or-drop (k + 1) s j 0) at e))
 
   pub whole-last : whole s ≡ take (k + 1) s
   whole-last =
       let cut : take (k + 1) s ++ drop (k + 1) s ≡ s = take-append-drop (k + 1) s in
       let same : closed s ≡ closed (take (k + 1) s) = ap closed (sym cut)
-          ∙ closed-more (take (k + 1) s) (drop (k + 1) s) none-after in
+      ∙ closed-more (take (k + 1) s) (drop (k + 1) s) none-after in
       ap (λ cs. flat_map raw (map ended_line cs)) same
-          ∙ (ap whole last-front ∙ (whole-ended (take k s) ∙ sym last-front))
+      ∙ (ap whole last-front ∙ (whole-ended (take k s) ∙ sym last-front))
 
 -- the bytes that are wanted, or all where there are no more
 pub front-wanted : (s : List ℕ) (wanted m : ℕ) → m ≡ min wanted (length s) → take m s ≡ take wanted s
@@ -55,11 +55,11 @@ module _ (s : List ℕ) (wanted : ℕ) where
       → (k + 1 ≡ part_end s wanted) × (whole (take (k + 1) s) ≡ take (k + 1) s)
   end-last k t same last =
       let size : length (whole (take wanted s)) ≡ k + 1 = ap (λ z. length (whole z)) (sym same)
-          ∙ (ap length (whole-last t k last) ∙ omega (arith, length-take (k + 1) t, last.0.high)) in
+      ∙ (ap length (whole-last t k last) ∙ omega (arith, length-take (k + 1) t, last.0.high)) in
       let some : ltb 0 (k + 1) ≡ true = grind (arith, nat_tests) in
       let within : k + 1 ≤ wanted = omega (arith, last.0.high, ap length same, length-take wanted s) in
       let front : take (k + 1) s ≡ take k t ++ 10 ∷ [] = sym (take-take (k + 1) wanted s within)
-          ∙ (ap (λ z. take (k + 1) z) (sym same) ∙ last-front t k last) in (
+      ∙ (ap (λ z. take (k + 1) z) (sym same) ∙ last-front t k last) in (
         rw (size, some) refl,
         ap whole front ∙ (whole-ended (take k t) ∙ sym front),
       )
@@ -75,7 +75,7 @@ module _ (s : List ℕ) (wanted : ℕ) where
         × (whole (take (k + 1) s) ≡ take (k + 1) s)
     end-first k first =
         let there : closed s ≡ take k s ∷ closed (drop (k + 1) s) = ap closed (lf_found s k first)
-            ∙ closed-ended (take k s) (drop (k + 1) s) (NoLf-before s k first) in
+        ∙ closed-ended (take k s) (drop (k + 1) s) (NoLf-before s k first) in
         let front = lf_front s k first in (
           omega (arith, none-wanted, ap first_end there, length-take k s, first.0.high),
           ap whole front ∙ (whole-ended (take k s) ∙ sym front),

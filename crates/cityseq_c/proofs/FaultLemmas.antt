@@ -79,10 +79,10 @@ fault-may : (r : Request) → MayBe (fault_of r)
 fault-may r =
     first-fails (ids_asked r) _ (texts-fail (text_asked r.asks_ids r.ids.now) (text-fails r.asks_ids r.ids.now))
     (first-fails (types_asked r) _
-        (types-fail (text_asked r.asks_types r.types.now) (text-fails r.asks_types r.types.now))
+    (types-fail (text_asked r.asks_types r.types.now) (text-fails r.asks_types r.types.now))
     (first-fails (lods_asked r) _ (texts-fail (text_asked r.asks_lods r.lods.now) (text-fails r.asks_lods r.lods.now))
     (first-fails (box_asked r) None (box-fails (text_asked r.asks_box r.bbox.now) (text-fails r.asks_box r.bbox.now))
-        tt)))
+    tt)))
 
 module _ (r : Request) (header part : List ℕ) (fit : IsFit r header part) where
   known : (fault : WrongFault) → fault_of r ≡ Some fault → IsOfQuery fault

@@ -20,10 +20,10 @@ recorded rules header part s t old new cut took none room at back =
     let items = kept rules (header ++ part) in
     let r = all-recorded s t items none took in
     let placed : HoldsRecords (found_from (record { line = 2; begin = 0; left = lines part }) items) (listed_room s)
-        (listed_room t) =
+    (listed_room t) =
     subst (λ p. HoldsRecords (found_from p items) (listed_room s) (listed_room t)) at r.1 in
     let found : HoldsRecords (spots rules (header ++ part)) (listed_room s) (listed_room t) =
     subst (λ xs. HoldsRecords xs (listed_room s) (listed_room t)) (found-spots rules header part cut) placed in
     let before : HoldsRecords (spots rules (header ++ part)) old (listed_room t) =
-        subst (λ l. HoldsRecords (spots rules (header ++ part)) l (listed_room t)) room found in
+    subst (λ l. HoldsRecords (spots rules (header ++ part)) l (listed_room t)) room found in
     subst (λ l. HoldsRecords (spots rules (header ++ part)) old l) (sym (back r.0)) before

@@ -30,17 +30,17 @@ along-next part a content b x h =
     let l : Line = record { content = content; lf = h.lf } in
     let k = a.line - 2 in
     let next : b ≡ place (a.line + 1) (a.begin + length (raw l)) b.left = h.behind
-        ∙ ap (λ z. past_from a.line a.begin z) h.left in
+    ∙ ap (λ z. past_from a.line a.begin z) h.left in
     let line : b.line ≡ a.line + 1 = ap (λ (p : Place). p.line) next in
     let begin : b.begin ≡ a.begin + length (raw l) = ap (λ (p : Place). p.begin) next in
     let number : b.line - 2 ≡ suc k = omega (arith, line, x.line) in
     let passed = take-next k (lines part) l b.left (sym h.left ∙ x.left) in
     let first = take k (lines part) in
     let more : flat_map raw (first ++ l ∷ []) ≡ flat_map raw first ++ flat_map raw (l ∷ []) =
-        joined-append raw first (l ∷ []) in
+    joined-append raw first (l ∷ []) in
     let size : length (flat_map raw (first ++ l ∷ [])) ≡ length (flat_map raw first) + length (raw l) =
     ap length more ∙ (length-append (flat_map raw first) (flat_map raw (l ∷ []))
-        ∙ ap (λ z. length (flat_map raw first) + length z) (append-nil (raw l))) in
+    ∙ ap (λ z. length (flat_map raw first) + length z) (append-nil (raw l))) in
     record {
       line = omega (arith, line, x.line);
       begin = rw (number, passed.0) (omega (arith, begin, x.begin, size));
@@ -55,7 +55,7 @@ begin-found part p line x few (inr none) =
     let k = p.line - 2 in
     let all : length (lines part) ≤ k = drop-none k (lines part) (sym x.left ∙ none) in
     let whole : take (line - 2) (lines part) ≡ lines part =
-        take_all (line - 2) (lines part) (omega (arith, all, few)) in
+    take_all (line - 2) (lines part) (omega (arith, all, few)) in
     let passed : take k (lines part) ≡ lines part = take_all k (lines part) all in
     ap (λ z. length (flat_map raw z)) (whole ∙ sym passed) ∙ sym x.begin
   where
@@ -76,7 +76,7 @@ few-lines s free = rw (closed-none s free) (last-few (begun s))
 pub behind : (header part : List ℕ) → AreCut header part → AreBehind header part
 behind header part (inl cut) line later =
     let all : lines (header ++ part) ≡ ended_line cut.0 ∷ lines part =
-        rw cut.2 (ap lines (append_assoc cut.0 (10 ∷ []) part) ∙ lines-headed cut.0 part cut.1) in
+    rw cut.2 (ap lines (append_assoc cut.0 (10 ∷ []) part) ∙ lines-headed cut.0 part cut.1) in
     let one : line - 1 ≡ suc (line - 2) = omega (arith, later) in
     let rest = flat_map raw (take (line - 2) (lines part)) in
     let size : length (cut.0 ++ 10 ∷ []) ≡ length header = sym (ap length cut.2) in
@@ -87,7 +87,7 @@ behind header part (inr cut) line later =
     let one : length (lines header) ≤ line - 1 = omega (arith, few-lines header cut.0, later) in
     let same : header ++ part ≡ header = ap (λ z. header ++ z) cut.1 ∙ append-nil header in
     let none : length (flat_map raw (take (line - 2) (lines part))) ≡ 0 =
-        rw cut.1 (ap (λ z. length (flat_map raw z)) (take-nothing (line - 2))) in
+    rw cut.1 (ap (λ z. length (flat_map raw z)) (take-nothing (line - 2))) in
     ap (λ z. begin_of z line) same
     ∙ (ap (λ z. length (flat_map raw z)) (take_all (line - 1) (lines header) one)
     ∙ (ap length (lines-are_lines header).joined ∙ omega (arith, none)))

@@ -89,7 +89,7 @@ module _ (rules : Rules) (h part : List ℕ) (free : NoLf h) (n : ℕ) (few : n 
   first-same =
       let short : n ≤ length (ended_line h ∷ []) = omega (arith, few, ap length front) in
       ap (λ z. take n z) all ∙ (take-append-le n (ended_line h ∷ []) (lines part) short
-          ∙ ap (λ z. take n z) (sym front))
+      ∙ ap (λ z. take n z) (sym front))
 
   counts-more : (f k : ℕ) → Counts rules (headed h []) n f k → Counts rules (headed h part) n f k
   counts-more f k x = record {
@@ -199,7 +199,7 @@ module _ {S : Type 0} (law : SinkLaw S) (rules : Rules) (header part : List ℕ)
     (notes : Notes NotesOne (stretch rules (joined (take (k + 1) (header ∷ part ∷ []))) 0 o.lines) a b)
     (good_reported : (r : List ℕ) (n : ℕ) → n ≡ length (good rules r) → reported_first rules n r ≡ reported rules r)
     (over : noted_text a ≡ header ++ part) (none : count_of a ≡ 0) (loan : noted_room a ≡ old)
-        (back : noted_loan b ≡ noted_loan a → new ≡ noted_room b) where
+    (back : noted_loan b ≡ noted_loan a → new ≡ noted_room b) where
   whole : joined (header ∷ part ∷ []) ≡ header ++ part
   whole = all-joined header part
 
@@ -225,7 +225,7 @@ module _ {S : Type 0} (law : SinkLaw S) (rules : Rules) (header part : List ℕ)
       let first = all-held a b (reported_first rules o.lines (header ++ part)) none of_first.noted in
       let held : Holds (header ++ part) (reported_first rules o.lines (header ++ part)) old new =
       subst (λ z. Holds z (reported_first rules o.lines (header ++ part)) old new) over
-          (rw (back first.0, ← loan) first.1) in
+      (rw (back first.0, ← loan) first.1) in
       record {
         tells = record {
           judged = judged-end;

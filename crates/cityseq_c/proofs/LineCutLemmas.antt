@@ -19,14 +19,14 @@ module _ (header part : List ℕ) where
   pub last-cut : (k : ℕ) → IsFirstByte (is_byte 10) header (Some k) → AreCut header part → k + 1 ≡ length header
   last-cut k h (inl cut) =
       let there : closed header ≡ take k header ∷ closed (drop (k + 1) header) = ap closed (lf_found header k h)
-          ∙ closed-ended (take k header) (drop (k + 1) header) (NoLf-before header k h) in
+      ∙ closed-ended (take k header) (drop (k + 1) header) (NoLf-before header k h) in
       let here : closed header ≡ cut.0 ∷ [] = ap closed cut.2 ∙ closed-ended cut.0 [] cut.1 in
       let same : take k header ≡ cut.0 = cc (sym there ∙ here) in
       let size : length header ≡ length cut.0 + 1 = ap length cut.2 ∙ length-append cut.0 (10 ∷ []) in
       omega (arith, h.0.high, length-take k header, ap length same, size)
   last-cut k h (inr cut) =
       let there : closed header ≡ take k header ∷ closed (drop (k + 1) header) = ap closed (lf_found header k h)
-          ∙ closed-ended (take k header) (drop (k + 1) header) (NoLf-before header k h) in
+      ∙ closed-ended (take k header) (drop (k + 1) header) (NoLf-before header k h) in
       let none : closed header ≡ [] = closed-none header cut.0 in
       absurd (cc (sym there ∙ none))
 

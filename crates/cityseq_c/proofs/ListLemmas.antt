@@ -17,7 +17,7 @@ module _ (i : Item) (a b : Listed) (content : List ℕ) (same : content ≡ i.li
   pub listed-nowhere : Seeks (listed_place a) content None (listed_place b) → KeepsRoom a b → ListsFeature a i b
   listed-nowhere h keeps =
       let s : Seeks (listed_place a) i.line.content None (listed_place b) =
-          subst (λ c. Seeks (listed_place a) c None (listed_place b)) same h in
+      subst (λ c. Seeks (listed_place a) c None (listed_place b)) same h in
       record { behind = s.behind; adds = none-added (seek i.line.content (listed_place a)).left _ s.found keeps }
 
   some-added : (ls : List Line) (x : Spot) → 0 < length ls → AddsRecord x a b → AddsAt ls x a b
@@ -29,7 +29,7 @@ module _ (i : Item) (a b : Listed) (content : List ℕ) (same : content ≡ i.li
       → AddsRecord (record { line = found.0; begin = found.1; item = i }) a b → ListsFeature a i b
   listed-there found h adds =
       let s : Seeks (listed_place a) i.line.content (Some found) (listed_place b) =
-          subst (λ c. Seeks (listed_place a) c (Some found) (listed_place b)) same h in
+      subst (λ c. Seeks (listed_place a) c (Some found) (listed_place b)) same h in
       let here = seek i.line.content (listed_place a) in
       record {
         behind = s.behind;

@@ -53,7 +53,7 @@ short-raw : (m : ℕ) (ls : List Line) → length (flat_map raw ls) ≤ m → Ar
 short-raw m [] h = tt
 short-raw m (l ∷ ls) h =
     let parts : length (flat_map raw (l ∷ ls)) ≡ length (raw l) + length (flat_map raw ls) =
-        length-append (raw l) (flat_map raw ls) in
+    length-append (raw l) (flat_map raw ls) in
     (omega (arith, raw-longer l, parts, h), short-raw m ls (omega (arith, parts, h)))
 
 short-lines : (m : ℕ) (s : List ℕ) → length s ≤ m → AreShort m (lines s)
@@ -64,7 +64,7 @@ short-cut : (m : ℕ) (header part : List ℕ) → AreCut header part → length
     → AreShort m (lines (header ++ part))
 short-cut m header part (inl cut) first later =
     let all : lines (header ++ part) ≡ ended_line cut.0 ∷ lines part =
-        rw cut.2 (ap lines (append_assoc cut.0 (10 ∷ []) part) ∙ lines-headed cut.0 part cut.1) in
+    rw cut.2 (ap lines (append_assoc cut.0 (10 ∷ []) part) ∙ lines-headed cut.0 part cut.1) in
     let size : length header ≡ length cut.0 + 1 = ap length cut.2 ∙ length-append cut.0 (10 ∷ []) in
     rw all (omega (arith, size, first), short-lines m part later)
 short-cut m header part (inr cut) first later = rw (cut.1, append-nil header) (short-lines m header first)
@@ -260,9 +260,13 @@ module _ (rules : Rules) (m : ℕ) (low : m ≤ rules.limits.line) where
       faults-text n a b ReadFault x = x
       faults-text n a b ReadLimit x = x
       faults-text n a b NoMemory x = x
-      faults-text n a b WriteFault x =
-          (x.0, x.1, ap is_kept (sym
-                  (verdict-same (take n (lines s)) x.0.content (short-at m n x.0 (lines s) short x.1))) ∙ x.2, x.3)
+      faults-text n a b WriteFault x = (
+        x.0,
+        x.1,
+        ap is_kept (sym
+            (verdict-same (take n (lines s)) x.0.content (short-at m n x.0 (lines s) short x.1))) ∙ x.2,
+        x.3,
+      )
 
       delivers-text : (from to : ℕ) (a b : S) (e : End) → Delivers law (stretch narrow s from to) a b (Some e)
           → Delivers law (stretch rules s from to) a b (Some e)

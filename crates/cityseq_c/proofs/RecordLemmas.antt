@@ -78,14 +78,14 @@ after-one : (a c b : Listed) (x : Spot) (xs : List Spot) (fits : Bool)
     → Stored (listed_count a) (listed_room a) (listed_count b) (listed_room b) (x ∷ xs)
 after-one a c b x xs true is h later =
     one-fits (listed_count a) (listed_room a) (listed_count b) (listed_room b) x h.0 xs
-        (ltb-true (listed_count a) (length (listed_room a)) is) h.1
+    (ltb-true (listed_count a) (length (listed_room a)) is) h.1
     (moved (listed_count c) (listed_count a + 1) (listed_room c) (slice_set (listed_room a) (listed_count a) h.0)
-        (listed_count b) (listed_room b) xs h.3 h.2 later)
+    (listed_count b) (listed_room b) xs h.3 h.2 later)
 after-one a c b x xs false is h later =
     one-left (listed_count a) (listed_room a) (listed_count b) (listed_room b) x xs a.room
-        (ltb-false (listed_count a) (length (listed_room a)) is)
+    (ltb-false (listed_count a) (length (listed_room a)) is)
     (moved (listed_count c) (listed_count a) (listed_room c) (listed_room a) (listed_count b) (listed_room b) xs h.1 h.0
-        later)
+    later)
 
 -- what some items make of the sink
 pub record Listing (a b : Listed) (xs : List Spot) : Type 0 where
@@ -124,7 +124,7 @@ first-listed a c b i is step later = go i.header refl step
         let here = seek i.line.content (listed_place a) in
         let f : is_some i.header ≡ true = ap is_some some in
         rw f (added-first a c b here here.left i _ step.adds
-            (subst (λ p. Listing c b (found_from p is)) step.behind later))
+        (subst (λ p. Listing c b (found_from p is)) step.behind later))
 
 pub all-listed : (a b : Listed) (is : List Item) → Took ListsItem a is b → Listing a b (found_from (listed_place a) is)
 all-listed a b [] h = rw h (record { loan = refl; stored = none-stored (listed_count a) (listed_room a) a.room })
@@ -137,7 +137,7 @@ all-recorded a b is none h =
     let all = all-listed a b is h in
     let xs = found_from (listed_place a) is in
     let s : Stored 0 (listed_room a) (listed_count b) (listed_room b) xs =
-        subst (λ c. Stored c (listed_room a) (listed_count b) (listed_room b) xs) none all.stored in
+    subst (λ c. Stored c (listed_room a) (listed_count b) (listed_room b) xs) none all.stored in
     let count : listed_count b ≡ min (length xs) (length (listed_room a)) = omega (arith, s.count) in
     let whole : length (listed_room a) - 0 ≡ length (listed_room a) = omega arith in (
       all.loan,

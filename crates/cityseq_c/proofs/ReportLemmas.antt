@@ -45,7 +45,7 @@ module _ (text : List ℕ) where
         count = omega (arith, h.count, size);
         front = h.front ∙ (ap (λ z. z ++ after) here
             ∙ (append_assoc (take c l) (told r ∷ []) after
-                ∙ sym (ap (λ n. take c l ++ take n (told r ∷ map told rs)) left)));
+            ∙ sym (ap (λ n. take c l ++ take n (told r ∷ map told rs)) left)));
         rest = h.rest ∙ drop-set-lt d l c (told r) (omega (arith, h.count, size, fits));
       }
 
@@ -97,6 +97,8 @@ all-stored a b (r ∷ rs) h =
 pub all-held : (a b : Noted) (rs : List Report) → count_of a ≡ 0 → Took NotesOne a rs b → (noted_loan b ≡ noted_loan a)
     × Holds (noted_text a) rs (noted_room a) (noted_room b)
 all-held a b rs none h =
-    let s = all-stored a b rs h in
-    (s.0, held (noted_text a) (noted_room a) (count_of b) (noted_room b) rs
-        (subst (λ c. Stored (noted_text a) c (noted_room a) (count_of b) (noted_room b) rs) none s.1))
+    let s = all-stored a b rs h in (
+      s.0,
+      held (noted_text a) (noted_room a) (count_of b) (noted_room b) rs
+          (subst (λ c. Stored (noted_text a) c (noted_room a) (count_of b) (noted_room b) rs) none s.1),
+    )

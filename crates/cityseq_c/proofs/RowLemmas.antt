@@ -48,7 +48,7 @@ pub between : BetweenRow
 between =
     after-invalid (going wide_rules) (ended_line small_header) (ended_line _) (open_line small_feature)
     (same-verdict wide_rules 1 _ small_header ∙ header_first _)
-        (same-verdict wide_rules 3 _ small_feature ∙ feature_third)
+    (same-verdict wide_rules 3 _ small_feature ∙ feature_third)
     26 Syntax refl (same-verdict wide_rules 2 _ _ ∙ comma_second _)
 
 pub bit : BitRow
@@ -57,8 +57,11 @@ bit = (refl, refl)
 
 -- the record of the small feature, with its tree
 small : Spot
-small = record { line = 2; begin = 0;
-    item = record { line = ended_line small_feature; tree = plain_feature.tree; header = Some plain_header } }
+small = record {
+  line = 2;
+  begin = 0;
+  item = record { line = ended_line small_feature; tree = plain_feature.tree; header = Some plain_header };
+}
 
 no-range : (axis : ℕ) → axis < 3 → get_or (range_of None ∷ range_of None ∷ range_of None ∷ []) axis (range_of None)
     ≡ range_of None
@@ -68,8 +71,11 @@ no-range (suc (suc zero)) low = refl
 no-range (suc (suc (suc n))) low = absurd (omega (arith, low))
 
 shown : (t header : Tree) → t ≡ plain_feature.tree → header ≡ plain_header
-    → IsRecordOf (record { line = 2; begin = 0;
-            item = record { line = ended_line small_feature; tree = t; header = Some header } }) small_record
+    → IsRecordOf (record {
+      line = 2;
+      begin = 0;
+      item = record { line = ended_line small_feature; tree = t; header = Some header };
+    }) small_record
 unfolding text code_points_after first_code_point first_width chars object_types bits
 shown t header e f = rw (e, f) (record {
   line = refl;
@@ -84,13 +90,17 @@ shown t header e f = rw (e, f) (record {
 })
 
 other : (t header : Tree) → t ≡ plain_feature.tree
-    → ¬ IsRecordOf (record { line = 2; begin = 0;
-            item = record { line = ended_line small_feature; tree = t; header = Some header } })
-        (record small_record { objects = 2 })
+    → ¬ IsRecordOf (record {
+      line = 2;
+      begin = 0;
+      item = record { line = ended_line small_feature; tree = t; header = Some header };
+    })
+    (record small_record { objects = 2 })
 unfolding text code_points_after first_code_point first_width chars
 other t header e h = let two = h.objects in let wrong = rw e at two in absurd (omega (arith, wrong))
 
 pub record_of : RecordRow
-record_of =
-    (shown (tree_of 64 small_feature) (tree_of 64 small_header) feature_tree header_tree,
-        other (tree_of 64 small_feature) (tree_of 64 small_header) feature_tree)
+record_of = (
+  shown (tree_of 64 small_feature) (tree_of 64 small_header) feature_tree header_tree,
+  other (tree_of 64 small_feature) (tree_of 64 small_header) feature_tree,
+)

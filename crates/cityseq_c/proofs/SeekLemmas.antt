@@ -18,5 +18,5 @@ module _ (content : List ℕ) (a : Place) (c : List ℕ) (b : Place) (h : Passes
   pub seek-on : bytes_eq c content ≡ false → seek content a ≡ seek content b
   seek-on not =
       let next : b ≡ place (a.line + 1) (a.begin + length (raw (record { content = c; lf = h.lf }))) b.left = h.behind
-          ∙ ap (λ z. past_from a.line a.begin z) h.left in
+      ∙ ap (λ z. past_from a.line a.begin z) h.left in
       ap (λ z. seek_from content a.line a.begin z) h.left ∙ (rw not refl ∙ sym (ap (λ z. seek content z) next))

@@ -44,7 +44,7 @@ module _ (rules : Rules) (h : Line) where
       go : (kept_from rules (h ∷ ys ++ l ∷ []) ls ≡ x ∷ xs → is_kept (verdict rules (h ∷ bs) x.line.content) ≡ true)
           → (k : Bool) → is_kept (verdict rules (h ∷ ys) l.content) ≡ k
           → cond k (item_after rules (h ∷ ys) l ∷ kept_from rules (h ∷ ys ++ l ∷ []) ls)
-              (kept_from rules (h ∷ ys ++ l ∷ []) ls) ≡ x ∷ xs
+          (kept_from rules (h ∷ ys ++ l ∷ []) ls) ≡ x ∷ xs
           → is_kept (verdict rules (h ∷ bs) x.line.content) ≡ true
       go later true is f =
           let first : item_after rules (h ∷ ys) l ≡ x = cc in
@@ -83,7 +83,7 @@ module _ (rules : Rules) (h : Line) where
       go true is =
           let same : l.content ≡ x.line.content = (bytes_eq-Decides l.content x.line.content).0 is in
           let kept : is_kept (verdict rules (h ∷ bs) l.content) ≡ true =
-              ap (λ c. is_kept (verdict rules (h ∷ bs) c)) same ∙ kept-verdict bs ys ls x xs e in
+          ap (λ c. is_kept (verdict rules (h ∷ bs) c)) same ∙ kept-verdict bs ys ls x xs e in
           cc (dropped, kept)
 
   -- so the search passes it over
@@ -107,26 +107,26 @@ module _ (rules : Rules) (h : Line) where
   found-kept bs [] more n b number begin = refl
   found-kept bs (l ∷ ls) more n b number begin =
       go (found-kept (bs ++ l ∷ []) ls more (n + 1) (b + length (raw l))
-          (omega (arith, number, length-append bs (l ∷ []))) (omega (arith, begin, raw-more bs l)))
-          (is_kept (verdict rules (h ∷ bs) l.content)) refl
+      (omega (arith, number, length-append bs (l ∷ []))) (omega (arith, begin, raw-more bs l)))
+      (is_kept (verdict rules (h ∷ bs) l.content)) refl
     where
       go : found_from (record { line = n + 1; begin = b + length (raw l); left = ls ++ more })
           (kept_from rules (h ∷ bs ++ l ∷ []) ls) ≡ filter is_feature_spot (spots_from rules (h ∷ bs ++ l ∷ []) ls)
           → (k : Bool) → is_kept (verdict rules (h ∷ bs) l.content) ≡ k
           → found_from (record { line = n; begin = b; left = l ∷ ls ++ more })
-              (cond k (item_after rules (h ∷ bs) l ∷ kept_from rules (h ∷ bs ++ l ∷ []) ls)
-              (kept_from rules (h ∷ bs ++ l ∷ []) ls))
+          (cond k (item_after rules (h ∷ bs) l ∷ kept_from rules (h ∷ bs ++ l ∷ []) ls)
+          (kept_from rules (h ∷ bs ++ l ∷ []) ls))
           ≡ filter is_feature_spot
-              (cond k (spot_after rules (h ∷ bs) l ∷ spots_from rules (h ∷ bs ++ l ∷ []) ls)
-              (spots_from rules (h ∷ bs ++ l ∷ []) ls))
+          (cond k (spot_after rules (h ∷ bs) l ∷ spots_from rules (h ∷ bs ++ l ∷ []) ls)
+          (spots_from rules (h ∷ bs ++ l ∷ []) ls))
       go later true is =
           let same : bytes_eq l.content l.content ≡ true = (bytes_eq-Decides l.content l.content).1 refl in
           let x = item_after rules (h ∷ bs) l in
           let spot : (record { line = n; begin = b; item = x }) ≡ spot_after rules (h ∷ bs) l =
-              rw (number, begin) refl in
+          rw (number, begin) refl in
           rw (later-feature bs l, same)
-              (ap (λ s. s ∷ found_from (record { line = n + 1; begin = b + length (raw l); left = ls ++ more })
-                  (kept_from rules (h ∷ bs ++ l ∷ []) ls)) spot ∙ ap (λ z. spot_after rules (h ∷ bs) l ∷ z) later)
+          (ap (λ s. s ∷ found_from (record { line = n + 1; begin = b + length (raw l); left = ls ++ more })
+          (kept_from rules (h ∷ bs ++ l ∷ []) ls)) spot ∙ ap (λ z. spot_after rules (h ∷ bs) l ∷ z) later)
       go later false is =
           found-skip n b bs l (bs ++ l ∷ []) ls (ls ++ more) (kept_from rules (h ∷ bs ++ l ∷ []) ls) is refl ∙ later
 
@@ -138,7 +138,7 @@ module _ (rules : Rules) (e : Line) (left : List Line) where
   behind =
       let g = good_from rules (e ∷ []) left in
       let whole : left ≡ g ++ drop (length g) left = sym (take-append-drop (length g) left)
-          ∙ ap (λ z. z ++ drop (length g) left) (good-take rules (e ∷ []) left) in
+      ∙ ap (λ z. z ++ drop (length g) left) (good-take rules (e ∷ []) left) in
       ap (λ z. found_from (record { line = 2; begin = 0; left = z }) (kept_from rules (e ∷ []) g)) whole
       ∙ found-kept rules e [] g (drop (length g) left) 2 0 refl refl
 
@@ -152,8 +152,8 @@ module _ (rules : Rules) (e : Line) (left : List Line) where
           (cond k (item_after rules [] e ∷ kept_from rules (e ∷ []) (good_from rules (e ∷ []) left))
           (kept_from rules (e ∷ []) (good_from rules (e ∷ []) left)))
           ≡ filter is_feature_spot
-              (cond k (spot_after rules [] e ∷ spots_from rules (e ∷ []) (good_from rules (e ∷ []) left))
-              (spots_from rules (e ∷ []) (good_from rules (e ∷ []) left)))
+          (cond k (spot_after rules [] e ∷ spots_from rules (e ∷ []) (good_from rules (e ∷ []) left))
+          (spots_from rules (e ∷ []) (good_from rules (e ∷ []) left)))
       kept-first true = behind
       kept-first false = behind
 
@@ -170,11 +170,11 @@ pub found-spots : (rules : Rules) (header part : List ℕ) → AreCut header par
 found-spots rules header part (inl cut) =
     let whole : header ++ part ≡ cut.0 ++ 10 ∷ part = ap (λ z. z ++ part) cut.2 ∙ append_assoc cut.0 (10 ∷ []) part in
     let first : lines (header ++ part) ≡ ended_line cut.0 ∷ lines part = ap (λ z. lines z) whole
-        ∙ lines-headed cut.0 part cut.1 in
+    ∙ lines-headed cut.0 part cut.1 in
     rw first (found-good rules (ended_line cut.0) (lines part))
 found-spots rules header part (inr cut) =
     let all : lines (header ++ part) ≡ lines header =
-        ap (λ z. lines z) (ap (λ z. header ++ z) cut.1 ∙ append-nil header) in
+    ap (λ z. lines z) (ap (λ z. header ++ z) cut.1 ∙ append-nil header) in
     let none : lines part ≡ [] = ap (λ z. lines z) cut.1 in
     rw (all, none) (alone header cut.0)
   where
@@ -184,5 +184,5 @@ found-spots rules header part (inr cut) =
     alone [] free = refl
     alone (b ∷ h) free =
         let one : lines (b ∷ h) ≡ record { content = b ∷ h; lf = false } ∷ [] =
-            rw (closed-none (b ∷ h) free, begun-none (b ∷ h) free) refl in
+        rw (closed-none (b ∷ h) free, begun-none (b ∷ h) free) refl in
         rw one (found-good rules (record { content = b ∷ h; lf = false }) [])

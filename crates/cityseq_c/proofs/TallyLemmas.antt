@@ -66,7 +66,7 @@ module _ (rules : Rules) (h a b : List ℕ) (first second joined header : Tally)
       → ((x : Tallied) → IsTally x first → HasCounts x s) → ((x : Tallied) → IsTally x second → HasCounts x t)
       → JoinsTallies s t u → IsTally u joined
       → ((x y both : Tallied) → IsTallyOf (kept rules (headed h a)) x → IsTallyOf (kept rules (headed h b)) y
-          → JoinsTallies x y both → IsTallyOf (kept rules (headed h (a ++ b))) both)
+      → JoinsTallies x y both → IsTallyOf (kept rules (headed h (a ++ b))) both)
       → IsTalliedOf rules (headed h a) first → IsTalliedOf rules (headed h b) second
       → IsTalliedOf rules (headed h (a ++ b)) (with_transform joined header)
   tallied-then cut done own counts more joins told law x y =

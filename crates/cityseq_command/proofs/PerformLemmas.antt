@@ -163,7 +163,7 @@ pub Says-check : (rules : Rules) (r : List ℕ) (n m k : ℕ) (written : Result 
     → Wrote (check_text n m k) written old new → SaysCheck (stream_of rules r) Complete told old new
 Says-check rules r n m k written told old new lines features refused tells wrote =
     let now : Wrote (check_text (length (good rules r)) (length (filter is_feature (kept rules r)))
-        (length (reported rules r))) written old new = rw (← lines, ← features, ← refused) wrote in
+    (length (reported rules r))) written old new = rw (← lines, ← features, ← refused) wrote in
     (written, tells, now)
 
 pub Says-summary : (rules : Rules) (r : List ℕ) (n : ℕ) (t : Tally) (peaks : Peaks)
@@ -263,5 +263,9 @@ pub enough-told : (ask : Ask) (r : List ℕ) (at_end : Type 0) (outcome : Outcom
     → Answers ask (went r at_end outcome reports) told old new → IsReadWithin reads r outcome.ended → length r < reads
     → told ≡ ReadLimit → ⊥
 enough-told ask r at_end outcome reports told old new reads says within few is =
-    omega (arith, few, limit-reads reads r outcome.ended
-        (Answers-limit ask r at_end outcome reports told old new says is) within)
+    omega (
+      arith,
+      few,
+      limit-reads reads r outcome.ended
+          (Answers-limit ask r at_end outcome reports told old new says is) within,
+    )

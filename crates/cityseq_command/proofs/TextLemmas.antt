@@ -87,19 +87,25 @@ module _ {T E : Type 0} (r : Result T E) (a b : Option (List ℕ)) (x : List ℕ
   module _ (c : Option (List ℕ)) (y : List ℕ) (first : Appends a b x) where
     pub written-after : OnOk r (Appends b c y) → OnOk r (Appends a c (x ++ y))
     written-after =
-        elim r as (λ r. OnOk r (Appends b c y) → OnOk r (Appends a c (x ++ y))) [ Ok v ↦
-            λ h. Appends-then a b c x y first h | Err e ↦ λ h. tt ]
+        elim r as (λ r. OnOk r (Appends b c y) → OnOk r (Appends a c (x ++ y))) [
+          | Ok v ↦
+              λ h. Appends-then a b c x y first h
+          | Err e ↦ λ h. tt
+        ]
 
     pub fault-after : OnErr r (AppendsPart b c y) → OnErr r (AppendsPart a c (x ++ y))
     fault-after =
-        elim r as (λ r. OnErr r (AppendsPart b c y) → OnErr r (AppendsPart a c (x ++ y))) [ Ok v ↦ λ h. tt | Err e ↦
-            λ h. AppendsPart-after a b c x y first h ]
+        elim r as (λ r. OnErr r (AppendsPart b c y) → OnErr r (AppendsPart a c (x ++ y))) [
+          | Ok v ↦ λ h. tt
+          | Err e ↦
+              λ h. AppendsPart-after a b c x y first h
+        ]
 
 -- ---- what `check` says of a stream with lines that are refused
 
 pub check-refused : (lines features refused : ℕ) → 0 < refused
     → check_text lines features refused
     ≡ joined (codes "invalid lines=" ∷ decimal lines ∷ codes " features=" ∷ decimal features ∷ codes " refused="
-        ∷ decimal refused ∷ codes "\n" ∷ [])
+    ∷ decimal refused ∷ codes "\n" ∷ [])
 check-refused lines features zero some = absurd (omega (arith, some))
 check-refused lines features (suc n) some = refl

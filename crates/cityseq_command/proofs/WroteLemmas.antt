@@ -47,9 +47,9 @@ module _ (r : Result (Unit {0}) WriteFault) (is : IsErr r) where
   pub Wrote-told : (e : WriteFault) (x : List ℕ) (a b : Channel) → Wrote x (Err e) a b → Wrote x r a b
   Wrote-told =
       elim r as (λ r. IsErr r → (e : WriteFault) (x : List ℕ) (a b : Channel) → Wrote x (Err e) a b → Wrote x r a b) [
-    | Ok v ↦ λ is e x a b p. absurd (cc is)
-    | Err f ↦ λ is e x a b p. record { whole = tt; front = p.front; failures = p.failures }
-  ] is
+        | Ok v ↦ λ is e x a b p. absurd (cc is)
+        | Err f ↦ λ is e x a b p. record { whole = tt; front = p.front; failures = p.failures }
+      ] is
 
   pub Wrote-stops : (e : WriteFault) (x y : List ℕ) (a b : Channel) → Wrote x (Err e) a b → Wrote (x ++ y) r a b
   Wrote-stops e x y a b p = Wrote-front x y a b (Wrote-told e x a b p)
@@ -61,8 +61,11 @@ pub WroteAfter-then : (p q r : Result (Unit {0}) WriteFault) (x y : List ℕ) (a
     → WroteAfter q y r b c → WroteAfter p (x ++ y) r a c
 WroteAfter-then (Ok v) (Ok w) r x y a b c first second = Wrote-then r w x y a b c first second
 WroteAfter-then (Ok v) (Err e) r x y a b c first second =
-    rw (second.0, second.1) (record { whole = tt; front = AppendsPart-front a.bytes b.bytes x y first.front;
-            failures = first.failures })
+    rw (second.0, second.1) (record {
+      whole = tt;
+      front = AppendsPart-front a.bytes b.bytes x y first.front;
+      failures = first.failures;
+    })
 WroteAfter-then (Err e) q r x y a b c first second = let k = rw (first.0, first.1) at second in k
 
 WroteAfter-nothing : (p : Result (Unit {0}) WriteFault) (a : Channel) → WroteAfter p [] p a a
@@ -74,13 +77,14 @@ pub wrote-reports : {E : Type 0} (contents : E → Option (List ℕ)) (xs : List
     → Took (WritesReport contents) a xs b
     → (loan_name b ≡ loan_name a)
     × WroteAfter (writing a) (report_lines xs) (writing b) (channel contents (lent_output a))
-        (channel contents (lent_output b))
+    (channel contents (lent_output b))
 wrote-reports contents [] a b took = rw took (refl, WroteAfter-nothing (writing a) (channel contents (lent_output a)))
 wrote-reports contents (x ∷ xs) a b took =
-    let rest = wrote-reports contents xs took.0 b took.2 in
-    (rest.0 ∙ took.1.same_loan,
-        WroteAfter-then (writing a) (writing took.0) (writing b) (report_line x) (report_lines xs) _ _ _ took.1.line
-        rest.1)
+    let rest = wrote-reports contents xs took.0 b took.2 in (
+      rest.0 ∙ took.1.same_loan,
+      WroteAfter-then (writing a) (writing took.0) (writing b) (report_line x) (report_lines xs) _ _ _ took.1.line
+          rest.1,
+    )
 
 -- ---- parts of a list
 
@@ -91,16 +95,16 @@ module _ {A : Type 0} (f : A → List ℕ) (xs : List A) (i : ℕ) (a b : Channe
       → Wrote (flat_map f (take (i + 1) xs)) (Ok tt) a c
   part-wrote c d v small now =
       rw (parts_more f xs i d small)
-          (Wrote-then (Ok tt) tt (flat_map f (take i xs)) (f (get_or xs i d)) a b c before
-          (record { whole = now.whole; front = tt; failures = now.failures }))
+      (Wrote-then (Ok tt) tt (flat_map f (take i xs)) (f (get_or xs i d)) a b c before
+      (record { whole = now.whole; front = tt; failures = now.failures }))
 
   -- one part that failed
   pub part-stops : (c : Channel) (r : Result (Unit {0}) WriteFault) → IsErr r → (d : A) (e : WriteFault) → i < length xs
       → Wrote (f (get_or xs i d)) (Err e) b c → Wrote (flat_map f xs) r a c
   part-stops c r is d e small now =
       rw (parts_at f xs i d small)
-          (Wrote-stops r is e _ _ a c
-          (Wrote-then (Err e) tt (flat_map f (take i xs)) (f (get_or xs i d)) a b c before now))
+      (Wrote-stops r is e _ _ a c
+      (Wrote-then (Err e) tt (flat_map f (take i xs)) (f (get_or xs i d)) a b c before now))
 
   -- all parts
   pub parts-wrote : length xs ≤ i → Wrote (flat_map f xs) (Ok tt) a b

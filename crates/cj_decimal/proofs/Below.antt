@@ -26,9 +26,9 @@ weighed_below n h one self (d ∷ s) z =
     let l = z.0 in
     let more : suc (length s) ≡ length s + 1 = omega arith in
     let power : n ^ suc (length s) ≡ n ^ length s * n = ap (λ k. n ^ k) more ∙ pow-add n (length s) 1
-        ∙ ap (λ k. n ^ length s * k) self in
+    ∙ ap (λ k. n ^ length s * k) self in
     subst (λ p. n ^ length s * d + weighed n s < p) (sym power)
-        (below_next (n ^ length s) d (weighed n s) n (omega arith) rest)
+    (below_next (n ^ length s) d (weighed n s) n (omega arith) rest)
 
 -- one digit decides, or the rest does
 step : (k : ℕ) → k ≤ 1 → (p q a b x y u v : ℕ) → x < q → y < q → u < p → (x + k ≤ y → u + k ≤ v)
@@ -57,12 +57,12 @@ order k one (a ∷ s) (b ∷ t) e hs ht l =
     let n : length t ≡ length s = omega (arith, e) in
     let small = weighed_below 256 (omega arith) refl refl s hs.1 in
     let other : weighed 256 t < 256 ^ length s =
-        subst (λ i. weighed 256 t < 256 ^ i) n (weighed_below 256 (omega arith) refl refl t ht.1) in
+    subst (λ i. weighed 256 t < 256 ^ i) n (weighed_below 256 (omega arith) refl refl t ht.1) in
     let g : 256 ^ length s * a + weighed 256 s + k ≤ 256 ^ length s * b + weighed 256 t =
-        subst (λ i. 256 ^ length s * a + weighed 256 s + k ≤ 256 ^ i * b + weighed 256 t) n l in
+    subst (λ i. 256 ^ length s * a + weighed 256 s + k ≤ 256 ^ i * b + weighed 256 t) n l in
     subst (λ i. 10 ^ length s * a + weighed 10 s + k ≤ 10 ^ i * b + weighed 10 t) (sym n)
     (step k one (10 ^ length s) (256 ^ length s) a b (weighed 256 s) (weighed 256 t) (weighed 10 s) (weighed 10 t) small
-        other (weighed_below 10 (omega arith) refl refl s hs.1) (order k one s t (sym n) hs.1 ht.1) g)
+    other (weighed_below 10 (omega arith) refl refl s hs.1) (order k one s t (sym n) hs.1 ht.1) g)
 
 -- ---- eight digits
 
@@ -70,7 +70,7 @@ value_weighed : (s : List ℕ) → length s ≡ 8 → digits_value (map (λ d. d
 unfolding weighed horner
 value_weighed s l =
     eight (λ s. digits_value (map (λ d. d + 48) s) ≡ weighed 10 s)
-        (λ a b c d e f g h. spelled_value 0 (a ∷ b ∷ c ∷ d ∷ e ∷ f ∷ g ∷ h ∷ []) ∙ omega arith) s l
+    (λ a b c d e f g h. spelled_value 0 (a ∷ b ∷ c ∷ d ∷ e ∷ f ∷ g ∷ h ∷ []) ∙ omega arith) s l
 
 bytes_of : (s : List ℕ) → AllBelow 10 s → (i : ℕ) → get_or s i 0 < 256
 bytes_of [] h i = omega arith
@@ -99,9 +99,13 @@ unswapped s l = eight (λ s. AllBelow 10 s → swap_bytes w64 (weighed 256 s) �
     each a b c d e f g h z =
         let s = a ∷ b ∷ c ∷ d ∷ e ∷ f ∷ g ∷ h ∷ [] in
         let r = h ∷ g ∷ f ∷ e ∷ d ∷ c ∷ b ∷ a ∷ [] in
-        let other : AllBelow 10 r =
-            (z.1.1.1.1.1.1.1.0, (z.1.1.1.1.1.1.0,
-                    (z.1.1.1.1.1.0, (z.1.1.1.1.0, (z.1.1.1.0, (z.1.1.0, (z.1.0, (z.0, tt)))))))) in
+        let other : AllBelow 10 r = (
+          z.1.1.1.1.1.1.1.0,
+          (
+            z.1.1.1.1.1.1.0,
+            (z.1.1.1.1.1.0, (z.1.1.1.1.0, (z.1.1.1.0, (z.1.1.0, (z.1.0, (z.0, tt)))))),
+          ),
+        ) in
         let turned : weighed 256 s ≡ word_of r = omega arith in
         let back : weighed 256 r ≡ word_of s = omega arith in
         ap (swap_bytes w64) turned ∙ swapped r refl other ∙ back
@@ -130,9 +134,19 @@ eight_of_word w n h = (h.0, h.1, h.2, ap (swap_bytes w64) h.3 ∙ unswapped h.0 
 pub eight_room : (s : List ℕ) (m : ℕ) → length s ≡ 8 → AllBelow 10 s → m ≡ word_of s → m < 2 ^ 60
 eight_room s m l =
     eight (λ s. AllBelow 10 s → m ≡ word_of s → m < 2 ^ 60)
-        (λ a b c d e f g h z is.
-        omega (arith, is, z.0, z.1.0, z.1.1.0, z.1.1.1.0, z.1.1.1.1.0, z.1.1.1.1.1.0, z.1.1.1.1.1.1.0,
-            z.1.1.1.1.1.1.1.0)) s l
+    (λ a b c d e f g h z is.
+    omega (
+      arith,
+      is,
+      z.0,
+      z.1.0,
+      z.1.1.0,
+      z.1.1.1.0,
+      z.1.1.1.1.0,
+      z.1.1.1.1.1.0,
+      z.1.1.1.1.1.1.0,
+      z.1.1.1.1.1.1.1.0,
+    )) s l
 
 word_small : (w n : ℕ) → IsWordOf w n → n < 2 ^ 32
 word_small w n h =
@@ -146,9 +160,12 @@ pub word_answer : (o : Option ℕ) (s : List ℕ) → IsNumber s → (IsSome o �
     → IfSome o (λ w. IsWordOf w (digits_value s))
     → IfSome o (λ w. (n : ℕ) × IsWordOf w n × ((c : Class s) → whole_answer c ≡ Ok (Some (pos n))))
 word_answer None s number digits word = word
-word_answer (Some w) s number digits word =
-    (digits_value s, word, λ c.
-        answer_digits s (digits_value s) c (number_short s number (digits refl) (word_small w (digits_value s) word)))
+word_answer (Some w) s number digits word = (
+  digits_value s,
+  word,
+  λ c.
+      answer_digits s (digits_value s) c (number_short s number (digits refl) (word_small w (digits_value s) word)),
+)
 
 -- ---- what a word of a count tells
 
@@ -166,9 +183,16 @@ unfolding weighed
 told n a b c d e f g word small ia ib ic id ie if ig is = λ s l z w.
     let t = g ∷ f % 10 ∷ e % 10 ∷ d % 10 ∷ c % 10 ∷ b % 10 ∷ a % 10 ∷ n % 10 ∷ [] in
     let first : g < 10 = omega arith in
-    let digits : AllBelow 10 t =
-        (first, (omega arith, (omega arith,
-                    (omega arith, (omega arith, (omega arith, (omega arith, (omega arith, tt)))))))) in
+    let digits : AllBelow 10 t = (
+      first,
+      (
+        omega arith,
+        (
+          omega arith,
+          (omega arith, (omega arith, (omega arith, (omega arith, (omega arith, tt))))),
+        ),
+      ),
+    ) in
     let as_word : word ≡ weighed 256 t = omega (arith, is) in
     let value : weighed 10 t ≡ n = omega arith in
     let above = subst (λ x. weighed 256 s < x) as_word w in

@@ -37,14 +37,17 @@ module _ (s : List ℕ) (v : Number) (value : IsValue s v) where
   by_power range (pos k) e = by_size range k e (ltb (unsigned_abs (v.coefficient *ℤ pos (10 ^ k))) (10 ^ 18)) refl
   by_power range (negsuc k) e =
       not_whole v value range (λ w is. units_below v w (pos 0) value.normal is.same (omega (arith, ints, e))
-          (omega (arith, ints)))
+      (omega (arith, ints)))
 
   -- a number, by the three bounds of its range
   by_range : (short near : Bool) → ltb (unsigned_abs v.coefficient) (10 ^ 36) ≡ short
       → ltb (unsigned_abs v.power) 1000001 ≡ near → Class s
   by_range true true e f =
-      by_power (record { digits = ltb-true _ _ e; power_low = omega (arith, ints, ltb-true _ _ f);
-              power_high = omega (arith, ints, ltb-true _ _ f) }) v.power refl
+      by_power (record {
+        digits = ltb-true _ _ e;
+        power_low = omega (arith, ints, ltb-true _ _ f);
+        power_high = omega (arith, ints, ltb-true _ _ f);
+      }) v.power refl
   by_range true false e f = out_of_range (v, value, λ r. absurd (far r))
     where
       far : IsInRange v → ⊥

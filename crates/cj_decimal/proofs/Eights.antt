@@ -65,7 +65,7 @@ nibbles s e h z =
     let high : word_of (copies 8 240) ≡ 0xf0f0f0f0f0f0f0f0 = refl in
     let same = and_same 240 (omega arith) s h in
     all_high s h (sym same ∙ ap (λ n. bit_and (word_of s) (word_of (copies n 240))) e ∙ ap (bit_and (word_of s)) high
-        ∙ z)
+    ∙ z)
 
 more_below : (s : List ℕ) → AllBelow 16 s → AllBelow 256 (map (λ b. b + 6) s)
 more_below [] h = tt
@@ -87,9 +87,9 @@ all_small s e h z y =
     let low = nibbles s e h z in
     let six : word_of (copies 8 6) ≡ 0x0606060606060606 = refl in
     let sum : word_of s + 0x0606060606060606 ≡ word_of (map (λ b. b + 6) s) =
-        ap (λ n. word_of s + n) (sym six ∙ ap (λ n. word_of (copies n 6)) (sym e)) ∙ add_same 6 s in
+    ap (λ n. word_of s + n) (sym six ∙ ap (λ n. word_of (copies n 6)) (sym e)) ∙ add_same 6 s in
     less_below s (nibbles (map (λ b. b + 6) s) (length_map (λ b. b + 6) s ∙ e) (more_below s low)
-        (ap (λ n. bit_and n 0xf0f0f0f0f0f0f0f0) (sym sum) ∙ y))
+    (ap (λ n. bit_and n 0xf0f0f0f0f0f0f0f0) (sym sum) ∙ y))
 
 -- ---- one byte
 
@@ -107,8 +107,11 @@ of_all : (n : ℕ) (p : ℕ → Bool) → all_to n p ≡ true → (k : ℕ) → 
 unfolding all_to
 of_all zero p h k l = absurd (omega arith)
 of_all (suc n) p h k l =
-    elim (cases_lt k n) [ inl below ↦ of_all n p (and_right (p n) (all_to n p) h) k below | inr above ↦
-        let e : n ≡ k = omega arith in subst (λ j. p j ≡ true) e (and_left (p n) (all_to n p) h) ]
+    elim (cases_lt k n) [
+      | inl below ↦ of_all n p (and_right (p n) (all_to n p) h) k below
+      | inr above ↦
+          let e : n ≡ k = omega arith in subst (λ j. p j ≡ true) e (and_left (p n) (all_to n p) h)
+    ]
 
 is_back : ℕ → Bool
 is_back b = not (nat_le (bit_xor b 48) 9) || nat_eq (bit_xor b 48 + 48) b
@@ -174,8 +177,8 @@ eight P each (a ∷ b ∷ c ∷ d ∷ e ∷ f ∷ g ∷ h ∷ i ∷ s) l = absur
 word_below : (s : List ℕ) → length s ≡ 8 → AllBelow 256 s → word_of s < 2 ^ 64
 word_below s l =
     eight (λ t. AllBelow 256 t → word_of t < 2 ^ 64)
-        (λ a b c d e f g h z. omega
-        (arith, z.0, z.1.0, z.1.1.0, z.1.1.1.0, z.1.1.1.1.0, z.1.1.1.1.1.0, z.1.1.1.1.1.1.0, z.1.1.1.1.1.1.1.0)) s l
+    (λ a b c d e f g h z. omega
+    (arith, z.0, z.1.0, z.1.1.0, z.1.1.1.0, z.1.1.1.1.0, z.1.1.1.1.1.0, z.1.1.1.1.1.1.0, z.1.1.1.1.1.1.1.0)) s l
 
 masked : (j : ℕ) (s : List ℕ) → j ≤ 8 → length s ≡ 8 → AllBelow 256 s
     → bit_and (word_of s) (2 ^ 64 - 2 ^ (8 * j)) ≡ word_of (clear j s)
@@ -188,7 +191,7 @@ two_bytes : (n : ℕ) → bit_and n 0x000000ff000000ff ≡ n / 2 ^ 32 % 256 * 2 
 two_bytes n =
     let parts : n ≡ n / 2 ^ 32 * 2 ^ 32 + n % 2 ^ 32 = omega arith in
     let block : bit_and (n / 2 ^ 32 * 2 ^ 32 + n % 2 ^ 32) (255 * 2 ^ 32 + 255) ≡ bit_and (n / 2 ^ 32) 255 * 2 ^ 32
-        + bit_and (n % 2 ^ 32) 255 = and_block 32 (n / 2 ^ 32) 255 (n % 2 ^ 32) 255 (omega arith) (omega arith) in
+    + bit_and (n % 2 ^ 32) 255 = and_block 32 (n / 2 ^ 32) 255 (n % 2 ^ 32) 255 (omega arith) (omega arith) in
     let high : bit_and (n / 2 ^ 32) 255 ≡ n / 2 ^ 32 % 256 = and_mask (n / 2 ^ 32) 8 in
     let low : bit_and (n % 2 ^ 32) 255 ≡ n % 2 ^ 32 % 256 = and_mask (n % 2 ^ 32) 8 in
     let all = ap (λ m. bit_and m 0x000000ff000000ff) parts in
@@ -199,7 +202,7 @@ of_pairs : (n p q r s t u v w : ℕ)
     → n ≡ p + 256 * (q + 256 * (r + 256 * (s + 256 * (t + 256 * (u + 256 * (v + 256 * w)))))) → p < 100 → q < 100
     → r < 100 → s < 100 → t < 100 → u < 100 → v < 100 → w < 100
     → (bit_and n 0x000000ff000000ff * 4294967296000100 % 2 ^ 64
-        + bit_and (n / 2 ^ 16) 0x000000ff000000ff * 42949672960001 % 2 ^ 64) % 2 ^ 64 / 2 ^ 32 ≡ p * 1000000 + r * 10000
+    + bit_and (n / 2 ^ 16) 0x000000ff000000ff * 42949672960001 % 2 ^ 64) % 2 ^ 64 / 2 ^ 32 ≡ p * 1000000 + r * 10000
     + t * 100 + v
 of_pairs n p q r s t u v w e lp lq lr ls lt lu lv lw =
     let first = two_bytes n in
@@ -244,7 +247,7 @@ value_eight s l = eight P each s l
         → w ≡ a + 256 * (b + 256 * (c + 256 * (d + 256 * (e + 256 * (f + 256 * (g + 256 * (h + 256 * 0)))))))
         → w * 10 + w / 2 ^ 8 ≡ 10 * a + b
         + 256 * (10 * b + c + 256 * (10 * c + d
-                + 256 * (10 * d + e + 256 * (10 * e + f + 256 * (10 * f + g + 256 * (10 * g + h + 256 * (10 * h)))))))
+        + 256 * (10 * d + e + 256 * (10 * e + f + 256 * (10 * f + g + 256 * (10 * g + h + 256 * (10 * h)))))))
     pairs a b c d e f g h w la is =
         let r : w / 2 ^ 8 ≡ b + 256 * (c + 256 * (d + 256 * (e + 256 * (f + 256 * (g + 256 * (h + 256 * 0)))))) =
         omega arith in omega arith
@@ -258,8 +261,8 @@ value_eight s l = eight P each s l
         let la = z.0 in let lb = z.1.0 in let lc = z.1.1.0 in let ld = z.1.1.1.0 in let le = z.1.1.1.1.0 in
         let lf = z.1.1.1.1.1.0 in let lg = z.1.1.1.1.1.1.0 in let lh = z.1.1.1.1.1.1.1.0 in
         let value = of_pairs (w * 10 + w / 2 ^ 8) (10 * a + b) (10 * b + c) (10 * c + d) (10 * d + e) (10 * e + f)
-            (10 * f + g) (10 * g + h) (10 * h) (pairs a b c d e f g h w la is) (omega arith) (omega arith) (omega arith)
-            (omega arith) (omega arith) (omega arith) (omega arith) (omega arith) in
+        (10 * f + g) (10 * g + h) (10 * h) (pairs a b c d e f g h w la is) (omega arith) (omega arith) (omega arith)
+        (omega arith) (omega arith) (omega arith) (omega arith) (omega arith) in
         sum a b c d e f g h n (answer ∙ value) ∙ sym (spelled_value 0 (a ∷ b ∷ c ∷ d ∷ e ∷ f ∷ g ∷ h ∷ []))
 
 -- ---- the digits at the end of eight bytes
@@ -291,9 +294,11 @@ spelled [] h z = (tt, refl)
 spelled (b ∷ s) h z =
     let rest = spelled s h.1 z.1 in
     let e = back b h.0 z.0 in
-    let l = z.0 in
-    ((((omega arith), (omega arith)), rest.0), ap (λ c. c ∷ map (λ d. d + 48) (without_zeros s)) e
-        ∙ ap (λ t. b ∷ t) rest.1)
+    let l = z.0 in (
+      (((omega arith), (omega arith)), rest.0),
+      ap (λ c. c ∷ map (λ d. d + 48) (without_zeros s)) e
+          ∙ ap (λ t. b ∷ t) rest.1,
+    )
 
 cleared : (j : ℕ) (s : List ℕ) → AllBelow 256 s → AllBelow 10 (clear j (without_zeros s)) → AllDigits (drop j s)
     × (digits_value (map (λ d. d + 48) (clear j (without_zeros s))) ≡ digits_value (drop j s))
@@ -362,11 +367,11 @@ module _ (j : ℕ) (s : List ℕ) (w m : ℕ) (lj : j ≤ 8) (ls : length s ≡ 
       let xs = without_zeros s in
       let zeros : word_of (copies 8 48) ≡ 0x3030303030303030 = refl in
       let same : bit_xor (word_of s) 0x3030303030303030 ≡ word_of xs =
-          ap (bit_xor (word_of s)) (sym zeros ∙ ap (λ k. word_of (copies k 48)) (sym ls))
-          ∙ xor_same 48 (omega arith) s h in
+      ap (bit_xor (word_of s)) (sym zeros ∙ ap (λ k. word_of (copies k 48)) (sym ls))
+      ∙ xor_same 48 (omega arith) s h in
       word ∙ ap (λ v. bit_and (bit_xor v 0x3030303030303030) (2 ^ 64 - 2 ^ (8 * j))) is
-          ∙ ap (λ v. bit_and v (2 ^ 64 - 2 ^ (8 * j))) same
-          ∙ masked j xs lj (length_map (λ b. bit_xor b 48) s ∙ ls) (xor_below s h)
+      ∙ ap (λ v. bit_and v (2 ^ 64 - 2 ^ (8 * j))) same
+      ∙ masked j xs lj (length_map (λ b. bit_xor b 48) s ∙ ls) (xor_below s h)
 
   -- the eight digits of the word, where each of its bytes is below 10, and those that stand at the end of eight bytes
   pub eight_at_end : ((t : List ℕ) → length t ≡ 8 → AllBelow 256 t → m ≡ word_of t → AllBelow 10 t)
@@ -444,7 +449,7 @@ end_of_eight line count stop few room =
 pub below_top : (m : ℕ) → m < 2 ^ 64 → bit_and m 0xf0f0f0f0f0f0f0f0 ≡ 0 → m < 2 ^ 60
 below_top m l h =
     let top : bit_and m 0xf0f0f0f0f0f0f0f0 / 2 ^ 60 ≡ bit_and (m / 2 ^ 60) (2 ^ 4 - 1) =
-        and_shr m 0xf0f0f0f0f0f0f0f0 60 in
+    and_shr m 0xf0f0f0f0f0f0f0f0 60 in
     let mask = and_mask (m / 2 ^ 60) 4 in
     omega (arith, top, mask, h)
 
@@ -460,12 +465,12 @@ is_zero n h = grind (arith, nat_tests)
 -- the test of a word: no bit is set in a high half, nor when 6 is added to each byte
 pub passed_room : (w : ℕ) → w < 2 ^ 64
     → IsTrue (nat_eq (bit_or (bit_and w 0xf0f0f0f0f0f0f0f0)
-        (bit_and ((w + 0x0606060606060606) % 2 ^ 64) 0xf0f0f0f0f0f0f0f0)) 0) → w < 2 ^ 60
+    (bit_and ((w + 0x0606060606060606) % 2 ^ 64) 0xf0f0f0f0f0f0f0f0)) 0) → w < 2 ^ 60
 passed_room w l h = below_top w l (both_zero _ _ (zero_is _ h)).0
 
 pub passed_each : (w : ℕ) (s : List ℕ) → length s ≡ 8 → AllBelow 256 s → w ≡ word_of s
     → IsTrue (nat_eq (bit_or (bit_and w 0xf0f0f0f0f0f0f0f0)
-            (bit_and ((w + 0x0606060606060606) % 2 ^ 64) 0xf0f0f0f0f0f0f0f0)) 0) → AllBelow 10 s
+    (bit_and ((w + 0x0606060606060606) % 2 ^ 64) 0xf0f0f0f0f0f0f0f0)) 0) → AllBelow 10 s
 passed_each w s e h is test =
     let z = both_zero _ _ (zero_is _ test) in
     let l : w < 2 ^ 64 = subst (λ v. v < 2 ^ 64) (sym is) (word_below s e h) in
@@ -473,26 +478,26 @@ passed_each w s e h is test =
     let sum : (w + 0x0606060606060606) % 2 ^ 64 ≡ w + 0x0606060606060606 = omega arith in
     all_small s e h (ap (λ v. bit_and v 0xf0f0f0f0f0f0f0f0) (sym is) ∙ z.0)
     (ap (λ v. bit_and (v + 0x0606060606060606) 0xf0f0f0f0f0f0f0f0) (sym is)
-        ∙ ap (λ v. bit_and v 0xf0f0f0f0f0f0f0f0) (sym sum) ∙ z.1)
+    ∙ ap (λ v. bit_and v 0xf0f0f0f0f0f0f0f0) (sym sum) ∙ z.1)
 
 pub passes_each : (w : ℕ) (s : List ℕ) → length s ≡ 8 → AllBelow 256 s → w ≡ word_of s → AllBelow 10 s
     → IsTrue (nat_eq (bit_or (bit_and w 0xf0f0f0f0f0f0f0f0)
-            (bit_and ((w + 0x0606060606060606) % 2 ^ 64) 0xf0f0f0f0f0f0f0f0)) 0)
+    (bit_and ((w + 0x0606060606060606) % 2 ^ 64) 0xf0f0f0f0f0f0f0f0)) 0)
 unfolding copies
 passes_each w s e h is small =
     let six : word_of (copies 8 6) ≡ 0x0606060606060606 = refl in
     let added : word_of s + 0x0606060606060606 ≡ word_of (map (λ b. b + 6) s) =
-        ap (λ n. word_of s + n) (sym six ∙ ap (λ n. word_of (copies n 6)) (sym e)) ∙ add_same 6 s in
+    ap (λ n. word_of s + n) (sym six ∙ ap (λ n. word_of (copies n 6)) (sym e)) ∙ add_same 6 s in
     let low : bit_and w 0xf0f0f0f0f0f0f0f0 ≡ 0 = ap (λ v. bit_and v 0xf0f0f0f0f0f0f0f0) is
-        ∙ no_nibbles s e (below_more 10 16 (omega arith) s small) in
+    ∙ no_nibbles s e (below_more 10 16 (omega arith) s small) in
     let l : w < 2 ^ 64 = subst (λ v. v < 2 ^ 64) (sym is) (word_below s e h) in
     let room = below_top w l low in
     let sum : (w + 0x0606060606060606) % 2 ^ 64 ≡ word_of (map (λ b. b + 6) s) = omega (arith, is, added, room) in
     let high : bit_and ((w + 0x0606060606060606) % 2 ^ 64) 0xf0f0f0f0f0f0f0f0 ≡ 0 =
-        ap (λ v. bit_and v 0xf0f0f0f0f0f0f0f0) sum
-        ∙ no_nibbles (map (λ b. b + 6) s) (length_map (λ b. b + 6) s ∙ e) (sixes_below s small) in
+    ap (λ v. bit_and v 0xf0f0f0f0f0f0f0f0) sum
+    ∙ no_nibbles (map (λ b. b + 6) s) (length_map (λ b. b + 6) s ∙ e) (sixes_below s small) in
     is_zero _ (ap (λ v. bit_or v (bit_and ((w + 0x0606060606060606) % 2 ^ 64) 0xf0f0f0f0f0f0f0f0)) low
-        ∙ ap (bit_or 0) high)
+    ∙ ap (bit_or 0) high)
 
 -- ---- short numbers
 
@@ -522,7 +527,7 @@ short_of s n l all value small lead =
 pub word_short : (o : Option ℕ) (line : List ℕ) (start stop : ℕ) → start < stop → stop ≤ length line
     → (get_or line start 0 ≡ 48 → stop - start ≡ 1) → IfSome o (λ n. n < 2 ^ 32)
     → IfSome o (λ n. AllDigits (slice_range line (stop - (stop - start)) stop)
-        × (n ≡ digits_value (slice_range line (stop - (stop - start)) stop)))
+    × (n ≡ digits_value (slice_range line (stop - (stop - start)) stop)))
     → IfSome o (λ n. IsShort (slice_range line start stop) n)
 word_short None line start stop order within lead small value = value
 word_short (Some n) line start stop order within lead small value =
@@ -532,7 +537,7 @@ word_short (Some n) line start stop order within lead small value =
     let is = subst P e value in
     let l = length_slice line start stop within in
     let first : get_or s 0 0 ≡ get_or line start 0 = get_or-take (stop - start) (drop start line) 0 0 (omega arith)
-        ∙ get_or-drop start line 0 0 ∙ ap (λ k. get_or line k 0) (omega arith) in
+    ∙ get_or-drop start line 0 0 ∙ ap (λ k. get_or line k 0) (omega arith) in
     short_of s n (omega (arith, l)) is.0 is.1 small (λ z. l ∙ lead (sym first ∙ z))
 
 pub first_is : (line : List ℕ) (start stop : ℕ) → start < stop
@@ -546,7 +551,7 @@ pub int_slice : (line : List ℕ) (start stop : ℕ) → start < stop → stop �
 int_slice line start stop order within lead all =
     let l = length_slice line start stop within in
     int_of (slice_range line start stop) (omega (arith, l)) all
-        (λ z. l ∙ lead (sym (first_is line start stop order) ∙ z))
+    (λ z. l ∙ lead (sym (first_is line start stop order) ∙ z))
 
 one_zero : (s : List ℕ) → IsInt s → get_or s 0 0 ≡ 48 → length s ≡ 1
 one_zero [] int z = absurd int
@@ -588,7 +593,7 @@ body_behind line start stop order minus =
     let s = slice_range line start stop in
     let m : stop - start ≡ 1 + (stop - (start + 1)) = omega arith in
     minus_there s (sym minus) ∙ ap (λ k. drop 1 (take k (drop start line))) m
-        ∙ drop-take 1 (stop - (start + 1)) (drop start line) ∙ ap (take (stop - (start + 1))) (drop-drop 1 start line)
+    ∙ drop-take 1 (stop - (start + 1)) (drop start line) ∙ ap (take (stop - (start + 1))) (drop-drop 1 start line)
 
 pub short_behind : (line : List ℕ) (start stop n : ℕ) → start < stop → true ≡ begins 45 (slice_range line start stop)
     → IsShort (slice_range line (start + 1) stop) n → IsShort (body (slice_range line start stop)) n

@@ -21,7 +21,7 @@ value_below n (b ∷ s) h =
     let power = pow-suc 10 (length s) in
     subst (λ q. value_after (10 * n + (b - 48)) s < (n + 1) * q) (sym power)
     (nearer (value_after (10 * n + (b - 48)) s) ((10 * n + (b - 48) + 1) * p) (10 * (n + 1) * p) ((n + 1) * (p * 10))
-        rest more (turned (n + 1) p))
+    rest more (turned (n + 1) p))
   where
     nearer : (v d m q : ℕ) → v < d → d ≤ m → m ≡ q → v < q
     nearer v d m q l o e = omega arith

@@ -17,16 +17,22 @@ unfolding digits_front
 front_all [] = tt
 front_all (b ∷ s) =
     elim (is_ascii_digit b) as
-        (λ t. is_ascii_digit b ≡ t → AllDigits (cond t (b ∷ digits_front s) [])) [ true ↦
-        λ e. (digit_bounds b e, front_all s) | false ↦ λ _. tt ] refl
+    (λ t. is_ascii_digit b ≡ t → AllDigits (cond t (b ∷ digits_front s) [])) [
+      | true ↦
+          λ e. (digit_bounds b e, front_all s)
+      | false ↦ λ _. tt
+    ] refl
 
 pub front_rest : (s : List ℕ) → s ≡ digits_front s ++ digits_rest s
 unfolding digits_front digits_rest
 front_rest [] = refl
 front_rest (b ∷ s) =
     elim (is_ascii_digit b) as
-        (λ t. b ∷ s ≡ cond t (b ∷ digits_front s) [] ++ cond t (digits_rest s) (b ∷ s)) [ true ↦
-        ap (λ r. b ∷ r) (front_rest s) | false ↦ refl ]
+    (λ t. b ∷ s ≡ cond t (b ∷ digits_front s) [] ++ cond t (digits_rest s) (b ∷ s)) [
+      | true ↦
+          ap (λ r. b ∷ r) (front_rest s)
+      | false ↦ refl
+    ]
 
 -- digits, and then no digit: the front is those digits
 pub front_append : (ds t : List ℕ) → AllDigits ds → begins_digit t ≡ false → digits_front (ds ++ t) ≡ ds
@@ -50,22 +56,25 @@ pub int_digits : (s : List ℕ) → IsInt s → AllDigits s
 int_digits [] h = absurd h
 int_digits (b ∷ s) h =
     ⊎_elim (λ zero_alone. ((omega arith, omega arith), all_none s zero_alone.1))
-        (λ more. ((omega arith, omega arith), more.2)) h
+    (λ more. ((omega arith, omega arith), more.2)) h
 
 pub int_test : (s : List ℕ) → IsInt s → is_int s ≡ true
 unfolding is_int is_empty
 int_test [] h = absurd h
 int_test (b ∷ s) h =
     ⊎_elim (λ zero_alone. rw zero_alone.1 (grind (arith, nat_tests))) (λ more. let low : 49 ≤ b = more.0 in
-        grind (arith, nat_tests)) h
+    grind (arith, nat_tests)) h
 
 pub int_from_test : (s : List ℕ) → AllDigits s → is_int s ≡ true → IsInt s
 unfolding is_int is_empty
 int_from_test [] d h = absurd (cc h)
 int_from_test (b ∷ []) d h =
-    elim (nat_eq b 48) as (λ t. nat_eq b 48 ≡ t → IsInt (b ∷ [])) [ true ↦
-        λ e. inl (grind (arith, nat_tests), refl) | false ↦ λ e. let other : b ≢ 48 = grind (arith, nat_tests) in
-        inr (omega (arith, d.0), omega (arith, d.0), tt) ] refl
+    elim (nat_eq b 48) as (λ t. nat_eq b 48 ≡ t → IsInt (b ∷ [])) [
+      | true ↦
+          λ e. inl (grind (arith, nat_tests), refl)
+      | false ↦ λ e. let other : b ≢ 48 = grind (arith, nat_tests) in
+          inr (omega (arith, d.0), omega (arith, d.0), tt)
+    ] refl
 int_from_test (b ∷ c ∷ s) d h = let other : b ≢ 48 = grind (arith, nat_tests) in
     inr (omega (arith, d.0), omega (arith, d.0), d.1)
 
@@ -138,7 +147,7 @@ unfolding is_whole_digits
 whole_from_test s h =
     let none : digits_rest s ≡ [] = empty_from_test _ (both_right _ _ h) in
     let all : digits_front s ≡ s = sym (append_nil (digits_front s)) ∙ ap (λ r. digits_front s ++ r) (sym none)
-        ∙ sym (front_rest s) in
+    ∙ sym (front_rest s) in
     digits_from_test s (both_left _ _ h) (same_all_digits _ _ all (front_all s))
 
 -- ---- the exponent
@@ -146,24 +155,33 @@ sign_split : (negative : Bool) (sign digits : List ℕ) → IsExpSign negative s
     → (begins 45 (sign ++ digits) ≡ negative) × (exp_digits (sign ++ digits) ≡ digits)
 unfolding exp_digits
 sign_split true sign digits s d =
-    rw s (begins_own 45 digits,
-        ap (λ t. cond (t || begins 43 (45 ∷ digits)) digits (45 ∷ digits)) (begins_own 45 digits))
+    rw s (
+      begins_own 45 digits,
+      ap (λ t. cond (t || begins 43 (45 ∷ digits)) digits (45 ∷ digits)) (begins_own 45 digits),
+    )
 sign_split false sign digits s d = ⊎_elim
-    (λ none. rw none (digit_begins_alone 45 digits d (omega arith),
-            ap (λ t. cond (t || begins 43 digits) (drop 1 digits) digits) (digit_begins_alone 45 digits d (omega arith))
-            ∙ ap (λ t. cond t (drop 1 digits) digits) (digit_begins_alone 43 digits d (omega arith))))
-    (λ plus. rw plus (begins_other 45 43 digits (λ e. omega (arith, e)),
-            ap (λ t. cond (t || begins 43 (43 ∷ digits)) digits (43 ∷ digits))
-            (begins_other 45 43 digits (λ e. omega (arith, e)))
-            ∙ ap (λ t. cond t digits (43 ∷ digits)) (begins_own 43 digits))) s
+    (λ none. rw none (
+      digit_begins_alone 45 digits d (omega arith),
+      ap (λ t. cond (t || begins 43 digits) (drop 1 digits) digits) (digit_begins_alone 45 digits d (omega arith))
+          ∙ ap (λ t. cond t (drop 1 digits) digits) (digit_begins_alone 43 digits d (omega arith)),
+    ))
+    (λ plus. rw plus (
+      begins_other 45 43 digits (λ e. omega (arith, e)),
+      ap (λ t. cond (t || begins 43 (43 ∷ digits)) digits (43 ∷ digits))
+          (begins_other 45 43 digits (λ e. omega (arith, e)))
+          ∙ ap (λ t. cond t digits (43 ∷ digits)) (begins_own 43 digits),
+    )) s
 
 mark_test : (b : ℕ) → (b ≡ 101) ⊎ (b ≡ 69) → (nat_eq b 101 || nat_eq b 69) ≡ true
 mark_test b h = ⊎_elim (λ e. rw e refl) (λ e. rw e refl) h
 
 mark_from_test : (b : ℕ) → (nat_eq b 101 || nat_eq b 69) ≡ true → (b ≡ 101) ⊎ (b ≡ 69)
 mark_from_test b h =
-    elim (nat_eq b 101) as (λ t. nat_eq b 101 ≡ t → (b ≡ 101) ⊎ (b ≡ 69)) [ true ↦
-        λ e. inl (grind (arith, nat_tests)) | false ↦ λ e. inr (grind (arith, nat_tests)) ] refl
+    elim (nat_eq b 101) as (λ t. nat_eq b 101 ≡ t → (b ≡ 101) ⊎ (b ≡ 69)) [
+      | true ↦
+          λ e. inl (grind (arith, nat_tests))
+      | false ↦ λ e. inr (grind (arith, nat_tests))
+    ] refl
 
 mark_no_digit : (b : ℕ) → (b ≡ 101) ⊎ (b ≡ 69) → is_ascii_digit b ≡ false
 mark_no_digit b h = ⊎_elim (λ e. rw e refl) (λ e. rw e refl) h
@@ -242,7 +260,7 @@ unfolding is_exp exp_value exp_digits
 exp_from_test [] h = inl (refl, refl)
 exp_from_test (b ∷ t) h =
     inr (parts_by_sign b t (begins 45 t) (begins 43 t) (mark_from_test b (both_left _ _ h)) refl refl
-        (whole_from_test (exp_digits t) (both_right _ _ h)))
+    (whole_from_test (exp_digits t) (both_right _ _ h)))
 
 -- ---- the fraction
 first_digit : (s t : List ℕ) → IsDigits s → begins_digit (s ++ t) ≡ true
@@ -275,15 +293,18 @@ with_point digits exp d stop =
 
 without_point : (exp : List ℕ) → begins_digit exp ≡ false → begins 46 exp ≡ false → FracTest exp [] exp
 unfolding is_frac frac_digits after_frac
-without_point exp stop point =
-    (ap (λ t. not t || begins_digit (drop 1 exp)) point, ap (λ t. cond t (digits_front (drop 1 exp)) []) point,
-        ap (λ t. cond t (digits_rest (drop 1 exp)) exp) point, stop)
+without_point exp stop point = (
+  ap (λ t. not t || begins_digit (drop 1 exp)) point,
+  ap (λ t. cond t (digits_front (drop 1 exp)) []) point,
+  ap (λ t. cond t (digits_rest (drop 1 exp)) exp) point,
+  stop,
+)
 
 frac_test : (digits fraction exp : List ℕ) → IsFrac digits fraction → begins_digit exp ≡ false → begins 46 exp ≡ false
     → FracTest (fraction ++ exp) digits exp
 frac_test digits fraction exp h stop point =
     ⊎_elim (λ none. rw none.1 (rw none.0 (without_point exp stop point)))
-        (λ some. rw some.1 (with_point digits exp some.0 stop)) h
+    (λ some. rw some.1 (with_point digits exp some.0 stop)) h
 
 front_digits : (s : List ℕ) → begins_digit s ≡ true → IsDigits (digits_front s)
 unfolding begins_digit
@@ -294,9 +315,12 @@ frac_by_point : (r : List ℕ) (point : Bool) → begins 46 r ≡ point → (not
     → (fraction : List ℕ) × IsFrac (cond point (digits_front (drop 1 r)) []) fraction
     × (r ≡ fraction ++ cond point (digits_rest (drop 1 r)) r)
 frac_by_point r false e h = ([], inl (refl, refl), refl)
-frac_by_point r true e h =
-    (46 ∷ digits_front (drop 1 r), inr (front_digits (drop 1 r) h, refl), begins_is 46 r e
-        ∙ ap (λ s. 46 ∷ s) (front_rest (drop 1 r)))
+frac_by_point r true e h = (
+  46 ∷ digits_front (drop 1 r),
+  inr (front_digits (drop 1 r) h, refl),
+  begins_is 46 r e
+      ∙ ap (λ s. 46 ∷ s) (front_rest (drop 1 r)),
+)
 
 frac_from_test : (r : List ℕ) → is_frac r ≡ true → (fraction : List ℕ) × IsFrac (frac_digits r) fraction
     × (r ≡ fraction ++ after_frac r)
@@ -327,18 +351,18 @@ spells_test s n h =
     let frac = frac_test n.frac h.fraction h.exp h.frac_is exp.2 exp.3 in
     let tail : List ℕ = h.fraction ++ h.exp in
     let sign = sign_of n.negative h.minus (n.int ++ tail) h.minus_is
-        (digit_begins 45 n.int tail (int_is_digits n.int h.int_is) (omega arith)) in
+    (digit_begins 45 n.int tail (int_is_digits n.int h.int_is) (omega arith)) in
     let front = front_append n.int tail (int_digits n.int h.int_is) frac.3 in
     let rest = rest_append n.int tail (int_digits n.int h.int_is) frac.3 in
     rw h.joined (
       both _ _ (ap (λ b. is_int (digits_front b)) sign.1 ∙ ap is_int front ∙ int_test n.int h.int_is)
           (both _ _ (ap (λ b. is_frac (digits_rest b)) sign.1 ∙ ap is_frac rest ∙ frac.0)
           (ap (λ b. is_exp (after_frac (digits_rest b))) sign.1 ∙ ap (λ r. is_exp (after_frac r)) rest
-              ∙ ap is_exp frac.2 ∙ exp.0)),
+          ∙ ap is_exp frac.2 ∙ exp.0)),
       written_eq n _ _ _ _ sign.0 (ap digits_front sign.1 ∙ front)
           (ap (λ b. frac_digits (digits_rest b)) sign.1 ∙ ap frac_digits rest ∙ frac.1)
           (ap (λ b. exp_value (after_frac (digits_rest b))) sign.1 ∙ ap (λ r. exp_value (after_frac r)) rest
-              ∙ ap exp_value frac.2 ∙ exp.1),
+          ∙ ap exp_value frac.2 ∙ exp.1),
     )
 
 -- and what passes the test is a number of the grammar

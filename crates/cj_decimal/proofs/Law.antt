@@ -15,13 +15,13 @@ one_value s v w a b =
     let written = one_written s a.written b.written a.spells b.spells in
     let other : SameValue (number_of a.written) w = rw written b.same in
     normal_same v w (same_trans v (number_of a.written) w (same_sym (number_of a.written) v a.same) other) a.normal
-        b.normal
+    b.normal
 
 pub has_one_value : (s : List ℕ) → HasOneValue s
 has_one_value s = record {
   has = λ n.
       let form = normal_form n.0.negative (digits_value (n.0.int ++ n.0.frac))
-          (n.0.exponent -ℤ pos (length n.0.frac)) in
+      (n.0.exponent -ℤ pos (length n.0.frac)) in
       (form.0, record { written = n.0; spells = n.1; same = form.1; normal = form.2 });
   one = one_value s;
 }
@@ -38,7 +38,7 @@ is_number_of : (s : List ℕ) (negative : Bool) (lead extra : ℕ) (lost : Bool)
 is_number_of s negative lead extra lost after_point exponent r =
     let n : ℕ = digits_value (r.written.int ++ r.written.frac) in
     ap (λ b. number (signed b n) (r.written.exponent -ℤ pos after_point)) (sym r.sign)
-        ∙ ap (λ k. number (signed r.written.negative n) (r.written.exponent -ℤ pos k)) (sym r.after_point_is)
+    ∙ ap (λ k. number (signed r.written.negative n) (r.written.exponent -ℤ pos k)) (sym r.after_point_is)
 
 pub value_of_read : (s : List ℕ) (negative : Bool) (lead extra : ℕ) (lost : Bool) (after_point : ℕ) (exponent : ℤ)
     (r : IsReadOf s negative lead extra lost after_point exponent) (v : Number)
@@ -53,9 +53,11 @@ value_of_read s negative lead extra lost after_point exponent r v same normal = 
 pub out_of_read : (s : List ℕ) (negative : Bool) (lead extra : ℕ) (lost : Bool) (after_point : ℕ) (exponent : ℤ)
     (r : IsReadOf s negative lead extra lost after_point exponent)
     → IsOutOfRange (read_number s negative lead extra lost after_point exponent r) → IsNumberOutOfRange s
-out_of_read s negative lead extra lost after_point exponent r o =
-    (o.normal_form, value_of_read s negative lead extra lost after_point exponent r o.normal_form o.same o.normal,
-        o.out)
+out_of_read s negative lead extra lost after_point exponent r o = (
+  o.normal_form,
+  value_of_read s negative lead extra lost after_point exponent r o.normal_form o.same o.normal,
+  o.out,
+)
 
 pub not_both : (s : List ℕ) → IsNumberInRange s → ¬ IsNumberOutOfRange s
 not_both s a b =

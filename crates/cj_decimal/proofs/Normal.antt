@@ -30,8 +30,10 @@ zero_times k = omega (arith, ints)
 pub zero_same : (s : Bool) (n : ℕ) (q : ℤ) → n ≡ 0 → SameValue (number (signed s n) q) (number (pos 0) (pos 0))
 zero_same s n q e =
     let none : signed s n ≡ pos 0 = ap (signed s) e ∙ signed_zero s in
-    record { coefficients = ap (λ c. c *ℤ pos (10 ^ int_gap (int_min q (pos 0)) q)) none ∙ zero_times _
-        ∙ sym (zero_times _) }
+    record {
+      coefficients = ap (λ c. c *ℤ pos (10 ^ int_gap (int_min q (pos 0)) q)) none ∙ zero_times _
+          ∙ sym (zero_times _);
+    }
 
 pub zero_normal : IsNormal (number (pos 0) (pos 0))
 zero_normal = record { normal = λ e. refl }
@@ -58,9 +60,15 @@ join n m c p q e f g = e ∙ ap (λ x. x * 10 ^ 1) f ∙ regroup c p ∙ sym (ap
 trim_by_last : (n d : ℕ) → n % 10 ≡ d → 0 < n → (0 < n / 10 → n % 10 ≡ 0 → Trimmed (n / 10)) → Trimmed n
 trim_by_last n (suc d) e p more = (n, 0, record { whole = omega arith; last = omega (arith, e) })
 trim_by_last n zero e p more =
-    let less = more (trim_left n p e) e in
-    (less.0, less.1 + 1, record { whole = join n (n / 10) less.0 (10 ^ less.1) (10 ^ (less.1 + 1))
-            (trim_more n n 0 (omega arith) e) less.2.whole (ten_pow_suc less.1); last = less.2.last })
+    let less = more (trim_left n p e) e in (
+      less.0,
+      less.1 + 1,
+      record {
+        whole = join n (n / 10) less.0 (10 ^ less.1) (10 ^ (less.1 + 1))
+            (trim_more n n 0 (omega arith) e) less.2.whole (ten_pow_suc less.1);
+        last = less.2.last;
+      },
+    )
 
 trim_within : (fuel n : ℕ) → n ≤ fuel → 0 < n → Trimmed n
 trim_within zero n h p = absurd (omega arith)
@@ -75,9 +83,11 @@ NormalOf m = (v : Number) × SameValue m v × IsNormal v
 pub normal_form : (s : Bool) (n : ℕ) (q : ℤ) → NormalOf (number (signed s n) q)
 normal_form s zero q = (number (pos 0) (pos 0), zero_same s 0 q refl, zero_normal)
 normal_form s (suc n) q =
-    let t = trim (suc n) (omega arith) in
-    (number (signed s t.0) (q +ℤ pos t.1), trimmed_same s (suc n) t.0 t.1 q _ t.2.whole refl,
-        trimmed_normal s t.0 _ t.2.last)
+    let t = trim (suc n) (omega arith) in (
+      number (signed s t.0) (q +ℤ pos t.1),
+      trimmed_same s (suc n) t.0 t.1 q _ t.2.whole refl,
+      trimmed_normal s t.0 _ t.2.last,
+    )
 
 -- ---- what from_parts answers
 -- too many digits are out of range in every form
@@ -157,9 +167,9 @@ pub power_cast : (r : ℤ) (after_point extra more : ℕ) → unsigned_abs r < 1
     → neg_ℤ (pos 1000000) ≤ℤ (r -ℤ pos after_point +ℤ pos (extra + more))
     → (r -ℤ pos after_point +ℤ pos (extra + more)) ≤ℤ pos 1000000
     → cast_signed w32 (cast_unsigned w32
-        (cast_signed w128 (cast_unsigned w128
-                (cast_signed w128 (cast_unsigned w128
-                (cast_signed w128 (cast_unsigned w128 r) -ℤ cast_signed w128 after_point)) +ℤ cast_signed w128
-                (cast_unsigned w128 (cast_signed w128 extra +ℤ cast_signed w128 more))))))
+    (cast_signed w128 (cast_unsigned w128
+    (cast_signed w128 (cast_unsigned w128
+    (cast_signed w128 (cast_unsigned w128 r) -ℤ cast_signed w128 after_point)) +ℤ cast_signed w128
+    (cast_unsigned w128 (cast_signed w128 extra +ℤ cast_signed w128 more))))))
     ≡ r -ℤ pos after_point +ℤ pos (extra + more)
 power_cast r after_point extra more a b c d low high = omega (arith, ints)

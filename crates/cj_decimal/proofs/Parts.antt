@@ -42,8 +42,11 @@ int_none t e = at (digits_front t) e
 front_head : (b : ℕ) (t : List ℕ) → 0 < length (digits_front (b ∷ t)) → digits_front (b ∷ t) ≡ b ∷ digits_front t
 front_head b t h =
     elim (is_ascii_digit b) as
-        (λ d. is_ascii_digit b ≡ d → digits_front (b ∷ t) ≡ b ∷ digits_front t) [ true ↦
-        λ e. front_digit b t e | false ↦ λ e. absurd (omega (arith, h, ap length (front_other b t e))) ] refl
+    (λ d. is_ascii_digit b ≡ d → digits_front (b ∷ t) ≡ b ∷ digits_front t) [
+      | true ↦
+          λ e. front_digit b t e
+      | false ↦ λ e. absurd (omega (arith, h, ap length (front_other b t e)))
+    ] refl
 
 not_empty : (f : List ℕ) → 0 < length f → is_empty f ≡ false
 unfolding is_empty
@@ -82,32 +85,42 @@ drop_one s at h = ap (λ t. drop 1 t) (drop_at s at h)
 -- ---- the fraction
 pub frac_bare : (r : List ℕ) → begins 46 r ≡ false → (is_frac r ≡ true) × (frac_digits r ≡ []) × (after_frac r ≡ r)
 unfolding is_frac frac_digits after_frac
-frac_bare r point =
-    (ap (λ t. not t || begins_digit (drop 1 r)) point, ap (λ t. cond t (digits_front (drop 1 r)) []) point,
-        ap (λ t. cond t (digits_rest (drop 1 r)) r) point)
+frac_bare r point = (
+  ap (λ t. not t || begins_digit (drop 1 r)) point,
+  ap (λ t. cond t (digits_front (drop 1 r)) []) point,
+  ap (λ t. cond t (digits_rest (drop 1 r)) r) point,
+)
 
 pub frac_pointed : (r : List ℕ) → begins 46 r ≡ true → (is_frac r ≡ begins_digit (drop 1 r))
     × (frac_digits r ≡ digits_front (drop 1 r)) × (after_frac r ≡ digits_rest (drop 1 r))
 unfolding is_frac frac_digits after_frac
-frac_pointed r point =
-    (ap (λ t. not t || begins_digit (drop 1 r)) point, ap (λ t. cond t (digits_front (drop 1 r)) []) point,
-        ap (λ t. cond t (digits_rest (drop 1 r)) r) point)
+frac_pointed r point = (
+  ap (λ t. not t || begins_digit (drop 1 r)) point,
+  ap (λ t. cond t (digits_front (drop 1 r)) []) point,
+  ap (λ t. cond t (digits_rest (drop 1 r)) r) point,
+)
 
 pub no_first_digit : (t : List ℕ) → length (digits_front t) ≡ 0 → begins_digit t ≡ false
 unfolding begins_digit
 no_first_digit [] h = refl
 no_first_digit (b ∷ t) h =
     elim (is_ascii_digit b) as
-        (λ d. is_ascii_digit b ≡ d → d ≡ false) [ true ↦
-        λ e. absurd (omega (arith, h, ap length (front_digit b t e))) | false ↦ λ e. refl ] refl
+    (λ d. is_ascii_digit b ≡ d → d ≡ false) [
+      | true ↦
+          λ e. absurd (omega (arith, h, ap length (front_digit b t e)))
+      | false ↦ λ e. refl
+    ] refl
 
 pub first_digit_there : (t : List ℕ) → 0 < length (digits_front t) → begins_digit t ≡ true
 unfolding begins_digit
 first_digit_there [] h = absurd (omega (arith, h, ap length front_end))
 first_digit_there (b ∷ t) h =
     elim (is_ascii_digit b) as
-        (λ d. is_ascii_digit b ≡ d → d ≡ true) [ true ↦ λ e. refl | false ↦
-        λ e. absurd (omega (arith, h, ap length (front_other b t e))) ] refl
+    (λ d. is_ascii_digit b ≡ d → d ≡ true) [
+      | true ↦ λ e. refl
+      | false ↦
+          λ e. absurd (omega (arith, h, ap length (front_other b t e)))
+    ] refl
 
 -- ---- the exponent
 pub no_whole_digits : (t : List ℕ) → length (digits_front t) ≡ 0 → is_whole_digits t ≡ false
@@ -125,9 +138,10 @@ digits_then_more t h = ap (λ e. begins_digit t && e) (not_empty (digits_rest t)
 pub whole_digits : (t : List ℕ) → 0 < length (digits_front t) → digits_rest t ≡ [] → (is_whole_digits t ≡ true)
     × (digits_front t ≡ t)
 unfolding is_whole_digits
-whole_digits t h none =
-    (ap (λ d. d && is_empty (digits_rest t)) (first_digit_there t h) ∙ empty_test (digits_rest t) none,
-        sym (append_nil (digits_front t)) ∙ ap (λ r. digits_front t ++ r) (sym none) ∙ sym (front_rest t))
+whole_digits t h none = (
+  ap (λ d. d && is_empty (digits_rest t)) (first_digit_there t h) ∙ empty_test (digits_rest t) none,
+  sym (append_nil (digits_front t)) ∙ ap (λ r. digits_front t ++ r) (sym none) ∙ sym (front_rest t),
+)
 
 pub saturates_size : (lead extra : ℕ) (lost : Bool) (n : ℕ) → (0 < extra → 10 ^ 35 ≤ lead)
     → (lost ≡ true → 10 ^ 35 ≤ lead) → StandsFor lead extra lost n → SaturatesSize n lead
@@ -185,8 +199,11 @@ pub one_of_within : (a b : ℕ) (s : List ℕ) (at : ℕ) → (begins a (drop at
     → at < length s
 one_of_within a b s at h =
     elim (begins a (drop at s)) as
-        (λ t. begins a (drop at s) ≡ t → (t || begins b (drop at s)) ≡ true → at < length s) [ true ↦
-        λ e f. begins_within a s at e | false ↦ λ e f. begins_within b s at f ] refl h
+    (λ t. begins a (drop at s) ≡ t → (t || begins b (drop at s)) ≡ true → at < length s) [
+      | true ↦
+          λ e f. begins_within a s at e
+      | false ↦ λ e f. begins_within b s at f
+    ] refl h
 
 -- an exponent's mark at a place, and its digits at another
 pub marked_at : (s : List ℕ) (from first : ℕ) → (begins 101 (drop from s) || begins 69 (drop from s)) ≡ true
@@ -232,7 +249,7 @@ not_frac s h n = let frac : is_frac (digits_rest (body s)) ≡ true =
 pub not_exp : (s : List ℕ) → is_exp (after_frac (digits_rest (body s))) ≡ false → ¬ IsNumber s
 not_exp s h n = let exp : is_exp (after_frac (digits_rest (body s))) ≡ true =
     both_right (is_frac (digits_rest (body s))) _
-        (both_right (is_int (digits_front (body s))) _ (spells_test s n.0 n.1).0) in absurd (cc (h, exp))
+    (both_right (is_int (digits_front (body s))) _ (spells_test s n.0 n.1).0) in absurd (cc (h, exp))
 
 -- what passes the whole test is one
 pub passed : (s : List ℕ) → is_int (digits_front (body s)) ≡ true → is_frac (digits_rest (body s)) ≡ true
@@ -290,8 +307,11 @@ integer_read s negative short sign int none value =
 -- the rule on a first 0, for two digits or more
 pub int_longer : (t : List ℕ) → 1 < length (digits_front t) → is_int (digits_front t) ≡ not (begins 48 t)
 int_longer t h =
-    elim (begins 48 t) as (λ b. begins 48 t ≡ b → is_int (digits_front t) ≡ not b) [ true ↦
-        λ e. int_led_by_zero t e h | false ↦ λ e. int_led_by_other t e (omega arith) ] refl
+    elim (begins 48 t) as (λ b. begins 48 t ≡ b → is_int (digits_front t) ≡ not b) [
+      | true ↦
+          λ e. int_led_by_zero t e h
+      | false ↦ λ e. int_led_by_other t e (omega arith)
+    ] refl
 
 pub stops_whole : (s : List ℕ) (from at : ℕ) → Passes s from at → at ≡ length s → Stops s from (length s)
 stops_whole s from at p e = let P : ℕ → Type 0 = Stops s from in subst P e (stops_at_end s from at p (omega arith))

@@ -16,7 +16,7 @@ too_long_more n d h t = record { too_long = λ c k e. at c k e }
     at c zero e = let big : 10 ^ 36 ≤ n = t.too_long n 0 (no_gap n) in omega (arith, e)
     at c (suc k) e =
         t.too_long c k (over_ten n d c (10 ^ k) h
-            (e ∙ ap (λ p. c * p) (ap (λ j. 10 ^ j) (omega arith) ∙ ten_pow_suc k))).1
+        (e ∙ ap (λ p. c * p) (ap (λ j. 10 ^ j) (omega arith) ∙ ten_pow_suc k))).1
 
 pub too_long_new : (n d : ℕ) → 0 < d → d < 10 → 10 ^ 35 ≤ n → IsTooLong (10 * n + d)
 too_long_new n d p h big = record { too_long = λ c k e. at c k e }
@@ -24,8 +24,11 @@ too_long_new n d p h big = record { too_long = λ c k e. at c k e }
     at : (c k : ℕ) → 10 * n + d ≡ c * 10 ^ k → 10 ^ 36 ≤ c
     at c zero e = omega (arith, e)
     at c (suc k) e =
-        absurd (omega (arith, p,
-                (over_ten n d c (10 ^ k) h (e ∙ ap (λ p. c * p) (ap (λ j. 10 ^ j) (omega arith) ∙ ten_pow_suc k))).0))
+        absurd (omega (
+          arith,
+          p,
+          (over_ten n d c (10 ^ k) h (e ∙ ap (λ p. c * p) (ap (λ j. 10 ^ j) (omega arith) ∙ ten_pow_suc k))).0,
+        ))
 
 no_extra : (lead extra : ℕ) → lead < 10 ^ 35 → (0 < extra → 10 ^ 35 ≤ lead) → extra ≡ 0
 no_extra lead zero h full = refl

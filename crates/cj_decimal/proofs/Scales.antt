@@ -14,15 +14,15 @@ use Rattle.cj_decimal.proofs.Values.{scaled_same, same_scaled, same_sym, gap_is,
 pub units_below : (v : Number) (u t : ℤ) → IsNormal v → SameValue v (number u t) → v.power <ℤ t → t ≤ℤ pos 0 → ⊥
 units_below v u t normal same low unit =
     by_gap (int_gap v.power t) (gap_is v.power t (omega (arith, ints)))
-        (scaled_same v.coefficient u v.power t same (omega (arith, ints)))
+    (scaled_same v.coefficient u v.power t same (omega (arith, ints)))
   where
     by_gap : (g : ℕ) → v.power +ℤ pos g ≡ t → v.coefficient ≡ u *ℤ pos (10 ^ g) → ⊥
     by_gap zero f e = omega (arith, ints, f)
     by_gap (suc g) f e =
         let size : unsigned_abs v.coefficient ≡ unsigned_abs u * 10 ^ (g + 1) = ap unsigned_abs e
-            ∙ abs_times u (10 ^ suc g) ∙ ap (λ k. unsigned_abs u * 10 ^ k) (omega arith) in
+        ∙ abs_times u (10 ^ suc g) ∙ ap (λ k. unsigned_abs u * 10 ^ k) (omega arith) in
         let none : v ≡ number (pos 0) (pos 0) =
-            normal.normal (ap (λ n. n % 10) size ∙ ends_in_zero (unsigned_abs u) g) in
+        normal.normal (ap (λ n. n % 10) size ∙ ends_in_zero (unsigned_abs u) g) in
         omega (arith, ints, ap (λ (n : Number). n.power) none)
 
 -- the number of units, where the power is k above theirs
@@ -32,7 +32,7 @@ units_are v u t k f same =
     let low : t ≤ℤ v.power = omega (arith, ints, f) in
     let gap : int_gap t v.power ≡ k = omega (arith, ints, gap_is t v.power low, f) in
     scaled_same u v.coefficient t v.power (same_sym v (number u t) same) low
-        ∙ ap (λ g. v.coefficient *ℤ pos (10 ^ g)) gap
+    ∙ ap (λ g. v.coefficient *ℤ pos (10 ^ g)) gap
 
 pub units_same : (v : Number) (u t : ℤ) (k : ℕ) → v.power ≡ t +ℤ pos k → u ≡ v.coefficient *ℤ pos (10 ^ k)
     → SameValue v (number u t)
@@ -42,17 +42,17 @@ units_same v u t k f e = same_sym (number u t) v (same_scaled u v.coefficient t 
 pub scaled_small : (c k digits : ℕ) → k ≤ digits → c < 10 ^ (digits - k) → c * 10 ^ k < 10 ^ digits
 scaled_small c k digits h small =
     let split : 10 ^ digits ≡ 10 ^ (digits - k) * 10 ^ k = ap (λ n. 10 ^ n) (omega arith)
-        ∙ ten_pow_add (digits - k) k in
+    ∙ ten_pow_add (digits - k) k in
     let less : c * 10 ^ k < 10 ^ (digits - k) * 10 ^ k =
-        mul-lt-mul_of_pos_right {m = c} {n = 10 ^ (digits - k)} {k = 10 ^ k} small (ten_pow_pos k) in
+    mul-lt-mul_of_pos_right {m = c} {n = 10 ^ (digits - k)} {k = 10 ^ k} small (ten_pow_pos k) in
     omega (arith, split, less)
 
 pub scaled_large : (c k digits : ℕ) → k ≤ digits → 10 ^ (digits - k) ≤ c → 10 ^ digits ≤ c * 10 ^ k
 scaled_large c k digits h large =
     let split : 10 ^ digits ≡ 10 ^ (digits - k) * 10 ^ k = ap (λ n. 10 ^ n) (omega arith)
-        ∙ ten_pow_add (digits - k) k in
+    ∙ ten_pow_add (digits - k) k in
     let more : 10 ^ (digits - k) * 10 ^ k ≤ c * 10 ^ k =
-        mul-le-mul_right {m = 10 ^ (digits - k)} {n = c} (10 ^ k) large in
+    mul-le-mul_right {m = 10 ^ (digits - k)} {n = c} (10 ^ k) large in
     omega (arith, split, more)
 
 -- with as many zeros as the bound has, only 0 is below it
@@ -77,8 +77,11 @@ far_units v u after_point digits k normal f apart h same = by_size (unsigned_abs
     by_size : (n : ℕ) → unsigned_abs v.coefficient ≡ n → 10 ^ digits ≤ unsigned_abs u
     by_size zero e = absurd (omega (arith, ints, f, ap (λ (n : Number). n.power) (normal.normal (ap (λ n. n % 10) e))))
     by_size (suc n) e =
-        omega (arith, size_of_units v u (neg_ℤ (pos after_point)) k f same,
-            zeros_large (unsigned_abs v.coefficient) k digits (omega (arith, e)) h)
+        omega (
+          arith,
+          size_of_units v u (neg_ℤ (pos after_point)) k f same,
+          zeros_large (unsigned_abs v.coefficient) k digits (omega (arith, e)) h,
+        )
 
 -- where the coefficient with its zeros reaches the bound, likewise
 pub large_units : (v : Number) (u t : ℤ) (digits k : ℕ) → v.power ≡ t +ℤ pos k
@@ -105,13 +108,13 @@ pub product_cast : (c : ℤ) (k digits power : ℕ) → k ≤ digits → digits 
 product_cast c k digits power h most fits small e =
     let low : power ≤ 10 ^ 36 = omega (arith, e, power_fits k (omega arith)) in
     let first : cast_signed w128 (cast_unsigned w128 c) ≡ c =
-        to_z-of_z w128 c (fits_signed_from_abs w128 c (omega arith)) in
+    to_z-of_z w128 c (fits_signed_from_abs w128 c (omega arith)) in
     let second : cast_signed w128 power ≡ pos (10 ^ k) = omega (arith, ints, e) in
     let product : (cast_signed w128 (cast_unsigned w128 c) *ℤ cast_signed w128 power) ≡ c *ℤ pos (10 ^ k) =
-        ap (λ x. x *ℤ cast_signed w128 power) first ∙ ap (λ x. c *ℤ x) second in
+    ap (λ x. x *ℤ cast_signed w128 power) first ∙ ap (λ x. c *ℤ x) second in
     ap (λ x. cast_signed w128 (cast_unsigned w128 x)) product
-        ∙ to_z-of_z w128 (c *ℤ pos (10 ^ k))
-        (fits_signed_from_abs w128 _ (omega (arith, product_fits c k digits h most small)))
+    ∙ to_z-of_z w128 (c *ℤ pos (10 ^ k))
+    (fits_signed_from_abs w128 _ (omega (arith, product_fits c k digits h most small)))
 
 pub product_in_bits : (c : ℤ) (k digits power : ℕ) → k ≤ digits → digits ≤ 36 → unsigned_abs c < 10 ^ 36
     → unsigned_abs c < 10 ^ (digits - k) → power ≡ 10 ^ k
@@ -119,10 +122,10 @@ pub product_in_bits : (c : ℤ) (k digits power : ℕ) → k ≤ digits → digi
 product_in_bits c k digits power h most fits small e =
     let low : power ≤ 10 ^ 36 = omega (arith, e, power_fits k (omega arith)) in
     let first : cast_signed w128 (cast_unsigned w128 c) ≡ c =
-        to_z-of_z w128 c (fits_signed_from_abs w128 c (omega arith)) in
+    to_z-of_z w128 c (fits_signed_from_abs w128 c (omega arith)) in
     let second : cast_signed w128 power ≡ pos (10 ^ k) = omega (arith, ints, e) in
     let product : (cast_signed w128 (cast_unsigned w128 c) *ℤ cast_signed w128 power) ≡ c *ℤ pos (10 ^ k) =
-        ap (λ x. x *ℤ cast_signed w128 power) first ∙ ap (λ x. c *ℤ x) second in
+    ap (λ x. x *ℤ cast_signed w128 power) first ∙ ap (λ x. c *ℤ x) second in
     rw product (fits_signed_from_abs w128 (c *ℤ pos (10 ^ k)) (omega (arith, product_fits c k digits h most small)))
 
 -- what the product with its zeros answers is the number of units

@@ -30,16 +30,31 @@ euclid_high (negsuc a) = omega (arith, ints)
 pub times_sum : (v x y : ℤ) → v *ℤ (x +ℤ y) ≡ v *ℤ x +ℤ v *ℤ y
 times_sum v x y =
     let sum = sum_is_lem x y in
-    same_in _ _ (omega (arith, product_is v (x +ℤ y), product_is v x, product_is v y, sum_is_lem (v *ℤ x) (v *ℤ y),
-            ap (λ n. up v * n) sum, ap (λ n. down v * n) sum))
+    same_in _ _ (omega (
+      arith,
+      product_is v (x +ℤ y),
+      product_is v x,
+      product_is v y,
+      sum_is_lem (v *ℤ x) (v *ℤ y),
+      ap (λ n. up v * n) sum,
+      ap (λ n. down v * n) sum,
+    ))
 
 pub times_scaled : (v a : ℤ) (u : ℕ) → v *ℤ (a *ℤ pos u) ≡ (v *ℤ a) *ℤ pos u
 times_scaled v a u =
     let scaled = product_is a (pos u) in
     let first = product_is v a in
-    same_in _ _ (omega (arith, product_is v (a *ℤ pos u), product_is (v *ℤ a) (pos u), ap (λ n. up v * n) scaled.0,
-            ap (λ n. up v * n) scaled.1, ap (λ n. down v * n) scaled.0, ap (λ n. down v * n) scaled.1,
-            ap (λ n. n * u) first.0, ap (λ n. n * u) first.1))
+    same_in _ _ (omega (
+      arith,
+      product_is v (a *ℤ pos u),
+      product_is (v *ℤ a) (pos u),
+      ap (λ n. up v * n) scaled.0,
+      ap (λ n. up v * n) scaled.1,
+      ap (λ n. down v * n) scaled.0,
+      ap (λ n. down v * n) scaled.1,
+      ap (λ n. n * u) first.0,
+      ap (λ n. n * u) first.1,
+    ))
 
 -- ---- how a number compares with another, by the parts of their difference
 pub order_from_difference : (x q d : ℤ) (r : Ordering) → x -ℤ q ≡ d → r ≡ int_cmp d (pos 0) → r ≡ int_cmp x q
@@ -58,7 +73,7 @@ difference v whole part shift q =
     let sum = times_sum v (whole *ℤ pos (10 ^ 18)) part in
     let scaled = times_scaled v whole (10 ^ 18) in
     joined (v *ℤ (whole *ℤ pos (10 ^ 18) +ℤ part)) (v *ℤ (whole *ℤ pos (10 ^ 18))) ((v *ℤ whole) *ℤ pos (10 ^ 18))
-        (v *ℤ part) sum scaled
+    (v *ℤ part) sum scaled
   where
     joined : (a b c d : ℤ) → a ≡ b +ℤ d → b ≡ c → a +ℤ shift -ℤ q ≡ c +ℤ (d +ℤ shift -ℤ q)
     joined a b c d e f = omega (arith, ints)
@@ -102,8 +117,8 @@ compare_law v scale whole part shift q first rest carry left second sum last r e
     let parts = difference_by_parts v whole part shift q carry left at in
     let at_scale = ap (λ x. v *ℤ x +ℤ shift -ℤ q) joined in
     let all : (sum *ℤ pos (10 ^ 18) +ℤ last) ≡ (v *ℤ whole +ℤ carry) *ℤ pos (10 ^ 18) +ℤ left =
-        ap (λ x. x *ℤ pos (10 ^ 18) +ℤ last) (g ∙ ap (λ x. x +ℤ carry) d)
-        ∙ ap (λ x. (v *ℤ whole +ℤ carry) *ℤ pos (10 ^ 18) +ℤ x) h in
+    ap (λ x. x *ℤ pos (10 ^ 18) +ℤ last) (g ∙ ap (λ x. x +ℤ carry) d)
+    ∙ ap (λ x. (v *ℤ whole +ℤ carry) *ℤ pos (10 ^ 18) +ℤ x) h in
     order_from_difference (v *ℤ scale +ℤ shift) q _ r (at_scale ∙ parts) (e ∙ ap (λ x. int_cmp x (pos 0)) all)
 
 -- ---- numbers that went to bits and back
@@ -111,8 +126,8 @@ pub product_of_casts : (v p r : ℤ) → unsigned_abs v ≤ 10 ^ 18 → unsigned
     → r ≡ cast_signed w64 (cast_unsigned w64 v) *ℤ cast_signed w64 (cast_unsigned w64 p) → r ≡ v *ℤ p
 product_of_casts v p r a b e =
     e ∙ ap (λ x. x *ℤ cast_signed w64 (cast_unsigned w64 p))
-        (to_z-of_z w64 v (fits_signed_from_abs w64 v (omega arith)))
-        ∙ ap (λ y. v *ℤ y) (to_z-of_z w64 p (fits_signed_from_abs w64 p (omega arith)))
+    (to_z-of_z w64 v (fits_signed_from_abs w64 v (omega arith)))
+    ∙ ap (λ y. v *ℤ y) (to_z-of_z w64 p (fits_signed_from_abs w64 p (omega arith)))
 
 pub part_small : (scale part : ℤ) → int_rem_euclid scale (pos (10 ^ 18)) ≡ part → unsigned_abs part ≤ 10 ^ 18
 part_small scale part f =
@@ -126,19 +141,19 @@ pub split_cast : (z w : ℤ) → FitsSigned w128 z
     × (int_rem_euclid z (pos (10 ^ 18)) <ℤ pos (10 ^ 18))
 split_cast z w fits e =
     let same : w ≡ int_div_euclid z (pos (10 ^ 18)) =
-        e ∙ ap (λ x. int_div_euclid x (pos (10 ^ 18))) (to_z-of_z w128 z fits) in
+    e ∙ ap (λ x. int_div_euclid x (pos (10 ^ 18))) (to_z-of_z w128 z fits) in
     (ap (λ x. x *ℤ pos (10 ^ 18) +ℤ int_rem_euclid z (pos (10 ^ 18))) same ∙ euclid z, euclid_low z, euclid_high z)
 
 pub rest_cast : (p s u q : ℤ) → unsigned_abs p ≤ 10 ^ 36 → unsigned_abs s < 10 ^ 36 → unsigned_abs u < 10 ^ 36 → u ≡ q
     → cast_signed w128 (cast_unsigned w128
-        (cast_signed w128 (cast_unsigned w128
-                (cast_signed w128 (cast_unsigned w128 p) +ℤ cast_signed w128 (cast_unsigned w128 s))) -ℤ cast_signed
-            w128 (cast_unsigned w128 u))) ≡ p +ℤ s -ℤ q
+    (cast_signed w128 (cast_unsigned w128
+    (cast_signed w128 (cast_unsigned w128 p) +ℤ cast_signed w128 (cast_unsigned w128 s))) -ℤ cast_signed
+    w128 (cast_unsigned w128 u))) ≡ p +ℤ s -ℤ q
 rest_cast p s u q a b d e = omega (arith, ints)
 
 pub sum_cast : (p e : ℤ) → unsigned_abs p ≤ 10 ^ 36 → unsigned_abs e ≤ 4 * 10 ^ 18
     → cast_signed w128 (cast_unsigned w128
-        (cast_signed w128 (cast_unsigned w128 p) +ℤ cast_signed w128 (cast_unsigned w128 e))) ≡ p +ℤ e
+    (cast_signed w128 (cast_unsigned w128 p) +ℤ cast_signed w128 (cast_unsigned w128 e))) ≡ p +ℤ e
 sum_cast p e a b = omega (arith, ints)
 
 pub left_cast : (l : ℤ) → pos 0 ≤ℤ l → l <ℤ pos (10 ^ 18) → cast_signed w128 (cast_unsigned w128 l) ≡ l

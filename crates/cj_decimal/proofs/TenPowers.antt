@@ -26,14 +26,17 @@ pub mul_right_cancel : (a b k : ℕ) → 0 < k → a * k ≡ b * k → a ≡ b
 mul_right_cancel a b k p e =
     let le : a * k ≤ b * k = omega (arith, e) in
     let ge : b * k ≤ a * k = omega (arith, e) in
-    omega (arith, le_of_mul-le-mul_right {m = a} {n = b} {k = k} le p,
-        le_of_mul-le-mul_right {m = b} {n = a} {k = k} ge p)
+    omega (
+      arith,
+      le_of_mul-le-mul_right {m = a} {n = b} {k = k} le p,
+      le_of_mul-le-mul_right {m = b} {n = a} {k = k} ge p,
+    )
 
 -- a whole number times a positive one can be divided by it again
 pub times_cancel : (x y : ℤ) (k : ℕ) → 0 < k → x *ℤ pos k ≡ y *ℤ pos k → x ≡ y
 times_cancel x y k p e =
     same_in x y (mul_right_cancel (up x + down y) (up y + down x) k p
-        (omega (arith, same_out (x *ℤ pos k) (y *ℤ pos k) e, product_is x (pos k), product_is y (pos k))))
+    (omega (arith, same_out (x *ℤ pos k) (y *ℤ pos k) e, product_is x (pos k), product_is y (pos k))))
 
 pub neg_times : (m b : ℕ) → neg_ℤ (pos m) *ℤ pos b ≡ neg_ℤ (pos (m * b))
 neg_times zero b = let none : zero * b ≡ zero = omega arith in ap (λ n. pos n) none ∙ sym (ap (λ n. neg_ℤ (pos n)) none)

@@ -33,25 +33,25 @@ smaller_right m n = omega (arith, ints, clamps)
 pub brought_lower : (n : Number) (t u : ℤ) → t ≤ℤ u → u ≤ℤ n.power → brought n t ≡ brought n u *ℤ pos (10 ^ int_gap t u)
 brought_lower n t u h k =
     ap (λ g. n.coefficient *ℤ pos (10 ^ g)) (gap_add t u n.power h k)
-        ∙ ap (λ g. n.coefficient *ℤ pos g) (ten_pow_add (int_gap u n.power) (int_gap t u))
-        ∙ sym (times_times n.coefficient (10 ^ int_gap u n.power) (10 ^ int_gap t u))
+    ∙ ap (λ g. n.coefficient *ℤ pos g) (ten_pow_add (int_gap u n.power) (int_gap t u))
+    ∙ sym (times_times n.coefficient (10 ^ int_gap u n.power) (10 ^ int_gap t u))
 
 -- equal numbers are equal at any power that is not above theirs
 pub same_at : (m n : Number) (t : ℤ) → SameValue m n → t ≤ℤ m.power → t ≤ℤ n.power → brought m t ≡ brought n t
 same_at m n t same h k =
     let low : t ≤ℤ smaller_power m n = omega (arith, ints, clamps) in
     brought_lower m t (smaller_power m n) low (smaller_left m n)
-        ∙ ap (λ c. c *ℤ pos (10 ^ int_gap t (smaller_power m n))) same.coefficients
-        ∙ sym (brought_lower n t (smaller_power m n) low (smaller_right m n))
+    ∙ ap (λ c. c *ℤ pos (10 ^ int_gap t (smaller_power m n))) same.coefficients
+    ∙ sym (brought_lower n t (smaller_power m n) low (smaller_right m n))
 
 -- and numbers that are equal at one such power are equal
 pub at_same : (m n : Number) (t : ℤ) → t ≤ℤ m.power → t ≤ℤ n.power → brought m t ≡ brought n t → SameValue m n
 at_same m n t h k e =
     let low : t ≤ℤ smaller_power m n = omega (arith, ints, clamps) in
     let scaled : (brought m (smaller_power m n) *ℤ pos (10 ^ int_gap t (smaller_power m n)))
-        ≡ (brought n (smaller_power m n) *ℤ pos (10 ^ int_gap t (smaller_power m n))) =
-        sym (brought_lower m t (smaller_power m n) low (smaller_left m n)) ∙ e
-        ∙ brought_lower n t (smaller_power m n) low (smaller_right m n) in
+    ≡ (brought n (smaller_power m n) *ℤ pos (10 ^ int_gap t (smaller_power m n))) =
+    sym (brought_lower m t (smaller_power m n) low (smaller_left m n)) ∙ e
+    ∙ brought_lower n t (smaller_power m n) low (smaller_right m n) in
     record { coefficients = times_cancel _ _ (10 ^ int_gap t (smaller_power m n)) (ten_pow_pos _) scaled }
 
 pub same_sym : (m n : Number) → SameValue m n → SameValue n m
@@ -108,26 +108,26 @@ normal_gap : (v w : Number) → IsNormal v → IsNormal w → v.power ≤ℤ w.p
 normal_gap v w a b low zero f e = number_eq v w (e ∙ times_one w.coefficient) (omega (arith, ints, f))
 normal_gap v w a b low (suc g) f e =
     let size : unsigned_abs v.coefficient ≡ unsigned_abs w.coefficient * 10 ^ (g + 1) = ap unsigned_abs e
-        ∙ abs_times w.coefficient (10 ^ suc g) ∙ ap (λ k. unsigned_abs w.coefficient * 10 ^ k) (omega arith) in
+    ∙ abs_times w.coefficient (10 ^ suc g) ∙ ap (λ k. unsigned_abs w.coefficient * 10 ^ k) (omega arith) in
     let zero_v : v ≡ number (pos 0) (pos 0) =
-        a.normal (ap (λ n. n % 10) size ∙ ends_in_zero (unsigned_abs w.coefficient) g) in
+    a.normal (ap (λ n. n % 10) size ∙ ends_in_zero (unsigned_abs w.coefficient) g) in
     let none : unsigned_abs w.coefficient * 10 ^ (g + 1) ≡ 0 * 10 ^ (g + 1) = sym size
-        ∙ ap (λ n. unsigned_abs n.coefficient) zero_v ∙ omega arith in
+    ∙ ap (λ n. unsigned_abs n.coefficient) zero_v ∙ omega arith in
     let zero_w : unsigned_abs w.coefficient ≡ 0 =
-        mul_right_cancel (unsigned_abs w.coefficient) 0 (10 ^ (g + 1)) (ten_pow_pos (g + 1)) none in
+    mul_right_cancel (unsigned_abs w.coefficient) 0 (10 ^ (g + 1)) (ten_pow_pos (g + 1)) none in
     zero_v ∙ sym (b.normal (ap (λ n. n % 10) zero_w))
 
 -- two forms, both normal, the first at the lower power
 pub normal_below : (v w : Number) → SameValue v w → IsNormal v → IsNormal w → v.power ≤ℤ w.power → v ≡ w
 normal_below v w same a b low =
     normal_gap v w a b low (int_gap v.power w.power) (gap_is v.power w.power low)
-        (scaled_same v.coefficient w.coefficient v.power w.power same low)
+    (scaled_same v.coefficient w.coefficient v.power w.power same low)
 
 -- equal numbers in normal form are one
 pub normal_same : (v w : Number) → SameValue v w → IsNormal v → IsNormal w → v ≡ w
 normal_same v w same a b =
     ⊎_elim (normal_below v w same a b) (λ h. sym (normal_below w v (same_sym v w same) b a h))
-        (le_total v.power w.power)
+    (le_total v.power w.power)
 
 -- ---- equality as the code tests it
 bits_apart : (w : Width) (p q : ℤ) → FitsSigned w p → FitsSigned w q
@@ -163,7 +163,7 @@ pub same_by_power : (v w : Number) → IsNormal v × IsInRange v → IsNormal w 
     → (nat_eq (cast_unsigned w32 v.power) (cast_unsigned w32 w.power) ≡ true) ↔ SameValue v w
 same_by_power v w a b e =
     let c : v.coefficient ≡ w.coefficient = sym (to_z-of_z w128 v.coefficient (coefficient_fits v a.1))
-        ∙ ap (cast_signed w128) e ∙ to_z-of_z w128 w.coefficient (coefficient_fits w b.1) in (
+    ∙ ap (cast_signed w128) e ∙ to_z-of_z w128 w.coefficient (coefficient_fits w b.1) in (
       λ h. let P : Number → Type 0 = SameValue v in
           subst P (number_eq v w c (bits_apart w32 v.power w.power (power_fits v a.1) (power_fits w b.1) h))
           (same_refl v),

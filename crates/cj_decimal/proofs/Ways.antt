@@ -90,7 +90,7 @@ pub stops_at_other : (s : List ℕ) (from at : ℕ) → Passes s from at → at 
     → is_ascii_digit (get_or s at 0) ≡ false → Stops s from at
 stops_at_other s from at c h d =
     stops_when s from at c (no_front s at h d)
-        (ap digits_rest (drop_at s at h) ∙ rest_other _ _ d ∙ sym (drop_at s at h))
+    (ap digits_rest (drop_at s at h) ∙ rest_other _ _ d ∙ sym (drop_at s at h))
 
 pub stops_at_end : (s : List ℕ) (from at : ℕ) → Passes s from at → length s ≤ at → Stops s from at
 stops_at_end s from at c h =

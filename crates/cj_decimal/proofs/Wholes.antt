@@ -95,7 +95,7 @@ int_alone_reads s int =
 pub int_alone_read : (s : List ℕ) → is_int (digits_front s) ≡ true → digits_rest s ≡ [] → IsInt s
 int_alone_read s int rest =
     let all : digits_front s ≡ s = sym (append_nil (digits_front s)) ∙ ap (λ r. digits_front s ++ r) (sym rest)
-        ∙ sym (front_rest s) in
+    ∙ sym (front_rest s) in
     let P : List ℕ → Type 0 = λ t. IsInt t in
     subst P all (int_from_test (digits_front s) (front_all s) int)
 
@@ -120,13 +120,16 @@ whole_in_range v w normal is = by_power v.power refl
         absurd (units_below v w (pos 0) normal is.same (omega (arith, ints, e)) (omega (arith, ints)))
     by_power (pos k) e =
         let size : unsigned_abs w ≡ unsigned_abs v.coefficient * 10 ^ k =
-            size_of_units v w (pos 0) k (omega (arith, ints, e)) is.same in
+        size_of_units v w (pos 0) k (omega (arith, ints, e)) is.same in
         let least : unsigned_abs v.coefficient ≤ unsigned_abs v.coefficient * 10 ^ k = no_less _ _ (ten_pow_pos k) in
         let far : 18 ≤ k → 10 ^ 18 ≤ unsigned_abs w =
-            λ h. far_units v w 0 18 k normal (omega (arith, ints, e)) (omega arith) h is.same in
+        λ h. far_units v w 0 18 k normal (omega (arith, ints, e)) (omega arith) h is.same in
         let near : k < 18 = below k far is.small in
-        record { digits = omega (arith, size, least, is.small); power_low = omega (arith, ints, e);
-            power_high = omega (arith, ints, e, near) }
+        record {
+          digits = omega (arith, size, least, is.small);
+          power_low = omega (arith, ints, e);
+          power_high = omega (arith, ints, e, near);
+        }
 
 -- an int part that ends the spelling, after its sign, is that whole number
 size : (negative : Bool) (n : ℕ) → unsigned_abs (signed negative n) ≡ n
@@ -143,7 +146,7 @@ signed_answer s negative n c sign short =
     let exponent : read.written.exponent ≡ pos 0 = read.exponent_is.same (omega (arith, ints)) in
     let value = value_of_read s negative n 0 false 0 (pos 0) read form.0 (rw (digits, exponent) form.1) form.2 in
     let is : IsWhole form.0 w =
-        record { same = same_sym (number w (pos 0)) form.0 form.1; small = rw (size negative n) short.small } in
+    record { same = same_sym (number w (pos 0)) form.0 form.1; small = rw (size negative n) short.small } in
     answer_whole s form.0 value (whole_in_range form.0 w form.2 is) w c is
 
 same_short : (s t : List ℕ) (n : ℕ) → t ≡ s → IsShort s n → IsShort t n
@@ -152,8 +155,8 @@ same_short s t n e short = let P : List ℕ → Type 0 = λ u. IsShort u n in su
 pub answer_digits : (s : List ℕ) (n : ℕ) (c : Class s) → IsShort s n → whole_answer c ≡ Ok (Some (pos n))
 answer_digits s n c short =
     let plain : begins 45 s ≡ false = ap (begins 45) (front_rest s)
-        ∙ digit_begins 45 (digits_front s) (digits_rest s) (int_is_digits _ (int_from_test _ (front_all s) short.int))
-        (omega arith) in
+    ∙ digit_begins 45 (digits_front s) (digits_rest s) (int_is_digits _ (int_from_test _ (front_all s) short.int))
+    (omega arith) in
     signed_answer s false n c (sym plain) (same_short s (body s) n (no_minus s plain) short)
 
 -- what is said of a short number holds of an answer that may be there
@@ -175,8 +178,8 @@ signed_from_body s few = elim (begins 45 s) as (λ b. begins 45 s ≡ b → IsFe
 pub body_of_signed : (s : List ℕ) → IsFewSigned s → IsFewDigits (body s)
 body_of_signed s few =
     ⊎_elim (λ plain. at_body s (no_minus s (int_begins s plain.0)) plain)
-        (λ minus. at_body minus.0 (minus_there s (ap (begins 45) minus.1 ∙ begins_own 45 minus.0) ∙ ap (drop 1) minus.1)
-        minus.2) few
+    (λ minus. at_body minus.0 (minus_there s (ap (begins 45) minus.1 ∙ begins_own 45 minus.0) ∙ ap (drop 1) minus.1)
+    minus.2) few
   where
     at_body : (t : List ℕ) → body s ≡ t → IsFewDigits t → IsFewDigits (body s)
     at_body t e few = let P : List ℕ → Type 0 = λ u. IsFewDigits u in subst P (sym e) few

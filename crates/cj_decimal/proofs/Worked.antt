@@ -40,56 +40,56 @@ unfolding digits_front digits_rest begins is_empty begins_digit body is_int is_f
     is_whole_digits is_exp exp_value
 zero_of_any_power =
     value_from_test (codes "0e999999999999") (number (pos 0) (pos 0)) refl (zero_same false 0 (pos 999999999999) refl)
-        zero_normal
+    zero_normal
 
 greatest_power : IsValue (codes "1e1000000") (number (pos 1) (pos 1000000))
 unfolding digits_front digits_rest begins is_empty begins_digit body is_int is_frac frac_digits after_frac exp_digits
     is_whole_digits is_exp exp_value
 greatest_power =
     value_from_test (codes "1e1000000") (number (pos 1) (pos 1000000)) refl (record { coefficients = refl })
-        (record { normal = λ e. cc e })
+    (record { normal = λ e. cc e })
 
 power_past_the_greatest : IsValue (codes "1e1000001") (number (pos 1) (pos 1000001))
 unfolding digits_front digits_rest begins is_empty begins_digit body is_int is_frac frac_digits after_frac exp_digits
     is_whole_digits is_exp exp_value
 power_past_the_greatest =
     value_from_test (codes "1e1000001") (number (pos 1) (pos 1000001)) refl (record { coefficients = refl })
-        (record { normal = λ e. cc e })
+    (record { normal = λ e. cc e })
 
 power_past_it_in_normal_form : IsValue (codes "10e1000000") (number (pos 1) (pos 1000001))
 unfolding digits_front digits_rest begins is_empty begins_digit body is_int is_frac frac_digits after_frac exp_digits
     is_whole_digits is_exp exp_value
 power_past_it_in_normal_form =
     value_from_test (codes "10e1000000") (number (pos 1) (pos 1000001)) refl (record { coefficients = refl })
-        (record { normal = λ e. cc e })
+    (record { normal = λ e. cc e })
 
 least_power : IsValue (codes "1e-1000000") (number (pos 1) (neg_ℤ (pos 1000000)))
 unfolding digits_front digits_rest begins is_empty begins_digit body is_int is_frac frac_digits after_frac exp_digits
     is_whole_digits is_exp exp_value
 least_power =
     value_from_test (codes "1e-1000000") (number (pos 1) (neg_ℤ (pos 1000000))) refl (record { coefficients = refl })
-        (record { normal = λ e. cc e })
+    (record { normal = λ e. cc e })
 
 power_below_the_least : IsValue (codes "1e-1000001") (number (pos 1) (neg_ℤ (pos 1000001)))
 unfolding digits_front digits_rest begins is_empty begins_digit body is_int is_frac frac_digits after_frac exp_digits
     is_whole_digits is_exp exp_value
 power_below_the_least =
     value_from_test (codes "1e-1000001") (number (pos 1) (neg_ℤ (pos 1000001))) refl (record { coefficients = refl })
-        (record { normal = λ e. cc e })
+    (record { normal = λ e. cc e })
 
 least_power_in_normal_form : IsValue (codes "10e-1000001") (number (pos 1) (neg_ℤ (pos 1000000)))
 unfolding digits_front digits_rest begins is_empty begins_digit body is_int is_frac frac_digits after_frac exp_digits
     is_whole_digits is_exp exp_value
 least_power_in_normal_form =
     value_from_test (codes "10e-1000001") (number (pos 1) (neg_ℤ (pos 1000000))) refl (record { coefficients = refl })
-        (record { normal = λ e. cc e })
+    (record { normal = λ e. cc e })
 
 greatest_power_in_normal_form : IsValue (codes "0.1e1000001") (number (pos 1) (pos 1000000))
 unfolding digits_front digits_rest begins is_empty begins_digit body is_int is_frac frac_digits after_frac exp_digits
     is_whole_digits is_exp exp_value
 greatest_power_in_normal_form =
     value_from_test (codes "0.1e1000001") (number (pos 1) (pos 1000000)) refl (record { coefficients = refl })
-        (record { normal = λ e. cc e })
+    (record { normal = λ e. cc e })
 
 digits_36 : IsValue (codes "999999999999999999999999999999999999")
     (number (pos 999999999999999999999999999999999999) (pos 0))
@@ -97,8 +97,8 @@ unfolding digits_front digits_rest begins is_empty begins_digit body is_int is_f
     is_whole_digits is_exp exp_value
 digits_36 =
     value_from_test (codes "999999999999999999999999999999999999")
-        (number (pos 999999999999999999999999999999999999) (pos 0)) refl (record { coefficients = refl })
-        (record { normal = λ e. cc e })
+    (number (pos 999999999999999999999999999999999999) (pos 0)) refl (record { coefficients = refl })
+    (record { normal = λ e. cc e })
 
 digits_37 : IsValue (codes "9999999999999999999999999999999999999")
     (number (pos 9999999999999999999999999999999999999) (pos 0))
@@ -106,8 +106,8 @@ unfolding digits_front digits_rest begins is_empty begins_digit body is_int is_f
     is_whole_digits is_exp exp_value
 digits_37 =
     value_from_test (codes "9999999999999999999999999999999999999")
-        (number (pos 9999999999999999999999999999999999999) (pos 0)) refl (record { coefficients = refl })
-        (record { normal = λ e. cc e })
+    (number (pos 9999999999999999999999999999999999999) (pos 0)) refl (record { coefficients = refl })
+    (record { normal = λ e. cc e })
 
 zeros_at_the_end : IsValue (codes "10000000000000000000000000000000000000000") (number (pos 1) (pos 40))
 unfolding digits_front digits_rest begins is_empty begins_digit body is_int is_frac frac_digits after_frac exp_digits
@@ -120,7 +120,7 @@ unfolding digits_front digits_rest begins is_empty begins_digit body is_int is_f
     is_whole_digits is_exp exp_value
 zeros_of_an_exponent =
     value_from_test (codes "1e0000000000000000000001") (number (pos 1) (pos 1)) refl (record { coefficients = refl })
-        (record { normal = λ e. cc e })
+    (record { normal = λ e. cc e })
 
 leading_zero : ¬ IsNumber (codes "01")
 unfolding digits_front digits_rest begins is_empty begins_digit body is_int is_frac frac_digits after_frac exp_digits
@@ -149,35 +149,39 @@ read_rows = record {
   zero_of_any_power = zero_of_any_power;
   greatest_power =
       in_range (codes "1e1000000") (number (pos 1) (pos 1000000)) greatest_power
-          (record { digits = omega arith; power_low = omega (arith, ints); power_high = omega (arith, ints) });
+      (record { digits = omega arith; power_low = omega (arith, ints); power_high = omega (arith, ints) });
   power_past_the_greatest =
       out_of_range (codes "1e1000001") (number (pos 1) (pos 1000001)) power_past_the_greatest
-          (λ r. omega (arith, ints, r.power_high));
+      (λ r. omega (arith, ints, r.power_high));
   power_past_it_in_normal_form =
       out_of_range (codes "10e1000000") (number (pos 1) (pos 1000001)) power_past_it_in_normal_form
-          (λ r. omega (arith, ints, r.power_high));
+      (λ r. omega (arith, ints, r.power_high));
   least_power =
       in_range (codes "1e-1000000") (number (pos 1) (neg_ℤ (pos 1000000))) least_power
-          (record { digits = omega arith; power_low = omega (arith, ints); power_high = omega (arith, ints) });
+      (record { digits = omega arith; power_low = omega (arith, ints); power_high = omega (arith, ints) });
   power_below_the_least = out_of_range (codes "1e-1000001") (number (pos 1) (neg_ℤ (pos 1000001))) power_below_the_least
       (λ r. omega (arith, ints, r.power_low));
   least_power_in_normal_form = least_power_in_normal_form;
   greatest_power_in_normal_form = greatest_power_in_normal_form;
   digits_36 =
       in_range (codes "999999999999999999999999999999999999")
-          (number (pos 999999999999999999999999999999999999) (pos 0)) digits_36
-          (record { digits = omega arith; power_low = omega (arith, ints); power_high = omega (arith, ints) });
+      (number (pos 999999999999999999999999999999999999) (pos 0)) digits_36
+      (record { digits = omega arith; power_low = omega (arith, ints); power_high = omega (arith, ints) });
   digits_37 =
       out_of_range (codes "9999999999999999999999999999999999999")
-          (number (pos 9999999999999999999999999999999999999) (pos 0)) digits_37 (λ r. omega (arith, r.digits));
+      (number (pos 9999999999999999999999999999999999999) (pos 0)) digits_37 (λ r. omega (arith, r.digits));
   zeros_at_the_end = zeros_at_the_end;
   zeros_of_an_exponent = zeros_of_an_exponent;
 }
 
 no_number_rows : NoNumberRows
 no_number_rows =
-    record { leading_zero = leading_zero; leading_plus = leading_plus;
-        no_digit_after_the_point = no_digit_after_the_point; nothing = nothing }
+    record {
+      leading_zero = leading_zero;
+      leading_plus = leading_plus;
+      no_digit_after_the_point = no_digit_after_the_point;
+      nothing = nothing;
+    }
 
 unit_rows : UnitRows
 unit_rows = record {

@@ -64,12 +64,19 @@ fit f n id i o line source marks = λ t. (
       let same : r.objects ≡ tree n = one-some r.objects (tree n) (sym r.has_objects ∙ o) in
       let there = subst (λ u. Contains (members_of u) (r.name, t)) same r.held in
       let from = subst (λ u. IsReached (members_of u) id r.name) same
-          (subst (λ u. IsReached (members_of r.objects) u r.name) same_id r.reached) in
+      (subst (λ u. IsReached (members_of r.objects) u r.name) same_id r.reached) in
       (r.name, there, from),
   λ name held reached.
       marked-beside n f (sym line) (sym source) t
-          ((marks t).1 (record { id = id; has_id = i; objects = tree n; has_objects = o; name = name; held = held;
-                  reached = reached })),
+      ((marks t).1 (record {
+        id = id;
+        has_id = i;
+        objects = tree n;
+        has_objects = o;
+        name = name;
+        held = held;
+        reached = reached;
+      })),
 )
 
 -- where all of the id's name have marks, and with each one that has a mark all that it lists, all that are reached have
@@ -83,8 +90,8 @@ all-marked objects id main t first listed x (itself i) m held named =
 all-marked objects id main t first listed x (child a b r c i) m held named =
     let parent = all-marked objects id main t first listed a r c.object c.held c.named in
     listed c.object c.held parent c.item
-        (to-listed (members_of (tree objects)) (chars (codes "children")) c.object.1 c.item c.listed) m held
-        (to-texts (text_of m.0) (text_of c.item) b named c.text)
+    (to-listed (members_of (tree objects)) (chars (codes "children")) c.object.1 c.item c.listed) m held
+    (to-texts (text_of m.0) (text_of c.item) b named c.text)
 
 -- ---- the next city object to mark, among those of a feature: a node of it, and that of its city objects beside it
 module _ (f n : Node) (id : Tree) (i : member_of (chars (codes "id")) (tree f) ≡ Some id)
@@ -99,8 +106,15 @@ module _ (f n : Node) (id : Tree) (i : member_of (chars (codes "id")) (tree f) �
         within = subst (λ s. number < length (tokens_in s)) source u.within;
         unmarked = λ h. u.unmarked (marked-beside n f (sym line) (sym source) u.object (subst (IsMarkedBy f) shown h));
         reached = λ sound. subst (IsReachedObject (tree f)) (sym shown)
-            (record { id = id; has_id = i; objects = tree n; has_objects = o; name = u.name; held = u.held;
-                reached = reached sound });
+            (record {
+              id = id;
+              has_id = i;
+              objects = tree n;
+              has_objects = o;
+              name = u.name;
+              held = u.held;
+              reached = reached sound;
+            });
       }
 
   pub first-to-mark : (number : ℕ) → IsUnmarked n id number
@@ -108,8 +122,13 @@ module _ (f n : Node) (id : Tree) (i : member_of (chars (codes "id")) (tree f) �
   first-to-mark number u =
       let both = from-texts (text_of u.name) (text_of id) u.named in
       to-mark id number u (λ sound.
-          record { main = both.0; from = both.2; own = both.0; named = both.1;
-              reached = itself (record { object = (u.name, u.object); held = u.held; named = both.1 }) })
+      record {
+        main = both.0;
+        from = both.2;
+        own = both.0;
+        named = both.1;
+        reached = itself (record { object = (u.name, u.object); held = u.held; named = both.1 });
+      })
 
   pub next-to-mark : (number : ℕ) → IsNext n number → IsToMark (tree f) (line_of f) (tokens_in (source_of f)) number
   next-to-mark number x =
@@ -123,14 +142,25 @@ module _ (f n : Node) (id : Tree) (i : member_of (chars (codes "id")) (tree f) �
       let same : r.objects ≡ tree n = one-some r.objects (tree n) (sym r.has_objects ∙ o) in
       let held = subst (λ u. Contains (members_of u) (r.name, x.parent.1)) same r.held in
       let from = subst (λ u. IsReached (members_of u) id r.name) same
-          (subst (λ u. IsReached (members_of r.objects) u r.name) same_id r.reached) in
+      (subst (λ u. IsReached (members_of r.objects) u r.name) same_id r.reached) in
       let lists : Children (members_of (tree n)) from.own both.0 =
-          record { object = (r.name, x.parent.1); held = held; named = from.named; item = item; listed = list;
-              text = both.2 } in
+      record {
+        object = (r.name, x.parent.1);
+        held = held;
+        named = from.named;
+        item = item;
+        listed = list;
+        text = both.2;
+      } in
       let known : IsIn (members_of (tree n)) both.0 =
-          record { object = (u.name, u.object); held = u.held; named = both.1 } in
-      record { main = from.main; from = from.from; own = both.0; named = both.1;
-          reached = child from.own both.0 from.reached lists known })
+      record { object = (u.name, u.object); held = u.held; named = both.1 } in
+      record {
+        main = from.main;
+        from = from.from;
+        own = both.0;
+        named = both.1;
+        reached = child from.own both.0 from.reached lists known;
+      })
 
   pub all-are-marked : HaveMarks n (members_of (tree n)) id → ListMarks n (members_of (tree n)) → (t : Tree)
       → IsReachedObject (tree f) t → IsMarkedBy f t
@@ -139,6 +169,6 @@ module _ (f n : Node) (id : Tree) (i : member_of (chars (codes "id")) (tree f) �
       let same : r.objects ≡ tree n = one-some r.objects (tree n) (sym r.has_objects ∙ o) in
       let held = subst (λ u. Contains (members_of u) (r.name, t)) same r.held in
       let from = subst (λ u. IsReached (members_of u) id r.name) same
-          (subst (λ u. IsReached (members_of r.objects) u r.name) same_id r.reached) in
+      (subst (λ u. IsReached (members_of r.objects) u r.name) same_id r.reached) in
       marked-beside f n line source t
-          (all-marked n id from.main from.from first listed from.own from.reached (r.name, t) held from.named)
+      (all-marked n id from.main from.from first listed from.own from.reached (r.name, t) held from.named)

@@ -23,8 +23,11 @@ fixed-units n h = go (n.power +ℤ pos 18) refl h
     go (pos k) e h =
         let u = n.coefficient *ℤ pos (10 ^ k) in
         let small : unsigned_abs u < 10 ^ 36 =
-            omega (arith, abs_times n.coefficient (10 ^ k),
-                below-is (unsigned_abs n.coefficient * 10 ^ k) (10 ^ 36) h) in
+        omega (
+          arith,
+          abs_times n.coefficient (10 ^ k),
+          below-is (unsigned_abs n.coefficient * 10 ^ k) (10 ^ 36) h,
+        ) in
         record { same = units_same n u (neg_ℤ (pos 18)) k (omega (arith, ints, e)) refl; small = small }
     go (negsuc k) e h = absurd (cc h)
 
@@ -41,14 +44,14 @@ module _ (n : Number) (normal : IsNormal n) where
   test-of (pos k) e h =
       let u = n.coefficient *ℤ pos (10 ^ k) in
       let small : unsigned_abs u < 10 ^ 36 =
-          omega (arith, abs_times n.coefficient (10 ^ k), below-is (unsigned_abs n.coefficient * 10 ^ k) (10 ^ 36) h) in
+      omega (arith, abs_times n.coefficient (10 ^ k), below-is (unsigned_abs n.coefficient * 10 ^ k) (10 ^ 36) h) in
       (u, record { same = units_same n u (neg_ℤ (pos 18)) k (omega (arith, ints, e)) refl; small = small })
   test-of (negsuc k) e h = absurd (cc h)
 
   of-test : (shift : ℤ) → n.power +ℤ pos 18 ≡ shift → (u : ℤ) × IsFixed n u → is_fixed_by shift n.coefficient ≡ true
   of-test (pos k) e f =
       let size : unsigned_abs f.0 ≡ unsigned_abs n.coefficient * 10 ^ k =
-          size_of_units n f.0 (neg_ℤ (pos 18)) k (omega (arith, ints, e)) f.1.same in
+      size_of_units n f.0 (neg_ℤ (pos 18)) k (omega (arith, ints, e)) f.1.same in
       is-below (unsigned_abs n.coefficient * 10 ^ k) (10 ^ 36) (omega (arith, size, f.1.small))
   of-test (negsuc k) e f =
       absurd (units_below n f.0 (neg_ℤ (pos 18)) normal f.1.same (omega (arith, ints, e)) (omega (arith, ints)))

@@ -100,7 +100,7 @@ length-three : (t : Tree) → of_length NotThree 3 number t ≡ [] → length (i
 length-three t h =
     let inside = (of_kind-none (λ u. has_length NotThree 3 u ++ flat_map number (items_of u)) t is_array h).1 in
     by-length t (nat_eq (length (items_of t)) 3) refl
-        (none-both (has_length NotThree 3 t) (flat_map number (items_of t)) inside).0
+    (none-both (has_length NotThree 3 t) (flat_map number (items_of t)) inside).0
 
 module _ (name : List ℕ) (u : Tree) where
   -- three numbers, whatever is said of the first two

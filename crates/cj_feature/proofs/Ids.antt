@@ -28,20 +28,20 @@ module _ (templates : Given) (t : Tree) (valid : of_kind is_object (feature_rule
   not-unknown =
       let rule = id_in (member_of (chars (codes "CityObjects")) t) in
       (of_kind-none rule id is_text
-          (then-none (of_kind is_text rule) t (chars (codes "id")) (has-id templates t valid) (Some id)
-              (sym is) id refl)).1
+      (then-none (of_kind is_text rule) t (chars (codes "id")) (has-id templates t valid) (Some id)
+      (sym is) id refl)).1
 
   in-objects : (o : Option Tree) → o ≡ member_of (chars (codes "CityObjects")) t → id_in o id ≡ [] → (x : List ℕ)
       × (text_of id ≡ Some x) × IsIn (members_if o) x
   in-objects None e h =
       let vertices = count_of (member_of (chars (codes "vertices")) t) in
       absurd (is-there (city_objects vertices templates) t (chars (codes "CityObjects")) (has-objects templates t valid)
-          None e refl)
+      None e refl)
   in-objects (Some u) e h =
       let vertices = count_of (member_of (chars (codes "vertices")) t) in
       let each = λ (v : Tree). flat_map (λ m. city_object vertices templates m.1) (members_of v) in
       let none = then-none (city_objects vertices templates) t (chars (codes "CityObjects"))
-          (has-objects templates t valid) (Some u) e u refl in
+      (has-objects templates t valid) (Some u) e u refl in
       let kind = (of_kind-none (λ v. distinct v ++ each v) u is_object none).0 in
       let known = by-tests id (is_object (kind_of u)) (is_known (members_of u) id) h kind in
       let text = known-text (members_of u) id known in

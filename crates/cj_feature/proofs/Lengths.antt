@@ -30,4 +30,4 @@ of_length-late reason n rule t o p q r kind h k other l =
     let late : r ≡ least q (has_length reason n t) = rw (other-length reason n t other) l in
     of_kind-then is_array (λ u. has_length reason n u ++ flat_map rule (items_of u)) t o p r kind h
     (least-two p q r (flat_map rule (items_of t)) (has_length reason n t) k late
-        ∙ least-swap p (flat_map rule (items_of t)) (has_length reason n t))
+    ∙ least-swap p (flat_map rule (items_of t)) (has_length reason n t))

@@ -191,16 +191,22 @@ module _ (objects : List (Tree × Tree)) where
       let r = from-any (λ m. same_text m.0 from && has_item (listed_in list m.1) to) objects h in
       let both = from-and _ _ r.2 in
       let i = from-any (λ x. same_text x to) (listed_in list r.0.1) both.1 in
-      record { object = r.0; held = r.1; named = carried r.0.0 from a both.0 s; item = i.0;
-          listed = from-listed list r.0.1 i.0 i.1; text = carried i.0 to b i.2 t }
+      record {
+        object = r.0;
+        held = r.1;
+        named = carried r.0.0 from a both.0 s;
+        item = i.0;
+        listed = from-listed list r.0.1 i.0 i.1;
+        text = carried i.0 to b i.2 t;
+      }
 
   to-lists : (list : List ℕ) (from to : Tree) (a b : List ℕ) → text_of from ≡ Some a → text_of to ≡ Some b
       → Lists list objects a b → lists list objects from to ≡ true
   to-lists list from to a b s t h =
       to-any (λ m. same_text m.0 from && has_item (listed_in list m.1) to) objects h.object h.held
       (both _ _ (to-texts (text_of h.object.0) (text_of from) a h.named s)
-          (to-any (λ x. same_text x to) (listed_in list h.object.1) h.item (to-listed list h.object.1 h.item h.listed)
-              (to-texts (text_of h.item) (text_of to) b h.text t)))
+      (to-any (λ x. same_text x to) (listed_in list h.object.1) h.item (to-listed list h.object.1 h.item h.listed)
+      (to-texts (text_of h.item) (text_of to) b h.text t)))
     where
       both : (x y : Bool) → x ≡ true → y ≡ true → x && y ≡ true
       both x y p q = rw (p, q) refl
@@ -233,22 +239,22 @@ module _ (t : Tree) where
         back false e id s k h =
             let x = names-text t m held in
             subst (IsLinkFault (members_of t)) (alone (found_at (start_of item) LinkNotMutual) f h)
-                (child_not_mutual m item x.0 id held other listed x.1 s (from-known (members_of t) item id s k)
-                (λ p. false-not _ e (to-lists (members_of t) (chars (codes "parents")) item m.0 id x.0 s x.1 p)))
+            (child_not_mutual m item x.0 id held other listed x.1 s (from-known (members_of t) item id s k)
+            (λ p. false-not _ e (to-lists (members_of t) (chars (codes "parents")) item m.0 id x.0 s x.1 p)))
 
         known : (b : Bool) → is_known (members_of t) item ≡ b → (id : List ℕ) → text_of item ≡ Some id
             → Contains (cond b (answered (lists (chars (codes "parents")) (members_of t) item m.0) item)
-                (one ChildNotFound item)) f → IsLinkFault (members_of t) f
+            (one ChildNotFound item)) f → IsLinkFault (members_of t) f
         known true e id s h = back (lists (chars (codes "parents")) (members_of t) item m.0) refl id s e h
         known false e id s h =
             subst (IsLinkFault (members_of t)) (alone (found_at (start_of item) ChildNotFound) f h)
-                (child_not_found m item id held other listed s
-                (λ is. false-not _ e (to-known (members_of t) item id s is)))
+            (child_not_found m item id held other listed s
+            (λ is. false-not _ e (to-known (members_of t) item id s is)))
 
         go : (b : Bool) → is_text (kind_of item) ≡ b
             → Contains (cond b (cond (is_known (members_of t) item)
-                    (answered (lists (chars (codes "parents")) (members_of t) item m.0) item) (one ChildNotFound item))
-                []) f → IsLinkFault (members_of t) f
+            (answered (lists (chars (codes "parents")) (members_of t) item m.0) item) (one ChildNotFound item))
+            []) f → IsLinkFault (members_of t) f
         go true e h = let s = kind-text item e in known (is_known (members_of t) item) refl s.0 s.1 h
         go false e h = absurd (nowhere f h)
 
@@ -263,8 +269,8 @@ module _ (t : Tree) where
             let x = names-text t m held in
             let s = known-text (members_of t) item k in
             subst (IsLinkFault (members_of t)) (alone (found_at (start_of item) LinkNotMutual) f h)
-                (parent_not_mutual m item s.0 x.0 held listed x.1 s.1 (from-known (members_of t) item s.0 s.1 k)
-                (λ p. false-not _ e (to-lists (members_of t) (chars (codes "children")) item m.0 s.0 x.0 s.1 x.1 p)))
+            (parent_not_mutual m item s.0 x.0 held listed x.1 s.1 (from-known (members_of t) item s.0 s.1 k)
+            (λ p. false-not _ e (to-lists (members_of t) (chars (codes "children")) item m.0 s.0 x.0 s.1 x.1 p)))
 
         go : (b : Bool) → is_known (members_of t) item ≡ b
             → Contains (cond b (answered (lists (chars (codes "children")) (members_of t) item m.0) item) []) f
@@ -298,9 +304,9 @@ module _ (t : Tree) where
         found u true e is at h =
             let both = from-and _ _ e in
             subst (IsLinkFault (members_of t)) (alone (found_at (start_of m.1) NoParent) f h)
-                (no_parent m u held is at (array-kind (kind_of u) both.0)
+            (no_parent m u held is at (array-kind (kind_of u) both.0)
             (λ item a k s known. from-not _ both.1
-                (to-any (is_known (members_of t)) (items_of u) item k (to-known (members_of t) item a s known))))
+            (to-any (is_known (members_of t)) (items_of u) item k (to-known (members_of t) item a s known))))
         found u false e is at h = absurd (nowhere f h)
 
         with_parents : (o : Option Tree) → member_of (chars (codes "parents")) m.1 ≡ o → is_part m.1 ≡ true
@@ -318,7 +324,7 @@ module _ (t : Tree) where
     from-object : Contains (object_links (members_of t) m) f → IsLinkFault (members_of t) f
     from-object h =
         outer (Contains-append_cases (children (members_of t) m ++ parents (members_of t) m) (part (members_of t) m) f
-            h)
+        h)
       where
         inner : Contains (children (members_of t) m) f ⊎ Contains (parents (members_of t) m) f
             → IsLinkFault (members_of t) f
@@ -347,21 +353,21 @@ module _ (t : Tree) where
       → Contains (child (members_of t) m.0 item) f → Contains (links (Some t)) f
   to-children f m item held other listed h =
       let all = to-flat_map (child (members_of t) m.0) (listed_in (chars (codes "children")) m.1) f item
-          (to-listed (members_of t) (chars (codes "children")) m.1 item listed) h in
+      (to-listed (members_of t) (chars (codes "children")) m.1 item listed) h in
       let mine : Contains (children (members_of t) m) f = rw other all in
       to-object f m held (Contains-append_left (children (members_of t) m ++ parents (members_of t) m)
-          (part (members_of t) m) f
-          (Contains-append_left (children (members_of t) m) (parents (members_of t) m) f mine))
+      (part (members_of t) m) f
+      (Contains-append_left (children (members_of t) m) (parents (members_of t) m) f mine))
 
   to-parents : (f : Finding) (m : Tree × Tree) (item : Tree) → Contains (members_of t) m
       → IsListed (chars (codes "parents")) m.1 item
       → Contains (parent (members_of t) m.0 item) f → Contains (links (Some t)) f
   to-parents f m item held listed h =
       let mine = to-flat_map (parent (members_of t) m.0) (listed_in (chars (codes "parents")) m.1) f item
-          (to-listed (members_of t) (chars (codes "parents")) m.1 item listed) h in
+      (to-listed (members_of t) (chars (codes "parents")) m.1 item listed) h in
       to-object f m held (Contains-append_left (children (members_of t) m ++ parents (members_of t) m)
-          (part (members_of t) m) f
-          (Contains-append_right (children (members_of t) m) (parents (members_of t) m) f mine))
+      (part (members_of t) m) f
+      (Contains-append_right (children (members_of t) m) (parents (members_of t) m) f mine))
 
   unlisted : (list : List ℕ) (from to : Tree) (a b : List ℕ) → text_of from ≡ Some a → text_of to ≡ Some b
       → (Lists list (members_of t) a b → ⊥) → lists list (members_of t) from to ≡ false
@@ -383,14 +389,17 @@ module _ (t : Tree) where
       to-children _ a item held other listed (rw (text-kind item b s, unknown item b s never) (here _ []))
   to-links f (child_not_mutual a item x b held other listed s k is never) =
       to-children _ a item held other listed
-          (rw (text-kind item b k, to-known (members_of t) item b k is,
-              unlisted (chars (codes "parents")) item a.0 b x k s never) (here _ []))
+      (rw (
+        text-kind item b k,
+        to-known (members_of t) item b k is,
+        unlisted (chars (codes "parents")) item a.0 b x k s never,
+      ) (here _ []))
   to-links f (parent_not_mutual b item a x held listed s k is never) =
       to-parents _ b item held listed
-          (rw (to-known (members_of t) item a k is, unlisted (chars (codes "children")) item b.0 a x k s never)
-          (here _ []))
+      (rw (to-known (members_of t) item a k is, unlisted (chars (codes "children")) item b.0 a x k s never)
+      (here _ []))
   to-links f (no_parent b u held is at kind never) =
       let mine : Contains (part (members_of t) b) (found_at (start_of b.1) NoParent) =
-          rw (is, at, kind, no-parent u never) (here _ []) in
+      rw (is, at, kind, no-parent u never) (here _ []) in
       to-object _ b held (Contains-append_right (children (members_of t) b ++ parents (members_of t) b)
-          (part (members_of t) b) _ mine)
+      (part (members_of t) b) _ mine)

@@ -33,7 +33,7 @@ count-less (t ∷ ts) (u ∷ us) zero l w h g o =
     let a = ap (λ b. cond b 0 1 + unmarked_count us) g in
     let b = ap (λ b. cond b 0 1 + unmarked_count ts) h in
     less (cond (has_mark u) 0 1 + unmarked_count us) (cond (has_mark t) 0 1 + unmarked_count ts) (unmarked_count us)
-        (unmarked_count ts) a b later
+    (unmarked_count ts) a b later
   where
     less : (x y m n : ℕ) → x ≡ 0 + m → y ≡ 1 + n → m ≡ n → x < y
     less x y m n a b c = omega arith
@@ -41,15 +41,18 @@ count-less (t ∷ ts) (u ∷ us) (suc n) l w h g o =
     let here : has_mark u ≡ has_mark t = o 0 (λ e. absurd (omega arith)) in
     let later = count-less ts us n (omega arith) (omega arith) h g (λ k ne. o (suc k) (λ e. ne (omega arith))) in
     more (cond (has_mark u) 0 1) (cond (has_mark t) 0 1) (unmarked_count us) (unmarked_count ts)
-        (ap (λ b. cond b 0 1) here) later
+    (ap (λ b. cond b 0 1) here) later
   where
     more : (x y m n : ℕ) → x ≡ y → m < n → x + m < y + n
     more x y m n a b = omega arith
 
 same-or-not : (k n : ℕ) → (k ≡ n) ⊎ (k ≢ n)
 same-or-not k n =
-    elim (cases_lt k n) [ inl l ↦ inr (λ e. omega arith) | inr m ↦
-        elim (cases_lt n k) [ inl l ↦ inr (λ e. omega arith) | inr o ↦ inl (omega arith) ] ]
+    elim (cases_lt k n) [
+      | inl l ↦ inr (λ e. omega arith)
+      | inr m ↦
+          elim (cases_lt n k) [ inl l ↦ inr (λ e. omega arith) | inr o ↦ inl (omega arith) ]
+    ]
 
 -- what has a mark after one more is set, is what has been given it, or had one
 pub marked-more : (line : List ℕ) (ts us : List Token) (n : ℕ) (t : Tree) → spans_of us ≡ spans_of ts

@@ -36,9 +36,12 @@ module _ {X : Type 0} (xs : List X) (c : ℕ) (v : X) (below : c < length xs) wh
 
   -- and so is that one
   pub last-first : Contains (take (c + 1) (slice_set xs c v)) v
-  last-first =
-      (c, omega (arith, long), get_or-take (c + 1) (slice_set xs c v) c v (omega arith)
-          ∙ get_or-set_same xs c v v below)
+  last-first = (
+    c,
+    omega (arith, long),
+    get_or-take (c + 1) (slice_set xs c v) c v (omega arith)
+        ∙ get_or-set_same xs c v v below,
+  )
 
 module _ (objects : Node) where
   -- names in another order are the same
@@ -73,6 +76,9 @@ module _ (objects : Node) where
       let same : get_or names k x ≡ x = n.1.2 in
       let equal : compare_sides (side_in objects (get_or names k x)) side ≡ Equal =
       subst (λ y. compare_sides (side_in objects y) side ≡ Equal) (sym same)
-          (subst (λ s. compare_sides s side ≡ Equal) (e ∙ sym n.2) (tied_itself sides_total side)) in
-      elim (cases_lt k i) [ inl below ↦ let less = parts.0 k x (omega arith) below in
-          cc | inr above ↦ let more = parts.1 k x above n.1.1 in cc ]
+      (subst (λ s. compare_sides s side ≡ Equal) (e ∙ sym n.2) (tied_itself sides_total side)) in
+      elim (cases_lt k i) [
+        | inl below ↦ let less = parts.0 k x (omega arith) below in
+            cc
+        | inr above ↦ let more = parts.1 k x above n.1.1 in cc
+      ]

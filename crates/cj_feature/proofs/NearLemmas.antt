@@ -51,8 +51,11 @@ get-set-here (x ∷ xs) (suc i) v n h = get-set-here xs i v n h
 set-slot : (xs : List Slot) (i : ℕ) (v : Slot) (k : ℕ) (s : Slot) → slice_get (slice_set xs i v) k ≡ Some s → (v ≡ s)
     ⊎ (slice_get xs k ≡ Some s)
 set-slot xs i v k s h =
-    elim (get-set xs i k v s h) [ inl e ↦
-        inl (get-set-here xs i v s (subst (λ j. slice_get (slice_set xs i v) j ≡ Some s) e h)) | inr g ↦ inr g ]
+    elim (get-set xs i k v s h) [
+      | inl e ↦
+          inl (get-set-here xs i v s (subst (λ j. slice_get (slice_set xs i v) j ≡ Some s) e h))
+      | inr g ↦ inr g
+    ]
 
 -- what holds of each city object at hand, holds with another in one slot
 pub each-set : (P : ℕ → Type 0) (xs : List Slot) (i : ℕ) (v : Slot)
@@ -66,8 +69,8 @@ pub among-moved : {X : Type 0} (xs ys : List X) (k : ℕ) (n : X) → IsPermutat
     → (j : ℕ) × (slice_get xs j ≡ Some n)
 among-moved xs ys k n moved at =
     let there : Contains xs n =
-        Contains-permutation ys xs n (IsPermutation-sym xs ys moved)
-            (k, slice_get_within ys k n at, get_or_from_slice_get ys k n n at) in
+    Contains-permutation ys xs n (IsPermutation-sym xs ys moved)
+    (k, slice_get_within ys k n at, get_or_from_slice_get ys k n n at) in
     (there.0, slice_get_read xs (length xs) there.0 n refl there.1 (sym there.2))
 
 same-one : {X : Type 0} (n : ℕ) (v : X) (k : ℕ) (x : X) → slice_get (replicate n v) k ≡ Some x → x ≡ v
@@ -104,14 +107,32 @@ lists-reached feature object item objects o r held = λ name t at same.
     let parent = subst (λ u. Contains (members_of u) (r.name, object)) those r.held in
     let from = subst (λ u. IsReached (members_of u) r.id r.name) those r.reached in
     let lists : Children (members_of (tree objects)) from.own both.0 =
-        record { object = (r.name, object); held = parent; named = from.named; item = item; listed = list;
-            text = both.2 } in
+    record {
+      object = (r.name, object);
+      held = parent;
+      named = from.named;
+      item = item;
+      listed = list;
+      text = both.2;
+    } in
     let known : IsIn (members_of (tree objects)) both.0 = record { object = (name, t); held = at; named = both.1 } in
     let reached : IsReached (members_of (tree objects)) r.id name =
-        record { main = from.main; from = from.from; own = both.0; named = both.1;
-            reached = child from.own both.0 from.reached lists known } in
-    record { id = r.id; has_id = r.has_id; objects = tree objects; has_objects = o; name = name; held = at;
-        reached = reached }
+    record {
+      main = from.main;
+      from = from.from;
+      own = both.0;
+      named = both.1;
+      reached = child from.own both.0 from.reached lists known;
+    } in
+    record {
+      id = r.id;
+      has_id = r.has_id;
+      objects = tree objects;
+      has_objects = o;
+      name = name;
+      held = at;
+      reached = reached;
+    }
 
 -- what has the name of the id is reached
 pub id-reached : (feature id : Tree) (objects : Node) → member_of (chars (codes "id")) feature ≡ Some id
@@ -120,7 +141,7 @@ id-reached feature id objects i o = λ name t at same.
     let both = from-texts (text_of name) (text_of id) same in
     let known : IsIn (members_of (tree objects)) both.0 = record { object = (name, t); held = at; named = both.1 } in
     let reached : IsReached (members_of (tree objects)) id name =
-        record { main = both.0; from = both.2; own = both.0; named = both.1; reached = itself known } in
+    record { main = both.0; from = both.2; own = both.0; named = both.1; reached = itself known } in
     record { id = id; has_id = i; objects = tree objects; has_objects = o; name = name; held = at; reached = reached }
 
 -- ---- steps of the guide
@@ -158,13 +179,13 @@ module _ {P : ℕ} (n : Node) (d : Doc) (source : source_of n ≡ document_sourc
       → WaitsFor f (document_line d) (spans_of (tokens_in (document_source d))) near
   waits-there h =
       subst (λ s. WaitsFor f (document_line d) (spans_of (tokens_in s)) near) source
-          (subst (λ l. WaitsFor f l (spans_by n) near) (line-of-document n d source) h)
+      (subst (λ l. WaitsFor f l (spans_by n) near) (line-of-document n d source) h)
 
   pub waits-here : WaitsFor f (document_line d) (spans_of (tokens_in (document_source d))) near
       → WaitsFor f (line_of n) (spans_by n) near
   waits-here h =
       subst (λ l. WaitsFor f l (spans_by n) near) (sym (line-of-document n d source))
-          (subst (λ s. WaitsFor f (document_line d) (spans_of (tokens_in s)) near) (sym source) h)
+      (subst (λ s. WaitsFor f (document_line d) (spans_of (tokens_in s)) near) (sym source) h)
 
 -- those at hand beside a node, told by its document
 module _ {O L : ℕ} (n : Node) (d : Doc) (source : source_of n ≡ document_source d) (near : Lists O L) where
@@ -172,14 +193,14 @@ module _ {O L : ℕ} (n : Node) (d : Doc) (source : source_of n ≡ document_sou
       → AreNamed (members_of (tree n)) (document_line d) (spans_of (tokens_in (document_source d))) near.slots
   known-there h =
       subst (λ s. AreNamed (members_of (tree n)) (document_line d) (spans_of (tokens_in s)) near.slots) source
-          (subst (λ l. AreNamed (members_of (tree n)) l (spans_by n) near.slots) (line-of-document n d source) h)
+      (subst (λ l. AreNamed (members_of (tree n)) l (spans_by n) near.slots) (line-of-document n d source) h)
 
   pub known-here : AreNamed (members_of (tree n)) (document_line d) (spans_of (tokens_in (document_source d)))
       near.slots → Knows n near
   known-here h =
       subst (λ l. AreNamed (members_of (tree n)) l (spans_by n) near.slots) (sym (line-of-document n d source))
-          (subst (λ s. AreNamed (members_of (tree n)) (document_line d) (spans_of (tokens_in s)) near.slots)
-          (sym source) h)
+      (subst (λ s. AreNamed (members_of (tree n)) (document_line d) (spans_of (tokens_in s)) near.slots)
+      (sym source) h)
 
 -- one more mark
 pub guide-marked : {O L P : ℕ} (line : List ℕ) (old new : BoundedList Token) (near : Near O L P) (n : ℕ)
@@ -204,6 +225,6 @@ pub guide-at : {O L P : ℕ} (line l : List ℕ) (ts us : List Token) (a b : Nea
     → IsGuide line ts a → IsGuide l us b
 guide-at line l ts us a b e q h p w g =
     let same = guide-on line ts a b g h
-        (λ f j waits. subst (λ k. AreReached f line (spans_of ts) b.pending.numbers k) (sym w)
-        (subst (λ ns. AreReached f line (spans_of ts) ns a.pending.count) (sym p) waits)) in
+    (λ f j waits. subst (λ k. AreReached f line (spans_of ts) b.pending.numbers k) (sym w)
+    (subst (λ ns. AreReached f line (spans_of ts) ns a.pending.count) (sym p) waits)) in
     subst (λ vs. IsGuide l vs b) (sym q) (subst (λ m. IsGuide m ts b) (sym e) same)

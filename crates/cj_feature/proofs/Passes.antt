@@ -62,10 +62,10 @@ pub told_linked : (k : Link) (objects : List (Tree × Tree)) (name item : Tree) 
     → ((r : Reason) → least o (one r item) ≡ o) → o ≡ least o (linked k objects name item)
 told_linked Child objects name item o told =
     told_on (is_text (kind_of item)) (is_known objects item) (lists (chars (codes "parents")) objects item name) item
-        (one ChildNotFound item) o (told LinkNotMutual) (sym (told ChildNotFound))
+    (one ChildNotFound item) o (told LinkNotMutual) (sym (told ChildNotFound))
 told_linked Parent objects name item o told =
     told_on true (is_known objects item) (lists (chars (codes "children")) objects item name) item [] o
-        (told LinkNotMutual) refl
+    (told LinkNotMutual) refl
 
 -- ---- a part with a parent that is in the feature
 
@@ -87,7 +87,7 @@ pub known_part : (objects : List (Tree × Tree)) (m : Tree × Tree)
     → list_any (is_known objects) (listed_in (chars (codes "parents")) m.1) ≡ true → part objects m ≡ []
 known_part objects m h =
     either_none (is_part m.1) (part_of objects m.1 (member_of (chars (codes "parents")) m.1))
-        (known_parent objects m.1 (member_of (chars (codes "parents")) m.1) h)
+    (known_parent objects m.1 (member_of (chars (codes "parents")) m.1) h)
 
 -- ---- two walks
 
@@ -115,5 +115,5 @@ walks objects (m ∷ ms) o =
     ∙ ap (λ x. least x ps) (comm (least o c) cs (p ++ q))
     ∙ walks objects ms (least (least o c) (p ++ q))
     ∙ ap (λ x. least x all) (least-append (least o c) p q ∙ ap (λ x. least x q) (sym (least-append o c p))
-        ∙ sym (least-append o (c ++ p) q))
+    ∙ sym (least-append o (c ++ p) q))
     ∙ sym (least-append o (c ++ p ++ q) all)

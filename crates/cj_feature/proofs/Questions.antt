@@ -55,7 +55,7 @@ module _ {X : Type 0} (lt : X → X → Bool) (o : IsStrictWeakOrder lt) where
       let long : j.0 < length (a ++ x ∷ b) = omega (arith, below, j.2, length-append a (x ∷ b), length-append a b) in
       let far = sorted_far lt o (a ++ x ∷ b) up i.0 j.0 d (omega (arith, i.2, j.1)) long in
       subst (λ v. lt v (get_or (a ++ b) k d) ≡ false) j.3
-          (subst (λ v. lt (get_or (a ++ x ∷ b) j.0 d) v ≡ false) i.3 far)
+      (subst (λ v. lt (get_or (a ++ x ∷ b) j.0 d) v ≡ false) i.3 far)
 
 pub next_one : {X : Type 0} (xs : List X) (i : ℕ) → i < length xs → (x : X) × (drop i xs ≡ x ∷ drop (i + 1) xs)
 next_one [] i below = absurd (omega (arith, below))
@@ -98,12 +98,12 @@ pub in_order : (objects : Node) {F : Type 0} {g : Mut F (Bor Question × (Bor Qu
     (qs : List Question) → ((lt : Question → Question → Bool) → IsStrictWeakOrder lt → ComparesAs g lt f
     → IsSortedBy lt qs)
     → ((a : Bor Question × (Bor Question × Unit {0})) (r : Ordering) (f' : F) → Called g f a r f'
-        → (r ≡ compare_keys (key_in objects a.0.now) (key_in objects a.1.0.now)) × (f' ≡ f)) → AreInOrder objects qs
+    → (r ≡ compare_keys (key_in objects a.0.now) (key_in objects a.1.0.now)) × (f' ≡ f)) → AreInOrder objects qs
 in_order objects {g = g} {f = f} qs sorted each =
     let key = key_in objects in
     sorted (λ x y. is_lt (compare_keys (key x) (key y))) (ranks_by keys_total key)
     (always_returns_same g (λ a r. is_lt r ≡ is_lt (compare_keys (key a.0.now) (key a.1.0.now))) f
-        (λ a r f' k. (ap is_lt (each a r f' k).0, (each a r f' k).1)))
+    (λ a r f' k. (ap is_lt (each a r f' k).0, (each a r f' k).1)))
 
 no_later : (r s : Ordering) → ordering_index r ≤ ordering_index s → is_lt s ≡ true → is_lt r ≡ true
 no_later Less s h e = refl
@@ -120,7 +120,7 @@ pub parted : (objects : Node) (qs : List Question) (k : Key) → AreInOrder obje
 parted objects qs k h =
     let rises = searchable_from_sorted keys_total (key_in objects) qs k h in
     λ i j d le below e. no_later (compare_keys (key_in objects (get_or qs i d)) k)
-        (compare_keys (key_in objects (get_or qs j d)) k) (rises i j d le below) e
+    (compare_keys (key_in objects (get_or qs j d)) k) (rises i j d le below) e
 
 either : (b : Bool) → (b ≡ true) ⊎ (b ≡ false)
 either true = inl refl
@@ -159,7 +159,7 @@ module _ (objects : Node) (qs : List Question) where
       → IsFirstOn objects qs t i → i ≡ p
   only_here t p i h f =
       one_place (λ w. is_lt (compare_keys (key_in objects w) (key_of (text_of t) (text_of (tree objects))))) qs
-          f.question i p (slice_get_within qs i f.question f.stands) f.place h
+      f.question i p (slice_get_within qs i f.question f.stands) f.place h
 
   -- so there is none, where another stands there
   pub none_here : (t : Tree) (p i : ℕ) → IsPlaceOf objects (key_of (text_of t) (text_of (tree objects))) qs p
@@ -167,7 +167,7 @@ module _ (objects : Node) (qs : List Question) where
       → same_text (from_in objects q) t ≡ false) → IsFirstOn objects qs t i → ⊥
   none_here t p i h other f =
       let no : same_text (from_in objects f.question) t ≡ false =
-          other f.question (ap (slice_get qs) (sym (only_here t p i h f)) ∙ f.stands) f.tagged in
+      other f.question (ap (slice_get qs) (sym (only_here t p i h f)) ∙ f.stands) f.tagged in
       let yes : same_text (from_in objects f.question) t ≡ true = f.same in
       cc
 
@@ -209,16 +209,16 @@ module _ (objects : Node) (qs : List Question) where
   pub listed_on : (list : List ℕ) (flags : List Bool) (from to : Tree) (p : ℕ) → AreListed list objects qs flags
       → IsQuestion objects qs from to p
       → ((f t : Tree) → same_text from f ≡ true → same_text to t ≡ true
-          → lists list (members_of (tree objects)) f t ≡ true) → AreListed list objects qs (slice_set flags p true)
+      → lists list (members_of (tree objects)) f t ≡ true) → AreListed list objects qs (slice_set flags p true)
   listed_on list flags from to p old here has = λ i q stands flagged.
       elim (cases_eq i p) [
         | inl e ↦
             let other : slice_get qs i ≡ Some here.question = ap (slice_get qs) e ∙ here.stands in
             let same : q ≡ here.question = cc in
             λ f t h k. has f t (shared (from_in objects here.question) from f here.first
-                (subst (λ w. same_text (from_in objects w) f ≡ true) same h))
+            (subst (λ w. same_text (from_in objects w) f ≡ true) same h))
             (shared (to_in objects here.question) to t here.second
-                (subst (λ w. same_text (to_in objects w) t ≡ true) same k))
+            (subst (λ w. same_text (to_in objects w) t ≡ true) same k))
         | inr n ↦ old i q stands (sym (get_or-set_other flags p i true false n) ∙ flagged)
       ]
 

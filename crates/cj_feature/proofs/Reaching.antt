@@ -122,8 +122,14 @@ module _ (objects : List (Tree × Tree)) (id : Tree) (main : List ℕ) (from : t
       let both = from-texts (text_of i.0) (text_of m.0) i.2 in
       let b = both.0 in
       let lists : Children objects a b =
-          record { object = p; held = k; named = t; item = i.0;
-              listed = from-listed objects (chars (codes "children")) p.1 i.0 i.1; text = both.1 } in
+      record {
+        object = p;
+        held = k;
+        named = t;
+        item = i.0;
+        listed = from-listed objects (chars (codes "children")) p.1 i.0 i.1;
+        text = both.1;
+      } in
       (b, both.2, child a b r lists (record { object = m; held = held; named = both.2 }))
 
   rounds : (n : ℕ) (taken others : List (Tree × Tree))
@@ -138,7 +144,7 @@ module _ (objects : List (Tree × Tree)) (id : Tree) (main : List ℕ) (from : t
       let next = filter (list_child taken) others in
       let rest = filter (λ m. not (list_child taken m)) others in
       let more : (o : Tree × Tree) → Contains next o → Contains objects o
-          × ((x : List ℕ) × (text_of o.0 ≡ Some x) × Reached objects main x) = λ o k.
+      × ((x : List ℕ) × (text_of o.0 ≡ Some x) × Reached objects main x) = λ o k.
       let r = from-filter (list_child taken) others o k in
       let p = from-any (λ p. has_item (listed_in (chars (codes "children")) p.1) o.0) taken r.1 in
       let q = all p.0 p.1 in
@@ -154,12 +160,17 @@ module _ (objects : List (Tree × Tree)) (id : Tree) (main : List ℕ) (from : t
   from-test name h =
       let r = from-any (λ m. same_text m.0 name) (reached_of objects id) h in
       let one = rounds (length objects) (filter (λ m. same_text m.0 id) objects)
-          (filter (λ m. not (same_text m.0 id)) objects) first
-          (λ m k. (from-filter (λ m. not (same_text m.0 id)) objects m k).0) r.0 r.1 in
+      (filter (λ m. not (same_text m.0 id)) objects) first
+      (λ m k. (from-filter (λ m. not (same_text m.0 id)) objects m k).0) r.0 r.1 in
       let both = from-texts (text_of r.0.0) (text_of name) r.2 in
       let same = some-same (sym both.1 ∙ one.1.1) in
-      record { main = main; from = from; own = both.0; named = both.2;
-          reached = subst (Reached objects main) (sym same) one.1.2 }
+      record {
+        main = main;
+        from = from;
+        own = both.0;
+        named = both.2;
+        reached = subst (Reached objects main) (sym same) one.1.2;
+      }
     where
       some-same : {x y : List ℕ} → ◌≡◌ {A = Option (List ℕ)} (Some x) (Some y) → x ≡ y
       some-same e = cc e
@@ -168,12 +179,12 @@ module _ (objects : List (Tree × Tree)) (id : Tree) (main : List ℕ) (from : t
       → Contains (reached_of objects id) m
   taken x (itself i) m held t =
       taken-reached (length objects) _ _ m
-          (to-filter (λ m. same_text m.0 id) objects m held (to-texts (text_of m.0) (text_of id) main t from))
+      (to-filter (λ m. same_text m.0 id) objects m held (to-texts (text_of m.0) (text_of id) main t from))
   taken x (child a b r c i) m held t =
       let o = c.object in
       let item = to-any (λ y. same_text y m.0) (listed_in (chars (codes "children")) o.1) c.item
-          (to-listed objects (chars (codes "children")) o.1 c.item c.listed)
-          (to-texts (text_of c.item) (text_of m.0) b c.text t) in
+      (to-listed objects (chars (codes "children")) o.1 c.item c.listed)
+      (to-texts (text_of c.item) (text_of m.0) b c.text t) in
       let later = taken a r o c.held c.named in
       let both = length-filter_both (λ m. same_text m.0 id) (λ m. not (same_text m.0 id)) (λ m. refl) objects in
       elim (parted (λ m. same_text m.0 id) objects m held) [
@@ -209,8 +220,8 @@ unfolding is_reached
 nowhere-reached objects id name h e =
     let r = from-any (λ m. same_text m.0 name) (reached_of objects id) e in
     none-taken (length objects) (filter (λ m. not (same_text m.0 id)) objects) r.0
-        (subst (λ ts. Contains (reached_from (length objects) ts (filter (λ m. not (same_text m.0 id)) objects)) r.0)
-        (no-names objects id h) r.1)
+    (subst (λ ts. Contains (reached_from (length objects) ts (filter (λ m. not (same_text m.0 id)) objects)) r.0)
+    (no-names objects id h) r.1)
 
 pub is-reached : (objects : List (Tree × Tree)) (id name : Tree) → is_reached objects id name ≡ true
     → IsReached objects id name
@@ -226,5 +237,5 @@ unfolding is_reached
 to-reached objects id name r =
     let i = in-feature objects r.main r.own r.reached in
     to-any (λ m. same_text m.0 name) (reached_of objects id) i.object
-        (taken objects id r.main r.from r.own r.reached i.object i.held i.named)
-        (to-texts (text_of i.object.0) (text_of name) r.own i.named r.named)
+    (taken objects id r.main r.from r.own r.reached i.object i.held i.named)
+    (to-texts (text_of i.object.0) (text_of name) r.own i.named r.named)

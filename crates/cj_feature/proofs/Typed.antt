@@ -32,16 +32,16 @@ typed vertices templates m h =
     let o = m.1 in
     let name = needs (chars (codes "type")) object_type in
     let rules : distinct o ++ name o ++ may_have (chars (codes "geometry")) (geometries vertices templates) o
-        ++ may_have (chars (codes "children")) texts o ++ may_have (chars (codes "parents")) texts o ++ second_level o
-        ≡ [] =
+    ++ may_have (chars (codes "children")) texts o ++ may_have (chars (codes "parents")) texts o ++ second_level o
+    ≡ [] =
     (of_kind-none (λ u. distinct u ++ name u ++ may_have (chars (codes "geometry")) (geometries vertices templates) u
-            ++ may_have (chars (codes "children")) texts u ++ may_have (chars (codes "parents")) texts u
-            ++ second_level u) o is_object h).1 in
+    ++ may_have (chars (codes "children")) texts u ++ may_have (chars (codes "parents")) texts u
+    ++ second_level u) o is_object h).1 in
     let type_rule : name o ≡ [] =
-        (none-both _ _ (none-both _ _ (none-both _ _ (none-both _ _ (none-both _ _ rules).0).0).0).0).1 in
+    (none-both _ _ (none-both _ _ (none-both _ _ (none-both _ _ (none-both _ _ rules).0).0).0).0).1 in
     let has = by-member object_type o (member_of (chars (codes "type")) o) type_rule in
     let row : is_row (row_of has.0) ≡ true =
-        known-row (row_of has.0) has.0 (of_kind-none (λ u. known_type (row_of u) u) has.0 is_text has.2).1 in
+    known-row (row_of has.0) has.0 (of_kind-none (λ u. known_type (row_of u) u) has.0 is_text has.2).1 in
     rw has.1 row
 
 pub all-typed : (vertices : Option ℕ) (templates : Given) (t : Tree) → city_objects vertices templates t ≡ []
@@ -50,7 +50,7 @@ all-typed vertices templates t h =
     let each = λ (u : Tree). flat_map (λ m. city_object vertices templates m.1) (members_of u) in
     let rules : distinct t ++ each t ≡ [] = (of_kind-none (λ u. distinct u ++ each u) t is_object h).1 in
     none-each (λ m. city_object vertices templates m.1) is_typed (typed vertices templates) (members_of t)
-        (none-both _ _ rules).1
+    (none-both _ _ rules).1
 
 -- ---- vertices
 
@@ -86,14 +86,14 @@ three (x ∷ y ∷ z ∷ w ∷ ts) n h = let e : length (x ∷ y ∷ z ∷ w ∷
 vertex : (t : Tree) → of_length NotThree 3 whole_number t ≡ [] → is_vertex t ≡ true
 vertex t h =
     let rules : has_length NotThree 3 t ++ flat_map whole_number (items_of t) ≡ [] =
-        (of_kind-none (λ u. has_length NotThree 3 u ++ flat_map whole_number (items_of u)) t is_array h).1 in
+    (of_kind-none (λ u. has_length NotThree 3 u ++ flat_map whole_number (items_of u)) t is_array h).1 in
     let both = none-both (has_length NotThree 3 t) (flat_map whole_number (items_of t)) rules in
     three (items_of t) (by-length (nat_eq (length (items_of t)) 3) t both.0) both.1
 
 pub all-vertices : (t : Tree) → vertex_list t ≡ [] → list_all is_vertex (items_of t) ≡ true
 all-vertices t h =
     none-each (of_length NotThree 3 whole_number) is_vertex vertex (items_of t)
-        (of_kind-none (λ u. flat_map (of_length NotThree 3 whole_number) (items_of u)) t is_array h).1
+    (of_kind-none (λ u. flat_map (of_length NotThree 3 whole_number) (items_of u)) t is_array h).1
 
 -- ---- the numbers of a vertex
 
@@ -153,7 +153,7 @@ module _ (axis : ℕ) (t : Tree) (is : is_vertex t ≡ true) (within : axis < 3)
   pub not-past : drop axis (items_of t) ≡ [] → ⊥
   not-past none =
       absurd (cc (ap begins_whole (sym (ap (map whole_of) none) ∙ sym (drop-map whole_of axis (items_of t)))
-              ∙ three-begin axis (map whole_of (items_of t)) is within))
+      ∙ three-begin axis (map whole_of (items_of t)) is within))
 
   module _ (x : Tree) (rest : List Tree) (e : drop axis (items_of t) ≡ x ∷ rest) where
     pub whole-on : (w : ℤ) × (whole_of x ≡ Some w)
@@ -164,6 +164,9 @@ module _ (axis : ℕ) (t : Tree) (is : is_vertex t ≡ true) (within : axis < 3)
     pub word-on-if : (o : Option ℕ) → IfSome o (λ w. (n : ℕ) × IsWordOf w n × (whole_of x ≡ Some (pos n)))
         → IfSome o (λ w. (n : ℕ) × IsWordOf w n × (number_on axis (vertex_of t) ≡ pos n))
     word-on-if None read = read
-    word-on-if (Some w) read =
-        (read.0, read.1, number-begins axis (map whole_of (items_of t)) (map whole_of rest) (pos read.0)
-            (drop-map whole_of axis (items_of t) ∙ ap (map whole_of) e ∙ ap (λ o. o ∷ map whole_of rest) read.2))
+    word-on-if (Some w) read = (
+      read.0,
+      read.1,
+      number-begins axis (map whole_of (items_of t)) (map whole_of rest) (pos read.0)
+          (drop-map whole_of axis (items_of t) ∙ ap (map whole_of) e ∙ ap (λ o. o ∷ map whole_of rest) read.2),
+    )

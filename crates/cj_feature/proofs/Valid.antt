@@ -22,7 +22,7 @@ module _ (b : Bool) (u : Tree) (valid : transform b u ≡ []) where
   rules : distinct u ++ needs (chars (codes "scale")) (three_numbers b) u
       ++ needs (chars (codes "translate")) (three_numbers b) u ≡ []
   rules = (of_kind-none (λ v. distinct v ++ needs (chars (codes "scale")) (three_numbers b) v
-          ++ needs (chars (codes "translate")) (three_numbers b) v) u is_object valid).1
+      ++ needs (chars (codes "translate")) (three_numbers b) v) u is_object valid).1
 
   pub has-scale : needs (chars (codes "scale")) (three_numbers b) u ≡ []
   has-scale = (none-both _ _ (none-both _ _ rules).0).1

@@ -77,9 +77,9 @@ if-number false o x h = absurd (cc h)
 pub its-value : (t : Tree) (v : Number) → value_of t ≡ Some v → IsValue (spelling t) v
 its-value t v h =
     value-of-class (spelling t) (class (spelling t)) v
-        (if-number (is_number (kind_of t)) (value_by (class (spelling t))) v h)
+    (if-number (is_number (kind_of t)) (value_by (class (spelling t))) v h)
 
 pub its-whole : (t : Tree) (w : ℤ) → whole_of t ≡ Some w → (v : Number) × IsValue (spelling t) v × IsWhole v w
 its-whole t w h =
     whole-of-class (spelling t) (class (spelling t)) w
-        (if-number (is_number (kind_of t)) (whole_by (class (spelling t))) w h)
+    (if-number (is_number (kind_of t)) (whole_by (class (spelling t))) w h)

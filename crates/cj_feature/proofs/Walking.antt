@@ -26,8 +26,11 @@ module _ (objects : Node) (w v : Members) (m : Tree × Tree) (a : Among objects 
 
   pub later-among : members_line v ≡ members_line w → members_source v ≡ members_source w → Among objects v
   later-among l s =
-      record { among = λ n h. a.among n (subst (λ ms. Contains ms n) (sym e) (there m (members_left v) n h));
-          line = l ∙ a.line; source = s ∙ a.source }
+      record {
+        among = λ n h. a.among n (subst (λ ms. Contains ms n) (sym e) (there m (members_left v) n h));
+        line = l ∙ a.line;
+        source = s ∙ a.source;
+      }
 
 -- what holds of the next one and of each of the rest, holds of each
 pub each-more : {X : Type 0} (P : X → Type 0) (xs : List X) (x : X) (ys : List X) → xs ≡ x ∷ ys → P x
@@ -40,13 +43,13 @@ module _ (m n : Node) (line : line_of n ≡ line_of m) (source : source_of n ≡
   pub marked-beside : (t : Tree) → IsMarkedBy n t → IsMarkedBy m t
   marked-beside t h =
       subst (λ s. IsMarked (line_of m) (tokens_in s) t) source
-          (subst (λ l. IsMarked l (tokens_in (source_of n)) t) line h)
+      (subst (λ l. IsMarked l (tokens_in (source_of n)) t) line h)
 
   pub shown-beside : (k : ℕ) (t : Tree) → tree_at (line_of n) (spans_of (tokens_in (source_of n))) k ≡ t
       → tree_at (line_of m) (spans_of (tokens_in (source_of m))) k ≡ t
   shown-beside k t h =
       subst (λ s. tree_at (line_of m) (spans_of (tokens_in s)) k ≡ t) source
-          (subst (λ l. tree_at l (spans_of (tokens_in (source_of n))) k ≡ t) line h)
+      (subst (λ l. tree_at l (spans_of (tokens_in (source_of n))) k ≡ t) line h)
 
 -- one of a list is its first or one of the rest
 pub next-or : {X : Type 0} (xs : List X) (x : X) (ys : List X) (y : X) → xs ≡ x ∷ ys → Contains xs y → (x ≡ y)

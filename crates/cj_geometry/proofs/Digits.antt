@@ -39,9 +39,17 @@ two_read = of_digits (codes "2") 2 refl refl refl (omega arith)
 minus_one : IsValue (codes "-1") (number_of (negsuc 0) (pos 0))
 minus_one = record {
   written = record { negative = true; int = codes "1"; frac = []; exponent = pos 0 };
-  spells = record { minus = codes "-"; fraction = []; exp = []; minus_is = refl;
-      int_is = inr (omega arith, omega arith, tt); frac_is = inl (refl, refl); exp_is = inl (refl, refl); joined =
-      refl };
+  spells = record {
+    minus = codes "-";
+    fraction = [];
+    exp = [];
+    minus_is = refl;
+    int_is = inr (omega arith, omega arith, tt);
+    frac_is = inl (refl, refl);
+    exp_is = inl (refl, refl);
+    joined =
+        refl;
+  };
   same = record { coefficients = refl };
   normal = record { normal = λ e. absurd (omega (arith, e)) };
 }
@@ -49,8 +57,8 @@ minus_one = record {
 minus_one_read : (c : Class (codes "-1")) → Ok (Some (negsuc 0)) ≡ whole_answer c
 minus_one_read c =
     sym (answer_whole (codes "-1") (number_of (negsuc 0) (pos 0)) minus_one
-        (record { digits = omega arith; power_low = omega (arith, ints); power_high = omega (arith, ints) })
-        (negsuc 0) c
+    (record { digits = omega arith; power_low = omega (arith, ints); power_high = omega (arith, ints) })
+    (negsuc 0) c
     (record { same = record { coefficients = refl }; small = omega arith }))
 
 module _ (i j : ℕ) where
@@ -78,19 +86,19 @@ module _ (i j : ℕ) where
   pub number-zero : number (number_at (codes "0") i j) ≡ []
   number-zero =
       number-read [] (number_at (codes "0") i j) refl (codes "0") refl (Ok (Some (pos 0))) (Ok (Some (pos 0))) zero_read
-          refl
+      refl
 
   pub number-one : number (number_at (codes "1") i j) ≡ []
   number-one =
       number-read [] (number_at (codes "1") i j) refl (codes "1") refl (Ok (Some (pos 1))) (Ok (Some (pos 1))) one_read
-          refl
+      refl
 
   pub whole-zero : whole_of (number_at (codes "0") i j) ≡ Some (pos 0)
   whole-zero =
       whole-read [] (number_at (codes "0") i j) refl (codes "0") refl (Ok (Some (pos 0))) (Ok (Some (pos 0))) zero_read
-          refl
+      refl
 
   pub whole-one : whole_of (number_at (codes "1") i j) ≡ Some (pos 1)
   whole-one =
       whole-read [] (number_at (codes "1") i j) refl (codes "1") refl (Ok (Some (pos 1))) (Ok (Some (pos 1))) one_read
-          refl
+      refl

@@ -27,9 +27,14 @@ pub record IsRepeat (ns : List Tree) (f : Finding) : Type 0 where
 
 only_one : (b : Bool) (t : Tree) (f : Finding) → Contains (cond b (one DuplicateName t) []) f → (b ≡ true)
     × (f ≡ found_at (start_of t) DuplicateName)
-only_one true t f c =
-    (refl, elim (contains_cases (found_at (start_of t) DuplicateName) [] f c) [ inl e ↦ sym e | inr d ↦
-            absurd (contains_none f d) ])
+only_one true t f c = (
+  refl,
+  elim (contains_cases (found_at (start_of t) DuplicateName) [] f c) [
+    | inl e ↦ sym e
+    | inr d ↦
+        absurd (contains_none f d)
+  ],
+)
 only_one false t f c = absurd (contains_none f c)
 
 later_of : (name : Tree) (ms : List (Tree × Tree)) (f : Finding) → Contains (repeats_of name ms) f → (u : Tree)
@@ -38,7 +43,7 @@ later_of : (name : Tree) (ms : List (Tree × Tree)) (f : Finding) → Contains (
 later_of name [] f c = absurd (contains_none f c)
 later_of name (m ∷ ms) f c =
     elim (Contains-append_cases (cond (are_same_texts (text_of m.0) (text_of name)) (one DuplicateName m.0) [])
-        (repeats_of name ms) f c) [
+    (repeats_of name ms) f c) [
       | inl h ↦ let e = only_one (are_same_texts (text_of m.0) (text_of name)) m.0 f h in
           (m.0, contains_first m.0 (names_of ms), e.0, e.1)
       | inr h ↦ let r = later_of name ms f h in (r.0, contains_later m.0 (names_of ms) r.0 r.1, r.2, r.3)
@@ -61,13 +66,26 @@ repeat_is (m ∷ ms) o f c =
     elim (Contains-append_cases (repeats_of m.0 ms) (repeats ms) f c) [
       | inl h ↦
           let r = later_of m.0 ms f h in
-          record { earlier = m.0; later = r.0; first = contains_first m.0 (names_of ms);
-              second = contains_later m.0 (names_of ms) r.0 r.1; same = r.2; behind = names_behind m.0 ms o.0 r.0 r.1;
-              is = r.3 }
+          record {
+            earlier = m.0;
+            later = r.0;
+            first = contains_first m.0 (names_of ms);
+            second = contains_later m.0 (names_of ms) r.0 r.1;
+            same = r.2;
+            behind = names_behind m.0 ms o.0 r.0 r.1;
+            is = r.3;
+          }
       | inr h ↦
           let r = repeat_is ms o.1 f h in
-          record { earlier = r.earlier; later = r.later; first = contains_later m.0 (names_of ms) r.earlier r.first;
-              second = contains_later m.0 (names_of ms) r.later r.second; same = r.same; behind = r.behind; is = r.is }
+          record {
+            earlier = r.earlier;
+            later = r.later;
+            first = contains_later m.0 (names_of ms) r.earlier r.first;
+            second = contains_later m.0 (names_of ms) r.later r.second;
+            same = r.same;
+            behind = r.behind;
+            is = r.is;
+          }
     ]
 
 -- ---- a later name of the same text has a finding
@@ -88,10 +106,10 @@ told_of name (m ∷ ms) u c s =
         (found_at (start_of u) DuplicateName)
     here e =
         let b : are_same_texts (text_of m.0) (text_of name) ≡ true =
-            ap (λ x. are_same_texts (text_of x) (text_of name)) e ∙ s in
+        ap (λ x. are_same_texts (text_of x) (text_of name)) e ∙ s in
         subst (λ v. Contains (cond v (one DuplicateName m.0) []) (found_at (start_of u) DuplicateName)) (sym b)
         (subst (λ x. Contains (one DuplicateName m.0) (found_at (start_of x) DuplicateName)) e
-            (contains_first (found_at (start_of m.0) DuplicateName) []))
+        (contains_first (found_at (start_of m.0) DuplicateName) []))
 
 pub repeat_told : (ms : List (Tree × Tree)) → AreInOrder ms → (t u : Tree) → Contains (names_of ms) t
     → Contains (names_of ms) u → are_same_texts (text_of u) (text_of t) ≡ true → start_of t < start_of u
@@ -144,7 +162,7 @@ neighbours_among ms o floor [] cf a = All-nil (Contains (repeats ms))
 neighbours_among ms o floor (t ∷ ts) cf a =
     let c = All-head (Contains (names_of ms)) t ts a in
     All-append (Contains (repeats ms)) (repeat_of floor t) (neighbours (Some t) ts) (repeat_among ms o floor t cf c)
-        (neighbours_among ms o (Some t) ts c (All-tail (Contains (names_of ms)) t ts a))
+    (neighbours_among ms o (Some t) ts c (All-tail (Contains (names_of ms)) t ts a))
 
 -- ---- one walk after another
 
@@ -177,7 +195,7 @@ reached_more ms o old now next floor last ts r n e f =
       dealt = all_dealt (names_of ms) now floor ts n.no_gap n.ascend n.past r.dealt;
     } in
     subst (λ x. HasReached ms old x last) (sym e)
-        (subst (λ x. HasReached ms old (least now (neighbours floor ts)) x) (sym f) p)
+    (subst (λ x. HasReached ms old (least now (neighbours floor ts)) x) (sym f) p)
 
 told_all : (o : Option Finding) (fs : List Finding) → All (λ f. least o (f ∷ []) ≡ o) fs → least o fs ≡ o
 told_all o [] a = refl
@@ -189,13 +207,13 @@ pub all_reached : (ms : List (Tree × Tree)) → AreInOrder ms → (old now : Op
     → now ≡ least old (repeats ms)
 all_reached ms o old now floor r done =
     sym (told_all now (repeats ms) (λ k d l. told_at (get_or (repeats ms) k d) (at (repeats ms) k d l)))
-        ∙ ap (λ x. least x (repeats ms)) r.sum ∙ absorbed old r.told (repeats ms) r.right
+    ∙ ap (λ x. least x (repeats ms)) r.sum ∙ absorbed old r.told (repeats ms) r.right
   where
     told_at : (f : Finding) → Contains (repeats ms) f → least now (f ∷ []) ≡ now
     told_at f c =
         let p = repeat_is ms o f c in
         subst (λ g. least now (g ∷ []) ≡ now) (sym p.is)
-            (r.dealt p.earlier p.later p.first p.second p.same p.behind (done p.later p.second))
+        (r.dealt p.earlier p.later p.first p.second p.same p.behind (done p.later p.second))
 
     at : (fs : List Finding) (k : ℕ) (d : Finding) → k < length fs → Contains fs (get_or fs k d)
     at [] k d l = absurd (omega arith)
@@ -249,4 +267,4 @@ pub fewer_left : (ms : List (Tree × Tree)) (floor : Option Tree) (ts : List Tre
     → left_above (names_of ms) (last_of floor ts) < left_above (names_of ms) floor
 fewer_left ms floor ts t n c a =
     fewer (is_above floor) (is_above (last_of floor ts)) (names_of ms) t (λ u h. last_past floor ts n.ascend n.past u h)
-        (All-contains (Contains (names_of ms)) ts t n.named c) a (none_past floor ts t n.ascend c)
+    (All-contains (Contains (names_of ms)) ts t n.named c) a (none_past floor ts t n.ascend c)

@@ -33,10 +33,20 @@ sign_forth s (inr (inr e)) = (true, e)
 exp_forth : (s : List ℕ) → scanned.IsExp s → (e : ℤ) × read.IsExp e s
 exp_forth [] h = (pos 0, inl (refl, refl))
 exp_forth (b ∷ s) h =
-    let sign = sign_forth h.1.sign h.1.sign_is in
-    (signed sign.0 (digits_value h.1.digits),
-        inr (record { mark = b; negative = sign.0; sign = h.1.sign; digits = h.1.digits; mark_is = h.0;
-                sign_is = sign.1; digits_are = h.1.digits_are; joined = ap (λ x. b ∷ x) h.1.joined; value = refl }))
+    let sign = sign_forth h.1.sign h.1.sign_is in (
+      signed sign.0 (digits_value h.1.digits),
+      inr (record {
+        mark = b;
+        negative = sign.0;
+        sign = h.1.sign;
+        digits = h.1.digits;
+        mark_is = h.0;
+        sign_is = sign.1;
+        digits_are = h.1.digits_are;
+        joined = ap (λ x. b ∷ x) h.1.joined;
+        value = refl;
+      }),
+    )
 
 pub read_number : (s : List ℕ) → scanned.IsNumber s → IsNumber s
 read_number s n =
@@ -44,8 +54,16 @@ read_number s n =
     let frac = frac_forth n.frac n.frac_is in
     let exp = exp_forth n.exp n.exp_is in (
       record { negative = minus.0; int = n.int; frac = frac.0; exponent = exp.0 },
-      record { minus = n.minus; fraction = n.frac; exp = n.exp; minus_is = minus.1; int_is = n.int_is; frac_is = frac.1;
-          exp_is = exp.1; joined = n.joined },
+      record {
+        minus = n.minus;
+        fraction = n.frac;
+        exp = n.exp;
+        minus_is = minus.1;
+        int_is = n.int_is;
+        frac_is = frac.1;
+        exp_is = exp.1;
+        joined = n.joined;
+      },
     )
 
 -- ---- what is read as a number is scanned as one
@@ -67,16 +85,30 @@ exp_back : (e : ℤ) (s : List ℕ) → read.IsExp e s → scanned.IsExp s
 exp_back e s (inl (z, q)) = subst scanned.IsExp (sym q) tt
 exp_back e s (inr p) =
     let rest : scanned.IsExpRest (p.sign ++ p.digits) =
-        record { sign = p.sign; digits = p.digits; sign_is = sign_back p.negative p.sign p.sign_is;
-            digits_are = p.digits_are; joined = refl } in
+    record {
+      sign = p.sign;
+      digits = p.digits;
+      sign_is = sign_back p.negative p.sign p.sign_is;
+      digits_are = p.digits_are;
+      joined = refl;
+    } in
     let is : scanned.IsExp (p.mark ∷ (p.sign ++ p.digits)) = (p.mark_is, rest) in
     subst scanned.IsExp (sym p.joined) is
 
 pub scanned_number : (s : List ℕ) → IsNumber s → scanned.IsNumber s
 scanned_number s (w, n) =
-    record { minus = n.minus; int = w.int; frac = n.fraction; exp = n.exp;
-        minus_is = minus_back w.negative n.minus n.minus_is; int_is = n.int_is; frac_is =
-        frac_back w.frac n.fraction n.frac_is; exp_is = exp_back w.exponent n.exp n.exp_is; joined = n.joined }
+    record {
+      minus = n.minus;
+      int = w.int;
+      frac = n.fraction;
+      exp = n.exp;
+      minus_is = minus_back w.negative n.minus n.minus_is;
+      int_is = n.int_is;
+      frac_is =
+          frac_back w.frac n.fraction n.frac_is;
+      exp_is = exp_back w.exponent n.exp n.exp_is;
+      joined = n.joined;
+    }
 
 pub one_grammar : (s : List ℕ) → IsScalar Number s ↔ IsNumber s
 one_grammar s = (read_number s, scanned_number s)
@@ -110,7 +142,7 @@ module _ {b : List ℕ} where
       → Contains (list_items (add_item ts t)) v → Spelled b v
   last_item ts t v last earlier h =
       let split : Contains (list_items ts) v ⊎ (t ≡ v) =
-          Contains-push_cases (list_items ts) t v (subst (λ us. Contains us v) (items-add ts t) h) in
+      Contains-push_cases (list_items ts) t v (subst (λ us. Contains us v) (items-add ts t) h) in
       elim split [ inl k ↦ earlier k | inr e ↦ subst (Spelled b) e last ]
 
   led_spelled : {i j : ℕ} {ts : Items} → LedItems b i j ts → (v : Tree) → Contains (list_items ts) v → Spelled b v
@@ -121,8 +153,8 @@ module _ {b : List ℕ} where
       → (Contains (list_members ms) m → Spelled b m.1) → Contains (list_members (add_member ms n t)) m → Spelled b m.1
   last_value ms n t m last earlier h =
       let split : Contains (list_members ms) m ⊎ ((scalar Text n, t) ≡ m) =
-          Contains-push_cases (list_members ms) (scalar Text n, t) m
-              (subst (λ us. Contains us m) (members-add ms n t) h) in
+      Contains-push_cases (list_members ms) (scalar Text n, t) m
+      (subst (λ us. Contains us m) (members-add ms n t) h) in
       elim split [ inl k ↦ earlier k | inr e ↦ subst (λ x. Spelled b x.1) e last ]
 
   led_members_spelled : {i j : ℕ} {ms : Members} → LedMembers b i j ms → (m : Tree × Tree)

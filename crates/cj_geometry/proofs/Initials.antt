@@ -49,15 +49,16 @@ still_free taken s i below free =
     not_same e =
         let yes : get_or (slice_set taken s true) s false ≡ true = get_or-set_same taken s true false below in
         let no : get_or (slice_set taken s true) s false ≡ false =
-            subst (λ k. get_or (slice_set taken s true) k false ≡ false) e free in
+        subst (λ k. get_or (slice_set taken s true) k false ≡ false) e free in
         cc
 
 all_still_free : (taken : List Bool) (s : ℕ) → s < length taken → (ms : List (Tree × Tree))
     → AreFree (slice_set taken s true) ms → AreFree taken ms
 all_still_free taken s below [] free = tt
-all_still_free taken s below (m ∷ ms) free =
-    ((free.0.0, free.0.1, (still_free taken s (free.0.0 % 64) below free.0.2).1),
-        all_still_free taken s below ms free.1)
+all_still_free taken s below (m ∷ ms) free = (
+  (free.0.0, free.0.1, (still_free taken s (free.0.0 % 64) below free.0.2).1),
+  all_still_free taken s below ms free.1,
+)
 
 -- what are apart are free
 all_free : (taken : List Bool) (ms : List (Tree × Tree)) → 64 ≤ length taken → are_apart taken ms ≡ true
@@ -71,9 +72,12 @@ all_free taken (m ∷ ms) room h =
         → ((more : List Bool) → 64 ≤ length more → are_apart more ms ≡ true → AreFree more ms) → AreFree taken (m ∷ ms)
     by_slot c true e h is rest = absurd (false≢true h)
     by_slot c false e h is rest =
-        let wide : 64 ≤ length (slice_set taken (c % 64) true) = omega (arith, length-set taken (c % 64) true, room) in
-        ((c, is, e), all_still_free taken (c % 64) (omega (arith, room)) ms
-            (rest (slice_set taken (c % 64) true) wide h))
+        let wide : 64 ≤ length (slice_set taken (c % 64) true) =
+        omega (arith, length-set taken (c % 64) true, room) in (
+          (c, is, e),
+          all_still_free taken (c % 64) (omega (arith, room)) ms
+              (rest (slice_set taken (c % 64) true) wide h),
+        )
 
     by_code : (o : Option ℕ) → then_apart o taken (λ more. are_apart more ms) ≡ true → first_code_of m.0 ≡ o
         → ((more : List Bool) → 64 ≤ length more → are_apart more ms ≡ true → AreFree more ms) → AreFree taken (m ∷ ms)
@@ -91,7 +95,7 @@ others t u c d is other apart = by_test (are_same_texts (text_of u) (text_of t))
     by_test : (b : Bool) → are_same_texts (text_of u) (text_of t) ≡ b → b ≡ false
     by_test true e =
         let same : first_code_of u ≡ first_code_of t =
-            ap (λ o. option_and_then head o) (same_texts (text_of u) (text_of t) e) in
+        ap (λ o. option_and_then head o) (same_texts (text_of u) (text_of t) e) in
         let codes : Some d ≡ Some c = sym other ∙ same ∙ is in
         absurd (apart (ap (λ k. k % 64) (some-is codes)))
     by_test false e = refl
@@ -120,7 +124,7 @@ distinct_apart taken (m ∷ ms) room h =
         let more = slice_set taken (c % 64) true in
         let wide : 64 ≤ length more = omega (arith, length-set taken (c % 64) true, room) in
         let first : repeats_of m.0 ms ≡ [] =
-            none_repeats m.0 c is taken (omega (arith, room)) ms (all_free more ms wide h) in
+        none_repeats m.0 c is taken (omega (arith, room)) ms (all_free more ms wide h) in
         ap (λ fs. fs ++ repeats ms) first ∙ rest more wide h
 
     by_code : (o : Option ℕ) → then_apart o taken (λ more. are_apart more ms) ≡ true → first_code_of m.0 ≡ o

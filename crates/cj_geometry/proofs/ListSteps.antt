@@ -52,8 +52,11 @@ pub has_place : (places step : ℕ) (ts left : List Tree) (t : Tree) (rest : Lis
     → place < places
 has_place places step ts left t rest sizes place until passed w e z =
     let more = ap length e in let at = w.next in let below = w.below in let few = w.few in
-    elim (cases_lt place places) [ inl l ↦ l | inr g ↦ let high = mul-le places step place step g (omega arith) in
-        absurd (omega arith) ]
+    elim (cases_lt place places) [
+      | inl l ↦ l
+      | inr g ↦ let high = mul-le places step place step g (omega arith) in
+          absurd (omega arith)
+    ]
 
 -- it is noted
 pub noted_one : (places step : ℕ) (ts left : List Tree) (t : Tree) (rest : List Tree) (sizes : List ℕ)
@@ -117,8 +120,8 @@ pub on_then : (places step : ℕ) (ts left : List Tree) (t : Tree) (rest : List 
 on_then places step ts left t rest sizes sizes' place place' until until' sum own w e z s p u o =
     let low = steps_some places step (length ts) w.below in
     let noted =
-        passes places step ts left t rest (set sizes place sum) (place + 1) step sum
-            (noted_one places step ts left t rest sizes place until sum w e z) e (omega arith) in
+    passes places step ts left t rest (set sizes place sum) (place + 1) step sum
+    (noted_one places step ts left t rest sizes place until sum w e z) e (omega arith) in
     rw (s, p, u, o) noted
 
 pub on_else : (places step : ℕ) (ts left : List Tree) (t : Tree) (rest : List Tree) (sizes sizes' : List ℕ)

@@ -22,8 +22,11 @@ comm o fs gs = sym (least-append o fs gs) ∙ least-swap o fs gs ∙ least-appen
 -- findings that are among others add nothing to them
 same_beside : (ks fs gs : List Finding) → All (Contains gs) fs → HaveSame (ks ++ gs) (ks ++ (fs ++ gs))
 same_beside ks fs gs a = λ f. (
-  λ c. elim (Contains-append_cases ks gs f c) [ inl h ↦ Contains-append_left ks (fs ++ gs) f h | inr h ↦
-      Contains-append_right ks (fs ++ gs) f (Contains-append_right fs gs f h) ],
+  λ c. elim (Contains-append_cases ks gs f c) [
+    | inl h ↦ Contains-append_left ks (fs ++ gs) f h
+    | inr h ↦
+        Contains-append_right ks (fs ++ gs) f (Contains-append_right fs gs f h)
+  ],
   λ c. elim (Contains-append_cases ks (fs ++ gs) f c) [
     | inl h ↦ Contains-append_left ks gs f h
     | inr h ↦ Contains-append_right ks gs f
@@ -113,7 +116,7 @@ repeat_shown : (p t : Tree) → are_same_texts (text_of t) (text_of p) ≡ true 
 repeat_shown p t s l =
     let e : nat_lt (start_of p) (start_of t) ≡ true = grind (arith, nat_tests) in
     ap (λ b. cond (b && nat_lt (start_of p) (start_of t)) (one DuplicateName t) []) s
-        ∙ ap (λ b. cond b (one DuplicateName t) []) e
+    ∙ ap (λ b. cond b (one DuplicateName t) []) e
 
 -- u repeats t, and is above the floor and no later than the next name n
 next_told : (ns : List Tree) (o : Option Finding) (floor : Option Tree) (n t u : Tree)
@@ -133,10 +136,10 @@ next_told ns o (Some p) n t u f ct cu s l a h =
     let e : text_of p ≡ text_of n = text_between t p n (tu_text ∙ tie.text) pt pn in
     let same : are_same_texts (text_of n) (text_of p) ≡ true =
     ap (λ x. are_same_texts x (text_of p)) (sym tie.text)
-        ∙ ap (λ x. are_same_texts (text_of u) x) (e ∙ sym tie.text ∙ sym tu_text) ∙ s in
+    ∙ ap (λ x. are_same_texts (text_of u) x) (e ∙ sym tie.text ∙ sym tu_text) ∙ s in
     let r = repeat_shown p n same (start_by_earlier p n e pn) in
     told_as (least o (repeat_of (Some p) n)) n u (sym tie.start)
-        (subst (λ fs. IsTold (least o fs) n) (sym r) (told_now o n))
+    (subst (λ fs. IsTold (least o fs) n) (sym r) (told_now o n))
 
 dealt_more : (ns : List Tree) (o : Option Finding) (floor : Option Tree) (n : Tree)
     → ((x : Tree) → Contains ns x → is_above floor x ≡ true → is_earlier x n ≡ false) → AreDealt ns o floor
@@ -173,9 +176,9 @@ all_dealt ns o floor [] g a p d = d
 all_dealt ns o floor (t ∷ ts) g a p d =
     let e = dealt_more ns o floor t (front ns floor t ts g a.0) d in
     let r = all_dealt ns (least o (repeat_of floor t)) (Some t) ts
-        (gap_on ns floor t ts g (All-head (IsPast floor) t ts p)) a.1 (past_rest t ts a.0) e in
+    (gap_on ns floor t ts g (All-head (IsPast floor) t ts p)) a.1 (past_rest t ts a.0) e in
     subst (λ x. AreDealt ns x (last_of (Some t) ts)) (sym (least-append o (repeat_of floor t) (neighbours (Some t) ts)))
-        r
+    r
 
 -- ---- the last of them
 
@@ -184,8 +187,11 @@ pub none_past : (floor : Option Tree) (ts : List Tree) (u : Tree) → Ascend ts 
     → is_above (last_of floor ts) u ≡ false
 none_past floor [] u a c = absurd (contains_none u c)
 none_past floor (t ∷ []) u a c =
-    elim (contains_cases t [] u c) [ inl e ↦ subst (λ x. is_earlier t x ≡ false) e (earlier_itself t) | inr d ↦
-        absurd (contains_none u d) ]
+    elim (contains_cases t [] u c) [
+      | inl e ↦ subst (λ x. is_earlier t x ≡ false) e (earlier_itself t)
+      | inr d ↦
+          absurd (contains_none u d)
+    ]
 none_past floor (t ∷ v ∷ ts) u a c =
     elim (contains_cases t (v ∷ ts) u c) [
       | inl e ↦ subst (λ x. is_above (last_of (Some v) ts) x ≡ false) e

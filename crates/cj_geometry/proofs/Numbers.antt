@@ -144,8 +144,8 @@ module _ (line : List ℕ) (t : Tree) (kind : kind_of t ≡ Number) where
       → (e ≡ OutOfRange → IsNumberOutOfRange (spelling_of line t)) → number t ≡ one (fault_reason e) t
   number-fault e none out =
       rw kind (number-class (spelling t) t (class (spelling t))
-          ∙ ap (number-by t) (answer_fault (spelling t) e (class (spelling t)) (rw spelled at none)
-              (rw spelled at out)))
+      ∙ ap (number-by t) (answer_fault (spelling t) e (class (spelling t)) (rw spelled at none)
+      (rw spelled at out)))
 
   -- with what a call has read of the spelling, which is s
   module _ (s : List ℕ) (same : s ≡ spelling_of line t) (r q : Result (Option ℤ) DecimalFault)
@@ -210,7 +210,7 @@ module _ (line b : List ℕ) (t : Tree) (start stop : ℕ) (e : b ≡ line) (ord
   few-there n few answer =
       let P : List ℕ → Type 0 = λ s. IsFewDigits (slice_range s start stop) in
       read-there (pos n) (kind-at line start stop order (int-first (slice_range line start stop) (subst P e few).0))
-          answer
+      answer
 
   pub signed-there : (w : ℤ) → IsFewSigned (slice_range b start stop)
       → ((c : Class (slice_range b start stop)) → whole_answer c ≡ Ok (Some w)) → whole_of t ≡ Some w

@@ -28,7 +28,7 @@ pub has-number : (n : ℕ) → n < 33 → (row_numbered n).number ≡ n
 unfolding always
 has-number n small =
     eqb-true (row_numbered n).number n
-        (agree_below_at (λ k. nat_eq (row_numbered k).number k) always 33 n each-number small)
+    (agree_below_at (λ k. nat_eq (row_numbered k).number k) always 33 n each-number small)
 
 each-level : agree_below (λ k. (row_numbered k).is_second) (λ k. nat_le 16 k) 33 ≡ true
 unfolding object_types
@@ -208,8 +208,8 @@ is-named : (n : ℕ) → n < 33 → row_with object_types (chars (row_numbered n
 unfolding always
 is-named n small =
     row-is (row_with object_types (chars (row_numbered n).name)) (row_numbered n)
-        (agree_below_at (λ k. is_row (row_with object_types (chars (row_numbered k).name)) (row_numbered k)) always 33 n
-        each-named small)
+    (agree_below_at (λ k. is_row (row_with object_types (chars (row_numbered k).name)) (row_numbered k)) always 33 n
+    each-named small)
 
 -- ---- the type of a name
 

@@ -85,7 +85,7 @@ same_number m n h =
           let e : nat_lt m n ≡ false = grind (arith, nat_tests) in
           let d : nat_eq m n ≡ false = grind (arith, nat_tests) in
           let f : Greater ≡ Equal =
-              sym (ap (λ b. cond b Less (cond (nat_eq m n) Equal Greater)) e ∙ ap (λ b. cond b Equal Greater) d) ∙ h in
+          sym (ap (λ b. cond b Less (cond (nat_eq m n) Equal Greater)) e ∙ ap (λ b. cond b Equal Greater) d) ∙ h in
           cc
     ]
 
@@ -102,7 +102,7 @@ pub record AreTied (t u : Tree) : Type 0 where
 pub tied : (t u : Tree) → is_earlier t u ≡ false → is_earlier u t ≡ false → AreTied t u
 tied t u h k =
     let e = then_equal (compare_texts (text_of t) (text_of u)) (nat_cmp (start_of t) (start_of u))
-        (tied_by t u (compare_names t u) refl h k) in
+    (tied_by t u (compare_names t u) refl h k) in
     record { text = same_by_order (text_of t) (text_of u) e.0; start = same_number (start_of t) (start_of u) e.1 }
 
 -- ---- names of one text
@@ -121,7 +121,7 @@ number_less m n h =
       | inr g ↦
           let e : nat_lt m n ≡ false = grind (arith, nat_tests) in
           let f : cond (nat_eq m n) Equal Greater ≡ Less =
-              sym (ap (λ b. cond b Less (cond (nat_eq m n) Equal Greater)) e) ∙ h in
+          sym (ap (λ b. cond b Less (cond (nat_eq m n) Equal Greater)) e) ∙ h in
           absurd (never_less (nat_eq m n) f)
     ]
   where
@@ -133,21 +133,21 @@ number_less m n h =
 pub earlier_by_start : (t u : Tree) → text_of t ≡ text_of u → start_of t < start_of u → is_earlier t u ≡ true
 earlier_by_start t u e h =
     ap (λ r. is_lt (ordering_then r (nat_cmp (start_of t) (start_of u)))) (text_itself (text_of t) (text_of u) e)
-        ∙ ap is_lt (less_number (start_of t) (start_of u) h)
+    ∙ ap is_lt (less_number (start_of t) (start_of u) h)
 
 pub start_by_earlier : (t u : Tree) → text_of t ≡ text_of u → is_earlier t u ≡ true → start_of t < start_of u
 start_by_earlier t u e h =
     number_less (start_of t) (start_of u)
-        (less_is _ (sym (ap (λ r. is_lt (ordering_then r (nat_cmp (start_of t) (start_of u))))
-                (text_itself (text_of t) (text_of u) e)) ∙ h))
+    (less_is _ (sym (ap (λ r. is_lt (ordering_then r (nat_cmp (start_of t) (start_of u))))
+    (text_itself (text_of t) (text_of u) e)) ∙ h))
 
 -- what stands between two names of one text has it too
 between_by : (t u v : Tree) (r : Ordering) → compare_texts (text_of u) (text_of v) ≡ r → text_of t ≡ text_of v
     → is_earlier u t ≡ false → is_earlier u v ≡ true → text_of u ≡ text_of v
 between_by t u v Less e s h k =
     absurd (both_sides (ap (λ x.
-                is_lt (ordering_then (compare_texts (text_of u) x) (nat_cmp (start_of u) (start_of t)))) s
-            ∙ ap (λ r. is_lt (ordering_then r (nat_cmp (start_of u) (start_of t)))) e) h)
+    is_lt (ordering_then (compare_texts (text_of u) x) (nat_cmp (start_of u) (start_of t)))) s
+    ∙ ap (λ r. is_lt (ordering_then r (nat_cmp (start_of u) (start_of t)))) e) h)
 between_by t u v Equal e s h k = same_by_order (text_of u) (text_of v) e
 between_by t u v Greater e s h k =
     absurd (both_sides k (ap (λ r. is_lt (ordering_then r (nat_cmp (start_of u) (start_of v)))) e))

@@ -18,8 +18,8 @@ told_before o f t e l r =
     let a : nat_lt (start_of t) f.place ≡ false = grind (arith, nat_tests) in
     let b : nat_eq (start_of t) f.place ≡ false = grind (arith, nat_tests) in
     let c : is_before (found_at (start_of t) r) f ≡ false =
-        or_from (nat_lt (start_of t) f.place) (nat_eq (start_of t) f.place && nat_lt (code_of r) (code_of f.reason)) a
-            (ap (λ v. v && nat_lt (code_of r) (code_of f.reason)) b) in
+    or_from (nat_lt (start_of t) f.place) (nat_eq (start_of t) f.place && nat_lt (code_of r) (code_of f.reason)) a
+    (ap (λ v. v && nat_lt (code_of r) (code_of f.reason)) b) in
     ap (λ x. least x (one r t)) e ∙ ap (λ v. cond v (Some (found_at (start_of t) r)) (Some f)) c ∙ sym e
 
 -- the test of one text tells that it is one

@@ -90,7 +90,7 @@ holds_pushed s names left floor ceiling es e i h = record {
         → Contains (names_in s (es ++ e ∷ [])) u ⊎ Contains left u
     still u (inl c) =
         inl (subst (λ ts. Contains ts u) (sym (map-append (name_in s) es (e ∷ [])))
-            (Contains-append_left (names_in s es) (name_in s e ∷ []) u c))
+        (Contains-append_left (names_in s es) (name_in s e ∷ []) u c))
     still u (inr c) =
         elim (contains_cases (name_in s e) left u c) [
           | inl f ↦ inl (subst (λ x. Contains (names_in s (es ++ e ∷ [])) x) f
@@ -104,13 +104,13 @@ front_among : (s : Source) (es front : List WordedName) (next : WordedName) → 
     → (e : WordedName) → Contains front e → Contains es e
 front_among s es front next a e c =
     Contains-permutation _ es e (IsPermutation-sym es _ a.permutation)
-        (Contains-append_left front (next ∷ a.others) e c)
+    (Contains-append_left front (next ∷ a.others) e c)
 
 pub next_among : (s : Source) (es front : List WordedName) (next : WordedName) → AreLeast s es front next
     → Contains es next
 next_among s es front next a =
     Contains-permutation _ es next (IsPermutation-sym es _ a.permutation)
-        (Contains-append_right front (next ∷ a.others) next (contains_first next a.others))
+    (Contains-append_right front (next ∷ a.others) next (contains_first next a.others))
 
 -- what comes before one that is not past the ceiling comes before the ceiling
 below_more : (ceiling : Option Tree) (t u : Tree) → is_past ceiling u ≡ false → is_earlier t u ≡ true
@@ -133,8 +133,13 @@ holds_least s names left floor ceiling es front next h a = record {
     held_on e c =
         let i = All-contains (IsHeld s names floor ceiling) es e h.held (front_among s es front next a e c) in
         let l = All-contains (λ d. is_lt (compare_worded s next d) ≡ false) front e a.before c in
-        record { word = i.word; named = i.named; above = i.above; under = sym (less_as_earlier s next e n.word i.word)
-            ∙ l }
+        record {
+          word = i.word;
+          named = i.named;
+          above = i.above;
+          under = sym (less_as_earlier s next e n.word i.word)
+              ∙ l;
+        }
 
     kept : (t : Tree) (e : WordedName) → is_earlier t (name_in s next) ≡ true → Contains es e → name_in s e ≡ t
         → Contains (names_in s front) t
@@ -148,7 +153,7 @@ holds_least s names left floor ceiling es front next h a = record {
                 (earlier_itself (name_in s next)))
             | inr o ↦ absurd (both_sides b'
                 (sym (less_as_earlier s e next i.word n.word)
-                    ∙ All-contains (λ d. is_lt (compare_worded s d next) ≡ false) a.others e a.behind o))
+                ∙ All-contains (λ d. is_lt (compare_worded s d next) ≡ false) a.others e a.behind o))
           ]
         ]
 
@@ -203,13 +208,16 @@ gathered_more s names left floor ceiling next e t es new f w a b o g =
     by_room (inl p) h =
         subst (λ x. HasGathered s names left floor next x) (sym p.0)
         (subst (λ x. HasGathered s names left floor x (es ++ e ∷ [])) (sym p.1)
-            (record { holds = h; word = g.word; rest = rest }))
+        (record { holds = h; word = g.word; rest = rest }))
     by_room (inr p) h =
         let n = All-contains (IsHeld s names floor (limit_in s ceiling)) (es ++ e ∷ []) p.0 h.held
-            (next_among s (es ++ e ∷ []) new p.0 p.2) in
+        (next_among s (es ++ e ∷ []) new p.0 p.2) in
         subst (λ x. HasGathered s names left floor x new) (sym p.1)
-            (record { holds = holds_least s names left floor (limit_in s ceiling) (es ++ e ∷ []) new p.0 h p.2;
-                word = n.word; rest = rest })
+        (record {
+          holds = holds_least s names left floor (limit_in s ceiling) (es ++ e ∷ []) new p.0 h p.2;
+          word = n.word;
+          rest = rest;
+        })
 
 -- ---- a walk has ended
 
@@ -235,8 +243,8 @@ gap_none s ns floor ceiling es fs h p = λ t c a. by_side (is_below ceiling t) t
     by_side true t b c a = inl (moved t (none_left t (h.whole t c a b)))
     by_side false t b c a =
         inr (All-map (λ u. is_earlier t u ≡ false) (name_in s) fs
-            (All-permutation (λ e. is_earlier t (name_in s e) ≡ false) es fs p
-                (λ k d l. behind ceiling t (name_in s (get_or es k d)) b (h.held k d l).under)))
+        (All-permutation (λ e. is_earlier t (name_in s e) ≡ false) es fs p
+        (λ k d l. behind ceiling t (name_in s (get_or es k d)) b (h.held k d l).under)))
 
 pub are_next : (s : Source) (ms : List (Tree × Tree)) (floor ceiling : Option Tree) (es fs : List WordedName)
     → HoldNames s (names_of ms) [] floor ceiling es → IsPermutation es fs → Ascend (names_in s fs)
@@ -258,8 +266,8 @@ pub none_left : (s : Source) (ms : List (Tree × Tree)) (floor : Option Tree) (e
 none_left s ms floor es fs h p a t c =
     let n = are_next s ms floor None es fs h p a in
     none_true (is_above (last_of floor (names_in s fs)) t)
-        (λ k. both_sides k (none_past floor (names_in s fs) t a
-            (there (h.whole t c (last_past floor (names_in s fs) a n.past t k) refl))))
+    (λ k. both_sides k (none_past floor (names_in s fs) t a
+    (there (h.whole t c (last_past floor (names_in s fs) a n.past t k) refl))))
   where
     there : Contains (names_in s es) t ⊎ Contains [] t → Contains (names_in s fs) t
     there (inl c) = let r = contains_unmap (name_in s) es t c in
@@ -285,7 +293,7 @@ first_held s ms floor ceiling [] fs h p a l = absurd (omega arith)
 first_held s ms floor ceiling (e ∷ es) fs h p a l =
     let i = All-head (IsHeld s (names_of ms) floor ceiling) e es h.held in
     fewer_left ms floor (names_in s fs) (name_in s e) (are_next s ms floor ceiling (e ∷ es) fs h p a)
-        (contains_map (name_in s) fs e (Contains-permutation (e ∷ es) fs e p (contains_first e es))) i.above
+    (contains_map (name_in s) fs e (Contains-permutation (e ∷ es) fs e p (contains_first e es))) i.above
 
 pub none_there : (o : Option WordedName) → is_some o ≡ false → o ≡ None
 none_there None h = refl

@@ -13,7 +13,7 @@ pub names-on : (all rest : List (Tree × Tree)) (m : Tree × Tree) (o p total : 
     → least p (repeats rest) ≡ total
 names-on all rest m o p total h e q =
     ap (λ x. least x (repeats rest)) q ∙ sym (least-append o (repeats_of m.0 rest) (repeats rest))
-        ∙ sym (ap (λ xs. least o (repeats xs)) e) ∙ h
+    ∙ sym (ap (λ xs. least o (repeats xs)) e) ∙ h
 
 -- one value more, with the part beside it
 pub beside-on : (rule : Tree → Option Tree → List Finding) (all rest parts : List Tree) (t : Tree) (b : Option Tree)
@@ -23,5 +23,5 @@ pub beside-on : (rule : Tree → Option Tree → List Finding) (all rest parts :
 beside-on rule all rest parts t b left o p total h e f g q =
     let one : least o (beside rule (t ∷ rest) parts) ≡ total = sym (ap (λ xs. least o (beside rule xs parts)) e) ∙ h in
     let two : least (least o (rule t (first_part parts))) (beside rule rest (other_parts parts)) ≡ total =
-        sym (least-append o (rule t (first_part parts)) (beside rule rest (other_parts parts))) ∙ one in
+    sym (least-append o (rule t (first_part parts)) (beside rule rest (other_parts parts))) ∙ one in
     rw (q, f, g) two

@@ -27,5 +27,5 @@ pub values-one : (m : Option ℕ) (d : ℕ) (t : Tree) (b : Option Tree) → d �
 values-one m d t b h k =
     let low : d - 1 ≡ 0 = omega arith in
     values-array m d t b (omega arith) k
-        ∙ ap (λ e. other_count t b ++ beside (values m e) (items_of t) (parts_of b)) low
-        ∙ ap (λ fs. other_count t b ++ fs) (beside-entries m (items_of t) (parts_of b))
+    ∙ ap (λ e. other_count t b ++ beside (values m e) (items_of t) (parts_of b)) low
+    ∙ ap (λ fs. other_count t b ++ fs) (beside-entries m (items_of t) (parts_of b))

@@ -22,5 +22,5 @@ answer-kept ts (o ∷ os) zero a right is = let others : map told_by os ≡ map 
 answer-kept ts (o ∷ os) (suc k) a right is =
     let others : map told_by os ≡ map (lod_for ts) os = cc in
     let kept : map told_by (set os k (Some a)) ≡ map (lod_for ts) (set os k (Some a)) =
-        answer-kept ts os k a others is in
+    answer-kept ts os k a others is in
     cc

@@ -48,13 +48,13 @@ words_first t u v w e f =
       | inr (inl l) ↦
           let h : compare_texts (text_of t) (text_of u) ≡ Less = less_by_words (text_of t) (text_of u) (omega arith) in
           ap (λ r. ordering_then r (compare_names t u)) (less_numbers v w l)
-              ∙ sym (ap (λ r. ordering_then r (nat_cmp (start_of t) (start_of u))) h)
+          ∙ sym (ap (λ r. ordering_then r (nat_cmp (start_of t) (start_of u))) h)
       | inr (inr g) ↦
           let h : compare_texts (text_of u) (text_of t) ≡ Less = less_by_words (text_of u) (text_of t) (omega arith) in
           let k : compare_texts (text_of t) (text_of u) ≡ Greater =
-              (options_total nat_list_cmp_total).antisymm (text_of t) (text_of u) ∙ ap ordering_reverse h in
+          (options_total nat_list_cmp_total).antisymm (text_of t) (text_of u) ∙ ap ordering_reverse h in
           ap (λ r. ordering_then r (compare_names t u)) (greater_numbers v w g)
-              ∙ sym (ap (λ r. ordering_then r (nat_cmp (start_of t) (start_of u))) k)
+          ∙ sym (ap (λ r. ordering_then r (nat_cmp (start_of t) (start_of u))) k)
     ]
 
 pub worded_as_names : (s : Source) (d e : WordedName) → IsWorded s d → IsWorded s e
@@ -90,10 +90,11 @@ pub ascend_by : (s : Source) (es : List WordedName) → All (IsWorded s) es
     → ((i j : ℕ) (d : WordedName) → i ≤ j → j < length es → is_lt (compare_worded s (get_or es j d) (get_or es i d))
     ≡ false) → Ascend (names_in s es)
 ascend_by s [] a f = tt
-ascend_by s (e ∷ es) a f =
-    (each_later s e es (All-head (IsWorded s) e es a) (All-tail (IsWorded s) e es a)
-        (λ k d l. f 0 (suc k) d (omega arith) (omega arith)),
-        ascend_by s es (All-tail (IsWorded s) e es a) (λ i j d h l. f (suc i) (suc j) d (omega arith) (omega arith)))
+ascend_by s (e ∷ es) a f = (
+  each_later s e es (All-head (IsWorded s) e es a) (All-tail (IsWorded s) e es a)
+      (λ k d l. f 0 (suc k) d (omega arith) (omega arith)),
+  ascend_by s es (All-tail (IsWorded s) e es a) (λ i j d h l. f (suc i) (suc j) d (omega arith) (omega arith)),
+)
 
 pub ascend_sorted : (s : Source) (es : List WordedName) → All (IsWorded s) es
     → IsSortedBy (λ d e. is_lt (compare_worded s d e)) es → Ascend (names_in s es)
@@ -107,7 +108,7 @@ pub compares_as : {X F : Type 0} (R : X → X → Ordering) {g : Mut F (Bor X ×
     × (f' ≡ f)) → ComparesAs g (λ d e. is_lt (R d e)) f
 compares_as R {g = g} {f = f} h =
     always_returns_same g (λ a r. is_lt r ≡ is_lt (R a.0.now a.1.0.now)) f
-        (λ a r f' k. (ap is_lt (h a r f' k).0, (h a r f' k).1))
+    (λ a r f' k. (ap is_lt (h a r f' k).0, (h a r f' k).1))
 
 -- a copy of the front of a split has the least of all
 pub least_copied : (s : Source) (all front others copy : List WordedName) (next : WordedName) → copy ≡ front
@@ -115,4 +116,4 @@ pub least_copied : (s : Source) (all front others copy : List WordedName) (next 
     → IsSplitAroundBy (λ d e. is_lt (compare_worded s d e)) front next others → AreLeast s all copy next
 least_copied s all front others copy next e h k =
     subst (λ xs. AreLeast s all xs next) (sym e)
-        (record { others = others; permutation = h; before = k.0; behind = k.1 })
+    (record { others = others; permutation = h; before = k.0; behind = k.1 })

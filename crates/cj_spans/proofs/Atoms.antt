@@ -42,8 +42,8 @@ read_run zero b i k x y each r = let e : k ≡ k + 0 = omega arith in subst (λ 
 read_run (suc n) b i k x y each r =
     let e : k + 1 + n ≡ k + suc n = omega arith in
     subst (λ j. Continues b i x j y) e
-        (read_run n b i (k + 1) x y (λ j a c. each j (omega arith) (omega arith))
-        (read_same b i k x y r (each k (omega arith) (omega arith))))
+    (read_run n b i (k + 1) x y (λ j a c. each j (omega arith) (omega arith))
+    (read_same b i k x y r (each k (omega arith) (omega arith))))
 
 -- the same of the bytes up to a place
 pub read_to : (b : List ℕ) (i k n : ℕ) (x y : Lex) → k ≤ n → ((j : ℕ) → k ≤ j → j < n → lex_step y (byte b j) ≡ Some y)
@@ -75,12 +75,12 @@ pub continues_reaches : {b : List ℕ} {i : ℕ} {x : Lex} {k : ℕ} {y : Lex} �
 continues_reaches {b} still s m a ks ts p r = r
 continues_reaches {b} (further k y z c h) s m a ks ts p r =
     on (state (in_atom m a y) ks ts k p) (state (in_atom m a z) ks ts (suc k) p) (continues_reaches c s m a ks ts p r)
-        (atom_goes b ks ts m a k p y z h)
+    (atom_goes b ks ts m a k p y z h)
 
 halted : (b ks : List ℕ) (ts : List Token) (m : Mode) (a k p : ℕ) (x : Lex) (r : Option Kind)
     → lex_step x (byte b k) ≡ None → lex_kind x ≡ r
     → step (byte b k) (state (in_atom m a x) ks ts k p) ≡ option_and_then (read m (byte b k))
-        (end_atom m a r (state (in_atom m a x) ks ts k p))
+    (end_atom m a r (state (in_atom m a x) ks ts k p))
 halted b ks ts m a k p x r none kind =
     let s = state (in_atom m a x) ks ts k p in
     ap (λ o. go_on (λ y. in_atom m a y) o s (option_and_then (read m (byte b k)) (end_atom m a (lex_kind x) s))) none
@@ -125,12 +125,15 @@ ends_err b i k p x y m ks ts c h l kind =
     stuck_at : (k < length b) ⊎ (length b ≤ k)
         → ((k < length b) × (step (byte b k) (state (in_atom m i y) ks ts k p) ≡ None))
         ⊎ ((k ≡ length b) × ((us : List Token) (q : ℕ)
-            → settle (state (in_atom m i y) ks ts k p) ≡ Some (state (between After) [] us (length b) q) → ⊥))
+        → settle (state (in_atom m i y) ks ts k p) ≡ Some (state (between After) [] us (length b) q) → ⊥))
     stuck_at (inl g) =
         elim h [ inl n ↦ absurd (omega arith) | inr none ↦ inl (g, halted b ks ts m i k p y None none kind) ]
     stuck_at (inr g) =
-        inr (omega arith, λ us q e.
-            none_some _ (sym (ap (λ r. end_atom m i r (state (in_atom m i y) ks ts k p)) kind) ∙ e))
+        inr (
+          omega arith,
+          λ us q e.
+              none_some _ (sym (ap (λ r. end_atom m i r (state (in_atom m i y) ks ts k p)) kind) ∙ e),
+        )
 
 -- a move that begins no scalar settles at once
 pub settles_at : (b : List ℕ) (m n : Mode) (i j p : ℕ) (v w : Move) (ks : List ℕ) (ts : List Token) → v ≡ w
@@ -142,4 +145,4 @@ settles_at b m n i j p v w ks ts e f g =
     let s = state (between n) ks ts (suc i) p in
     let base : ComesTo b s s = record { last = s; reached = here; settles = refl; same = λ l. refl } in
     subst (λ z. ComesTo b (state z ks ts (suc i) p) (state (between n) ks ts j p)) (sym q)
-        (subst (λ z. ComesTo b s (state (between n) ks ts z p)) h base)
+    (subst (λ z. ComesTo b s (state (between n) ks ts z p)) h base)

@@ -58,8 +58,10 @@ text_front b i l x =
     let w = state_before c v.at i v.reached (omega arith) in
     let e = w.place in
     let r = transfer b i (λ k h. sym (same_byte b x.rest i k l h)) w.at w.reached (omega arith) in
-    record { open_count = length w.at.stack;
-        front = subst (λ n. Front b 0 n (length w.at.stack)) w.place (inv_front w.at (inv_reaches b w.at r)) }
+    record {
+      open_count = length w.at.stack;
+      front = subst (λ n. Front b 0 n (length w.at.stack)) w.place (inv_front w.at (inv_reaches b w.at r));
+    }
 
 -- ---- the open containers and what closes them
 
@@ -132,7 +134,7 @@ context_containers (in_array e j k ks ts us c o l w) =
 context_containers (in_member e j k l ks ts us n c o m d w) =
     let fs = flatten_members (suc (length ts)) us in
     containers_more (length ts ∷ ks) ((ts ++ token_at e 0 1 ∷ []) ++ fs) _
-        (inside ks ts (token_at e 0 1) fs tt (context_containers c))
+    (inside ks ts (token_at e 0 1) fs tt (context_containers c))
 
 -- a token that is written anew leaves those before it as they are
 kind_set : (ts : List Token) (k j : ℕ) (u : Token) → j < k → kind_at (slice_set ts k u) j ≡ kind_at ts j
@@ -164,8 +166,11 @@ has_head c j x cs h = let e : j ≡ j + 0 = omega arith in ap (byte c) e ∙ h.b
 has_tail : (c : List ℕ) (j x : ℕ) (cs : List ℕ) → Has c j (x ∷ cs) → Has c (suc j) cs
 has_tail c j x cs h =
     let w = h.whole in
-    record { whole = omega arith; bytes = λ n l. let e : suc j + n ≡ j + suc n = omega arith in
-        ap (byte c) e ∙ h.bytes (suc n) (omega arith) }
+    record {
+      whole = omega arith;
+      bytes = λ n l. let e : suc j + n ≡ j + suc n = omega arith in
+          ap (byte c) e ∙ h.bytes (suc n) (omega arith);
+    }
 
 close_step : (k : ℕ) (ks : List ℕ) (ts : List Token) (j p : ℕ) (t : Token) (kd : Kind) → slice_get ts k ≡ Some t
     → open_kind t ≡ kd → IsContainer (Some kd)
@@ -197,8 +202,8 @@ close_one c ks ts k j p (Some t) e a h b next =
     let u = token_at t.start (suc j) (length ts) in
     let s = idle After (k ∷ ks) ts j p in
     let r = arrive_on c start s (idle After ks (slice_set ts k u) (suc j) p)
-        (subst IsEnd (sym b) (closer_end (open_kind t) h)) a
-        (ap (λ z. step z s) b ∙ close_step k ks ts j p t (open_kind t) e refl h) in
+    (subst IsEnd (sym b) (closer_end (open_kind t) h)) a
+    (ap (λ z. step z s) b ∙ close_step k ks ts j p t (open_kind t) e refl h) in
     next u r
 
 close_all : (ks : List ℕ) (c cs : List ℕ) (ts : List Token) (j p : ℕ) → Arrives c start (idle After ks ts j p)
@@ -211,8 +216,8 @@ close_all [] c cs ts j p a all e h =
 close_all (k ∷ ks) c cs ts j p a all e h =
     close_one c ks ts k j p (slice_get ts k) refl a all.0 (has_head c j _ _ (subst (Has c j) (sym e) h)) (λ u r.
     close_all ks c (closers ks ts) (slice_set ts k u) (suc j) p
-        (arrived c start After ks (slice_set ts k u) (suc j) p r) (containers_set ks ts k u all.1 all.2)
-        (closers_set ks ts k u all.1)
+    (arrived c start After ks (slice_set ts k u) (suc j) p r) (containers_set ks ts k u all.1 all.2)
+    (closers_set ks ts k u all.1)
     (has_tail c j _ _ (subst (Has c j) (sym e) h)))
 
 -- ---- a value after the front
@@ -238,7 +243,7 @@ read_colon : (c : List ℕ) (ks : List ℕ) (ts : List Token) (j p : ℕ) → by
     → Arrives c start (idle AfterName ks ts j p) → Reaches c start (idle Ready ks ts (suc j) p)
 read_colon c ks ts j p e a =
     arrive_on c start (idle AfterName ks ts j p) (idle Ready ks ts (suc j) p) (subst IsEnd (sym e) colon) a
-        (ap (λ z. step z (idle AfterName ks ts j p)) e)
+    (ap (λ z. step z (idle AfterName ks ts j p)) e)
 
 read_value : (c : List ℕ) (ks : List ℕ) (ts : List Token) (j p : ℕ) → byte c j ≡ 58 → byte c (suc j) ≡ 48
     → Arrives c start (idle AfterName ks ts j p)
@@ -262,8 +267,8 @@ read_member : (c : List ℕ) (m : Mode) (ks : List ℕ) (ts : List Token) (j p :
     → byte c (suc j) ≡ 34 → byte c (suc (suc j)) ≡ 58 → byte c (suc (suc (suc j))) ≡ 48
     → Reaches c start (idle m ks ts j p)
     → Arrives c start (idle After ks (let us = with_name ts j (suc (suc j)) in
-            us ++ token_at (suc (suc (suc j))) (suc (suc (suc (suc j)))) (suc (length us)) ∷ [])
-        (suc (suc (suc (suc j)))) p)
+    us ++ token_at (suc (suc (suc j))) (suc (suc (suc (suc j)))) (suc (length us)) ∷ [])
+    (suc (suc (suc (suc j)))) p)
 read_member c m ks ts j p h e f g i r =
     read_value c ks (with_name ts j (suc (suc j))) (suc (suc j)) p g i (read_name c m ks ts j p h e f r)
 
@@ -304,8 +309,8 @@ finish_name m k p ks ts h all = record {
   containers = containers_more ks _ _ (containers_more ks ts _ all);
   goes = λ c r b. arrives_at c ks _ (suc (suc (suc (suc k)))) (k + 4) p (omega arith)
       (read_member c m ks ts k p h (place_at c k (k + 0) 34 (omega arith) (b 0 (omega arith)))
-          (place_at c (suc k) (k + 1) 34 (omega arith) (b 1 (omega arith)))
-          (place_at c (suc (suc k)) (k + 2) 58 (omega arith) (b 2 (omega arith)))
+      (place_at c (suc k) (k + 1) 34 (omega arith) (b 1 (omega arith)))
+      (place_at c (suc (suc k)) (k + 2) 58 (omega arith) (b 2 (omega arith)))
       (place_at c (suc (suc (suc k))) (k + 3) 48 (omega arith) (b 3 (omega arith))) r);
 }
 
@@ -326,7 +331,7 @@ finish_colon k p ks ts all = record {
   containers = containers_more ks ts _ all;
   goes = λ c r b. arrives_at c ks _ (suc (suc k)) (k + 2) p (omega arith)
       (read_value c ks ts k p (place_at c k (k + 0) 58 (omega arith) (b 0 (omega arith)))
-          (place_at c (suc k) (k + 1) 48 (omega arith) (b 1 (omega arith))) (arrived c start AfterName ks ts k p r));
+      (place_at c (suc k) (k + 1) 48 (omega arith) (b 1 (omega arith))) (arrived c start AfterName ks ts k p r));
 }
 
 finish_scalar : (e k p : ℕ) (ks : List ℕ) (ts : List Token) (x : Lex) → AllContainers ks ts
@@ -369,16 +374,16 @@ finish_in_name l k p ks ts x w q all =
       containers = containers_more ks us _ (containers_more ks ts _ all);
       goes = λ c r b.
           let f = continues_run z.rest c k k x x StringDone still z.run
-              (λ i h. b i (omega arith) ∙ front_byte z.rest (58 ∷ 48 ∷ []) i h) in
+          (λ i h. b i (omega arith) ∙ front_byte z.rest (58 ∷ 48 ∷ []) i h) in
           let s = state (in_atom AfterName l StringDone) ks ts (k + n) p in
           let a : Arrives c start (idle AfterName ks us (k + n) p) =
-              record { at = s; reached = continues_reaches f start AfterName l ks ts p r; settles = refl } in
+          record { at = s; reached = continues_reaches f start AfterName l ks ts p r; settles = refl } in
           arrives_at c ks _ (suc (suc (k + n))) (k + length (z.rest ++ 58 ∷ 48 ∷ [])) p (omega arith)
           (read_value c ks us (k + n) p
           (place_at c (k + n) (k + (n + 0)) 58 (omega arith)
-              (b (n + 0) (omega arith) ∙ seam_byte z.rest (58 ∷ 48 ∷ []) 0))
+          (b (n + 0) (omega arith) ∙ seam_byte z.rest (58 ∷ 48 ∷ []) 0))
           (place_at c (suc (k + n)) (k + (n + 1)) 48 (omega arith)
-              (b (n + 1) (omega arith) ∙ seam_byte z.rest (58 ∷ 48 ∷ []) 1)) a);
+          (b (n + 1) (omega arith) ∙ seam_byte z.rest (58 ∷ 48 ∷ []) 1)) a);
     }
 
 finish : {b : List ℕ} (s : State) → Inv b s → Finish s
@@ -387,7 +392,7 @@ finish s (first_item e k p ks ts c o w) = let t = token_at e 0 0 in
     finish_value FirstItem k p (length ts ∷ ks) (ts ++ t ∷ []) tt (just_inside ks ts t tt (context_containers c))
 finish s (after_tree e j k p ks ts t c v w) =
     finish_tree k p ks (ts ++ flatten (length ts) t)
-        (containers_more ks ts (flatten (length ts) t) (context_containers c))
+    (containers_more ks ts (flatten (length ts) t) (context_containers c))
 finish s (first_name e k p ks ts c o w) = let t = token_at e 0 1 in
     finish_name FirstName k p (length ts ∷ ks) (ts ++ t ∷ []) tt (just_inside ks ts t tt (context_containers c))
 finish s (next_name e j k p ks ts us c o l w) =
@@ -397,7 +402,7 @@ finish s (after_name e j l m k p ks ts us c o ld w0 wd w) =
     let t = token_at e 0 1 in let fs = flatten_members (suc (length ts)) us in
     let n = token_at l m (suc (length ((ts ++ t ∷ []) ++ fs))) in
     finish_colon k p (length ts ∷ ks) (((ts ++ t ∷ []) ++ fs) ++ n ∷ [])
-        (containers_more (length ts ∷ ks) ((ts ++ t ∷ []) ++ fs) (n ∷ []) (inside ks ts t fs tt (context_containers c)))
+    (containers_more (length ts ∷ ks) ((ts ++ t ∷ []) ++ fs) (n ∷ []) (inside ks ts t fs tt (context_containers c)))
 finish s (in_scalar e k p ks ts x c w) = finish_scalar e k p ks ts x (context_containers c)
 finish s (in_name e j l k p ks ts us x c o ld w0 q w) =
     let t = token_at e 0 1 in let fs = flatten_members (suc (length ts)) us in
@@ -507,7 +512,7 @@ module _ (X : Type 0) (b : List ℕ) (old_stack empty_stack new_stack : BoundedL
       → r ≡ Err (TooDeep i) → IsFirstTooDeep b old_stack.limit i
   answers_first_too_deep r i a e =
       subst (λ n. IsFirstTooDeep b n i) d.limit
-          (first_too_deep b empty_stack.limit i (subst (λ z. RunAnswers b empty_stack z new new_stack) e a))
+      (first_too_deep b empty_stack.limit i (subst (λ z. RunAnswers b empty_stack z new new_stack) e a))
 
   pub answers_first_fault : (r : Result X LineFault) (i : ℕ) → RunAnswers b empty_stack r new new_stack
       → r ≡ Err (Syntax i) → IsFirstFault b i

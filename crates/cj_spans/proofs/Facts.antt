@@ -70,15 +70,21 @@ module _ (i p : ℕ) (ts : List Token) where
   goes_to : (m : Mode) (ks : List ℕ) → length ks ≤ i → length ks ≤ p → 2 * length ts ≤ reach_in m (suc i) + length ks
       → Goes i p (idle m ks ts (suc i) p)
   goes_to m ks o d c =
-      record { place = refl; deepest = omega arith;
-          lawful = record { open_count = omega arith; deep = d; token_count = c; began = tt } }
+      record {
+        place = refl;
+        deepest = omega arith;
+        lawful = record { open_count = omega arith; deep = d; token_count = c; began = tt };
+      }
 
   -- into a scalar or a name
   goes_atom : (m : Mode) (x : Lex) (ks : List ℕ) → EndsAtom m → length ks ≤ i → length ks ≤ p
       → 2 * length ts ≤ i + length ks → Goes i p (state (in_atom m i x) ks ts (suc i) p)
   goes_atom m x ks e o d c =
-      record { place = refl; deepest = omega arith;
-          lawful = record { open_count = omega arith; deep = d; token_count = c; began = (omega arith, e) } }
+      record {
+        place = refl;
+        deepest = omega arith;
+        lawful = record { open_count = omega arith; deep = d; token_count = c; began = (omega arith, e) };
+      }
 
   -- into a container
   goes_open : (m : Mode) (l : ℕ) (ks : List ℕ) → length ks ≤ i → 2 * length ts ≤ i + length ks
@@ -86,8 +92,11 @@ module _ (i p : ℕ) (ts : List Token) where
       → Goes i p (idle m (length ts ∷ ks) (ts ++ token_at i 0 l ∷ []) (suc i) (max p (suc (length ks))))
   goes_open m l ks o c g =
       let e : length (ts ++ token_at i 0 l ∷ []) ≡ length ts + 1 = length-append ts (token_at i 0 l ∷ []) in
-      record { place = refl; deepest = refl;
-          lawful = record { open_count = omega arith; deep = omega arith; token_count = omega arith; began = tt } }
+      record {
+        place = refl;
+        deepest = refl;
+        lawful = record { open_count = omega arith; deep = omega arith; token_count = omega arith; began = tt };
+      }
 
   goes_lex : (ks : List ℕ) (o : Option Lex) → length ks ≤ i → length ks ≤ p → 2 * length ts ≤ i + length ks
       → GoesIf i p (option_map (λ x. state (in_atom After i x) ks ts (suc i) p) o)
@@ -98,8 +107,8 @@ module _ (i p : ℕ) (ts : List Token) where
       → GoesIf i p (begin_value c (idle m ks ts i p))
   goes_begin c m ks o d n =
       goes_cond i p (nat_eq c 91) _ _ (goes_open FirstItem 0 ks o n (omega arith))
-          (goes_cond i p (nat_eq c 123) _ _ (goes_open FirstName 1 ks o n (omega arith))
-          (goes_lex ks (lex_start c) o d n))
+      (goes_cond i p (nat_eq c 123) _ _ (goes_open FirstName 1 ks o n (omega arith))
+      (goes_lex ks (lex_start c) o d n))
 
   goes_name : (c : ℕ) (m : Mode) (ks : List ℕ) → length ks ≤ i → length ks ≤ p → 2 * length ts ≤ i + length ks
       → GoesIf i p (begin_name c (idle m ks ts i p))
@@ -111,8 +120,11 @@ module _ (i p : ℕ) (ts : List Token) where
       → Goes i p (idle After ks (slice_set ts k t) (suc i) p)
   goes_closed m k ks t o d n =
       let e : length (slice_set ts k t) ≡ length ts = length-set ts k t in
-      record { place = refl; deepest = omega arith;
-          lawful = record { open_count = omega arith; deep = omega arith; token_count = omega arith; began = tt } }
+      record {
+        place = refl;
+        deepest = omega arith;
+        lawful = record { open_count = omega arith; deep = omega arith; token_count = omega arith; began = tt };
+      }
 
   goes_in : (kd : Kind) (c k : ℕ) (t : Token) (m : Mode) (ks : List ℕ) → suc (length ks) ≤ i → suc (length ks) ≤ p
       → 2 * length ts ≤ suc i + suc (length ks) → GoesIf i p (after_in kd c k t (idle m (k ∷ ks) ts i p))
@@ -122,10 +134,10 @@ module _ (i p : ℕ) (ts : List Token) where
   goes_in Text c k t m ks o d n = tt
   goes_in Array c k t m ks o d n =
       goes_cond i p (nat_eq c 44) _ _ (goes_to Ready (k ∷ ks) o d n)
-          (goes_cond i p (nat_eq c 93) _ None (goes_closed m k ks _ o d n) tt)
+      (goes_cond i p (nat_eq c 93) _ None (goes_closed m k ks _ o d n) tt)
   goes_in Object c k t m ks o d n =
       goes_cond i p (nat_eq c 44) _ _ (goes_to NextName (k ∷ ks) o d n)
-          (goes_cond i p (nat_eq c 125) _ None (goes_closed m k ks _ o d n) tt)
+      (goes_cond i p (nat_eq c 125) _ None (goes_closed m k ks _ o d n) tt)
 
   goes_token : (c k : ℕ) (z : Option Token) (m : Mode) (ks : List ℕ) → suc (length ks) ≤ i → suc (length ks) ≤ p
       → 2 * length ts ≤ suc i + suc (length ks) → GoesIf i p (after_token c k z (idle m (k ∷ ks) ts i p))
@@ -178,16 +190,19 @@ goes_ended : (m : Mode) (a : ℕ) (f : Phase) (r : Option Kind) (c : ℕ) (ks : 
 goes_ended m a f None c ks ts i p e l o d n = tt
 goes_ended m a f (Some k) c ks ts i p e l o d n =
     goes_read i p (ts ++ token_at a i (suc (length ts)) ∷ []) m c ks o d
-        (ends_count m a i (suc (length ts)) ks ts e l n)
+    (ends_count m a i (suc (length ts)) ks ts e l n)
 
 goes_on : (m : Mode) (a : ℕ) (x : Lex) (z : Option Lex) (c : ℕ) (ks : List ℕ) (ts : List Token) (i p : ℕ) → EndsAtom m
     → a < i → length ks ≤ i → length ks ≤ p → 2 * length ts ≤ a + length ks
     → GoesIf i p (go_on (λ y. in_atom m a y) z (state (in_atom m a x) ks ts i p)
-        (option_and_then (read m c) (end_atom m a (lex_kind x) (state (in_atom m a x) ks ts i p))))
+    (option_and_then (read m c) (end_atom m a (lex_kind x) (state (in_atom m a x) ks ts i p))))
 goes_on m a x None c ks ts i p e l o d n = goes_ended m a (in_atom m a x) (lex_kind x) c ks ts i p e l o d n
 goes_on m a x (Some y) c ks ts i p e l o d n =
-    record { place = refl; deepest = omega arith;
-        lawful = record { open_count = omega arith; deep = d; token_count = n; began = (omega arith, e) } }
+    record {
+      place = refl;
+      deepest = omega arith;
+      lawful = record { open_count = omega arith; deep = d; token_count = n; began = (omega arith, e) };
+    }
 
 goes_phase : (f : Phase) (c : ℕ) (ks : List ℕ) (ts : List Token) (i p : ℕ) → IsLawful (state f ks ts i p)
     → GoesIf i p (step c (state f ks ts i p))
@@ -209,8 +224,12 @@ settle_lawful : (m : Mode) (a : ℕ) (x : Lex) (r : Option Kind) (ks : List ℕ)
 settle_lawful m a x None ks ts i p t l h = none_some t h
 settle_lawful m a x (Some k) ks ts i p t l h =
     subst IsLawful (some_same _ t h)
-        (record { open_count = l.open_count; deep = l.deep;
-            token_count = ends_count m a i (suc (length ts)) ks ts l.began.1 l.began.0 l.token_count; began = tt })
+    (record {
+      open_count = l.open_count;
+      deep = l.deep;
+      token_count = ends_count m a i (suc (length ts)) ks ts l.began.1 l.began.0 l.token_count;
+      began = tt;
+    })
 
 lawful_phase : (f : Phase) (ks : List ℕ) (ts : List Token) (i p : ℕ) (t : State) → IsLawful (state f ks ts i p)
     → settle (state f ks ts i p) ≡ Some t → IsLawful t

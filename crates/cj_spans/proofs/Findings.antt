@@ -16,21 +16,21 @@ use Rattle.cj_spans.specs.Finding.{IsNoLater, IsLeast, HaveSame, is_before, less
 reason_of : ℕ → Reason
 reason_of n =
     cond (nat_eq n 1) NoHeader
-        (cond (nat_eq n 2) LineTooLong
-        (cond (nat_eq n 3) NotUtf8
-            (cond (nat_eq n 4) Syntax (cond (nat_eq n 5) TooDeep (cond (nat_eq n 10) MissingMember
+    (cond (nat_eq n 2) LineTooLong
+    (cond (nat_eq n 3) NotUtf8
+    (cond (nat_eq n 4) Syntax (cond (nat_eq n 5) TooDeep (cond (nat_eq n 10) MissingMember
     (cond (nat_eq n 11) DuplicateName
-        (cond (nat_eq n 12) WrongKind
-            (cond (nat_eq n 13) NumberRange
-                (cond (nat_eq n 14) WrongType (cond (nat_eq n 15) WrongVersion (cond (nat_eq n 16) NotEmpty
+    (cond (nat_eq n 12) WrongKind
+    (cond (nat_eq n 13) NumberRange
+    (cond (nat_eq n 14) WrongType (cond (nat_eq n 15) WrongVersion (cond (nat_eq n 16) NotEmpty
     (cond (nat_eq n 17) NotThree
-        (cond (nat_eq n 18) NotWhole
-            (cond (nat_eq n 19) UnknownObjectType
-                (cond (nat_eq n 20) IdNotFound (cond (nat_eq n 21) ChildNotFound (cond (nat_eq n 22) LinkNotMutual
+    (cond (nat_eq n 18) NotWhole
+    (cond (nat_eq n 19) UnknownObjectType
+    (cond (nat_eq n 20) IdNotFound (cond (nat_eq n 21) ChildNotFound (cond (nat_eq n 22) LinkNotMutual
     (cond (nat_eq n 23) NoParent
-        (cond (nat_eq n 24) UnknownGeometryType
-            (cond (nat_eq n 25) VertexIndex
-                (cond (nat_eq n 26) SemanticsCount (cond (nat_eq n 27) SemanticsIndex (cond (nat_eq n 28) TemplateIndex
+    (cond (nat_eq n 24) UnknownGeometryType
+    (cond (nat_eq n 25) VertexIndex
+    (cond (nat_eq n 26) SemanticsCount (cond (nat_eq n 27) SemanticsIndex (cond (nat_eq n 28) TemplateIndex
     (cond (nat_eq n 29) BadInstance (cond (nat_eq n 30) TransformNotFixed NotReached)))))))))))))))))))))))))
 
 reason_of-code_of : (r : Reason) → reason_of (code_of r) ≡ r
@@ -142,9 +142,11 @@ lesser_least fs g f true h a =
 lesser_least fs g f false h a = (contains_there g f fs a.0, all_and g f fs (not_before f g h) a.1)
 
 pub added_least : (fs : List Finding) (o : Option Finding) (f : Finding) → IsLeast fs o → IsLeast (f ∷ fs) (lesser o f)
-added_least fs None f a =
-    (contains_here f fs, all_and f f fs (no_later_self f)
-        (subst (All (IsNoLater f)) (sym a) (λ k d l. absurd (omega arith))))
+added_least fs None f a = (
+  contains_here f fs,
+  all_and f f fs (no_later_self f)
+      (subst (All (IsNoLater f)) (sym a) (λ k d l. absurd (omega arith))),
+)
 added_least fs (Some g) f a = lesser_least fs g f (is_before f g) refl a
 
 pub added_kept : (fs : List Finding) (o p : Option Finding) (f : Finding) → p ≡ lesser o f → IsLeast fs o
@@ -157,9 +159,11 @@ same_least : (fs gs : List Finding) (o : Option Finding) → HaveSame fs gs → 
 same_least fs [] None h a = refl
 same_least fs (g ∷ gs) None h a = let c = subst (λ xs. Contains xs g) a ((h g).1 (contains_here g gs)) in let l = c.1 in
     absurd (omega arith)
-same_least fs gs (Some f) h a =
-    ((h f).0 a.0, λ k d l. All-contains (IsNoLater f) fs (get_or gs k d) a.1
-        ((h (get_or gs k d)).1 (Contains-get_or gs k d l)))
+same_least fs gs (Some f) h a = (
+  (h f).0 a.0,
+  λ k d l. All-contains (IsNoLater f) fs (get_or gs k d) a.1
+      ((h (get_or gs k d)).1 (Contains-get_or gs k d l)),
+)
 
 one_least : (fs : List Finding) (o p : Option Finding) → IsLeast fs o → IsLeast fs p → o ≡ p
 one_least fs None None a b = refl
@@ -175,10 +179,16 @@ least_only fs gs o p h a b = one_least gs p o b (same_least fs gs o h a)
 
 head_last : (f : Finding) (fs : List Finding) → HaveSame (f ∷ fs) (fs ++ f ∷ [])
 head_last f fs g = (
-  λ c. elim (Contains-append_cases (f ∷ []) fs g c) [ inl h ↦ Contains-append_right fs (f ∷ []) g h | inr h ↦
-      Contains-append_left fs (f ∷ []) g h ],
-  λ c. elim (Contains-append_cases fs (f ∷ []) g c) [ inl h ↦ contains_there g f fs h | inr h ↦
-      Contains-append_left (f ∷ []) fs g h ],
+  λ c. elim (Contains-append_cases (f ∷ []) fs g c) [
+    | inl h ↦ Contains-append_right fs (f ∷ []) g h
+    | inr h ↦
+        Contains-append_left fs (f ∷ []) g h
+  ],
+  λ c. elim (Contains-append_cases fs (f ∷ []) g c) [
+    | inl h ↦ contains_there g f fs h
+    | inr h ↦
+        Contains-append_left (f ∷ []) fs g h
+  ],
 )
 
 least_after : (gs : List Finding) (o : Option Finding) (fs : List Finding) → IsLeast gs o
@@ -187,7 +197,7 @@ least_after gs o [] a = subst (λ xs. IsLeast xs o) (sym (append-nil gs)) a
 least_after gs o (f ∷ fs) a =
     let b = same_least (f ∷ gs) (gs ++ f ∷ []) (lesser o f) (head_last f gs) (added_least gs o f a) in
     subst (λ xs. IsLeast xs (least (lesser o f) fs)) (append_assoc gs (f ∷ []) fs)
-        (least_after (gs ++ f ∷ []) (lesser o f) fs b)
+    (least_after (gs ++ f ∷ []) (lesser o f) fs b)
 
 least_of_found : (o : Option Finding) → IsLeast (list_found o) o
 least_of_found None = refl
@@ -221,13 +231,16 @@ contains_swap ks fs gs f c =
     elim (Contains-append_cases ks (fs ++ gs) f c) [
       | inl h ↦ Contains-append_left ks (gs ++ fs) f h
       | inr h ↦ Contains-append_right ks (gs ++ fs) f
-          (elim (Contains-append_cases fs gs f h) [ inl h ↦ Contains-append_right gs fs f h | inr h ↦
-              Contains-append_left gs fs f h ])
+          (elim (Contains-append_cases fs gs f h) [
+            | inl h ↦ Contains-append_right gs fs f h
+            | inr h ↦
+                Contains-append_left gs fs f h
+          ])
     ]
 
 -- two lists in either order
 pub least-swap : (o : Option Finding) (fs gs : List Finding) → least o (fs ++ gs) ≡ least o (gs ++ fs)
 least-swap o fs gs =
     least_only (list_found o ++ (gs ++ fs)) (list_found o ++ (fs ++ gs)) (least o (gs ++ fs)) (least o (fs ++ gs))
-        (λ f. (contains_swap (list_found o) gs fs f, contains_swap (list_found o) fs gs f)) (fold_least o (gs ++ fs))
-        (fold_least o (fs ++ gs))
+    (λ f. (contains_swap (list_found o) gs fs f, contains_swap (list_found o) fs gs f)) (fold_least o (gs ++ fs))
+    (fold_least o (fs ++ gs))

@@ -16,7 +16,7 @@ first-on s (Some n) now key value all rest total h e is =
     ap (λ o. option_or (option_map tree o) (first_named s rest)) is ∙ h
 first-on s None now key value all rest total h e is =
     ap (λ o. option_or (option_map tree o) (first_named s rest)) is ∙ by_test (has_text s (tree key))
-        ∙ sym (ap (first_named s) e) ∙ h
+    ∙ sym (ap (first_named s) e) ∙ h
   where
     by_test : (b : Bool) → option_or (option_map tree (option_or None (cond b (Some value) None))) (first_named s rest)
         ≡ cond b (Some (tree value)) (first_named s rest)

@@ -85,7 +85,7 @@ run_named {b} (named i j k l before n after c) s m ks ts p h r =
     let us = ts ++ token_at j k (suc (length ts)) ∷ [] in
     let named_at = skip_after after s AfterName ks us p (run_name n s m ks ts p h (skip before s m ks ts p r)) in
     arrive_on b s (idle AfterName ks us l p) (idle Ready ks us (suc l) p) (is_end 58 colon c) named_at
-        (ap (λ x. step x (idle AfterName ks us l p)) c)
+    (ap (λ x. step x (idle AfterName ks us l p)) c)
 
 -- past the led items of an open array
 pub record ReadItems (b : List ℕ) (s : State) (ks : List ℕ) (ts : List Token) (j p : ℕ) : Type 0 where
@@ -108,74 +108,74 @@ mutual
       let t = token_at i 0 0 in let us = ts ++ t ∷ [] in let f = token_at i (suc j) (length us) in
       let q = max p (suc (length ks)) in
       let r1 = on (idle m ks ts i p) (idle FirstItem (length ts ∷ ks) us (suc i) q) r
-          (open_array m ks ts i p (byte b i) h o) in
+      (open_array m ks ts i p (byte b i) h o) in
       let a = skip w s FirstItem (length ts ∷ ks) us q r1 in
       let g = end_empty_array (length ts) ks us j q i (byte b j) c (slice_get-seam ts [] t) in
       let r2 = on (idle FirstItem (length ts ∷ ks) us j q) (idle After ks (slice_set us (length ts) f) (suc j) q) a g in
       subst (λ vs. Arrives b s (idle After ks vs (suc j) q)) (array_empty ts t i (suc j))
-          (arrived b s After ks (slice_set us (length ts) f) (suc j) q r2)
+      (arrived b s After ks (slice_set us (length ts) f) (suc j) q r2)
   run_value {b} (full_array i j k us u o l w c) s m ks ts p h r =
       let d = length ks in let x = suc (length ts) in let t = token_at i 0 0 in let q = max p (suc d) in
       let fs = flatten_items x us in let vs = (ts ++ t ∷ []) ++ fs in let ys = flatten (length vs) u in
       let f = token_at i (suc k) (length (vs ++ ys)) in let n = rise_items (suc d) q us in let z = rise (suc d) n u in
       let r1 = on (idle m ks ts i p) (idle FirstItem (length ts ∷ ks) (ts ++ t ∷ []) (suc i) q) r
-          (open_array m ks ts i p (byte b i) h o) in
+      (open_array m ks ts i p (byte b i) h o) in
       let g = slice_get-seam ts [] t in
       let r2 = run_led l s FirstItem (length ts) ks (ts ++ t ∷ []) q i x (length-snoc ts t) g tt r1 in
       let a = run_padded w s r2.mode (length ts ∷ ks) vs n r2.begins r2.reached in
       let e1 = end_array (length ts) ks (vs ++ ys) k z i (byte b k) c
-          (slice_get-append vs ys (length ts) t (slice_get-append (ts ++ t ∷ []) fs (length ts) t g)) in
+      (slice_get-append vs ys (length ts) t (slice_get-append (ts ++ t ∷ []) fs (length ts) t g)) in
       let r3 = arrive_on b s (idle After (length ts ∷ ks) (vs ++ ys) k z)
-          (idle After ks (slice_set (vs ++ ys) (length ts) f) (suc k) z) (is_end 93 bracket c) a e1 in
+      (idle After ks (slice_set (vs ++ ys) (length ts) f) (suc k) z) (is_end 93 bracket c) a e1 in
       let v = array i (suc k) (add_item us u) in
       let e : slice_set (vs ++ ys) (length ts) f ≡ ts ++ flatten (length ts) v =
-          ap (λ zs. slice_set zs (length ts) (token_at i (suc k) (length zs)))
-              (items_more (ts ++ t ∷ []) x us u (length-snoc ts t)) ∙ array_done ts t i (suc k) (add_item us u) in
+      ap (λ zs. slice_set zs (length ts) (token_at i (suc k) (length zs)))
+      (items_more (ts ++ t ∷ []) x us u (length-snoc ts t)) ∙ array_done ts t i (suc k) (add_item us u) in
       subst (λ y. Arrives b s (idle After ks (ts ++ flatten (length ts) v) (suc k) y))
-          (sym (rise_items-add (suc d) q us u))
+      (sym (rise_items-add (suc d) q us u))
       (subst (λ zs. Arrives b s (idle After ks zs (suc k) z)) e
-          (arrived b s After ks (slice_set (vs ++ ys) (length ts) f) (suc k) z r3))
+      (arrived b s After ks (slice_set (vs ++ ys) (length ts) f) (suc k) z r3))
   run_value {b} (empty_object i j o w c) s m ks ts p h r =
       let t = token_at i 0 1 in let us = ts ++ t ∷ [] in let f = token_at i (suc j) (length us) in
       let q = max p (suc (length ks)) in
       let r1 = on (idle m ks ts i p) (idle FirstName (length ts ∷ ks) us (suc i) q) r
-          (open_object m ks ts i p (byte b i) h o) in
+      (open_object m ks ts i p (byte b i) h o) in
       let a = skip w s FirstName (length ts ∷ ks) us q r1 in
       let g = end_empty_object (length ts) ks us j q i (byte b j) c (slice_get-seam ts [] t) in
       let r2 = on (idle FirstName (length ts ∷ ks) us j q) (idle After ks (slice_set us (length ts) f) (suc j) q) a g in
       subst (λ vs. Arrives b s (idle After ks vs (suc j) q)) (object_empty ts t i (suc j))
-          (arrived b s After ks (slice_set us (length ts) f) (suc j) q r2)
+      (arrived b s After ks (slice_set us (length ts) f) (suc j) q r2)
   run_value {b} (full_object i j k l us n u o led_ms nm w c) s m ks ts p h r =
       let d = length ks in let x = suc (length ts) in let t = token_at i 0 1 in let q = max p (suc d) in
       let fs = flatten_members x us in let vs = (ts ++ t ∷ []) ++ fs in
       let v = token_at n.start n.stop (suc (length vs)) in let xs = vs ++ v ∷ [] in let ys = flatten (length xs) u in
       let f = token_at i (suc l) (length (xs ++ ys)) in let y = rise_members (suc d) q us in let z = rise (suc d) y u in
       let r1 = on (idle m ks ts i p) (idle FirstName (length ts ∷ ks) (ts ++ t ∷ []) (suc i) q) r
-          (open_object m ks ts i p (byte b i) h o) in
+      (open_object m ks ts i p (byte b i) h o) in
       let g = slice_get-seam ts [] t in
       let r2 = run_led_members led_ms s FirstName (length ts) ks (ts ++ t ∷ []) q i x (length-snoc ts t) g tt r1 in
       let r3 = run_named nm s r2.mode (length ts ∷ ks) vs y r2.begins r2.reached in
       let a = run_padded w s Ready (length ts ∷ ks) xs y tt r3 in
       let g2 = slice_get-append xs ys (length ts) t
-          (slice_get-append vs (v ∷ []) (length ts) t (slice_get-append (ts ++ t ∷ []) fs (length ts) t g)) in
+      (slice_get-append vs (v ∷ []) (length ts) t (slice_get-append (ts ++ t ∷ []) fs (length ts) t g)) in
       let e1 = end_object (length ts) ks (xs ++ ys) l z i (byte b l) c g2 in
       let r4 = arrive_on b s (idle After (length ts ∷ ks) (xs ++ ys) l z)
-          (idle After ks (slice_set (xs ++ ys) (length ts) f) (suc l) z) (is_end 125 brace c) a e1 in
+      (idle After ks (slice_set (xs ++ ys) (length ts) f) (suc l) z) (is_end 125 brace c) a e1 in
       let tree = object i (suc l) (add_member us n u) in
       let e : slice_set (xs ++ ys) (length ts) f ≡ ts ++ flatten (length ts) tree =
       ap (λ zs. slice_set zs (length ts) (token_at i (suc l) (length zs)))
-          (members_more (ts ++ t ∷ []) x us n u (length-snoc ts t)) ∙ object_done ts t i (suc l) (add_member us n u) in
+      (members_more (ts ++ t ∷ []) x us n u (length-snoc ts t)) ∙ object_done ts t i (suc l) (add_member us n u) in
       subst (λ x. Arrives b s (idle After ks (ts ++ flatten (length ts) tree) (suc l) x))
-          (sym (rise_members-add (suc d) q us n u))
+      (sym (rise_members-add (suc d) q us n u))
       (subst (λ zs. Arrives b s (idle After ks zs (suc l) z)) e
-          (arrived b s After ks (slice_set (xs ++ ys) (length ts) f) (suc l) z r4))
+      (arrived b s After ks (slice_set (xs ++ ys) (length ts) f) (suc l) z r4))
 
   pub run_padded : {b : List ℕ} {i j : ℕ} {t : Tree} → Padded b i j t
       → (s : State) (m : Mode) (ks : List ℕ) (ts : List Token) (p : ℕ) → BeginsValue m → Reaches b s (idle m ks ts i p)
       → Arrives b s (idle After ks (ts ++ flatten (length ts) t) j (rise (length ks) p t))
   run_padded {b} (padded i j k l t before v after) s m ks ts p h r =
       skip_after after s After ks (ts ++ flatten (length ts) t) (rise (length ks) p t)
-          (run_value v s m ks ts p h (skip before s m ks ts p r))
+      (run_value v s m ks ts p h (skip before s m ks ts p r))
 
   pub run_led : {b : List ℕ} {i j : ℕ} {us : Items} → LedItems b i j us
       → (s : State) (m : Mode) (k : ℕ) (ks : List ℕ) (ts : List Token) (p a x : ℕ) → length ts ≡ x
@@ -183,17 +183,20 @@ mutual
       → Reaches b s (idle m (k ∷ ks) ts i p)
       → ReadItems b s (k ∷ ks) (ts ++ flatten_items x us) j (rise_items (suc (length ks)) p us)
   run_led {b} (no_led i) s m k ks ts p a x lx g h r =
-      record { mode = m; begins = h;
-          reached = subst (λ zs. Reaches b s (idle m (k ∷ ks) zs i p)) (sym (append-nil ts)) r }
+      record {
+        mode = m;
+        begins = h;
+        reached = subst (λ zs. Reaches b s (idle m (k ∷ ks) zs i p)) (sym (append-nil ts)) r;
+      }
   run_led {b} (led i j l us u before w c) s m k ks ts p a x lx g h r =
       let e = suc (length ks) in let fs = flatten_items x us in let ys = flatten (length (ts ++ fs)) u in
       let t = token_at a 0 0 in let n = rise_items e p us in let z = rise e n u in
       let r1 = run_led before s m k ks ts p a x lx g h r in
       let at_comma = run_padded w s r1.mode (k ∷ ks) (ts ++ fs) n r1.begins r1.reached in
       let q = more_items k ks ((ts ++ fs) ++ ys) l z a (byte b l) c
-          (slice_get-append (ts ++ fs) ys k t (slice_get-append ts fs k t g)) in
+      (slice_get-append (ts ++ fs) ys k t (slice_get-append ts fs k t g)) in
       let r2 = arrive_on b s (idle After (k ∷ ks) ((ts ++ fs) ++ ys) l z)
-          (idle Ready (k ∷ ks) ((ts ++ fs) ++ ys) (suc l) z) (is_end 44 comma c) at_comma q in
+      (idle Ready (k ∷ ks) ((ts ++ fs) ++ ys) (suc l) z) (is_end 44 comma c) at_comma q in
       record {
         mode = Ready;
         begins = tt;
@@ -208,8 +211,11 @@ mutual
       → Reaches b s (idle m (k ∷ ks) ts i p)
       → ReadMembers b s (k ∷ ks) (ts ++ flatten_members x us) j (rise_members (suc (length ks)) p us)
   run_led_members {b} (no_led_members i) s m k ks ts p a x lx g h r =
-      record { mode = m; begins = h;
-          reached = subst (λ zs. Reaches b s (idle m (k ∷ ks) zs i p)) (sym (append-nil ts)) r }
+      record {
+        mode = m;
+        begins = h;
+        reached = subst (λ zs. Reaches b s (idle m (k ∷ ks) zs i p)) (sym (append-nil ts)) r;
+      }
   run_led_members {b} (led_member i j l o us n u before nm w c) s m k ks ts p a x lx g h r =
       let e = suc (length ks) in let fs = flatten_members x us in
       let v = token_at n.start n.stop (suc (length (ts ++ fs))) in let xs = (ts ++ fs) ++ v ∷ [] in
@@ -219,9 +225,9 @@ mutual
       let r2 = run_named nm s r1.mode (k ∷ ks) (ts ++ fs) y r1.begins r1.reached in
       let at_comma = run_padded w s Ready (k ∷ ks) xs y tt r2 in
       let q = more_members k ks (xs ++ ys) o z a (byte b o) c
-          (slice_get-append xs ys k t (slice_get-append (ts ++ fs) (v ∷ []) k t (slice_get-append ts fs k t g))) in
+      (slice_get-append xs ys k t (slice_get-append (ts ++ fs) (v ∷ []) k t (slice_get-append ts fs k t g))) in
       let r3 = arrive_on b s (idle After (k ∷ ks) (xs ++ ys) o z) (idle NextName (k ∷ ks) (xs ++ ys) (suc o) z)
-          (is_end 44 comma c) at_comma q in
+      (is_end 44 comma c) at_comma q in
       record {
         mode = NextName;
         begins = tt;

@@ -165,7 +165,7 @@ shown : (b : List ℕ) (i j : ℕ) (k : Kind) (ss : List Span) (xs ys : List Tre
 unfolding forest
 shown b i j k ss xs ys kd e a o =
     ap (λ z. node b (kind_by (byte b i)) i j (held j z) ∷ past j z) e
-        ∙ ap (λ z. node b (kind_by (byte b i)) i j z ∷ past j (xs ++ ys)) (held_all j xs ys a o)
+    ∙ ap (λ z. node b (kind_by (byte b i)) i j z ∷ past j (xs ++ ys)) (held_all j xs ys a o)
     ∙ ap (λ z. node b (kind_by (byte b i)) i j xs ∷ z) (past_all j xs ys a o) ∙ ap (λ z. node b z i j xs ∷ ys) kd
 
 scalar_node : (b : List ℕ) (k : Kind) (i j : ℕ) → IsAtom b k i j → node b k i j [] ≡ scalar k (atom_at b i j)
@@ -192,7 +192,7 @@ shows_both b i j ts us xs y ys o l a c = record {
   shows = λ rest h.
       let e = c.shows rest h in
       ap (forest b) (append_assoc ts us rest) ∙ a.shows (us ++ rest) (subst (Beyond i) (sym e) l) ∙ ap (λ z. xs ++ z) e
-          ∙ sym (append_assoc xs (y ∷ ys) (forest b rest));
+      ∙ sym (append_assoc xs (y ∷ ys) (forest b rest));
 }
 
 shows_atom : (b : List ℕ) (k : Kind) (i j : ℕ) → IsAtom b k i j
@@ -228,7 +228,7 @@ shows_add {b} {i} {j} {k} {us} {u} l p f g =
     let q = padded_order p in
     let h = shows_both b j k (items_preorder us) (preorder u) (list_of_items us) u [] (omega arith) q.0 f g in
     subst (λ ss. Shows b k ss (list_of_items (add_item us u))) (sym (items_preorder-add us u))
-        (subst (Shows b k (items_preorder us ++ preorder u)) (sym (list-add us u)) h)
+    (subst (Shows b k (items_preorder us ++ preorder u)) (sym (list-add us u)) h)
 
 pub shows_add_member : {b : List ℕ} {i j k l : ℕ} {us : Members} {n : Atom} {u : Tree} → LedMembers b i j us
     → Named b j k n → Padded b k l u → Shows b j (members_preorder us) (names_and_values us)
@@ -238,11 +238,11 @@ shows_add_member {b} {i} {j} {k} {l} {us} {n} {u} ld nm p f g =
     let q = padded_order p in let r = named_order nm in
     let w = scalar Text n in
     let pair = shows_both b n.stop l (span_at n.start n.stop ∷ []) (preorder u) (w ∷ []) u [] (omega arith)
-        (omega (arith, q.0)) (shows_named nm) g in
+    (omega (arith, q.0)) (shows_named nm) g in
     let h = shows_both b j l (members_preorder us) (span_at n.start n.stop ∷ preorder u) (names_and_values us) w
-        (u ∷ []) (omega arith) r.0 f pair in
+    (u ∷ []) (omega arith) r.0 f pair in
     subst (λ ss. Shows b l ss (names_and_values (add_member us n u))) (sym (members_preorder-add us n u))
-        (subst (Shows b l (members_preorder us ++ span_at n.start n.stop ∷ preorder u)) (sym (names-add us n u)) h)
+    (subst (Shows b l (members_preorder us ++ span_at n.start n.stop ∷ preorder u)) (sym (names-add us n u)) h)
 
 mutual
   shows_value : {b : List ℕ} {i j : ℕ} {t : Tree} → Value b i j t → Shows b j (preorder t) (t ∷ [])
@@ -254,8 +254,8 @@ mutual
       let v = add_item us u in let a = led_order l in let q = padded_order p in
       let e = ap (array i (suc k)) (items_from-list v) in
       shows_container b i (suc k) Array (items_preorder v) (list_of_items v) (array i (suc k) v) (omega arith)
-          (ap kind_by o) (shows_more b k (suc k) _ _ (omega arith) (shows_add l p (shows_led l) (shows_padded p))) e
-          refl
+      (ap kind_by o) (shows_more b k (suc k) _ _ (omega arith) (shows_add l p (shows_led l) (shows_padded p))) e
+      refl
   shows_value {b} (empty_object i j o w c) = let h = w.order in
       shows_container b i (suc j) Object [] [] (object i (suc j) no_members) (omega arith) (ap kind_by o)
       (shows_none b (suc j)) refl refl
@@ -263,8 +263,8 @@ mutual
       let v = add_member us n u in let a = led_members_order ld in let q = padded_order p in let r = named_order nm in
       let e = ap (object i (suc l)) (members_from-list v) in
       shows_container b i (suc l) Object (members_preorder v) (names_and_values v) (object i (suc l) v) (omega arith)
-          (ap kind_by o) (shows_more b l (suc l) _ _ (omega arith)
-          (shows_add_member ld nm p (shows_led_members ld) (shows_padded p))) e refl
+      (ap kind_by o) (shows_more b l (suc l) _ _ (omega arith)
+      (shows_add_member ld nm p (shows_led_members ld) (shows_padded p))) e refl
 
   pub shows_padded : {b : List ℕ} {i j : ℕ} {t : Tree} → Padded b i j t → Shows b j (preorder t) (t ∷ [])
   shows_padded {b} (padded i j k l t w v x) = shows_more b k l (preorder t) (t ∷ []) x.order (shows_value v)

@@ -50,9 +50,9 @@ object_at : {b : List ℕ} (i j k : ℕ) (us : Members) → White b i j → byte
 object_at {b} i j k us w o ld s m ks ts p h r =
     let t = token_at j 0 1 in let q = max p (suc (length ks)) in
     let r1 = on (idle m ks ts j p) (idle FirstName (length ts ∷ ks) (ts ++ t ∷ []) (suc j) q) (skip w s m ks ts p r)
-        (open_object m ks ts j p (byte b j) h o) in
+    (open_object m ks ts j p (byte b j) h o) in
     let r2 = run_led_members ld s FirstName (length ts) ks (ts ++ t ∷ []) q j (suc (length ts)) (length-snoc ts t)
-        (slice_get-seam ts [] t) tt r1 in
+    (slice_get-seam ts [] t) tt r1 in
     record { mode = r2.mode; tokens = _; deepest = _; begins = r2.begins; reached = r2.reached }
 
 pub front_runs : {b : List ℕ} {i j n : ℕ} → Front b i j n
@@ -63,40 +63,40 @@ front_runs {b} (white i j w) s m ks ts p h r =
 front_runs {b} (begun i j l k w g) s m ks ts p h r =
     let q = begun_reading g in
     live_n _ _ (omega arith)
-        (lives s (state (in_atom After j q.last) ks ts l p) (run_begun q.inside s m ks ts p h (skip w s m ks ts p r)))
+    (lives s (state (in_atom After j q.last) ks ts l p) (run_begun q.inside s m ks ts p h (skip w s m ks ts p r)))
 front_runs {b} (whole i j t w) s m ks ts p h r =
     live_n _ _ (omega arith)
-        (live b s (idle After ks (ts ++ flatten (length ts) t) j (rise (length ks) p t)) (run_padded w s m ks ts p h r))
+    (live b s (idle After ks (ts ++ flatten (length ts) t) j (rise (length ks) p t)) (run_padded w s m ks ts p h r))
 front_runs {b} (front_array i j k l n us w o ld q) s m ks ts p h r =
     let t = token_at j 0 0 in let y = max p (suc (length ks)) in
     let r1 = on (idle m ks ts j p) (idle FirstItem (length ts ∷ ks) (ts ++ t ∷ []) (suc j) y) (skip w s m ks ts p r)
-        (open_array m ks ts j p (byte b j) h o) in
+    (open_array m ks ts j p (byte b j) h o) in
     let r2 = run_led ld s FirstItem (length ts) ks (ts ++ t ∷ []) y j (suc (length ts)) (length-snoc ts t)
-        (slice_get-seam ts [] t) tt r1 in
+    (slice_get-seam ts [] t) tt r1 in
     live_n _ _ (omega arith) (front_runs q s r2.mode (length ts ∷ ks) _ _ r2.begins r2.reached)
 front_runs {b} (in_object i j k l us w o ld w2) s m ks ts p h r =
     let q = object_at {b = b} i j k us w o ld s m ks ts p h r in
     live_n _ _ (omega arith)
-        (lives s (idle q.mode (length ts ∷ ks) q.tokens l q.deepest)
-        (skip w2 s q.mode (length ts ∷ ks) q.tokens q.deepest q.reached))
+    (lives s (idle q.mode (length ts ∷ ks) q.tokens l q.deepest)
+    (skip w2 s q.mode (length ts ∷ ks) q.tokens q.deepest q.reached))
 front_runs {b} (front_name i j k l m2 us w o ld w2 g) s m ks ts p h r =
     let q = object_at {b = b} i j k us w o ld s m ks ts p h r in
     let z = begun_reading g in
     live_n _ _ (omega arith) (lives s (state (in_atom AfterName l z.last) (length ts ∷ ks) q.tokens m2 q.deepest)
     (run_begun_name z.inside (quote_first b l m2 g.rest g.order g.within g.spelled) s q.mode (length ts ∷ ks) q.tokens
-        q.deepest q.begins (skip w2 s q.mode (length ts ∷ ks) q.tokens q.deepest q.reached)))
+    q.deepest q.begins (skip w2 s q.mode (length ts ∷ ks) q.tokens q.deepest q.reached)))
 front_runs {b} (front_after_name i j k l m2 n us w o ld w2 g w3) s m ks ts p h r =
     let q = object_at {b = b} i j k us w o ld s m ks ts p h r in
     let z = run_name g s q.mode (length ts ∷ ks) q.tokens q.deepest q.begins
-        (skip w2 s q.mode (length ts ∷ ks) q.tokens q.deepest q.reached) in
+    (skip w2 s q.mode (length ts ∷ ks) q.tokens q.deepest q.reached) in
     live_n _ _ (omega arith)
-        (live b s (idle AfterName (length ts ∷ ks) _ n q.deepest)
-        (skip_after w3 s AfterName (length ts ∷ ks) _ q.deepest z))
+    (live b s (idle AfterName (length ts ∷ ks) _ n q.deepest)
+    (skip_after w3 s AfterName (length ts ∷ ks) _ q.deepest z))
 front_runs {b} (front_member i j k l m2 n us nm w o ld named_at f) s m ks ts p h r =
     let q = object_at {b = b} i j k us w o ld s m ks ts p h r in
     live_n _ _ (omega arith)
-        (front_runs f s Ready (length ts ∷ ks) _ q.deepest tt
-        (run_named named_at s q.mode (length ts ∷ ks) q.tokens q.deepest q.begins q.reached))
+    (front_runs f s Ready (length ts ∷ ks) _ q.deepest tt
+    (run_named named_at s q.mode (length ts ∷ ks) q.tokens q.deepest q.begins q.reached))
 
 -- ---- from states to fronts
 
@@ -125,23 +125,23 @@ context_front : {b : List ℕ} {e : ℕ} {ks : List ℕ} {ts : List Token} → C
 context_front {b} (root e w) j n f = front_n _ _ (omega arith) (front_white w f)
 context_front {b} (in_array e0 j0 e ks ts us c o l w) j n f =
     front_n _ _ (omega arith)
-        (context_front c j (suc n) (front_array e0 e0 j0 j n us (no_white b e0) o l (front_white w f)))
+    (context_front c j (suc n) (front_array e0 e0 j0 j n us (no_white b e0) o l (front_white w f)))
 context_front {b} (in_member e0 j0 k e ks ts us nm c o l d w) j n f =
     front_n _ _ (omega arith)
-        (context_front c j (suc n) (front_member e0 e0 j0 k j n us nm (no_white b e0) o l d (front_white w f)))
+    (context_front c j (suc n) (front_member e0 e0 j0 k j n us nm (no_white b e0) o l d (front_white w f)))
 
 -- what was read is a prefix, with as many containers open as the stack has
 pub inv_front : {b : List ℕ} (s : State) → Inv b s → Front b 0 s.place (length s.stack)
 inv_front {b} s (ready k p ks ts c) = front_n _ _ (omega arith) (context_front c k 0 (white k k (no_white b k)))
 inv_front {b} s (first_item e k p ks ts c o w) =
     front_n _ _ (omega arith)
-        (context_front c k 1 (front_array e e (suc e) k 0 no_items (no_white b e) o (no_led (suc e))
-            (white (suc e) k w)))
+    (context_front c k 1 (front_array e e (suc e) k 0 no_items (no_white b e) o (no_led (suc e))
+    (white (suc e) k w)))
 inv_front {b} s (after_tree e j k p ks ts t c v w) =
     front_n _ _ (omega arith) (context_front c k 0 (whole e k t (padded e e j k t (no_white b e) v w)))
 inv_front {b} s (first_name e k p ks ts c o w) =
     front_n _ _ (omega arith)
-        (context_front c k 1 (in_object e e (suc e) k no_members (no_white b e) o (no_led_members (suc e)) w))
+    (context_front c k 1 (in_object e e (suc e) k no_members (no_white b e) o (no_led_members (suc e)) w))
 inv_front {b} s (next_name e j k p ks ts us c o l w) =
     front_n _ _ (omega arith) (context_front c k 1 (in_object e e j k us (no_white b e) o l w))
 inv_front {b} s (after_name e j l m k p ks ts us c o ld w0 wd w) =

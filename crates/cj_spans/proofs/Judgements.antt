@@ -45,7 +45,7 @@ module _ (s : State) where
   climbs_begin : (c : ℕ) → Climbs (length s.stack) (begin_value c s)
   climbs_begin c =
       climbs_cond _ (nat_eq c 91) _ _ (omega arith)
-          (climbs_cond _ (nat_eq c 123) _ _ (omega arith) (climbs_lex (lex_start c)))
+      (climbs_cond _ (nat_eq c 123) _ _ (omega arith) (climbs_lex (lex_start c)))
 
   climbs_name : (c : ℕ) → Climbs (length s.stack) (begin_name c s)
   climbs_name c = climbs_cond _ (nat_eq c 34) _ None (omega arith) tt
@@ -118,8 +118,13 @@ module _ (b : List ℕ) (d : ℕ) where
     unfoldable pub no_end : (o : Option State) → settle s ≡ o → s.place ≡ length b
         → ((ts : List Token) (p : ℕ) → o ≡ Some (state (between After) [] ts (length b) p) → ⊥) → Judgement b d
     no_end o k e no_text =
-        ends_at (length b) (record { last = s; reached = r; at = e; within = omega arith;
-                stuck = inr (refl, λ ts p g. no_text ts p (sym k ∙ g)) }) h
+        ends_at (length b) (record {
+          last = s;
+          reached = r;
+          at = e;
+          within = omega arith;
+          stuck = inr (refl, λ ts p g. no_text ts p (sym k ∙ g));
+        }) h
 
     pub other_phase : (f : Phase) (ks : List ℕ) (ts us : List Token) (i j p q : ℕ) → (f ≡ between After → ⊥)
         → Some (state f ks ts i p) ≡ Some (state (between After) [] us j q) → ⊥
@@ -138,7 +143,7 @@ module _ (b : List ℕ) (d : ℕ) where
         let same = settled s (state (between After) [] ts i p) k in
         let at : i ≡ length b = sym same.place ∙ e in
         let whole : settle s ≡ Some (state (between After) [] ts (length b) p) =
-            k ∙ ap (λ n. Some (state (between After) [] ts n p)) at in
+        k ∙ ap (λ n. Some (state (between After) [] ts n p)) at in
         let t = spells s (inv_reaches b s r) ts p whole in
         let deepest : p ≡ nest t.tree = nest_of b t.tree s ts p t.json r whole in
         let deep : s.deepest ≡ p = same.deepest in
@@ -150,22 +155,22 @@ module _ (b : List ℕ) (d : ℕ) where
     by_end (between After) (x ∷ ks) ts i p k e = no_end _ k e (λ us q g. some_open x ks ts us i (length b) p q g)
     by_end (between Ready) ks ts i p k e =
         no_end _ k e (λ us q g. other_phase (between Ready) ks ts us i (length b) p q
-            (λ (n : between Ready ≡ between After). cc) g)
+        (λ (n : between Ready ≡ between After). cc) g)
     by_end (between FirstItem) ks ts i p k e =
         no_end _ k e (λ us q g. other_phase (between FirstItem) ks ts us i (length b) p q
-            (λ (n : between FirstItem ≡ between After). cc) g)
+        (λ (n : between FirstItem ≡ between After). cc) g)
     by_end (between FirstName) ks ts i p k e =
         no_end _ k e (λ us q g. other_phase (between FirstName) ks ts us i (length b) p q
-            (λ (n : between FirstName ≡ between After). cc) g)
+        (λ (n : between FirstName ≡ between After). cc) g)
     by_end (between NextName) ks ts i p k e =
         no_end _ k e (λ us q g. other_phase (between NextName) ks ts us i (length b) p q
-            (λ (n : between NextName ≡ between After). cc) g)
+        (λ (n : between NextName ≡ between After). cc) g)
     by_end (between AfterName) ks ts i p k e =
         no_end _ k e (λ us q g. other_phase (between AfterName) ks ts us i (length b) p q
-            (λ (n : between AfterName ≡ between After). cc) g)
+        (λ (n : between AfterName ≡ between After). cc) g)
     by_end (in_atom m a x) ks ts i p k e =
         no_end _ k e (λ us q g. other_phase (in_atom m a x) ks ts us i (length b) p q
-            (λ (n : in_atom m a x ≡ between After). cc) g)
+        (λ (n : in_atom m a x ≡ between After). cc) g)
 
     unfoldable pub at_end : (o : Option State) → settle s ≡ o → s.place ≡ length b → Judgement b d
     at_end None k e = no_end None k e (λ ts p g. none_some _ g)
@@ -203,8 +208,13 @@ module _ (b : List ℕ) (d : ℕ) where
         → ((u : State) → Reaches b start u → u.deepest ≤ d → u.place + n ≡ length b → Judgement b d)
         → s.place + suc n ≡ length b → (o : Option State) → step (byte b s.place) s ≡ o → Judgement b d
     by_step n later e None k =
-        ends_at s.place (record { last = s; reached = r; at = refl; within = omega arith;
-                stuck = inl (omega arith, k) }) h
+        ends_at s.place (record {
+          last = s;
+          reached = r;
+          at = refl;
+          within = omega arith;
+          stuck = inl (omega arith, k);
+        }) h
     by_step n later e (Some u) k = by_depth n later e u k (ltb d u.deepest) refl
 
   unfoldable pub over : (n : ℕ) (s : State) → Reaches b start s → s.deepest ≤ d → s.place + n ≡ length b → Judgement b d

@@ -39,8 +39,11 @@ pub before_length : (j : ℕ) (ts : List Token) → before j ts ≤ length ts
 before_length j [] = omega arith
 before_length j (t ∷ ts) =
     let l = before_length j ts in
-    elim (cases_lt t.start j) [ inl h ↦ let e = before_one j t ts h in
-        omega arith | inr h ↦ let e = before_zero j t ts h in omega arith ]
+    elim (cases_lt t.start j) [
+      | inl h ↦ let e = before_one j t ts h in
+          omega arith
+      | inr h ↦ let e = before_zero j t ts h in omega arith
+    ]
 
 before_all : (j : ℕ) (ts us : List Token) → AllBefore j ts → NotBefore j us → before j (ts ++ us) ≡ length ts
 before_all j [] us h n = before_none j us n
@@ -78,8 +81,12 @@ record Linked (i j k : ℕ) (ts : List Token) : Type 0 where
 
 linked_none : (i k : ℕ) → Linked i i k []
 linked_none i k =
-    record { all = tt; first = tt; linked = λ rest n e f g. let q : n ≡ k = omega arith in
-        subst (λ m. AllLinked m rest) q g }
+    record {
+      all = tt;
+      first = tt;
+      linked = λ rest n e f g. let q : n ≡ k = omega arith in
+          subst (λ m. AllLinked m rest) q g;
+    }
 
 linked_more : (i j k l n : ℕ) (ts : List Token) → k ≤ i → j ≤ l → Linked i j n ts → Linked k l n ts
 linked_more i j k l n ts f g h = record {
@@ -96,7 +103,7 @@ linked_both i j k n m ts us f g e h q = record {
   linked = λ rest l d o p.
       let c = length-append ts us in
       subst (AllLinked n) (sym (append_assoc ts us rest))
-          (h.linked (us ++ rest) m e (not_before_append j k us rest g q.first o) (q.linked rest l (omega arith) o p));
+      (h.linked (us ++ rest) m e (not_before_append j k us rest g q.first o) (q.linked rest l (omega arith) o p));
 }
 
 -- a token over others
@@ -111,7 +118,7 @@ linked_over i j n m ts o e h = record {
 linked_atom : (i j n : ℕ) → i < j → Linked i j n (token_at i j (suc n) ∷ [])
 linked_atom i j n o =
     linked_over i j n (suc n) [] o (omega arith)
-        (linked_more j j (suc i) j (suc n) [] o (omega arith) (linked_none j (suc n)))
+    (linked_more j j (suc i) j (suc n) [] o (omega arith) (linked_none j (suc n)))
 
 -- ---- the grammar
 
@@ -125,8 +132,8 @@ linked_add : (i j k n : ℕ) (us : Items) (u : Tree) → i ≤ j → j ≤ k →
 linked_add i j k n us u f g h q =
     let e = length-flatten_items n us in
     subst (Linked i k n) (sym (flatten_items-add n us u))
-        (linked_both i j k n (n + items_size us) (flatten_items n us) (flatten (n + items_size us) u) f g
-        (omega arith) h q)
+    (linked_both i j k n (n + items_size us) (flatten_items n us) (flatten (n + items_size us) u) f g
+    (omega arith) h q)
 
 linked_add_member : (i j k l n : ℕ) (us : Members) (a : Atom) (u : Tree) → i ≤ j → j ≤ k → k ≤ l
     → Linked i j n (flatten_members n us) → let m = n + members_size us in
@@ -136,9 +143,9 @@ linked_add_member i j k l n us a u f g h p q r =
     let m = n + members_size us in
     let e = length-flatten_members n us in
     let pair : Linked j l m (named_tokens m a u) =
-        linked_both j k l m (suc m) (token_at a.start a.stop (suc m) ∷ []) (flatten (suc m) u) g h (omega arith) q r in
+    linked_both j k l m (suc m) (token_at a.start a.stop (suc m) ∷ []) (flatten (suc m) u) g h (omega arith) q r in
     subst (Linked i l n) (sym (flatten_members-add n us a u))
-        (linked_both i j l n m (flatten_members n us) (named_tokens m a u) f (omega arith) (omega arith) p pair)
+    (linked_both i j l n m (flatten_members n us) (named_tokens m a u) f (omega arith) (omega arith) p pair)
 
 mutual
   linked_value : {b : List ℕ} {i j : ℕ} {t : Tree} → Value b i j t → (n : ℕ) → Linked i j n (flatten n t)
@@ -146,25 +153,25 @@ mutual
   linked_value {b} (empty_array i j o w c) n =
       let h = w.order in
       linked_over i (suc j) n (suc n + 0) [] (omega arith) (omega arith)
-          (linked_more (suc i) (suc i) (suc i) (suc j) (suc n) [] (omega arith) (omega arith)
-          (linked_none (suc i) (suc n)))
+      (linked_more (suc i) (suc i) (suc i) (suc j) (suc n) [] (omega arith) (omega arith)
+      (linked_none (suc i) (suc n)))
   linked_value {b} (full_array i j k us u o l p c) n =
       let a = led_order l in let q = padded_ends p in let v = add_item us u in let e = length-flatten_items (suc n) v in
       linked_over i (suc k) n (suc n + items_size v) (flatten_items (suc n) v) (omega arith) (omega arith)
       (linked_more (suc i) k (suc i) (suc k) (suc n) (flatten_items (suc n) v) (omega arith) (omega arith)
-          (linked_add (suc i) j k (suc n) us u a q (linked_led l (suc n)) (linked_padded p (suc n + items_size us))))
+      (linked_add (suc i) j k (suc n) us u a q (linked_led l (suc n)) (linked_padded p (suc n + items_size us))))
   linked_value {b} (empty_object i j o w c) n =
       let h = w.order in
       linked_over i (suc j) n (suc n + 0) [] (omega arith) (omega arith)
-          (linked_more (suc i) (suc i) (suc i) (suc j) (suc n) [] (omega arith) (omega arith)
-          (linked_none (suc i) (suc n)))
+      (linked_more (suc i) (suc i) (suc i) (suc j) (suc n) [] (omega arith) (omega arith)
+      (linked_none (suc i) (suc n)))
   linked_value {b} (full_object i j k l us a u o ld nm p c) n =
       let f = led_members_order ld in let q = padded_ends p in let r = named_ends nm in let v = add_member us a u in
       let e = length-flatten_members (suc n) v in let m = suc n + members_size us in
       linked_over i (suc l) n (suc n + members_size v) (flatten_members (suc n) v) (omega arith) (omega arith)
       (linked_more (suc i) l (suc i) (suc l) (suc n) (flatten_members (suc n) v) (omega arith) (omega arith)
       (linked_add_member (suc i) j k l (suc n) us a u f r q (linked_led_members ld (suc n)) (linked_named nm m)
-          (linked_padded p (suc m))))
+      (linked_padded p (suc m))))
 
   linked_padded : {b : List ℕ} {i j : ℕ} {t : Tree} → Padded b i j t → (n : ℕ) → Linked i j n (flatten n t)
   linked_padded {b} (padded i j k l t w v x) n = linked_more j k i l n (flatten n t) w.order x.order (linked_value v n)
@@ -174,7 +181,7 @@ mutual
   linked_led {b} (led i j k us u l p c) n =
       let a = led_order l in let q = padded_ends p in
       linked_more i k i (suc k) n (flatten_items n (add_item us u)) (omega arith) (omega arith)
-          (linked_add i j k n us u a q (linked_led l n) (linked_padded p (n + items_size us)))
+      (linked_add i j k n us u a q (linked_led l n) (linked_padded p (n + items_size us)))
 
   linked_led_members : {b : List ℕ} {i j : ℕ} {us : Members} → LedMembers b i j us → (n : ℕ)
       → Linked i j n (flatten_members n us)
@@ -182,8 +189,8 @@ mutual
   linked_led_members {b} (led_member i j k l us a u ld nm p c) n =
       let f = led_members_order ld in let q = padded_ends p in let r = named_ends nm in let m = n + members_size us in
       linked_more i l i (suc l) n (flatten_members n (add_member us a u)) (omega arith) (omega arith)
-          (linked_add_member i j k l n us a u f r q (linked_led_members ld n) (linked_named nm m)
-          (linked_padded p (suc m)))
+      (linked_add_member i j k l n us a u f r q (linked_led_members ld n) (linked_named nm m)
+      (linked_padded p (suc m)))
 
 link_at : (n k : ℕ) (ts : List Token) (t : Token) → AllLinked n ts → slice_get ts k ≡ Some t
     → t.link ≡ suc (n + k) + before t.stop (drop (suc k) ts)
@@ -200,7 +207,7 @@ json_links b t p few k u h =
     let a = subst (AllLinked 0) (append-nil (flatten 0 t)) ((linked_padded p 0).linked [] _ refl tt tt) in
     let next : suc k ≡ k + 1 = omega arith in
     let l = subst (λ m. u.link ≡ m + before u.stop (drop m (flatten 0 t))) next
-        (let e = link_at 0 k (flatten 0 t) u a h in omega arith) in
+    (let e = link_at 0 k (flatten 0 t) u a h in omega arith) in
     let inside = slice_get_within (flatten 0 t) k u h in
     let m = before_length u.stop (drop (k + 1) (flatten 0 t)) in
     let n = length-drop (k + 1) (flatten 0 t) in

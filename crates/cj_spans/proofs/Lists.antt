@@ -25,15 +25,15 @@ pub flatten_members-add : (k : ℕ) (ms : Members) (n : Atom) (t : Tree)
     → flatten_members k (add_member ms n t) ≡ flatten_members k ms ++ named_tokens (k + members_size ms) n t
 flatten_members-add k no_members n t =
     let e : k ≡ k + 0 = omega arith in ap (λ xs. token_at n.start n.stop (suc k) ∷ xs) (append-nil (flatten (suc k) t))
-        ∙ ap (λ j. named_tokens j n t) e
+    ∙ ap (λ j. named_tokens j n t) e
 flatten_members-add k (member m u ms) n t =
     let j = suc k + size u in
     let e : j + members_size ms ≡ k + suc (size u + members_size ms) = omega arith in
     ap (λ xs. token_at m.start m.stop (suc k) ∷ (flatten (suc k) u ++ xs))
-        (flatten_members-add j ms n t ∙ ap (λ i. flatten_members j ms ++ named_tokens i n t) e)
+    (flatten_members-add j ms n t ∙ ap (λ i. flatten_members j ms ++ named_tokens i n t) e)
     ∙ ap (λ xs. token_at m.start m.stop (suc k) ∷ xs)
-        (sym (append_assoc (flatten (suc k) u) (flatten_members j ms)
-            (named_tokens (k + suc (size u + members_size ms)) n t)))
+    (sym (append_assoc (flatten (suc k) u) (flatten_members j ms)
+    (named_tokens (k + suc (size u + members_size ms)) n t)))
 
 pub items_preorder-add : (ts : Items) (t : Tree) → items_preorder (add_item ts t) ≡ items_preorder ts ++ preorder t
 items_preorder-add no_items t = append-nil (preorder t)
@@ -46,7 +46,7 @@ members_preorder-add no_members n t = ap (λ xs. span_at n.start n.stop ∷ xs) 
 members_preorder-add (member m u ms) n t =
     ap (λ xs. span_at m.start m.stop ∷ (preorder u ++ xs)) (members_preorder-add ms n t)
     ∙ ap (λ xs. span_at m.start m.stop ∷ xs)
-        (sym (append_assoc (preorder u) (members_preorder ms) (span_at n.start n.stop ∷ preorder t)))
+    (sym (append_assoc (preorder u) (members_preorder ms) (span_at n.start n.stop ∷ preorder t)))
 
 -- ---- as many tokens as the size says, and where they are
 
@@ -84,15 +84,15 @@ mutual
   spans_of-flatten_items k (item t ts) =
       let us = flatten_items (k + size t) ts in
       spans_of-append (flatten k t) us ∙ ap (λ z. z ++ spans_of us) (spans_of-flatten k t)
-          ∙ ap (λ z. preorder t ++ z) (spans_of-flatten_items (k + size t) ts)
+      ∙ ap (λ z. preorder t ++ z) (spans_of-flatten_items (k + size t) ts)
 
   spans_of-flatten_members : (k : ℕ) (ms : Members) → spans_of (flatten_members k ms) ≡ members_preorder ms
   spans_of-flatten_members k no_members = refl
   spans_of-flatten_members k (member n t ms) =
       let us = flatten_members (suc k + size t) ms in
       ap (λ z. span_at n.start n.stop ∷ z)
-          (spans_of-append (flatten (suc k) t) us ∙ ap (λ z. z ++ spans_of us) (spans_of-flatten (suc k) t)
-          ∙ ap (λ z. preorder t ++ z) (spans_of-flatten_members (suc k + size t) ms))
+      (spans_of-append (flatten (suc k) t) us ∙ ap (λ z. z ++ spans_of us) (spans_of-flatten (suc k) t)
+      ∙ ap (λ z. preorder t ++ z) (spans_of-flatten_members (suc k + size t) ms))
 
 -- ---- elements
 
@@ -119,7 +119,7 @@ items_more xs k us u h =
     let n : length (xs ++ fs) ≡ k + items_size us = let e = length-append xs fs in let f = length-flatten_items k us in
     omega arith in
     ap (λ j. (xs ++ fs) ++ flatten j u) n ∙ append_assoc xs fs (flatten (k + items_size us) u)
-        ∙ ap (λ zs. xs ++ zs) (sym (flatten_items-add k us u))
+    ∙ ap (λ zs. xs ++ zs) (sym (flatten_items-add k us u))
 
 -- one member more
 pub members_more : (xs : List Token) (k : ℕ) (us : Members) (n : Atom) (u : Tree) → length xs ≡ k
@@ -132,7 +132,7 @@ members_more xs k us n u h =
     let e : length vs ≡ k + members_size us = let e = length-append xs fs in let f = length-flatten_members k us in
     omega arith in
     ap (λ j. (vs ++ v ∷ []) ++ flatten j u) (length-snoc vs v) ∙ append_assoc vs (v ∷ []) (flatten (suc (length vs)) u)
-        ∙ append_assoc xs fs (named_tokens (length vs) n u)
+    ∙ append_assoc xs fs (named_tokens (length vs) n u)
     ∙ ap (λ j. xs ++ (fs ++ named_tokens j n u)) e ∙ ap (λ zs. xs ++ zs) (sym (flatten_members-add k us n u))
 
 -- the token of a container is written where its place is
@@ -149,7 +149,7 @@ array_done ts o i j us =
     let e : length ((ts ++ o ∷ []) ++ fs) ≡ suc (length ts) + items_size us = let e = length-append (ts ++ o ∷ []) fs in
     let f = length-flatten_items (suc (length ts)) us in let g = length-snoc ts o in omega arith in
     ap (λ n. slice_set ((ts ++ o ∷ []) ++ fs) (length ts) (token_at i j n)) e
-        ∙ set_closed ts o (token_at i j (suc (length ts) + items_size us)) fs
+    ∙ set_closed ts o (token_at i j (suc (length ts) + items_size us)) fs
 
 pub object_done : (ts : List Token) (o : Token) (i j : ℕ) (us : Members) → let vs =
     (ts ++ o ∷ []) ++ flatten_members (suc (length ts)) us in
@@ -157,10 +157,10 @@ pub object_done : (ts : List Token) (o : Token) (i j : ℕ) (us : Members) → l
 object_done ts o i j us =
     let fs = flatten_members (suc (length ts)) us in
     let e : length ((ts ++ o ∷ []) ++ fs) ≡ suc (length ts) + members_size us = let e =
-        length-append (ts ++ o ∷ []) fs in let f = length-flatten_members (suc (length ts)) us in
+    length-append (ts ++ o ∷ []) fs in let f = length-flatten_members (suc (length ts)) us in
     let g = length-snoc ts o in omega arith in
     ap (λ n. slice_set ((ts ++ o ∷ []) ++ fs) (length ts) (token_at i j n)) e
-        ∙ set_closed ts o (token_at i j (suc (length ts) + members_size us)) fs
+    ∙ set_closed ts o (token_at i j (suc (length ts) + members_size us)) fs
 
 -- the same of one that is empty
 pub array_empty : (ts : List Token) (o : Token) (i j : ℕ)

@@ -49,7 +49,7 @@ bare_kept [] n t h = refl
 bare_kept (u ∷ ts) zero t h =
     let e : u ≡ t = cc in
     ap (λ l. token_at t.start t.stop l ∷ bare ts) (mod_more t.link)
-        ∙ ap (λ (v : Token). token_at v.start v.stop (link_of v) ∷ bare ts) (sym e)
+    ∙ ap (λ (v : Token). token_at v.start v.stop (link_of v) ∷ bare ts) (sym e)
 bare_kept (u ∷ ts) (suc n) t h = ap (λ us. token_at u.start u.stop (link_of u) ∷ us) (bare_kept ts n t h)
 
 -- ---- what tokens show without their marks
@@ -87,8 +87,8 @@ linked_bare ts us e linked = λ k t h.
     let stop : o.0.stop ≡ t.stop = ap (λ (v : Token). v.stop) o.2 in
     let link : link_of o.0 ≡ link_of t = ap (λ (v : Token). v.link) o.2 in
     let rest = sym (before_bare t.stop (drop (k + 1) ts))
-        ∙ ap (before t.stop) (sym (drop_bare (k + 1) ts) ∙ ap (drop (k + 1)) (sym e) ∙ drop_bare (k + 1) us)
-        ∙ before_bare t.stop (drop (k + 1) us) in
+    ∙ ap (before t.stop) (sym (drop_bare (k + 1) ts) ∙ ap (drop (k + 1)) (sym e) ∙ drop_bare (k + 1) us)
+    ∙ before_bare t.stop (drop (k + 1) us) in
     sym link ∙ l ∙ ap (λ j. k + 1 + before j (drop (k + 1) ts)) stop ∙ ap (λ n. k + 1 + n) rest
   where
     back : (vs : List Token) (k : ℕ) (b : Token) → slice_get (bare vs) k ≡ Some b → (t : Token)
@@ -120,8 +120,11 @@ one_start : (ts : List Token) (i k : ℕ) (t u : Token) → AreRising ts → sli
 one_start ts i k t u rising h g e =
     elim (cases_lt i k) [
       | inl l ↦ let r = rising i k t u l h g in absurd (omega arith)
-      | inr m ↦ elim (cases_lt k i) [ inl l ↦ let r = rising k i u t l g h in
-          absurd (omega arith) | inr n ↦ omega arith ]
+      | inr m ↦ elim (cases_lt k i) [
+        | inl l ↦ let r = rising k i u t l g h in
+            absurd (omega arith)
+        | inr n ↦ omega arith
+      ]
     ]
 
 pub one_number : (b : List ℕ) (ts : List Token) (i k : ℕ) → AreRising ts → i < length ts → k < length ts
@@ -130,7 +133,7 @@ one_number b ts i k rising l m e =
     let f = below b ts i l in
     let g = below b ts k m in
     one_start ts i k f.0 g.0 rising f.1 g.1
-        (start_shown b ts i f.0 f.1 ∙ ap start_of e ∙ sym (start_shown b ts k g.0 g.1))
+    (start_shown b ts i f.0 f.1 ∙ ap start_of e ∙ sym (start_shown b ts k g.0 g.1))
 
 pub marked_within : (ts : List Token) (k : ℕ) → is_marked_at ts k ≡ true → k < length ts
 marked_within [] k h = cc
@@ -147,8 +150,13 @@ pub keeps : (old new : BoundedList Token) (n : ℕ) (t : Token) → slice_get ol
     → IsWithin new → KeepsTokens old new
 keeps old new n t h e l w =
     let same = ap bare e ∙ bare_kept old.elements n t h in
-    record { tokens = same; spans = spans_kept old.elements new.elements same;
-        of = λ line. of_kept line old.elements new.elements same; list = l; within = w }
+    record {
+      tokens = same;
+      spans = spans_kept old.elements new.elements same;
+      of = λ line. of_kept line old.elements new.elements same;
+      list = l;
+      within = w;
+    }
 
 -- a node that is found by its number shows the tree of that token
 pub found_at-number : (n : Node) (k : ℕ) → k < length (tokens_in (source_of n))

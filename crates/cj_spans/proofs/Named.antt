@@ -33,7 +33,7 @@ string_read : (b : List ℕ) (s : State) (m n : Mode) (ks : List ℕ) (ts us : L
 string_read b s m n ks ts us i k p q v e h =
     let o = q.order in let w = q.within in
     let r = step_on b s (idle m ks ts i p) (state (in_atom n i InString) ks ts (suc i) p) h (omega arith)
-        (string_begins m n (byte b i) ks ts i p v q.opens) in
+    (string_begins m n (byte b i) ks ts i p v q.opens) in
     settles_both r (ends_ok b i k p InString StringDone Text n ks ts us q.goes (inr refl) refl e)
 
 pub name_leads : (m : Mode) → BeginsName m → StringLeads m AfterName
@@ -55,9 +55,16 @@ module _ (b : List ℕ) (ts : BoundedList Token) where
       → StandsInObject b us n j
   stands_leads us m n i j s f =
       let h = f s.stands.tokens0 s.stands.stack0 s.stack s.object s.stands.standing in
-      record { stack = s.stack;
-          stands = record { tokens0 = s.stands.tokens0; stack0 = s.stands.stack0; standing = h.1;
-              room = s.stands.room }; object = h.0 }
+      record {
+        stack = s.stack;
+        stands = record {
+          tokens0 = s.stands.tokens0;
+          stack0 = s.stands.stack0;
+          standing = h.1;
+          room = s.stands.room;
+        };
+        object = h.0;
+      }
 
   pub leads_string : (us : BoundedList Token) (m n : Mode) (i k : ℕ) → StringLeads m n → IsQuoted b i k
       → Becomes ts (ts.elements ++ token_at i k (length ts.elements + 1) ∷ []) us → Leads b ts m i us n k
@@ -69,15 +76,19 @@ module _ (b : List ℕ) (ts : BoundedList Token) where
 
   pub leads_colon : (k : ℕ) → (k < length b) × (byte b k ≡ 58) → Leads b ts AfterName k ts Ready (k + 1)
   leads_colon k h = λ t0 s0 ks a s.
-      let l = h.0 in
-      (a, standing_with b t0 s0 ts ts ks AfterName Ready k (k + 1) s (grown_same ts s.kept.within) (omega arith)
-          (λ p. colon_read b start ks.elements ts.elements k p h.0 h.1))
+      let l = h.0 in (
+        a,
+        standing_with b t0 s0 ts ts ks AfterName Ready k (k + 1) s (grown_same ts s.kept.within) (omega arith)
+            (λ p. colon_read b start ks.elements ts.elements k p h.0 h.1),
+      )
 
   pub leads_comma : (k : ℕ) → (k < length b) × (byte b k ≡ 44) → Leads b ts After k ts NextName (k + 1)
   leads_comma k h = λ t0 s0 ks a s.
-      let l = h.0 in
-      (a, standing_with b t0 s0 ts ts ks After NextName k (k + 1) s (grown_same ts s.kept.within) (omega arith)
-          (λ p. comma_read b start Object NextName ks.elements ts.elements k p (λ _ _ _. refl) a h.0 h.1))
+      let l = h.0 in (
+        a,
+        standing_with b t0 s0 ts ts ks After NextName k (k + 1) s (grown_same ts s.kept.within) (omega arith)
+            (λ p. comma_read b start Object NextName ks.elements ts.elements k p (λ _ _ _. refl) a h.0 h.1),
+      )
 
   -- ---- what the calls need
 

@@ -45,21 +45,21 @@ module _ (b : List ℕ) (t0 : BoundedList Token) (s0 : BoundedList ℕ) where
   standing_moved : (ts ts1 : BoundedList Token) (ks ks1 : BoundedList ℕ) (m n : Mode) (i : ℕ) (v : Move)
       → Standing b t0 s0 ts ks m i → i < length b → Grown ts ts1 → Kept ks ks1 → phase_after m i v ≡ between n
       → ((p : ℕ) → read m (byte b i) (idle m ks.elements ts.elements i p)
-          ≡ Some (state (phase_after m i v) ks1.elements ts1.elements (suc i)
-              (deepest_after v p (length ks1.elements)))) → Standing b t0 s0 ts1 ks1 n (i + 1)
+      ≡ Some (state (phase_after m i v) ks1.elements ts1.elements (suc i)
+      (deepest_after v p (length ks1.elements)))) → Standing b t0 s0 ts1 ks1 n (i + 1)
   standing_moved ts ts1 ks ks1 m n i v s l g k e h =
       let r = standing_step b t0 s0 ts ts1 ks ks1 m i v s l g k h in
       stepped_on b t0 s0 ts1 ts1 ks1 m i v (record { mode = n; place = i + 1 }) r (grown_same ts1 r.kept.within)
-          (λ p. (settles_at b m n i (i + 1) p v v ks1.elements ts1.elements refl e refl, omega arith, omega arith))
+      (λ p. (settles_at b m n i (i + 1) p v v ks1.elements ts1.elements refl e refl, omega arith, omega arith))
 
   -- behind the bracket that closes an array
   pub standing_closed : (ts ts1 : BoundedList Token) (ks ks1 : BoundedList ℕ) (i : ℕ) → Standing b t0 s0 ts ks After i
       → i < length b → byte b i ≡ 93 → Grown ts ts1 → Kept ks ks1
       → ((p : ℕ) → read After 93 (idle After ks.elements ts.elements i p)
-          ≡ Some (idle After ks1.elements ts1.elements (suc i) p)) → Standing b t0 s0 ts1 ks1 After (i + 1)
+      ≡ Some (idle After ks1.elements ts1.elements (suc i) p)) → Standing b t0 s0 ts1 ks1 After (i + 1)
   standing_closed ts ts1 ks ks1 i s l e g k h =
       standing_moved ts ts1 ks ks1 After After i (To After) s l g k refl
-          (λ p. ap (λ c. read After c (idle After ks.elements ts.elements i p)) e ∙ h p)
+      (λ p. ap (λ c. read After c (idle After ks.elements ts.elements i p)) e ∙ h p)
 
   -- behind the comma of an array
   pub standing_comma : (ts : BoundedList Token) (ks : BoundedList ℕ) (i : ℕ) → Standing b t0 s0 ts ks After i
@@ -67,7 +67,7 @@ module _ (b : List ℕ) (t0 : BoundedList Token) (s0 : BoundedList ℕ) where
   standing_comma ts ks i s c =
       let l = c.within in
       standing_with b t0 s0 ts ts ks After Ready i (i + 1) s (grown_same ts s.kept.within) (omega arith)
-          (λ p. comma_read b start Array Ready ks.elements ts.elements i p (λ _ _ _. refl) c.array c.within c.comma)
+      (λ p. comma_read b start Array Ready ks.elements ts.elements i p (λ _ _ _. refl) c.array c.within c.comma)
 
   -- behind a number
   pub standing_number : (ts ts1 : BoundedList Token) (ks : BoundedList ℕ) (m : Mode) (i k : ℕ)
@@ -76,7 +76,7 @@ module _ (b : List ℕ) (t0 : BoundedList Token) (s0 : BoundedList ℕ) where
   standing_number ts ts1 ks m i k s v n w e =
       let inside = n.within in
       standing_with b t0 s0 ts ts1 ks m After i k s (grown_more ts ts1 _ s.kept.within e) (omega arith)
-          (λ p. number_read b start m ks.elements ts.elements ts1.elements i k p n w v e.elements)
+      (λ p. number_read b start m ks.elements ts.elements ts1.elements i k p n w v e.elements)
 
 -- `[` opens an array where a value may begin
 opened_at : (m : Mode) (s : State) → BeginsValue m → read m 91 s ≡ Some (with_opened Array FirstItem s)
@@ -99,13 +99,13 @@ module _ (b : List ℕ) (ts ts1 : BoundedList Token) (ks ks1 : BoundedList ℕ) 
   standing_opened v r w l e t0 s0 s =
       let f : phase_after m i v ≡ between FirstItem = sym (ap (λ u. u.phase) (some_same _ _ (r.answer m 0))) in
       standing_moved b t0 s0 ts ts1 ks ks1 m FirstItem i v s l r.tokens r.stack f
-          (λ p. bracket_at m (byte b i) (idle m ks.elements ts.elements i p) w e ∙ r.answer m p)
+      (λ p. bracket_at m (byte b i) (idle m ks.elements ts.elements i p) w e ∙ r.answer m p)
 
   pub opened_in : (v : Move) → ReadsByte opens i (Ok v) ts ts1 ks ks1 → InArray ks1.elements ts1.elements
   opened_in v r =
       let e = some_same _ _ (r.answer m 0) in
       innermost_same Array _ ks1.elements _ ts1.elements (ap (λ u. u.stack) e) (ap (λ u. u.tokens) e)
-          (innermost_opened Array ks.elements ts.elements i refl)
+      (innermost_opened Array ks.elements ts.elements i refl)
 
   -- where it is refused
   pub standing_refused : (f : LineFault) → ReadsByte opens i (Err f) ts ts1 ks ks1 → BeginsValue m → i < length b
@@ -114,6 +114,6 @@ module _ (b : List ℕ) (ts ts1 : BoundedList Token) (ks ks1 : BoundedList ℕ) 
   standing_refused f r w l e t0 s0 s = (
     standing_fault (Unit {0}) b t0 s0 ts ts1 ks ks1 m i f s l
         (λ p. subst (λ o. Answers o m i p ks.limit (Err f) ks1.elements ts1.elements)
-            (sym (bracket_at m (byte b i) (idle m ks.elements ts.elements i p) w e)) (r.answer m p)),
+        (sym (bracket_at m (byte b i) (idle m ks.elements ts.elements i p) w e)) (r.answer m p)),
     standing_law b t0 s0 ts ts1 ks ks1 m i s r.tokens r.stack r.err.0 r.err.1,
   )

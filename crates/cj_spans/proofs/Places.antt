@@ -36,7 +36,7 @@ slice-more b i k h l =
     let g : i + (k - i) ≡ k = omega arith in
     let r : k - i < length (drop i b) = omega (arith, length-drop i b) in
     ap (λ n. take n (drop i b)) e ∙ take-suc (drop i b) (k - i) 0 r
-        ∙ ap (λ z. take (k - i) (drop i b) ++ z ∷ []) (get_or-drop i b (k - i) 0 ∙ ap (λ n. get_or b n 0) g)
+    ∙ ap (λ z. take (k - i) (drop i b) ++ z ∷ []) (get_or-drop i b (k - i) 0 ∙ ap (λ n. get_or b n 0) g)
 
 slice-one : (b : List ℕ) (i : ℕ) → i < length b → slice_range b i (suc i) ≡ get_or b i 0 ∷ []
 slice-one b i h =
@@ -80,8 +80,11 @@ no_zero StringDone = refl
 
 within_step : (b : List ℕ) (k : ℕ) (x y : Lex) → lex_step x (get_or b k 0) ≡ Some y → k < length b
 within_step b k x y h =
-    elim (cases_lt k (length b)) [ inl l ↦ l | inr g ↦
-        none_some y (sym (no_zero x) ∙ ap (lex_step x) (sym (past_end b k g)) ∙ h) ]
+    elim (cases_lt k (length b)) [
+      | inl l ↦ l
+      | inr g ↦
+          none_some y (sym (no_zero x) ∙ ap (lex_step x) (sym (past_end b k g)) ∙ h)
+    ]
 
 within_start : (b : List ℕ) (k : ℕ) (y : Lex) → lex_start (get_or b k 0) ≡ Some y → k < length b
 within_start b k y h =
@@ -96,16 +99,24 @@ start_one (Some x) = refl
 pub atom_first : (b : List ℕ) (i : ℕ) (x : Lex) → lex_start (byte b i) ≡ Some x → InAtom b i (suc i) x
 atom_first b i x h =
     let l = within_start b i x h in
-    record { order = omega arith; within = omega arith; run = ap reading (slice-one b i l)
-        ∙ start_one (lex_start (get_or b i 0)) ∙ h }
+    record {
+      order = omega arith;
+      within = omega arith;
+      run = ap reading (slice-one b i l)
+          ∙ start_one (lex_start (get_or b i 0)) ∙ h;
+    }
 
 pub atom_more : (b : List ℕ) (i k : ℕ) (x y : Lex) → InAtom b i k x → lex_step x (byte b k) ≡ Some y
     → InAtom b i (suc k) y
 atom_more b i k x y r h =
     let l = within_step b k x y h in
     let o : i ≤ k = omega (arith, r.order) in
-    record { order = omega (arith, r.order); within = omega arith; run = ap reading (slice-more b i k o l)
-        ∙ reading-more (slice_range b i k) (get_or b k 0) x r.run ∙ h }
+    record {
+      order = omega (arith, r.order);
+      within = omega arith;
+      run = ap reading (slice-more b i k o l)
+          ∙ reading-more (slice_range b i k) (get_or b k 0) x r.run ∙ h;
+    }
 
 pub atom_sound : {b : List ℕ} {i k : ℕ} {x : Lex} → InAtom b i k x → (kd : Kind) → lex_kind x ≡ Some kd
     → IsAtom b kd i k
@@ -120,10 +131,17 @@ pub record SomeBegun (b : List ℕ) (i k : ℕ) : Type 0 where
 pub atom_begun : {b : List ℕ} {i k : ℕ} {x : Lex} → InAtom b i k x → SomeBegun b i k
 atom_begun {b} {i} {k} {x} r =
     let c = can_end x in
-    record { kind = c.kind; begun =
-        record { order = r.order; within = r.within; rest = c.rest;
+    record {
+      kind = c.kind;
+      begun =
+          record {
+            order = r.order;
+            within = r.within;
+            rest = c.rest;
             spelled = reading_sound (slice_range b i k ++ c.rest) c.last c.kind
-            (reading-append (slice_range b i k) c.rest x r.run ∙ c.run) c.done } }
+                (reading-append (slice_range b i k) c.rest x r.run ∙ c.run) c.done;
+          };
+    }
 
 -- ---- names
 
@@ -161,9 +179,13 @@ name_kind {x = x} r q kd h = text_kind x kd (in_text r q) h
 pub name_begun : {b : List ℕ} {i k : ℕ} {x : Lex} → InAtom b i k x → byte b i ≡ 34 → Begun b Text i k
 name_begun {b} {i} {k} {x} r q =
     let c = text_end x (in_text r q) in
-    record { order = r.order; within = r.within; rest = c.rest;
-        spelled = reading_sound (slice_range b i k ++ c.rest) StringDone Text
-        (reading-append (slice_range b i k) c.rest x r.run ∙ c.run) refl }
+    record {
+      order = r.order;
+      within = r.within;
+      rest = c.rest;
+      spelled = reading_sound (slice_range b i k ++ c.rest) StringDone Text
+          (reading-append (slice_range b i k) c.rest x r.run ∙ c.run) refl;
+    }
 
 -- ---- the machine over a scalar
 
@@ -191,7 +213,7 @@ begin_atom : (c : ℕ) (x : Lex) (m : Mode) (ks : List ℕ) (ts : List Token) (i
     → begin_value c (idle m ks ts i p) ≡ Some (state (in_atom After i x) ks ts (suc i) p)
 begin_atom c x m ks ts i p h =
     cond_not (nat_eq c 91) _ _ (starts_not c 91 x h refl) ∙ cond_not (nat_eq c 123) _ _ (starts_not c 123 x h refl)
-        ∙ ap (option_map (λ y. state (in_atom After i y) ks ts (suc i) p)) h
+    ∙ ap (option_map (λ y. state (in_atom After i y) ks ts (suc i) p)) h
 
 step_atom : (c : ℕ) (x : Lex) (m : Mode) (ks : List ℕ) (ts : List Token) (i p : ℕ) → BeginsValue m
     → lex_start c ≡ Some x → step c (idle m ks ts i p) ≡ Some (state (in_atom After i x) ks ts (suc i) p)
@@ -231,8 +253,8 @@ continues_run (d ∷ r) b i k x y z c h e =
     let f : byte b k ≡ d = ap (byte b) (plus_zero k) ∙ e 0 (omega arith) in
     let a : suc k + length r ≡ k + suc (length r) = omega arith in
     subst (λ n. Continues b i x n z) a
-        (continues_run r b i (suc k) x w.0 z (further k y w.0 c (ap (lex_step y) f ∙ w.1)) w.2
-        (λ n l. ap (byte b) (shift k n) ∙ e (suc n) (omega arith)))
+    (continues_run r b i (suc k) x w.0 z (further k y w.0 c (ap (lex_step y) f ∙ w.1)) w.2
+    (λ n l. ap (byte b) (shift k n) ∙ e (suc n) (omega arith)))
 
 -- the first reading of a scalar, and how it goes on
 record Started (b : List ℕ) (i k : ℕ) (y : Lex) : Type 0 where
@@ -265,8 +287,8 @@ pub run_begun : {b : List ℕ} {i k : ℕ} {y : Lex} → InAtom b i k y
 run_begun {b} {i} {k} {y} r s m ks ts p g h =
     let z = started b i k y r in
     continues_reaches z.goes s After i ks ts p
-        (on (idle m ks ts i p) (state (in_atom After i z.first) ks ts (suc i) p) h
-        (step_atom (byte b i) z.first m ks ts i p g z.starts))
+    (on (idle m ks ts i p) (state (in_atom After i z.first) ks ts (suc i) p) h
+    (step_atom (byte b i) z.first m ks ts i p g z.starts))
 
 pub run_begun_name : {b : List ℕ} {i k : ℕ} {y : Lex} → InAtom b i k y → byte b i ≡ 34
     → (s : State) (m : Mode) (ks : List ℕ) (ts : List Token) (p : ℕ) → BeginsName m → Reaches b s (idle m ks ts i p)
@@ -276,8 +298,8 @@ run_begun_name {b} {i} {k} {y} r q s m ks ts p g h =
     let e : InString ≡ z.first = some_same InString z.first (sym (ap lex_start q) ∙ z.starts) in
     let c = subst (λ w. Continues b (suc i) w k y) (sym e) z.goes in
     continues_reaches c s AfterName i ks ts p
-        (on (idle m ks ts i p) (state (in_atom AfterName i InString) ks ts (suc i) p) h
-        (step_name (byte b i) m ks ts i p g q))
+    (on (idle m ks ts i p) (state (in_atom AfterName i InString) ks ts (suc i) p) h
+    (step_name (byte b i) m ks ts i p g q))
 
 -- ---- scalars of the grammar
 

@@ -44,14 +44,14 @@ spans_filled : (n : ℕ) (ts : List Token)
 spans_filled n [] w = All-nil (λ (s : Span). s.start < s.stop)
 spans_filled n (t ∷ ts) w =
     All-cons (λ (s : Span). s.start < s.stop) _ (spans_of ts) (w 0 t refl).0
-        (spans_filled n ts (λ k u h. w (suc k) u h))
+    (spans_filled n ts (λ k u h. w (suc k) u h))
 
 pub shown_rise : (line : List ℕ) (tokens : List Token) (k n : ℕ) → AreWithin line tokens
     → Rise (shown_between line tokens k n)
 shown_rise line tokens k n w =
     forest_rises line (slice_range (spans_of tokens) k n)
-        (All-take (λ (s : Span). s.start < s.stop) (n - k) (drop k (spans_of tokens))
-        (All-drop (λ (s : Span). s.start < s.stop) k (spans_of tokens) (spans_filled (length line) tokens w)))
+    (All-take (λ (s : Span). s.start < s.stop) (n - k) (drop k (spans_of tokens))
+    (All-drop (λ (s : Span). s.start < s.stop) k (spans_of tokens) (spans_filled (length line) tokens w)))
 
 names_among : (n : ℕ) (ts : List Tree) → All (λ u. n < start_of u) ts
     → All (λ (m : Tree × Tree). n < start_of m.0) (pairs_of ts)
@@ -59,7 +59,7 @@ names_among n [] a = All-nil (λ (m : Tree × Tree). n < start_of m.0)
 names_among n (t ∷ []) a = All-nil (λ (m : Tree × Tree). n < start_of m.0)
 names_among n (t ∷ u ∷ ts) a =
     All-cons (λ (m : Tree × Tree). n < start_of m.0) (t, u) (pairs_of ts) (All-head (λ u. n < start_of u) t (u ∷ ts) a)
-        (names_among n ts (All-tail (λ u. n < start_of u) u ts (All-tail (λ u. n < start_of u) t (u ∷ ts) a)))
+    (names_among n ts (All-tail (λ u. n < start_of u) u ts (All-tail (λ u. n < start_of u) t (u ∷ ts) a)))
 
 pub pairs_rise : (ts : List Tree) → Rise ts → AreInOrder (pairs_of ts)
 pairs_rise [] r = tt
@@ -74,7 +74,7 @@ values_among n (t ∷ []) a = All-nil (λ (m : Tree × Tree). n < start_of m.1)
 values_among n (t ∷ u ∷ ts) a =
     let later = All-tail (λ u. n < start_of u) t (u ∷ ts) a in
     All-cons (λ (m : Tree × Tree). n < start_of m.1) (t, u) (pairs_of ts) (All-head (λ u. n < start_of u) u ts later)
-        (values_among n ts (All-tail (λ u. n < start_of u) u ts later))
+    (values_among n ts (All-tail (λ u. n < start_of u) u ts later))
 
 pub values_rise : (ts : List Tree) → Rise ts → AreInValueOrder (pairs_of ts)
 values_rise [] r = tt

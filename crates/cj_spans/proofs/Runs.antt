@@ -108,12 +108,12 @@ white_end c h =
 settled_atom : (m : Mode) (a : ℕ) (x : Lex) (k : Option Kind) (ks : List ℕ) (ts : List Token) (i p : ℕ) (t : State)
     (c : ℕ) → lex_kind x ≡ k → IsEnd c → end_atom m a k (state (in_atom m a x) ks ts i p) ≡ Some t
     → go_on (λ y. in_atom m a y) (lex_step x c) (state (in_atom m a x) ks ts i p)
-        (option_and_then (read m c) (end_atom m a k (state (in_atom m a x) ks ts i p))) ≡ step c t
+    (option_and_then (read m c) (end_atom m a k (state (in_atom m a x) ks ts i p))) ≡ step c t
 settled_atom m a x None ks ts i p t c kind e h = none_some t h
 settled_atom m a x (Some k) ks ts i p t c kind e h =
     let s = state (in_atom m a x) ks ts i p in
     ap (λ o. go_on (λ y. in_atom m a y) o s (option_and_then (read m c) (end_atom m a (Some k) s)))
-        (atom_ends x c k kind e) ∙ ap (step c) (some_same _ t h)
+    (atom_ends x c k kind e) ∙ ap (step c) (some_same _ t h)
 
 settled_phase : (f : Phase) (ks : List ℕ) (ts : List Token) (i p : ℕ) (t : State) (c : ℕ) → IsEnd c
     → settle (state f ks ts i p) ≡ Some t → step c (state f ks ts i p) ≡ step c t
@@ -174,7 +174,7 @@ skip_some (suc n) b s m ks ts i p each r =
     let e : suc i + n ≡ i + suc n = omega arith in
     let q = on (idle m ks ts i p) (idle m ks ts (suc i) p) r (cond-true (is_white_space (byte b i)) _ _ white) in
     subst (λ k. Reaches b s (idle m ks ts k p)) e
-        (skip_some n b s m ks ts (suc i) p (λ k l u. each k (omega arith) (omega arith)) q)
+    (skip_some n b s m ks ts (suc i) p (λ k l u. each k (omega arith) (omega arith)) q)
 
 pub skip : {b : List ℕ} {i j : ℕ} → White b i j → (s : State) (m : Mode) (ks : List ℕ) (ts : List Token) (p : ℕ)
     → Reaches b s (idle m ks ts i p) → Reaches b s (idle m ks ts j p)
@@ -182,7 +182,7 @@ skip {b} {i} {j} w s m ks ts p r =
     let o = w.order in
     let e : i + (j - i) ≡ j = omega arith in
     subst (λ k. Reaches b s (idle m ks ts k p)) e
-        (skip_some (j - i) b s m ks ts i p (λ k l u. w.each k l (omega arith)) r)
+    (skip_some (j - i) b s m ks ts i p (λ k l u. w.each k l (omega arith)) r)
 
 white_rest : (b : List ℕ) (i j : ℕ) → White b i j → i < j → White b (suc i) j
 white_rest b i j w h = record { order = omega arith; each = λ k l u. w.each k (omega arith) u }
@@ -196,7 +196,7 @@ skip_after {b} {i} {j} w s m ks ts p a =
       | inr l ↦
           let white = w.each i (omega arith) l in
           let r = arrive_on b s (idle m ks ts i p) (idle m ks ts (suc i) p) (white_end (byte b i) white) a
-              (cond-true (is_white_space (byte b i)) _ _ white) in
+          (cond-true (is_white_space (byte b i)) _ _ white) in
           arrived b s m ks ts j p (skip (white_rest b i j w l) s m ks ts p r)
     ]
 

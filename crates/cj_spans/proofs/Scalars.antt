@@ -31,8 +31,11 @@ pub goes_one : (b : List ℕ) (i j : ℕ) (x y : Lex) → i < length b → j ≡
     → GoesTo b i x j y
 goes_one b i j x y l e h =
     let f : suc i ≡ j = omega arith in
-    record { goes = subst (λ k. Continues b i x k y) f (further i x y still h); order = omega arith;
-        within = omega arith }
+    record {
+      goes = subst (λ k. Continues b i x k y) f (further i x y still h);
+      order = omega arith;
+      within = omega arith;
+    }
 
 -- one byte that is known
 pub goes_by : (b : List ℕ) (i j : ℕ) (x y : Lex) (c : ℕ) → i < length b → j ≡ i + 1 → byte b i ≡ c
@@ -68,7 +71,7 @@ goes_unicode b i l p q g =
     let e : i + 2 + 4 ≡ i + 6 = omega arith in
     goes_far (goes_by b i (i + 1) InString Escape 92 (omega arith) refl p refl)
     (goes_far (goes_by b (i + 1) (i + 2) Escape Hex4 117 (omega arith) (omega arith) q refl)
-        (subst (λ k. GoesTo b (i + 2) Hex4 k InString) e g))
+    (subst (λ k. GoesTo b (i + 2) Hex4 k InString) e g))
 
 pub goes_fraction : (b : List ℕ) (i : ℕ) (x : Lex) → i + 2 ≤ length b → byte b i ≡ 46 → is_digit (byte b (i + 1)) ≡ true
     → lex_step x 46 ≡ Some Point → GoesTo b i x (i + 2) Fraction

@@ -69,7 +69,7 @@ members_same (n ∷ t ∷ ts) h =
     let e : size n ≡ 1 = omega arith in
     let f : members_size (members_from ts) ≡ total_size ts = omega arith in
     ap (λ ss. span_at (atom_of n).start (atom_of n).stop ∷ (preorder t ++ ss)) (members_same ts f)
-        ∙ ap (λ ss. ss ++ (preorder t ++ preorders ts)) (sym (alone n e))
+    ∙ ap (λ ss. ss ++ (preorder t ++ preorders ts)) (sym (alone n e))
 
 pub node_small : (b : List ℕ) (k : Kind) (i j : ℕ) (ts : List Tree) → size (node b k i j ts) ≤ suc (total_size ts)
 node_small b Null i j ts = omega arith
@@ -107,8 +107,11 @@ held-past_here t ts j h = grind (arith, nat_tests)
 held-past : (j : ℕ) (ts : List Tree) → held j ts ++ past j ts ≡ ts
 held-past j [] = refl
 held-past j (t ∷ ts) =
-    elim (cases_lt (start_of t) j) [ inl l ↦ held-past_on t ts j l ∙ ap (λ us. t ∷ us) (held-past j ts) | inr g ↦
-        held-past_here t ts j g ]
+    elim (cases_lt (start_of t) j) [
+      | inl l ↦ held-past_on t ts j l ∙ ap (λ us. t ∷ us) (held-past j ts)
+      | inr g ↦
+          held-past_here t ts j g
+    ]
 
 pub held_sizes : (j : ℕ) (ts : List Tree) → total_size (held j ts) + total_size (past j ts) ≡ total_size ts
 held_sizes j ts = sym (sizes-append (held j ts) (past j ts)) ∙ ap total_size (held-past j ts)
@@ -130,12 +133,12 @@ forest_same b (s ∷ ss) h =
     let e = held_sizes s.stop (forest b ss) in
     let n = node_small b (kind_by (byte b s.start)) s.start s.stop (held s.stop (forest b ss)) in
     let f : size (node b (kind_by (byte b s.start)) s.start s.stop (held s.stop (forest b ss)))
-        ≡ suc (total_size (held s.stop (forest b ss))) = omega arith in
+    ≡ suc (total_size (held s.stop (forest b ss))) = omega arith in
     let g : total_size (forest b ss) ≡ length ss = omega arith in
     ap (λ us. us ++ preorders (past s.stop (forest b ss)))
-        (node_same b (kind_by (byte b s.start)) s.start s.stop (held s.stop (forest b ss)) f)
+    (node_same b (kind_by (byte b s.start)) s.start s.stop (held s.stop (forest b ss)) f)
     ∙ ap (λ us. s ∷ us) (sym (preorders-append (held s.stop (forest b ss)) (past s.stop (forest b ss)))
-        ∙ ap preorders (held-past s.stop (forest b ss)) ∙ forest_same b ss g)
+    ∙ ap preorders (held-past s.stop (forest b ss)) ∙ forest_same b ss g)
 
 pub all_shown : (b : List ℕ) (ss : List Span) (t : Tree) → forest b ss ≡ t ∷ [] → length ss ≡ size t → preorder t ≡ ss
 all_shown b ss t h e = let f : total_size (forest b ss) ≡ length ss = ap total_size h ∙ omega arith in
@@ -211,8 +214,10 @@ good_none b i = record { between = tt; good = λ rest f g. g }
 
 good_more : (b : List ℕ) (i j k l : ℕ) (ss : List Span) → k ≤ i → j ≤ l → Good b i j ss → Good b k l ss
 good_more b i j k l ss f g h =
-    record { between = between_more i j k l ss f g h.between;
-        good = λ rest m n. h.good rest (from_more j l rest g m) n }
+    record {
+      between = between_more i j k l ss f g h.between;
+      good = λ rest m n. h.good rest (from_more j l rest g m) n;
+    }
 
 good_both : (b : List ℕ) (i j k : ℕ) (ss us : List Span) → i ≤ j → j ≤ k → Good b i j ss → Good b j k us
     → Good b i k (ss ++ us)
@@ -221,8 +226,8 @@ good_both b i j k ss us f g h q = record {
       (between_more j k i k us f (omega arith) q.between);
   good = λ rest m n.
       subst (AllGood b) (sym (append_assoc ss us rest))
-          (h.good (us ++ rest) (from_append j us rest (between_from j k us q.between) (from_more j k rest g m))
-          (q.good rest m n));
+      (h.good (us ++ rest) (from_append j us rest (between_from j k us q.between) (from_more j k rest g m))
+      (q.good rest m n));
 }
 
 -- a span over others
@@ -233,9 +238,18 @@ good_over : (b : List ℕ) (i j : ℕ) (ss : List Span) → i < j → j ≤ leng
 good_over b i j ss o l h numeral closed n = record {
   between = (omega arith, omega arith, between_more (suc i) j i j ss (omega arith) (omega arith) h.between);
   good = λ rest f g.
-      let after = from_append (suc i) ss rest (between_from (suc i) j ss h.between) (from_more (suc i) j rest o f) in
-      (record { order = o; within = l; stops = stops_between (suc i) j ss rest h.between (stops_from j rest f);
-              named = n rest f; numeral = numeral; closed = closed; later = after }, h.good rest f g);
+      let after = from_append (suc i) ss rest (between_from (suc i) j ss h.between) (from_more (suc i) j rest o f) in (
+        record {
+          order = o;
+          within = l;
+          stops = stops_between (suc i) j ss rest h.between (stops_from j rest f);
+          named = n rest f;
+          numeral = numeral;
+          closed = closed;
+          later = after;
+        },
+        h.good rest f g,
+      );
 }
 
 -- ---- the grammar
@@ -295,7 +309,7 @@ good_add_member : (b : List ℕ) (i j k l : ℕ) (us : Members) (n : Atom) (u : 
 good_add_member b i j k l us n u f g h p q r =
     subst (Good b i l) (sym (members_preorder-add us n u))
     (good_both b i j l (members_preorder us) (span_at n.start n.stop ∷ preorder u) f (omega arith) p
-        (good_both b j k l (span_at n.start n.stop ∷ []) (preorder u) g h q r))
+    (good_both b j k l (span_at n.start n.stop ∷ []) (preorder u) g h q r))
 
 alternate : (ms : Members) → are_members (names_and_values ms) ≡ true
 alternate no_members = refl
@@ -314,7 +328,7 @@ alternate_held : (b : List ℕ) (j : ℕ) (ms : Members) (rest : List Span)
 alternate_held b j ms rest s f =
     let o = from_beyond b j rest f in
     ap (λ ts. are_members (held j ts)) (s.shows rest o)
-        ∙ ap are_members (held_all j (names_and_values ms) (forest b rest) s.all o) ∙ alternate ms
+    ∙ ap are_members (held_all j (names_and_values ms) (forest b rest) s.all o) ∙ alternate ms
 
 mutual
   good_value : {b : List ℕ} {i j : ℕ} {t : Tree} → Value b i j t → Good b i j (preorder t)
@@ -322,18 +336,18 @@ mutual
   good_value {b} (empty_array i j o w c) =
       let h = w.order in let l = byte_within b j 92 c in
       good_over b i (suc j) [] (omega arith) l
-          (good_more b (suc i) (suc i) (suc i) (suc j) [] (omega arith) (omega arith) (good_none b (suc i)))
-          (no_numeral b i 91 (suc j) o (λ e. cc)) (λ e. closes b j 93 c) (λ rest f e. absurd (omega arith))
+      (good_more b (suc i) (suc i) (suc i) (suc j) [] (omega arith) (omega arith) (good_none b (suc i)))
+      (no_numeral b i 91 (suc j) o (λ e. cc)) (λ e. closes b j 93 c) (λ rest f e. absurd (omega arith))
   good_value {b} (full_array i j k us u o l p c) =
       let a = led_order l in let q = padded_ends p in let m = byte_within b k 92 c in
       good_over b i (suc k) (items_preorder (add_item us u)) (omega arith) m
       (good_more b (suc i) k (suc i) (suc k) (items_preorder (add_item us u)) (omega arith) (omega arith)
-          (good_add b (suc i) j k us u a q (good_led l) (good_padded p))) (no_numeral b i 91 (suc k) o (λ e. cc))
-          (λ e. closes b k 93 c) (λ rest f e. absurd (omega arith))
+      (good_add b (suc i) j k us u a q (good_led l) (good_padded p))) (no_numeral b i 91 (suc k) o (λ e. cc))
+      (λ e. closes b k 93 c) (λ rest f e. absurd (omega arith))
   good_value {b} (empty_object i j o w c) =
       let h = w.order in let l = byte_within b j 124 c in
       good_over b i (suc j) [] (omega arith) l
-          (good_more b (suc i) (suc i) (suc i) (suc j) [] (omega arith) (omega arith) (good_none b (suc i)))
+      (good_more b (suc i) (suc i) (suc i) (suc j) [] (omega arith) (omega arith) (good_none b (suc i)))
       (no_numeral b i 123 (suc j) o (λ e. cc)) (λ e. absurd (omega arith))
       (λ rest f e. alternate_held b (suc j) no_members rest (record { all = tt; shows = λ rest h. refl }) f)
   good_value {b} (full_object i j k l us n u o ld nm p c) =
@@ -341,11 +355,11 @@ mutual
       let v = add_member us n u in
       good_over b i (suc l) (members_preorder v) (omega arith) m
       (good_more b (suc i) l (suc i) (suc l) (members_preorder v) (omega arith) (omega arith)
-          (good_add_member b (suc i) j k l us n u a r q (good_led_members ld) (good_named nm) (good_padded p)))
+      (good_add_member b (suc i) j k l us n u a r q (good_led_members ld) (good_named nm) (good_padded p)))
       (no_numeral b i 123 (suc l) o (λ e. cc)) (λ e. absurd (omega arith))
       (λ rest f e. alternate_held b (suc l) v rest
-          (shows_more b l (suc l) _ _ (omega arith) (shows_add_member ld nm p (shows_led_members ld) (shows_padded p)))
-          f)
+      (shows_more b l (suc l) _ _ (omega arith) (shows_add_member ld nm p (shows_led_members ld) (shows_padded p)))
+      f)
 
   good_padded : {b : List ℕ} {i j : ℕ} {t : Tree} → Padded b i j t → Good b i j (preorder t)
   good_padded {b} (padded i j k l t w v x) = good_more b j k i l (preorder t) w.order x.order (good_value v)
@@ -355,14 +369,14 @@ mutual
   good_led {b} (led i j k us u l p c) =
       let a = led_order l in let q = padded_ends p in
       good_more b i k i (suc k) (items_preorder (add_item us u)) (omega arith) (omega arith)
-          (good_add b i j k us u a q (good_led l) (good_padded p))
+      (good_add b i j k us u a q (good_led l) (good_padded p))
 
   good_led_members : {b : List ℕ} {i j : ℕ} {us : Members} → LedMembers b i j us → Good b i j (members_preorder us)
   good_led_members {b} (no_led_members i) = good_none b i
   good_led_members {b} (led_member i j k l us n u ld nm p c) =
       let a = led_members_order ld in let q = padded_ends p in let r = named_ends nm in
       good_more b i l i (suc l) (members_preorder (add_member us n u)) (omega arith) (omega arith)
-          (good_add_member b i j k l us n u a r q (good_led_members ld) (good_named nm) (good_padded p))
+      (good_add_member b i j k l us n u a r q (good_led_members ld) (good_named nm) (good_padded p))
 
 json_good : (b : List ℕ) (t : Tree) → Json b t → AllGood b (preorder t)
 json_good b t p = subst (AllGood b) (append-nil (preorder t)) ((good_padded p).good [] tt tt)
@@ -431,8 +445,15 @@ known b ts a =
     let g = subst (AllGood b) e (json_good b a.tree a.json) in
     let s = size_some a.tree in
     let c = a.count in
-    record { within = are_within b ts g; rising = are_rising b ts g; nested = are_nested b ts g;
-        named = are_named b ts g; spelled = are_spelled b ts g; linked = a.linked; some = omega arith }
+    record {
+      within = are_within b ts g;
+      rising = are_rising b ts g;
+      nested = are_nested b ts g;
+      named = are_named b ts g;
+      spelled = are_spelled b ts g;
+      linked = a.linked;
+      some = omega arith;
+    }
 
 first_shown : (b : List ℕ) (ss : List Span) (t : Tree) → forest b ss ≡ t ∷ [] → tree_at b ss 0 ≡ t
 unfolding forest tree_at

@@ -31,7 +31,7 @@ sign_read b s m n c ks ts k p l e go h =
     let r = step_on b s (idle m ks ts k p) (idle n ks ts (suc k) p) h l (ap (λ x. step x (idle m ks ts k p)) e ∙ go) in
     let f : suc k ≡ k + 1 = omega arith in
     subst (λ x. ComesTo b s (idle n ks ts x p)) f
-        (record { last = idle n ks ts (suc k) p; reached = r; settles = refl; same = λ _. refl })
+    (record { last = idle n ks ts (suc k) p; reached = r; settles = refl; same = λ _. refl })
 
 -- the colon behind a name
 pub colon_read : (b : List ℕ) (s : State) (ks : List ℕ) (ts : List Token) (k p : ℕ) → k < length b → byte b k ≡ 58
@@ -47,7 +47,7 @@ comma_read b s d n ks ts k p next a l e h =
     let u = idle After ks ts k p in
     sign_read b s After n 44 ks ts k p l e
     (ap (λ o. after_top 44 o u) a.innermost ∙ ap (λ o. after_token 44 a.top o u) a.there
-        ∙ ap (λ g. after_in g 44 a.top a.token u) a.kind ∙ next a.top a.token u) h
+    ∙ ap (λ g. after_in g 44 a.top a.token u) a.kind ∙ next a.top a.token u) h
 
 -- ---- the innermost container
 
@@ -94,7 +94,7 @@ module _ (d : Kind) (n : Mode) (inside : kind_in (between n) ≡ Some d) (ks ls 
       let e = some_same _ _ h in
       let same : g ≡ d = some_same _ _ (sym w ∙ ap (λ u. kind_in u.phase) e ∙ inside) in
       subst (λ z. IsInnermost z ls us) same
-          (innermost_same g ks1 ls ts1 us (ap (λ u. u.stack) e) (ap (λ u. u.tokens) e) a)
+      (innermost_same g ks1 ls ts1 us (ap (λ u. u.stack) e) (ap (λ u. u.tokens) e) a)
 
   -- a byte behind a part: whether it is a comma, and whether it closes the container
   after_byte : (g : Kind) (m : Mode) (comma closes : Bool) (k : ℕ) (t : Token) → kind_in (between m) ≡ Some g
@@ -109,10 +109,10 @@ module _ (d : Kind) (n : Mode) (inside : kind_in (between n) ≡ Some d) (ks ls 
       → after_in g c k t (idle After ks ts i p) ≡ Some (idle n ls us j q) → IsInnermost d ls us
   after_kind c k t Array e f g h =
       after_byte Array Ready (nat_eq c 44) (nat_eq c 93) k t refl
-          (record { top = k; token = t; innermost = g; there = f; kind = e }) h
+      (record { top = k; token = t; innermost = g; there = f; kind = e }) h
   after_kind c k t Object e f g h =
       after_byte Object NextName (nat_eq c 44) (nat_eq c 125) k t refl
-          (record { top = k; token = t; innermost = g; there = f; kind = e }) h
+      (record { top = k; token = t; innermost = g; there = f; kind = e }) h
   after_kind c k t Null e f g h = none_some _ h
   after_kind c k t Truth e f g h = none_some _ h
   after_kind c k t Number e f g h = none_some _ h

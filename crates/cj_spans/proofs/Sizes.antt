@@ -46,9 +46,9 @@ full_tree b (u ∷ ts) zero t h e =
     let f = held_sizes u.stop (forest b (spans_of ts)) in
     let n = node_small b (kind_by (byte b u.start)) u.start u.stop (held u.stop (forest b (spans_of ts))) in
     let own : size (node b (kind_by (byte b u.start)) u.start u.stop (held u.stop (forest b (spans_of ts))))
-        ≡ suc (total_size (held u.stop (forest b (spans_of ts)))) = omega arith in
+    ≡ suc (total_size (held u.stop (forest b (spans_of ts)))) = omega arith in
     subst (λ v. size (node b (kind_by (byte b u.start)) u.start u.stop (held u.stop (forest b (spans_of ts))))
-        ≡ suc (total_size (held v.stop (forest b (spans_of ts))))) q own
+    ≡ suc (total_size (held v.stop (forest b (spans_of ts))))) q own
 full_tree b (u ∷ ts) (suc k) t h e = full_tree b ts k t h (full_next b _ (spans_of ts) e)
 
 length_from : (ts : List Token) (k : ℕ) → length (drop k (spans_of ts)) ≡ length (drop k ts)
@@ -65,13 +65,13 @@ past_full b ts k t nested whole h =
     let r = k + 1 + before t.stop (drop (k + 1) ts) in
     let full : total_size (forest b ss) ≡ length ss = whole ∙ sym (length-spans_of ts) in
     let own = subst (λ j. size (tree_at b ss k) ≡ suc (total_size (held t.stop (forest b (drop j ss))))) next
-        (full_tree b ts k t h full) in
+    (full_tree b ts k t h full) in
     let after = link_past b ts (k + 1) t.stop r (nested k t h) refl in
     let parts = held_sizes t.stop (forest b (drop (k + 1) ss)) in
     let here = full_from b ss (k + 1) full in
     let there = full_from b ss r full in
     let split : total_size (past t.stop (forest b (drop (k + 1) ss))) ≡ length (drop r ss) = ap total_size (sym after)
-        ∙ there in
+    ∙ there in
     let m = length_from ts (k + 1) in let n = length_from ts r in
     let p = length-drop (k + 1) ts in let q = length-drop r ts in
     let l = before_length t.stop (drop (k + 1) ts) in
@@ -97,7 +97,7 @@ scan_sized : (b : List ℕ) (old new : BoundedList Token) (old_stack new_stack :
     × IsScanOf b t old new old_stack new_stack → AreSized b new.elements
 scan_sized b old new old_stack new_stack s =
     are_sized b new.elements
-        (record { tree = s.0; json = s.1.json; shown = s.1.shown; count = s.1.count; linked = s.1.linked })
+    (record { tree = s.0; json = s.1.json; shown = s.1.shown; count = s.1.count; linked = s.1.linked })
 
 pub sized_on : (X : Type 0) (b : List ℕ) (old new : BoundedList Token) (old_stack new_stack : BoundedList ℕ)
     (r : Result X LineFault) → OnOk r ((t : Tree) × IsScanOf b t old new old_stack new_stack)

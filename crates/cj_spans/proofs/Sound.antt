@@ -42,8 +42,11 @@ last_white b j k h e = subst (λ i. is_white_space (byte b i) ≡ true) (sym e) 
 
 pub white_more : (b : List ℕ) (i j : ℕ) → White b i j → is_white_space (byte b j) ≡ true → White b i (suc j)
 white_more b i j w h = let o = w.order in
-    record { order = omega arith; each = λ k l u. let m : k ≤ j = omega arith in
-    elim (eq-or-lt_of_le m) [ inl e ↦ last_white b j k h e | inr s ↦ w.each k l s ] }
+    record {
+      order = omega arith;
+      each = λ k l u. let m : k ≤ j = omega arith in
+          elim (eq-or-lt_of_le m) [ inl e ↦ last_white b j k h e | inr s ↦ w.each k l s ];
+    }
 
 -- ---- the invariant
 
@@ -122,7 +125,7 @@ module _ (b : List ℕ) where
       let vs = (ts ++ o0 ∷ []) ++ fs in let ys = flatten (length vs) t in
       let f = token_at e0 (suc k) (length (vs ++ ys)) in
       let more : vs ++ ys ≡ opened_array ts e0 (add_item us t) =
-          items_more (ts ++ o0 ∷ []) (suc k0) us t (length-snoc ts o0) in
+      items_more (ts ++ o0 ∷ []) (suc k0) us t (length-snoc ts o0) in
       let S = idle After (k0 ∷ ks) (vs ++ ys) k p in
       let g = slice_get-append vs ys k0 o0 (slice_get-append (ts ++ o0 ∷ []) fs k0 o0 (slice_get-seam ts [] o0)) in
       let h1 : after_in Array (byte b k) k0 o0 S ≡ Some u = sym (ap (λ z. after_token (byte b k) k0 z S) g) ∙ h in
@@ -130,19 +133,19 @@ module _ (b : List ℕ) where
       elim (split (nat_eq (byte b k) 44) _ _ (Some u) h1) [
         | inl z ↦
             let i = ready (suc k) p (k0 ∷ ks) _
-                (in_array e0 (suc k) (suc k) ks ts (add_item us t) c0 o (led (suc e0) j0 k us t l q (eqb-true _ _ z.0))
-                (no_white b (suc k))) in
+            (in_array e0 (suc k) (suc k) ks ts (add_item us t) c0 o (led (suc e0) j0 k us t l q (eqb-true _ _ z.0))
+            (no_white b (suc k))) in
             moved_to (idle Ready (k0 ∷ ks) (vs ++ ys) (suc k) p)
-                (subst (λ zs. Inv b (idle Ready (k0 ∷ ks) zs (suc k) p)) (sym more) i) u z.1
+            (subst (λ zs. Inv b (idle Ready (k0 ∷ ks) zs (suc k) p)) (sym more) i) u z.1
         | inr r ↦ elim (split (nat_eq (byte b k) 93) _ _ (Some u) r) [
           | inl z ↦
               let done : slice_set (vs ++ ys) k0 f ≡ ts ++ flatten k0 (array e0 (suc k) (add_item us t)) =
-                  ap (λ zs. slice_set zs k0 (token_at e0 (suc k) (length zs))) more
-                  ∙ array_done ts o0 e0 (suc k) (add_item us t) in
+              ap (λ zs. slice_set zs k0 (token_at e0 (suc k) (length zs))) more
+              ∙ array_done ts o0 e0 (suc k) (add_item us t) in
               let i = after_tree e0 (suc k) (suc k) p ks ts (array e0 (suc k) (add_item us t)) c0
-                  (full_array e0 j0 k us t o l q (eqb-true _ _ z.0)) (no_white b (suc k)) in
+              (full_array e0 j0 k us t o l q (eqb-true _ _ z.0)) (no_white b (suc k)) in
               moved_to (idle After ks (slice_set (vs ++ ys) k0 f) (suc k) p)
-                  (subst (λ zs. Inv b (idle After ks zs (suc k) p)) (sym done) i) u z.1
+              (subst (λ zs. Inv b (idle After ks zs (suc k) p)) (sym done) i) u z.1
           | inr n ↦ none_some u n
         ]
       ]
@@ -152,27 +155,27 @@ module _ (b : List ℕ) where
       let ys = flatten (length xs) t in
       let f = token_at e0 (suc k) (length (xs ++ ys)) in
       let more : xs ++ ys ≡ opened_object ts e0 (add_member us n t) =
-          members_more (ts ++ o0 ∷ []) (suc k0) us n t (length-snoc ts o0) in
+      members_more (ts ++ o0 ∷ []) (suc k0) us n t (length-snoc ts o0) in
       let S = idle After (k0 ∷ ks) (xs ++ ys) k p in
       let g = slice_get-append xs ys k0 o0
-          (slice_get-append vs (wd ∷ []) k0 o0 (slice_get-append (ts ++ o0 ∷ []) fs k0 o0 (slice_get-seam ts [] o0))) in
+      (slice_get-append vs (wd ∷ []) k0 o0 (slice_get-append (ts ++ o0 ∷ []) fs k0 o0 (slice_get-seam ts [] o0))) in
       let h1 : after_in Object (byte b k) k0 o0 S ≡ Some u = sym (ap (λ z. after_token (byte b k) k0 z S) g) ∙ h in
       let q : Padded b m k t = padded m e j k t w0 v w in
       elim (split (nat_eq (byte b k) 44) _ _ (Some u) h1) [
         | inl z ↦
             let i = next_name e0 (suc k) (suc k) p ks ts (add_member us n t) c0 o
-                (led_member (suc e0) j0 m k us n t l nm q (eqb-true _ _ z.0)) (no_white b (suc k)) in
+            (led_member (suc e0) j0 m k us n t l nm q (eqb-true _ _ z.0)) (no_white b (suc k)) in
             moved_to (idle NextName (k0 ∷ ks) (xs ++ ys) (suc k) p)
-                (subst (λ zs. Inv b (idle NextName (k0 ∷ ks) zs (suc k) p)) (sym more) i) u z.1
+            (subst (λ zs. Inv b (idle NextName (k0 ∷ ks) zs (suc k) p)) (sym more) i) u z.1
         | inr r ↦ elim (split (nat_eq (byte b k) 125) _ _ (Some u) r) [
           | inl z ↦
               let done : slice_set (xs ++ ys) k0 f ≡ ts ++ flatten k0 (object e0 (suc k) (add_member us n t)) =
-                  ap (λ zs. slice_set zs k0 (token_at e0 (suc k) (length zs))) more
-                  ∙ object_done ts o0 e0 (suc k) (add_member us n t) in
+              ap (λ zs. slice_set zs k0 (token_at e0 (suc k) (length zs))) more
+              ∙ object_done ts o0 e0 (suc k) (add_member us n t) in
               let i = after_tree e0 (suc k) (suc k) p ks ts (object e0 (suc k) (add_member us n t)) c0
-                  (full_object e0 j0 m k us n t o l nm q (eqb-true _ _ z.0)) (no_white b (suc k)) in
+              (full_object e0 j0 m k us n t o l nm q (eqb-true _ _ z.0)) (no_white b (suc k)) in
               moved_to (idle After ks (slice_set (xs ++ ys) k0 f) (suc k) p)
-                  (subst (λ zs. Inv b (idle After ks zs (suc k) p)) (sym done) i) u z.1
+              (subst (λ zs. Inv b (idle After ks zs (suc k) p)) (sym done) i) u z.1
           | inr z ↦ none_some u z
         ]
       ]
@@ -189,14 +192,14 @@ module _ (b : List ℕ) where
   colon_sound : (e j l m k p : ℕ) (ks : List ℕ) (ts : List Token) (us : Members) → Context b e ks ts → byte b e ≡ 123
       → LedMembers b (suc e) j us → White b j l → IsAtom b Text l m → White b m k
       → (u : State) → read AfterName (byte b k)
-          (idle AfterName (length ts ∷ ks) (with_name (opened_object ts e us) l m) k p) ≡ Some u → Inv b u
+      (idle AfterName (length ts ∷ ks) (with_name (opened_object ts e us) l m) k p) ≡ Some u → Inv b u
   colon_sound e j l m k p ks ts us c o ld w0 wd w u h =
       elim (split (is_white_space (byte b k)) _ _ (Some u) h) [
         | inl z ↦ moved_to _ (after_name e j l m (suc k) p ks ts us c o ld w0 wd (white_more b m k w z.0)) u z.1
         | inr r ↦ elim (split (nat_eq (byte b k) 58) _ _ (Some u) r) [
           | inl z ↦ moved_to _ (ready (suc k) p _ _
               (in_member e j (suc k) (suc k) ks ts us (atom_at b l m) c o ld (named j l m k w0 wd w (eqb-true _ _ z.0))
-                  (no_white b (suc k)))) u z.1
+              (no_white b (suc k)))) u z.1
           | inr z ↦ none_some u z
         ]
       ]
@@ -213,8 +216,8 @@ module _ (b : List ℕ) where
   scalar_sound : (e k p : ℕ) (ks : List ℕ) (ts : List Token) (x : Lex) → Context b e ks ts → InAtom b e k x
       → (o : Option Lex) → lex_step x (byte b k) ≡ o → (u : State)
       → go_on (λ y. in_atom After e y) o (state (in_atom After e x) ks ts k p)
-          (option_and_then (read After (byte b k))
-          (end_atom After e (lex_kind x) (state (in_atom After e x) ks ts k p))) ≡ Some u → Inv b u
+      (option_and_then (read After (byte b k))
+      (end_atom After e (lex_kind x) (state (in_atom After e x) ks ts k p))) ≡ Some u → Inv b u
   scalar_sound e k p ks ts x c w (Some y) next u h =
       moved_to _ (in_scalar e (suc k) p ks ts y c (atom_more b e k x y w next)) u h
   scalar_sound e k p ks ts x c w None next u h = ended e k p ks ts x c w (lex_kind x) refl u h
@@ -224,21 +227,21 @@ module _ (b : List ℕ) where
       → byte b e ≡ 123 → LedMembers b (suc e) j us → White b j l → byte b l ≡ 34 → InAtom b l k x → (r : Option Kind)
       → lex_kind x ≡ r → (u : State)
       → option_and_then (read AfterName (byte b k))
-          (end_atom AfterName l r (state (in_atom AfterName l x) (length ts ∷ ks) (opened_object ts e us) k p)) ≡ Some u
+      (end_atom AfterName l r (state (in_atom AfterName l x) (length ts ∷ ks) (opened_object ts e us) k p)) ≡ Some u
       → Inv b u
   ended_name e j l k p ks ts us x c o ld w0 q w None kind u h = none_some u h
   ended_name e j l k p ks ts us x c o ld w0 q w (Some kd) kind u h =
       colon_sound e j l k k p ks ts us c o ld w0
-          (subst (λ z. IsAtom b z l k) (name_kind w q kd kind) (atom_sound w kd kind)) (no_white b k) u h
+      (subst (λ z. IsAtom b z l k) (name_kind w q kd kind) (atom_sound w kd kind)) (no_white b k) u h
 
   name_sound : (e j l k p : ℕ) (ks : List ℕ) (ts : List Token) (us : Members) (x : Lex) → Context b e ks ts
       → byte b e ≡ 123 → LedMembers b (suc e) j us → White b j l → byte b l ≡ 34 → InAtom b l k x → (z : Option Lex)
       → lex_step x (byte b k) ≡ z → (u : State)
       → go_on (λ y. in_atom AfterName l y) z
-          (state (in_atom AfterName l x) (length ts ∷ ks) (opened_object ts e us) k p)
+      (state (in_atom AfterName l x) (length ts ∷ ks) (opened_object ts e us) k p)
       (option_and_then (read AfterName (byte b k))
-          (end_atom AfterName l (lex_kind x)
-              (state (in_atom AfterName l x) (length ts ∷ ks) (opened_object ts e us) k p))) ≡ Some u → Inv b u
+      (end_atom AfterName l (lex_kind x)
+      (state (in_atom AfterName l x) (length ts ∷ ks) (opened_object ts e us) k p))) ≡ Some u → Inv b u
   name_sound e j l k p ks ts us x c o ld w0 q w (Some y) next u h =
       moved_to _ (in_name e j l (suc k) p ks ts us y c o ld w0 q (atom_more b l k x y w next)) u h
   name_sound e j l k p ks ts us x c o ld w0 q w None next u h =
@@ -247,8 +250,11 @@ module _ (b : List ℕ) where
   -- one step keeps the invariant
   pub inv_step : (s : State) → Inv b s → (u : State) → step (byte b s.place) s ≡ Some u → Inv b u
   inv_step s (ready k p ks ts c) u h =
-      elim (split (is_white_space (byte b k)) _ _ (Some u) h) [ inl z ↦
-          moved_to _ (ready (suc k) p ks ts (context_white c z.0)) u z.1 | inr r ↦ begin_sound k p ks ts Ready u c r ]
+      elim (split (is_white_space (byte b k)) _ _ (Some u) h) [
+        | inl z ↦
+            moved_to _ (ready (suc k) p ks ts (context_white c z.0)) u z.1
+        | inr r ↦ begin_sound k p ks ts Ready u c r
+      ]
   inv_step s (first_item e k p ks ts c o w) u h =
       let o0 = token_at e 0 0 in let f = token_at e (suc k) (length (ts ++ o0 ∷ [])) in
       let S = idle FirstItem (length ts ∷ ks) (ts ++ o0 ∷ []) k p in
@@ -258,9 +264,9 @@ module _ (b : List ℕ) where
           | inl z ↦
               let h1 = sym (ap (λ y. close_token (length ts) y S) (slice_get-seam ts [] o0)) ∙ z.1 in
               let i = after_tree e (suc k) (suc k) p ks ts (array e (suc k) no_items) c
-                  (empty_array e k o w (eqb-true _ _ z.0)) (no_white b (suc k)) in
+              (empty_array e k o w (eqb-true _ _ z.0)) (no_white b (suc k)) in
               moved_to (idle After ks (slice_set (ts ++ o0 ∷ []) (length ts) f) (suc k) p)
-                  (subst (λ zs. Inv b (idle After ks zs (suc k) p)) (sym (array_empty ts o0 e (suc k))) i) u h1
+              (subst (λ zs. Inv b (idle After ks zs (suc k) p)) (sym (array_empty ts o0 e (suc k))) i) u h1
           | inr q ↦ begin_sound k p (length ts ∷ ks) (ts ++ o0 ∷ []) FirstItem u
               (subst (Context b k (length ts ∷ ks)) (append-nil (ts ++ o0 ∷ []))
               (in_array e (suc e) k ks ts no_items c o (no_led (suc e)) w)) q
@@ -276,17 +282,17 @@ module _ (b : List ℕ) where
           | inl z ↦
               let h1 = sym (ap (λ y. close_token (length ts) y S) (slice_get-seam ts [] o0)) ∙ z.1 in
               let i = after_tree e (suc k) (suc k) p ks ts (object e (suc k) no_members) c
-                  (empty_object e k o w (eqb-true _ _ z.0)) (no_white b (suc k)) in
+              (empty_object e k o w (eqb-true _ _ z.0)) (no_white b (suc k)) in
               moved_to (idle After ks (slice_set (ts ++ o0 ∷ []) (length ts) f) (suc k) p)
-                  (subst (λ zs. Inv b (idle After ks zs (suc k) p)) (sym (object_empty ts o0 e (suc k))) i) u h1
+              (subst (λ zs. Inv b (idle After ks zs (suc k) p)) (sym (object_empty ts o0 e (suc k))) i) u h1
           | inr q ↦ elim (split (nat_eq (byte b k) 34) _ _ (Some u) q) [
             | inl z ↦
                 let e34 = eqb-true _ _ z.0 in
                 let i = in_name e (suc e) k (suc k) p ks ts no_members InString c o (no_led_members (suc e)) w e34
-                    (atom_first b k InString (ap lex_start e34)) in
+                (atom_first b k InString (ap lex_start e34)) in
                 moved_to (state (in_atom AfterName k InString) (length ts ∷ ks) (ts ++ o0 ∷ []) (suc k) p)
-                    (subst (λ zs. Inv b (state (in_atom AfterName k InString) (length ts ∷ ks) zs (suc k) p))
-                    (append-nil (ts ++ o0 ∷ [])) i) u z.1
+                (subst (λ zs. Inv b (state (in_atom AfterName k InString) (length ts ∷ ks) zs (suc k) p))
+                (append-nil (ts ++ o0 ∷ [])) i) u z.1
             | inr z ↦ none_some u z
           ]
         ]

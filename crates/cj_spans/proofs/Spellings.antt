@@ -93,9 +93,11 @@ s_null (a ∷ b ∷ []) y k h d = let p = letter (lex_run (b ∷ [])) a 117 Afte
 s_null (a ∷ b ∷ c ∷ r) y k h d =
     let p = letter (lex_run (b ∷ c ∷ r)) a 117 AfterNu y h in let q = letter (lex_run (c ∷ r)) b 108 AfterNul y p.1 in
     let z = letter (lex_run r) c 108 NullDone y q.1 in
-    let e = last_word NullDone Null r y k refl (λ c. refl) z.1 d in
-    (ap (λ t. 110 ∷ t ∷ b ∷ c ∷ r) p.0 ∙ ap (λ t. 110 ∷ 117 ∷ t ∷ c ∷ r) q.0 ∙ ap (λ t. 110 ∷ 117 ∷ 108 ∷ t ∷ r) z.0
-        ∙ ap (λ t. 110 ∷ 117 ∷ 108 ∷ 108 ∷ t) e.0, e.1)
+    let e = last_word NullDone Null r y k refl (λ c. refl) z.1 d in (
+      ap (λ t. 110 ∷ t ∷ b ∷ c ∷ r) p.0 ∙ ap (λ t. 110 ∷ 117 ∷ t ∷ c ∷ r) q.0 ∙ ap (λ t. 110 ∷ 117 ∷ 108 ∷ t ∷ r) z.0
+          ∙ ap (λ t. 110 ∷ 117 ∷ 108 ∷ 108 ∷ t) e.0,
+      e.1,
+    )
 
 s_true : (r : List ℕ) (y : Lex) (k : Kind) → lex_run r AfterT ≡ Some y → Done y k → (116 ∷ r ≡ true_text) × (k ≡ Truth)
 s_true [] y k h d = not_done AfterT y k refl h d
@@ -105,9 +107,11 @@ s_true (a ∷ b ∷ []) y k h d = let p = letter (lex_run (b ∷ [])) a 114 Afte
 s_true (a ∷ b ∷ c ∷ r) y k h d =
     let p = letter (lex_run (b ∷ c ∷ r)) a 114 AfterTr y h in let q = letter (lex_run (c ∷ r)) b 117 AfterTru y p.1 in
     let z = letter (lex_run r) c 101 TruthDone y q.1 in
-    let e = last_word TruthDone Truth r y k refl (λ c. refl) z.1 d in
-    (ap (λ t. 116 ∷ t ∷ b ∷ c ∷ r) p.0 ∙ ap (λ t. 116 ∷ 114 ∷ t ∷ c ∷ r) q.0 ∙ ap (λ t. 116 ∷ 114 ∷ 117 ∷ t ∷ r) z.0
-        ∙ ap (λ t. 116 ∷ 114 ∷ 117 ∷ 101 ∷ t) e.0, e.1)
+    let e = last_word TruthDone Truth r y k refl (λ c. refl) z.1 d in (
+      ap (λ t. 116 ∷ t ∷ b ∷ c ∷ r) p.0 ∙ ap (λ t. 116 ∷ 114 ∷ t ∷ c ∷ r) q.0 ∙ ap (λ t. 116 ∷ 114 ∷ 117 ∷ t ∷ r) z.0
+          ∙ ap (λ t. 116 ∷ 114 ∷ 117 ∷ 101 ∷ t) e.0,
+      e.1,
+    )
 
 s_false : (r : List ℕ) (y : Lex) (k : Kind) → lex_run r AfterF ≡ Some y → Done y k → (102 ∷ r ≡ false_text)
     × (k ≡ Truth)
@@ -123,10 +127,12 @@ s_false (a ∷ b ∷ c ∷ g ∷ r) y k h d =
     let q = letter (lex_run (c ∷ g ∷ r)) b 108 AfterFal y p.1 in
     let z = letter (lex_run (g ∷ r)) c 115 AfterFals y q.1 in
     let u = letter (lex_run r) g 101 TruthDone y z.1 in
-    let e = last_word TruthDone Truth r y k refl (λ c. refl) u.1 d in
-    (ap (λ t. 102 ∷ t ∷ b ∷ c ∷ g ∷ r) p.0 ∙ ap (λ t. 102 ∷ 97 ∷ t ∷ c ∷ g ∷ r) q.0
-        ∙ ap (λ t. 102 ∷ 97 ∷ 108 ∷ t ∷ g ∷ r) z.0 ∙ ap (λ t. 102 ∷ 97 ∷ 108 ∷ 115 ∷ t ∷ r) u.0
-        ∙ ap (λ t. 102 ∷ 97 ∷ 108 ∷ 115 ∷ 101 ∷ t) e.0, e.1)
+    let e = last_word TruthDone Truth r y k refl (λ c. refl) u.1 d in (
+      ap (λ t. 102 ∷ t ∷ b ∷ c ∷ g ∷ r) p.0 ∙ ap (λ t. 102 ∷ 97 ∷ t ∷ c ∷ g ∷ r) q.0
+          ∙ ap (λ t. 102 ∷ 97 ∷ 108 ∷ t ∷ g ∷ r) z.0 ∙ ap (λ t. 102 ∷ 97 ∷ 108 ∷ 115 ∷ t ∷ r) u.0
+          ∙ ap (λ t. 102 ∷ 97 ∷ 108 ∷ 115 ∷ 101 ∷ t) e.0,
+      e.1,
+    )
 
 -- ---- numbers
 
@@ -152,13 +158,22 @@ s_mark : (r : List ℕ) (y : Lex) (k : Kind) → lex_run r Mark ≡ Some y → D
 s_mark [] y k h d = not_done Mark y k refl h d
 s_mark (c ∷ r) y k h d =
     elim (test_two (lex_run r) (is_digit c) Exponent (sign_mark c) y h) [
-      | inl p ↦ let q = s_exponent r y k p.1 d in
-          (record { sign = []; digits = c ∷ r; sign_is = inl refl; digits_are = (digit_is c p.0, q.0); joined = refl },
-          q.1)
+      | inl p ↦ let q = s_exponent r y k p.1 d in (
+        record { sign = []; digits = c ∷ r; sign_is = inl refl; digits_are = (digit_is c p.0, q.0); joined = refl },
+        q.1,
+      )
       | inr p ↦
-          let u = test_one (lex_run r) (nat_eq c 43 || nat_eq c 45) MarkSign y p.1 in let q = s_mark_sign r y k u.1 d in
-          (record { sign = c ∷ []; digits = r; sign_is = signs c (or_two c 43 45 u.0); digits_are = q.0;
-                  joined = refl }, q.1)
+          let u = test_one (lex_run r) (nat_eq c 43 || nat_eq c 45) MarkSign y p.1 in
+          let q = s_mark_sign r y k u.1 d in (
+            record {
+              sign = c ∷ [];
+              digits = r;
+              sign_is = signs c (or_two c 43 45 u.0);
+              digits_are = q.0;
+              joined = refl;
+            },
+            q.1,
+          )
     ]
   where
     signs : (c : ℕ) → (c ≡ 43) ⊎ (c ≡ 45) → IsExpSign (c ∷ [])
@@ -180,14 +195,22 @@ record FractionRest (r : List ℕ) : Type 0 where
   joined : r ≡ digits ++ exp
 
 s_fraction : (r : List ℕ) (y : Lex) (k : Kind) → lex_run r Fraction ≡ Some y → Done y k → FractionRest r × (k ≡ Number)
-s_fraction [] y k h d =
-    (record { digits = []; exp = []; digits_are = tt; exp_is = tt; joined = refl },
-        kind_is Fraction y Number k refl h d)
+s_fraction [] y k h d = (
+  record { digits = []; exp = []; digits_are = tt; exp_is = tt; joined = refl },
+  kind_is Fraction y Number k refl h d,
+)
 s_fraction (c ∷ r) y k h d =
     elim (test_two (lex_run r) (is_digit c) Fraction (mark c) y h) [
-      | inl p ↦ let q = s_fraction r y k p.1 d in let t = q.0 in
-          (record { digits = c ∷ t.digits; exp = t.exp; digits_are = (digit_is c p.0, t.digits_are); exp_is = t.exp_is;
-              joined = ap (λ z. c ∷ z) t.joined }, q.1)
+      | inl p ↦ let q = s_fraction r y k p.1 d in let t = q.0 in (
+        record {
+          digits = c ∷ t.digits;
+          exp = t.exp;
+          digits_are = (digit_is c p.0, t.digits_are);
+          exp_is = t.exp_is;
+          joined = ap (λ z. c ∷ z) t.joined;
+        },
+        q.1,
+      )
       | inr p ↦ let q = s_mark_at c r y k p.1 d in
           (record { digits = []; exp = c ∷ r; digits_are = tt; exp_is = q.0; joined = refl }, q.1)
     ]
@@ -204,9 +227,16 @@ s_point : (b : ℕ) (r : List ℕ) (y : Lex) (k : Kind) → b ≡ 46 → lex_run
     × (k ≡ Number)
 s_point b [] y k e h d = not_done Point y k refl h d
 s_point b (c ∷ r) y k e h d =
-    let p = test_one (lex_run r) (is_digit c) Fraction y h in let q = s_fraction r y k p.1 d in let t = q.0 in
-    (record { frac = b ∷ c ∷ t.digits; exp = t.exp; frac_is = (e, (digit_is c p.0, t.digits_are)); exp_is = t.exp_is;
-            joined = ap (λ z. b ∷ c ∷ z) t.joined }, q.1)
+    let p = test_one (lex_run r) (is_digit c) Fraction y h in let q = s_fraction r y k p.1 d in let t = q.0 in (
+      record {
+        frac = b ∷ c ∷ t.digits;
+        exp = t.exp;
+        frac_is = (e, (digit_is c p.0, t.digits_are));
+        exp_is = t.exp_is;
+        joined = ap (λ z. b ∷ c ∷ z) t.joined;
+      },
+      q.1,
+    )
 
 s_tail : (c : ℕ) (r : List ℕ) (y : Lex) (k : Kind) → option_and_then (lex_run r) (point_or_mark c) ≡ Some y → Done y k
     → Tail (c ∷ r) × (k ≡ Number)
@@ -233,14 +263,22 @@ record WholeRest (r : List ℕ) : Type 0 where
   joined : r ≡ digits ++ rest
 
 s_whole : (r : List ℕ) (y : Lex) (k : Kind) → lex_run r Whole ≡ Some y → Done y k → WholeRest r × (k ≡ Number)
-s_whole [] y k h d =
-    (record { digits = []; rest = []; digits_are = tt; tail = no_tail; joined = refl },
-        kind_is Whole y Number k refl h d)
+s_whole [] y k h d = (
+  record { digits = []; rest = []; digits_are = tt; tail = no_tail; joined = refl },
+  kind_is Whole y Number k refl h d,
+)
 s_whole (c ∷ r) y k h d =
     elim (test_two (lex_run r) (is_digit c) Whole (point_or_mark c) y h) [
-      | inl p ↦ let q = s_whole r y k p.1 d in let t = q.0 in
-          (record { digits = c ∷ t.digits; rest = t.rest; digits_are = (digit_is c p.0, t.digits_are); tail = t.tail;
-              joined = ap (λ z. c ∷ z) t.joined }, q.1)
+      | inl p ↦ let q = s_whole r y k p.1 d in let t = q.0 in (
+        record {
+          digits = c ∷ t.digits;
+          rest = t.rest;
+          digits_are = (digit_is c p.0, t.digits_are);
+          tail = t.tail;
+          joined = ap (λ z. c ∷ z) t.joined;
+        },
+        q.1,
+      )
       | inr p ↦ let q = s_tail c r y k p.1 d in
           (record { digits = []; rest = c ∷ r; digits_are = tt; tail = q.0; joined = refl }, q.1)
     ]
@@ -261,9 +299,16 @@ u_zero c r y k e h d = let q = s_zero r y k h d in
 u_whole : (c : ℕ) (r : List ℕ) (y : Lex) (k : Kind) → nat_le 49 c && nat_le c 57 ≡ true → lex_run r Whole ≡ Some y
     → Done y k → Unsigned (c ∷ r) × (k ≡ Number)
 u_whole c r y k e h d =
-    let q = s_whole r y k h d in let t = q.0 in let f = first_is c e in
-    (record { int = c ∷ t.digits; rest = t.rest; int_is = inr (f.0, f.1, t.digits_are); tail = t.tail;
-            joined = ap (λ z. c ∷ z) t.joined }, q.1)
+    let q = s_whole r y k h d in let t = q.0 in let f = first_is c e in (
+      record {
+        int = c ∷ t.digits;
+        rest = t.rest;
+        int_is = inr (f.0, f.1, t.digits_are);
+        tail = t.tail;
+        joined = ap (λ z. c ∷ z) t.joined;
+      },
+      q.1,
+    )
 
 s_minus : (r : List ℕ) (y : Lex) (k : Kind) → lex_run r Minus ≡ Some y → Done y k → Unsigned r × (k ≡ Number)
 s_minus [] y k h d = not_done Minus y k refl h d
@@ -305,7 +350,7 @@ mutual
   s_plain [] y k h d = not_done InString y k refl h d
   s_plain (c ∷ r) y k h d =
       elim (test_two (lex_run r) (nat_eq c 34) StringDone
-          (cond (nat_eq c 92) (Some Escape) (cond (nat_le 32 c) (Some InString) None)) y h) [
+      (cond (nat_eq c 92) (Some Escape) (cond (nat_le 32 c) (Some InString) None)) y h) [
         | inl p ↦ let e = last_word StringDone Text r y k refl (λ c. refl) p.1 d in
             (([], nothing, ap (λ z. z ∷ r) (eqb-true c 34 p.0) ∙ ap (λ z. 34 ∷ z) e.0), e.1)
         | inr p ↦ elim (test_two (lex_run r) (nat_eq c 92) Escape (cond (nat_le 32 c) (Some InString) None) y p.1) [
@@ -343,9 +388,15 @@ mutual
       let v = test_one (lex_run (g ∷ r)) (is_hex o) Hex1 y q.1 in
       let w = test_one (lex_run r) (is_hex g) InString y v.1 in
       let t = s_plain r y k w.1 d in
-      let a = both_true (both_true (both_true p.0 q.0) v.0) w.0 in
-      ((92 ∷ 117 ∷ m ∷ n ∷ o ∷ g ∷ t.0.0, unicode m n o g t.0.0 a t.0.1, ap (λ z. z ∷ u ∷ m ∷ n ∷ o ∷ g ∷ r) e
-              ∙ ap (λ z. 92 ∷ z ∷ m ∷ n ∷ o ∷ g ∷ r) f ∙ ap (λ z. 92 ∷ 117 ∷ m ∷ n ∷ o ∷ g ∷ z) t.0.2), t.1)
+      let a = both_true (both_true (both_true p.0 q.0) v.0) w.0 in (
+        (
+          92 ∷ 117 ∷ m ∷ n ∷ o ∷ g ∷ t.0.0,
+          unicode m n o g t.0.0 a t.0.1,
+          ap (λ z. z ∷ u ∷ m ∷ n ∷ o ∷ g ∷ r) e
+              ∙ ap (λ z. 92 ∷ z ∷ m ∷ n ∷ o ∷ g ∷ r) f ∙ ap (λ z. 92 ∷ 117 ∷ m ∷ n ∷ o ∷ g ∷ z) t.0.2,
+        ),
+        t.1,
+      )
 
 -- ---- all scalars
 
@@ -373,8 +424,12 @@ reading_sound (c ∷ r) x k h d =
                 | inr h6 ↦
                     let p = test_one (lex_run r) (nat_eq c 34) InString x h6.1 in let q = s_plain r x k p.1 d in
                     scalar_is Text k (c ∷ r) q.1
-                        (record { body = q.0.0; body_is = q.0.1; joined = ap (λ z. z ∷ r) (eqb-true c 34 p.0)
-                            ∙ ap (λ z. 34 ∷ z) q.0.2 })
+                    (record {
+                      body = q.0.0;
+                      body_is = q.0.1;
+                      joined = ap (λ z. z ∷ r) (eqb-true c 34 p.0)
+                          ∙ ap (λ z. 34 ∷ z) q.0.2;
+                    })
               ]
             ]
           ]
@@ -425,7 +480,7 @@ exponent_run : (s : List ℕ) (x : Lex) → ((c : ℕ) → is_digit c ≡ true �
 exponent_run [] x go h = absurd h
 exponent_run (c ∷ s) x go h =
     ap (option_and_then (lex_run s)) (go c (digit_test c h.0)) ∙ ap (λ t. lex_run t Exponent) (sym (append-nil s))
-        ∙ digits_run Exponent (λ c h. digit_step Exponent c None h) s [] h.1
+    ∙ digits_run Exponent (λ c h. digit_step Exponent c None h) s [] h.1
 
 rest_run : (s : List ℕ) → IsExpRest s → lex_run s Mark ≡ Some Exponent
 rest_run s h =
@@ -518,9 +573,16 @@ reading_whole Truth s h =
 reading_whole Number s h =
     let r = int_part h.int h.frac h.exp h.int_is h.frac_is h.exp_is in
     let t = h.int ++ (h.frac ++ h.exp) in
-    record { last = r.last; run = ap reading h.joined
-        ∙ elim h.minus_is [ inl e ↦ ap (λ z. reading (z ++ t)) e ∙ r.plain_run | inr e ↦ ap (λ z. reading (z ++ t)) e
-            ∙ r.minus_run ]; kind = r.kind }
+    record {
+      last = r.last;
+      run = ap reading h.joined
+          ∙ elim h.minus_is [
+            | inl e ↦ ap (λ z. reading (z ++ t)) e ∙ r.plain_run
+            | inr e ↦ ap (λ z. reading (z ++ t)) e
+                ∙ r.minus_run
+          ];
+      kind = r.kind;
+    }
 reading_whole Text s h = record { last = StringDone; run = ap reading h.joined ∙ body_runs h.body_is; kind = refl }
 reading_whole Array s h = absurd h
 reading_whole Object s h = absurd h

@@ -25,7 +25,7 @@ empty_settles : (b : List ℕ) (ks : List ℕ) (ts : List Token) → ts ≡ [] �
 empty_settles b ks ts e f =
     let base : ComesTo b start start = record { last = start; reached = here; settles = refl; same = λ l. refl } in
     subst (λ z. ComesTo b start (idle Ready z ts 0 0)) (sym f)
-        (subst (λ z. ComesTo b start (idle Ready [] z 0 0)) (sym e) base)
+    (subst (λ z. ComesTo b start (idle Ready [] z 0 0)) (sym e) base)
 
 pub standing_first : (b : List ℕ) (tokens : BoundedList Token) (stack : BoundedList ℕ) → IsWithin tokens
     → IsWithin stack → tokens.elements ≡ [] → stack.elements ≡ [] → Standing b tokens stack tokens stack Ready 0
@@ -84,7 +84,7 @@ room_left b tokens0 stack0 tokens stack m i s r l c =
     let q = s.stack_within.below_limit in let e = s.stack_limit in omega arith in
     let e = s.kept.limit in
     subst (λ n. length tokens.elements < n) (sym e)
-        (half_room (length tokens.elements) i (length b) (length stack.elements) stack0.limit tokens0.limit c l g r)
+    (half_room (length tokens.elements) i (length b) (length stack.elements) stack0.limit tokens0.limit c l g r)
 
 pub standing_room : (b : List ℕ) (tokens0 : BoundedList Token) (stack0 : BoundedList ℕ) (tokens : BoundedList Token)
     (stack : BoundedList ℕ) (m : Mode) (i : ℕ) → Standing b tokens0 stack0 tokens stack m i
@@ -92,8 +92,8 @@ pub standing_room : (b : List ℕ) (tokens0 : BoundedList Token) (stack0 : Bound
     → BeginsValue m → length tokens.elements < tokens.limit
 standing_room b tokens0 stack0 tokens stack m i s r l h =
     room_left b tokens0 stack0 tokens stack m i s r l
-        (count_before m stack.elements tokens.elements i s.deepest (standing_lawful b tokens0 stack0 tokens stack m i s)
-        h)
+    (count_before m stack.elements tokens.elements i s.deepest (standing_lawful b tokens0 stack0 tokens stack m i s)
+    h)
 
 count_name : (m : Mode) (ks : List ℕ) (ts : List Token) (i p : ℕ) → IsLawful (idle m ks ts i p) → BeginsName m
     → 2 * length ts ≤ i + length ks
@@ -107,21 +107,25 @@ pub standing_name_room : (b : List ℕ) (tokens0 : BoundedList Token) (stack0 : 
     → BeginsName m → length tokens.elements < tokens.limit
 standing_name_room b tokens0 stack0 tokens stack m i s r l h =
     room_left b tokens0 stack0 tokens stack m i s r l
-        (count_name m stack.elements tokens.elements i s.deepest (standing_lawful b tokens0 stack0 tokens stack m i s)
-        h)
+    (count_name m stack.elements tokens.elements i s.deepest (standing_lawful b tokens0 stack0 tokens stack m i s)
+    h)
 
 pub kept_both : (x y z : BoundedList Token) → Kept x y → Grown y z → Kept x z
 kept_both x y z k g =
     let a = k.peak in let c = g.kept.peak in let d = g.longer in
-    record { limit = g.kept.limit ∙ k.limit; peak = omega arith; room = λ r. g.kept.room (k.room r);
-        within = g.kept.within }
+    record {
+      limit = g.kept.limit ∙ k.limit;
+      peak = omega arith;
+      room = λ r. g.kept.room (k.room r);
+      within = g.kept.within;
+    }
 
 -- what goes on over the tokens alone
 pub standing_with : (b : List ℕ) (tokens0 : BoundedList Token) (stack0 : BoundedList ℕ)
     (tokens tokens1 : BoundedList Token) (stack : BoundedList ℕ) (m n : Mode) (i j : ℕ)
     → Standing b tokens0 stack0 tokens stack m i → Grown tokens tokens1 → j ≤ length b
     → ((p : ℕ) → ComesTo b start (idle m stack.elements tokens.elements i p)
-        → ComesTo b start (idle n stack.elements tokens1.elements j p)) → Standing b tokens0 stack0 tokens1 stack n j
+    → ComesTo b start (idle n stack.elements tokens1.elements j p)) → Standing b tokens0 stack0 tokens1 stack n j
 standing_with b tokens0 stack0 tokens tokens1 stack m n i j s g l h = record {
   deepest = s.deepest;
   settles = h s.deepest s.settles;
@@ -150,17 +154,17 @@ pub standing_step : (b : List ℕ) (tokens0 : BoundedList Token) (stack0 : Bound
     (tokens tokens1 : BoundedList Token) (stack stack1 : BoundedList ℕ) (m : Mode) (i : ℕ) (v : Move)
     → Standing b tokens0 stack0 tokens stack m i → i < length b → Grown tokens tokens1 → Kept stack stack1
     → ((p : ℕ) → read m (byte b i) (idle m stack.elements tokens.elements i p)
-        ≡ Some (state (phase_after m i v) stack1.elements tokens1.elements (suc i)
-            (deepest_after v p (length stack1.elements))))
+    ≡ Some (state (phase_after m i v) stack1.elements tokens1.elements (suc i)
+    (deepest_after v p (length stack1.elements))))
     → Stepped b tokens0 stack0 tokens1 stack1 m i v
 standing_step b tokens0 stack0 tokens tokens1 stack stack1 m i v s l g k h =
     let t = idle m stack.elements tokens.elements i s.deepest in
     let u = state (phase_after m i v) stack1.elements tokens1.elements (suc i)
-        (deepest_after v s.deepest (length stack1.elements)) in
+    (deepest_after v s.deepest (length stack1.elements)) in
     let w = standing_lawful b tokens0 stack0 tokens stack m i s in
     let e : s.settles.last.place ≡ i = (settled s.settles.last t s.settles.settles).place in
     let q : step (byte b s.settles.last.place) s.settles.last ≡ Some u = ap (λ n. step (byte b n) s.settles.last) e
-        ∙ s.settles.same l ∙ h s.deepest in
+    ∙ s.settles.same l ∙ h s.deepest in
     let d = (goes t u (byte b i) w (h s.deepest)).deepest in
     let a = s.stack_peak in let c = k.peak in
     record {
@@ -189,7 +193,7 @@ stepped_room b tokens0 stack0 tokens stack m i v s r l h =
     let g : length stack.elements ≤ stack0.limit = let p = s.stack_within.below_peak in
     let q = s.stack_within.below_limit in let e = s.stack_limit in omega arith in
     subst (λ n. length tokens.elements < n) (sym s.kept.limit)
-        (half_room (length tokens.elements) i (length b) (length stack.elements) stack0.limit tokens0.limit c l g r)
+    (half_room (length tokens.elements) i (length b) (length stack.elements) stack0.limit tokens0.limit c l g r)
 
 count_after : (m : Mode) (i p : ℕ) (v : Move) (ks : List ℕ) (ts : List Token)
     → IsLawful (state (phase_after m i v) ks ts (suc i) p) → 2 * length ts ≤ suc (suc i) + length ks
@@ -220,7 +224,7 @@ pub stepped_on : (b : List ℕ) (tokens0 : BoundedList Token) (stack0 : BoundedL
     (tokens tokens1 : BoundedList Token) (stack : BoundedList ℕ) (m : Mode) (i : ℕ) (v : Move) (n : Next)
     → Stepped b tokens0 stack0 tokens stack m i v → Grown tokens tokens1
     → ((p : ℕ) → ComesTo b (state (phase_after m i v) stack.elements tokens.elements (suc i) p)
-        (idle n.mode stack.elements tokens1.elements n.place p) × (suc i ≤ n.place) × (n.place ≤ length b))
+    (idle n.mode stack.elements tokens1.elements n.place p) × (suc i ≤ n.place) × (n.place ≤ length b))
     → Standing b tokens0 stack0 tokens1 stack n.mode n.place
 stepped_on b tokens0 stack0 tokens tokens1 stack m i v n s g h = record {
   deepest = s.deepest;
@@ -238,14 +242,14 @@ pub followed : (b : List ℕ) (tokens0 : BoundedList Token) (stack0 : BoundedLis
     (tokens tokens1 tokens2 : BoundedList Token) (stack stack1 : BoundedList ℕ) (m : Mode) (i : ℕ) (v : Move) (n : Next)
     → Standing b tokens0 stack0 tokens stack m i → i < length b → Grown tokens tokens1 → Kept stack stack1
     → ((p : ℕ) → read m (byte b i) (idle m stack.elements tokens.elements i p)
-        ≡ Some (state (phase_after m i v) stack1.elements tokens1.elements (suc i)
-            (deepest_after v p (length stack1.elements)))) → Grown tokens1 tokens2
+    ≡ Some (state (phase_after m i v) stack1.elements tokens1.elements (suc i)
+    (deepest_after v p (length stack1.elements)))) → Grown tokens1 tokens2
     → ((p : ℕ) → ComesTo b (state (phase_after m i v) stack1.elements tokens1.elements (suc i) p)
-        (idle n.mode stack1.elements tokens2.elements n.place p) × (suc i ≤ n.place) × (n.place ≤ length b))
+    (idle n.mode stack1.elements tokens2.elements n.place p) × (suc i ≤ n.place) × (n.place ≤ length b))
     → Standing b tokens0 stack0 tokens2 stack1 n.mode n.place
 followed b tokens0 stack0 tokens tokens1 tokens2 stack stack1 m i v n s l g k h f c =
     stepped_on b tokens0 stack0 tokens1 tokens2 stack1 m i v n
-        (standing_step b tokens0 stack0 tokens tokens1 stack stack1 m i v s l g k h) f c
+    (standing_step b tokens0 stack0 tokens tokens1 stack stack1 m i v s l g k h) f c
 
 -- ---- the law at every exit
 
@@ -256,7 +260,7 @@ pub standing_law : (b : List ℕ) (tokens0 : BoundedList Token) (stack0 : Bounde
     → KeepsLaw b tokens0 tokens1 stack0 stack1
 standing_law b tokens0 stack0 tokens tokens1 stack stack1 m i s g k e l =
     let c = count_of m stack.elements tokens.elements i s.deepest
-        (standing_lawful b tokens0 stack0 tokens stack m i s) in
+    (standing_lawful b tokens0 stack0 tokens stack m i s) in
     let q = s.place in
     let z = kept_both tokens0 tokens tokens1 s.kept g in
     let f : length tokens1.elements ≡ length tokens.elements = ap (λ t. length t.elements) e in
@@ -286,15 +290,17 @@ grown_more x z t w e =
     let g = w.below_peak in let c = e.peak in
     let n : length z.elements ≡ length x.elements + 1 = ap length e.elements ∙ length-append x.elements (t ∷ []) in
     let f = length-append x.elements (t ∷ []) in
-    record { kept = record { limit = e.limit; peak = omega arith; room = e.room; within = e.within };
-        longer = omega arith }
+    record {
+      kept = record { limit = e.limit; peak = omega arith; room = e.room; within = e.within };
+      longer = omega arith;
+    }
 
 pub ended_law : (b : List ℕ) (tokens0 : BoundedList Token) (stack0 : BoundedList ℕ) (tokens : BoundedList Token)
     (stack : BoundedList ℕ) (m : Mode) (i : ℕ) → Standing b tokens0 stack0 tokens stack m i
     → KeepsLaw b tokens0 tokens stack0 stack
 ended_law b tokens0 stack0 tokens stack m i s =
     standing_law b tokens0 stack0 tokens tokens stack stack m i s (grown_same tokens s.kept.within)
-        (kept_same stack s.stack_within) refl (omega arith)
+    (kept_same stack s.stack_within) refl (omega arith)
 
 pub stepped_law : (b : List ℕ) (tokens0 : BoundedList Token) (stack0 : BoundedList ℕ)
     (tokens tokens1 : BoundedList Token) (stack : BoundedList ℕ) (m : Mode) (i : ℕ) (v : Move)
@@ -327,7 +333,7 @@ pub standing_fault : (X : Type 0) (b : List ℕ) (tokens0 : BoundedList Token) (
     (tokens tokens1 : BoundedList Token) (stack stack1 : BoundedList ℕ) (m : Mode) (i : ℕ) (f : LineFault)
     → Standing b tokens0 stack0 tokens stack m i → i < length b
     → ((p : ℕ) → Answers (read m (byte b i) (idle m stack.elements tokens.elements i p)) m i p stack.limit
-        (Err f) stack1.elements tokens1.elements)
+    (Err f) stack1.elements tokens1.elements)
     → RunAnswers {X = X} b stack0 (Err f) tokens1 stack1
 standing_fault X b tokens0 stack0 tokens tokens1 stack stack1 m i (NotUtf8 j) s l h = h 0
 standing_fault X b tokens0 stack0 tokens tokens1 stack stack1 m i (Syntax j) s l h =
@@ -336,13 +342,18 @@ standing_fault X b tokens0 stack0 tokens tokens1 stack stack1 m i (Syntax j) s l
     let d = e.deepest in
     let a = h s.deepest in
     let q : step (byte b j) s.settles.last ≡ None = ap (λ n. step (byte b n) s.settles.last) a.0 ∙ s.settles.same l
-        ∙ a.1 in
+    ∙ a.1 in
     let r = shallow_at s.deepest stack.peak stack.limit stack0.peak stack0.limit s.stack_peak s.stack_within.below_limit
-        s.stack_limit in
+    s.stack_limit in
     let ji = a.0 in
     record {
-      sticks = record { last = s.settles.last; reached = s.settles.reached; at = e.place ∙ sym a.0;
-          within = omega arith; stuck = inl (omega arith, q) };
+      sticks = record {
+        last = s.settles.last;
+        reached = s.settles.reached;
+        at = e.place ∙ sym a.0;
+        within = omega arith;
+        stuck = inl (omega arith, q);
+      };
       shallow = omega arith;
     }
 standing_fault X b tokens0 stack0 tokens tokens1 stack stack1 m i (TooDeep j) s l h =
@@ -351,9 +362,9 @@ standing_fault X b tokens0 stack0 tokens tokens1 stack stack1 m i (TooDeep j) s 
     let d = e.deepest in
     let a = h s.deepest in
     let q : step (byte b j) s.settles.last ≡ read m (byte b i) t = ap (λ n. step (byte b n) s.settles.last) a.0
-        ∙ s.settles.same l in
+    ∙ s.settles.same l in
     let r = shallow_at s.deepest stack.peak stack.limit stack0.peak stack0.limit s.stack_peak s.stack_within.below_limit
-        s.stack_limit in
+    s.stack_limit in
     let ji = a.0 in
     let P : ℕ → Type 0 = λ n. IsSomeAnd (read m (byte b i) t) (λ u. length u.stack ≡ suc n) in
     let Q : Option State → Type 0 = λ o. IsSomeAnd o (λ u. length u.stack ≡ suc stack0.limit) in
@@ -370,14 +381,14 @@ pub stepped_fault : (X : Type 0) (b : List ℕ) (tokens0 : BoundedList Token) (s
     (tokens tokens1 : BoundedList Token) (stack : BoundedList ℕ) (m : Mode) (i : ℕ) (v : Move) (f : LineFault)
     → Stepped b tokens0 stack0 tokens stack m i v
     → ((p : ℕ) → EndAnswers b (state (phase_after m i v) stack.elements tokens.elements (suc i) p)
-        (Err f) tokens1.elements)
+    (Err f) tokens1.elements)
     → RunAnswers {X = X} b stack0 (Err f) tokens1 stack
 stepped_fault X b tokens0 stack0 tokens tokens1 stack m i v (NotUtf8 j) s h = h 0
 stepped_fault X b tokens0 stack0 tokens tokens1 stack m i v (TooDeep j) s h = absurd (h 0)
 stepped_fault X b tokens0 stack0 tokens tokens1 stack m i v (Syntax j) s h =
     let a = h s.deepest in
     let r = shallow_at s.deepest stack.peak stack.limit stack0.peak stack0.limit s.stack_peak s.stack_within.below_limit
-        s.stack_limit in
+    s.stack_limit in
     record { sticks = sticks_both s.reached a.sticks; shallow = subst (λ n. n ≤ stack0.limit) (sym a.flat) r }
 
 -- ---- the end of the line
@@ -391,7 +402,7 @@ ended_fault b tokens0 stack0 tokens stack m i s l n =
     let d = e.deepest in
     let w = s.place in
     let r = shallow_at s.deepest stack.peak stack.limit stack0.peak stack0.limit s.stack_peak s.stack_within.below_limit
-        s.stack_limit in
+    s.stack_limit in
     record {
       sticks = record {
         last = s.settles.last;

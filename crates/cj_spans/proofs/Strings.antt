@@ -40,9 +40,12 @@ strip (x ∷ xs) r h y =
 
 long_bytes : (c : ℕ) → 128 ≤ c → (k : ℕ) → k < length (encode_utf8 c) → 128 ≤ get_or (encode_utf8 c) k 0
 long_bytes c h k l =
-    elim (cases_lt (get_or (encode_utf8 c) k 0) 128) [ inl m ↦
-        let e = inside_one c [] (encode_utf8 c) k (sym (append-nil (encode_utf8 c))) l m in
-        absurd (omega arith) | inr g ↦ g ]
+    elim (cases_lt (get_or (encode_utf8 c) k 0) 128) [
+      | inl m ↦
+          let e = inside_one c [] (encode_utf8 c) k (sym (append-nil (encode_utf8 c))) l m in
+          absurd (omega arith)
+      | inr g ↦ g
+    ]
 
 -- an ASCII byte is a character
 record Next (cs : List ℕ) (c : ℕ) (rest : List ℕ) : Type 0 where
@@ -120,8 +123,15 @@ unit_second ds u (by_escape q e s f p y) =
     let n : ⊥ = grind (arith, nat_tests) in absurd n
 unit_second ds u (by_unicode q h i j k s f p y) =
     let a = unit4 ds h i j k s f p in
-    record { l = h; m = i; n = j; o = k; after = a.after; is = ap (λ xs. 92 ∷ xs) a.is;
-        body = subst IsBody (sym a.left) y }
+    record {
+      l = h;
+      m = i;
+      n = j;
+      o = k;
+      after = a.after;
+      is = ap (λ xs. 92 ∷ xs) a.is;
+      body = subst IsBody (sym a.left) y;
+    }
 
 unit_front : (es : List ℕ) → is_unicode es ≡ true → IsBody (encode_utf8_all es) → NextUnit es
 unit_front [] u y = let n : ⊥ = cc in absurd n
@@ -131,7 +141,7 @@ unit_front (c ∷ ds) u y =
     let y0 = subst (λ x. IsBody (encode_utf8_all (x ∷ ds))) e y in
     let y1 = subst (λ xs. IsBody (xs ++ encode_utf8_all ds)) (encode_ascii 92 (omega arith)) y0 in
     subst (λ x. NextUnit (x ∷ ds)) (sym e)
-        (unit_second ds (subst (λ x. char_of (x ∷ ds) 1 ≡ 117) e f) (body_begins y1 92 (encode_utf8_all ds) refl))
+    (unit_second ds (subst (λ x. char_of (x ∷ ds) 1 ≡ 117) e f) (body_begins y1 92 (encode_utf8_all ds) refl))
 
 unit_pair : (h i j k : ℕ) (es : List ℕ)
     → ((ds : List ℕ) → length ds ≤ length es → IsBody (encode_utf8_all ds) → Stands ds)
@@ -142,14 +152,14 @@ unit_pair h i j k es ih a b f =
     let r = ih f.after g f.body in
     let low = subst (λ xs. is_low_surrogate (unit xs) ≡ true) f.is b in
     subst (λ xs. Stands (92 ∷ 117 ∷ h ∷ i ∷ j ∷ k ∷ xs)) (sym f.is)
-        (_, pair h i j k f.l f.m f.n f.o f.after r.0 a low r.1)
+    (_, pair h i j k f.l f.m f.n f.o f.after r.0 a low r.1)
 
 unit_case : (h i j k : ℕ) (es : List ℕ)
     → ((ds : List ℕ) → length ds ≤ length es → IsBody (encode_utf8_all ds) → Stands ds) → IsBody (encode_utf8_all es)
     → (v : Bool) → is_pair (92 ∷ 117 ∷ h ∷ i ∷ j ∷ k ∷ es) ≡ v → Stands (92 ∷ 117 ∷ h ∷ i ∷ j ∷ k ∷ es)
 unit_case h i j k es ih y true e =
     let f = all_so true (is_high_surrogate (four_digits (h ∷ i ∷ j ∷ k ∷ []))) (is_unicode es)
-        (is_low_surrogate (unit es)) e in
+    (is_low_surrogate (unit es)) e in
     unit_pair h i j k es ih f.0 f.2 (unit_front es f.1 y)
 unit_case h i j k es ih y false e = let r = ih es (omega arith) y in
     (four_digits (h ∷ i ∷ j ∷ k ∷ []) ∷ r.0, single h i j k es r.0 e r.1)
@@ -162,12 +172,12 @@ ascii_case c cs ih (by_escape q e s f p y) =
     let g : length a.after ≤ length cs = let z = ap (λ (xs : List ℕ). length xs) a.is in omega arith in
     let r = ih a.after g (subst IsBody (sym a.left) y) in
     subst (λ xs. Stands (c ∷ xs)) (sym a.is)
-        (subst (λ d. Stands (d ∷ e ∷ a.after)) (sym q) (_, letter e a.after r.0 (escape_other e p) r.1))
+    (subst (λ d. Stands (d ∷ e ∷ a.after)) (sym q) (_, letter e a.after r.0 (escape_other e p) r.1))
 ascii_case c cs ih (by_unicode q h i j k s f p y) =
     let a = unit4 cs h i j k s f p in
     let g : length a.after ≤ length cs = let z = ap (λ (xs : List ℕ). length xs) a.is in omega arith in
     let r = unit_case h i j k a.after (λ ds l b. ih ds (omega arith) b) (subst IsBody (sym a.left) y)
-        (is_pair (92 ∷ 117 ∷ h ∷ i ∷ j ∷ k ∷ a.after)) refl in
+    (is_pair (92 ∷ 117 ∷ h ∷ i ∷ j ∷ k ∷ a.after)) refl in
     subst (λ xs. Stands (c ∷ xs)) (sym a.is) (subst (λ d. Stands (d ∷ 117 ∷ h ∷ i ∷ j ∷ k ∷ a.after)) (sym q) r)
 
 stands : (n : ℕ) (cs : List ℕ) → length cs ≤ n → IsBody (encode_utf8_all cs) → Stands cs
@@ -199,7 +209,7 @@ utf8_body body u =
     let e = length-append body (34 ∷ []) in
     let b = IsCharBoundary-before_ascii xs (length body) (omega arith) (quote_at body) in
     subst IsUtf8 (take-append-le (length body) body (34 ∷ []) (omega arith) ∙ take-length body)
-        (IsUtf8-take xs (length body) v b)
+    (IsUtf8-take xs (length body) v b)
 
 -- the text of a string is told by the cases of the grammar
 pub text_told : (s : List ℕ) → IsString s → IsUtf8 s → (ps : List ℕ) × StandFor (chars (body_of s)) ps
@@ -209,5 +219,5 @@ text_told s h u =
     let y = subst IsBody (sym v.1.1) h.body_is in
     let r = stands (length v.0) v.0 (omega arith) y in
     let e : chars (body_of s) ≡ v.0 = ap (λ xs. chars (body_of xs)) h.joined ∙ ap chars (body-joined b ∙ sym v.1.1)
-        ∙ chars-encodes v.0 v.1.0 in
+    ∙ chars-encodes v.0 v.1.0 in
     (r.0, subst (λ cs. StandFor cs r.0) (sym e) r.1)

@@ -138,7 +138,7 @@ first_not a b c d h = grind (arith)
 pub not_high : (cs : List ℕ) → is_high_surrogate (unit cs) ≡ false → is_pair cs ≡ false
 not_high cs h =
     first_not (is_unicode cs) (is_high_surrogate (unit cs)) (is_unicode (drop 6 cs))
-        (is_low_surrogate (unit (drop 6 cs))) h
+    (is_low_surrogate (unit (drop 6 cs))) h
 
 third_not : (a b c d : Bool) → c ≡ false → a && b && c && d ≡ false
 third_not a b c d h = grind (arith)
@@ -146,7 +146,7 @@ third_not a b c d h = grind (arith)
 pub not_followed : (cs : List ℕ) → is_unicode (drop 6 cs) ≡ false → is_pair cs ≡ false
 not_followed cs h =
     third_not (is_unicode cs) (is_high_surrogate (unit cs)) (is_unicode (drop 6 cs))
-        (is_low_surrogate (unit (drop 6 cs))) h
+    (is_low_surrogate (unit (drop 6 cs))) h
 
 fourth_not : (a b c d : Bool) → d ≡ false → a && b && c && d ≡ false
 fourth_not a b c d h = grind (arith)
@@ -154,7 +154,7 @@ fourth_not a b c d h = grind (arith)
 pub not_low : (cs : List ℕ) → is_low_surrogate (unit (drop 6 cs)) ≡ false → is_pair cs ≡ false
 not_low cs h =
     fourth_not (is_unicode cs) (is_high_surrogate (unit cs)) (is_unicode (drop 6 cs))
-        (is_low_surrogate (unit (drop 6 cs))) h
+    (is_low_surrogate (unit (drop 6 cs))) h
 
 zeroth_not : (a b c d : Bool) → a ≡ false → a && b && c && d ≡ false
 zeroth_not a b c d h = grind (arith)
@@ -162,7 +162,7 @@ zeroth_not a b c d h = grind (arith)
 not_unicode : (cs : List ℕ) → is_unicode cs ≡ false → is_pair cs ≡ false
 not_unicode cs h =
     zeroth_not (is_unicode cs) (is_high_surrogate (unit cs)) (is_unicode (drop 6 cs))
-        (is_low_surrogate (unit (drop 6 cs))) h
+    (is_low_surrogate (unit (drop 6 cs))) h
 
 not_escaped : (cs : List ℕ) → is_escaped cs ≡ false → is_unicode cs ≡ false
 not_escaped cs h = ap (λ v. v && nat_eq (char_of cs 1) 117) h
@@ -171,10 +171,11 @@ not_escaped cs h = ap (λ v. v && nat_eq (char_of cs 1) 117) h
 first_pair : (cs : List ℕ) → is_pair cs ≡ true
     → (first_code_point cs ≡ surrogate_pair_char (unit cs) (unit (drop 6 cs))) × (first_width cs ≡ 12)
 unfolding first_code_point first_width
-first_pair cs h =
-    (ap (λ v. cond v (surrogate_pair_char (unit cs) (unit (drop 6 cs)))
-            (cond (is_unicode cs) (unit cs) (cond (is_escaped cs) (escaped (char_of cs 1)) (char_of cs 0)))) h,
-        ap (λ v. cond v 12 (cond (is_unicode cs) 6 (cond (is_escaped cs) 2 1))) h)
+first_pair cs h = (
+  ap (λ v. cond v (surrogate_pair_char (unit cs) (unit (drop 6 cs)))
+      (cond (is_unicode cs) (unit cs) (cond (is_escaped cs) (escaped (char_of cs 1)) (char_of cs 0)))) h,
+  ap (λ v. cond v 12 (cond (is_unicode cs) 6 (cond (is_escaped cs) 2 1))) h,
+)
 
 first_unit : (cs : List ℕ) → is_pair cs ≡ false → is_unicode cs ≡ true → (first_code_point cs ≡ unit cs)
     × (first_width cs ≡ 6)
@@ -286,12 +287,14 @@ pub join_pair : (bs cs : List ℕ) (h l : CodePoint) → is_high_surrogate h.cod
     → ReadsCodePoint bs (drop 6 cs) (unit (drop 6 cs)) 6 l → is_low_surrogate l.code ≡ true → is_unicode cs ≡ true
     → ReadsCodePoint bs cs (unit cs) 6 h
     → ReadsCodePoint bs cs (first_code_point cs) (first_width cs)
-        (record { code = surrogate_pair_char h.code l.code; stop = l.stop })
+    (record { code = surrogate_pair_char h.code l.code; stop = l.stop })
 join_pair bs cs h l m f s n u t =
     pair_taken bs cs _ (pair_shown cs u (ap is_high_surrogate (sym t.code) ∙ m) f
-        (ap is_low_surrogate (sym s.code) ∙ n))
-    (record { code = ap (λ x. surrogate_pair_char x l.code) t.code ∙ ap (surrogate_pair_char (unit cs)) s.code;
-            rest = s.rest ∙ drop-drop 6 6 cs })
+    (ap is_low_surrogate (sym s.code) ∙ n))
+    (record {
+      code = ap (λ x. surrogate_pair_char x l.code) t.code ∙ ap (surrogate_pair_char (unit cs)) s.code;
+      rest = s.rest ∙ drop-drop 6 6 cs;
+    })
 
 pub letter_read : (bs cs : List ℕ) (p q : CodePoint) (x : ℕ) → is_unicode cs ≡ false → is_escaped cs ≡ true
     → ReadsCodePoint bs cs (char_of cs 0) 1 p → ReadsCodePoint bs (drop 1 cs) (char_of (drop 1 cs) 0) 1 q
@@ -299,7 +302,7 @@ pub letter_read : (bs cs : List ℕ) (p q : CodePoint) (x : ℕ) → is_unicode 
     (record { code = x; stop = q.stop })
 letter_read bs cs p q x n a t u e =
     letter_taken bs cs _ n a
-        (record { code = e ∙ ap escaped (u.code ∙ at_second cs); rest = rest_two bs cs _ _ p q t u })
+    (record { code = e ∙ ap escaped (u.code ∙ at_second cs); rest = rest_two bs cs _ _ p q t u })
 
 -- ---- walks over characters and code points
 
@@ -347,8 +350,8 @@ points_go_on : (c : ℕ) (cs ds ps : List ℕ) (x n : ℕ) → (first_code_point
     → drop n (c ∷ cs) ≡ ds → code_points_after 0 ds ≡ ps → code_points_after 0 (c ∷ cs) ≡ x ∷ ps
 points_go_on c cs ds ps x n e d h =
     points_cons c cs ∙ ap (λ y. y ∷ code_points_after 0 (drop (first_width (c ∷ cs)) (c ∷ cs))) e.0
-        ∙ ap (λ m. x ∷ code_points_after 0 (drop m (c ∷ cs))) e.1 ∙ ap (λ us. x ∷ code_points_after 0 us) d
-        ∙ ap (λ us. x ∷ us) h
+    ∙ ap (λ m. x ∷ code_points_after 0 (drop m (c ∷ cs))) e.1 ∙ ap (λ us. x ∷ code_points_after 0 us) d
+    ∙ ap (λ us. x ∷ us) h
 
 plain_cons : (c : ℕ) (cs : List ℕ) → nat_eq c 92 ≡ false → code_points_after 0 (c ∷ cs) ≡ c ∷ code_points_after 0 cs
 plain_cons c cs n = points_go_on c cs cs (code_points_after 0 cs) c 1 (first_plain (c ∷ cs) n) refl refl
@@ -385,9 +388,9 @@ pub order_apart : (bs ds : List ℕ) (i j b c : ℕ) → (i < length bs) × (b �
     → compare (code_points_from bs i) (code_points_from ds j) ≡ nat_cmp b c
 order_apart bs ds i j b c f g n a p =
     let x = plain_code bs i f.0 (omega (arith, f.1)) (ap (λ v. nat_eq v 92) (sym f.1) ∙ p.0)
-        ∙ ap (λ v. v ∷ code_points_from bs (i + 1)) (sym f.1) in
+    ∙ ap (λ v. v ∷ code_points_from bs (i + 1)) (sym f.1) in
     let y = plain_code ds j g.0 (omega (arith, g.1)) (ap (λ v. nat_eq v 92) (sym g.1) ∙ p.1)
-        ∙ ap (λ v. v ∷ code_points_from ds (j + 1)) (sym g.1) in
+    ∙ ap (λ v. v ∷ code_points_from ds (j + 1)) (sym g.1) in
     (λ k. compare (x k) (y k)) ∙ order_differs b c (code_points_from bs (i + 1)) (code_points_from ds (j + 1)) n
 
 -- ---- between the quotes
@@ -462,11 +465,11 @@ stands_once (letter c cs ps e s) =
     points_go_on 92 (c ∷ cs) cs ps (escaped c) 2 (first_letter (92 ∷ c ∷ cs) e refl) refl (stands_once s)
 stands_once (single h i j k cs ps e s) =
     points_go_on 92 (117 ∷ h ∷ i ∷ j ∷ k ∷ cs) cs ps _ 6 (first_unit (92 ∷ 117 ∷ h ∷ i ∷ j ∷ k ∷ cs) e refl) refl
-        (stands_once s)
+    (stands_once s)
 stands_once (pair h i j k l m n o cs ps e f s) =
     let cs0 = 92 ∷ 117 ∷ h ∷ i ∷ j ∷ k ∷ 92 ∷ 117 ∷ l ∷ m ∷ n ∷ o ∷ cs in
     points_go_on 92 (117 ∷ h ∷ i ∷ j ∷ k ∷ 92 ∷ 117 ∷ l ∷ m ∷ n ∷ o ∷ cs) cs ps _ 12
-        (first_pair cs0 (pair_shown cs0 refl e refl f)) refl (stands_once s)
+    (first_pair cs0 (pair_shown cs0 refl e refl f)) refl (stands_once s)
 
 -- ---- bytes that two strings share
 
@@ -478,9 +481,11 @@ alike_on bs i ds j n last m a c b k l =
       | inr g ↦
           let e : i + last + (k - last) ≡ i + k = omega arith in
           let f : j + last + (k - last) ≡ j + k = omega arith in
-          let s = b (k - last) (omega arith) in
-          (ap (λ x. get_or bs x 0) (sym e) ∙ s.0 ∙ ap (λ x. get_or ds x 0) f, subst (λ x. get_or bs x 0 < 128) e s.1,
-              ap (λ x. nat_eq (get_or bs x 0) 92) (sym e) ∙ s.2)
+          let s = b (k - last) (omega arith) in (
+            ap (λ x. get_or bs x 0) (sym e) ∙ s.0 ∙ ap (λ x. get_or ds x 0) f,
+            subst (λ x. get_or bs x 0 < 128) e s.1,
+            ap (λ x. nat_eq (get_or bs x 0) 92) (sym e) ∙ s.2,
+          )
     ]
 
 pub alike_none : (bs : List ℕ) (i : ℕ) (ds : List ℕ) (j : ℕ) → StartAlike bs i ds j 0
@@ -507,9 +512,11 @@ alike_one_more bs i ds j n s h k same low other =
     alike_more bs i ds j n n 1 (n + 1) s (omega arith) refl (omega arith) (omega arith) (λ l m.
     let z : l ≡ 0 = omega arith in
     let x : i + n + l ≡ i + n = omega arith in
-    let y : j + n + l ≡ j + n = omega arith in
-    (ap (λ v. get_or bs v 0) x ∙ same ∙ ap (λ v. get_or ds v 0) (sym y), subst (λ v. get_or bs v 0 < 128) (sym x) low,
-        ap (λ v. nat_eq (get_or bs v 0) 92) x ∙ other))
+    let y : j + n + l ≡ j + n = omega arith in (
+      ap (λ v. get_or bs v 0) x ∙ same ∙ ap (λ v. get_or ds v 0) (sym y),
+      subst (λ v. get_or bs v 0 < 128) (sym x) low,
+      ap (λ v. nat_eq (get_or bs v 0) 92) x ∙ other,
+    ))
 
 -- the code points that they share
 pub shared_front : (n : ℕ) (bs : List ℕ) (i : ℕ) (ds : List ℕ) (j : ℕ) → n ≤ length bs - i → n ≤ length ds - j
@@ -527,19 +534,24 @@ shared_front (suc n) bs i ds j h k a =
     let q = plain_code ds j (omega arith) (subst (λ v. v < 128) same low) (ap (λ v. nat_eq v 92) (sym same) ∙ plain) in
     let r = shared_front n bs (i + 1) ds (j + 1) (omega arith) (omega arith) (shifted bs i ds j n a) in
     let e : i + 1 + n ≡ i + suc n = omega arith in
-    let f : j + 1 + n ≡ j + suc n = omega arith in
-    (get_or bs i 0 ∷ r.0, p ∙ ap (λ cs. get_or bs i 0 ∷ cs) (r.1 ∙ ap (λ v. r.0 ++ code_points_from bs v) e), q
-        ∙ ap (λ cs. get_or ds j 0 ∷ cs) (r.2 ∙ ap (λ v. r.0 ++ code_points_from ds v) f)
-        ∙ ap (λ c. c ∷ r.0 ++ code_points_from ds (j + suc n)) (sym same))
+    let f : j + 1 + n ≡ j + suc n = omega arith in (
+      get_or bs i 0 ∷ r.0,
+      p ∙ ap (λ cs. get_or bs i 0 ∷ cs) (r.1 ∙ ap (λ v. r.0 ++ code_points_from bs v) e),
+      q
+          ∙ ap (λ cs. get_or ds j 0 ∷ cs) (r.2 ∙ ap (λ v. r.0 ++ code_points_from ds v) f)
+          ∙ ap (λ c. c ∷ r.0 ++ code_points_from ds (j + suc n)) (sym same),
+    )
   where
     shifted : (bs : List ℕ) (i : ℕ) (ds : List ℕ) (j n : ℕ) → AreAlike bs i ds j (suc n)
         → AreAlike bs (i + 1) ds (j + 1) n
     shifted bs i ds j n a l m =
         let e : i + suc l ≡ i + 1 + l = omega arith in
         let f : j + suc l ≡ j + 1 + l = omega arith in
-        let s = a (suc l) (omega arith) in
-        (ap (λ v. get_or bs v 0) (sym e) ∙ s.0 ∙ ap (λ v. get_or ds v 0) f, subst (λ v. get_or bs v 0 < 128) e s.1,
-            ap (λ v. nat_eq (get_or bs v 0) 92) (sym e) ∙ s.2)
+        let s = a (suc l) (omega arith) in (
+          ap (λ v. get_or bs v 0) (sym e) ∙ s.0 ∙ ap (λ v. get_or ds v 0) f,
+          subst (λ v. get_or bs v 0 < 128) e s.1,
+          ap (λ v. nat_eq (get_or bs v 0) 92) (sym e) ∙ s.2,
+        )
 
 -- tell nothing
 number_equal : (x : ℕ) → nat_cmp x x ≡ Equal
@@ -558,7 +570,7 @@ pub order_passed : (bs : List ℕ) (i : ℕ) (ds : List ℕ) (j n : ℕ) → Sta
 order_passed bs i ds j n s =
     let f = shared_front n bs i ds j s.within s.within_other s.alike in
     order_behind f.0 (code_points_from bs (i + n)) (code_points_from ds (j + n))
-        ∙ (λ k. compare (sym f.1 k) (sym f.2 k))
+    ∙ (λ k. compare (sym f.1 k) (sym f.2 k))
 
 pub fewer_left : (bs : List ℕ) (i : ℕ) (ds : List ℕ) (j n : ℕ) → StartAlike bs i ds j n
     → length (code_points_from bs (i + n)) ≤ length (code_points_from bs i)

@@ -53,7 +53,7 @@ kind_so Object e = cc
 pub told_number : (s : List ℕ) → ∥ IsNumber s ∥₁ → IsNumber s
 told_number s m =
     go (reading s) refl (∥∥₁_elim m (≡_prop coded_bool _ _) (λ n. let w = reading_whole Number s n in
-            ap ends_number w.run ∙ ap is_numeral w.kind))
+    ap ends_number w.run ∙ ap is_numeral w.kind))
   where
     by_kind : (x : Lex) → reading s ≡ Some x → (o : Option Kind) → lex_kind x ≡ o → is_numeral o ≡ true → IsNumber s
     by_kind x h None e f = absurd (cc)
@@ -100,9 +100,15 @@ whole_from s w each =
     let f = no_frac w.frac w.exp w.frac_is right in
     let e = no_exp w.exp w.exp_is (each_right w.frac w.exp right) in
     let rest : w.int ++ (w.frac ++ w.exp) ≡ w.int = ap (λ z. w.int ++ (z ++ w.exp)) f ∙ ap (λ z. w.int ++ z) e
-        ∙ append-nil w.int in
-    record { minus = w.minus; int = w.int; minus_is = w.minus_is; int_is = w.int_is; joined = w.joined
-        ∙ ap (λ z. w.minus ++ z) rest }
+    ∙ append-nil w.int in
+    record {
+      minus = w.minus;
+      int = w.int;
+      minus_is = w.minus_is;
+      int_is = w.int_is;
+      joined = w.joined
+          ∙ ap (λ z. w.minus ++ z) rest;
+    }
 
 -- ---- a sign of whole numbers, or the bracket after them
 
@@ -163,7 +169,7 @@ module _ (b : List ℕ) (ts : List Token) (within : AreWithin b ts) (rising : Ar
       let at : k + 1 + n ≡ m = omega arith in
       let left = before_drop j n d (omega arith) in
       let there : before j (drop n d) ≡ before j (drop m ts) = ap (before j) (drop-drop n (k + 1) ts)
-          ∙ ap (λ x. before j (drop x ts)) at in
+      ∙ ap (λ x. before j (drop x ts)) at in
       starts_before ts j m u g (omega arith)
 
   sign_at : (i : ℕ) → t.start < i → i < t.stop → IsSign (byte b i)
@@ -184,10 +190,10 @@ module _ (b : List ℕ) (ts : List Token) (within : AreWithin b ts) (rising : Ar
       let shown = spelling_shown b ts m u g in
       let long = slice-length b u.start u.stop (omega arith) w.1 in
       let whole =
-          whole_from (slice_range b u.start u.stop)
-              (told_number (slice_range b u.start u.stop) ((spelled m u g).0 number))
+      whole_from (slice_range b u.start u.stop)
+      (told_number (slice_range b u.start u.stop) ((spelled m u g).0 number))
       (λ n f. subst IsInWhole (slice_has b u.start u.stop n f)
-          (sign_in (byte b (u.start + n)) (sign_at (u.start + n) (omega arith) (omega arith)))) in
+      (sign_in (byte b (u.start + n)) (sign_at (u.start + n) (omega arith) (omega arith)))) in
       let tree = below_at b ts m u g in
       let one = ap size tree.tree ∙ number_size b u.start u.stop _ number in
       let link = sized m u g in
@@ -236,9 +242,9 @@ module _ (b : List ℕ) (ts : List Token) (within : AreWithin b ts) (rising : Ar
   three =
       let known = slice_get_within ts k t here in
       let to_end : LinksTo ts k (k + 4) = λ u g. sym four
-          ∙ ap (λ (v : Token). k + 1 + before v.stop (drop (k + 1) ts)) (some_same t u (sym here ∙ g)) in
+      ∙ ap (λ (v : Token). k + 1 + before v.stop (drop (k + 1) ts)) (some_same t u (sym here ∙ g)) in
       let w = items_from_link b ts k (k + 4) (k + 4) Array nested linked known to_end
-          (kind_shown b ts k t Array here (sym (ap kind_by array))) refl in
+      (kind_shown b ts k t Array here (sym (ap kind_by array))) refl in
       let reach = w.whole.0 in
       let fx = below b ts (k + 1) (omega arith) in
       let fy = below b ts (k + 2) (omega arith) in
@@ -253,11 +259,11 @@ module _ (b : List ℕ) (ts : List Token) (within : AreWithin b ts) (rising : Ar
       let w2 = whole_later ts (k + 1) (k + 2) (k + 4) (omega arith) w1 in
       let w3 = whole_later ts (k + 1) (k + 3) (k + 4) (omega arith) w1 in
       let s1 = item_on b ts (k + 1) (k + 4) (k + 2) nested linked w1 (omega arith)
-          (subst (LinksTo ts (k + 1)) e2 (links (k + 1) fx.0 px)) in
+      (subst (LinksTo ts (k + 1)) e2 (links (k + 1) fx.0 px)) in
       let s2 = item_on b ts (k + 2) (k + 4) (k + 3) nested linked w2 (omega arith)
-          (subst (LinksTo ts (k + 2)) e3 (links (k + 2) fy.0 py)) in
+      (subst (LinksTo ts (k + 2)) e3 (links (k + 2) fy.0 py)) in
       let s3 = item_on b ts (k + 3) (k + 4) (k + 4) nested linked w3 (omega arith)
-          (subst (LinksTo ts (k + 3)) e4 (links (k + 3) fz.0 pz)) in
+      (subst (LinksTo ts (k + 3)) e4 (links (k + 3) fz.0 pz)) in
       let s4 = shown_none b ts (k + 4) (k + 4) (omega arith) in
       record {
         reach = reach;
@@ -286,7 +292,7 @@ module _ (b : List ℕ) (ts : List Token) (within : AreWithin b ts) (rising : Ar
       let w = three in
       subst (All (IsShortWhole b)) (sym w.all)
       (all_three (IsShortWhole b) (tree_at b (spans_of ts) (k + 1)) (tree_at b (spans_of ts) (k + 2))
-          (tree_at b (spans_of ts) (k + 3))
+      (tree_at b (spans_of ts) (k + 3))
       (whole_part (k + 1) w.x w.x_part (short (k + 1) w.x (omega arith) (omega arith) w.x_part.here))
       (whole_part (k + 2) w.y w.y_part (short (k + 2) w.y (omega arith) (omega arith) w.y_part.here))
       (whole_part (k + 3) w.z w.z_part (short (k + 3) w.z (omega arith) (omega arith) w.z_part.here)))
@@ -304,9 +310,9 @@ module _ (b : List ℕ) (ts : List Token) (within : AreWithin b ts) (rising : Ar
       let yz = w.y_z in
       subst (All (IsShortWhole b)) (sym w.all)
       (all_three (IsShortWhole b) (tree_at b (spans_of ts) (k + 1)) (tree_at b (spans_of ts) (k + 2))
-          (tree_at b (spans_of ts) (k + 3))
+      (tree_at b (spans_of ts) (k + 3))
       (whole_part (k + 1) w.x w.x_part (omega arith)) (whole_part (k + 2) w.y w.y_part (omega arith))
-          (whole_part (k + 3) w.z w.z_part (omega arith)))
+      (whole_part (k + 3) w.z w.z_part (omega arith)))
 
   pub three_long : length (items_of (tree_at b (spans_of ts) k)) ≡ 3
   three_long = ap length three.all

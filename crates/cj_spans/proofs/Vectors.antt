@@ -42,14 +42,14 @@ marks_over n v long =
 abbrev pub digit_marks : List ℕ → ℕ → ℕ
 digit_marks b i =
     mask_l (map (top 7) (zip2 (λ a c. cond (ltb a c) 255 0) (replicate 16 9)
-            (zip2 (λ a c. (a + (256 - c)) % 256) (chunk i 16 b) (replicate 16 48)))) % 2 ^ 64
+    (zip2 (λ a c. (a + (256 - c)) % 256) (chunk i 16 b) (replicate 16 48)))) % 2 ^ 64
 
 digit_marks_are : (b : List ℕ) (i : ℕ) → i + 16 ≤ length b → digit_marks b i ≡ mask_l (map other (chunk i 16 b))
 digit_marks_are b i room =
     let v = chunk i 16 b in
     let long : length v ≡ 16 = length-chunk i 16 b room in
     ap (λ w. mask_l (map (top 7) (zip2 (λ a c. cond (ltb a c) 255 0) (replicate 16 9) w)) % 2 ^ 64)
-        (zip2_splat (λ a c. (a + (256 - c)) % 256) v 16 48 long)
+    (zip2_splat (λ a c. (a + (256 - c)) % 256) v 16 48 long)
     ∙ marks_over 9 (map above v) (length-map v above ∙ long)
     ∙ ap mask_l (map-map (λ y. ltb 9 y) above v)
 
@@ -57,7 +57,7 @@ pub all_digits : (b : List ℕ) (i : ℕ) → i + 16 ≤ length b → ((k : ℕ)
     → i ≤ k → k < i + 16 → is_digit (byte b k) ≡ true
 all_digits b i room small e k l h =
     digit_from (byte b k) (small k)
-        (none_from_empty_mask other b i 16 0 room (sym (digit_marks_are b i room) ∙ e) k l h)
+    (none_from_empty_mask other b i 16 0 room (sym (digit_marks_are b i room) ∙ e) k l h)
 
 digits_counted : (b : List ℕ) (i : ℕ) → i + 16 ≤ length b → (digit_marks b i ≡ 0 → ⊥)
     → count_trailing_zeros 64 (digit_marks b i) ≡ prefix_len (λ x. not (other x)) (chunk i 16 b)
@@ -76,8 +76,8 @@ pub digits_before : (b : List ℕ) (i : ℕ) → i + 16 ≤ length b → ((k : �
     → (k : ℕ) → i ≤ k → k < i + count_trailing_zeros 64 (digit_marks b i) → is_digit (byte b k) ≡ true
 digits_before b i room small n k l h =
     digit_from (byte b k) (small k)
-        (run_in_chunk_fails other b i 16 (count_trailing_zeros 64 (digit_marks b i)) 0 room (digits_counted b i room n)
-        k l h)
+    (run_in_chunk_fails other b i 16 (count_trailing_zeros 64 (digit_marks b i)) 0 room (digits_counted b i room n)
+    k l h)
 
 -- ---- bytes of a string
 
@@ -111,7 +111,7 @@ without_is n v long =
 abbrev pub plain_marks : List ℕ → ℕ → ℕ
 plain_marks b i =
     mask_l (map (top 7) (zip2 (λ a c. cond (ltb a c) 255 0) (without 92 (without 34 (chunk i 16 b)))
-            (replicate 16 32))) % 2 ^ 64
+    (replicate 16 32))) % 2 ^ 64
 
 plain_marks_are : (b : List ℕ) (i : ℕ) → i + 16 ≤ length b → plain_marks b i ≡ mask_l (map special (chunk i 16 b))
 plain_marks_are b i room =
@@ -121,10 +121,10 @@ plain_marks_are b i room =
     let w = map (dropped 92) (map (dropped 34) v) in
     let long2 : length w ≡ 16 = length-map (map (dropped 34) v) (dropped 92) ∙ long1 in
     ap (λ u. mask_l (map (top 7) (zip2 (λ a c. cond (ltb a c) 255 0) u (replicate 16 32))) % 2 ^ 64)
-        (ap (without 92) (without_is 34 v long) ∙ without_is 92 (map (dropped 34) v) long1)
+    (ap (without 92) (without_is 34 v long) ∙ without_is 92 (map (dropped 34) v) long1)
     ∙ bitmask_splat w8 ltb w 16 32 long2 (omega arith)
     ∙ ap mask_l (map-map (λ x. ltb x 32) (dropped 92) (map (dropped 34) v)
-        ∙ map-map (λ x. ltb (dropped 92 x) 32) (dropped 34) v)
+    ∙ map-map (λ x. ltb (dropped 92 x) 32) (dropped 34) v)
 
 pub all_plain : (b : List ℕ) (i : ℕ) → i + 16 ≤ length b → plain_marks b i ≡ 0 → (k : ℕ) → i ≤ k → k < i + 16
     → is_plain (byte b k) ≡ true
@@ -148,7 +148,7 @@ pub plain_before : (b : List ℕ) (i : ℕ) → i + 16 ≤ length b → (plain_m
     → k < i + count_trailing_zeros 64 (plain_marks b i) → is_plain (byte b k) ≡ true
 plain_before b i room n k l h =
     plain_from (byte b k) (run_in_chunk_fails special b i 16 (count_trailing_zeros 64 (plain_marks b i)) 0 room
-        (plain_counted b i room n) k l h)
+    (plain_counted b i room n) k l h)
 
 -- ---- bytes of whole numbers and of commas
 
@@ -174,7 +174,7 @@ sign_from x l h =
 abbrev pub foreign_marks : List ℕ → ℕ → ℕ
 foreign_marks b i =
     mask_l (map (top 7) (zip2 (λ a c. cond (ltb a c) 255 0) (replicate 16 13)
-            (zip2 (λ a c. (a + (256 - c)) % 256) (without 46 (chunk i 16 b)) (replicate 16 44)))) % 2 ^ 64
+    (zip2 (λ a c. (a + (256 - c)) % 256) (without 46 (chunk i 16 b)) (replicate 16 44)))) % 2 ^ 64
 
 foreign_marks_are : (b : List ℕ) (i : ℕ) → i + 16 ≤ length b → foreign_marks b i ≡ mask_l (map foreign (chunk i 16 b))
 foreign_marks_are b i room =
@@ -183,13 +183,13 @@ foreign_marks_are b i room =
     let w = map (dropped 46) v in
     let long1 : length w ≡ 16 = length-map v (dropped 46) ∙ long in
     ap (λ u. mask_l (map (top 7)
-            (zip2 (λ a c. cond (ltb a c) 255 0) (replicate 16 13)
-                (zip2 (λ a c. (a + (256 - c)) % 256) u (replicate 16 44)))) % 2 ^ 64) (without_is 46 v long)
+    (zip2 (λ a c. cond (ltb a c) 255 0) (replicate 16 13)
+    (zip2 (λ a c. (a + (256 - c)) % 256) u (replicate 16 44)))) % 2 ^ 64) (without_is 46 v long)
     ∙ ap (λ u. mask_l (map (top 7) (zip2 (λ a c. cond (ltb a c) 255 0) (replicate 16 13) u)) % 2 ^ 64)
-        (zip2_splat (λ a c. (a + (256 - c)) % 256) w 16 44 long1)
+    (zip2_splat (λ a c. (a + (256 - c)) % 256) w 16 44 long1)
     ∙ marks_over 13 (map (λ a. (a + 212) % 256) w) (length-map w (λ a. (a + 212) % 256) ∙ long1)
     ∙ ap mask_l (map-map (λ y. ltb 13 y) (λ a. (a + 212) % 256) w
-        ∙ map-map (λ a. ltb 13 ((a + 212) % 256)) (dropped 46) v)
+    ∙ map-map (λ a. ltb 13 ((a + 212) % 256)) (dropped 46) v)
 
 -- where the marks stop below a bit, the bytes from there on are signs
 pub signs_above : (b : List ℕ) (i : ℕ) → i + 16 ≤ length b → ((k : ℕ) → byte b k < 256) → (j k : ℕ)
@@ -201,10 +201,10 @@ signs_above b i room small j k low order few =
     let none : mask_l (map foreign v) / 2 ^ k ≡ 0 = div-eq_of_lt less in
     let bit = bit_mask_l (map foreign v) k in
     let at : get_or (map foreign v) k false ≡ foreign (byte b (i + k)) =
-        get_or-map foreign v k 0 false (omega (arith, length-chunk i 16 b room))
-        ∙ ap foreign (get_or-chunk i 16 b k 0 few) in
+    get_or-map foreign v k 0 false (omega (arith, length-chunk i 16 b room))
+    ∙ ap foreign (get_or-chunk i 16 b k 0 few) in
     sign_from (byte b (i + k)) (small (i + k))
-        (sym at ∙ unset (get_or (map foreign v) k false) (sym bit ∙ ap (λ n. n % 2) none))
+    (sym at ∙ unset (get_or (map foreign v) k false) (sym bit ∙ ap (λ n. n % 2) none))
   where
     unset : (x : Bool) → ◌≡◌ {A = ℕ} (cond x 1 0) 0 → x ≡ false
     unset true h = absurd (omega arith)
@@ -223,7 +223,7 @@ shared m v w = sel_l (map (top 7) (zip2 (λ a c. cond (eqb a c) 255 0) v w)) (un
 abbrev pub alike_marks : ℕ → List ℕ → ℕ → List ℕ → ℕ → ℕ
 alike_marks m b i o j =
     mask_l (map (top 7) (zip2 (λ a c. cond (ltb a c) 255 0) (replicate m 127)
-            (shared m (chunk i m b) (chunk j m o)))) % 2 ^ 64
+    (shared m (chunk i m b) (chunk j m o)))) % 2 ^ 64
 
 -- a byte that both have and that stands for itself
 abbrev IsShared : ℕ → ℕ → Type 0
@@ -266,7 +266,7 @@ shared_is : (m : ℕ) (v w : List ℕ) → length v ≡ m → shared m v w ≡ l
 shared_is m v w a =
     ap (λ ms. sel_l ms (unescaped m v) (replicate m 255)) (tops_compared w8 eqb v w)
     ∙ ap (λ ms. sel_l (zip2 eqb v w) (sel_l ms (replicate m 255) v) (replicate m 255))
-        (tops_compared w8 eqb v (replicate m 92) ∙ zip2_splat eqb v m 92 a)
+    (tops_compared w8 eqb v (replicate m 92) ∙ zip2_splat eqb v m 92 a)
 
 -- the lanes of the bytes from i and from j on
 abbrev lanes_from : ℕ → List ℕ → ℕ → List ℕ → ℕ → List ℕ
@@ -283,7 +283,7 @@ alike_marks_are m b i o j few room there =
     let all = lanes_from m b i o j in
     let long : length all ≡ m = lanes_long m b i o j room there in
     ap (λ u. mask_l (map (top 7) (zip2 (λ x y. cond (ltb x y) 255 0) (replicate m 127) u)) % 2 ^ 64)
-        (shared_is m (chunk i m b) (chunk j m o) (length-chunk i m b room))
+    (shared_is m (chunk i m b) (chunk j m o) (length-chunk i m b room))
     ∙ ap (λ ms. mask_l ms % 2 ^ 64) (tops_compared w8 ltb (replicate m 127) all ∙ zip2_splat_left ltb 127 m all long)
     ∙ mask_l-mod (map (λ y. ltb 127 y) all) 64 (omega (arith, length-map all (λ y. ltb 127 y)))
 
@@ -303,9 +303,9 @@ alike_before m b i o j room there k l =
     let w = chunk j m o in
     let h : k < m = omega (arith, l, within_lanes m b i o j room there) in
     let at : get_or (lanes m v w) k 0 ≡ lane (get_or v k 0) (get_or w k 0) =
-        lanes_at m v w (length-chunk i m b room) (length-chunk j m o there) k h in
+    lanes_at m v w (length-chunk i m b room) (length-chunk j m o there) k h in
     let s = lane_shared (get_or v k 0) (get_or w k 0)
-        (ap (λ y. not (ltb 127 y)) (sym at) ∙ prefix_len_passes (λ y. not (ltb 127 y)) (lanes m v w) k 0 l) in
+    (ap (λ y. not (ltb 127 y)) (sym at) ∙ prefix_len_passes (λ y. not (ltb 127 y)) (lanes m v w) k 0 l) in
     let x : get_or v k 0 ≡ get_or b (i + k) 0 = get_or-chunk i m b k 0 h in
     let y : get_or w k 0 ≡ get_or o (j + k) 0 = get_or-chunk j m o k 0 h in
     (sym x ∙ s.0 ∙ y, omega arith, ap (λ z. nat_eq z 92) (sym x) ∙ s.2)
@@ -314,7 +314,7 @@ pub all_alike : (m : ℕ) (b : List ℕ) (i : ℕ) (o : List ℕ) (j : ℕ) → 
     → alike_marks m b i o j ≡ 0 → AreAlike b i o j m
 all_alike m b i o j few room there e =
     let none = leading_from_mask_l (λ y. ltb 127 y) (lanes_from m b i o j)
-        (sym (alike_marks_are m b i o j few room there) ∙ e) in
+    (sym (alike_marks_are m b i o j few room there) ∙ e) in
     subst (AreAlike b i o j) (none ∙ lanes_long m b i o j room there) (alike_before m b i o j room there)
 
 -- where not all are alike, those before the first that are not
@@ -324,8 +324,8 @@ counted_alike m b i o j few room there n =
     let e = alike_marks_are m b i o j few room there in
     let some : 0 < alike_marks m b i o j = omega arith in
     ap (count_trailing_zeros 64) e
-        ∙ trailing_mask_l (λ y. ltb 127 y) 64 (lanes_from m b i o j)
-        (omega (arith, few, lanes_long m b i o j room there)) (subst (λ x. 0 < x) e some)
+    ∙ trailing_mask_l (λ y. ltb 127 y) 64 (lanes_from m b i o j)
+    (omega (arith, few, lanes_long m b i o j room there)) (subst (λ x. 0 < x) e some)
 
 pub few_alike : (m : ℕ) (b : List ℕ) (i : ℕ) (o : List ℕ) (j : ℕ) → m ≤ 64 → i + m ≤ length b → j + m ≤ length o
     → (alike_marks m b i o j ≡ 0 → ⊥) → count_trailing_zeros 64 (alike_marks m b i o j) ≤ m

@@ -55,8 +55,11 @@ spells_at {b} e j k p q ks ts us t c v w h =
     let n : k ≡ length b = ap (λ u. u.place) h in
     let r = root_only c s in
     let z : us ≡ ts ++ flatten (length ts) t = sym (ap (λ u. u.tokens) h) in
-    record { tree = t; json = subst (λ n. Padded b 0 n t) n (padded 0 e j k t r.0 v w);
-        tokens = z ∙ ap (λ y. y ++ flatten (length y) t) r.1 }
+    record {
+      tree = t;
+      json = subst (λ n. Padded b 0 n t) n (padded 0 e j k t r.0 v w);
+      tokens = z ∙ ap (λ y. y ++ flatten (length y) t) r.1;
+    }
 
 other_mode : {A : Type 0} (m : Mode) (ks ls : List ℕ) (ts us : List Token) (i j p q : ℕ) → (m ≡ After → ⊥)
     → Some (idle m ks ts i p) ≡ Some (idle After ls us j q) → A
@@ -79,7 +82,7 @@ spells {b} s (in_scalar e k p ks ts x c w) us q h = by_kind (lex_kind x) refl h
     by_kind None kind h = none_some _ h
     by_kind (Some kd) kind h =
         spells_at e k k p q ks ts us (scalar kd (atom_at b e k)) c (atom kd e k (atom_sound w kd kind)) (no_white b k)
-            (some_same _ _ h)
+        (some_same _ _ h)
 spells {b} s (in_name e j l k p ks ts us0 x c o ld w0 y w) us q h = by_name (lex_kind x) h
   where
     by_name : (r : Option Kind) → end_atom AfterName l r s ≡ Some (idle After [] us (length b) q) → Spells b us
@@ -123,8 +126,10 @@ next_stuck b s u r n (on t v q h) e =
 front_before : (b : List ℕ) (s : State) (k : ℕ) → Reaches b start s → k ≤ s.place → IsFront b k
 front_before b s k r l =
     let v = state_before b s k r l in
-    record { open_count = length v.at.stack;
-        front = subst (λ n. Front b 0 n (length v.at.stack)) v.place (inv_front v.at (inv_reaches b v.at v.reached)) }
+    record {
+      open_count = length v.at.stack;
+      front = subst (λ n. Front b 0 n (length v.at.stack)) v.place (inv_front v.at (inv_reaches b v.at v.reached));
+    }
 
 live_at : (b : List ℕ) (i n : ℕ) → Front b 0 i n → Live b start i (n + 0)
 live_at b i n f = front_runs f start Ready [] [] 0 tt here
@@ -136,11 +141,11 @@ sticks_syntax b i a =
       | inl z ↦ stuck z.0 (λ k h. front_before b a.last (suc k) a.reached (omega arith)) (λ f.
           let v = live_at b (suc i) f.open_count f.front in
           next_stuck b a.last v.at a.reached (ap (λ n. step (byte b n) a.last) e ∙ z.1) v.reached
-              (v.place ∙ ap suc (sym e)))
+          (v.place ∙ ap suc (sym e)))
       | inr z ↦ short z.0 (λ k h. front_before b a.last (suc k) a.reached (omega arith)) (λ t j.
           let v = run_json b t j in
           let d : a.last ≡ v.at =
-              same_state b a.last v.at a.reached v.reached (e ∙ z.0 ∙ sym (settled v.at _ v.settles).place) in
+          same_state b a.last v.at a.reached v.reached (e ∙ z.0 ∙ sym (settled v.at _ v.settles).place) in
           z.1 (flatten 0 t) (rise 0 0 t) (ap settle d ∙ v.settles))
     ]
 
@@ -177,8 +182,11 @@ pub sticks_nowhere : (b : List ℕ) (d i : ℕ) → SticksAt b d i → NowhereDe
 sticks_nowhere b d i a =
     let e = a.sticks.at in
     nowhere_deep b a.sticks.last d a.sticks.reached a.shallow
-    (elim a.sticks.stuck [ inl z ↦ inr (ap (λ n. step (byte b n) a.sticks.last) e ∙ z.1) | inr z ↦ let q = z.0 in
-            inl (omega arith) ])
+    (elim a.sticks.stuck [
+      | inl z ↦ inr (ap (λ n. step (byte b n) a.sticks.last) e ∙ z.1)
+      | inr z ↦ let q = z.0 in
+          inl (omega arith)
+    ])
 
 accepts_nowhere : (b : List ℕ) (tokens : BoundedList Token) (old new : BoundedList ℕ) → Accepts b tokens old new
     → NowhereDeep b old.limit
@@ -197,7 +205,7 @@ sinks_deep b d i a = by_step (step (byte b i) a.last) refl a.deep
         let r = on a.last u a.reached q in
         let p : u.place ≡ suc i = next_place a.last u a.reached q ∙ ap suc a.at in
         let f : Front b 0 (suc i) (length u.stack) =
-            subst (λ n. Front b 0 n (length u.stack)) p (inv_front u (inv_reaches b u r)) in
+        subst (λ n. Front b 0 n (length u.stack)) p (inv_front u (inv_reaches b u r)) in
         let at = a.at in
         record {
           within = a.within;
@@ -209,8 +217,11 @@ sinks_deep b d i a = by_step (step (byte b i) a.last) refl a.deep
 
 pub one_deep : (b : List ℕ) (d i j : ℕ) → DeepAt b d i → DeepAt b d j → i ≡ j
 one_deep b d i j x y =
-    elim (cases_order i j) [ inl e ↦ e | inr o ↦
-        elim o [ inl l ↦ absurd (y.least i l x.deep) | inr g ↦ absurd (x.least j g y.deep) ] ]
+    elim (cases_order i j) [
+      | inl e ↦ e
+      | inr o ↦
+          elim o [ inl l ↦ absurd (y.least i l x.deep) | inr g ↦ absurd (x.least j g y.deep) ]
+    ]
 
 pub fronts_below : {b : List ℕ} {j : ℕ} → SyntaxAt b j → (k : ℕ) → k < j → IsFront b (suc k)
 fronts_below (stuck l f n) k h = f k h
@@ -227,8 +238,11 @@ not_earlier (short e f n) y h = let w = syntax_within y in absurd (omega arith)
 
 pub one_syntax : (b : List ℕ) (i j : ℕ) → SyntaxAt b i → SyntaxAt b j → i ≡ j
 one_syntax b i j x y =
-    elim (cases_order i j) [ inl e ↦ e | inr o ↦
-        elim o [ inl l ↦ absurd (not_earlier x y l) | inr g ↦ absurd (not_earlier y x g) ] ]
+    elim (cases_order i j) [
+      | inl e ↦ e
+      | inr o ↦
+          elim o [ inl l ↦ absurd (not_earlier x y l) | inr g ↦ absurd (not_earlier y x g) ]
+    ]
 
 pub json_no_syntax : {b : List ℕ} {i : ℕ} → (t : Tree) → Json b t → SyntaxAt b i → ⊥
 json_no_syntax {b} {i} t j (stuck l f n) =
@@ -260,7 +274,7 @@ pub scan_of : (b : List ℕ) (old empty new : BoundedList Token) (old_stack empt
     → (t : Tree) × IsScanOf b t old new old_stack new_stack
 scan_of b old empty new old_stack empty_stack new_stack c d k few_bytes a =
     let s = spells a.settles.last (inv_reaches b a.settles.last a.settles.reached) new.elements a.deepest
-        a.settles.settles in
+    a.settles.settles in
     let t = s.tree in
     let n = nest_of b t a.settles.last new.elements a.deepest s.json a.settles.reached a.settles.settles in
     let count : length new.elements ≡ size t = ap length s.tokens ∙ length-flatten 0 t in
@@ -288,7 +302,7 @@ scan_unmarked : (b : List ℕ) (empty new : BoundedList Token) (empty_stack new_
     → AreUnmarked new.elements
 scan_unmarked b empty new empty_stack new_stack k few_bytes a =
     let s = spells a.settles.last (inv_reaches b a.settles.last a.settles.reached) new.elements a.deepest
-        a.settles.settles in
+    a.settles.settles in
     let t = s.tree in
     let count : length new.elements ≡ size t = ap length s.tokens ∙ length-flatten 0 t in
     let few : size t < 2 ^ 31 = let l = k.law in let o = ap (λ (ns : List ℕ). length ns) a.closed in omega arith in
@@ -324,7 +338,7 @@ module _ (X : Type 0) (b : List ℕ) (old : BoundedList ℕ) (tokens : BoundedLi
       → SyntaxAt b i → r ≡ Err (Syntax i)
   finds_syntax (Ok v) i a n s =
       let z = spells a.settles.last (inv_reaches b a.settles.last a.settles.reached) tokens.elements a.deepest
-          a.settles.settles in
+      a.settles.settles in
       absurd (json_no_syntax z.tree z.json s)
   finds_syntax (Err (NotUtf8 j)) i a n s = absurd a
   finds_syntax (Err (Syntax j)) i a n s = ap (λ k. Err (Syntax k)) (one_syntax b j i (sticks_syntax b j a.sticks) s)

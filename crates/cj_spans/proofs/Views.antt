@@ -23,9 +23,9 @@ use Rattle.cj_spans.proofs.Links.{before_one, before_zero}
 
 pub below : (b : List ℕ) (ts : List Token) (k : ℕ) → k < length ts → (t : Token) × (slice_get ts k ≡ Some t)
     × (tree_at b (spans_of ts) k ≡ node b (kind_by (byte b t.start)) t.start t.stop
-        (held t.stop (forest b (drop (suc k) (spans_of ts)))))
+    (held t.stop (forest b (drop (suc k) (spans_of ts)))))
     × (forest b (drop k (spans_of ts)) ≡ tree_at b (spans_of ts) k
-        ∷ past t.stop (forest b (drop (suc k) (spans_of ts))))
+    ∷ past t.stop (forest b (drop (suc k) (spans_of ts))))
 unfolding forest tree_at
 below b [] k h = absurd (omega arith)
 below b (t ∷ ts) zero h = (t, refl, refl, refl)
@@ -79,14 +79,14 @@ skip_one : (b : List ℕ) (ts : List Token) (k j : ℕ) (t : Token) → Below b 
 skip_one b ts k j t h l o =
     let e = h.start in
     ap (past j) h.front ∙ past_on (tree_at b (spans_of ts) k) (past t.stop (forest b (drop (k + 1) (spans_of ts)))) j
-        (omega arith) ∙ past-past (forest b (drop (k + 1) (spans_of ts))) t.stop j o
+    (omega arith) ∙ past-past (forest b (drop (k + 1) (spans_of ts))) t.stop j o
 
 skip_end : (b : List ℕ) (ts : List Token) (k j : ℕ) (t : Token) → Below b ts k t → j ≤ t.start
     → past j (forest b (drop k (spans_of ts))) ≡ forest b (drop k (spans_of ts))
 skip_end b ts k j t h l =
     let e = h.start in
     ap (past j) h.front ∙ past_here (tree_at b (spans_of ts) k) (past t.stop (forest b (drop (k + 1) (spans_of ts)))) j
-        (omega arith) ∙ sym h.front
+    (omega arith) ∙ sym h.front
 
 drop_spans : (ts : List Token) (k : ℕ) → length ts ≤ k → drop k (spans_of ts) ≡ []
 drop_spans [] zero h = refl
@@ -121,7 +121,7 @@ link_past b (t ∷ ts) zero j r s e =
           let f = before_zero j t ts g in
           let q : r ≡ 0 = omega arith in
           ap (λ n. forest b (drop n (spans_of (t ∷ ts)))) q
-              ∙ sym (skip_end b (t ∷ ts) 0 j t (below_at b (t ∷ ts) 0 t refl) g)
+          ∙ sym (skip_end b (t ∷ ts) 0 j t (below_at b (t ∷ ts) 0 t refl) g)
     ]
 
 -- ---- what a node shows
@@ -164,7 +164,7 @@ list-members_from [] h = refl
 list-members_from (n ∷ []) h = refl
 list-members_from (n ∷ t ∷ ts) h =
     ap (λ m. (m, t) ∷ pairs_of ts) (name_is n (first_so _ _ h))
-        ∙ ap (λ xs. (scalar Text (atom_of n), t) ∷ xs) (list-members_from ts (second_so _ _ h))
+    ∙ ap (λ xs. (scalar Text (atom_of n), t) ∷ xs) (list-members_from ts (second_so _ _ h))
 
 pub kind_object : (c : ℕ) → kind_by c ≡ Object → c ≡ 123
 kind_object c h = grind (arith, nat_tests)
@@ -189,8 +189,11 @@ length-past : (j : ℕ) (ts : List Tree) → length (past j ts) ≤ length ts
 length-past j [] = omega arith
 length-past j (t ∷ ts) =
     let l = length-past j ts in
-    elim (cases_lt (start_of t) j) [ inl h ↦ let e = ap (λ (us : List Tree). length us) (past_on t ts j h) in
-        omega arith | inr h ↦ let e = ap (λ (us : List Tree). length us) (past_here t ts j h) in omega arith ]
+    elim (cases_lt (start_of t) j) [
+      | inl h ↦ let e = ap (λ (us : List Tree). length us) (past_on t ts j h) in
+          omega arith
+      | inr h ↦ let e = ap (λ (us : List Tree). length us) (past_here t ts j h) in omega arith
+    ]
 
 pub length-forest : (b : List ℕ) (ss : List Span) → length (forest b ss) ≤ length ss
 unfolding forest

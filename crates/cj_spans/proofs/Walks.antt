@@ -60,8 +60,8 @@ taken_one b t ts j n l o e =
     let f = forest b (spans_of ts) in
     let s = start-node b k t.start t.stop (held t.stop f) in
     ap (λ z. node b k t.start t.stop (held t.stop z) ∷ past t.stop z) e
-        ∙ ap (λ z. node b k t.start t.stop z ∷ past t.stop (held j f)) (held-held f t.stop j o)
-        ∙ ap (λ z. node b k t.start t.stop (held t.stop f) ∷ z) (past-held f t.stop j o)
+    ∙ ap (λ z. node b k t.start t.stop z ∷ past t.stop (held j f)) (held-held f t.stop j o)
+    ∙ ap (λ z. node b k t.start t.stop (held t.stop f) ∷ z) (past-held f t.stop j o)
     ∙ sym (held_on (node b k t.start t.stop (held t.stop f)) (past t.stop f) j (omega arith))
 
 taken_none : (b : List ℕ) (t : Token) (ts : List Token) (j : ℕ) → j ≤ t.start
@@ -116,8 +116,8 @@ held_one b t ts j n l o e =
     let parts = sym (held-held g t.stop j o) ∙ ap (held t.stop) e ∙ held-held f t.stop j o in
     let rest = sym (past-held g t.stop j o) ∙ ap (past t.stop) e ∙ past-held f t.stop j o in
     held_on (node b k t.start t.stop (held t.stop g)) (past t.stop g) j (omega arith)
-        ∙ ap (λ z. node b k t.start t.stop z ∷ held j (past t.stop g)) parts
-        ∙ ap (λ z. node b k t.start t.stop (held t.stop f) ∷ z) rest
+    ∙ ap (λ z. node b k t.start t.stop z ∷ held j (past t.stop g)) parts
+    ∙ ap (λ z. node b k t.start t.stop (held t.stop f) ∷ z) rest
     ∙ sym (held_on (node b k t.start t.stop (held t.stop f)) (past t.stop f) j (omega arith))
 
 held_first : (b : List ℕ) (t : Token) (ts : List Token) (j n : ℕ) → j ≤ t.start
@@ -136,8 +136,11 @@ unfolding forest
 held_more b [] k j n s e = ap (held j) (forest_nil b n k) ∙ sym (ap (held j) (forest_past b k))
 held_more b (t ∷ ts) (suc k) j n s e = held_more b ts k j n (λ i u h g l. s (suc i) u (omega arith) g l) e
 held_more b (t ∷ ts) zero j zero s e =
-    elim (cases_lt t.start j) [ inl l ↦ let f = before_one j t ts l in
-        absurd (omega arith) | inr g ↦ taken_none b t ts j g ]
+    elim (cases_lt t.start j) [
+      | inl l ↦ let f = before_one j t ts l in
+          absurd (omega arith)
+      | inr g ↦ taken_none b t ts j g
+    ]
 held_more b (t ∷ ts) zero j (suc n) s e =
     elim (cases_lt t.start j) [
       | inl l ↦ let f = before_one j t ts l in
@@ -225,11 +228,11 @@ walk_on b ts k n r t nested h e l =
     let p = n - (k + 1) in
     let w = below_at b ts k t h in
     shown_one b ts k n t h (omega arith)
-        ∙ ap (λ z. node b (kind_by (byte b t.start)) t.start t.stop z
-        ∷ past t.stop (forest b (take p (drop (k + 1) (spans_of ts)))))
-        (held_more b ts (k + 1) t.stop p s (omega arith))
+    ∙ ap (λ z. node b (kind_by (byte b t.start)) t.start t.stop z
+    ∷ past t.stop (forest b (take p (drop (k + 1) (spans_of ts)))))
+    (held_more b ts (k + 1) t.stop p s (omega arith))
     ∙ ap (λ z. node b (kind_by (byte b t.start)) t.start t.stop (held t.stop (forest b (drop (k + 1) (spans_of ts))))
-        ∷ z) (past_more b ts (k + 1) t.stop p m (n - r) r s refl (omega arith) e)
+    ∷ z) (past_more b ts (k + 1) t.stop p m (n - r) r s refl (omega arith) e)
     ∙ ap (λ z. z ∷ shown_between b ts r n) (sym w.tree)
 
 -- ---- tokens that are whole
@@ -267,7 +270,7 @@ part_link ts k r i t u nested linked h e o l g =
     let at : k + 1 + n ≡ i = omega arith in
     let left = before_drop j n d (omega arith) in
     let here : before j (drop n d) ≡ before j (drop i ts) = ap (before j) (drop-drop n (k + 1) ts)
-        ∙ ap (λ x. before j (drop x ts)) at in
+    ∙ ap (λ x. before j (drop x ts)) at in
     let s = starts_before ts j i u g (omega arith) in
     let next = before_walked ts j r i u g s (omega arith) in
     let m = before-less u.stop j (drop (i + 1) ts) (nested k t h i u o g s) in
@@ -338,13 +341,16 @@ at_name b ts k n nested linked lone w named l =
     let s = walk_on b ts k n r t nested h (linked k t h) (w.1 k t (omega arith) l h) in
     let m = named _ s in
     let c = kind_string (byte b t.start)
-        (name_node b (kind_by (byte b t.start)) t.start t.stop _ (sym (ap is_name found.2) ∙ name_first _ _ m)) in
+    (name_node b (kind_by (byte b t.start)) t.start t.stop _ (sym (ap is_name found.2) ∙ name_first _ _ m)) in
     let e : r ≡ k + 1 = lone k t h c in
     let shown = subst (λ q. shown_between b ts k n ≡ tree_at b (spans_of ts) k ∷ shown_between b ts q n) e s in
     record {
-      value = elim (cases_lt (k + 1) n) [ inl o ↦ o | inr g ↦
-          absurd (lone_name (tree_at b (spans_of ts) k) (shown_between b ts (k + 1) n) (named _ shown)
-              (shown_none b ts (k + 1) n g)) ];
+      value = elim (cases_lt (k + 1) n) [
+        | inl o ↦ o
+        | inr g ↦
+            absurd (lone_name (tree_at b (spans_of ts) k) (shown_between b ts (k + 1) n) (named _ shown)
+            (shown_none b ts (k + 1) n g))
+      ];
       shown = shown;
     }
 
@@ -376,10 +382,13 @@ member_on b ts k n r nested linked lone w named l e =
     let a = at_name b ts k n nested linked lone w named l in
     let later = whole_later ts k (k + 1) n (omega arith) w in
     let both = a.shown ∙ ap (λ xs. tree_at b (spans_of ts) k ∷ xs)
-        (item_on b ts (k + 1) n r nested linked later a.value e) in
-    record { shown = ap pairs_of both; named = λ us f. sym (ap are_members f)
-        ∙ members_on (tree_at b (spans_of ts) k) (tree_at b (spans_of ts) (k + 1)) (shown_between b ts r n)
-        (named _ both) }
+    (item_on b ts (k + 1) n r nested linked later a.value e) in
+    record {
+      shown = ap pairs_of both;
+      named = λ us f. sym (ap are_members f)
+          ∙ members_on (tree_at b (spans_of ts) k) (tree_at b (spans_of ts) (k + 1)) (shown_between b ts r n)
+          (named _ both);
+    }
 
 -- ---- where a walk begins
 
@@ -442,8 +451,8 @@ items_from_link b ts k l n r nested linked inside e f g =
     let parts = held t.stop (forest b (drop (k + 1) (spans_of ts))) in
     let kind : r ≡ d = f ∙ ap kind_of w.tree ∙ kind-node b d t.start t.stop parts in
     let all = items-node b d t.start t.stop l parts (shown_between b ts (k + 1))
-        (shown_parts b ts k l t nested found.1 (e t found.1)) (shown_none b ts (k + 1) 0 (omega arith))
-        ∙ sym (ap items_of w.tree) in
+    (shown_parts b ts k l t nested found.1 (e t found.1)) (shown_none b ts (k + 1) 0 (omega arith))
+    ∙ sym (ap items_of w.tree) in
     let stop : items_end d l ≡ n = ap (λ x. items_end x l) (sym kind) ∙ sym g in
     record {
       whole = subst (AreWhole ts (k + 1)) stop
@@ -471,7 +480,7 @@ members_from_link b ts k l n r nested linked named inside e f g =
     let first = shown_parts b ts k l t nested found.1 (e t found.1) in
     let none = shown_none b ts (k + 1) 0 (omega arith) in
     let all = members-node b d t.start t.stop l parts (shown_between b ts (k + 1)) names first none
-        ∙ sym (ap members_of w.tree) in
+    ∙ sym (ap members_of w.tree) in
     let stop : members_end d l ≡ n = ap (λ x. members_end x l) (sym kind) ∙ sym g in
     record {
       whole = subst (AreWhole ts (k + 1)) stop
@@ -524,11 +533,11 @@ walk_behind b ts (suc j) k m n nested linked sized w few e =
           let own = sized k t found.1 in
           let step = walk_on b ts k n r t nested found.1 here (w.1 k t (omega arith) l found.1) in
           let first =
-              passed_over (shown_between b ts r n) (shown_between b ts k n) (tree_at b (spans_of ts) k) j step in
+          passed_over (shown_between b ts r n) (shown_between b ts k n) (tree_at b (spans_of ts) k) j step in
           let count = ap length step in
           let later =
-              walk_behind b ts j r (total_size (take j (shown_between b ts r n))) n nested linked sized
-                  (whole_later ts k r n (omega arith) w) (omega arith) refl in
+          walk_behind b ts j r (total_size (take j (shown_between b ts r n))) n nested linked sized
+          (whole_later ts k r n (omega arith) w) (omega arith) refl in
           let same : k + m ≡ r + total_size (take j (shown_between b ts r n)) = omega arith in
           ap (λ i. shown_between b ts i n) same ∙ later ∙ sym (ap (drop (suc j)) step)
       | inr g ↦ absurd (some_left (shown_between b ts k n) j few (shown_none b ts k n g))
@@ -578,7 +587,7 @@ items_behind_link b ts k l n j m r nested linked sized inside e f g few same =
     let w = items_from_link b ts k l n r nested linked inside e f g in
     let count = ap length w.shown in
     walk_behind b ts j (k + 1) m n nested linked sized w.whole (omega arith)
-        (ap (λ xs. total_size (take j xs)) w.shown ∙ same) ∙ ap (drop j) w.shown
+    (ap (λ xs. total_size (take j xs)) w.shown ∙ same) ∙ ap (drop j) w.shown
 
 -- a token's link, by the size of its tree
 pub linked_size : (b : List ℕ) (ts : List Token) (k l : ℕ) → AreLinked ts → AreSized b ts → k < length ts

@@ -25,8 +25,12 @@ not_at c n h = grind (arith, nat_tests)
 
 not_white : (c : ℕ) → 45 ≤ c → is_white_space c ≡ false
 not_white c h =
-    rw (not_at c 32 (λ e. omega arith), not_at c 9 (λ e. omega arith), not_at c 10 (λ e. omega arith),
-        not_at c 13 (λ e. omega arith)) refl
+    rw (
+      not_at c 32 (λ e. omega arith),
+      not_at c 9 (λ e. omega arith),
+      not_at c 10 (λ e. omega arith),
+      not_at c 13 (λ e. omega arith),
+    ) refl
 
 -- a minus or a digit begins a number where a value may begin
 number_begins : (m : Mode) (c : ℕ) (x : Lex) (ks : List ℕ) (ts : List Token) (i p : ℕ) → BeginsValue m → (45 ≤ c)
@@ -61,9 +65,9 @@ pub number_read : (b : List ℕ) (s : State) (m : Mode) (ks : List ℕ) (ts us :
 number_read b s m ks ts us i k p n w v q h =
     let below = n.order in let inside = n.within in
     let r = step_on b s (idle m ks ts i p) (state (in_atom After i n.first) ks ts (suc i) p) h (omega arith)
-        (number_begins m (byte b i) n.first ks ts i p v n.sign n.begins) in
+    (number_begins m (byte b i) n.first ks ts i p v n.sign n.begins) in
     settles_both r (ends_ok b i k p n.first n.last Number After ks ts us n.goes
-        (inr (atom_ends n.last (byte b k) Number n.done (ended (byte b k) w))) n.done q)
+    (inr (atom_ends n.last (byte b k) Number n.done (ended (byte b k) w))) n.done q)
 
 -- ---- what the code's tests say
 
@@ -90,15 +94,29 @@ number_is b i k d z same l h = (d.0, choose (split (byte b i)))
     choose (inl q) =
         let f : suc i ≡ k = let g = z q in omega arith in
         let low = d.0 in
-        record { first = Zero; last = Zero; sign = (omega arith, d.1); begins = first_zero (byte b i) q;
-            goes = subst (λ n. Continues b (suc i) Zero n Zero) f still; done = refl; order = omega arith; within = h }
+        record {
+          first = Zero;
+          last = Zero;
+          sign = (omega arith, d.1);
+          begins = first_zero (byte b i) q;
+          goes = subst (λ n. Continues b (suc i) Zero n Zero) f still;
+          done = refl;
+          order = omega arith;
+          within = h;
+        }
     choose (inr q) =
         let f : suc i ≡ i + 1 = omega arith in
         let low = d.0 in let high = d.1 in
-        record { first = Whole; last = Whole; sign = (omega arith, high);
-            begins = first_whole (byte b i) (omega arith) high;
-            goes = same (suc i) Whole (subst (λ n. Continues b (suc i) Whole n Whole) f still); done = refl;
-            order = omega arith; within = h }
+        record {
+          first = Whole;
+          last = Whole;
+          sign = (omega arith, high);
+          begins = first_whole (byte b i) (omega arith) high;
+          goes = same (suc i) Whole (subst (λ n. Continues b (suc i) Whole n Whole) f still);
+          done = refl;
+          order = omega arith;
+          within = h;
+        }
 
 -- a digit goes on behind a minus as it begins a number
 behind_minus : (c : ℕ) → 48 ≤ c → c ≤ 57 → lex_step Minus c ≡ lex_start c

@@ -54,7 +54,7 @@ first_same c d cs ds h =
     let e : nat_lt c d ≡ false = grind (arith, nat_tests) in
     let f : nat_eq c d ≡ true = grind (arith, nat_tests) in
     ap (λ b. ordering_then (cond b Less (cond (nat_eq c d) Equal Greater)) (compare cs ds)) e
-        ∙ ap (λ b. ordering_then (cond b Equal Greater) (compare cs ds)) f
+    ∙ ap (λ b. ordering_then (cond b Equal Greater) (compare cs ds)) f
 
 -- a lesser first code point makes no greater number
 first_no_more : (w c d : ℕ) (cs ds : List ℕ) → d < c → digits w (d ∷ ds) ≤ digits w (c ∷ cs)
@@ -89,7 +89,7 @@ less_by_digits w (c ∷ cs) (d ∷ ds) h =
     elim (cases_order c d) [
       | inl e ↦
           let g : digits w (c ∷ cs) < digits w (c ∷ ds) =
-              subst (λ x. digits w (c ∷ cs) < digits w (x ∷ ds)) (sym e) h in
+          subst (λ x. digits w (c ∷ cs) < digits w (x ∷ ds)) (sym e) h in
           first_same c d cs ds e ∙ less_by_digits (w / 256) cs ds (first_goes_on w c cs ds g)
       | inr (inl l) ↦ first_less c d cs ds l
       | inr (inr l) ↦ let m = first_no_more w c d cs ds l in absurd (omega arith)
@@ -121,9 +121,9 @@ pub plain_word : (bs : List ℕ) (i : ℕ) → i + 8 ≤ length bs → AreAlike 
 plain_word bs i h a =
     let none : i + 0 ≡ i = omega arith in
     let start : digits (256 ^ 7) (code_points_from bs i) ≡ get_or bs i 0 * 256 ^ 7 + digits (256 ^ 6)
-        (code_points_from bs (i + 1)) =
-        subst (λ j. digits (256 ^ 7) (code_points_from bs j) ≡ get_or bs j 0 * 256 ^ 7 + digits (256 ^ 6)
-            (code_points_from bs (i + 1))) none (plain_digit (256 ^ 7) bs i 0 h a (omega arith)) in
+    (code_points_from bs (i + 1)) =
+    subst (λ j. digits (256 ^ 7) (code_points_from bs j) ≡ get_or bs j 0 * 256 ^ 7 + digits (256 ^ 6)
+    (code_points_from bs (i + 1))) none (plain_digit (256 ^ 7) bs i 0 h a (omega arith)) in
     let e1 = plain_digit (256 ^ 6) bs i 1 h a (omega arith) in
     let e2 = plain_digit (256 ^ 5) bs i 2 h a (omega arith) in
     let e3 = plain_digit (256 ^ 4) bs i 3 h a (omega arith) in

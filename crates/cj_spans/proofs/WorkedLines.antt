@@ -38,15 +38,25 @@ pub syntax_inside : (b : List ℕ) (n : ℕ) (s : State) → after b n ≡ Some 
     → SyntaxAt b n
 syntax_inside b n s h l stop =
     let r = run b n s h in
-    sticks_syntax b n (record { last = s; reached = r.reached; at = r.place; within = omega arith;
-            stuck = inl (l, stop) })
+    sticks_syntax b n (record {
+      last = s;
+      reached = r.reached;
+      at = r.place;
+      within = omega arith;
+      stuck = inl (l, stop);
+    })
 
 pub syntax_end : (b : List ℕ) (n : ℕ) (s : State) → after b n ≡ Some s → n ≡ length b
     → ((ts : List Token) (p : ℕ) → settle s ≡ Some (state (between After) [] ts (length b) p) → ⊥) → SyntaxAt b n
 syntax_end b n s h l stop =
     let r = run b n s h in
-    sticks_syntax b n (record { last = s; reached = r.reached; at = r.place; within = omega arith;
-            stuck = inr (l, stop) })
+    sticks_syntax b n (record {
+      last = s;
+      reached = r.reached;
+      at = r.place;
+      within = omega arith;
+      stuck = inr (l, stop);
+    })
 
 pub deep_inside : (b : List ℕ) (n d : ℕ) (s : State) → after b n ≡ Some s → n < length b → s.deepest ≤ d
     → IsSomeAnd (step (byte b n) s) (λ u. length u.stack ≡ suc d) → DeepAt b d n

@@ -57,9 +57,9 @@ whole-parts : (h a b : List ℕ) → IsCut h a → lines (whole (headed h (a ++ 
 whole-parts h a b cut =
     whole-headed h (a ++ b) cut.header
     ∙ ap (λ z. ended_line h ∷ z)
-        (ap (map ended_line) (closed-parts a b cut.lines)
-        ∙ (map_lines-append (closed a) (closed b)
-            ∙ ap (λ z. z ++ map ended_line (closed b)) (sym (lines-ended a cut.lines))))
+    (ap (map ended_line) (closed-parts a b cut.lines)
+    ∙ (map_lines-append (closed a) (closed b)
+    ∙ ap (λ z. z ++ map ended_line (closed b)) (sym (lines-ended a cut.lines))))
 
 -- ---- counts
 
@@ -71,7 +71,7 @@ module _ (rules : Rules) (l : Line) (valid : verdict rules [] l.content ≡ Vali
   features-same (suc k) =
       let one : suc k - 1 ≡ k = omega arith in
       rw one (ap (λ z. length (filter is_feature z)) (kept-first rules l valid (take k ys))
-          ∙ ap (λ z. length (filter is_feature (later_of z))) (sym (kept-first rules l valid (take k ys))))
+      ∙ ap (λ z. length (filter is_feature (later_of z))) (sym (kept-first rules l valid (take k ys))))
 
   reported-same : (m : ℕ) → length (reported_from rules [] (take m (l ∷ ys)))
       ≡ length (reported_from rules [] (l ∷ take (m - 1) ys))
@@ -94,12 +94,18 @@ module _ (rules : Rules) (h a : List ℕ) (cut : IsCut h a) (done : ending rules
   taken =
       ap (λ z. take (n + (m - 1)) z) (all-lines rules h a cut b)
       ∙ (ap (λ k. take (k + (m - 1)) (ended_line h ∷ lines a ++ lines b)) count
-          ∙ take-append-add (ended_line h ∷ lines a) (lines b) (m - 1))
+      ∙ take-append-add (ended_line h ∷ lines a) (lines b) (m - 1))
 
   few-joined : m ≤ length (lines (headed h b)) → n + (m - 1) ≤ length (lines (headed h (a ++ b)))
   few-joined few =
-      omega (arith, few, count, ap length (all-lines rules h a cut b), ap length (back-lines rules h a cut b),
-          length-append (ended_line h ∷ lines a) (lines b))
+      omega (
+        arith,
+        few,
+        count,
+        ap length (all-lines rules h a cut b),
+        ap length (back-lines rules h a cut b),
+        length-append (ended_line h ∷ lines a) (lines b),
+      )
 
   good-so_far : refusal_in rules (take m (lines (headed h b))) ≡ None
       → refusal_in rules (take (n + (m - 1)) (lines (headed h (a ++ b)))) ≡ None
@@ -107,10 +113,10 @@ module _ (rules : Rules) (h a : List ℕ) (cut : IsCut h a) (done : ending rules
       let valid = header-valid rules h a cut done in
       let zs = take (m - 1) (lines b) in
       let later : refusal_in rules (ended_line h ∷ zs) ≡ None =
-          none-same rules (ended_line h) valid (lines b) m (let k = rw (back-lines rules h a cut b) at good in k) in
+      none-same rules (ended_line h) valid (lines b) m (let k = rw (back-lines rules h a cut b) at good in k) in
       ap (refusal_in rules) taken
       ∙ (refusal-joined rules (ended_line h) valid (lines a) (front-none rules h a cut done) zs
-          ∙ ap (option_map (moved_end (length (lines a)))) later)
+      ∙ ap (option_map (moved_end (length (lines a)))) later)
 
   features-joined : (f g : ℕ) → f ≡ length (filter is_feature (kept_first rules n (headed h a)))
       → g ≡ length (filter is_feature (kept_first rules m (headed h b)))
@@ -121,18 +127,24 @@ module _ (rules : Rules) (h a : List ℕ) (cut : IsCut h a) (done : ending rules
       let front = kept_from rules [] (ended_line h ∷ lines a) in
       let back = later_of (kept_from rules [] (ended_line h ∷ zs)) in
       let joined : kept_first rules (n + (m - 1)) (headed h (a ++ b)) ≡ front ++ back =
-          ap (λ z. kept_from rules [] z) taken ∙ kept-joined rules (ended_line h) valid (lines a) zs in
+      ap (λ z. kept_from rules [] z) taken ∙ kept-joined rules (ended_line h) valid (lines a) zs in
       let of_first : kept_first rules n (headed h a) ≡ front = kept_first-good rules n (headed h a) all
-          ∙ ap (λ z. kept_from rules [] z) (front-good rules h a cut done) in
+      ∙ ap (λ z. kept_from rules [] z) (front-good rules h a cut done) in
       let of_second : g ≡ length (filter is_feature back) =
       second ∙ (ap (λ z. length (filter is_feature (kept_from rules [] (take m z)))) (back-lines rules h a cut b)
-          ∙ features-same rules (ended_line h) valid (lines b) m) in
+      ∙ features-same rules (ended_line h) valid (lines b) m) in
       let sum : length (filter is_feature (front ++ back)) ≡ length (filter is_feature front)
-          + length (filter is_feature back) =
+      + length (filter is_feature back) =
       ap length (filter-append is_feature front back)
-          ∙ length-append (filter is_feature front) (filter is_feature back) in
-      omega (arith, first, of_second, sum, ap (λ z. length (filter is_feature z)) joined,
-          ap (λ z. length (filter is_feature z)) of_first)
+      ∙ length-append (filter is_feature front) (filter is_feature back) in
+      omega (
+        arith,
+        first,
+        of_second,
+        sum,
+        ap (λ z. length (filter is_feature z)) joined,
+        ap (λ z. length (filter is_feature z)) of_first,
+      )
 
   refusals-joined : (f g : ℕ) → f ≡ length (reported_first rules n (headed h a))
       → g ≡ length (reported_first rules m (headed h b))
@@ -146,12 +158,19 @@ module _ (rules : Rules) (h a : List ℕ) (cut : IsCut h a) (done : ending rules
       let joined : reported_first rules (n + (m - 1)) (headed h (a ++ b)) ≡ front ++ map moved back =
       ap (λ z. reported_from rules [] z) taken ∙ reported-joined rules (ended_line h) valid (lines a) zs in
       let of_first : reported_first rules n (headed h a) ≡ front = reported_first-good rules n (headed h a) all
-          ∙ ap (λ z. reported_from rules [] z) (front-good rules h a cut done) in
+      ∙ ap (λ z. reported_from rules [] z) (front-good rules h a cut done) in
       let of_second : g ≡ length back =
-          second ∙ (ap (λ z. length (reported_from rules [] (take m z))) (back-lines rules h a cut b)
-              ∙ reported-same rules (ended_line h) valid (lines b) m) in
-      omega (arith, first, of_second, length-append front (map moved back), length-map back moved, ap length joined,
-          ap length of_first)
+      second ∙ (ap (λ z. length (reported_from rules [] (take m z))) (back-lines rules h a cut b)
+      ∙ reported-same rules (ended_line h) valid (lines b) m) in
+      omega (
+        arith,
+        first,
+        of_second,
+        length-append front (map moved back),
+        length-map back moved,
+        ap length joined,
+        ap length of_first,
+      )
 
   Counts-joined : (f g r s : ℕ) → Counts rules (headed h a) n f r → Counts rules (headed h b) m g s
       → Counts rules (headed h (a ++ b)) (n + (m - 1)) (f + g) (r + s)
@@ -172,13 +191,13 @@ module _ (rules : Rules) (h a : List ℕ) (cut : IsCut h a) (done : ending rules
   judged-joined e told =
       let later = judged rules.limits b in
       let second : refusal_in rules (ended_line h ∷ later) ≡ Some e =
-          ap (refusal_in rules) (sym (judged-headed rules.limits h b cut.header)) ∙ told in
+      ap (refusal_in rules) (sym (judged-headed rules.limits h b cut.header)) ∙ told in
       let stream : judged rules.limits (headed h (a ++ b)) ≡ ended_line h ∷ lines a ++ later =
       judged-headed rules.limits h (a ++ b) cut.header
-          ∙ ap (λ z. ended_line h ∷ z) (judged-parts rules.limits a b cut.lines) in
+      ∙ ap (λ z. ended_line h ∷ z) (judged-parts rules.limits a b cut.lines) in
       ap (refusal_in rules) stream
       ∙ (refusal-joined rules (ended_line h) (header-valid rules h a cut done) (lines a) (front-none rules h a cut done)
-          later
+      later
       ∙ (ap (option_map (moved_end (length (lines a)))) second ∙ ap (λ k. Some (moved_end k e)) (sym before)))
 
   whole-joined : (refusal_in rules (lines (whole (headed h b))) ≡ None) × (m ≡ length (lines (whole (headed h b))))
@@ -187,13 +206,19 @@ module _ (rules : Rules) (h a : List ℕ) (cut : IsCut h a) (done : ending rules
   whole-joined told =
       let later = map ended_line (closed b) in
       let second : refusal_in rules (ended_line h ∷ later) ≡ None =
-          ap (refusal_in rules) (sym (whole-headed h b cut.header)) ∙ told.0 in
+      ap (refusal_in rules) (sym (whole-headed h b cut.header)) ∙ told.0 in
       let stream = whole-parts h a b cut in (
         ap (refusal_in rules) stream
             ∙ (refusal-joined rules (ended_line h) (header-valid rules h a cut done) (lines a)
-                (front-none rules h a cut done) later ∙ ap (option_map (moved_end (length (lines a)))) second),
-        omega (arith, told.1, count, ap length stream, ap length (whole-headed h b cut.header),
-            length-append (ended_line h ∷ lines a) later),
+            (front-none rules h a cut done) later ∙ ap (option_map (moved_end (length (lines a)))) second),
+        omega (
+          arith,
+          told.1,
+          count,
+          ap length stream,
+          ap length (whole-headed h b cut.header),
+          length-append (ended_line h ∷ lines a) later,
+        ),
       )
 
   Ends-joined : (at_end : Type 0) (e : End) → Ends rules (headed h b) m at_end e
@@ -209,7 +234,7 @@ module _ (rules : Rules) (h a : List ℕ) (cut : IsCut h a) (done : ending rules
     where
       seen : at_end ⊎ (refusal_in rules (judged rules.limits (headed h b)) ≡ Some (Refused number place reason))
           → at_end ⊎ (refusal_in rules (judged rules.limits (headed h (a ++ b)))
-              ≡ Some (Refused (number + (n - 1)) place reason))
+          ≡ Some (Refused (number + (n - 1)) place reason))
       seen (inl end) = inl end
       seen (inr k) = inr (judged-joined (Refused number place reason) k)
   Ends-joined at_end ReadFault told = whole-joined told
@@ -260,10 +285,10 @@ module _ (limits : LimitPair) (h a b : List ℕ) (cut : IsCut h a) where
   legible-parts h_ab =
       let all : list_all (is_readable limits) (contents a) && list_all (is_readable limits) (contents b) ≡ true =
       sym (legible-headed (a ++ b)
-          ∙ (ap (list_all (is_readable limits)) (contents-parts a b cut.lines)
-              ∙ list_all-append (is_readable limits) (contents a) (contents b))) ∙ h_ab in
+      ∙ (ap (list_all (is_readable limits)) (contents-parts a b cut.lines)
+      ∙ list_all-append (is_readable limits) (contents a) (contents b))) ∙ h_ab in
       let both = and-both (list_all (is_readable limits) (contents a)) (list_all (is_readable limits) (contents b))
-          all in
+      all in
       (legible-headed a ∙ both.0, legible-headed b ∙ both.1)
 
   Exact-joined : (p q : Peaks) → IsExact limits (headed h a) p → IsExact limits (headed h b) q
@@ -280,7 +305,7 @@ module _ (limits : LimitPair) (h a b : List ℕ) (cut : IsCut h a) where
         legible = λ all.
             let both = legible-parts all in
             ap (λ z. greater_peaks z q) (first.legible both.0)
-                ∙ (ap (λ z. greater_peaks (exact_peaks limits (headed h a)) z) (second.legible both.1) ∙ sym stream);
+            ∙ (ap (λ z. greater_peaks (exact_peaks limits (headed h a)) z) (second.legible both.1) ∙ sym stream);
       }
 
 -- ---- the account
@@ -296,7 +321,7 @@ module _ (rules : Rules) (h a b : List ℕ) (cut : IsCut h a) (first second : Ou
       → Account (run_over rules (headed h (a ++ b)) (both_outcomes first second)) at_last
   Account-joined is x y =
       let told : Ends rules (headed h a) first.lines at_end Complete =
-          subst (λ (e : End). Ends rules (headed h a) first.lines at_end e) is x.ends in
+      subst (λ (e : End). Ends rules (headed h a) first.lines at_end e) is x.ends in
       record {
         bounded = Bounded-joined rules.limits h a b cut first.peaks second.peaks x.bounded y.bounded;
         exact = λ done. Exact-joined rules.limits h a b cut first.peaks second.peaks (x.exact is)
@@ -328,11 +353,11 @@ module _ (rules : Rules) (h a b : List ℕ) (cut : IsCut h a) (first second : Ou
       let stays = refused-stays rules h a cut b (λ k. other (sym told.0 ∙ k)) in
       let front : refusal_in rules (ended_line h ∷ lines a) ≡ Some (Refused number place reason) =
       refused-is (refusal_in rules (ended_line h ∷ lines a)) number place reason
-          (ap (λ z. ending_of rules z) (sym (front-lines rules h a cut)) ∙ told.0) in
+      (ap (λ z. ending_of rules z) (sym (front-lines rules h a cut)) ∙ told.0) in
       let later = judged rules.limits b in
       let stream : judged rules.limits (headed h (a ++ b)) ≡ ended_line h ∷ lines a ++ later =
       judged-headed rules.limits h (a ++ b) cut.header
-          ∙ ap (λ z. ended_line h ∷ z) (judged-parts rules.limits a b cut.lines) in (
+      ∙ ap (λ z. ended_line h ∷ z) (judged-parts rules.limits a b cut.lines) in (
         stays.0 ∙ told.0,
         told.1 ∙ sym (ap length stays.1),
         inr (ap (refusal_in rules) stream ∙ refusal-stays rules [] (ended_line h ∷ lines a) later e front),
@@ -348,7 +373,7 @@ module _ (rules : Rules) (h a b : List ℕ) (cut : IsCut h a) (first second : Ou
   Counts-stays : (n f r : ℕ) → Counts rules (headed h a) n f r → Counts rules (headed h (a ++ b)) n f r
   Counts-stays n f r x =
       let same : take n (lines (headed h (a ++ b))) ≡ take n (lines (headed h a)) = ap (λ z. take n z) stream-lines
-          ∙ take-append-le n (lines (headed h a)) (lines b) x.few in
+      ∙ take-append-le n (lines (headed h a)) (lines b) x.few in
       record {
         few = omega (arith, x.few, ap length stream-lines, length-append (lines (headed h a)) (lines b));
         good = ap (refusal_in rules) same ∙ x.good;

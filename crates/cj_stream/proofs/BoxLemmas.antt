@@ -28,14 +28,24 @@ use borrow.Author.Differences.{up, down, product_is}
 product_rises : (s : ℕ) (v w : ℤ) → v ≤ℤ w → (v *ℤ pos s) ≤ℤ (w *ℤ pos s)
 product_rises s v w h =
     let below : up v + down w ≤ up w + down v = omega (arith, ints) in
-    omega (arith, ints, product_is v (pos s), product_is w (pos s),
-        mul-le-mul_right {m = up v + down w} {n = up w + down v} s below)
+    omega (
+      arith,
+      ints,
+      product_is v (pos s),
+      product_is w (pos s),
+      mul-le-mul_right {m = up v + down w} {n = up w + down v} s below,
+    )
 
 product_falls : (s : ℕ) (v w : ℤ) → v ≤ℤ w → (w *ℤ negsuc s) ≤ℤ (v *ℤ negsuc s)
 product_falls s v w h =
     let below : up v + down w ≤ up w + down v = omega (arith, ints) in
-    omega (arith, ints, product_is v (negsuc s), product_is w (negsuc s),
-        mul-le-mul_right {m = up v + down w} {n = up w + down v} (suc s) below)
+    omega (
+      arith,
+      ints,
+      product_is v (negsuc s),
+      product_is w (negsuc s),
+      mul-le-mul_right {m = up v + down w} {n = up w + down v} (suc s) below,
+    )
 
 image_rises : (m : AffineMap) (s : ℕ) (v w : ℤ) → m.scale ≡ pos s → v ≤ℤ w → image m v ≤ℤ image m w
 image_rises m s v w e h =
@@ -242,8 +252,10 @@ range_small axis r [] e = absurd (cc e)
 range_small axis r (t ∷ ts) e =
     let first = number_on axis (vertex_of t) in
     let same : widened (alone first) (map (number_on axis) (map vertex_of ts)) ≡ r = cc e in
-    rw (← same) (record { least = least_small axis first ts (number_small axis (items_of t));
-            greatest = greatest_small axis first ts (number_small axis (items_of t)) })
+    rw (← same) (record {
+      least = least_small axis first ts (number_small axis (items_of t));
+      greatest = greatest_small axis first ts (number_small axis (items_of t));
+    })
 
 -- and so is the first of them alone
 pub first_small : (axis : ℕ) (n : ℤ) (ns : List ℤ) (ts : List Tree) → map (number_on axis) (map vertex_of ts) ≡ n ∷ ns
@@ -277,7 +289,7 @@ box-numbers box header t =
     let south = any-numbers (λ n. int_le (image y n) box.max_y) 1 vs in
     let north = any-numbers (λ n. int_le box.min_y (image y n)) 1 vs in
     and_assoc (some_at_most header t 0 box.max_x) (some_at_least header t 0 box.min_x)
-        (some_at_most header t 1 box.max_y) (some_at_least header t 1 box.min_y) ∙ cc
+    (some_at_most header t 1 box.max_y) (some_at_least header t 1 box.min_y) ∙ cc
 
 -- the maps that a header shows with a box are those of its tree
 pub maps_shown : (with_box : Bool) (header : Tree) (shown : Option (List AffineMap)) (maps : List AffineMap)
@@ -295,8 +307,8 @@ pub axis_told : (header : Tree) (axis : ℕ) (maps : List AffineMap) (d : Affine
     → told ≡ meets (axis_map header axis) low high ns
 axis_told header axis maps d low high ns told are within tells =
     let map_is : get_or maps axis d ≡ axis_map header axis =
-        get_or_default maps axis d (record { scale = pos 0; shift = pos 0 }) within
-        ∙ ap (λ ms. get_or ms axis (record { scale = pos 0; shift = pos 0 })) are in
+    get_or_default maps axis d (record { scale = pos 0; shift = pos 0 }) within
+    ∙ ap (λ ms. get_or ms axis (record { scale = pos 0; shift = pos 0 })) are in
     tells ∙ ap (λ m. meets m low high ns) map_is
 
 -- two tests, of which the first is known

@@ -21,7 +21,7 @@ told : (s : List ℕ) (v : Number) → spells_number s ≡ true → SameValue (n
     → IsInRange v → Number_is s v
 told s v test same normal range =
     in-class s v (record { written = written_of s; spells = test_spells s test; same = same; normal = normal }) range
-        (class s)
+    (class s)
 
 untold : (s : List ℕ) → spells_number s ≡ false → is_number s ≡ false
 untold s e = no-class s (λ n. absurd (cc (e, (spells_test s n.0 n.1).0))) (class s)

@@ -122,7 +122,7 @@ module _ (s a b c d : List ℕ) (four : fields s ≡ a ∷ b ∷ c ∷ d ∷ [])
   module _ (na : is_number a ≡ true) (nb : is_number b ≡ true) (nc : is_number c ≡ true) (nd : is_number d ≡ true) where
     by-tests : (i j k l : Bool) → is_edge a ≡ i → is_edge b ≡ j → is_edge c ≡ k → is_edge d ≡ l
         → box_text s ≡ by_edges (if i then Some (edge a) else None) (if j then Some (edge b) else None)
-            (if k then Some (edge c) else None) (if l then Some (edge d) else None)
+        (if k then Some (edge c) else None) (if l then Some (edge d) else None)
     by-tests true true true true ea eb ec ed = rw (four, na, nb, nc, nd, ea, eb, ec, ed) refl
     by-tests true true true false ea eb ec ed = rw (four, na, nb, nc, nd, ea, eb, ec, ed) refl
     by-tests true true false l ea eb ec ed = rw (four, na, nb, nc, nd, ea, eb, ec) refl
@@ -137,4 +137,4 @@ module _ (s a b c d : List ℕ) (four : fields s ≡ a ∷ b ∷ c ∷ d ∷ [])
       let tc = answered c q hq in
       let td = answered d r hr in
       rw (ta.1, tb.1, tc.1, td.1)
-          (by-tests ta.0 tb.0 tc.0 td.0 (is_edge a) (is_edge b) (is_edge c) (is_edge d) refl refl refl refl)
+      (by-tests ta.0 tb.0 tc.0 td.0 (is_edge a) (is_edge b) (is_edge c) (is_edge d) refl refl refl refl)

@@ -57,7 +57,7 @@ module _ (tree exclude : Bool) where
   header_valid t =
       verdict-json rules 1 t small_header (lit≤ tt) header_text refl
       ∙ (by-tree plain_header header_json (lit≤ tt) rules 1 t (judgement small_header 64)
-          ∙ tree-valid rules 1 t plain_header plain_header-valid refl)
+      ∙ tree-valid rules 1 t plain_header plain_header-valid refl)
 
   module _ (c : List ℕ) (t : Tree) (json : Json c t) (shallow : nest t ≤ 64) (short : length c ≤ 8388608)
       (is_text : IsUtf8 c) (full : nat_lt 1 2 && list_all is_blank_byte c ≡ false) where
@@ -70,21 +70,21 @@ module _ (tree exclude : Bool) where
         × (written rules (ended_line small_header ∷ open_line c ∷ []) ≡ raw (ended_line small_header) ++ [])
     refused place least_is =
         second-refused rules place NotReached (ended_line small_header) (header_valid _) refl (open_line c) []
-            (second ∙ ap (by_least (is_kept_if_valid rules 2 plain_header t)) least_is)
+        (second ∙ ap (by_least (is_kept_if_valid rules 2 plain_header t)) least_is)
 
     kept : feature plain_header t tree ≡ [] → is_kept_if_valid rules 2 plain_header t ≡ true
         → (ending_of rules (ended_line small_header ∷ open_line c ∷ []) ≡ Complete)
         × (written rules (ended_line small_header ∷ open_line c ∷ []) ≡ raw (ended_line small_header) ++ (c ++ []))
     kept valid keep =
         two-good rules (ended_line small_header) (header_valid _) (open_line c)
-            (second ∙ tree-valid rules 2 plain_header t valid keep)
+        (second ∙ tree-valid rules 2 plain_header t valid keep)
 
     left_out : feature plain_header t tree ≡ [] → is_kept_if_valid rules 2 plain_header t ≡ false
         → (ending_of rules (ended_line small_header ∷ open_line c ∷ []) ≡ Complete)
         × (written rules (ended_line small_header ∷ open_line c ∷ []) ≡ raw (ended_line small_header) ++ [])
     left_out valid leave =
         let out : verdict rules (ended_line small_header ∷ []) c ≡ LeftOut =
-            second ∙ tree-unasked rules 2 plain_header t valid leave in
+        second ∙ tree-unasked rules 2 plain_header t valid leave in
         rw (header_valid _, out) (refl, rw (header_valid _, out) refl)
 
 -- ---- rows

@@ -25,7 +25,7 @@ reports-all c rs took =
     let all = reports-more (no_reports) c rs (omega arith) took in
     let same : c.reports ≡ min (length rs) (2 ^ 64 - 1) = omega (arith, all) in
     let counts : ◌≡◌ {A = CountReports} (record { reports = c.reports })
-        (record { reports = min (length rs) (2 ^ 64 - 1) }) = ap (λ n. record { reports = n }) same in
+    (record { reports = min (length rs) (2 ^ 64 - 1) }) = ap (λ n. record { reports = n }) same in
     counts
 
 -- of the first ones, where no more were noted

@@ -37,8 +37,8 @@ module _ (counts : List ℕ) (k v : ℕ) (inside : k < length counts) where
       → capped (get_or (set counts k v) n 0 + how_often n left) ≡ total
   set-rises up n left total true e h =
       let same : get_or (set counts k v) n 0 ≡ v =
-          subst (λ (m : ℕ). get_or (set counts k v) m 0 ≡ v) (sym (eqb-true n k e))
-              (get_or-set_same counts k v 0 inside) in
+      subst (λ (m : ℕ). get_or (set counts k v) m 0 ≡ v) (sym (eqb-true n k e))
+      (get_or-set_same counts k v 0 inside) in
       let here : get_or counts n 0 ≡ get_or counts k 0 = ap (λ m. get_or counts m 0) (eqb-true n k e) in
       omega (arith, same, here, up, h)
   set-rises up n left total false e h =
@@ -56,5 +56,5 @@ Counting-step size old all counts k v whole left inside first up h =
       fit = λ n. set-fit counts k v within (omega (arith, up)) h.fit n (nat_eq n k) refl;
       rises = λ n b. set-rises counts k v within up n left _ (nat_eq n k) refl
           (subst (λ (ns : List ℕ). capped (get_or counts n 0 + how_often n ns)
-              ≡ capped (get_or old n 0 + how_often n all)) first (h.rises n b));
+          ≡ capped (get_or old n 0 + how_often n all)) first (h.rises n b));
     }

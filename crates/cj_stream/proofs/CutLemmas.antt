@@ -33,7 +33,7 @@ pub lines-more : (q more : List ℕ) → lines (q ++ more) ≡ map ended_line (c
 lines-more q more =
     rw (closed-then q more, begun-then q more, map_lines-append (closed q) (closed (begun q ++ more)))
     (append_assoc (map ended_line (closed q)) (map ended_line (closed (begun q ++ more)))
-        (last_line (begun (begun q ++ more))))
+    (last_line (begun (begun q ++ more))))
 
 -- the first line of some begun bytes is as long as they are
 first-line : (c t : List ℕ) → NoLf c → 0 < length c → (l : Line) × (rest : List Line) × (lines (c ++ t) ≡ l ∷ rest)
@@ -52,7 +52,7 @@ pub good-stays : (rules : Rules) (before xs ys : List Line) (e : End) → refusa
 good-stays rules before [] ys e h = absurd (none-some e h)
 good-stays rules before (x ∷ xs) ys e h =
     step (refusal_of rules (length before + 1) (verdict rules before x.content))
-        (good-stays rules (before ++ x ∷ []) xs ys e) h
+    (good-stays rules (before ++ x ∷ []) xs ys e) h
   where
     step : (first : Option End)
         → (refusal_from rules (before ++ x ∷ []) xs ≡ Some e
@@ -95,8 +95,11 @@ module _ (rules : Rules) (q more : List ℕ) (e : End) where
       let cs = map ended_line (closed q) in
       let stays = refusal-stays rules [] (map ended_line (closed q)) (long_line rules.limits (begun q)) x h in
       let same : ◌≡◌ {A = Option End} (Some x) (Some e) = sym stays ∙ k in
-      rw (lines-more q more) (refusal-stays rules [] cs (lines (begun q ++ more)) x h
-          ∙ same, good-stays rules [] cs (lines (begun q ++ more)) x h)
+      rw (lines-more q more) (
+        refusal-stays rules [] cs (lines (begun q ++ more)) x h
+            ∙ same,
+        good-stays rules [] cs (lines (begun q ++ more)) x h,
+      )
 
   long-stays : (is : Bool) → ltb rules.limits.line (length (begun q)) ≡ is
       → refusal_in rules (map ended_line (closed q)) ≡ None
@@ -148,9 +151,11 @@ refused-more rules q more e k =
     let all = judged-stays rules q more e k in
     let front = judged-stays rules q [] e k in
     let same : good_from rules [] (lines q) ≡ good_from rules [] (map ended_line (closed q)) = let z = front.1 in
-    rw (append-nil q) at z in
-    (ending-refused rules (lines (q ++ more)) e all.0, ap (λ z. kept_from rules [] z) (all.1 ∙ sym same),
-        ap (λ z. reported_from rules [] z) (all.1 ∙ sym same))
+    rw (append-nil q) at z in (
+      ending-refused rules (lines (q ++ more)) e all.0,
+      ap (λ z. kept_from rules [] z) (all.1 ∙ sym same),
+      ap (λ z. reported_from rules [] z) (all.1 ∙ sym same),
+    )
 
 -- and so are the good lines
 pub good-more : (rules : Rules) (q more : List ℕ) (e : End) → refusal_in rules (judged rules.limits q) ≡ Some e
@@ -167,13 +172,13 @@ good-more rules q more e k =
 kept-pieces : (rules : Rules) (pieces : List (List ℕ)) (n : ℕ)
     → refusal_in rules (lines (whole (joined (take n pieces)))) ≡ None
     → (kept_first rules (length (closed (joined (take n pieces)))) (joined (take n pieces))
-        ≡ kept rules (whole (joined (take n pieces))))
+    ≡ kept rules (whole (joined (take n pieces))))
     × (kept_first rules (length (closed (joined (take n pieces)))) (joined (take (n + 1) pieces))
-        ≡ kept rules (whole (joined (take n pieces))))
+    ≡ kept rules (whole (joined (take n pieces))))
 kept-pieces rules pieces n good =
     let q = joined (take n pieces) in
     let all : length (closed (joined (take n pieces))) ≡ length (lines (whole (joined (take n pieces)))) =
-        sym (ap length (lines-whole q) ∙ length-map_lines (closed q)) in
+    sym (ap length (lines-whole q) ∙ length-map_lines (closed q)) in
     let whole_kept = kept-whole rules (length (closed q)) q good all in
     let next = joined-next n pieces in
     let same = kept_first-same rules (length (closed q)) q next.0 refl in
@@ -219,7 +224,7 @@ module _ {S : Type 0} (law : SinkLaw S) (rules : Rules) (pieces : List (List ℕ
       go (inl same) = rw (← same) (ends.0, all)
       go (inr told) =
           let more = refused-more rules (joined (take (n + 1) pieces)) (joined (drop (n + 1) pieces))
-              (Refused number place reason) told in
+          (Refused number place reason) told in
           rw (← joined-cut (n + 1) pieces) (more.0, rw more.1 all)
   PutsPieces-ends ReadFault ends d k u = absurd u
   PutsPieces-ends ReadLimit ends d k u = absurd u
@@ -241,7 +246,7 @@ module _ {S : Type 0} (law : SinkLaw S) (rules : Rules) (pieces : List (List ℕ
       let r = joined (take (n + 1) pieces) in
       let took = taken Memory k in
       let others : List Item =
-          kept_from rules (take count (lines r)) (good_from rules (take count (lines r)) (drop count (lines r))) in
+      kept_from rules (take count (lines r)) (good_from rules (take count (lines r)) (drop count (lines r))) in
       record {
         more = took.0;
         others = others;
@@ -264,10 +269,10 @@ Copies-puts contents failures rules pieces n s t ReadFault h = h
 Copies-puts contents failures rules pieces n s t ReadLimit h = h
 Copies-puts contents failures rules pieces n s t WriteFault h =
     front-bytes contents (LeavesNext (writes_part contents)) (next-bytes contents)
-        (kept rules (joined (take (n + 1) pieces))) (kept rules (whole (joined (take n pieces)))) s t h
+    (kept rules (joined (take (n + 1) pieces))) (kept rules (whole (joined (take n pieces)))) s t h
 Copies-puts contents failures rules pieces n s t Memory h =
     front-bytes contents (λ others a b. b ≡ a) (no-bytes contents) (kept rules (joined (take (n + 1) pieces)))
-        (kept rules (whole (joined (take n pieces)))) s t h
+    (kept rules (whole (joined (take n pieces)))) s t h
 
 -- where a piece, or the end, ended it
 pub EndsAt-told : (rules : Rules) (before : List ℕ) (pieces : List (List ℕ)) (k n : ℕ) (e : End)

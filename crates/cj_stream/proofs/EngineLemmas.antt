@@ -50,8 +50,16 @@ same-peaks a b c x y z e f g = rw (e, f, g) refl
 pub peak-le : (f : Reading) (p more : List ℕ) → IsSound f → Reads f p
     → f.header.peak + f.line.peak ≤ bytes_bound f.rules.limits (p ++ more)
 peak-le f p more s h =
-    omega (arith, h.peak, ap length h.header, first_content-grows p more, h.header_within.below_limit,
-        h.line_within.below_limit, s.header, s.line)
+    omega (
+      arith,
+      h.peak,
+      ap length h.header,
+      first_content-grows p more,
+      h.header_within.below_limit,
+      h.line_within.below_limit,
+      s.header,
+      s.line,
+    )
 
 pub take-front : (xs ys : List Line) (n : ℕ) → n ≡ length xs → take n (xs ++ ys) ≡ xs
 take-front xs ys n e = rw e (go xs ys)
@@ -74,8 +82,12 @@ lines-front n p more e =
     let cs = map ended_line (closed p) in
     let ds = map ended_line (closed (begun p ++ more)) ++ last_line (begun (p ++ more)) in
     let t : take n (cs ++ ds) ≡ cs = take-front cs ds n (e ∙ sym (length-map_lines (closed p))) in
-    rw (closed-then p more, map_lines-append (closed p) (closed (begun p ++ more)),
-        append_assoc cs (map ended_line (closed (begun p ++ more))) (last_line (begun (p ++ more))), t) refl
+    rw (
+      closed-then p more,
+      map_lines-append (closed p) (closed (begun p ++ more)),
+      append_assoc cs (map ended_line (closed (begun p ++ more))) (last_line (begun (p ++ more))),
+      t,
+    ) refl
 
 pub kept_first-front : (rules : Rules) (n : ℕ) (p more : List ℕ) → n ≡ length (closed p)
     → kept_first rules n (p ++ more) ≡ kept_closed rules p
@@ -84,10 +96,17 @@ kept_first-front rules n p more e = ap (λ z. kept_from rules [] z) (lines-front
 few-front : (n : ℕ) (p more : List ℕ) → n ≡ length (closed p) → n ≤ length (lines (p ++ more))
 few-front n p more e =
     let cs = map ended_line (closed p) in
-    rw (closed-then p more, map_lines-append (closed p) (closed (begun p ++ more)),
-        append_assoc cs (map ended_line (closed (begun p ++ more))) (last_line (begun (p ++ more))))
-    (omega (arith, e, length-map_lines (closed p),
-            length-append cs (map ended_line (closed (begun p ++ more)) ++ last_line (begun (p ++ more)))))
+    rw (
+      closed-then p more,
+      map_lines-append (closed p) (closed (begun p ++ more)),
+      append_assoc cs (map ended_line (closed (begun p ++ more))) (last_line (begun (p ++ more))),
+    )
+    (omega (
+      arith,
+      e,
+      length-map_lines (closed p),
+      length-append cs (map ended_line (closed (begun p ++ more)) ++ last_line (begun (p ++ more))),
+    ))
 
 -- the counts of what has been read, whatever bytes follow
 pub Counts-front : (f : Reading) (p more : List ℕ) → Reads f p → Counts f.rules (p ++ more) f.lines f.kept f.refused
@@ -121,7 +140,7 @@ front-next limits p q l n h e =
     let x = judged-front limits q in
     let cs = map ended_line (closed p) in
     rw (x.1, h.1, append_assoc cs (l ∷ h.0) x.0)
-        (take-front cs (l ∷ h.0 ++ x.0) n (e ∙ sym (length-map_lines (closed p))))
+    (take-front cs (l ∷ h.0 ++ x.0) n (e ∙ sym (length-map_lines (closed p))))
 
 pub next-refusal : (rules : Rules) (n place : ℕ) (reason : _) (p q : List ℕ) (l : Line) → IsNext rules.limits p q l
     → n ≡ length (closed p) + 1
@@ -164,9 +183,9 @@ begun-good f q h = go f.dropped refl
     after [] long on = absurd (omega arith)
     after (b ∷ c) long on =
         let v = verdict-long f.rules (length (map ended_line (closed q)) + 1)
-            (header_of f.rules (map ended_line (closed q))) (b ∷ c) long in
+        (header_of f.rules (map ended_line (closed q))) (b ∷ c) long in
         let at : length (map ended_line (closed q)) + 1 ≡ f.lines + 1 =
-            omega (arith, length-map_lines (closed q), h.lines) in
+        omega (arith, length-map_lines (closed q), h.lines) in
         rw (v, at, on) refl
 
     go : (d : Bool) → f.dropped ≡ d → refusal_in f.rules (judged f.rules.limits q) ≡ None
@@ -176,7 +195,7 @@ begun-good f q h = go f.dropped refl
     go true dropped =
         let long : ltb f.rules.limits.line (length (begun q)) ≡ true = sym h.begun.dropped ∙ dropped in
         rw (long, refusal-append f.rules [] (map ended_line (closed q)) (last_line (begun q)) h.good)
-            (after (begun q) (dropped-long f (begun q) h.begun dropped) (h.lenient dropped))
+        (after (begun q) (dropped-long f (begun q) h.begun dropped) (h.lenient dropped))
 
 pub Going-reads : (e : EngineState) (q : List ℕ) → Reads e.reading q → Scanned (limits_of e) (closed q) e.scanning
     → Going e q
@@ -196,7 +215,7 @@ StandsFor-reads e p taken s room h sc = record {
       let bytes = let k = peak-le e.reading p [] s h in rw (append-nil p) at k in
       let first = let k = first-closed p [] in rw (append-nil p) at k in
       peaks-bounded (limits_of e) p (e.reading.header.peak + e.reading.line.peak) e.scanning bytes room
-          (few-scanned (limits_of e) (closed p) e.scanning (length (first_content p)) sc first);
+      (few-scanned (limits_of e) (closed p) e.scanning (length (first_content p)) sc first);
   counts = let k = Counts-front e.reading p [] h in rw (append-nil p) at k;
   going = λ _. (h, sc, taken);
 }
@@ -218,7 +237,7 @@ module _ {S : Type 0} (law : SinkLaw S) where
         middle = t;
         kept =
             let new_front : kept_first rules g.lines (p ++ more) ≡ kept_closed rules (p ++ more) =
-                front_all rules g.lines (p ++ more) h.reads.lines in
+            front_all rules g.lines (p ++ more) h.reads.lines in
             new_front ∙ (h.puts.1 ∙ ap (λ z. z ++ h.puts.0) (sym (kept_first-front rules f.lines p more r.lines)));
         took = h.puts.2;
         fault = refl;
@@ -237,8 +256,11 @@ module _ {S : Type 0} (law : SinkLaw S) where
       record {
         added = h.puts.0;
         middle = h.middle;
-        kept = rw (kept_first-front rules f.lines p more r.lines, whole,
-            kept_first-front rules g.lines (p ++ h.done) h.left h.reads.lines) h.puts.1;
+        kept = rw (
+          kept_first-front rules f.lines p more r.lines,
+          whole,
+          kept_first-front rules g.lines (p ++ h.done) h.left h.reads.lines,
+        ) h.puts.1;
         took = h.puts.2;
         fault = (Faults-cause law rules (p ++ h.done) (p ++ more) g.lines h.middle t e h.reads.lines h.cause);
       }

@@ -120,8 +120,8 @@ module _ {S : Type 0} (law : SinkLaw S) (f g : Reading) (s t : S) (p : List ℕ)
   take-last b c e =
       let xs = map ended_line (closed p) in
       let every =
-          take-front (map ended_line (closed p) ++ unended b c ∷ []) [] (f.lines + 1)
-              (omega (arith, length-cs, length-append xs (unended b c ∷ []))) in
+      take-front (map ended_line (closed p) ++ unended b c ∷ []) [] (f.lines + 1)
+      (omega (arith, length-cs, length-append xs (unended b c ∷ []))) in
       rw (lines-last b c e) (rw (append-nil (map ended_line (closed p) ++ unended b c ∷ [])) at every)
 
   -- the lines but the last, counted
@@ -133,8 +133,11 @@ module _ {S : Type 0} (law : SinkLaw S) (f g : Reading) (s t : S) (p : List ℕ)
       → ending f.rules p ≡ unwrap_or (refusal_from f.rules (map ended_line (closed p)) (unended b c ∷ [])) Complete
   ending-verdict b c e =
       let l : Line = unended b c in
-      rw (lines-last b c e, ending-last f.rules (map ended_line (closed p)) l,
-          refusal-append f.rules [] (map ended_line (closed p)) (l ∷ []) reads.good) refl
+      rw (
+        lines-last b c e,
+        ending-last f.rules (map ended_line (closed p)) l,
+        refusal-append f.rules [] (map ended_line (closed p)) (l ∷ []) reads.good,
+      ) refl
 
   count-last : (b : ℕ) (c : List ℕ) → begun p ≡ b ∷ c → g.lines ≡ f.lines + 1 → g.lines ≡ length (lines p)
   count-last b c e h =
@@ -175,10 +178,11 @@ module _ {S : Type 0} (law : SinkLaw S) (f g : Reading) (s t : S) (p : List ℕ)
           let no : eqb f.lines 0 ≡ false = grind (arith, nat_tests) in
           let whole : lines p ≡ map ended_line (closed p) ++ [] = rw e refl in
           let good : refusal_in f.rules (map ended_line (closed p) ++ []) ≡ None =
-              rw (append-nil (map ended_line (closed p))) reads.good in
-          rw (d.0, no, d.1, whole)
-              (ending-some f.rules (map ended_line (closed p)) [] (omega (arith, length-cs)) ∙ rw good refl,
-              rw (append-nil (map ended_line (closed p))) (sym length-cs))
+          rw (append-nil (map ended_line (closed p))) reads.good in
+          rw (d.0, no, d.1, whole) (
+            ending-some f.rules (map ended_line (closed p)) [] (omega (arith, length-cs)) ∙ rw good refl,
+            rw (append-nil (map ended_line (closed p))) (sym length-cs),
+          )
 
   pub Finishes-concludes : (r : Result (Unit {0}) End) → Finishes law p (with_sink f s) r (with_sink g t)
       → Concludes f.rules p g.lines (end_of r)
@@ -199,7 +203,7 @@ module _ {S : Type 0} (law : SinkLaw S) (f g : Reading) (s t : S) (p : List ℕ)
 
   counts-passed : (b : ℕ) (c : List ℕ) (put refuses : Bool) → begun p ≡ b ∷ c → Passes put refuses f g
       → refusal_of f.rules (length (map ended_line (closed p)) + 1)
-          (verdict f.rules (map ended_line (closed p)) (b ∷ c)) ≡ None
+      (verdict f.rules (map ended_line (closed p)) (b ∷ c)) ≡ None
       → put ≡ is_kept (verdict f.rules (map ended_line (closed p)) (b ∷ c))
       → refuses ≡ is_refused (verdict f.rules (map ended_line (closed p)) (b ∷ c))
       → Counts f.rules p g.lines g.kept g.refused
@@ -251,8 +255,13 @@ module _ {S : Type 0} (law : SinkLaw S) (f g : Reading) (s t : S) (p : List ℕ)
 
   settled-same : g ≡ f → Settled
   settled-same e =
-      rw e (record { rules = refl; header = reads.header_within; line = reads.line_within; peaks = refl;
-              onward = omega arith })
+      rw e (record {
+        rules = refl;
+        header = reads.header_within;
+        line = reads.line_within;
+        peaks = refl;
+        onward = omega arith;
+      })
 
   settled-left : IsLeft f g → Settled
   settled-left left = rw left.same (record {
@@ -320,17 +329,17 @@ module _ {S : Type 0} (law : SinkLaw S) (f g : Reading) (s t : S) (p : List ℕ)
       let none = held-nothing f.rules.limits in
       let more = greatest-later (held_length f.rules.limits) none (closed p) (begun p) in
       let later : greatest (held_length f.rules.limits) (later_of (contents p))
-          ≡ max (greatest (held_length f.rules.limits) (later_of (closed p)))
-          (held_length f.rules.limits (begun_after (closed p) (begun p))) =
+      ≡ max (greatest (held_length f.rules.limits) (later_of (closed p)))
+      (held_length f.rules.limits (begun_after (closed p) (begun p))) =
       rw (lines-last b c e, contents-last (closed p) (b ∷ c), ← e) (omega (arith, more, none)) in
       let first : g.header.peak ≡ length (first_content p) = ap (λ x. x.peak) d.header
-          ∙ (reads.peak ∙ ap length reads.header) in
+      ∙ (reads.peak ∙ ap length reads.header) in
       omega (arith, later, first, d.line.peak, reads.line_peak)
 
   peak-closed : g ≡ f → begun p ≡ [] → g.header.peak + g.line.peak ≡ (exact_peaks f.rules.limits p).bytes
   peak-closed same e =
       let later : greatest (held_length f.rules.limits) (later_of (contents p)) ≡ greatest (held_length f.rules.limits)
-          (later_of (closed p)) = rw (e, contents-closed (closed p)) refl in
+      (later_of (closed p)) = rw (e, contents-closed (closed p)) refl in
       let first : f.header.peak ≡ length (first_content p) = reads.peak ∙ ap length reads.header in
       let line = rw (e, begun_after-empty (closed p)) at reads.line_peak in
       rw same (omega (arith, later, first, line, held-nothing f.rules.limits))
@@ -412,14 +421,20 @@ module _ {S : Type 0} (law : SinkLaw S) (f g : Reading) (s t : S) (p : List ℕ)
   pub peaks-finished : (r : Result (Unit {0}) End) (sc : Scanning) → Finishes law p (with_sink f s) r (with_sink g t)
       → end_of r ≡ Complete → Scanned f.rules.limits (contents p) sc
       → IsExact f.rules.limits p
-          (record { bytes = g.header.peak + g.line.peak; tokens = sc.header.peak + sc.line.peak;
-              depth = sc.opened.peak })
+      (record {
+        bytes = g.header.peak + g.line.peak;
+        tokens = sc.header.peak + sc.line.peak;
+        depth = sc.opened.peak;
+      })
   peaks-finished r sc d done k =
       let bytes = peak-finished r d done in
       record {
         bytes = bytes;
-        least = record { bytes = omega (arith, bytes); tokens = omega (arith, k.header_peak, k.line_peak.least);
-            depth = k.opened_peak.least };
+        least = record {
+          bytes = omega (arith, bytes);
+          tokens = omega (arith, k.header_peak, k.line_peak.least);
+          depth = k.opened_peak.least;
+        };
         legible = λ all. same-peaks _ _ _ _ _ _ bytes (omega (arith, k.header_peak, k.line_peak.exact all))
             (k.opened_peak.exact all);
       }
@@ -474,10 +489,13 @@ module _ {S : Type 0} (law : SinkLaw S) (f g : Reading) (s t : S) (p : List ℕ)
     took = (t, rw (← next-item f p reads (unended b c)) d.1, refl);
     fault = refl;
   }
-  delivers-last b c Valid (Err x) e h d = rw d.0 (quiet WriteFault (ap (λ x. x.lines) d.1.same)
-      (unended b c, rw (d.1.same, lines-last b c e)
-          (get-next (map ended_line (closed p)) [] (unended b c) f.lines (sym length-cs)),
-          rw (d.1.same, take-closed, h) refl, rw (d.1.same, take-closed, ← next-item f p reads (unended b c)) d.2))
+  delivers-last b c Valid (Err x) e h d = rw d.0 (quiet WriteFault (ap (λ x. x.lines) d.1.same) (
+    unended b c,
+    rw (d.1.same, lines-last b c e)
+        (get-next (map ended_line (closed p)) [] (unended b c) f.lines (sym length-cs)),
+    rw (d.1.same, take-closed, h) refl,
+    rw (d.1.same, take-closed, ← next-item f p reads (unended b c)) d.2,
+  ))
 
   delivers-none : (r : Result (Unit {0}) End) → FinishesWith law [] (with_sink f s) r (with_sink g t)
       → Delivers law (stretch f.rules p f.lines g.lines) s t (Some (end_of r))

@@ -25,11 +25,11 @@ same-verdict rules n header c = go (judgement c rules.limits.depth)
   where
     go : {d : ℕ} (j : Judgement c d)
         → cond (ltb rules.limits.line (length c)) (Refuse rules.limits.line LineTooLong)
-            (cond (not (is_utf8 c)) (Refuse (utf8_valid_len c) NotUtf8)
-            (cond (nat_lt 1 n && list_all is_blank_byte c) Blank (text_verdict (going rules) n header j)))
+        (cond (not (is_utf8 c)) (Refuse (utf8_valid_len c) NotUtf8)
+        (cond (nat_lt 1 n && list_all is_blank_byte c) Blank (text_verdict (going rules) n header j)))
         ≡ cond (ltb rules.limits.line (length c)) (Refuse rules.limits.line LineTooLong)
-            (cond (not (is_utf8 c)) (Refuse (utf8_valid_len c) NotUtf8)
-            (cond (nat_lt 1 n && list_all is_blank_byte c) Blank (text_verdict rules n header j)))
+        (cond (not (is_utf8 c)) (Refuse (utf8_valid_len c) NotUtf8)
+        (cond (nat_lt 1 n && list_all is_blank_byte c) Blank (text_verdict rules n header j)))
     go (spelled t json shallow) = refl
     go (broken i at none) = refl
     go (sunk i at) = refl
@@ -40,20 +40,22 @@ module _ (rules : Rules) (on : rules.options.keep_going ≡ true) (place : ℕ) 
       → verdict rules (h ∷ l ∷ []) f.content ≡ Valid
       → ((ending_of rules (h ∷ l ∷ f ∷ []) ≡ Complete) × (written rules (h ∷ l ∷ f ∷ []) ≡ raw h ++ (raw f ++ [])))
       × (reported_from rules [] (good_from rules [] (h ∷ l ∷ f ∷ []))
-          ≡ record { line = 2; place = place; reason = reason } ∷ [])
+      ≡ record { line = 2; place = place; reason = reason } ∷ [])
   unfolding verdict_at
-  between h l f valid bad good =
-      ((rw (valid, bad, on, good) refl, rw (valid, bad, on, good) (rw (valid, bad, good) refl)),
-          rw (valid, bad, on, good) (rw (valid, bad, good) refl))
+  between h l f valid bad good = (
+    (rw (valid, bad, on, good) refl, rw (valid, bad, on, good) (rw (valid, bad, good) refl)),
+    rw (valid, bad, on, good) (rw (valid, bad, good) refl),
+  )
 
   last : (h l : Line) → verdict rules [] h.content ≡ Valid → verdict rules (h ∷ []) l.content ≡ Refuse place reason
       → ((ending_of rules (h ∷ l ∷ []) ≡ Complete) × (written rules (h ∷ l ∷ []) ≡ raw h ++ []))
       × (reported_from rules [] (good_from rules [] (h ∷ l ∷ [])) ≡ record { line = 2; place = place; reason = reason }
-          ∷ [])
+      ∷ [])
   unfolding verdict_at
-  last h l valid bad =
-      ((rw (valid, bad, on) refl, rw (valid, bad, on) (rw (valid, bad) refl)),
-          rw (valid, bad, on) (rw (valid, bad) refl))
+  last h l valid bad = (
+    (rw (valid, bad, on) refl, rw (valid, bad, on) (rw (valid, bad) refl)),
+    rw (valid, bad, on) (rw (valid, bad) refl),
+  )
 
 first : (rules : Rules) (place : ℕ) (reason : Reason) (l : Line) (rest : List Line)
     → verdict rules [] l.content ≡ Refuse place reason
@@ -65,7 +67,7 @@ pub row_between : BetweenRow
 row_between =
     between (going wide_rules) refl 26 Syntax (ended_line small_header) (ended_line _) (open_line small_feature)
     (same-verdict wide_rules 1 _ small_header ∙ header_first _) (same-verdict wide_rules 2 _ _ ∙ comma_second _)
-        (same-verdict wide_rules 3 _ small_feature ∙ feature_third)
+    (same-verdict wide_rules 3 _ small_feature ∙ feature_third)
 
 pub row_first : FirstRow
 row_first = first (going wide_rules) 0 MissingMember (ended_line small_feature) (open_line small_header ∷ [])
@@ -75,4 +77,4 @@ pub row_last : LastRow
 row_last =
     last (going tight_rules) refl 116 LineTooLong (ended_line small_header) (open_line (small_header ++ 32 ∷ []))
     (same-verdict tight_rules 1 _ small_header ∙ header_tight _)
-        (verdict-long (going tight_rules) 2 _ (small_header ++ 32 ∷ []) (lit< tt))
+    (verdict-long (going tight_rules) 2 _ (small_header ++ 32 ∷ []) (lit< tt))

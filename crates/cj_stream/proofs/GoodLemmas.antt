@@ -37,7 +37,7 @@ pub good-append : (rules : Rules) (before xs ys : List Line) → refusal_from ru
 good-append rules before [] ys h = rw (append-nil before) refl
 good-append rules before (l ∷ xs) ys h =
     step (refusal_of rules (length before + 1) (verdict rules before l.content))
-        (good-append rules (before ++ l ∷ []) xs ys) h
+    (good-append rules (before ++ l ∷ []) xs ys) h
   where
     step : (first : Option End)
         → (refusal_from rules (before ++ l ∷ []) xs ≡ None → good_from rules (before ++ l ∷ []) (xs ++ ys) ≡ xs
@@ -53,7 +53,7 @@ pub good-all : (rules : Rules) (before ls : List Line) → refusal_from rules be
 good-all rules before [] h = refl
 good-all rules before (l ∷ ls) h =
     step (refusal_of rules (length before + 1) (verdict rules before l.content))
-        (refusal_from rules (before ++ l ∷ []) ls) (good-all rules (before ++ l ∷ []) ls) h
+    (refusal_from rules (before ++ l ∷ []) ls) (good-all rules (before ++ l ∷ []) ls) h
   where
     step : (first rest : Option End) → (rest ≡ None → good_from rules (before ++ l ∷ []) ls ≡ ls)
         → cond (is_some first) first rest ≡ None
@@ -75,18 +75,18 @@ refusal-good rules before m place reason (l ∷ ls) h =
     step : (v : Verdict) → (refusal_from rules (before ++ l ∷ []) ls ≡ Some (Refused m place reason)
         → m ≡ length (before ++ l ∷ []) + 1 + length (good_from rules (before ++ l ∷ []) ls))
         → cond (is_some (refusal_of rules (length before + 1) v)) (refusal_of rules (length before + 1) v)
-            (refusal_from rules (before ++ l ∷ []) ls) ≡ Some (Refused m place reason)
+        (refusal_from rules (before ++ l ∷ []) ls) ≡ Some (Refused m place reason)
         → m ≡ length before + 1 + length
-            (cond (is_some (refusal_of rules (length before + 1) v)) [] (l ∷ good_from rules (before ++ l ∷ []) ls))
+        (cond (is_some (refusal_of rules (length before + 1) v)) [] (l ∷ good_from rules (before ++ l ∷ []) ls))
     step (Refuse q why) later h = on (goes_on rules (length before + 1)) h
       where
         on : (b : Bool)
             → cond (is_some (cond b None (Some (Refused (length before + 1) q why))))
-                (cond b None (Some (Refused (length before + 1) q why))) (refusal_from rules (before ++ l ∷ []) ls)
+            (cond b None (Some (Refused (length before + 1) q why))) (refusal_from rules (before ++ l ∷ []) ls)
             ≡ Some (Refused m place reason)
             → m ≡ length before + 1 + length
-                (cond (is_some (cond b None (Some (Refused (length before + 1) q why)))) []
-                (l ∷ good_from rules (before ++ l ∷ []) ls))
+            (cond (is_some (cond b None (Some (Refused (length before + 1) q why)))) []
+            (l ∷ good_from rules (before ++ l ∷ []) ls))
         on true h = omega (arith, later h, one)
         on false h = let same : length before + 1 ≡ m = cc in omega (arith, same)
     step Blank later h = omega (arith, later h, one)
@@ -101,12 +101,12 @@ refusal-kind rules before (l ∷ ls) h =
   where
     step : (v : Verdict) → (refusal_from rules (before ++ l ∷ []) ls ≡ Some Complete → ⊥)
         → cond (is_some (refusal_of rules (length before + 1) v)) (refusal_of rules (length before + 1) v)
-            (refusal_from rules (before ++ l ∷ []) ls) ≡ Some Complete → ⊥
+        (refusal_from rules (before ++ l ∷ []) ls) ≡ Some Complete → ⊥
     step (Refuse q why) later h = on (goes_on rules (length before + 1)) h
       where
         on : (b : Bool)
             → cond (is_some (cond b None (Some (Refused (length before + 1) q why))))
-                (cond b None (Some (Refused (length before + 1) q why))) (refusal_from rules (before ++ l ∷ []) ls)
+            (cond b None (Some (Refused (length before + 1) q why))) (refusal_from rules (before ++ l ∷ []) ls)
             ≡ Some Complete → ⊥
         on true h = later h
         on false h = cc
@@ -143,8 +143,11 @@ good-refused rules r number place reason e = go (lines r) e
         number_of : Refused 1 0 NoHeader ≡ Refused number place reason → number ≡ 1
         number_of h = cc
     go (l ∷ ls) h =
-        omega (arith, refusal-good rules [] number place reason (l ∷ ls)
-            (some_of (refusal_in rules (l ∷ ls)) number place reason h))
+        omega (
+          arith,
+          refusal-good rules [] number place reason (l ∷ ls)
+              (some_of (refusal_in rules (l ∷ ls)) number place reason h),
+        )
 
 -- what is kept: of the first n lines, where none of them is refused, and then of the others
 pub kept-split : (rules : Rules) (n : ℕ) (r : List ℕ) → refusal_in rules (take n (lines r)) ≡ None
@@ -155,7 +158,7 @@ kept-split rules n r h =
     let ys = drop n (lines r) in
     let whole : lines r ≡ take n (lines r) ++ drop n (lines r) = sym (take-append-drop n (lines r)) in
     let g : good_from rules [] (take n (lines r) ++ drop n (lines r)) ≡ take n (lines r)
-        ++ good_from rules (take n (lines r)) (drop n (lines r)) = good-append rules [] xs ys h in
+    ++ good_from rules (take n (lines r)) (drop n (lines r)) = good-append rules [] xs ys h in
     let k : kept_from rules [] (take n (lines r) ++ good_from rules (take n (lines r)) (drop n (lines r)))
     ≡ kept_from rules [] (take n (lines r))
     ++ kept_from rules (take n (lines r)) (good_from rules (take n (lines r)) (drop n (lines r))) =
@@ -174,12 +177,12 @@ drop-next (x ∷ ls) (suc n) l h = drop-next ls n l h
 kept-head : (rules : Rules) (before : List Line) (l : Line) (rest : List Line)
     → is_kept (verdict rules before l.content) ≡ true
     → kept_from rules before (good_from rules before (l ∷ rest)) ≡ item_after rules before l ∷ kept_from rules
-        (before ++ l ∷ []) (good_from rules (before ++ l ∷ []) rest)
+    (before ++ l ∷ []) (good_from rules (before ++ l ∷ []) rest)
 kept-head rules before l rest h = step (verdict rules before l.content) refl h
   where
     step : (v : Verdict) → verdict rules before l.content ≡ v → is_kept v ≡ true
         → kept_from rules before (good_from rules before (l ∷ rest)) ≡ item_after rules before l ∷ kept_from rules
-            (before ++ l ∷ []) (good_from rules (before ++ l ∷ []) rest)
+        (before ++ l ∷ []) (good_from rules (before ++ l ∷ []) rest)
     step (Refuse place reason) e k = absurd (false-true k)
     step Blank e k = absurd (false-true k)
     step LeftOut e k = absurd (false-true k)

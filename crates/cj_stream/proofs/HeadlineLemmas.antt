@@ -70,7 +70,7 @@ module _ {N : Type 0} (notes : N → Report → N → Type 0) (a b : N) (rules :
       let none = all ends.2 in
       let nothing : r ++ rest ≡ r = rw none (append-nil r) in
       told Complete old new rest (rw nothing (sym ends.0)) (rw nothing w) (rw nothing noted) c
-          (λ h. rw nothing (exact h))
+      (λ h. rw nothing (exact h))
   ended (Refused number place reason) old new ends exact w noted c rest all u = go ends.2
     where
       go : at_end ⊎ (refusal_in rules (judged rules.limits r) ≡ Some (Refused number place reason))
@@ -80,11 +80,11 @@ module _ {N : Type 0} (notes : N → Report → N → Type 0) (a b : N) (rules :
           let none = all end in
           let nothing : r ++ rest ≡ r = rw none (append-nil r) in
           told (Refused number place reason) old new rest (rw nothing (sym ends.0)) (rw nothing w) (rw nothing noted) c
-              (λ h. absurd (refusal-not_complete number place reason h))
+          (λ h. absurd (refusal-not_complete number place reason h))
       go (inr refused) =
           let more = refused-more rules r rest (Refused number place reason) refused in
           told (Refused number place reason) old new rest (sym more.0) (rw more.1 w) (rw more.2 noted) c
-              (λ h. absurd (refusal-not_complete number place reason h))
+          (λ h. absurd (refusal-not_complete number place reason h))
   ended ReadFault old new ends exact w noted c rest all u = absurd u
   ended ReadLimit old new ends exact w noted c rest all u = absurd u
   ended WriteFault old new ends exact w noted c rest all u = record {
@@ -114,7 +114,7 @@ pub Headline-run : {N : Type 0} (notes : N → Report → N → Type 0) (run : R
     (outputs old a) (outputs new b)
 Headline-run notes run at_end old new a b account writes noted cause =
     ended notes a b run.rules run.read at_end run.outcome.lines run.outcome.peaks account.bounded run.outcome.ended old
-        new account.ends account.exact writes noted cause
+    new account.ends account.exact writes noted cause
 
 -- what was noted of pieces, where nothing hindered it
 pub NotesPieces-gives : {N : Type 0} (notes : N → Report → N → Type 0) (rules : Rules) (pieces : List (List ℕ)) (n : ℕ)

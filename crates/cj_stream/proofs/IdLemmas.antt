@@ -31,7 +31,7 @@ use Rattle.cj_stream.specs.Ids.{Key, key_of, compare_keys, pieces, may_cut, piec
 pub keys_total : IsTotalOrder compare_keys
 keys_total =
     then_total (on_total (λ (k : Key). k.number) nat_cmp_total)
-        (on_total (λ (k : Key). k.text) (options_total nat_list_cmp_total))
+    (on_total (λ (k : Key). k.text) (options_total nat_list_cmp_total))
 
 -- ---- what is the same key
 
@@ -59,8 +59,8 @@ pub same_key : (s : List ℕ) (o : Option (List ℕ)) → is_eq (compare_keys (k
 same_key s None = then_equal (nat_cmp (tail_of (Some s)) (tail_of None)) Greater (λ h. cc)
 same_key s (Some t) =
     let equal : compare s t ≡ Equal → nat_cmp (tail_of (Some s)) (tail_of (Some t)) ≡ Equal =
-        λ h. subst (λ u. nat_cmp (tail_of (Some s)) (tail_of (Some u)) ≡ Equal) (same_texts s t h)
-            (tied_itself nat_cmp_total (tail_of (Some s))) in
+    λ h. subst (λ u. nat_cmp (tail_of (Some s)) (tail_of (Some u)) ≡ Equal) (same_texts s t h)
+    (tied_itself nat_cmp_total (tail_of (Some s))) in
     then_equal (nat_cmp (tail_of (Some s)) (tail_of (Some t))) (compare s t) equal
     ∙ sym (reversed (compare s t))
     ∙ ap is_eq (sym (nat_list_cmp_total.antisymm t s))
@@ -88,7 +88,7 @@ same_beside n s (Some t) =
 -- a text beside a key is compared by the turned answer, where the numbers are equal
 pub compare_turned : (n m : ℕ) (s : List ℕ) (o : Option (List ℕ)) → nat_cmp n m ≡ Equal
     → ordering_reverse (compare_texts o (Some s)) ≡ compare_keys (record { number = n; text = Some s })
-        (record { number = m; text = o })
+    (record { number = m; text = o })
 compare_turned n m s o e =
     let total = options_total nat_list_cmp_total in
     sym (ap (λ r. ordering_then r (compare_texts (Some s) o)) e ∙ total.antisymm (Some s) o)
@@ -123,14 +123,17 @@ module _ {X : Type 0} (f : X → Key) where
   found q [] (Ok i) up within is = absurd (omega arith)
   found q (x ∷ xs) (Ok i) up within is =
       sym (list_any_map (λ key. is_eq (compare_keys key q)) (x ∷ xs)
-          ∙ list_any_at (λ y. is_eq (compare_keys (f y) q)) (x ∷ xs) i x within (ap is_eq (is x)))
+      ∙ list_any_at (λ y. is_eq (compare_keys (f y) q)) (x ∷ xs) i x within (ap is_eq (is x)))
   found q xs (Err i) up within is =
       let parts = is (searchable_from_sorted keys_total f xs q (ascend_by_keys xs up)) in
       let none : All (λ y. is_eq (compare_keys (f y) q) ≡ false) xs =
-      λ k d h. elim (cases_lt k i) [ inl below ↦ ap is_eq (parts.0 k d (omega arith) below) | inr above ↦
-          ap is_eq (parts.1 k d above h) ] in
+      λ k d h. elim (cases_lt k i) [
+        | inl below ↦ ap is_eq (parts.0 k d (omega arith) below)
+        | inr above ↦
+            ap is_eq (parts.1 k d above h)
+      ] in
       sym (list_any_map (λ key. is_eq (compare_keys key q)) xs
-          ∙ list_any_none (λ y. is_eq (compare_keys (f y) q)) xs none)
+      ∙ list_any_none (λ y. is_eq (compare_keys (f y) q)) xs none)
 
 -- ---- runs
 
@@ -159,9 +162,11 @@ runs_front keys (n ∷ ns) (suc j) runs =
 runs_back : (keys more : List Key) (ns : List ℕ) → AreRuns keys ns → Ascend more
     → AreRuns (keys ++ more) (ns ++ length more ∷ [])
 runs_back keys more [] runs up =
-    subst (λ ks. AreRuns (ks ++ more) (length more ∷ [])) (sym runs)
-    (omega arith, subst Ascend (sym (take_all (length more) more (omega arith))) up,
-        drop_all (length more) more (omega arith))
+    subst (λ ks. AreRuns (ks ++ more) (length more ∷ [])) (sym runs) (
+      omega arith,
+      subst Ascend (sym (take_all (length more) more (omega arith))) up,
+      drop_all (length more) more (omega arith),
+    )
 runs_back keys more (n ∷ ns) runs up = (
   omega (arith, runs.0, length-append keys more),
   subst Ascend (sym (take-append-le n keys more runs.0)) runs.1,
@@ -174,8 +179,11 @@ runs_back keys more (n ∷ ns) runs up = (
 -- where a text may be cut, it may be where another follows it
 seam_kept : (xs ys : List ℕ) (i : ℕ) → IsUtf8 ys → IsCharBoundary xs i → IsCharBoundary (xs ++ ys) i
 seam_kept xs ys i utf8 seam = elim (cases_lt i (length xs)) [
-  | inl below ↦ (omega (arith, below, length-append xs ys), λ l a. let same = get_or_append_left xs ys 0 i below in
-      omega (arith, seam.1 below (omega (arith, a, same)), same))
+  | inl below ↦ (
+    omega (arith, below, length-append xs ys),
+    λ l a. let same = get_or_append_left xs ys 0 i below in
+        omega (arith, seam.1 below (omega (arith, a, same)), same),
+  )
   | inr above ↦ subst (IsCharBoundary (xs ++ ys)) (omega (arith, above, seam.0))
       (IsCharBoundary-at_seam (xs ++ ys) xs ys refl utf8)
 ]
@@ -208,16 +216,16 @@ module _ (bytes id : List ℕ) (utf8 : IsUtf8 id) where
       let here : IsCut bytes e = within 0 e (omega arith) in
       let rest = same_keys entries (λ k d h. within (suc k) d (omega arith)) in
       let same : key_at (bytes ++ id) e ≡ key_at bytes e =
-          ap (λ s. record { number = e.number; text = Some (chars s) }) (kept e here) in
+      ap (λ s. record { number = e.number; text = Some (chars s) }) (kept e here) in
       ap (λ k. k ∷ keys_at (bytes ++ id) entries) same ∙ ap (λ ks. key_at bytes e ∷ ks) rest
     where
       kept : (e : Entry) → IsCut bytes e → piece (bytes ++ id) e.start e.end ≡ piece bytes e.start e.end
       kept e cut =
           let low : e.start ≤ length bytes = cut.1.0 in
           let short : e.end - e.start ≤ length (drop e.start bytes) =
-              omega (arith, cut.2.0, length-drop e.start bytes) in
+          omega (arith, cut.2.0, length-drop e.start bytes) in
           piece_is (bytes ++ id) e.start e.end cut.0 (seam_kept bytes id e.start utf8 cut.1)
-              (seam_kept bytes id e.end utf8 cut.2)
+          (seam_kept bytes id e.end utf8 cut.2)
           ∙ ap (take (e.end - e.start)) (drop-append-le e.start bytes id low)
           ∙ take-append-le (e.end - e.start) (drop e.start bytes) id short
           ∙ sym (piece_is bytes e.start e.end cut.0 cut.1 cut.2)
@@ -240,7 +248,7 @@ module _ (bytes id : List ℕ) (utf8 : IsUtf8 id) where
       ∙ ap (take (e.end - e.start)) (drop_at bytes id e.start (sym start))
       ∙ take_all (e.end - e.start) id (omega (arith, start, end, length-append bytes id)) in
       let numbered : key_at (bytes ++ id) e
-          ≡ record { number = tail_of (Some (chars id)); text = Some (chars (piece (bytes ++ id) e.start e.end)) } =
+      ≡ record { number = tail_of (Some (chars id)); text = Some (chars (piece (bytes ++ id) e.start e.end)) } =
       ap (λ m. record { number = m; text = Some (chars (piece (bytes ++ id) e.start e.end)) }) n in
       numbered ∙ ap (λ s. record { number = tail_of (Some (chars id)); text = Some (chars s) }) told
 
@@ -259,25 +267,32 @@ module _ (bytes id : List ℕ) (utf8 : IsUtf8 id) where
       let ids : List (List ℕ) = pieces bytes lengths in
       let held : sum runs ≡ length keys = runs_sum keys runs old.ordered in
       let few : sum left ≤ sum runs =
-          subst (λ ns. sum ns ≤ sum runs) (sym front) (sum_by-take-le (λ x. x) runs (length left)) in
+      subst (λ ns. sum ns ≤ sum runs) (sym front) (sum_by-take-le (λ x. x) runs (length left)) in
       let first : sum left ≡ start = omega (arith, counts, starts, held, length-map entries (key_at bytes)) in
       let low : start ≤ length entries = omega (arith, first, few, held, length-map entries (key_at bytes)) in
       let front_runs : AreRuns (take (sum left) keys) left =
-          subst (λ ns. AreRuns (take (sum ns) keys) ns) (sym front) (runs_front keys runs (length left) old.ordered) in
+      subst (λ ns. AreRuns (take (sum ns) keys) ns) (sym front) (runs_front keys runs (length left) old.ordered) in
       let same : keys_at more (take start sorted) ≡ take start keys =
       ap (keys_at more) (kept ∙ take-append-le start entries (e ∷ []) low) ∙ sym (take-map (key_at more) start entries)
-          ∙ ap (take start) (same_keys entries old.within) in
+      ∙ ap (take start) (same_keys entries old.within) in
       let fronts : AreRuns (keys_at more (take start sorted)) left =
       subst (λ ks. AreRuns ks left) (sym same) (subst (λ m. AreRuns (take m keys) left) first front_runs) in
       let back : length (keys_at more (drop start sorted)) ≡ count =
-      omega (arith, length-map (drop start sorted) (key_at more), length-drop start sorted,
-          length_permutation (entries ++ e ∷ []) sorted moved, length-append entries (e ∷ []), starts, low) in
+      omega (
+        arith,
+        length-map (drop start sorted) (key_at more),
+        length-drop start sorted,
+        length_permutation (entries ++ e ∷ []) sorted moved,
+        length-append entries (e ∷ []),
+        starts,
+        low,
+      ) in
       let whole : keys_at more (take start sorted) ++ keys_at more (drop start sorted) ≡ keys_at more sorted =
       sym (map-append (key_at more) (take start sorted) (drop start sorted))
-          ∙ ap (keys_at more) (take-append-drop start sorted) in
+      ∙ ap (keys_at more) (take-append-drop start sorted) in
       let ended : keys_at more (entries ++ e ∷ []) ≡ keys ++ key ∷ [] =
       map-append (key_at more) entries (e ∷ []) ∙ ap (λ ks. ks ++ key_at more e ∷ []) (same_keys entries old.within)
-          ∙ ap (λ k. keys ++ k ∷ []) (new_key e number begins ends) in
+      ∙ ap (λ k. keys ++ k ∷ []) (new_key e number begins ends) in
       let added : keys_of (pieces more (lengths ++ length id ∷ [])) ≡ keys_of ids ++ key ∷ [] =
       ap keys_of (pieces_more bytes id lengths old.held) ∙ map-append (λ i. key_of (Some (chars i))) ids (id ∷ []) in
       let each : IsPermutation (keys_of (pieces more (lengths ++ length id ∷ []))) (keys ++ key ∷ []) =
@@ -286,17 +301,19 @@ module _ (bytes id : List ℕ) (utf8 : IsUtf8 id) where
       record {
         held = sum_by-append (λ x. x) lengths (length id ∷ []) ∙ omega (arith, old.held, length-append bytes id);
         within = All-permutation (IsCut more) (entries ++ e ∷ []) sorted moved
-            (All-append (IsCut more) entries (e ∷ []) (λ k d h. let cut = old.within k d h in
-                    (cut.0, seam_kept bytes id (get_or entries k d).start utf8 cut.1,
-                        seam_kept bytes id (get_or entries k d).end utf8 cut.2))
+            (All-append (IsCut more) entries (e ∷ []) (λ k d h. let cut = old.within k d h in (
+              cut.0,
+              seam_kept bytes id (get_or entries k d).start utf8 cut.1,
+              seam_kept bytes id (get_or entries k d).end utf8 cut.2,
+            ))
             (All-cons (IsCut more) e [] (new_cut e begins ends) (All-nil (IsCut more))));
         each = IsPermutation-trans (keys_of (pieces more (lengths ++ length id ∷ [])))
             (keys_at more (entries ++ e ∷ [])) (keys_at more sorted)
             (subst (IsPermutation (keys_of (pieces more (lengths ++ length id ∷ [])))) (sym ended) each)
-                (IsPermutation-map (key_at more) (entries ++ e ∷ []) sorted moved);
+            (IsPermutation-map (key_at more) (entries ++ e ∷ []) sorted moved);
         ordered = subst (λ ks. AreRuns ks (left ++ count ∷ [])) whole
             (subst (λ n. AreRuns (keys_at more (take start sorted) ++ keys_at more (drop start sorted))
-                    (left ++ n ∷ [])) back
+            (left ++ n ∷ [])) back
             (runs_back (keys_at more (take start sorted)) (keys_at more (drop start sorted)) left fronts up));
       }
 
@@ -313,8 +330,11 @@ indexed_whole bytes lengths entries sorted runs count old moved up all =
       within = All-permutation (IsCut bytes) entries sorted moved old.within;
       each = IsPermutation-trans (keys_of (pieces bytes lengths)) (keys_at bytes entries) keys old.each
           (IsPermutation-map (key_at bytes) entries sorted moved);
-      ordered = (omega arith, subst Ascend (sym (take_all count keys (omega arith))) up,
-          drop_all count keys (omega arith));
+      ordered = (
+        omega arith,
+        subst Ascend (sym (take_all count keys (omega arith))) up,
+        drop_all count keys (omega arith),
+      );
     }
 
 -- the first run of some is in order
@@ -334,9 +354,9 @@ pub drop_put : {X : Type 0} (start : ℕ) (xs ys : List X) → start ≤ length 
 drop_put start xs ys h =
     let rest = drop (length xs - start) (drop start xs) in
     let here : drop start (take start xs ++ (ys ++ rest)) ≡ ys ++ rest =
-        drop_at (take start xs) (ys ++ rest) start (length-take-le start xs h) in
+    drop_at (take start xs) (ys ++ rest) start (length-take-le start xs h) in
     here ∙ ap (λ zs. ys ++ zs) (drop_all (length xs - start) (drop start xs) (omega (arith, length-drop start xs)))
-        ∙ append-nil ys
+    ∙ append-nil ys
 
 -- ---- a part of what is in order
 
@@ -385,7 +405,7 @@ part_has number x xs start stop up ordered within before after test only =
     (λ k d h e.
     let long : length past ≡ length xs - stop = omega (arith, length-drop (stop - start) rest, length-drop start xs) in
     let same = get_or-drop (stop - start) rest k d ∙ get_or-drop start xs ((stop - start) + k) d
-        ∙ get_or_default xs (start + ((stop - start) + k)) d x (omega (arith, h, long)) in
+    ∙ get_or_default xs (start + ((stop - start) + k)) d x (omega (arith, h, long)) in
     let rise = up (stop - 1) (start + ((stop - start) + k)) x (omega arith) (omega (arith, h, long)) in
     absurd (omega (arith, after (omega (arith, h, long)), rise, e, ap (λ (y : Entry). y.number) same))) in
     let whole : list_any test xs ≡ (list_any test (take start xs) || list_any test rest) =
@@ -393,13 +413,13 @@ part_has number x xs start stop up ordered within before after test only =
     let halves : list_any test rest ≡ (list_any test part || list_any test past) =
     ap (list_any test) (sym (take-append-drop (stop - start) rest)) ∙ list_any-append test part past in
     sym (whole ∙ ap (λ b. b || list_any test rest) front ∙ halves ∙ ap (λ b. list_any test part || b) back
-        ∙ no_more (list_any test part))
+    ∙ no_more (list_any test part))
 
 -- a key is among those of a part where it is among all
 pub part_keys : (bytes : List ℕ) (q : Key) (part whole : List Entry) → HasAllOf q.number part whole
     → list_any (λ key. is_eq (compare_keys key q)) (keys_at bytes part) ≡ list_any (λ key. is_eq (compare_keys key q))
-        (keys_at bytes whole)
+    (keys_at bytes whole)
 part_keys bytes q part whole has =
     let test : Key → Bool = λ key. is_eq (compare_keys key q) in
     list_any_map (key_at bytes) test part ∙ has (λ e. test (key_at bytes e)) (λ e h. same_number (key_at bytes e) q h)
-        ∙ sym (list_any_map (key_at bytes) test whole)
+    ∙ sym (list_any_map (key_at bytes) test whole)

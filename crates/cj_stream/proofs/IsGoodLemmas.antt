@@ -24,25 +24,25 @@ module _ (rules : Rules) where
       → refusal_of rules (length (b ++ before) + 1) (verdict rules (b ++ before) l.content) ≡ None
   none-each b [] l after h =
       rw (append-nil b) (neither (refusal_of rules (length b + 1) (verdict rules b l.content))
-          (refusal_from rules (b ++ l ∷ []) after) h).0
+      (refusal_from rules (b ++ l ∷ []) after) h).0
   none-each b (x ∷ before) l after h =
       let later =
-          (neither (refusal_of rules (length b + 1) (verdict rules b x.content))
-              (refusal_from rules (b ++ x ∷ []) (before ++ l ∷ after)) h).1 in
+      (neither (refusal_of rules (length b + 1) (verdict rules b x.content))
+      (refusal_from rules (b ++ x ∷ []) (before ++ l ∷ after)) h).1 in
       let more = none-each (b ++ x ∷ []) before l after later in
       rw (append_assoc b (x ∷ []) before) at more
 
   each-none : (b ls : List Line)
       → ((before : List Line) (l : Line) (after : List Line) → ls ≡ before ++ l ∷ after
-          → refusal_of rules (length (b ++ before) + 1) (verdict rules (b ++ before) l.content) ≡ None)
+      → refusal_of rules (length (b ++ before) + 1) (verdict rules (b ++ before) l.content) ≡ None)
       → refusal_from rules b ls ≡ None
   each-none b [] h = refl
   each-none b (x ∷ ls) h =
       let now = h [] x ls refl in
       let first = rw (append-nil b) at now in
       let rest : refusal_from rules (b ++ x ∷ []) ls ≡ None =
-          each-none (b ++ x ∷ []) ls
-              (λ before l after e. rw (append_assoc b (x ∷ []) before) (h (x ∷ before) l after (ap (λ z. x ∷ z) e))) in
+      each-none (b ++ x ∷ []) ls
+      (λ before l after e. rw (append_assoc b (x ∷ []) before) (h (x ∷ before) l after (ap (λ z. x ∷ z) e))) in
       rw first rest
 
   pub none-refused : (ls : List Line) → refusal_in rules ls ≡ None → NoneRefused rules ls
@@ -97,7 +97,7 @@ module _ (rules : Rules) where
       longest = λ others front none. (
           let k = good-append rules [] others front.rest (refused-none others none) in
           let same : good rules s ≡ others ++ good_from rules others front.rest =
-              ap (λ z. good_from rules [] z) front.whole ∙ k in
+          ap (λ z. good_from rules [] z) front.whole ∙ k in
           rw same (omega (arith, length-append others (good_from rules others front.rest))));
     }
 
@@ -105,7 +105,7 @@ module _ (rules : Rules) where
     good-only ls h =
         let k = good-append rules [] ls h.front.rest (refused-none ls h.unrefused) in
         let same : good rules s ≡ ls ++ good_from rules ls h.front.rest = ap (λ z. good_from rules [] z) h.front.whole
-            ∙ k in
+        ∙ k in
         let short = h.longest (good rules s) good-are.front good-are.unrefused in
         let none = no-more ls (good_from rules ls h.front.rest) (rw same at short) in
         sym (same ∙ (ap (λ z. ls ++ z) none ∙ append-nil ls))
@@ -126,11 +126,11 @@ module _ (rules : Rules) where
         let none = good-none [] (lines s) in
         let k = good-append rules [] (good rules s) (next ∷ rest) none in
         let same : good rules s ≡ good rules s ++ good_from rules (good rules s) (next ∷ rest) =
-            ap (λ z. good_from rules [] z) h ∙ k in
+        ap (λ z. good_from rules [] z) h ∙ k in
         let short : length (good rules s ++ good_from rules (good rules s) (next ∷ rest)) ≤ length (good rules s) =
-            omega (arith, ap length same) in
+        omega (arith, ap length same) in
         let stop = stops (good rules s) next rest
-            (no-more (good rules s) (good_from rules (good rules s) (next ∷ rest)) short) in
+        (no-more (good rules s) (good_from rules (good rules s) (next ∷ rest)) short) in
         let told : refusal_in rules (lines s) ≡ Some stop.0 = ap (refusal_in rules) h
-            ∙ (refusal-append rules [] (good rules s) (next ∷ rest) none ∙ stop.2) in
+        ∙ (refusal-append rules [] (good rules s) (next ∷ rest) none ∙ stop.2) in
         stop.1 ∙ ap (λ z. Some z) (sym (first-of (lines s) stop.0 told))

@@ -27,14 +27,14 @@ lines-of : (ls : List Line) → HaveNoLf ls → AreEnded ls → ls ≡ lines (fl
 lines-of [] h e = refl
 lines-of (l ∷ []) h (inl t) =
     rw (raw-ended l t, append-nil (l.content ++ 10 ∷ []))
-        (ap (λ x. x ∷ []) (same-line l true t) ∙ sym (lines-ended l.content [] h.0))
+    (ap (λ x. x ∷ []) (same-line l true t) ∙ sym (lines-ended l.content [] h.0))
 lines-of (l ∷ []) h (inr t) =
     rw (t.0, append-nil l.content) (sym (last_line-some l.content t.1) ∙ sym (lines-begun l.content h.0))
 lines-of (l ∷ m ∷ ls) h e =
     let later : m ∷ ls ≡ lines (flat_map raw (m ∷ ls)) = lines-of (m ∷ ls) h.1 e.1 in
     rw (raw-ended l e.0, append_assoc l.content (10 ∷ []) (flat_map raw (m ∷ ls)))
     (ap (λ x. x ∷ m ∷ ls) (same-line l true e.0)
-        ∙ (ap (λ x. ended_line l.content ∷ x) later ∙ sym (lines-ended l.content (flat_map raw (m ∷ ls)) h.0)))
+    ∙ (ap (λ x. ended_line l.content ∷ x) later ∙ sym (lines-ended l.content (flat_map raw (m ∷ ls)) h.0)))
 
 pub only-lines : (s : List ℕ) (ls : List Line) → IsLines s ls → ls ≡ lines s
 only-lines s ls h = lines-of ls h.contents h.ended ∙ ap lines h.joined
@@ -110,16 +110,18 @@ AreEnded-closed (d ∷ e ∷ cs) = (refl, AreEnded-closed (e ∷ cs))
 pub lines-whole : (s : List ℕ) → lines (whole s) ≡ map ended_line (closed s)
 lines-whole s =
     sym (only-lines (whole s) (map ended_line (closed s))
-        (record { contents = HaveNoLf-closed s; joined = refl; ended = AreEnded-closed (closed s) }))
+    (record { contents = HaveNoLf-closed s; joined = refl; ended = AreEnded-closed (closed s) }))
 
 whole-ends : (cs : List (List ℕ)) → (flat_map raw (map ended_line cs) ≡ [] → ⊥) → (front : List ℕ)
     × (flat_map raw (map ended_line cs) ≡ front ++ 10 ∷ [])
 whole-ends [] h = absurd (h refl)
 whole-ends (c ∷ []) h = (c, append-nil (c ++ 10 ∷ []))
 whole-ends (c ∷ d ∷ cs) h =
-    let later = whole-ends (d ∷ cs) (some_bytes d cs) in
-    ((c ++ 10 ∷ []) ++ later.0, ap (λ z. (c ++ 10 ∷ []) ++ z) later.1
-        ∙ sym (append_assoc (c ++ 10 ∷ []) later.0 (10 ∷ [])))
+    let later = whole-ends (d ∷ cs) (some_bytes d cs) in (
+      (c ++ 10 ∷ []) ++ later.0,
+      ap (λ z. (c ++ 10 ∷ []) ++ z) later.1
+          ∙ sym (append_assoc (c ++ 10 ∷ []) later.0 (10 ∷ [])),
+    )
   where
     some_bytes : (d : List ℕ) (cs : List (List ℕ)) → flat_map raw (map ended_line (d ∷ cs)) ≡ [] → ⊥
     some_bytes [] cs e = cc

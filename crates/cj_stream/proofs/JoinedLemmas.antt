@@ -33,13 +33,17 @@ joined-more now (x ∷ xs) (suc i) d h =
     let later = joined-more now xs i d (omega arith) in
     let next : suc i + 1 ≡ suc (i + 1) = omega arith in
     rw next (ap (λ z. now x ++ z) later
-        ∙ sym (append_assoc (now x) (joined (take i (map now xs))) (now (get_or xs i d))))
+    ∙ sym (append_assoc (now x) (joined (take i (map now xs))) (now (get_or xs i d))))
 
 pub joined-short : {A : Type 0} (now : A → List ℕ) (xs : List A) (i : ℕ) (d : A) → i < length xs
     → length (joined (take i (map now xs))) + length (now (get_or xs i d)) ≤ length (joined (map now xs))
 joined-short now xs i d h =
     let front = joined (take i (map now xs)) in
     let piece = now (get_or xs i d) in
-    omega (arith, ap length (joined-more now xs i d h), length-append front piece,
-        ap length (joined-cut (i + 1) (map now xs)),
-        length-append (joined (take (i + 1) (map now xs))) (joined (drop (i + 1) (map now xs))))
+    omega (
+      arith,
+      ap length (joined-more now xs i d h),
+      length-append front piece,
+      ap length (joined-cut (i + 1) (map now xs)),
+      length-append (joined (take (i + 1) (map now xs))) (joined (drop (i + 1) (map now xs))),
+    )

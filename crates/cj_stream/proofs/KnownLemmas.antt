@@ -20,9 +20,9 @@ pub taken_more : (all done rest : List ℕ) (n : ℕ) → n ≤ length rest → 
     → all ≡ (done ++ take n rest) ++ take (length rest - n) (drop n rest)
 taken_more all done rest n le e =
     let d : take (length rest - n) (drop n rest) ≡ drop n rest =
-        take_all (length rest - n) (drop n rest) (omega (arith, length-drop n rest)) in
+    take_all (length rest - n) (drop n rest) (omega (arith, length-drop n rest)) in
     rw d (e ∙ (ap (λ z. done ++ z) (sym (take-append-drop n rest))
-            ∙ sym (append_assoc done (take n rest) (drop n rest))))
+    ∙ sym (append_assoc done (take n rest) (drop n rest))))
 
 -- a fact, whatever the result
 pub on_err_any : {T E P : Type 0} (r : Result T E) → P → OnErr r P

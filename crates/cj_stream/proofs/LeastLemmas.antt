@@ -75,14 +75,14 @@ same-closed : (n : ℕ) (a x b y : List ℕ) → a ++ x ≡ b ++ y → n ≡ len
     → closed a ≡ closed b
 same-closed n a x b y same e f =
     let both : map ended_line (closed a) ≡ map ended_line (closed b) = sym (lines-front n a x e)
-        ∙ (ap (λ z. take n (lines z)) same ∙ lines-front n b y f) in
+    ∙ (ap (λ z. take n (lines z)) same ∙ lines-front n b y f) in
     sym (contents-ended (closed a)) ∙ (ap (λ ls. map (λ l. l.content) ls) both ∙ contents-ended (closed b))
 
 least-peaks : (limits : LimitPair) (q : List ℕ) (s : Scanning) (bytes : ℕ)
     → length (first_of (closed q) []) + greatest (held_length limits) (later_of (closed q)) ≤ bytes
     → HeldAll limits (closed q) s
     → IsBelow (exact_peaks limits (whole q))
-        (record { bytes = bytes; tokens = s.header.peak + s.line.peak; depth = s.opened.peak })
+    (record { bytes = bytes; tokens = s.header.peak + s.line.peak; depth = s.opened.peak })
 least-peaks limits q s bytes some k = record {
   bytes = rw (first-contents (whole q), contents-whole q) some;
   tokens = rw (contents-whole q) (omega (arith, k.header, k.line));
@@ -102,8 +102,8 @@ pub least-read : (e : EngineState) (q more : List ℕ) → Reads e.reading q →
     → IsBelow (exact_peaks (limits_of e) (first_lines (lines_of e) (q ++ more))) (peaks_of e)
 least-read e q more reads k =
     rw (first-front (lines_of e) q more reads.lines)
-        (least-peaks (limits_of e) q e.scanning (e.reading.header.peak + e.reading.line.peak)
-        (bytes-read e.reading q reads) k)
+    (least-peaks (limits_of e) q e.scanning (e.reading.header.peak + e.reading.line.peak)
+    (bytes-read e.reading q reads) k)
 
 -- and where reading stopped within these bytes
 pub least-until : (e : EngineState) (limits : LimitPair) (p bytes done left : List ℕ) → limits_of e ≡ limits
@@ -125,12 +125,15 @@ begun-held f q h =
     later : (b : List ℕ) → greatest (held_length f.rules.limits)
         (later_of (map (λ l. l.content) (map ended_line (closed q) ++ last_line b)))
         ≤ max (greatest (held_length f.rules.limits) (later_of (closed q)))
-            (held_length f.rules.limits (begun_after (closed q) b))
+        (held_length f.rules.limits (begun_after (closed q) b))
     later [] = rw (contents-closed (closed q)) (omega arith)
     later (x ∷ b) =
         rw (contents-last (closed q) (x ∷ b))
-            (omega (arith, greatest-later (held_length f.rules.limits) (held-nothing f.rules.limits) (closed q) (x ∷ b),
-                held-nothing f.rules.limits))
+        (omega (
+          arith,
+          greatest-later (held_length f.rules.limits) (held-nothing f.rules.limits) (closed q) (x ∷ b),
+          held-nothing f.rules.limits,
+        ))
 
 -- ---- the end of a stream
 
@@ -165,4 +168,4 @@ module _ {S : Type 0} (law : SinkLaw S) where
       rw front (least-peaks (limits_of old) p new.scanning (new.reading.header.peak + new.reading.line.peak)
       (omega (arith, bytes-read old.reading p reads, stays.header_rises, stays.line_rises))
       (held-rises (limits_of old) (closed p) old.scanning new.scanning rises
-          (held-scanned (limits_of old) (closed p) old.scanning k)))
+      (held-scanned (limits_of old) (closed p) old.scanning k)))

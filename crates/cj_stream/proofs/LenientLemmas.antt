@@ -81,7 +81,7 @@ unreported_from : (rules : Rules) (before ls : List Line) → rules.options.keep
 unreported_from rules before [] off = refl
 unreported_from rules before (l ∷ ls) off =
     step (refusal_of rules (length before + 1) (verdict rules before l.content)) refl
-        (unreported_from rules (before ++ l ∷ []) ls off)
+    (unreported_from rules (before ++ l ∷ []) ls off)
   where
     step : (first : Option End) → refusal_of rules (length before + 1) (verdict rules before l.content) ≡ first
         → reported_from rules (before ++ l ∷ []) (good_from rules (before ++ l ∷ []) ls) ≡ []
@@ -100,15 +100,15 @@ readable-verdict : (rules : Rules) (n : ℕ) (header : Tree) (c : List ℕ) → 
 unfolding verdict_at
 readable-verdict rules n header c off h =
     go (ltb rules.limits.line (length c)) (is_utf8 c) (nat_lt 1 n) (list_all is_blank_byte c)
-        (judgement c rules.limits.depth) h
+    (judgement c rules.limits.depth) h
   where
     refused : (place : ℕ) (reason : _) → refusal_of rules n (Refuse place reason) ≡ None → ⊥
     refused place reason k = some-none (Refused n place reason) (rw off at k)
 
     go : {d : ℕ} (long text later blank : Bool) (j : Judgement c d)
         → refusal_of rules n (cond long (Refuse rules.limits.line LineTooLong)
-            (cond (not text) (Refuse (utf8_valid_len c) NotUtf8)
-                (cond (later && blank) Blank (text_verdict rules n header j)))) ≡ None
+        (cond (not text) (Refuse (utf8_valid_len c) NotUtf8)
+        (cond (later && blank) Blank (text_verdict rules n header j)))) ≡ None
         → (not long && text) && (blank || is_spelled j) ≡ true
     go true text later blank j k = absurd (refused _ _ k)
     go false false later blank j k = absurd (refused _ _ k)
@@ -124,9 +124,9 @@ all-readable : (rules : Rules) (before ls : List Line) → rules.options.keep_go
 all-readable rules before [] off h = refl
 all-readable rules before (l ∷ ls) off h =
     let both = first-none (refusal_of rules (length before + 1) (verdict rules before l.content))
-        (refusal_from rules (before ++ l ∷ []) ls) h in
+    (refusal_from rules (before ++ l ∷ []) ls) h in
     let now = readable-verdict rules (length before + 1) (header_of rules before) l.content
-        (never rules (length before + 1) off) both.0 in
+    (never rules (length before + 1) off) both.0 in
     rw (now, all-readable rules (before ++ l ∷ []) ls off both.1) refl
 
 later-all : (p : List ℕ → Bool) (cs : List (List ℕ)) → list_all p cs ≡ true → list_all p (later_of cs) ≡ true
@@ -148,4 +148,4 @@ pub usual-exact : (rules : Rules) (s : List ℕ) (peaks : Peaks) → rules.optio
     → ending rules s ≡ Complete → IsExact rules.limits s peaks → peaks ≡ exact_peaks rules.limits s
 usual-exact rules s peaks off done h =
     h.legible (later-all (is_readable rules.limits) (map (λ l. l.content) (lines s))
-        (all-readable rules [] (lines s) off (complete-none rules (lines s) done)))
+    (all-readable rules [] (lines s) off (complete-none rules (lines s) done)))

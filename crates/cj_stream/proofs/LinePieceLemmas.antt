@@ -44,11 +44,11 @@ module _ {S : Type 0} (law : SinkLaw S) (rules : Rules) (p : List ℕ) (n : ℕ)
     first-whole x =
         let cs = map ended_line (closed p) in
         let t : take n (map ended_line (closed p) ++ map ended_line (closed (begun p ++ x)))
-            ≡ map ended_line (closed p) =
+        ≡ map ended_line (closed p) =
         take-front cs (map ended_line (closed (begun p ++ x))) n (first ∙ sym (length-map_lines (closed p))) in
         let w : lines (whole (p ++ x)) ≡ map ended_line (closed p) ++ map ended_line (closed (begun p ++ x)) =
         lines-whole (p ++ x) ∙ (ap (λ z. map ended_line z) (closed-then p x)
-            ∙ map_lines-append (closed p) (closed (begun p ++ x))) in
+        ∙ map_lines-append (closed p) (closed (begun p ++ x))) in
         ap (λ z. take n z) w ∙ (t ∙ sym (lines-front n p x first))
 
     -- what is kept of whole lines after them
@@ -57,9 +57,9 @@ module _ {S : Type 0} (law : SinkLaw S) (rules : Rules) (p : List ℕ) (n : ℕ)
         → kept_after rules n (whole (p ++ x)) ≡ xs
     whole-kept x xs good h =
         let all : length (closed (p ++ x)) ≡ length (lines (whole (p ++ x))) =
-            sym (ap length (lines-whole (p ++ x)) ∙ length-map_lines (closed (p ++ x))) in
+        sym (ap length (lines-whole (p ++ x)) ∙ length-map_lines (closed (p ++ x))) in
         let same : kept_first rules n (whole (p ++ x)) ≡ kept_first rules n (p ++ x) =
-            ap (λ z. kept_from rules [] z) (first-whole x) in
+        ap (λ z. kept_from rules [] z) (first-whole x) in
         let e : kept rules (whole (p ++ x)) ≡ kept_first rules n (whole (p ++ x)) ++ xs =
         sym (kept-whole rules (length (closed (p ++ x))) (p ++ x) good all) ∙ (h ∙ ap (λ z. z ++ xs) (sym same)) in
         rw e (drop-append_seam (kept_first rules n (whole (p ++ x))) xs)
@@ -71,10 +71,10 @@ module _ {S : Type 0} (law : SinkLaw S) (rules : Rules) (p : List ℕ) (n : ℕ)
     pieces-same pieces k =
         let next = joined-next k pieces in
         let text : p ++ joined (take (k + 1) pieces) ≡ (p ++ joined (take k pieces)) ++ next.0 = ap (λ z. p ++ z) next.1
-            ∙ sym (append_assoc p (joined (take k pieces)) next.0) in
+        ∙ sym (append_assoc p (joined (take k pieces)) next.0) in
         ap (λ z. kept_first rules (length (closed (p ++ joined (take k pieces)))) z) text
-            ∙ kept_first-same rules (length (closed (p ++ joined (take k pieces)))) (p ++ joined (take k pieces)) next.0
-            refl
+        ∙ kept_first-same rules (length (closed (p ++ joined (take k pieces)))) (p ++ joined (take k pieces)) next.0
+        refl
 
     -- what a sink took of pieces, and at the end, by the lines
     pub Delivers-whole : (pieces : List (List ℕ)) (k m : ℕ) (e : End)
@@ -83,7 +83,7 @@ module _ {S : Type 0} (law : SinkLaw S) (rules : Rules) (p : List ℕ) (n : ℕ)
     Delivers-whole pieces k m e w =
         Delivers-join
         (kept_first-either (joined (take (k + 1) pieces)) (joined (take k pieces))) (pieces-same pieces k) w.taken
-            w.after
+        w.after
 
     -- all that is kept after them was taken, of a stream of which as much is kept as of these bytes
     took-after : (x y : List ℕ) (m : ℕ) (e : End) (d : Delivers law (stretch rules (p ++ x) n m) s t (Some e))
@@ -91,9 +91,9 @@ module _ {S : Type 0} (law : SinkLaw S) (rules : Rules) (p : List ℕ) (n : ℕ)
         → kept rules (p ++ y) ≡ kept rules (p ++ x) → Took law.takes s (kept_after rules n (p ++ y)) t
     took-after x y m e d still all same =
         let here : kept rules (p ++ x) ≡ kept_first rules n (p ++ x) ++ d.added =
-            sym (kept_first-good rules m (p ++ x) all) ∙ d.kept in
+        sym (kept_first-good rules m (p ++ x) all) ∙ d.kept in
         let there : kept rules (p ++ y) ≡ kept_first rules n (p ++ y) ++ d.added =
-            same ∙ (here ∙ ap (λ z. z ++ d.added) (kept_first-either x y)) in
+        same ∙ (here ∙ ap (λ z. z ++ d.added) (kept_first-either x y)) in
         rw (after-kept y d.added there, still) d.took
 
     module _ (pieces : List (List ℕ)) (k m features refusals : ℕ)
@@ -110,7 +110,7 @@ module _ {S : Type 0} (law : SinkLaw S) (rules : Rules) (p : List ℕ) (n : ℕ)
       whole-refused e (inr h) ends =
           let more = refused-more rules (p ++ given) (joined (drop (k + 1) pieces)) e h in
           let text : (p ++ given) ++ joined (drop (k + 1) pieces) ≡ p ++ joined pieces =
-              append_assoc p given (joined (drop (k + 1) pieces)) ∙ ap (λ z. p ++ z) (joined-cut (k + 1) pieces) in
+          append_assoc p given (joined (drop (k + 1) pieces)) ∙ ap (λ z. p ++ z) (joined-cut (k + 1) pieces) in
           let z = rw text at more in (z.0, z.1)
 
       -- what a sink took of pieces, by the end
@@ -144,16 +144,16 @@ module _ {S : Type 0} (law : SinkLaw S) (rules : Rules) (p : List ℕ) (n : ℕ)
           let next = kept-next_line rules m (p ++ given) fault.0 counts.good fault.1 fault.2 in
           let item = item_after rules (take m (lines (p ++ given))) fault.0 in
           let front : kept_first rules m (p ++ given) ≡ kept_first rules n (p ++ given)
-              ++ (w.taken.added ++ w.after.added) =
+          ++ (w.taken.added ++ w.after.added) =
           w.after.kept ∙ (ap (λ z. z ++ w.after.added)
-              (pieces-same pieces k ∙ (w.taken.kept
-                      ∙ ap (λ z. z ++ w.taken.added) (kept_first-either (joined (take k pieces)) given)))
+          (pieces-same pieces k ∙ (w.taken.kept
+          ∙ ap (λ z. z ++ w.taken.added) (kept_first-either (joined (take k pieces)) given)))
           ∙ append_assoc (kept_first rules n (p ++ given)) w.taken.added w.after.added) in
           let all : kept rules (p ++ given) ≡ kept_first rules n (p ++ given)
-              ++ ((w.taken.added ++ w.after.added) ++ item_after rules (take m (lines (p ++ given))) fault.0 ∷ next.0) =
+          ++ ((w.taken.added ++ w.after.added) ++ item_after rules (take m (lines (p ++ given))) fault.0 ∷ next.0) =
           next.1 ∙ (ap (λ z. z ++ item_after rules (take m (lines (p ++ given))) fault.0 ∷ next.0) front
           ∙ append_assoc (kept_first rules n (p ++ given)) (w.taken.added ++ w.after.added)
-              (item_after rules (take m (lines (p ++ given))) fault.0 ∷ next.0)) in
+          (item_after rules (take m (lines (p ++ given))) fault.0 ∷ next.0)) in
           let first_kept = whole-kept (joined (take k pieces)) w.taken.added w.good w.taken.kept in
           let before = subst (λ z. Took law.takes s w.taken.added z) (sym w.taken.fault) w.taken.took in
           record {
@@ -167,7 +167,7 @@ module _ {S : Type 0} (law : SinkLaw S) (rules : Rules) (p : List ℕ) (n : ℕ)
                   ((w.taken.added ++ w.after.added) ++ item_after rules (take m (lines (p ++ given))) fault.0 ∷ next.0)
                   all
                   ∙ ap (λ z. (z ++ w.after.added) ++ item_after rules (take m (lines (p ++ given))) fault.0 ∷ next.0)
-                      (sym first_kept);
+                  (sym first_kept);
               took = subst (λ z. Took law.takes s (z ++ w.after.added) w.after.middle) (sym first_kept)
                   (Took-append law.takes s w.middle w.after.middle w.taken.added w.after.added before w.after.took);
               left = fault.3;

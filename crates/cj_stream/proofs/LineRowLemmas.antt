@@ -28,7 +28,7 @@ tab_between : Gives wide_rules (small_header ++ 10 ∷ 9 ∷ 10 ∷ small_featur
     (small_header ++ 10 ∷ small_feature)
 tab_between =
     blank-between wide_rules (ended_line small_header) (header_first _) (ended_line (9 ∷ [])) (open_line small_feature)
-        (verdict-blank wide_rules 2 _ (9 ∷ []) (lit≤ tt) refl) feature_third
+    (verdict-blank wide_rules 2 _ (9 ∷ []) (lit≤ tt) refl) feature_third
 
 tab_first : Gives wide_rules (9 ∷ []) (Refused 1 1 Syntax) []
 unfolding verdict_at is_utf8 chars encode utf8_valid_len judgement over by_step by_depth sinks at_end by_end text_of

@@ -18,7 +18,7 @@ whole-parts a b u v =
     ap (λ z. flat_map raw (map ended_line z)) (closed-parts a b u)
     ∙ (ap (flat_map raw) (map_lines-append (closed a) (closed b))
     ∙ (joined-append raw (map ended_line (closed a)) (map ended_line (closed b))
-        ∙ (ap (λ z. z ++ whole b) u ∙ ap (λ z. a ++ z) v)))
+    ∙ (ap (λ z. z ++ whole b) u ∙ ap (λ z. a ++ z) v)))
 
 module _ (rules : Rules) (h : List ℕ) (alone : IsCut h []) (done : ending rules (headed h []) ≡ Complete) where
   pub complete-parts : (parts : List (List ℕ)) → AreComplete rules h parts → IsCut h (joined parts)
@@ -67,7 +67,7 @@ module _ (rules : Rules) (h : List ℕ) (alone : IsCut h []) (done : ending rule
   part-written a =
       let rest = flat_map raw_item (later_of (kept rules (headed h a))) in
       let written : output rules (headed h a) ≡ h ++ 10 ∷ rest = ap (flat_map raw_item) (part-kept a)
-          ∙ header-raw (later_of (kept rules (headed h a))) in
+      ∙ header-raw (later_of (kept rules (headed h a))) in
       sym (ap (drop (length h + 1)) written ∙ dropped h rest)
     where
       dropped : (h rest : List ℕ) → drop (length h + 1) (h ++ 10 ∷ rest) ≡ rest
@@ -83,12 +83,12 @@ module _ (rules : Rules) (h : List ℕ) (alone : IsCut h []) (done : ending rule
       let rest = flat_map (λ a. later_of (kept rules (headed h a))) parts in
       joined-append raw_item (later_of (kept rules (headed h a))) rest
       ∙ (ap (λ z. z ++ flat_map raw_item rest) (part-written a)
-          ∙ ap (λ z. drop (length h + 1) (output rules (headed h a)) ++ z) (parts-written parts))
+      ∙ ap (λ z. drop (length h + 1) (output rules (headed h a)) ++ z) (parts-written parts))
 
   pub output-all_parts : (parts : List (List ℕ)) → AreComplete rules h parts
       → output rules (headed h (joined parts))
       ≡ headed h (flat_map (λ a. drop (length h + 1) (output rules (headed h a))) parts)
   output-all_parts parts all =
       ap (flat_map raw_item) (all-kept parts all)
-          ∙ (header-raw (flat_map (λ a. later_of (kept rules (headed h a))) parts)
-          ∙ ap (headed h) (parts-written parts))
+      ∙ (header-raw (flat_map (λ a. later_of (kept rules (headed h a))) parts)
+      ∙ ap (headed h) (parts-written parts))

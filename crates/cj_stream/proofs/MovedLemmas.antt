@@ -70,8 +70,8 @@ module _ (rules : Rules) where
         ≡ option_map (moved_end k) (refusal_of rules (length (l ∷ ys) + 1) (verdict rules (l ∷ ys) c))
     after-refusal xs ys k c e =
         rw (after-same l xs ys c)
-            (one-refusal (length (l ∷ xs) + 1) (length (l ∷ ys) + 1) k (verdict rules (l ∷ ys) c) (omega arith)
-            (omega (arith, e)))
+        (one-refusal (length (l ∷ xs) + 1) (length (l ∷ ys) + 1) k (verdict rules (l ∷ ys) c) (omega arith)
+        (omega (arith, e)))
 
     -- one line more before the others
     longer : (xs ys : List Line) (z : Line) (k : ℕ) → length xs ≡ length ys + k
@@ -91,7 +91,7 @@ module _ (rules : Rules) where
     refusal-moved xs ys [] k e = refl
     refusal-moved xs ys (z ∷ zs) k e =
         moved-step k _ _ _ _ (after-refusal xs ys k z.content e)
-            (refusal-moved (xs ++ z ∷ []) (ys ++ z ∷ []) zs k (longer xs ys z k e))
+        (refusal-moved (xs ++ z ∷ []) (ys ++ z ∷ []) zs k (longer xs ys z k e))
 
     good-step : (k : ℕ) (a b : Option End) (z : Line) (rest others : List Line) → a ≡ option_map (moved_end k) b
         → rest ≡ others
@@ -104,7 +104,7 @@ module _ (rules : Rules) where
     good-moved xs ys [] k e = refl
     good-moved xs ys (z ∷ zs) k e =
         good-step k _ _ z _ _ (after-refusal xs ys k z.content e)
-            (good-moved (xs ++ z ∷ []) (ys ++ z ∷ []) zs k (longer xs ys z k e))
+        (good-moved (xs ++ z ∷ []) (ys ++ z ∷ []) zs k (longer xs ys z k e))
 
     pub kept-moved : (xs ys zs : List Line) → kept_from rules (l ∷ xs) zs ≡ kept_from rules (l ∷ ys) zs
     kept-moved xs ys [] = refl
@@ -117,6 +117,9 @@ module _ (rules : Rules) where
     reported-moved xs ys (z ∷ zs) k e =
         let n = length (l ∷ ys) + 1 in
         let v = verdict rules (l ∷ ys) z.content in
-        rw (after-same l xs ys z.content, one-report (length (l ∷ xs) + 1) n k v (omega (arith, e)),
-            reported-moved (xs ++ z ∷ []) (ys ++ z ∷ []) zs k (longer xs ys z k e))
+        rw (
+          after-same l xs ys z.content,
+          one-report (length (l ∷ xs) + 1) n k v (omega (arith, e)),
+          reported-moved (xs ++ z ∷ []) (ys ++ z ∷ []) zs k (longer xs ys z k e),
+        )
         (sym (map-append (moved_report k) (report_of n v) (reported_from rules (l ∷ ys ++ z ∷ []) zs)))

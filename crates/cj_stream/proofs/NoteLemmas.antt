@@ -56,7 +56,7 @@ reported-whole rules n r none e =
     let count : n ≡ length (closed r) = e ∙ (ap length (lines-whole r) ∙ length-map_lines (closed r)) in
     let front = rw (append-nil r) at (reported_first-front rules n r [] count) in
     front ∙ (ap (λ z. reported_from rules [] z) (sym (lines-whole r))
-        ∙ ap (λ z. reported_from rules [] z) (sym (good-all rules [] (lines (whole r)) none)))
+    ∙ ap (λ z. reported_from rules [] z) (sym (good-all rules [] (lines (whole r)) none)))
 
 -- what is reported: of the first n lines, where none of them is the end, and then of the others
 reported-split : (rules : Rules) (n : ℕ) (r : List ℕ) → refusal_in rules (take n (lines r)) ≡ None
@@ -67,7 +67,7 @@ reported-split rules n r h =
     let ys = drop n (lines r) in
     let whole : lines r ≡ take n (lines r) ++ drop n (lines r) = sym (take-append-drop n (lines r)) in
     let g : good_from rules [] (take n (lines r) ++ drop n (lines r)) ≡ take n (lines r)
-        ++ good_from rules (take n (lines r)) (drop n (lines r)) = good-append rules [] xs ys h in
+    ++ good_from rules (take n (lines r)) (drop n (lines r)) = good-append rules [] xs ys h in
     let k : reported_from rules [] (take n (lines r) ++ good_from rules (take n (lines r)) (drop n (lines r)))
     ≡ reported_from rules [] (take n (lines r))
     ++ reported_from rules (take n (lines r)) (good_from rules (take n (lines r)) (drop n (lines r))) =
@@ -148,8 +148,8 @@ module _ {N : Type 0} (notes : N → Report → N → Type 0) (rules : Rules) wh
           rw (← reported-whole rules count r ends.0 ends.1, ← all-noted r count n m a) a.noted
       NotesRun-told WriteFault ends none =
           let others =
-              reported_from rules (take count (lines r))
-                  (good_from rules (take count (lines r)) (drop count (lines r))) in
+          reported_from rules (take count (lines r))
+          (good_from rules (take count (lines r)) (drop count (lines r))) in
           record {
             more = a.added;
             others = others;
@@ -178,7 +178,7 @@ module _ {N : Type 0} (notes : N → Report → N → Type 0) (rules : Rules) wh
       go (inl same) = rw (← same) h
       go (inr told) =
           let more = refused-more rules (joined (take (k + 1) pieces)) (joined (drop (k + 1) pieces))
-              (Refused number place reason) told in
+          (Refused number place reason) told in
           rw (← joined-cut (k + 1) pieces, more.2) h
   NotesPieces-told pieces k count n m ReadFault ends u v h = absurd (u refl)
   NotesPieces-told pieces k count n m ReadLimit ends u v h = absurd (v refl)
@@ -201,9 +201,9 @@ module _ {N : Type 0} (notes : N → Report → N → Type 0) (rules : Rules) wh
         → Took notes a (reported_after rules first (p ++ y)) b
     noted-after x y m h all same =
         let here : reported rules (p ++ x) ≡ reported_first rules first (p ++ x) ++ h.added =
-            sym (reported_first-good rules m (p ++ x) all) ∙ h.told in
+        sym (reported_first-good rules m (p ++ x) all) ∙ h.told in
         let there : reported rules (p ++ y) ≡ reported_first rules first (p ++ y) ++ h.added =
-            same ∙ (here ∙ ap (λ z. z ++ h.added) (reported_first-either x y)) in
+        same ∙ (here ∙ ap (λ z. z ++ h.added) (reported_first-either x y)) in
         rw (after-reported y h.added there) h.noted
 
     module _ (pieces : List (List ℕ)) (k m : ℕ)
@@ -220,7 +220,7 @@ module _ {N : Type 0} (notes : N → Report → N → Type 0) (rules : Rules) wh
           let given = joined (take (k + 1) pieces) in
           let more = refused-more rules (p ++ given) (joined (drop (k + 1) pieces)) e told in
           let text : (p ++ given) ++ joined (drop (k + 1) pieces) ≡ p ++ joined pieces =
-              append_assoc p given (joined (drop (k + 1) pieces)) ∙ ap (λ z. p ++ z) (joined-cut (k + 1) pieces) in
+          append_assoc p given (joined (drop (k + 1) pieces)) ∙ ap (λ z. p ++ z) (joined-cut (k + 1) pieces) in
           let z = rw text at more in z.2
 
       pub lines-noted : (e : LineEnd) (peaks : Peaks)
@@ -244,13 +244,13 @@ module _ {N : Type 0} (notes : N → Report → N → Type 0) (rules : Rules) wh
       lines-noted LineWriteFault peaks ends =
           let text = p ++ joined (take (k + 1) pieces) in
           let others =
-              reported_from rules (take m (lines (p ++ joined (take (k + 1) pieces))))
-                  (good_from rules (take m (lines (p ++ joined (take (k + 1) pieces))))
-                  (drop m (lines (p ++ joined (take (k + 1) pieces))))) in
+          reported_from rules (take m (lines (p ++ joined (take (k + 1) pieces))))
+          (good_from rules (take m (lines (p ++ joined (take (k + 1) pieces))))
+          (drop m (lines (p ++ joined (take (k + 1) pieces))))) in
           let all : reported rules (p ++ joined (take (k + 1) pieces))
-              ≡ reported_first rules first (p ++ joined (take (k + 1) pieces)) ++ (h.added ++ others) =
+          ≡ reported_first rules first (p ++ joined (take (k + 1) pieces)) ++ (h.added ++ others) =
           reported-split rules m text good_first
-              ∙ (ap (λ z. z ++ others) h.told ∙ append_assoc (reported_first rules first text) h.added others) in
+          ∙ (ap (λ z. z ++ others) h.told ∙ append_assoc (reported_first rules first text) h.added others) in
           record {
             noted = λ z. absurd (z refl);
             fault = λ _. record {
@@ -288,25 +288,30 @@ module _ {N : Type 0} (notes : N → Report → N → Type 0) where
       let v = verdict f.rules (map ended_line (closed p)) (begun p ++ part) in
       let told : told_verdict g ≡ verdict f.rules (map ended_line (closed p)) (begun p ++ part) =
       told-verdict g (begun (p ++ part)) now.begun
-          ∙ (next-verdict g (p ++ part) now (begun (p ++ part))
-          ∙ rw (closed-more p part free, begun-more p part free, st.rules) refl) in
+      ∙ (next-verdict g (p ++ part) now (begun (p ++ part))
+      ∙ rw (closed-more p part free, begun-more p part free, st.rules) refl) in
       let at : g.lines + 1 ≡ length (map ended_line (closed p)) + 1 =
-          omega (arith, st.lines, reads.lines, length-map_lines (closed p)) in
+      omega (arith, st.lines, reads.lines, length-map_lines (closed p)) in
       let count : h.lines ≡ length (closed (p ++ (part ++ 10 ∷ []))) =
-          rw (closed-line p part free)
-              (omega (arith, one, st.lines, reads.lines, length-append (closed p) ((begun p ++ part) ∷ []))) in
+      rw (closed-line p part free)
+      (omega (arith, one, st.lines, reads.lines, length-append (closed p) ((begun p ++ part) ∷ []))) in
       let text : (p ++ (part ++ 10 ∷ [])) ++ more ≡ p ++ (part ++ 10 ∷ more) = append_assoc p (part ++ 10 ∷ []) more
-          ∙ ap (λ z. p ++ z) (append_assoc part (10 ∷ []) more) in
+      ∙ ap (λ z. p ++ z) (append_assoc part (10 ∷ []) more) in
       let after : reported_first f.rules h.lines (p ++ (part ++ 10 ∷ more))
-          ≡ reported_from f.rules [] (map ended_line (closed (p ++ (part ++ 10 ∷ [])))) =
+      ≡ reported_from f.rules [] (map ended_line (closed (p ++ (part ++ 10 ∷ [])))) =
       (let k = reported_first-front f.rules h.lines (p ++ (part ++ 10 ∷ [])) more count in rw text at k) in
       let front = reported_first-front f.rules f.lines p (part ++ 10 ∷ more) reads.lines in
       let line : reported_from f.rules [] (map ended_line (closed (p ++ (part ++ 10 ∷ []))))
-          ≡ reported_from f.rules [] (map ended_line (closed p)) ++ report_of (g.lines + 1) (told_verdict g) =
-      rw (closed-line p part free, map_lines-append (closed p) ((begun p ++ part) ∷ []),
-          reported-append f.rules [] xs (ended_line (begun p ++ part) ∷ []),
-          append-nil (report_of (length (map ended_line (closed p)) + 1)
-              (verdict f.rules (map ended_line (closed p)) (begun p ++ part))), told, at) refl in
+      ≡ reported_from f.rules [] (map ended_line (closed p)) ++ report_of (g.lines + 1) (told_verdict g) =
+      rw (
+        closed-line p part free,
+        map_lines-append (closed p) ((begun p ++ part) ∷ []),
+        reported-append f.rules [] xs (ended_line (begun p ++ part) ∷ []),
+        append-nil (report_of (length (map ended_line (closed p)) + 1)
+            (verdict f.rules (map ended_line (closed p)) (begun p ++ part))),
+        told,
+        at,
+      ) refl in
       record {
         added = report_of (g.lines + 1) (told_verdict g);
         told = after ∙ (line ∙ ap (λ z. z ++ report_of (g.lines + 1) (told_verdict g)) (sym front));
@@ -320,9 +325,9 @@ module _ {N : Type 0} (notes : N → Report → N → Type 0) where
       let xs = map ended_line (closed p) in
       let told = told-verdict f (begun p) reads.begun ∙ next-verdict f p reads (begun p) in
       let at : f.lines + 1 ≡ length (map ended_line (closed p)) + 1 =
-          omega (arith, reads.lines, length-map_lines (closed p)) in
+      omega (arith, reads.lines, length-map_lines (closed p)) in
       let front : reported_first f.rules f.lines p ≡ reported_from f.rules [] (map ended_line (closed p)) =
-          (let k = reported_first-front f.rules f.lines p [] reads.lines in rw (append-nil p) at k) in
+      (let k = reported_first-front f.rules f.lines p [] reads.lines in rw (append-nil p) at k) in
       record {
         added = report_of (f.lines + 1) (told_verdict f);
         told = rw (front, one) (go (begun p) refl some told at);
@@ -339,14 +344,20 @@ module _ {N : Type 0} (notes : N → Report → N → Type 0) where
           let xs = map ended_line (closed p) in
           let l : Line = record { content = b ∷ c; lf = false } in
           let every =
-              take-front (map ended_line (closed p) ++ record { content = b ∷ c; lf = false } ∷ []) [] (f.lines + 1)
-                  (omega (arith, at, length-append xs (l ∷ []))) in
+          take-front (map ended_line (closed p) ++ record { content = b ∷ c; lf = false } ∷ []) [] (f.lines + 1)
+          (omega (arith, at, length-append xs (l ∷ []))) in
           let all : take (f.lines + 1) (lines p) ≡ map ended_line (closed p) ++ record { content = b ∷ c; lf = false }
-              ∷ [] = rw e (rw (append-nil (map ended_line (closed p) ++ record { content = b ∷ c; lf = false } ∷ [])) at
-              every) in
-          rw (all, reported-append f.rules [] xs (l ∷ []),
-              append-nil (report_of (length (map ended_line (closed p)) + 1)
-                  (verdict f.rules (map ended_line (closed p)) (b ∷ c))), told, at, e) refl
+          ∷ [] = rw e (rw (append-nil (map ended_line (closed p) ++ record { content = b ∷ c; lf = false } ∷ [])) at
+          every) in
+          rw (
+            all,
+            reported-append f.rules [] xs (l ∷ []),
+            append-nil (report_of (length (map ended_line (closed p)) + 1)
+                (verdict f.rules (map ended_line (closed p)) (b ∷ c))),
+            told,
+            at,
+            e,
+          ) refl
 
   -- what came of a last line
   pub Notes-finished : {S : Type 0} (law : SinkLaw S) (on : Bool) (v : Verdict) (i : Item) (f g : Reading) (s t : S)
@@ -385,7 +396,7 @@ pub Noting-collected : (run : Run) (at_end : Type 0) → refusal_in run.rules (t
     → RunsNoting Collects run [] (reported_first run.rules run.outcome.lines run.read)
 Noting-collected run at_end good_first ends none =
     Noting-told Collects run at_end [] (reported_first run.rules run.outcome.lines run.read) good_first ends none
-        (record {
+    (record {
       added = reported_first run.rules run.outcome.lines run.read;
       told = refl;
       noted = Collects-all [] (reported_first run.rules run.outcome.lines run.read);
@@ -403,10 +414,17 @@ first-silent rules n r none good_first =
 
 -- a run that was refused its memory before the first read
 pub Noting-memory : {N : Type 0} (notes : N → Report → N → Type 0) (rules : Rules) (n : N)
-    → RunsNoting notes (record
-        { rules = rules; read = [];
-            outcome = record { lines = 0; kept = 0; refused = 0; peaks = record { bytes = 0; tokens = 0; depth = 0 };
-                ended = Memory } }) n n
+    → RunsNoting notes (record {
+      rules = rules;
+      read = [];
+      outcome = record {
+        lines = 0;
+        kept = 0;
+        refused = 0;
+        peaks = record { bytes = 0; tokens = 0; depth = 0 };
+        ended = Memory;
+      };
+    }) n n
 Noting-memory notes rules n = record { reports = Notes-none notes rules [] 0 0 n n refl refl; noted = refl }
 
 -- memory was refused: nothing was noted

@@ -35,7 +35,7 @@ kept-short rules before (l ∷ ls) =
   where
     go : (b : Bool) → length (kept_from rules (before ++ l ∷ []) ls) ≤ length ls
         → length (cond b (item_after rules before l ∷ kept_from rules (before ++ l ∷ []) ls)
-            (kept_from rules (before ++ l ∷ []) ls)) ≤ length (l ∷ ls)
+        (kept_from rules (before ++ l ∷ []) ls)) ≤ length (l ∷ ls)
     go true k = omega (arith, k)
     go false k = omega (arith, k)
 
@@ -43,8 +43,12 @@ reported-short : (rules : Rules) (before ls : List Line) → length (reported_fr
 reported-short rules before [] = omega arith
 reported-short rules before (l ∷ ls) =
     let now = report_of (length before + 1) (verdict rules before l.content) in
-    omega (arith, one (length before + 1) (verdict rules before l.content), reported-short rules (before ++ l ∷ []) ls,
-        length-append now (reported_from rules (before ++ l ∷ []) ls))
+    omega (
+      arith,
+      one (length before + 1) (verdict rules before l.content),
+      reported-short rules (before ++ l ∷ []) ls,
+      length-append now (reported_from rules (before ++ l ∷ []) ls),
+    )
   where
     one : (n : ℕ) (v : Verdict) → length (report_of n v) ≤ 1
     one n (Refuse place reason) = omega arith
@@ -56,8 +60,13 @@ reported-short rules before (l ∷ ls) =
 few-counted : (rules : Rules) (r : List ℕ) (n f k : ℕ) → Counts rules r n f k → (f ≤ n) × (k ≤ n)
 few-counted rules r n f k x =
     let ls = take n (lines r) in (
-      omega (arith, x.kept, filter-short is_feature (kept_from rules [] ls), kept-short rules [] ls,
-          length-take n (lines r)),
+      omega (
+        arith,
+        x.kept,
+        filter-short is_feature (kept_from rules [] ls),
+        kept-short rules [] ls,
+        length-take n (lines r),
+      ),
       omega (arith, x.refused, reported-short rules [] ls, length-take n (lines r)),
     )
 
@@ -76,27 +85,27 @@ capped-end rules r n m at_end Memory told some few = refl
 
 same-outcome : (l k r x y z : ℕ) (peaks : Peaks) (e f : End) → l ≡ x → k ≡ y → r ≡ z → e ≡ f
     → ◌≡◌ {A = Outcome} (record { lines = l; kept = k; refused = r; peaks = peaks; ended = e })
-        (record { lines = x; kept = y; refused = z; peaks = peaks; ended = f })
+    (record { lines = x; kept = y; refused = z; peaks = peaks; ended = f })
 same-outcome l k r x y z peaks e f p q s t = rw (p, q, s, t) refl
 
 -- a run over both parts, with counts that stop at the greatest u64
 module _ (rules : Rules) (h a b : List ℕ) (cut : IsCut h a) (first second result : Outcome) (at_end at_last : Type 0)
-    where
-  pub Account-then : first.ended ≡ Complete → result ≡ capped_outcome (both_outcomes first second)
-      → first.lines + second.lines < 2 ^ 64
-      → Account (run_over rules (headed h a) first) at_end → Account (run_over rules (headed h b) second) at_last
-      → Account (run_over rules (headed h (a ++ b)) result) at_last
-  Account-then is told few x y =
-      let ends : Ends rules (headed h a) first.lines at_end Complete =
-          subst (λ (e : End). Ends rules (headed h a) first.lines at_end e) is x.ends in
-      let some : 1 ≤ first.lines = omega (arith, ends.1, ap length (front-good rules h a cut ends.0)) in
-      let of_first = few-counted rules (headed h a) first.lines first.kept first.refused x.counts in
-      let of_second = few-counted rules (headed h b) second.lines second.kept second.refused y.counts in
-      let same : capped_outcome (both_outcomes first second) ≡ both_outcomes first second =
-      same-outcome _ _ _ _ _ _ _ _ _
-      (omega (arith, few))
-      (omega (arith, few, of_first.0, of_second.0))
-      (omega (arith, few, of_first.1, of_second.1))
-      (capped-end rules (headed h b) first.lines second.lines at_last second.ended y.ends some few) in
-      subst (λ (o : Outcome). Account (run_over rules (headed h (a ++ b)) o) at_last) (sym (told ∙ same))
-          (Account-joined rules h a b cut first second at_end at_last is x y)
+  where
+    pub Account-then : first.ended ≡ Complete → result ≡ capped_outcome (both_outcomes first second)
+        → first.lines + second.lines < 2 ^ 64
+        → Account (run_over rules (headed h a) first) at_end → Account (run_over rules (headed h b) second) at_last
+        → Account (run_over rules (headed h (a ++ b)) result) at_last
+    Account-then is told few x y =
+        let ends : Ends rules (headed h a) first.lines at_end Complete =
+        subst (λ (e : End). Ends rules (headed h a) first.lines at_end e) is x.ends in
+        let some : 1 ≤ first.lines = omega (arith, ends.1, ap length (front-good rules h a cut ends.0)) in
+        let of_first = few-counted rules (headed h a) first.lines first.kept first.refused x.counts in
+        let of_second = few-counted rules (headed h b) second.lines second.kept second.refused y.counts in
+        let same : capped_outcome (both_outcomes first second) ≡ both_outcomes first second =
+        same-outcome _ _ _ _ _ _ _ _ _
+        (omega (arith, few))
+        (omega (arith, few, of_first.0, of_second.0))
+        (omega (arith, few, of_first.1, of_second.1))
+        (capped-end rules (headed h b) first.lines second.lines at_last second.ended y.ends some few) in
+        subst (λ (o : Outcome). Account (run_over rules (headed h (a ++ b)) o) at_last) (sym (told ∙ same))
+        (Account-joined rules h a b cut first second at_end at_last is x y)

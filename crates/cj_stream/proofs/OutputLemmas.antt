@@ -27,7 +27,7 @@ pub Took-appends : {S : Type 0} (contents : S → Option (List ℕ)) (s t : S) (
 Took-appends contents s t [] h = rw h (Appends-nothing (contents s))
 Took-appends contents s t (l ∷ ls) h =
     Appends-then (contents s) (contents h.0) (contents t) (raw_item l) (flat_map raw_item ls) h.1
-        (Took-appends contents h.0 t ls h.2)
+    (Took-appends contents h.0 t ls h.2)
 
 -- what is kept of the whole lines of a text, of which none is refused
 pub kept-whole : (rules : Rules) (n : ℕ) (r : List ℕ) → refusal_in rules (lines (whole r)) ≡ None
@@ -36,7 +36,7 @@ kept-whole rules n r none e =
     let count : n ≡ length (closed r) = e ∙ (ap length (lines-whole r) ∙ length-map_lines (closed r)) in
     let front = rw (append-nil r) at (kept_first-front rules n r [] count) in
     front ∙ (ap (λ z. kept_from rules [] z) (sym (lines-whole r))
-        ∙ ap (λ z. kept_from rules [] z) (sym (good-all rules [] (lines (whole r)) none)))
+    ∙ ap (λ z. kept_from rules [] z) (sym (good-all rules [] (lines (whole r)) none)))
 
 -- steps, taken apart
 pub Took-split : {S : Type 0} (step : S → Item → S → Type 0) (s t : S) (xs ys : List Item) → Took step s (xs ++ ys) t
@@ -80,7 +80,7 @@ module _ {S : Type 0} (law : SinkLaw S) (rules : Rules) (r : List ℕ) (at_end :
       }
   puts-told Memory ends counts d =
       let others : List Item =
-          kept_from rules (take n (lines r)) (good_from rules (take n (lines r)) (drop n (lines r))) in
+      kept_from rules (take n (lines r)) (good_from rules (take n (lines r)) (drop n (lines r))) in
       record {
         more = d.added;
         others = others;

@@ -39,7 +39,7 @@ use Rattle.cj_stream.proofs.VerdictLemmas.{blank-is, refusal-append, kept-append
 pub none-begun : (a : List ℕ) → whole a ≡ a → begun a ≡ []
 none-begun a w =
     none-from_length (begun a)
-        (omega (arith, ap length (whole-begun a), ap length w, length-append (whole a) (begun a)))
+    (omega (arith, ap length (whole-begun a), ap length w, length-append (whole a) (begun a)))
 
 pub lines-headed : (h s : List ℕ) → NoLf h → lines (headed h s) ≡ ended_line h ∷ lines s
 lines-headed h s free = rw (closed-ended h s free, begun-ended h s free) refl
@@ -63,8 +63,8 @@ first-not_left_out rules header c h =
 
     go : {d : ℕ} (long text : Bool) (j : Judgement c d)
         → cond long (Refuse rules.limits.line LineTooLong)
-            (cond (not text) (Refuse (utf8_valid_len c) NotUtf8)
-            (cond (false && list_all is_blank_byte c) Blank (text_verdict rules 1 header j))) ≡ LeftOut → ⊥
+        (cond (not text) (Refuse (utf8_valid_len c) NotUtf8)
+        (cond (false && list_all is_blank_byte c) Blank (text_verdict rules 1 header j))) ≡ LeftOut → ⊥
     go true text j e = cc
     go false false j e = cc
     go false true (spelled t json shallow) e = asked (least None (findings rules 1 header t)) e
@@ -105,23 +105,23 @@ module _ (rules : Rules) (l : Line) (valid : verdict rules [] l.content ≡ Vali
   reported-joined xs zs =
       reported-append rules [] (l ∷ xs) zs
       ∙ ap (λ z. reported_from rules [] (l ∷ xs) ++ z)
-          (reported-moved rules l xs [] zs (length xs) (omega arith)
-          ∙ sym (ap (map (moved_report (length xs))) (reported-first zs)))
+      (reported-moved rules l xs [] zs (length xs) (omega arith)
+      ∙ sym (ap (map (moved_report (length xs))) (reported-first zs)))
 
   module _ (xs : List Line) (none : refusal_in rules (l ∷ xs) ≡ None) where
     pub refusal-joined : (zs : List Line)
         → refusal_in rules (l ∷ xs ++ zs) ≡ option_map (moved_end (length xs)) (refusal_in rules (l ∷ zs))
     refusal-joined zs =
         refusal-append rules [] (l ∷ xs) zs none
-            ∙ (refusal-moved rules l xs [] zs (length xs) (omega arith)
-            ∙ sym (ap (option_map (moved_end (length xs))) (refusal-first zs)))
+        ∙ (refusal-moved rules l xs [] zs (length xs) (omega arith)
+        ∙ sym (ap (option_map (moved_end (length xs))) (refusal-first zs)))
 
     pub good-joined : (zs : List Line) → good_from rules [] (l ∷ xs ++ zs) ≡ l ∷ xs
         ++ later_of (good_from rules [] (l ∷ zs))
     good-joined zs =
         good-append rules [] (l ∷ xs) zs none
-            ∙ ap (λ z. l ∷ xs ++ z) (good-moved rules l xs [] zs (length xs) (omega arith)
-            ∙ sym (ap later_of (good-first zs)))
+        ∙ ap (λ z. l ∷ xs ++ z) (good-moved rules l xs [] zs (length xs) (omega arith)
+        ∙ sym (ap later_of (good-first zs)))
 
 -- ---- streams
 
@@ -148,7 +148,7 @@ module _ (rules : Rules) (h a : List ℕ) (cut : IsCut h a) where
     pub header-valid : verdict rules [] h ≡ Valid
     header-valid =
         valid-first rules h (first-none (refusal_of rules 1 (verdict rules [] h))
-            (refusal_from rules (ended_line h ∷ []) (lines a)) front-none).0
+        (refusal_from rules (ended_line h ∷ []) (lines a)) front-none).0
 
     pub front-good : good rules (headed h a) ≡ ended_line h ∷ lines a
     front-good = ap (λ z. good_from rules [] z) front-lines ∙ good-all rules [] (ended_line h ∷ lines a) front-none
@@ -168,7 +168,7 @@ module _ (rules : Rules) (h a : List ℕ) (cut : IsCut h a) where
       pub back-kept : kept rules (headed h b) ≡ item_after rules [] (ended_line h) ∷ later_of (kept rules (headed h b))
       back-kept =
           let k = ap (λ z. kept_from rules [] z) back-good
-              ∙ kept-first rules (ended_line h) header-valid (later_of (good rules (headed h b))) in
+          ∙ kept-first rules (ended_line h) header-valid (later_of (good rules (headed h b))) in
           k ∙ ap (λ z. item_after rules [] (ended_line h) ∷ z) (sym (ap later_of k))
 
       pub kept-parts : kept rules (headed h (a ++ b)) ≡ kept rules (headed h a) ++ later_of (kept rules (headed h b))
@@ -192,9 +192,9 @@ module _ (rules : Rules) (h a : List ℕ) (cut : IsCut h a) where
       ending-parts =
           ap (λ z. ending_of rules z) (all-lines b)
           ∙ (ap (λ o. unwrap_or o Complete)
-              (refusal-joined rules (ended_line h) header-valid (lines a) front-none (lines b))
+          (refusal-joined rules (ended_line h) header-valid (lines a) front-none (lines b))
           ∙ (moved-ending (length (lines a)) (refusal_in rules (ended_line h ∷ lines b))
-              ∙ ap (λ z. moved_end (length (lines a)) (ending_of rules z)) (sym (back-lines b))))
+          ∙ ap (λ z. moved_end (length (lines a)) (ending_of rules z)) (sym (back-lines b))))
 
       pub reported-parts : reported rules (headed h (a ++ b)) ≡ reported rules (headed h a)
           ++ map (moved_report (length (lines a))) (reported rules (headed h b))
@@ -204,7 +204,7 @@ module _ (rules : Rules) (h a : List ℕ) (cut : IsCut h a) where
           ap (λ z. reported_from rules [] z) good-parts
           ∙ (reported-joined rules (ended_line h) header-valid (lines a) later
           ∙ (ap (λ z. reported_from rules [] z ++ moved (reported_from rules [] (ended_line h ∷ later)))
-              (sym front-good)
+          (sym front-good)
           ∙ ap (λ z. reported rules (headed h a) ++ moved (reported_from rules [] z)) (sym back-good)))
 
       -- ---- counts
@@ -213,8 +213,13 @@ module _ (rules : Rules) (h a : List ℕ) (cut : IsCut h a) where
           + length (good rules (headed h b))
       lines-counted =
           let later = later_of (good rules (headed h b)) in
-          omega (arith, ap length good-parts, ap length front-good, ap length back-good,
-              length-append (ended_line h ∷ lines a) later)
+          omega (
+            arith,
+            ap length good-parts,
+            ap length front-good,
+            ap length back-good,
+            length-append (ended_line h ∷ lines a) later,
+          )
 
       pub features-counted : length (filter is_feature (kept rules (headed h (a ++ b))))
           ≡ length (filter is_feature (kept rules (headed h a))) + length (filter is_feature (kept rules (headed h b)))
@@ -232,7 +237,7 @@ module _ (rules : Rules) (h a : List ℕ) (cut : IsCut h a) where
           let moved = moved_report (length (lines a)) in
           ap length reported-parts
           ∙ (length-append (reported rules (headed h a)) (map moved (reported rules (headed h b)))
-              ∙ ap (λ n. length (reported rules (headed h a)) + n) (length-map (reported rules (headed h b)) moved))
+          ∙ ap (λ n. length (reported rules (headed h a)) + n) (length-map (reported rules (headed h b)) moved))
 
   -- the first part is refused
   module _ (b : List ℕ) where
@@ -242,10 +247,10 @@ module _ (rules : Rules) (h a : List ℕ) (cut : IsCut h a) where
     part-stays e refused =
         let first = ended_line h ∷ lines a in
         let all : ending rules (headed h (a ++ b)) ≡ e =
-            ending-refused rules (lines (headed h (a ++ b))) e
-                (rw (all-lines b) (refusal-stays rules [] first (lines b) e refused)) in
+        ending-refused rules (lines (headed h (a ++ b))) e
+        (rw (all-lines b) (refusal-stays rules [] first (lines b) e refused)) in
         let front : ending rules (headed h a) ≡ e =
-            ending-refused rules (lines (headed h a)) e (rw front-lines refused) in (
+        ending-refused rules (lines (headed h a)) e (rw front-lines refused) in (
           all ∙ sym front,
           ap (λ z. good_from rules [] z) (all-lines b)
               ∙ (good-stays rules [] first (lines b) e refused ∙ ap (λ z. good_from rules [] z) (sym front-lines)),

@@ -143,7 +143,7 @@ module _ {S : Type 0} (law : SinkLaw S) where
           (with_sink h t)
       go true dropped k =
           no-item _ g.rules.limits.line LineTooLong (next_verdict g c)
-              (verdict-long g.rules _ _ c (dropped-long g c is dropped)) k
+          (verdict-long g.rules _ _ c (dropped-long g c is dropped)) k
       go false held k = subst (λ x. Settles law (judged_next g on (next_verdict g c) (record { content = x; lf = lf }))
           (with_sink g s) r (with_sink h t)) (held-whole g c is held).0 k
 
@@ -186,10 +186,15 @@ module _ {S : Type 0} (law : SinkLaw S) where
       → IsNext limits (p ++ part) (p ++ (part ++ 10 ∷ more)) (ended_line (begun p ++ part))
   IsNext-ended limits p part more n = (
     map ended_line (closed more) ++ long_line limits (begun more),
-    rw (← append_assoc p part (10 ∷ more), closed-lf (p ++ part) more, begun-lf (p ++ part) more,
-        map_lines-append (closed (p ++ part)) (begun (p ++ part) ∷ closed more), begun-more p part n)
+    rw (
+      ← append_assoc p part (10 ∷ more),
+      closed-lf (p ++ part) more,
+      begun-lf (p ++ part) more,
+      map_lines-append (closed (p ++ part)) (begun (p ++ part) ∷ closed more),
+      begun-more p part n,
+    )
         (append_assoc (map ended_line (closed (p ++ part)))
-            (ended_line (begun p ++ part) ∷ map ended_line (closed more)) (long_line limits (begun more))),
+        (ended_line (begun p ++ part) ∷ map ended_line (closed more)) (long_line limits (begun more))),
   )
 
   long_line-long : (limits : LimitPair) (c : List ℕ) → limits.line < length c
@@ -207,14 +212,20 @@ module _ {S : Type 0} (law : SinkLaw S) where
 
   Unstored-cause : (f : Reading) (s : S) (p part q : List ℕ) (lf : Bool) (e : End) → Reads f p → Unstored f part e
       → (f.rules.limits.line < length (begun p ++ part)
-          → IsNext f.rules.limits p q (record { content = begun p ++ part; lf = lf }))
+      → IsNext f.rules.limits p q (record { content = begun p ++ part; lf = lf }))
       → HasCause law (stop_at f.rules p q f.lines) s s e
   Unstored-cause f s p part q lf e reads d next =
       let whole = held-whole f (begun p) reads.begun d.3 in
       let long : f.rules.limits.line < length (begun p ++ part) =
-          omega (arith, length-append (begun p) part, ap length whole.0, d.1) in
-      rw d.0 (record { content = begun p ++ part; lf = lf }, next long, refl,
-          verdict-long f.rules _ _ (begun p ++ part) long, refl, d.2)
+      omega (arith, length-append (begun p) part, ap length whole.0, d.1) in
+      rw d.0 (
+        record { content = begun p ++ part; lf = lf },
+        next long,
+        refl,
+        verdict-long f.rules _ _ (begun p ++ part) long,
+        refl,
+        d.2,
+      )
 
   stopped : (f : Reading) (s : S) (p more : List ℕ) (e : End) → Reads f p
       → HasCause law (stop_at f.rules p (p ++ more) f.lines) s s e → Stops law (further p more) (with_sink f s) e
@@ -257,10 +268,17 @@ module _ {S : Type 0} (law : SinkLaw S) where
   unforgiven g h s t p part more place reason true r e n reads is on d still err = absurd (good-bad r e d.0 err)
   unforgiven g h s t p part more place reason false r e n reads is on d still err =
       let same : e ≡ Refused (g.lines + 1) place reason = cc in
-      let told = sym (next-verdict g (p ++ part) reads (begun (p ++ part))) ∙ is in
-      (left-same g h d.1, rw same
-          (ended_line (begun p ++ part), IsNext-ended g.rules.limits p part more n, refl,
-              rw (begun-more p part n) at told, still, on))
+      let told = sym (next-verdict g (p ++ part) reads (begun (p ++ part))) ∙ is in (
+        left-same g h d.1,
+        rw same (
+          ended_line (begun p ++ part),
+          IsNext-ended g.rules.limits p part more n,
+          refl,
+          rw (begun-more p part n) at told,
+          still,
+          on,
+        ),
+      )
 
   -- a line that has begun, and was not dealt with: g has read p, whose last bytes they are
   undealt : (g h : Reading) (s t : S) (p part more : List ℕ) (v : Verdict) (r : Result (Unit {0}) End) (e : End)
@@ -281,12 +299,18 @@ module _ {S : Type 0} (law : SinkLaw S) where
       let same : e ≡ WriteFault = cc in
       let b = begun-more p part n in
       let told : is_kept (verdict g.rules (map ended_line (closed (p ++ part))) (begun (p ++ part))) ≡ true =
-          ap is_kept (sym (next-verdict g (p ++ part) reads (begun (p ++ part))) ∙ is) in
+      ap is_kept (sym (next-verdict g (p ++ part) reads (begun (p ++ part))) ∙ is) in
       let item = next-item g (p ++ part) reads (ended_line (begun (p ++ part))) in
       let left : law.leaves s (item_after g.rules (map ended_line (closed (p ++ part)))
-      (ended_line (begun (p ++ part)))) t = rw (← item) d.2 in
-      (d.1, rw same (ended_line (begun p ++ part), IsNext-ended g.rules.limits p part more n, rw b at told,
-              rw b at left))
+      (ended_line (begun (p ++ part)))) t = rw (← item) d.2 in (
+        d.1,
+        rw same (
+          ended_line (begun p ++ part),
+          IsNext-ended g.rules.limits p part more n,
+          rw b at told,
+          rw b at left,
+        ),
+      )
 
   unsettled : (g h : Reading) (s t : S) (p part more : List ℕ) (r : Result (Unit {0}) End) (e : End) → NoLf part
       → Reads g (p ++ part)
@@ -299,7 +323,7 @@ module _ {S : Type 0} (law : SinkLaw S) where
       let none : closed (p ++ part) ≡ [] = none-from_length (closed (p ++ part)) (sym reads.lines ∙ m.3) in
       let valid = sym (next-verdict g (p ++ part) reads (begun (p ++ part))) ∙ m.4 in
       let next = next-line g.rules.limits g.lines (p ++ part) (p ++ (part ++ 10 ∷ more)) (ended_line (begun p ++ part))
-          (IsNext-ended g.rules.limits p part more n) reads.lines in (
+      (IsNext-ended g.rules.limits p part more n) reads.lines in (
         m.1,
         rw same (
           m.2,

@@ -13,7 +13,7 @@ lf_found s k h =
     let d : drop k s ≡ get_or s k 0 ∷ drop (suc k) s = drop-cons s k 0 (omega (arith, h.0.high)) in
     let b : get_or s k 0 ≡ 10 = eqb-true (get_or s k 0) 10 h.1 in
     sym (take-append-drop k s)
-        ∙ ap (λ z. take k s ++ z) (d ∙ (ap (λ z. z ∷ drop (suc k) s) b ∙ ap (λ z. 10 ∷ drop z s) (sym (add-one k))))
+    ∙ ap (λ z. take k s ++ z) (d ∙ (ap (λ z. z ∷ drop (suc k) s) b ∙ ap (λ z. 10 ∷ drop z s) (sym (add-one k))))
 
 -- up to and with it
 pub lf_front : (s : List ℕ) (k : ℕ) → IsFirstByte (is_byte 10) s (Some k) → take (k + 1) s ≡ take k s ++ 10 ∷ []
@@ -23,8 +23,8 @@ lf_front s k h = ap (λ z. take z s) (add-one k)
 pub NoLf-before : (s : List ℕ) (k : ℕ) → IsFirstByte (is_byte 10) s (Some k) → NoLf (take k s)
 NoLf-before s k h =
     NoLf-from_places (take k s)
-        (λ j lt e. h.0.before j (omega arith) (omega (arith, length-take k s))
-        (rw (← get_or-take k s j 0 (omega (arith, length-take k s))) e))
+    (λ j lt e. h.0.before j (omega arith) (omega (arith, length-take k s))
+    (rw (← get_or-take k s j 0 (omega (arith, length-take k s))) e))
 
 pub NoLf-nowhere : (s : List ℕ) → IsFirstByte (is_byte 10) s None → NoLf s
 NoLf-nowhere s h = NoLf-from_places s (λ j lt e. h j (omega arith) lt e)
@@ -42,7 +42,7 @@ pub piece_more : (piece done rest : List ℕ) (k : ℕ) → piece ≡ done ++ re
     → piece ≡ (done ++ (take k rest ++ 10 ∷ [])) ++ take (length rest - (k + 1)) (drop (k + 1) rest)
 piece_more piece done rest k e h = rw (left_after rest k h.0.high)
     (e ∙ (ap (λ z. done ++ z) (lf_found rest k h ∙ sym (append_assoc (take k rest) (10 ∷ []) (drop (k + 1) rest)))
-            ∙ sym (append_assoc done (take k rest ++ 10 ∷ []) (drop (k + 1) rest))))
+    ∙ sym (append_assoc done (take k rest ++ 10 ∷ []) (drop (k + 1) rest))))
 
 pub NoLf-not_found : (s : List ℕ) (r : Option ℕ) → IsFirstByte (is_byte 10) s r → ((k : ℕ) → r ≡ Some k → ⊥) → NoLf s
 NoLf-not_found s None h k = NoLf-nowhere s h

@@ -42,7 +42,7 @@ abbrev met : Box → List (List (Option ℤ)) → List AffineMap → Bool
 met box vs maps =
     let none : AffineMap = record { scale = pos 0; shift = pos 0 } in
     list_any (λ v. int_le (image (get_or maps 0 none) (number_on 0 v)) box.max_x) vs
-        && list_any (λ v. int_le box.min_x (image (get_or maps 0 none) (number_on 0 v))) vs
+    && list_any (λ v. int_le box.min_x (image (get_or maps 0 none) (number_on 0 v))) vs
     && list_any (λ v. int_le (image (get_or maps 1 none) (number_on 1 v)) box.max_y) vs
     && list_any (λ v. int_le box.min_y (image (get_or maps 1 none) (number_on 1 v))) vs
 

@@ -28,9 +28,11 @@ Widens-two xs ys a m b first then before is =
 
 -- the range of one number
 pub Widens-first : (n : ℤ) → Widens None (n ∷ []) (Some (n, n))
-Widens-first n before none = subst (λ (ns : List ℤ). IsRange (ns ++ n ∷ []) (Some (n, n))) (sym none)
-    (Contains-push [] n, Contains-push [] n,
-        All-cons (Within n n) n [] (omega (arith, ints), omega (arith, ints)) (All-nil (Within n n)))
+Widens-first n before none = subst (λ (ns : List ℤ). IsRange (ns ++ n ∷ []) (Some (n, n))) (sym none) (
+  Contains-push [] n,
+  Contains-push [] n,
+  All-cons (Within n n) n [] (omega (arith, ints), omega (arith, ints)) (All-nil (Within n n)),
+)
 
 -- one of the ends, or else the new number
 end : (before : List ℤ) (e n : ℤ) (x : ℤ) → Contains before e → (x ≡ e) ⊎ (x ≡ n) → Contains (before ++ n ∷ []) x
@@ -75,7 +77,7 @@ Widens-ends least greatest n =
     let low = least-low least n (int_lt n least) refl in
     let high = greatest-high greatest n (int_lt n greatest) refl in
     Widens-next least greatest (int_min least n) (int_max greatest n) n (least-one least n (int_lt n least) refl) low.0
-        low.1 (greatest-one greatest n (int_lt n greatest) refl) high.0 high.1
+    low.1 (greatest-one greatest n (int_lt n greatest) refl) high.0 high.1
 
 -- the range of some numbers and others
 either : (xs ys : List ℤ) (x y n : ℤ) → Contains xs x → Contains ys y → (n ≡ x) ⊎ (n ≡ y) → Contains (xs ++ ys) n
@@ -87,7 +89,7 @@ pub IsRange-two : (xs ys : List ℤ) (p q : Option (ℤ × ℤ)) → IsRange xs 
 IsRange-two xs ys None q a b = subst (λ (ns : List ℤ). IsRange (ns ++ ys) q) (sym a) b
 IsRange-two xs ys (Some p) None a b =
     subst (λ (ns : List ℤ). IsRange (xs ++ ns) (Some p)) (sym b)
-        (subst (λ (ns : List ℤ). IsRange ns (Some p)) (sym (append-nil xs)) a)
+    (subst (λ (ns : List ℤ). IsRange ns (Some p)) (sym (append-nil xs)) a)
 IsRange-two xs ys (Some p) (Some q) a b =
     let low = least-low p.0 q.0 (int_lt q.0 p.0) refl in
     let high = greatest-high p.1 q.1 (int_lt q.1 p.1) refl in
@@ -96,9 +98,9 @@ IsRange-two xs ys (Some p) (Some q) a b =
       either xs ys p.1 q.1 (int_max p.1 q.1) a.1 b.1 (greatest-one p.1 q.1 (int_lt q.1 p.1) refl),
       All-append all xs ys
           (All-weaker (Within p.0 p.1) all (λ x k. (omega (arith, ints, k.0, low.0), omega (arith, ints, k.1, high.0)))
-              xs a.2)
+          xs a.2)
           (All-weaker (Within q.0 q.1) all (λ x k. (omega (arith, ints, k.0, low.1), omega (arith, ints, k.1, high.1)))
-              ys b.2),
+          ys b.2),
     )
 
 -- the number of a vertex that is whole
@@ -126,9 +128,11 @@ Widening-start range all left e = record { rest = λ end w. subst (λ (ns : List
 pub Widening-step : (old range wider : Option (ℤ × ℤ)) (all whole left : List ℤ) (n : ℤ) → whole ≡ n ∷ left
     → Widens range (n ∷ []) wider → Widening old all range whole → Widening old all wider left
 Widening-step old range wider all whole left n e one h =
-    record { rest = λ end w.
-        h.rest end (subst (λ (ns : List ℤ). Widens range ns end) (sym e)
-            (Widens-two (n ∷ []) left range wider end one w)) }
+    record {
+      rest = λ end w.
+          h.rest end (subst (λ (ns : List ℤ). Widens range ns end) (sym e)
+          (Widens-two (n ∷ []) left range wider end one w));
+    }
 
 -- at the end none is left
 pub Widening-end : (old range : Option (ℤ × ℤ)) (all left : List ℤ) → left ≡ [] → Widening old all range left
@@ -174,9 +178,11 @@ words-widened low high w l h r n is_low is_high words word =
     let d = greatest-word high w h b n is_high words.3 word in
     let c1 = c.3 in let c2 = c.4 in let d1 = d.3 in let d2 = d.4 in
     let wide = Widens-next (pos a) (pos b) (pos c.0) (pos d.0) (pos n) c.2 (omega (arith, ints, c1))
-        (omega (arith, ints, c2)) d.2 (omega (arith, ints, d1)) (omega (arith, ints, d2)) in
-    ((pos c.0, pos d.0), (c.0, d.0, c.1, d.1, refl),
-        subst (λ (q : ℤ × ℤ). Widens (Some q) (pos n ∷ []) (Some (pos c.0, pos d.0))) (sym words.4) wide)
+    (omega (arith, ints, c2)) d.2 (omega (arith, ints, d1)) (omega (arith, ints, d2)) in (
+      (pos c.0, pos d.0),
+      (c.0, d.0, c.1, d.1, refl),
+      subst (λ (q : ℤ × ℤ). Widens (Some q) (pos n ∷ []) (Some (pos c.0, pos d.0))) (sym words.4) wide,
+    )
 
 -- ---- the range of the numbers before those that are left
 
@@ -198,14 +204,17 @@ pub words-next : (axis : ℕ) (old : ℕ × ℕ) (start : List ℤ) (words wider
     (whole left : List (List (Option ℤ))) (v : List (Option ℤ)) → whole ≡ v ∷ left → (n : ℕ) × IsWordOf w n
     × (number_on axis v ≡ pos n)
     → ((r : ℤ × ℤ) (n : ℕ) → AreWordsOf words r → IsWordOf w n → (s : ℤ × ℤ) × AreWordsOf wider_words s
-        × Widens (Some r) (pos n ∷ []) (Some s))
+    × Widens (Some r) (pos n ∷ []) (Some s))
     → WidensWords old start words (map (number_on axis) whole)
     → WidensWords old start wider_words (map (number_on axis) left)
 words-next axis old start words wider_words w whole left v is has widened h all r are front =
     let before = h all r are front in
-    let wide = widened before.0 has.0 before.1 has.1 in
-    (wide.0, wide.1, front-next all (Some before.0) (Some wide.0) (map (number_on axis) whole)
-        (map (number_on axis) left) (pos has.0) (axis-next axis whole left v (pos has.0) is has.2) wide.2 before.2)
+    let wide = widened before.0 has.0 before.1 has.1 in (
+      wide.0,
+      wide.1,
+      front-next all (Some before.0) (Some wide.0) (map (number_on axis) whole)
+          (map (number_on axis) left) (pos has.0) (axis-next axis whole left v (pos has.0) is has.2) wide.2 before.2,
+    )
 
 pub words-same : (words : ℕ × ℕ) (left : List ℤ) → WidensWords words left words left
 words-same words left all r are front = (r, are, front)
@@ -220,9 +229,11 @@ words-first : (axis w : ℕ) (whole left : List (List (Option ℤ))) (v : List (
     × IsWordOf w n × (number_on axis v ≡ pos n)
     → (r : ℤ × ℤ) × AreWordsOf (w, w) r × RangesFront (map (number_on axis) whole) (Some r) (map (number_on axis) left)
 words-first axis w whole left v is has =
-    let n = pos has.0 in
-    ((n, n), (has.0, has.0, has.1, has.1, refl),
-        record { front = n ∷ []; joined = axis-next axis whole left v n is has.2; range_is = Widens-first n [] refl })
+    let n = pos has.0 in (
+      (n, n),
+      (has.0, has.0, has.1, has.1, refl),
+      record { front = n ∷ []; joined = axis-next axis whole left v n is has.2; range_is = Widens-first n [] refl },
+    )
 
 -- the range of one vertex and of those after it that words are widened by
 pub words-passed : (axis w : ℕ) (whole mid left : List (List (Option ℤ))) (v : List (Option ℤ)) (words : ℕ × ℕ)
@@ -247,4 +258,4 @@ front-widened all rest numbers old few joined end same f j w before is =
     let both = IsRange-two before f.front old few is f.range_is in
     let wide = w (before ++ f.front) (subst (λ (r : Option (ℤ × ℤ)). IsRange (before ++ f.front) r) (sym j) both) in
     subst (λ (ns : List ℤ). IsRange ns end)
-        (append_assoc before f.front rest ∙ ap (λ ns. before ++ ns) (sym f.joined ∙ sym same)) wide
+    (append_assoc before f.front rest ∙ ap (λ ns. before ++ ns) (sym f.joined ∙ sym same)) wide

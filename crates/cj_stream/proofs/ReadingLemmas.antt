@@ -129,7 +129,7 @@ module _ (f g : Reading) (p part : List ℕ) (h : Reads f p) (s : Stores f part 
       go (inl w) =
           let whole = held-whole f (begun p) h.begun w.held in
           let short : length (begun p ++ part) ≤ f.rules.limits.line =
-              omega (arith, w.short, ap length whole.0, length-append (begun p) part) in
+          omega (arith, w.short, ap length whole.0, length-append (begun p) part) in
           let now = stored-short f.rules.limits.line (begun p ++ part) short in
           record {
             content = rw limit (grown w ∙ (ap (λ x. x ++ part) whole.0 ∙ sym now.0));
@@ -138,7 +138,7 @@ module _ (f g : Reading) (p part : List ℕ) (h : Reads f p) (s : Stores f part 
       go (inr (inl w)) =
           let whole = held-whole f (begun p) h.begun w.held in
           let long : f.rules.limits.line < length (begun p ++ part) =
-              omega (arith, w.long, ap length whole.0, length-append (begun p) part) in
+          omega (arith, w.long, ap length whole.0, length-append (begun p) part) in
           let now = stored-long f.rules.limits.line (begun p ++ part) long in
           let later = goes_on-later f.rules f.lines w.lenient in
           record {
@@ -148,7 +148,7 @@ module _ (f g : Reading) (p part : List ℕ) (h : Reads f p) (s : Stores f part 
       go (inr (inr w)) =
           let before = dropped-long f (begun p) h.begun w.0 in
           let long : f.rules.limits.line < length (begun p ++ part) =
-              omega (arith, before, length-append (begun p) part) in
+          omega (arith, before, length-append (begun p) part) in
           let now = stored-long f.rules.limits.line (begun p ++ part) long in
           let was = stored-long f.rules.limits.line (begun p) before in
           record {
@@ -189,12 +189,26 @@ module _ (f g : Reading) (p part : List ℕ) (h : Reads f p) (s : Stores f part 
       go (inl w) =
           let whole = held-whole f (begun p) h.begun w.held in
           let held : length f.line.elements ≡ length (begun p) = ap length (sym (begun_of-later f z) ∙ whole.0) in
-          omega (arith, (w.later z).0.peak, before, held, w.short, ap length whole.0,
-              length-append f.line.elements part, joined)
+          omega (
+            arith,
+            (w.later z).0.peak,
+            before,
+            held,
+            w.short,
+            ap length whole.0,
+            length-append f.line.elements part,
+            joined,
+          )
       go (inr (inl w)) =
           let whole = held-whole f (begun p) h.begun w.held in
-          omega (arith, w.line.peak, w.long, ap length whole.0, joined,
-              greatest-held f.rules.limits (later_of (closed p)))
+          omega (
+            arith,
+            w.line.peak,
+            w.long,
+            ap length whole.0,
+            joined,
+            greatest-held f.rules.limits (later_of (closed p)),
+          )
       go (inr (inr w)) = omega (arith, ap (λ x. x.line.peak) w.1, before, dropped-long f (begun p) h.begun w.0, joined)
 
   line_within-stored : IsWithin g.line
@@ -234,21 +248,21 @@ module _ (f g : Reading) (p part : List ℕ) (h : Reads f p) (s : Stores f part 
           let w = first-fits z in
           let whole = held-whole f (begun p) h.begun w.held in
           rw (more, begun-more p part n, none)
-              ((w.first z).0.elements ∙ ap (λ x. x ++ part) (sym (begun_of-first f z) ∙ whole.0))
+          ((w.first z).0.elements ∙ ap (λ x. x ++ part) (sym (begun_of-first f z) ∙ whole.0))
       header (inr z) = ap (λ x. x.elements) (same-header_later z)
           ∙ (h.header ∙ (first_of-some (closed p) (begun p) (begun (p ++ part)) (omega (arith, h.lines, z))
-              ∙ ap (λ x. first_of x (begun (p ++ part))) (sym more)))
+          ∙ ap (λ x. first_of x (begun (p ++ part))) (sym more)))
 
       line : (f.lines ≡ 0) ⊎ (0 < f.lines) → g.line.elements ≡ stored g.rules.limits.line (begun_later (p ++ part))
       line (inl z) =
           let none : closed p ≡ [] = none-from_length (closed p) (sym h.lines ∙ z) in
           let before = rw none at h.line in
           rw (more, none) (ap (λ x. x.elements) ((first-fits z).first z).1
-              ∙ (before ∙ ((stored-short f.rules.limits.line [] (omega arith)).0 ∙ sym nothing)))
+          ∙ (before ∙ ((stored-short f.rules.limits.line [] (omega arith)).0 ∙ sym nothing)))
       line (inr z) =
           let some : 0 < length (closed p) = omega (arith, h.lines, z) in
           rw (more, begun-more p part n, begun_after-some (closed p) (begun p ++ part) some)
-              (sym (begun_of-later g (omega (arith, s.lines, z))) ∙ IsBegun-stored.content)
+          (sym (begun_of-later g (omega (arith, s.lines, z))) ∙ IsBegun-stored.content)
 
       peak : (f.lines ≡ 0) ⊎ (0 < f.lines) → g.header.peak ≡ length g.header.elements
       peak (inl z) = let b = ((first-fits z).first z).0 in
@@ -327,7 +341,7 @@ module _ (f : Reading) (p : List ℕ) (h : Reads f p) where
       go [] e =
           let one : f.lines + 1 ≡ 1 = omega (arith, h.lines, ap length e) in
           first-verdict f.rules (f.lines + 1) (held_header f) (header_of f.rules (map ended_line (closed p))) c one
-              ∙ ap (λ n. verdict_at f.rules n (header_of f.rules (map ended_line (closed p))) c) number
+          ∙ ap (λ n. verdict_at f.rules n (header_of f.rules (map ended_line (closed p))) c) number
       go (d ∷ ds) e = ap (λ x. verdict_at f.rules (f.lines + 1) x c) (same-header d ds e)
           ∙ ap (λ n. verdict_at f.rules n (header_of f.rules (map ended_line (closed p))) c) number
 
@@ -339,7 +353,7 @@ module _ (f : Reading) (p : List ℕ) (h : Reads f p) where
       go [] e =
           let one : f.lines + 1 ≡ 1 = omega (arith, h.lines, ap length e) in
           first-item f.rules.limits.depth (f.lines + 1) (held_header f) (header_of f.rules (map ended_line (closed p)))
-              l one ∙ ap (λ n. item_at f.rules.limits.depth n (header_of f.rules (map ended_line (closed p))) l) number
+          l one ∙ ap (λ n. item_at f.rules.limits.depth n (header_of f.rules (map ended_line (closed p))) l) number
       go (d ∷ ds) e = ap (λ x. item_at f.rules.limits.depth (f.lines + 1) x l) (same-header d ds e)
           ∙ ap (λ n. item_at f.rules.limits.depth n (header_of f.rules (map ended_line (closed p))) l) number
 
@@ -351,8 +365,12 @@ pub kept_closed-lf : (rules : Rules) (p : List ℕ) (put : Bool)
     → kept_closed rules (p ++ 10 ∷ []) ≡ kept_closed rules p
     ++ (if put then item_after rules (map ended_line (closed p)) (ended_line (begun p)) ∷ [] else [])
 kept_closed-lf rules p put k =
-    rw (closed-lf p [], map_lines-append (closed p) (begun p ∷ []),
-        kept-append rules [] (map ended_line (closed p)) (map ended_line (begun p ∷ [])), k) refl
+    rw (
+      closed-lf p [],
+      map_lines-append (closed p) (begun p ∷ []),
+      kept-append rules [] (map ended_line (closed p)) (map ended_line (begun p ∷ [])),
+      k,
+    ) refl
 
 filter-append : {A : Type 0} (test : A → Bool) (xs ys : List A) → filter test (xs ++ ys) ≡ filter test xs
     ++ filter test ys
@@ -390,8 +408,8 @@ pub kept-next : (f g : Reading) (xs : List Line) (l : Line) (put refused : Bool)
     → g.kept ≡ length (filter is_feature (kept_from f.rules [] (xs ++ l ∷ [])))
 kept-next f g xs l put refused n k s e =
     rw (s.kept, kept-append f.rules [] xs (l ∷ []), ← e, n)
-        (count-feature put (nat_lt 0 (length xs)) (item_after f.rules xs l) f.kept (kept_from f.rules [] xs)
-        (after-feature f.rules xs l) k)
+    (count-feature put (nat_lt 0 (length xs)) (item_after f.rules xs l) f.kept (kept_from f.rules [] xs)
+    (after-feature f.rules xs l) k)
 
 pub greatest-append : (measure : List ℕ → ℕ) (cs : List (List ℕ)) (c : List ℕ)
     → greatest measure (cs ++ c ∷ []) ≡ max (greatest measure cs) (measure c)
@@ -404,7 +422,7 @@ max-zero n = omega arith
 -- the greatest of later contents by a measure of which nothing has 0, after one line more
 pub greatest-later : (measure : List ℕ → ℕ) → measure [] ≡ 0 → (cs : List (List ℕ)) (b : List ℕ)
     → max (greatest measure (later_of (cs ++ b ∷ []))) (measure []) ≡ max (greatest measure (later_of cs))
-        (measure (begun_after cs b))
+    (measure (begun_after cs b))
 greatest-later measure none [] b = refl
 greatest-later measure none (c ∷ cs) b = omega (arith, greatest-append measure cs b, none)
 
@@ -420,7 +438,7 @@ reported-append rules before (x ∷ xs) ys =
     let r = reported-append rules (before ++ x ∷ []) xs ys in
     let now = report_of (length before + 1) (verdict rules before x.content) in
     ap (λ z. now ++ z) (r ∙ ap (λ z. reported_from rules (before ++ x ∷ []) xs ++ reported_from rules z ys)
-        (before-more before x xs))
+    (before-more before x xs))
     ∙ sym (append_assoc now (reported_from rules (before ++ x ∷ []) xs) (reported_from rules (before ++ x ∷ xs) ys))
 
 -- a refused line
@@ -448,11 +466,14 @@ refused-next f g xs l put refused k s e =
     let v = verdict f.rules xs l.content in
     let now = report_of (length xs + 1) v in
     let count : length (report_of (length xs + 1) (verdict f.rules xs l.content)) ≡ (if refused then 1 else 0) =
-        rw e (count-reported (length xs + 1) v) in
-    rw (s.refused, reported-append f.rules [] xs (l ∷ []),
-        append-nil (report_of (length xs + 1) (verdict f.rules xs l.content)))
+    rw e (count-reported (length xs + 1) v) in
+    rw (
+      s.refused,
+      reported-append f.rules [] xs (l ∷ []),
+      append-nil (report_of (length xs + 1) (verdict f.rules xs l.content)),
+    )
     (one-more refused f.refused (length now) count
-        ∙ (ap (λ z. z + length now) k ∙ sym (length-append (reported_from f.rules [] xs) now)))
+    ∙ (ap (λ z. z + length now) k ∙ sym (length-append (reported_from f.rules [] xs) now)))
 
 pub Reads-passed : (f g : Reading) (p : List ℕ) (put refused : Bool) → Reads f p → Passes put refused f g
     → refusal_of f.rules (f.lines + 1) (next_verdict f (begun p)) ≡ None → put ≡ is_kept (next_verdict f (begun p))
@@ -461,29 +482,38 @@ pub Reads-passed : (f g : Reading) (p : List ℕ) (put refused : Bool) → Reads
 Reads-passed f g p put refused h s fine k bad = record {
   lines = rw (closed-lf p [], s.lines, h.lines) (sym (length-append (closed p) (begun p ∷ [])));
   begun = rw (begun-lf p [])
-      (record { content = begun_of-later g (omega (arith, s.lines)) ∙ (s.line.elements ∙ sym nothing.0);
-          dropped = s.dropped ∙ sym nothing.1 });
+      (record {
+        content = begun_of-later g (omega (arith, s.lines)) ∙ (s.line.elements ∙ sym nothing.0);
+        dropped = s.dropped ∙ sym nothing.1;
+      });
   lenient = λ d. absurd (true-false g.dropped d s.dropped);
   header = rw (closed-lf p [], begun-lf p [], s.header) (h.header ∙ sym (first_of-lf (closed p) (begun p)));
   line = rw (closed-lf p [], begun-lf p [], begun_after-empty (closed p ++ begun p ∷ []))
       (s.line.elements ∙ sym nothing.0);
-  good = rw (closed-lf p [], map_lines-append (closed p) (begun p ∷ []), s.rules,
-      refusal-append f.rules [] (map ended_line (closed p)) (map ended_line (begun p ∷ [])) h.good, ← is, ← at, fine)
+  good = rw (
+    closed-lf p [],
+    map_lines-append (closed p) (begun p ∷ []),
+    s.rules,
+    refusal-append f.rules [] (map ended_line (closed p)) (map ended_line (begun p ∷ [])) h.good,
+    ← is,
+    ← at,
+    fine,
+  )
       refl;
   kept =
       rw (closed-lf p [], map_lines-append (closed p) (begun p ∷ []), s.rules)
       (kept-next f g (map ended_line (closed p)) (ended_line (begun p)) put refused
-          (h.lines ∙ sym (length-map_lines (closed p))) h.kept s (k ∙ ap is_kept is));
+      (h.lines ∙ sym (length-map_lines (closed p))) h.kept s (k ∙ ap is_kept is));
   refused =
       rw (closed-lf p [], map_lines-append (closed p) (begun p ∷ []), s.rules)
       (refused-next f g (map ended_line (closed p)) (ended_line (begun p)) put refused h.refused s
-          (bad ∙ ap is_refused is));
+      (bad ∙ ap is_refused is));
   peak = rw s.header h.peak;
   line_peak =
       rw (closed-lf p [], begun-lf p [], begun_after-empty (closed p ++ begun p ∷ []), s.rules)
       (s.line.peak ∙ (ap (λ n. max n 0) h.line_peak
-              ∙ (max-zero _ ∙ sym (greatest-later (held_length f.rules.limits) (held-nothing f.rules.limits) (closed p)
-                  (begun p)))));
+      ∙ (max-zero _ ∙ sym (greatest-later (held_length f.rules.limits) (held-nothing f.rules.limits) (closed p)
+      (begun p)))));
   header_within = rw s.header h.header_within;
   line_within = s.line.within;
 }

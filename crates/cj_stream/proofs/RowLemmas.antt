@@ -125,21 +125,21 @@ header_tight t = sound 1 t small_header plain_header header_json (lit≤ tt) 116
 euro_second : verdict_at wide_rules 2 (tree_of 64 small_header) euro_feature ≡ Valid
 euro_second =
     rw header_tree (sound 2 plain_header euro_feature euro_tree euro_json (lit≤ tt) 8388608 (lit≤ tt) euro_text refl
-        ∙ tree-valid wide_rules 2 plain_header euro_tree euro_feature-valid (holds-everything plain_header euro_tree))
+    ∙ tree-valid wide_rules 2 plain_header euro_tree euro_feature-valid (holds-everything plain_header euro_tree))
 
 feature_second : verdict_at wide_rules 2 (tree_of 64 small_header) small_feature ≡ Valid
 feature_second =
     rw header_tree (sound 2 plain_header small_feature plain_feature.tree feature_json (lit≤ tt) 8388608
-        (lit≤ tt) feature_text refl
-        ∙ tree-valid wide_rules 2 plain_header plain_feature.tree plain_feature-valid
-        (holds-everything plain_header plain_feature.tree))
+    (lit≤ tt) feature_text refl
+    ∙ tree-valid wide_rules 2 plain_header plain_feature.tree plain_feature-valid
+    (holds-everything plain_header plain_feature.tree))
 
 pub feature_third : verdict_at wide_rules 3 (tree_of 64 small_header) small_feature ≡ Valid
 feature_third =
     rw header_tree (sound 3 plain_header small_feature plain_feature.tree feature_json (lit≤ tt) 8388608
-        (lit≤ tt) feature_text refl
-        ∙ tree-valid wide_rules 3 plain_header plain_feature.tree plain_feature-valid
-        (holds-everything plain_header plain_feature.tree))
+    (lit≤ tt) feature_text refl
+    ∙ tree-valid wide_rules 3 plain_header plain_feature.tree plain_feature-valid
+    (holds-everything plain_header plain_feature.tree))
 
 pub feature_first : (t : Tree) → verdict_at wide_rules 1 t small_feature ≡ Refuse 0 MissingMember
 feature_first t = sound 1 t small_feature plain_feature.tree feature_json (lit≤ tt) 8388608 (lit≤ tt) feature_text refl
@@ -148,12 +148,12 @@ feature_first t = sound 1 t small_feature plain_feature.tree feature_json (lit�
 header_second : verdict_at wide_rules 2 (tree_of 64 small_header) small_header ≡ Refuse 0 MissingMember
 header_second =
     rw header_tree (sound 2 plain_header small_header plain_header header_json (lit≤ tt) 8388608 (lit≤ tt) header_text
-        refl ∙ ap (by_least (is_kept_if_valid wide_rules 2 plain_header plain_header)) header-no_feature)
+    refl ∙ ap (by_least (is_kept_if_valid wide_rules 2 plain_header plain_header)) header-no_feature)
 
 lost_third : verdict_at wide_rules 3 (tree_of 64 small_header) lost_feature ≡ Refuse 31 IdNotFound
 lost_third =
     rw header_tree (sound 3 plain_header lost_feature other_id.tree lost_json (lit≤ tt) 8388608 (lit≤ tt) lost_text refl
-        ∙ ap (by_least (is_kept_if_valid wide_rules 3 plain_header other_id.tree)) other_id-refused)
+    ∙ ap (by_least (is_kept_if_valid wide_rules 3 plain_header other_id.tree)) other_id-refused)
 
 -- what is no JSON text is refused whatever the header
 abbrev cut : List ℕ
@@ -258,12 +258,12 @@ module _ (l : Line) (same : l.content ≡ small_header ++ 32 ∷ []) where
       × (written tight_rules (ended_line small_header ∷ l ∷ []) ≡ small_header ++ 10 ∷ [])
   long_second =
       second-refused tight_rules 116 LineTooLong (ended_line small_header) (header_tight _) refl l []
-          (rw same (verdict-long tight_rules 2 (tree_of 64 small_header) (small_header ++ 32 ∷ []) (lit< tt)))
+      (rw same (verdict-long tight_rules 2 (tree_of 64 small_header) (small_header ++ 32 ∷ []) (lit< tt)))
 
   long_first : (ending_of tight_rules (l ∷ []) ≡ Refused 1 116 LineTooLong) × (written tight_rules (l ∷ []) ≡ [])
   long_first =
       first-refused tight_rules 116 LineTooLong l []
-          (rw same (verdict-long tight_rules 1 (tree_of 64 []) (small_header ++ 32 ∷ []) (lit< tt)))
+      (rw same (verdict-long tight_rules 1 (tree_of 64 []) (small_header ++ 32 ∷ []) (lit< tt)))
 
 pub long : LongRow
 long = (

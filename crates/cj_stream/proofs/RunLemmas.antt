@@ -71,7 +71,7 @@ pub refusal-stays : (rules : Rules) (before xs ys : List Line) (e : End) → ref
 refusal-stays rules before [] ys e h = absurd (none-some e h)
 refusal-stays rules before (x ∷ xs) ys e h =
     step (refusal_of rules (length before + 1) (verdict rules before x.content)) _ _
-        (refusal-stays rules (before ++ x ∷ []) xs ys e) h
+    (refusal-stays rules (before ++ x ∷ []) xs ys e) h
   where
     step : (first rest all : Option End) → (rest ≡ Some e → all ≡ Some e) → cond (is_some first) first rest ≡ Some e
         → cond (is_some first) first all ≡ Some e
@@ -229,9 +229,17 @@ least-going e r reads scanned =
 
 -- memory was refused before the first read
 pub Stops-memory : (rules : Rules)
-    → StopsInTime (record { rules = rules; read = [];
-        outcome = record { lines = 0; kept = 0; refused = 0; peaks = record { bytes = 0; tokens = 0; depth = 0 };
-            ended = Memory } })
+    → StopsInTime (record {
+      rules = rules;
+      read = [];
+      outcome = record {
+        lines = 0;
+        kept = 0;
+        refused = 0;
+        peaks = record { bytes = 0; tokens = 0; depth = 0 };
+        ended = Memory;
+      };
+    })
 Stops-memory rules = record {
   front = [];
   last = [];

@@ -56,7 +56,7 @@ readable-more : (limits : LimitPair) (ds : List (List ℕ)) (c : List ℕ)
     → (list_all (is_readable limits) ds ≡ true) × (is_readable limits c ≡ true)
 readable-more limits ds c h =
     let both = and-both (list_all (is_readable limits) ds) (list_all (is_readable limits) (c ∷ []))
-        (sym (list_all-append (is_readable limits) ds (c ∷ [])) ∙ h) in
+    (sym (list_all-append (is_readable limits) ds (c ∷ [])) ∙ h) in
     (both.0, (and-both (is_readable limits c) true both.1).0)
 
 -- a later line more: the greater of what was held and of what it holds
@@ -198,7 +198,7 @@ module _ (f g : Reading) (p part : List ℕ) (now mid new : Scanning) (reads : R
   pub scanned-line : ScansNext g mid new → Scanned f.rules.limits (closed (p ++ (part ++ 10 ∷ []))) new
   scanned-line deal =
       let k = deal (closed p) (begun p ++ part) (sym (st.lines ∙ reads.lines)) (IsBegun-stored f g p part reads st)
-          before in
+      before in
       let j = rw st.rules at k in
       rw (closed-line p part n) j
 
@@ -206,10 +206,10 @@ module _ (f g : Reading) (p part : List ℕ) (now mid new : Scanning) (reads : R
       → HoldsFew f.rules.limits (length (first_content (p ++ (part ++ 10 ∷ more)))) new
   few-line more deal =
       let k = deal (closed p) (begun p ++ part) (sym (st.lines ∙ reads.lines)) (IsBegun-stored f g p part reads st)
-          before in
+      before in
       let j = rw st.rules at k in
       few-more f.rules.limits (length (first_of (closed p) (begun p ++ part)))
-          (length (first_content (p ++ (part ++ 10 ∷ more)))) new (first-part p part more n) j
+      (length (first_content (p ++ (part ++ 10 ∷ more)))) new (first-part p part more n) j
 
 -- bytes without LF end no line
 pub scanned-begun : (limits : LimitPair) (p part : List ℕ) (f g : Scanning) → NoLf part → g ≡ f

@@ -57,7 +57,7 @@ module _ (rules : Rules) (e : Line) where
       → kept_from rules (e ∷ []) (cond stays (l ∷ ms) ms) ≡ kept_from rules (e ∷ []) (l ∷ zs)
   kept-step l true zs ms left same =
       ap (λ z. cond (is_kept (verdict rules (e ∷ []) l.content)) (item_after rules (e ∷ []) l ∷ z) z)
-          (kept-after l zs ms same)
+      (kept-after l zs ms same)
   kept-step l false zs ms left same = rw (left refl) (same ∙ sym (kept-moved rules e (l ∷ []) [] zs))
 
   -- the same is kept of them
@@ -66,7 +66,7 @@ module _ (rules : Rules) (e : Line) where
   kept-staying [] h = refl
   kept-staying (x ∷ xs) h =
       kept-step x.0 x.1 (all_lines xs) (staying xs) (h 0 x (omega arith))
-          (kept-staying xs (λ k d small. h (suc k) d (omega (arith, small))))
+      (kept-staying xs (λ k d small. h (suc k) d (omega (arith, small))))
 
 module _ (rules : Rules) (h a b : List ℕ) (xs : List (Line × Bool)) (free : NoLf h) (all : lines a ≡ all_lines xs)
     (some : lines b ≡ staying xs)
@@ -83,7 +83,7 @@ module _ (rules : Rules) (h a b : List ℕ) (xs : List (Line × Bool)) (free : N
   none-part : refusal_in rules (ended_line h ∷ staying xs) ≡ None
   none-part =
       let both = first-none (refusal_of rules 1 (verdict rules [] h))
-          (refusal_from rules (ended_line h ∷ []) (all_lines xs)) none-whole in
+      (refusal_from rules (ended_line h ∷ []) (all_lines xs)) none-whole in
       let later = none-staying rules (ended_line h) xs both.1 in
       rw (both.0, later) refl
 
@@ -93,13 +93,13 @@ module _ (rules : Rules) (h a b : List ℕ) (xs : List (Line × Bool)) (free : N
   pub kept-selection : kept rules (headed h b) ≡ kept rules (headed h a)
   kept-selection =
       let of_part =
-          ap (λ z. kept_from rules [] z)
-              (ap (λ z. good_from rules [] z) part ∙ good-all rules [] (ended_line h ∷ staying xs) none-part) in
+      ap (λ z. kept_from rules [] z)
+      (ap (λ z. good_from rules [] z) part ∙ good-all rules [] (ended_line h ∷ staying xs) none-part) in
       let of_whole =
-          ap (λ z. kept_from rules [] z)
-              (ap (λ z. good_from rules [] z) whole ∙ good-all rules [] (ended_line h ∷ all_lines xs) none-whole) in
+      ap (λ z. kept_from rules [] z)
+      (ap (λ z. good_from rules [] z) whole ∙ good-all rules [] (ended_line h ∷ all_lines xs) none-whole) in
       let same = ap (λ z. cond (is_kept (verdict rules [] h)) (item_after rules [] (ended_line h) ∷ z) z)
-          (kept-staying rules (ended_line h) xs left) in
+      (kept-staying rules (ended_line h) xs left) in
       of_part ∙ (same ∙ sym of_whole)
 
   pub output-selection : output rules (headed h b) ≡ output rules (headed h a)

@@ -18,8 +18,8 @@ use Rattle.cj_stream.specs.Verdict.{Rules, kept, stream_of}
 both : (a b : CountSink) → a.headers ≡ b.headers → a.features ≡ b.features → a ≡ b
 both a b h k =
     let first : ◌≡◌ {A = CountSink} (record { headers = a.headers; features = a.features })
-        (record { headers = b.headers; features = a.features }) =
-        ap (λ z. record { headers = z; features = a.features }) h in
+    (record { headers = b.headers; features = a.features }) =
+    ap (λ z. record { headers = z; features = a.features }) h in
     first ∙ ap (λ z. record { headers = b.headers; features = z }) k
 
 -- a sink that counted some items goes up by them
@@ -35,9 +35,9 @@ counts-more a b (i ∷ is) h k took = step i.header (λ p q. counts-more took.0 
         × (b.features ≡ min (took.0.features + length (filter is_feature is)) (2 ^ 64 - 1)))
         → CountsBy a o took.0
         → (b.headers ≡ min (a.headers + length (cond (not (is_some o)) (i ∷ filter is_header is) (filter is_header is)))
-            (2 ^ 64 - 1))
+        (2 ^ 64 - 1))
         × (b.features ≡ min (a.features + length (cond (is_some o) (i ∷ filter is_feature is) (filter is_feature is)))
-            (2 ^ 64 - 1))
+        (2 ^ 64 - 1))
     step None more c =
         let later = more (omega (arith, c.0)) (omega (arith, c.1, k)) in
         (omega (arith, later.0, c.0), omega (arith, later.1, c.1))

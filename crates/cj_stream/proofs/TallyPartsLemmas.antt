@@ -34,7 +34,7 @@ no-header rules l xs (z ∷ zs) = go (is_kept (verdict rules (l ∷ xs) z.conten
 
     go : (b : Bool) → filter is_header (kept_from rules (l ∷ xs ++ z ∷ []) zs) ≡ []
         → filter is_header (cond b (item_after rules (l ∷ xs) z ∷ kept_from rules (l ∷ xs ++ z ∷ []) zs)
-            (kept_from rules (l ∷ xs ++ z ∷ []) zs)) ≡ []
+        (kept_from rules (l ∷ xs ++ z ∷ []) zs)) ≡ []
     go true k = rw feature k
     go false k = k
 
@@ -45,7 +45,7 @@ module _ (rules : Rules) (h a b : List ℕ) (cut : IsCut h a) (done : ending rul
   later-kept =
       ap (λ z. later_of (kept_from rules [] z)) (back-good rules h a cut done b)
       ∙ ap later_of (kept-first rules (ended_line h) (header-valid rules h a cut done)
-          (later_of (good rules (headed h b))))
+      (later_of (good rules (headed h b))))
 
   -- what features of both parts have
   over-parts : {X : Type 0} (part : Tree → Tree → List X)
@@ -66,9 +66,9 @@ module _ (rules : Rules) (h a b : List ℕ) (cut : IsCut h a) (done : ending rul
       let xs = over_features part (kept rules (headed h a)) in
       let ys = over_features part (kept rules (headed h b)) in
       let sum : how_often n (over_features part (kept rules (headed h (a ++ b)))) ≡ how_often n xs + how_often n ys =
-          ap (how_often n) (over-parts part) ∙ how_often-append n xs ys in
+      ap (how_often n) (over-parts part) ∙ how_often-append n xs ys in
       three x y z (how_often n xs) (how_often n ys) (how_often n (over_features part (kept rules (headed h (a ++ b)))))
-          p q r sum
+      p q r sum
     where
       three : (x y z i j k : ℕ) → x ≡ capped i → y ≡ capped j → z ≡ capped (x + y) → k ≡ i + j → z ≡ capped k
       three x y z i j k p q r sum = omega (arith, p, q, r, sum)
@@ -78,17 +78,17 @@ module _ (rules : Rules) (h a b : List ℕ) (cut : IsCut h a) (done : ending rul
       let first = kept rules (headed h a) in
       let others = later_of (kept rules (headed h b)) in
       let none : filter is_header others ≡ [] = ap (filter is_header) later-kept
-          ∙ no-header rules (ended_line h) [] (later_of (good rules (headed h b))) in
+      ∙ no-header rules (ended_line h) [] (later_of (good rules (headed h b))) in
       ap (filter is_header) (kept-parts rules h a cut done b)
       ∙ (filter-append is_header first others
-          ∙ (ap (λ z. filter is_header first ++ z) none ∙ append-nil (filter is_header first)))
+      ∙ (ap (λ z. filter is_header first ++ z) none ∙ append-nil (filter is_header first)))
 
   shown-parts : (name : List ℕ) (first both : Option (List Number))
       → option_map (map Some) first ≡ last_shown name (kept rules (headed h a)) → both ≡ first
       → option_map (map Some) both ≡ last_shown name (kept rules (headed h (a ++ b)))
   shown-parts name first both shown same =
       ap (option_map (map Some)) same
-          ∙ (shown ∙ sym (ap (λ z. last_or None (map (λ i. transform_values (chars name) i.tree) z)) headers-parts))
+      ∙ (shown ∙ sym (ap (λ z. last_or None (map (λ i. transform_values (chars name) i.tree) z)) headers-parts))
 
   pub tally-parts : (first second both : Tally) → IsTallyOf (kept rules (headed h a)) first
       → IsTallyOf (kept rules (headed h b)) second → JoinsTallies first second both
@@ -105,10 +105,10 @@ module _ (rules : Rules) (h a b : List ℕ) (cut : IsCut h a) (done : ending rul
         let xs = over_features (λ header. numbers_on axis) (kept rules (headed h a)) in
         let ys = over_features (λ header. numbers_on axis) (kept rules (headed h b)) in
         subst (λ (r : Option (ℤ × ℤ)).
-            IsRange (over_features (λ header. numbers_on axis) (kept rules (headed h (a ++ b)))) r)
-            (sym (joins.ranges axis inside))
+        IsRange (over_features (λ header. numbers_on axis) (kept rules (headed h (a ++ b)))) r)
+        (sym (joins.ranges axis inside))
         (subst (λ (ns : List ℤ). IsRange ns (wider (get_or first.ranges axis None) (get_or second.ranges axis None)))
-            (sym (over-parts (λ header. numbers_on axis)))
+        (sym (over-parts (λ header. numbers_on axis)))
         (IsRange-two xs ys _ _ of_first of_second));
     scale = shown-parts (codes "scale") first.scale both.scale x.scale joins.scale;
     translate = shown-parts (codes "translate") first.translate both.translate x.translate joins.translate;

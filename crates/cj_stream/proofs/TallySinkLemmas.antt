@@ -31,7 +31,7 @@ how_often-append n xs ys = ap length (filter-append (nat_eq n) xs ys)
 module _ (count : Tally → ℕ) (own : Item → ℕ) (sum : List Item → ℕ)
     (none : sum [] ≡ 0) (some : (i : Item) (is : List Item) → sum (i ∷ is) ≡ own i + sum is)
     (step : (a : Tally) (i : Item) (b : Tally) → Tallies a i b → count a ≤ 2 ^ 64 - 1
-        → count b ≡ capped (count a + own i)) where
+    → count b ≡ capped (count a + own i)) where
   count-more : (a b : Tally) (is : List Item) → count a ≤ 2 ^ 64 - 1 → Took Tallies a is b
       → count b ≡ capped (count a + sum is)
   count-more a b [] fits took = omega (arith, ap count took, none, fits)
@@ -73,7 +73,7 @@ types-more : (n : ℕ) → n < 33 → (a b : Tally) (is : List Item) → get_or 
     → get_or b.types n 0 ≡ capped (get_or a.types n 0 + how_often n (over_features (λ header t. type_numbers t) is))
 types-more n inside =
     count-more (λ t. get_or t.types n 0) (λ i. how_often n (beside (λ header t. type_numbers t) i.header i.tree))
-        (λ is. how_often n (over_features (λ header t. type_numbers t) is)) refl
+    (λ is. how_often n (over_features (λ header t. type_numbers t) is)) refl
     (often-some (λ header t. type_numbers t) n) (λ a i b. step a i.header i.tree b)
   where
     step : (a : Tally) (o : Option Tree) (t : Tree) (b : Tally) → TalliesBy a o t b → get_or a.types n 0 ≤ 2 ^ 64 - 1
@@ -98,17 +98,17 @@ ranges-more : (axis : ℕ) → axis < 3 → (a b : Tally) (is : List Item) → T
     → Widens (get_or a.ranges axis None) (over_features (λ header. numbers_on axis) is) (get_or b.ranges axis None)
 ranges-more axis inside a b [] took =
     subst (λ (t : Tally). Widens (get_or a.ranges axis None) [] (get_or t.ranges axis None)) (sym took)
-        (Widens-no (get_or a.ranges axis None))
+    (Widens-no (get_or a.ranges axis None))
 ranges-more axis inside a b (i ∷ is) took =
     Widens-two (beside (λ header. numbers_on axis) i.header i.tree) (over_features (λ header. numbers_on axis) is)
-        (get_or a.ranges axis None) (get_or took.0.ranges axis None) (get_or b.ranges axis None)
+    (get_or a.ranges axis None) (get_or took.0.ranges axis None) (get_or b.ranges axis None)
     (step i.header i.tree took.0 took.1) (ranges-more axis inside took.0 b is took.2)
   where
     step : (o : Option Tree) (t : Tree) (m : Tally) → TalliesBy a o t m
         → Widens (get_or a.ranges axis None) (beside (λ header. numbers_on axis) o t) (get_or m.ranges axis None)
     step None t m h =
         subst (λ (rs : List (Option (ℤ × ℤ))). Widens (get_or a.ranges axis None) [] (get_or rs axis None))
-            (sym h.ranges) (Widens-no (get_or a.ranges axis None))
+        (sym h.ranges) (Widens-no (get_or a.ranges axis None))
     step (Some header) t m h = h.ranges axis inside
 
 -- ---- the transform
@@ -120,26 +120,27 @@ IsSet name (Some header) t old new = new ≡ old
 
 module _ (name : List ℕ) (numbers : Tally → Option (List Number))
     (step : (a : Tally) (i : Item) (b : Tally) → Tallies a i b → IsSet name i.header i.tree (numbers a) (numbers b))
-        where
-  -- numbers that each header sets are those of the last one
-  shown-more : (a b : Tally) (is : List Item) → Took Tallies a is b
-      → option_map (map Some) (numbers b) ≡ last_or (option_map (map Some) (numbers a))
-          (map (λ i. transform_values (chars name) i.tree) (filter is_header is))
-  shown-more a b [] took = ap (λ t. option_map (map Some) (numbers t)) took
-  shown-more a b (i ∷ is) took =
-      one i.header i.tree took.0 i (filter is_header is) (step a i took.0 took.1) refl (shown-more took.0 b is took.2)
-    where
-      one : (o : Option Tree) (t : Tree) (m : Tally) (j : Item) (rest : List Item)
-          → IsSet name o t (numbers a) (numbers m) → j.tree ≡ t
-          → option_map (map Some) (numbers b) ≡ last_or (option_map (map Some) (numbers m))
-              (map (λ k. transform_values (chars name) k.tree) rest)
-          → option_map (map Some) (numbers b) ≡ last_or (option_map (map Some) (numbers a))
-              (map (λ k. transform_values (chars name) k.tree) (cond (not (is_some o)) (j ∷ rest) rest))
-      one None t m j rest set same later =
-          later ∙ ap (λ o. last_or o (map (λ k. transform_values (chars name) k.tree) rest))
-              (set ∙ ap (λ u. Some (transform_values (chars name) u)) (sym same))
-      one (Some header) t m j rest set same later =
-          later ∙ ap (λ o. last_or (option_map (map Some) o) (map (λ k. transform_values (chars name) k.tree) rest)) set
+  where
+    -- numbers that each header sets are those of the last one
+    shown-more : (a b : Tally) (is : List Item) → Took Tallies a is b
+        → option_map (map Some) (numbers b) ≡ last_or (option_map (map Some) (numbers a))
+        (map (λ i. transform_values (chars name) i.tree) (filter is_header is))
+    shown-more a b [] took = ap (λ t. option_map (map Some) (numbers t)) took
+    shown-more a b (i ∷ is) took =
+        one i.header i.tree took.0 i (filter is_header is) (step a i took.0 took.1) refl (shown-more took.0 b is took.2)
+      where
+        one : (o : Option Tree) (t : Tree) (m : Tally) (j : Item) (rest : List Item)
+            → IsSet name o t (numbers a) (numbers m) → j.tree ≡ t
+            → option_map (map Some) (numbers b) ≡ last_or (option_map (map Some) (numbers m))
+            (map (λ k. transform_values (chars name) k.tree) rest)
+            → option_map (map Some) (numbers b) ≡ last_or (option_map (map Some) (numbers a))
+            (map (λ k. transform_values (chars name) k.tree) (cond (not (is_some o)) (j ∷ rest) rest))
+        one None t m j rest set same later =
+            later ∙ ap (λ o. last_or o (map (λ k. transform_values (chars name) k.tree) rest))
+            (set ∙ ap (λ u. Some (transform_values (chars name) u)) (sym same))
+        one (Some header) t m j rest set same later =
+            later ∙ ap (λ o. last_or (option_map (map Some) o) (map (λ k. transform_values (chars name) k.tree) rest))
+            set
 
 scale-set : (a : Tally) (o : Option Tree) (t : Tree) (b : Tally) → TalliesBy a o t b
     → IsSet (codes "scale") o t a.scale b.scale
@@ -169,9 +170,11 @@ tally-new : (t : Tally) (is : List Item) → Took Tallies no_tally is t → IsTa
 tally-new t is took = record {
   features = omega (arith, features-more no_tally t is (omega arith) took);
   types = λ n b. omega (arith, types-more n b no_tally t is (omega (arith, zeros 33 n b)) took, zeros 33 n b);
-  lods = λ n b. omega (arith,
-      lods-more n (omega (arith, b)) no_tally t is (omega (arith, zeros 6 n (omega (arith, b)))) took,
-      zeros 6 n (omega (arith, b)));
+  lods = λ n b. omega (
+    arith,
+    lods-more n (omega (arith, b)) no_tally t is (omega (arith, zeros 6 n (omega (arith, b)))) took,
+    zeros 6 n (omega (arith, b)),
+  );
   ranges = λ axis b. subst
       (λ (r : Option (ℤ × ℤ)). Widens r (over_features (λ header. numbers_on axis) is) (get_or t.ranges axis None))
       (no_ranges 3 axis) (ranges-more axis b no_tally t is took) [] refl;
@@ -196,8 +199,12 @@ TalliesRun-puts rules r start t ReadFault new h = tally-all start t (kept rules 
 TalliesRun-puts rules r start t ReadLimit new h = tally-all start t (kept rules (whole r)) new h
 TalliesRun-puts rules r start t WriteFault new h = never h.others h.middle t h.left
 TalliesRun-puts rules r start t Memory new h =
-    record { more = h.more; others = h.others; front = h.front;
-        tally = tally-all start t h.more new (rw h.left h.took) }
+    record {
+      more = h.more;
+      others = h.others;
+      front = h.front;
+      tally = tally-all start t h.more new (rw h.left h.took);
+    }
 
 -- what was tallied of pieces
 pub TalliesPieces-puts : (rules : Rules) (pieces : List (List ℕ)) (n : ℕ) (start t : Tally) (e : End) → start ≡ no_tally

@@ -91,8 +91,8 @@ verdict-first rules x y c = go (judgement c rules.limits.depth)
         (cond (not (is_utf8 c)) (Refuse (utf8_valid_len c) NotUtf8)
         (cond (nat_lt 1 1 && list_all is_blank_byte c) Blank (text_verdict rules 1 x j)))
         ≡ cond (ltb rules.limits.line (length c)) (Refuse rules.limits.line LineTooLong)
-            (cond (not (is_utf8 c)) (Refuse (utf8_valid_len c) NotUtf8)
-            (cond (nat_lt 1 1 && list_all is_blank_byte c) Blank (text_verdict rules 1 y j)))
+        (cond (not (is_utf8 c)) (Refuse (utf8_valid_len c) NotUtf8)
+        (cond (nat_lt 1 1 && list_all is_blank_byte c) Blank (text_verdict rules 1 y j)))
     go (spelled t json n) = refl
     go (broken i s n) = refl
     go (sunk i s) = refl
@@ -131,12 +131,12 @@ pub blank-is : (rules : Rules) (n : ℕ) (header : Tree) (c : List ℕ) → verd
 unfolding verdict_at
 blank-is rules n header c h = let k =
     go (ltb rules.limits.line (length c)) (is_utf8 c) (nat_lt 1 n) (list_all is_blank_byte c)
-        (judgement c rules.limits.depth) h in (ltb-true 1 n k.0, k.1)
+    (judgement c rules.limits.depth) h in (ltb-true 1 n k.0, k.1)
   where
     go : {d : ℕ} (long text later blank : Bool) (j : Judgement c d)
         → cond long (Refuse rules.limits.line LineTooLong)
-            (cond (not text) (Refuse (utf8_valid_len c) NotUtf8)
-            (cond (later && blank) Blank (text_verdict rules n header j))) ≡ Blank → (later ≡ true) × (blank ≡ true)
+        (cond (not text) (Refuse (utf8_valid_len c) NotUtf8)
+        (cond (later && blank) Blank (text_verdict rules n header j))) ≡ Blank → (later ≡ true) × (blank ≡ true)
     go true text later blank j e = cc
     go false false later blank j e = cc
     go false true true true j e = (refl, refl)
@@ -167,7 +167,7 @@ pub refusal-append : (rules : Rules) (before xs ys : List Line) → refusal_from
 refusal-append rules before [] ys h = rw (append-nil before) refl
 refusal-append rules before (x ∷ xs) ys h =
     let s = refusal-step (refusal_of rules (length before + 1) (verdict rules before x.content))
-        (refusal_from rules (before ++ x ∷ []) xs) h in
+    (refusal_from rules (before ++ x ∷ []) xs) h in
     let r = refusal-append rules (before ++ x ∷ []) xs ys s.1 in
     rw s.0 (r ∙ ap (λ z. refusal_from rules z ys) (before-more before x xs))
 
@@ -177,7 +177,7 @@ kept-append rules before [] ys = rw (append-nil before) refl
 kept-append rules before (x ∷ xs) ys =
     let r = kept-append rules (before ++ x ∷ []) xs ys in
     kept-cases (is_kept (verdict rules before x.content)) (item_after rules before x) _ _ _
-        (r ∙ ap (λ z. kept_from rules (before ++ x ∷ []) xs ++ kept_from rules z ys) (before-more before x xs))
+    (r ∙ ap (λ z. kept_from rules (before ++ x ∷ []) xs ++ kept_from rules z ys) (before-more before x xs))
   where
     kept-cases : (b : Bool) (x : Item) (all front back : List Item) → all ≡ front ++ back
         → cond b (x ∷ all) all ≡ cond b (x ∷ front) front ++ back

@@ -42,7 +42,7 @@ module _ (rules : Rules) (count features refusals : ℕ) (peaks : Peaks) where
       → Ends rules (joined (take (k + 1) pieces)) count (joined (take (k + 1) pieces) ≡ joined pieces) e → IsUnread e
       → IsUnhindered e
       → CountsAll rules (joined pieces)
-          (record { lines = count; kept = features; refused = refusals; peaks = peaks; ended = e })
+      (record { lines = count; kept = features; refused = refusals; peaks = peaks; ended = e })
   CountsAll-ends pieces k Complete h ends u free =
       rw (← ends.2) (all-counted (joined (take (k + 1) pieces)) Complete h ends.1)
   CountsAll-ends pieces k (Refused number place reason) h ends u free = go ends.2
@@ -53,8 +53,13 @@ module _ (rules : Rules) (count features refusals : ℕ) (peaks : Peaks) where
       go : (joined (take (k + 1) pieces) ≡ joined pieces)
           ⊎ (refusal_in rules (judged rules.limits (joined (take (k + 1) pieces))) ≡ Some (Refused number place reason))
           → CountsAll rules (joined pieces)
-              (record { lines = count; kept = features; refused = refusals; peaks = peaks;
-                  ended = Refused number place reason })
+          (record {
+            lines = count;
+            kept = features;
+            refused = refusals;
+            peaks = peaks;
+            ended = Refused number place reason;
+          })
       go (inl same) = rw (← same) (all-counted (joined (take (k + 1) pieces)) (Refused number place reason) h ends.1)
       go (inr told) =
           let end = Refused number place reason in
@@ -62,7 +67,7 @@ module _ (rules : Rules) (count features refusals : ℕ) (peaks : Peaks) where
           let lines = good-more rules (joined (take (k + 1) pieces)) (joined (drop (k + 1) pieces)) end told in
           rw (← joined-cut (k + 1) pieces)
           (same-counted (joined (take (k + 1) pieces)) _ end lines more.1 more.2
-              (all-counted (joined (take (k + 1) pieces)) end h ends.1))
+          (all-counted (joined (take (k + 1) pieces)) end h ends.1))
   CountsAll-ends pieces k ReadFault h ends u free = absurd u
   CountsAll-ends pieces k ReadLimit h ends u free = absurd u
   CountsAll-ends pieces k WriteFault h ends u free = absurd free

@@ -21,10 +21,10 @@ returns-clause-lists c =
       goes = goes-known (never_fails ListsItem) c.args.request.now header part s t c.args.reports.now
           c.judge.new.reports
           (IsFit c.args.request.now header part)
-              (λ rules o. IsUnhindered o.ended → HoldsRecords (spots rules (header ++ part)) before after)
+          (λ rules o. IsUnhindered o.ended → HoldsRecords (spots rules (header ++ part)) before after)
           (λ fit rules o judged free. recorded rules header part s t before after fit.cut (judged.took free)
           c.new-listed.ensures.count c.new-listed.ensures.room c.new-listed.ensures.place
-              (λ loan. c.records-1.given.1.1 (sym c.new-listed.ensures.loan ∙ sym loan)))
+          (λ loan. c.records-1.given.1.1 (sym c.new-listed.ensures.loan ∙ sym loan)))
           c.judge.result j.fit j.ok j.declined j.unread;
       told = c.of.ensures;
     }

@@ -16,12 +16,12 @@ returns-clause-filters c =
     let b = c.judge-judged.new.sink in
     let new = c.judge-judged.new.reports in
     filters c.args.request.now header part c.args.reports.now new out written c.of.result c.judge-judged.result
-        c.of.ensures
+    c.of.ensures
     (goes room_law c.args.request.now header part a b c.args.reports.now new
     (λ rules o. Copied rules (header ++ part) out written o)
     (λ rules o judged. copied rules (header ++ part) o a b c.args.reports.now new out written judged
     c.new-room.ensures.written (λ loan. c.output-1.given.1.1 (sym c.new-room.ensures.loan ∙ sym loan))
-        c.written.ensures)
+    c.written.ensures)
     c.judge-judged.result j.ok j.declined j.unread)
 
 pub returns-clause-unjudged : goal.returns-clause-unjudged

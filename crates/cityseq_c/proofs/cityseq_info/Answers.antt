@@ -31,9 +31,9 @@ returns-clause-tallies c =
           c.judge-judged.new.reports
           (IsTally sink told) (λ rules o. IsUnhindered o.ended → IsTalliedOf rules (header ++ part) told)
           (λ same rules o judged free. tallied rules (header ++ part) o c.new-sink.result sink c.args.reports.now
-              c.judge-judged.new.reports judged c.new-sink.ensures told same
+          c.judge-judged.new.reports judged c.new-sink.ensures told same
           (λ fresh puts. c.puts_are_tallied.ensures.runs (stream_of rules (header ++ part)) Complete c.new-sink.result
-              sink fresh puts) free)
+          sink fresh puts) free)
           went known j.ok j.declined j.unread;
       told = c.of-2.ensures;
     }

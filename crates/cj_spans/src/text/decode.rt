@@ -313,7 +313,7 @@ impl<'a> CodePoints<'a> {
     pub(crate) fn next_byte(self) -> Option<u8>
         ensures { MatchOption result (length self.entry.bytes.now ≤ self.entry.place)
             (λ b. (self.entry.place < length self.entry.bytes.now)
-                × (b ≡ get_or self.entry.bytes.now self.entry.place 0)) }
+            × (b ≡ get_or self.entry.bytes.now self.entry.place 0)) }
     {
         if self.place < self.bytes.len() {
             Some(self.bytes[self.place])

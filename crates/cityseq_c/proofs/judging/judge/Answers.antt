@@ -13,21 +13,24 @@ pub returns-in_err-query-clause-declined : goal.returns-in_err-query-clause-decl
 returns-in_err-query-clause-declined g c =
     let returned = err_from_is_err_and c.from_residual-in_err-query.result c.from_residual-in_err-query.ensures.1 in
     rw (returned.1, returned.2)
-        (call-declined c.args.request.now c.args.header.now c.args.part.now c.in_ok-limits.ensures.ok.0
-        c.in_err-query.field-0.0 c.in_err-query.ensures.declined)
+    (call-declined c.args.request.now c.args.header.now c.args.part.now c.in_ok-limits.ensures.ok.0
+    c.in_err-query.field-0.0 c.in_err-query.ensures.declined)
 
 pub returns-clause-ok : goal.returns-clause-ok
 returns-clause-ok g c =
     let fit = c.in_ok-limits.ensures.ok.0 in
     let rules : Rules =
-        record { limits = c.in_ok-limits.limits; criteria = criteria c.in_ok-query.query;
-            options = c.options.result } in
+    record {
+      limits = c.in_ok-limits.limits;
+      criteria = criteria c.in_ok-query.query;
+      options = c.options.result;
+    } in
     asked-ok g.S.LineSink.law c.args.request.now c.args.header.now c.args.part.now c.args.sink.now
     c.judge_stream.new.sink
     c.args.reports.now c.judge_stream.new.reports fit rules (rules_of c.in-Ok.engine) c.judge_stream.result
     (record { limits = c.in_ok-limits.ensures.ok.1; criteria = c.in_ok-query.ensures.ok; options = c.options.ensures })
     (c.in-Ok.ensures.empty.1
-        ∙ ap (λ l. rules_for l c.in_ok-query.query c.options.result) c.limits_needed-needed.ensures)
+    ∙ ap (λ l. rules_for l c.in_ok-query.query c.options.result) c.limits_needed-needed.ensures)
     c.judge_stream.ensures.ok
 
 pub returns-clause-fit : goal.returns-clause-fit
@@ -40,4 +43,4 @@ returns-clause-declined g c =
     declined-memory g.S.LineSink.law c.args.request.now c.args.header.now c.args.part.now c.args.sink.now
     c.judge_stream.new.sink
     c.args.reports.now c.judge_stream.new.reports c.in_ok-limits.ensures.ok.0 c.judge_stream.result
-        c.judge_stream.ensures.memory
+    c.judge_stream.ensures.memory

@@ -17,7 +17,7 @@ returns g c =
           (rw e.fed.peaks at e.fed.exact) (rw e.fed.peaks at e.fed.bounded) e.fed.counts e.sink e.reports
           (λ r n all. c.good_lines_are_kept.ensures.reported rules r n all)
           (c.new-noted.ensures.text ∙ c.new.ensures) c.new-noted.ensures.count c.new-noted.ensures.room
-              (λ loan. c.reports-1.given.1.1 (sym c.new-noted.ensures.loan ∙ sym loan));
+          (λ loan. c.reports-1.given.1.1 (sym c.new-noted.ensures.loan ∙ sym loan));
       cause = e.cause;
       memory = tt;
       unread = tt;

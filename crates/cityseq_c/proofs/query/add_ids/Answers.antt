@@ -7,7 +7,7 @@ pub returns-clause-ok : goal.returns-clause-ok
 returns-clause-ok c =
     let split = c.split-id-items.ensures in
     let texts =
-        items-split c.args.ids.now (sym c.is_empty.ensures ∙ c.if-is_empty.false) split.text split.has_more
-            split.pattern c.into_iter-id-iterator.ensures.into_iter_gives in
+    items-split c.args.ids.now (sym c.is_empty.ensures ∙ c.if-is_empty.false) split.text split.has_more
+    split.pattern c.into_iter-id-iterator.ensures.into_iter_gives in
     let all = YieldsList-end texts c.loop-id.yielded _ c.loop-id.yielded_by _ _ c.in-None.is c.next.ensures.steps in
     c.sort_ids.ensures.asks ∙ (rw all.0 at c.loop-id.invariant)

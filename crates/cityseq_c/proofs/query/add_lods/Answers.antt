@@ -7,7 +7,7 @@ pub returns-clause-ok : goal.returns-clause-ok
 returns-clause-ok c =
     let split = c.split-lod-items.ensures in
     let texts =
-        items-split c.args.lods.now (sym c.is_empty.ensures ∙ c.if-is_empty.false) split.text split.has_more
-            split.pattern c.into_iter-lod-iterator.ensures.into_iter_gives in
+    items-split c.args.lods.now (sym c.is_empty.ensures ∙ c.if-is_empty.false) split.text split.has_more
+    split.pattern c.into_iter-lod-iterator.ensures.into_iter_gives in
     let all = YieldsList-end texts c.loop-lod.yielded _ c.loop-lod.yielded_by _ _ c.in-None.is c.next.ensures.steps in
     rw all.0 at c.loop-lod.invariant

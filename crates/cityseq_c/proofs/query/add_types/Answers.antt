@@ -38,7 +38,7 @@ module _ (old new : Criteria) (r : Result (Unit {0}) QueryFault) where
   others-stay entry None h ok only = absurd (cc (ap (λ z. is_err z) h.0, ok))
   others-stay entry (Some row) h ok only =
       h.1 ∙ ap (λ a. with_type row.number a) only
-          ∙ ap (λ flags. record entry { types = Some flags }) (sym (ap flags_of h.1))
+      ∙ ap (λ flags. record entry { types = Some flags }) (sym (ap flags_of h.1))
 
   -- where a name was declined, it is no type's
   flags-declined : (names : List (List ℕ)) (row : Option ObjectRow) → Adds old new r row → is_err r ≡ true
@@ -53,7 +53,7 @@ flags-here : (all : List (List ℕ)) (i : ℕ) (name : List ℕ) (flags : List B
     ≡ flags_with all no_types
 flags-here all i name flags next so_far =
     ap (λ name. flags_with (name ∷ drop (i + 1) all) flags) next.1
-        ∙ sym (at_drop_more (λ names. flags_with names flags) all i name next.0) ∙ so_far
+    ∙ sym (at_drop_more (λ names. flags_with names flags) all i name next.0) ∙ so_far
 
 pub loop-name-preserved : goal.loop-name-preserved
 loop-name-preserved c =
@@ -61,8 +61,8 @@ loop-name-preserved c =
     let yielded = c.loop-name.yielded in
     let split = c.split-name-items.ensures in
     let texts =
-        items-split c.args.types.now (sym c.is_empty.ensures ∙ c.if-is_empty.false) split.text split.has_more
-            split.pattern c.into_iter-name-iterator.ensures.into_iter_gives in
+    items-split c.args.types.now (sym c.is_empty.ensures ∙ c.if-is_empty.false) split.text split.has_more
+    split.pattern c.into_iter-name-iterator.ensures.into_iter_gives in
     let next = YieldsList-turn texts yielded _ c.loop-name.yielded_by _ _ name c.in-Some.is c.next.ensures.steps in
     let all = items c.args.types.now in
     let old = criteria c.loop-name.query in
@@ -74,7 +74,7 @@ loop-name-preserved c =
       left =
           ap (λ n. flags_with (drop n all) (flags_of new)) (length_push yielded name)
           ∙ flags-added old new c.add_type.result (drop (length yielded + 1) all) row c.add_type.ensures.asks
-              (sym c.is_err.ensures.value ∙ c.if-is_err.false)
+          (sym c.is_err.ensures.value ∙ c.if-is_err.false)
           ∙ flags-here all (length yielded) name.now (flags_of old) next c.loop-name.invariant.left;
     }
 
@@ -84,27 +84,27 @@ returns-then-is_err c =
     let yielded = c.loop-name.yielded in
     let split = c.split-name-items.ensures in
     let texts =
-        items-split c.args.types.now (sym c.is_empty.ensures ∙ c.if-is_empty.false) split.text split.has_more
-            split.pattern c.into_iter-name-iterator.ensures.into_iter_gives in
+    items-split c.args.types.now (sym c.is_empty.ensures ∙ c.if-is_empty.false) split.text split.has_more
+    split.pattern c.into_iter-name-iterator.ensures.into_iter_gives in
     let next = YieldsList-turn texts yielded _ c.loop-name.yielded_by _ _ name c.in-Some.is c.next.ensures.steps in
     let all = items c.args.types.now in
     let old = criteria c.loop-name.query in
     let declined = flags-declined old (criteria c.add_type.new.self) c.add_type.result (drop (length yielded + 1) all)
-        (row_named name.now) c.add_type.ensures.asks (sym c.is_err.ensures.value ∙ c.if-is_err.true) in
+    (row_named name.now) c.add_type.ensures.asks (sym c.is_err.ensures.value ∙ c.if-is_err.true) in
     let none : flags_with all no_types ≡ None =
-        sym (flags-here all (length yielded) name.now (flags_of old) next c.loop-name.invariant.left) ∙ declined in
+    sym (flags-here all (length yielded) name.now (flags_of old) next c.loop-name.invariant.left) ∙ declined in
     rw none refl
 
 pub returns : goal.returns
 returns c =
     let split = c.split-name-items.ensures in
     let texts =
-        items-split c.args.types.now (sym c.is_empty.ensures ∙ c.if-is_empty.false) split.text split.has_more
-            split.pattern c.into_iter-name-iterator.ensures.into_iter_gives in
+    items-split c.args.types.now (sym c.is_empty.ensures ∙ c.if-is_empty.false) split.text split.has_more
+    split.pattern c.into_iter-name-iterator.ensures.into_iter_gives in
     let end = YieldsList-end texts c.loop-name.yielded _ c.loop-name.yielded_by _ _ c.in-None.is c.next.ensures.steps in
     let all = items c.args.types.now in
     let flags = flags_of (criteria c.loop-name.query) in
     let told : flags_with all no_types ≡ Some flags =
     sym c.loop-name.invariant.left
-        ∙ at_drop_all (λ names. flags_with names flags) all (length c.loop-name.yielded) (omega (arith, end.1)) in
+    ∙ at_drop_all (λ names. flags_with names flags) all (length c.loop-name.yielded) (omega (arith, end.1)) in
     rw told (refl, c.loop-name.invariant.set)

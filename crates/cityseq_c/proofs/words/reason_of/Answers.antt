@@ -16,12 +16,12 @@ passed : (code i k : ℕ) (xs : List Reason) (d : Reason) (r : Option Reason) �
 passed code i k xs d r within is other so_far =
     let here = drop-cons xs i d within in
     let differs : nat_eq (code_of (get_or xs i d)) code ≡ false =
-        not-true _ (λ same. other (is ∙ eqb-true (code_of (get_or xs i d)) code same)) in
+    not-true _ (λ same. other (is ∙ eqb-true (code_of (get_or xs i d)) code same)) in
     let z = rw here at so_far in
     rw add-one (rw differs at z)
 
 pub loop-reason-preserved : goal.loop-reason-preserved
 loop-reason-preserved c =
     passed c.args.code c.loop-reason.reason-index c.code.result c.all_reasons-reason-items.result _ _
-        (rw c.all_reasons-reason-items.ensures c.loop-reason-test.true) c.code.ensures c.if-code.false
-        c.loop-reason.invariant
+    (rw c.all_reasons-reason-items.ensures c.loop-reason-test.true) c.code.ensures c.if-code.false
+    c.loop-reason.invariant

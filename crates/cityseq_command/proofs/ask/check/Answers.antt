@@ -28,9 +28,9 @@ returns-in-Complete g c =
       Does-run g.N.ReportSink.notes ask e.0 _ outcome _ old new c.args.reports.now c.run-outcome.new.reports refl
           e.3.account e.2 e.4 e.5 collected
           (rw c.in-Complete.is (Says-check all e.0 _ _ _ c.write_check.result c.end_of_writing.result old new ends.1
-              (features-kept all e.0 _ _ _ kept e.3.account.counts ends.1)
-              (lines-refused all e.0 _ _ _ told e.3.account.counts ends.1) c.end_of_writing.ensures
-              (record { whole = w.ok; front = w.fault; failures = w.failures })))
+          (features-kept all e.0 _ _ _ kept e.3.account.counts ends.1)
+          (lines-refused all e.0 _ _ _ told e.3.account.counts ends.1) c.end_of_writing.ensures
+          (record { whole = w.ok; front = w.fault; failures = w.failures })))
           (cause-text c.write_check.result c.end_of_writing.result _ _ c.end_of_writing.ensures w.failures),
     )
 

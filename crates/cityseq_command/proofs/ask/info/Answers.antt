@@ -31,8 +31,8 @@ returns-in-Complete g c =
       Does-run g.N.ReportSink.notes ask e.0 _ outcome _ old new c.args.reports.now c.run-outcome.new.reports refl
           e.3.account e.2 e.4 e.5 collected
           (rw c.in-Complete.is (Says-summary all e.0 _ _ _ c.write_summary.result c.end_of_writing.result old new
-              ends.1 tally peaks c.end_of_writing.ensures
-              (record { whole = w.ok; front = w.fault; failures = w.failures })))
+          ends.1 tally peaks c.end_of_writing.ensures
+          (record { whole = w.ok; front = w.fault; failures = w.failures })))
           (cause-text c.write_summary.result c.end_of_writing.result _ _ c.end_of_writing.ensures w.failures),
     )
 

@@ -28,29 +28,29 @@ did : (g : Over) (c : goal.After-status_after g) → (r : List ℕ)
 did g c = elim c.match-ask.branch [
   | in-Check w ↦ rw (w.reader-is, w.out-is, w.reports-is, w.outcome-is, w.in-Check.is) w.check-outcome.ensures
   | in-Filter w ↦
-    let ran = w.run-outcome.ensures in
-    let e = ran.runs in
-    let ended = w.run-outcome.result.ended in
-    let ask = Filter w.in-Filter.limits w.in-Filter.query w.in-Filter.options in
-    let run = run_of ask e.0 w.run-outcome.result in
-    let left = g.R.Read.remaining w.run-outcome.new.reader in
-    let old = c.args.out.now in
-    let new = w.run-outcome.new.sink in
-    let none = λ (is : ended ≡ Memory). (ran.memory is).0 in
-    let writes = c.puts_are_written.ensures in
-    let law = c.reports_are_collected.ensures in
-    rw (w.reader-is, w.out-is, w.reports-is, w.outcome-is, w.in-Filter.is) (
-      e.0,
-      e.1,
-      Does-run (WritesReport g.E.Write.contents) ask e.0 (IsAtEnd left) run.outcome run.outcome
-          (channel g.W.Write.contents old) (channel g.W.Write.contents new) c.new-reports.result
-          w.run-outcome.new.reports refl e.3.account e.2 e.4 e.5 (law.runs run left e.3.account none) (
-            refl,
-            writes.runs (stream_of run.rules e.0) ended old new e.3.puts,
-            law.headline run left old new e.3 none ran.cause,
-            writes.lines run left old new e.3 none,
-          ) ran.cause,
-    )
+      let ran = w.run-outcome.ensures in
+      let e = ran.runs in
+      let ended = w.run-outcome.result.ended in
+      let ask = Filter w.in-Filter.limits w.in-Filter.query w.in-Filter.options in
+      let run = run_of ask e.0 w.run-outcome.result in
+      let left = g.R.Read.remaining w.run-outcome.new.reader in
+      let old = c.args.out.now in
+      let new = w.run-outcome.new.sink in
+      let none = λ (is : ended ≡ Memory). (ran.memory is).0 in
+      let writes = c.puts_are_written.ensures in
+      let law = c.reports_are_collected.ensures in
+      rw (w.reader-is, w.out-is, w.reports-is, w.outcome-is, w.in-Filter.is) (
+        e.0,
+        e.1,
+        Does-run (WritesReport g.E.Write.contents) ask e.0 (IsAtEnd left) run.outcome run.outcome
+            (channel g.W.Write.contents old) (channel g.W.Write.contents new) c.new-reports.result
+            w.run-outcome.new.reports refl e.3.account e.2 e.4 e.5 (law.runs run left e.3.account none) (
+              refl,
+              writes.runs (stream_of run.rules e.0) ended old new e.3.puts,
+              law.headline run left old new e.3 none ran.cause,
+              writes.lines run left old new e.3 none,
+            ) ran.cause,
+      )
   | in-Info w ↦ rw (w.reader-is, w.out-is, w.reports-is, w.outcome-is, w.in-Info.is) w.info-outcome.ensures
 ]
 

@@ -39,7 +39,7 @@ module _ (old new : Criteria) (r : Result (Unit {0}) QueryFault) where
   others-stay entry None h ok only = absurd (cc (h.0, ok))
   others-stay entry (Some row) h ok only =
       h.1 ∙ ap (λ a. with_type row.number a) only
-          ∙ ap (λ flags. record entry { types = Some flags }) (sym (ap flags_of h.1))
+      ∙ ap (λ flags. record entry { types = Some flags }) (sym (ap flags_of h.1))
 
   -- where a name was declined, it is no type's
   flags-declined : (names : List (List ℕ)) (fault : QueryFault) (row : Option ObjectRow) → Adds old new r row
@@ -55,7 +55,7 @@ flags-here : (all : List (List ℕ)) (i : ℕ) (name : List ℕ) (flags : List B
     ≡ flags_with all no_types
 flags-here all i name flags next so_far =
     ap (λ name. flags_with (name ∷ drop (i + 1) all) flags) next.1
-        ∙ sym (at_drop_more (λ names. flags_with names flags) all i name next.0) ∙ so_far
+    ∙ sym (at_drop_more (λ names. flags_with names flags) all i name next.0) ∙ so_far
 
 pub loop-name-preserved : goal.loop-name-preserved
 loop-name-preserved c =
@@ -63,8 +63,8 @@ loop-name-preserved c =
     let yielded = c.loop-name.yielded in
     let split = c.split-name-items.ensures in
     let texts =
-        fields-split c.args.types.now split.text split.has_more split.pattern
-            c.into_iter-name-iterator.ensures.into_iter_gives in
+    fields-split c.args.types.now split.text split.has_more split.pattern
+    c.into_iter-name-iterator.ensures.into_iter_gives in
     let next = YieldsList-turn texts yielded _ c.loop-name.yielded_by _ _ name c.in-Some.is c.next.ensures.steps in
     let all = fields c.args.types.now in
     let old = criteria c.loop-name.query in
@@ -76,7 +76,7 @@ loop-name-preserved c =
       left =
           ap (λ n. flags_with (drop n all) (flags_of new)) (length_push yielded name)
           ∙ flags-added old new c.add_type.result (drop (length yielded + 1) all) row c.add_type.ensures.asks
-              c.in_ok-add_type.was
+          c.in_ok-add_type.was
           ∙ flags-here all (length yielded) name.now (flags_of old) next c.loop-name.invariant.left;
     }
 
@@ -86,15 +86,15 @@ returns-in_err-add_type c =
     let yielded = c.loop-name.yielded in
     let split = c.split-name-items.ensures in
     let texts =
-        fields-split c.args.types.now split.text split.has_more split.pattern
-            c.into_iter-name-iterator.ensures.into_iter_gives in
+    fields-split c.args.types.now split.text split.has_more split.pattern
+    c.into_iter-name-iterator.ensures.into_iter_gives in
     let next = YieldsList-turn texts yielded _ c.loop-name.yielded_by _ _ name c.in-Some.is c.next.ensures.steps in
     let all = fields c.args.types.now in
     let old = criteria c.loop-name.query in
     let declined = flags-declined old (criteria c.add_type.new.self) c.add_type.result (drop (length yielded + 1) all) _
-        (row_named name.now) c.add_type.ensures.asks c.in_err-add_type.was in
+    (row_named name.now) c.add_type.ensures.asks c.in_err-add_type.was in
     let none : flags_with all no_types ≡ None =
-        sym (flags-here all (length yielded) name.now (flags_of old) next c.loop-name.invariant.left) ∙ declined.1 in
+    sym (flags-here all (length yielded) name.now (flags_of old) next c.loop-name.invariant.left) ∙ declined.1 in
     let returned = err_from_is_err_and c.from_residual.result c.from_residual.ensures.1 in
     rw (none, returned.1, returned.2, declined.0) refl
 
@@ -102,12 +102,12 @@ pub returns : goal.returns
 returns c =
     let split = c.split-name-items.ensures in
     let texts =
-        fields-split c.args.types.now split.text split.has_more split.pattern
-            c.into_iter-name-iterator.ensures.into_iter_gives in
+    fields-split c.args.types.now split.text split.has_more split.pattern
+    c.into_iter-name-iterator.ensures.into_iter_gives in
     let end = YieldsList-end texts c.loop-name.yielded _ c.loop-name.yielded_by _ _ c.in-None.is c.next.ensures.steps in
     let all = fields c.args.types.now in
     let flags = flags_of (criteria c.loop-name.query) in
     let told : flags_with all no_types ≡ Some flags =
     sym c.loop-name.invariant.left
-        ∙ at_drop_all (λ names. flags_with names flags) all (length c.loop-name.yielded) (omega (arith, end.1)) in
+    ∙ at_drop_all (λ names. flags_with names flags) all (length c.loop-name.yielded) (omega (arith, end.1)) in
     rw told (refl, c.loop-name.invariant.set)

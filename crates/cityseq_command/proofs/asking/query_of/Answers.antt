@@ -20,7 +20,7 @@ module _ (r : Result (Unit {0}) QueryFault) (old new : Criteria) where
   abbrev SetsBox : Result Box QueryFault → Type 0
   SetsBox box =
       MatchResult box (λ box. (r ≡ Ok tt) × (new ≡ record old { box = Some box }))
-          (λ fault. (r ≡ Err fault) × (new ≡ old))
+      (λ fault. (r ≡ Err fault) × (new ≡ old))
 
   types-set : (flags : Option (List Bool)) → SetsTypes flags → r ≡ Ok tt → (types_or_fault flags ≡ Ok new.types)
       × (new ≡ record old { types = new.types })
@@ -55,7 +55,7 @@ declined-by-text false false false box e = cc e
 box-takes-none : (s : List ℕ) → box_text s ≡ Err Memory → ⊥
 box-takes-none s =
     declined-by-text (not (are_four_numbers (fields s))) (not (list_all is_edge (fields s)))
-        (is_empty (box_between (fields s))) (box_between (fields s))
+    (is_empty (box_between (fields s))) (box_between (fields s))
 
 pub returns-clause-ok : goal.returns-clause-ok
 returns-clause-ok c =
@@ -110,24 +110,26 @@ pub returns-in_err-add_types-clause-err : goal.returns-in_err-add_types-clause-e
 returns-in_err-add_types-clause-err c =
     let texts = texts_of c.args.texts.now in
     let returned =
-        err_from_is_err_and c.from_residual-in_err-add_types.result c.from_residual-in_err-add_types.ensures.1 in
+    err_from_is_err_and c.from_residual-in_err-add_types.result c.from_residual-in_err-add_types.ensures.1 in
     let types =
-        types-declined c.add_types.result (criteria c.match-texts.query) (criteria c.add_types.new.query)
-            c.in_err-add_types.field-0.0 _ c.add_types.ensures c.in_err-add_types.was in
+    types-declined c.add_types.result (criteria c.match-texts.query) (criteria c.add_types.new.query)
+    c.in_err-add_types.field-0.0 _ c.add_types.ensures c.in_err-add_types.was in
     rw (returned.1, returned.2, types.0) (rw (c.in-Some-types.is, types.1) refl)
 
 pub returns-in_err-add_lods-clause-err : goal.returns-in_err-add_lods-clause-err
 returns-in_err-add_lods-clause-err c =
     let texts = texts_of c.args.texts.now in
     let returned =
-        err_from_is_err_and c.from_residual-in_err-add_lods.result c.from_residual-in_err-add_lods.ensures.1 in
+    err_from_is_err_and c.from_residual-in_err-add_lods.result c.from_residual-in_err-add_lods.ensures.1 in
     let memory : c.in_err-add_lods.field-0.0 ≡ Memory = c.in_err-add_lods.ensures.memory in
     let types : (flags : Option (List Bool)) × (types_wanted texts.types ≡ Ok flags) =
     elim c.match-texts-2.branch [
       | in-Some-types+in_ok-add_types w ↦
-          rw w.in-Some-types.is (_,
-          (types-set w.add_types.result (criteria c.match-texts.query) (criteria w.add_types.new.query) _
-              w.add_types.ensures w.in_ok-add_types.was).0)
+          rw w.in-Some-types.is (
+            _,
+            (types-set w.add_types.result (criteria c.match-texts.query) (criteria w.add_types.new.query) _
+                w.add_types.ensures w.in_ok-add_types.was).0,
+          )
       | in_default-types w ↦ rw w.in_default-types.is (None, refl)
     ] in
     rw (returned.1, returned.2, memory) (inr (rw c.in-Some-lods.is refl, rw types.1 refl))
@@ -138,15 +140,17 @@ returns-in_err-bbox-clause-err c =
     let types : (flags : Option (List Bool)) × (types_wanted texts.types ≡ Ok flags) =
     elim c.match-texts-2.branch [
       | in-Some-types+in_ok-add_types w ↦
-          rw w.in-Some-types.is (_,
-          (types-set w.add_types.result (criteria c.match-texts.query) (criteria w.add_types.new.query) _
-              w.add_types.ensures w.in_ok-add_types.was).0)
+          rw w.in-Some-types.is (
+            _,
+            (types-set w.add_types.result (criteria c.match-texts.query) (criteria w.add_types.new.query) _
+                w.add_types.ensures w.in_ok-add_types.was).0,
+          )
       | in_default-types w ↦ rw w.in_default-types.is (None, refl)
     ] in
     let fault = c.in_err-bbox.field-0.0 in
     let box = box-declined c.bbox.result (criteria c.match-texts-3.query) (criteria c.bbox.new.self) fault
-        (box_text c.in-Some-bbox.bbox.now) c.bbox.ensures.asks c.in_err-bbox.was in
+    (box_text c.in-Some-bbox.bbox.now) c.bbox.ensures.asks c.in_err-bbox.was in
     let asks : criteria_by texts ≡ Err fault = rw (types.1, c.in-Some-bbox.is, box) refl in
     let returned = err_from_is_err_and c.from_residual-in_err-bbox.result c.from_residual-in_err-bbox.ensures.1 in
     rw (returned.1, returned.2)
-        (declined texts fault asks (λ same. box-takes-none c.in-Some-bbox.bbox.now (box ∙ ap Err same)))
+    (declined texts fault asks (λ same. box-takes-none c.in-Some-bbox.bbox.now (box ∙ ap Err same)))

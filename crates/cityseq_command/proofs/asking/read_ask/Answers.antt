@@ -46,7 +46,7 @@ returns-in-Some-clause-ok c =
     let name = c.in-Some.name.now in
     let options = c.in-Some.options.now in
     let is : IsCalled (map string_bytes c.args.words.now) name options = sym c.in-Ok.ensures.ok
-        ∙ called c.in-Ok.matches name (rows_of (found_of options)) c.in-Some.ensures.name c.in-Some.ensures.rows in
+    ∙ called c.in-Ok.matches name (rows_of (found_of options)) c.in-Some.ensures.name c.in-Some.ensures.rows in
     IfOk-weaker c.ask_of.result _ _ (λ ask asks. (name, options, is, asks)) c.ask_of.ensures.ok
 
 pub returns-in-Some-clause-err : goal.returns-in-Some-clause-err
@@ -55,6 +55,6 @@ returns-in-Some-clause-err c =
     let options = c.in-Some.options.now in
     let words = map string_bytes c.args.words.now in
     let is : IsCalled words name options = sym c.in-Ok.ensures.ok
-        ∙ called c.in-Ok.matches name (rows_of (found_of options)) c.in-Some.ensures.name c.in-Some.ensures.rows in
+    ∙ called c.in-Ok.matches name (rows_of (found_of options)) c.in-Some.ensures.name c.in-Some.ensures.rows in
     IfErr-weaker c.ask_of.result _ _ (λ why declines. may-decline words name options is why declines)
-        c.ask_of.ensures.err
+    c.ask_of.ensures.err

@@ -15,13 +15,16 @@ returns g c =
       says = Says-kept text Complete told (channel g.W.Write.contents c.args.out.now)
           (channel g.W.Write.contents c.write_text.new.out) (channel g.W.Write.contents c.flush.new.self)
           (c.write_text.result, c.end_of_writing-told.ensures, c.write_text.ensures) c.flush.ensures.bytes
-              c.flush.ensures.failures;
+          c.flush.ensures.failures;
       reports = record {
         flushed = c.flush.result;
         told = c.flush.ensures.noted;
         end = c.show.ensures.end;
-        line = record { whole = c.show.ensures.whole; front = c.show.ensures.front;
-            failures = c.show.ensures.failures };
+        line = record {
+          whole = c.show.ensures.whole;
+          front = c.show.ensures.front;
+          failures = c.show.ensures.failures;
+        };
       };
       status = c.status.ensures;
     }

@@ -9,17 +9,17 @@ loop-text-init g c = Wrote-nothing tt _
 pub loop-text-preserved : goal.loop-text-preserved
 loop-text-preserved g c =
     part-wrote (λ text. text.now) c.args.texts.now c.loop-text.text-index _ _ c.loop-text.invariant _
-        (record { ref_ptr = (0, 0); now = [] }) _ (omega arith) c.in_ok-write_text.ensures
+    (record { ref_ptr = (0, 0); now = [] }) _ (omega arith) c.in_ok-write_text.ensures
 
 pub returns-in_err-write_text : goal.returns-in_err-write_text
 returns-in_err-write_text g c =
     let texts = c.args.texts.now in
     rw (joined-map (λ text. text.now) texts)
     (part-stops (λ text. text.now) texts c.loop-text.text-index _ _ c.loop-text.invariant _ _ c.from_residual.ensures.0
-        (record { ref_ptr = (0, 0); now = [] }) _ (omega arith) c.in_err-write_text.ensures)
+    (record { ref_ptr = (0, 0); now = [] }) _ (omega arith) c.in_err-write_text.ensures)
 
 pub returns : goal.returns
 returns g c =
     let texts = c.args.texts.now in
     rw (joined-map (λ text. text.now) texts)
-        (parts-wrote (λ text. text.now) texts c.loop-text.text-index _ _ c.loop-text.invariant (omega arith))
+    (parts-wrote (λ text. text.now) texts c.loop-text.text-index _ _ c.loop-text.invariant (omega arith))

@@ -19,8 +19,8 @@ loop-class-preserved g c =
     let i = c.loop-class.class in
     let is : i ≡ get_or classes i 0 = sym (get_or-range_with_len 0 6 i 0 (omega arith) ∙ zero-add i) in
     let Written : ℕ → Type 0 =
-        λ class. Wrote (class_text t class) (Ok tt) (channel g.W.Write.contents c.loop-class.out)
-            (channel g.W.Write.contents c.write_counted.new.out) in
+    λ class. Wrote (class_text t class) (Ok tt) (channel g.W.Write.contents c.loop-class.out)
+    (channel g.W.Write.contents c.write_counted.new.out) in
     let one = subst Written is (rw (c.class_name.ensures, c.by_lod.ensures) at c.in_ok-write_counted.ensures) in
     part-wrote (class_text t) classes i _ _ c.loop-class.invariant _ 0 _ (omega arith) one
 
@@ -31,7 +31,7 @@ returns-in_err-write_counted g c =
     let i = c.loop-class.class in
     let is : i ≡ get_or classes i 0 = sym (get_or-range_with_len 0 6 i 0 (omega arith) ∙ zero-add i) in
     let Failed : ℕ → Type 0 =
-        λ class. Wrote (class_text t class) (Err c.in_err-write_counted.field-0.0)
-            (channel g.W.Write.contents c.loop-class.out) (channel g.W.Write.contents c.write_counted.new.out) in
+    λ class. Wrote (class_text t class) (Err c.in_err-write_counted.field-0.0)
+    (channel g.W.Write.contents c.loop-class.out) (channel g.W.Write.contents c.write_counted.new.out) in
     let one = subst Failed is (rw (c.class_name.ensures, c.by_lod.ensures) at c.in_err-write_counted.ensures) in
     part-stops (class_text t) classes i _ _ c.loop-class.invariant _ _ c.from_residual.ensures.0 0 _ (omega arith) one

@@ -20,12 +20,12 @@ read {E = E} gives (Some v) n usual below parses reads =
     same {E = E} v n (Ok v) refl (parse-decimal 64 n (decimal n) (Ok v) below below refl (parses (Ok v) reads))
 read {E = E} gives None n usual below parses reads =
     absurd (other {E = E} n reads.0 (Err reads.0) refl
-        (parse-decimal 64 n (decimal n) (Err reads.0) below below refl (parses (Err reads.0) reads.1)))
+    (parse-decimal 64 n (decimal n) (Err reads.0) below below refl (parses (Err reads.0) reads.1)))
 
 pub returns : goal.returns
 returns c = record {
   none = λ missing. c.unwrap_or.ensures ∙ ap (λ r. unwrap_or r c.args.usual) (c.get_one.ensures.none missing);
   some = λ n below given. c.unwrap_or.ensures
       ∙ read (λ bs x. ParsesUnsigned 64 10 bs x × ExplainsUnsignedError 10 bs x × HasUnsignedDigitsIfOk bs x)
-          c.get_one.result n c.args.usual below (λ x g. g.0) (c.get_one.ensures.value (decimal n) given);
+      c.get_one.result n c.args.usual below (λ x g. g.0) (c.get_one.ensures.value (decimal n) given);
 }

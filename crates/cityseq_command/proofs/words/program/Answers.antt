@@ -10,4 +10,4 @@ returns c =
     let checks = with_command bare c.in_ok-check_command.ensures c.in_ok-subcommand.ensures in
     let filters = with_command checks c.in_ok-filter_command.ensures c.in_ok-subcommand-2.ensures in
     IfOk-weaker c.subcommand-3.result _ _ (λ m adds. with_command filters c.in_ok-info_command.ensures adds)
-        c.subcommand-3.ensures
+    c.subcommand-3.ensures

@@ -6,12 +6,12 @@ use Rattle.cj_decimal.proofs.digits.read_on.Goals as goal
 pub returns-then-not-has_digit-clause-stops : goal.returns-then-not-has_digit-clause-stops
 returns-then-not-has_digit-clause-stops c =
     stops_here _ _ _ (passes_refl c.args.spelling.now c.args.from c.requires.within)
-        (sym c.has_digit.ensures ∙ c.if-not-has_digit.true)
+    (sym c.has_digit.ensures ∙ c.if-not-has_digit.true)
 
 pub returns-then-not-has_digit-clause-stands : goal.returns-then-not-has_digit-clause-stands
 returns-then-not-has_digit-clause-stands c =
     let all = carried_here _ _ _ _ _ (carries_refl c.args.spelling.now c.args.from c.args.short)
-        (sym c.has_digit.ensures ∙ c.if-not-has_digit.true) in
+    (sym c.has_digit.ensures ∙ c.if-not-has_digit.true) in
     rw (← all) (short_stands c.args.short)
 
 pub returns-clause-stands : goal.returns-clause-stands

@@ -11,31 +11,33 @@ returns-then-from-spelling-clause-reads c = exp_none _ (drop_all c.args.spelling
 pub returns-then-not-has_one_of-clause-reads : goal.returns-then-not-has_one_of-clause-reads
 returns-then-not-has_one_of-clause-reads c =
     exp_unmarked _ (omega (arith, length-drop c.args.from c.args.spelling.now))
-        (sym c.has_one_of.ensures ∙ c.if-not-has_one_of.true)
+    (sym c.has_one_of.ensures ∙ c.if-not-has_one_of.true)
 
 pub returns-in-None-clause-reads : goal.returns-in-None-clause-reads
 returns-in-None-clause-reads c =
     let marked =
-        marked_at c.args.spelling.now c.args.from c.after_sign-first.result
-            (sym c.has_one_of.ensures ∙ c.if-not-has_one_of.false) c.after_sign-first.ensures.digits in
+    marked_at c.args.spelling.now c.args.from c.after_sign-first.result
+    (sym c.has_one_of.ensures ∙ c.if-not-has_one_of.false) c.after_sign-first.ensures.digits in
     marked.0 ∙ c.in-None.ensures.reads
 
 pub returns-then-has_byte-clause-reads : goal.returns-then-has_byte-clause-reads
 returns-then-has_byte-clause-reads c =
     let marked =
-        marked_at c.args.spelling.now c.args.from c.after_sign-first.result
-            (sym c.has_one_of.ensures ∙ c.if-not-has_one_of.false) c.after_sign-first.ensures.digits in
-    let told = c.in-Some.ensures in
-    (marked.0 ∙ told.reads.0,
-        saturates_read true _ (digits_value (drop c.after_sign-first.result c.args.spelling.now)) c.in-Some.size _ _
-        marked.1 (sym c.has_byte.ensures ∙ c.if-has_byte.true) (omega (arith, ints, told.bound)) told.reads.1)
+    marked_at c.args.spelling.now c.args.from c.after_sign-first.result
+    (sym c.has_one_of.ensures ∙ c.if-not-has_one_of.false) c.after_sign-first.ensures.digits in
+    let told = c.in-Some.ensures in (
+      marked.0 ∙ told.reads.0,
+      saturates_read true _ (digits_value (drop c.after_sign-first.result c.args.spelling.now)) c.in-Some.size _ _
+          marked.1 (sym c.has_byte.ensures ∙ c.if-has_byte.true) (omega (arith, ints, told.bound)) told.reads.1,
+    )
 
 pub returns-else-has_byte-clause-reads : goal.returns-else-has_byte-clause-reads
 returns-else-has_byte-clause-reads c =
     let marked =
-        marked_at c.args.spelling.now c.args.from c.after_sign-first.result
-            (sym c.has_one_of.ensures ∙ c.if-not-has_one_of.false) c.after_sign-first.ensures.digits in
-    let told = c.in-Some.ensures in
-    (marked.0 ∙ told.reads.0,
-        saturates_read false _ (digits_value (drop c.after_sign-first.result c.args.spelling.now)) c.in-Some.size _ _
-        marked.1 (sym c.has_byte.ensures ∙ c.if-has_byte.false) (omega (arith, ints, told.bound)) told.reads.1)
+    marked_at c.args.spelling.now c.args.from c.after_sign-first.result
+    (sym c.has_one_of.ensures ∙ c.if-not-has_one_of.false) c.after_sign-first.ensures.digits in
+    let told = c.in-Some.ensures in (
+      marked.0 ∙ told.reads.0,
+      saturates_read false _ (digits_value (drop c.after_sign-first.result c.args.spelling.now)) c.in-Some.size _ _
+          marked.1 (sym c.has_byte.ensures ∙ c.if-has_byte.false) (omega (arith, ints, told.bound)) told.reads.1,
+    )

@@ -20,7 +20,7 @@ returns-then-run-from-clause-reads c =
     let pointed = frac_pointed (drop c.args.from s) point in
     let next = drop_one s c.args.from (begins_within 46 s c.args.from point) in
     pointed.0 ∙ ap begins_digit next
-        ∙ no_first_digit (drop (c.args.from + 1) s) (omega (arith, c.read_digits-run.ensures.stops.count))
+    ∙ no_first_digit (drop (c.args.from + 1) s) (omega (arith, c.read_digits-run.ensures.stops.count))
 
 pub returns-clause-reads : goal.returns-clause-reads
 returns-clause-reads c =

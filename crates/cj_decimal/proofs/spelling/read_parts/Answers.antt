@@ -8,24 +8,27 @@ use Rattle.cj_decimal.proofs.spelling.read_parts.Goals as goal
 pub returns-in_err-int-clause-number : goal.returns-in_err-int-clause-number
 returns-in_err-int-clause-number c =
     let s = c.args.spelling.now in
-    let at = c.after_minus-from.ensures.body in
-    (λ e. absurd (nothing c.from_residual.result c.from_residual.ensures e),
-        λ n. absurd (not_int s (sym (ap (λ b. is_int (digits_front b)) at) ∙ c.in_err-int.ensures.reads) n))
+    let at = c.after_minus-from.ensures.body in (
+      λ e. absurd (nothing c.from_residual.result c.from_residual.ensures e),
+      λ n. absurd (not_int s (sym (ap (λ b. is_int (digits_front b)) at) ∙ c.in_err-int.ensures.reads) n),
+    )
 
 pub returns-in_err-frac-clause-number : goal.returns-in_err-frac-clause-number
 returns-in_err-frac-clause-number c =
     let s = c.args.spelling.now in
-    let at = c.in_ok-int.ensures.reads.1 ∙ ap digits_rest c.after_minus-from.ensures.body in
-    (λ e. absurd (nothing c.from_residual-in_err-frac.result c.from_residual-in_err-frac.ensures e),
-        λ n. absurd (not_frac s (sym (ap is_frac at) ∙ c.in_err-frac.ensures.reads) n))
+    let at = c.in_ok-int.ensures.reads.1 ∙ ap digits_rest c.after_minus-from.ensures.body in (
+      λ e. absurd (nothing c.from_residual-in_err-frac.result c.from_residual-in_err-frac.ensures e),
+      λ n. absurd (not_frac s (sym (ap is_frac at) ∙ c.in_err-frac.ensures.reads) n),
+    )
 
 pub returns-in_err-exponent-clause-number : goal.returns-in_err-exponent-clause-number
 returns-in_err-exponent-clause-number c =
     let s = c.args.spelling.now in
     let at = c.in_ok-int.ensures.reads.1 ∙ ap digits_rest c.after_minus-from.ensures.body in
-    let end = c.in_ok-frac.ensures.reads.1 ∙ ap after_frac at in
-    (λ e. absurd (nothing c.from_residual-in_err-exponent.result c.from_residual-in_err-exponent.ensures e),
-        λ n. absurd (not_exp s (sym (ap is_exp end) ∙ c.in_err-exponent.ensures.reads) n))
+    let end = c.in_ok-frac.ensures.reads.1 ∙ ap after_frac at in (
+      λ e. absurd (nothing c.from_residual-in_err-exponent.result c.from_residual-in_err-exponent.ensures e),
+      λ n. absurd (not_exp s (sym (ap is_exp end) ∙ c.in_err-exponent.ensures.reads) n),
+    )
 
 pub returns-clause-number : goal.returns-clause-number
 returns-clause-number c =

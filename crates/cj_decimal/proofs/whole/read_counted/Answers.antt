@@ -17,21 +17,21 @@ pub returns-then-not-is_ascii_digit-clause-int : goal.returns-then-not-is_ascii_
 returns-then-not-is_ascii_digit-clause-int c =
     let other = sym c.is_ascii_digit.ensures.value ∙ c.if-not-is_ascii_digit.true in
     let none = no_int_past_other c.args.digits.now c.loop-at.at c.loop-at.invariant.passes
-        (omega (arith, c.loop-at-test.true, c.requires.all)) other in
+    (omega (arith, c.loop-at-test.true, c.requires.all)) other in
     (λ e. absurd (false≢true e), λ int. absurd (none int))
 
 pub overflow_mul-value : goal.overflow_mul-value
 overflow_mul-value c =
     let small =
-        few c.loop-at.value c.loop-at.at c.loop-at.invariant.short
-            (omega (arith, c.loop-at-test.true, c.requires.few)) in
+    few c.loop-at.value c.loop-at.at c.loop-at.invariant.short
+    (omega (arith, c.loop-at-test.true, c.requires.few)) in
     omega (arith, small)
 
 pub overflow_add-value : goal.overflow_add-value
 overflow_add-value c =
     let small =
-        few c.loop-at.value c.loop-at.at c.loop-at.invariant.short
-            (omega (arith, c.loop-at-test.true, c.requires.few)) in
+    few c.loop-at.value c.loop-at.at c.loop-at.invariant.short
+    (omega (arith, c.loop-at-test.true, c.requires.few)) in
     let digit = sym c.is_ascii_digit.ensures.value ∙ c.if-not-is_ascii_digit.false in
     omega (arith, small, digit_bounds (get_or c.args.digits.now c.loop-at.at 0) digit)
 
@@ -50,7 +50,7 @@ loop-at-preserved c =
 pub is_int_part-requires : goal.is_int_part-requires
 is_int_part-requires c =
     let end : c.loop-at.at ≡ length c.args.digits.now =
-        omega (arith, c.loop-at-test.false, c.loop-at.invariant.within, c.requires.all) in
+    omega (arith, c.loop-at-test.false, c.loop-at.invariant.within, c.requires.all) in
     rw c.requires.all (stops_whole _ _ _ c.loop-at.invariant.passes end)
 
 pub returns-then-is_int_part-clause-short : goal.returns-then-is_int_part-clause-short

@@ -21,7 +21,7 @@ returns-then-are_below_ten c = λ holds n tells.
     (bit_and x c.last_bytes.result) (omega arith) (length_is ∙ omega arith)
     (bytes_below line (stop - 8) stop (λ k. (c.type_inv.line k).fits)) c.word_before.ensures
     (ap (bit_and x) c.last_bytes.ensures)
-        (λ t l h is. (c.are_below_ten.ensures.each t l h is).0 c.if-are_below_ten.true) n
+    (λ t l h is. (c.are_below_ten.ensures.each t l h is).0 c.if-are_below_ten.true) n
     (λ t l z e. tells t l z (subst (λ v. v < c.args.word) (c.swap_bytes.ensures ∙ ap (swap_bytes w64) e ∙ swapped t l z)
     (less _ _ holds))) in
     let P : List ℕ → Type 0 = λ t. AllDigits t × (digits_value t < n) in

@@ -17,8 +17,14 @@ returns-clause-short c = λ holds n tells.
     let few = c.are_digits_below.ensures holds 4294967296 (all_below 4294967296 c.args.word (omega arith)) in
     let m = digits_value (slice_range line start stop) in
     let lead : get_or line start 0 ≡ 48 → stop - start ≡ 1 =
-        λ zero. elim c.else-line-start-eq48.branch [ else-line-start-eq48-via-then-line-start-eq48+else-count-ne1 w ↦
-            w.if-count-ne1.false | else-line-start-eq48-via-else-line-start-eq48 w ↦
-            absurd (w.if-line-start-eq48.false zero) ] in
-    (m, subst P back at.1, word_short (Some m) line start stop order c.requires.within lead (subst Q back few.1)
-        (at.0, ap (λ k. digits_value (slice_range line k stop)) (sym back)))
+    λ zero. elim c.else-line-start-eq48.branch [
+      | else-line-start-eq48-via-then-line-start-eq48+else-count-ne1 w ↦
+          w.if-count-ne1.false
+      | else-line-start-eq48-via-else-line-start-eq48 w ↦
+          absurd (w.if-line-start-eq48.false zero)
+    ] in (
+      m,
+      subst P back at.1,
+      word_short (Some m) line start stop order c.requires.within lead (subst Q back few.1)
+          (at.0, ap (λ k. digits_value (slice_range line k stop)) (sym back)),
+    )

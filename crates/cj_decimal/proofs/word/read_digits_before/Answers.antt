@@ -16,7 +16,7 @@ returns-then-are_below_ten-clause-value c =
     let at = digits_at_end (8 - count) s c.word_before.result (bit_and x c.last_bytes.result) (omega arith)
     (length_is ∙ omega arith) (bytes_below line (stop - 8) stop (λ k. (c.type_inv.line k).fits)) c.word_before.ensures
     (ap (bit_and x) c.last_bytes.ensures)
-        (λ t l h is. (c.are_below_ten.ensures.each t l h is).0 c.if-are_below_ten.true)
+    (λ t l h is. (c.are_below_ten.ensures.each t l h is).0 c.if-are_below_ten.true)
     n c.value_of.ensures.value in
     let P : List ℕ → Type 0 = λ t. AllDigits t × (n ≡ digits_value t) in
     subst P (end_of_eight line count stop few room) at

@@ -21,13 +21,15 @@ read c =
     let at = eight_at_end (8 - count) s c.word_before.result (bit_and x c.last_bytes.result) (omega arith)
     (length_is ∙ omega arith) (bytes_below line (stop - 8) stop (λ k. (c.type_inv.line k).fits)) c.word_before.ensures
     (ap (bit_and x) c.last_bytes.ensures)
-        (λ t l h is. (c.are_below_ten.ensures.each t l h is).0 c.if-are_below_ten.true) in
+    (λ t l h is. (c.are_below_ten.ensures.each t l h is).0 c.if-are_below_ten.true) in
     let back : stop - count ≡ start = omega arith in
     let end = end_of_eight line count stop few room ∙ ap (λ k. slice_range line k stop) back in
     let P : ℕ → Type 0 = λ w. IsWordOf w (digits_value (slice_range line start stop)) in
-    let Q : List ℕ → Type 0 = λ t. AllDigits t in
-    (subst Q end at.4, subst P (sym c.swap_bytes.ensures)
-        (word_of_eight at.0 _ _ at.1 at.2 at.3 (at.5 ∙ ap digits_value end)))
+    let Q : List ℕ → Type 0 = λ t. AllDigits t in (
+      subst Q end at.4,
+      subst P (sym c.swap_bytes.ensures)
+          (word_of_eight at.0 _ _ at.1 at.2 at.3 (at.5 ∙ ap digits_value end)),
+    )
 
 pub returns-then-are_below_ten-clause-digits : goal.returns-then-are_below_ten-clause-digits
 returns-then-are_below_ten-clause-digits c = λ some. (read c).0

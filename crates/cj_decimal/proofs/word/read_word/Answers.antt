@@ -9,9 +9,12 @@ use Rattle.cj_decimal.proofs.word.read_word.Goals as goal
 -- a 0 in front stands alone
 lead : (c : After-read_digits_before) → get_or c.args.line.now c.args.start 0 ≡ 48 → c.args.stop - c.args.start ≡ 1
 lead c zero =
-    elim c.else-line-start-eq48.branch [ else-line-start-eq48-via-then-line-start-eq48+else-count-ne1 w ↦
-        w.if-count-ne1.false | else-line-start-eq48-via-else-line-start-eq48 w ↦
-        absurd (w.if-line-start-eq48.false zero) ]
+    elim c.else-line-start-eq48.branch [
+      | else-line-start-eq48-via-then-line-start-eq48+else-count-ne1 w ↦
+          w.if-count-ne1.false
+      | else-line-start-eq48-via-else-line-start-eq48 w ↦
+          absurd (w.if-line-start-eq48.false zero)
+    ]
 
 at_start : (line : List ℕ) (start stop k : ℕ) → k ≡ start → AllDigits (slice_range line k stop)
     → AllDigits (slice_range line start stop)
@@ -21,7 +24,7 @@ pub returns-clause-short : goal.returns-clause-short
 returns-clause-short c =
     let read = c.read_digits_before in
     word_short read.result c.args.line.now c.args.start c.args.stop c.requires.order c.requires.within
-        (lead c) read.ensures.small read.ensures.value
+    (lead c) read.ensures.small read.ensures.value
 
 pub returns-clause-few : goal.returns-clause-few
 returns-clause-few c =
@@ -29,9 +32,13 @@ returns-clause-few c =
     let order = c.requires.order in
     let few = c.if-count-gt-BYTES.false in
     let back : stop - (stop - start) ≡ start = omega arith in
-    let digits = c.read_digits_before.ensures.digits in
-    (λ some. (int_slice line start stop order c.requires.within (lead c)
-            (at_start line start stop (stop - (stop - start)) back (digits.0 some)), omega arith,
-            c.if-stop-lt-BYTES.false),
-        λ int. digits.1 (at_start line (stop - (stop - start)) stop start (sym back)
-            (int_digits (slice_range line start stop) int.0)))
+    let digits = c.read_digits_before.ensures.digits in (
+      λ some. (
+        int_slice line start stop order c.requires.within (lead c)
+            (at_start line start stop (stop - (stop - start)) back (digits.0 some)),
+        omega arith,
+        c.if-stop-lt-BYTES.false,
+      ),
+      λ int. digits.1 (at_start line (stop - (stop - start)) stop start (sym back)
+          (int_digits (slice_range line start stop) int.0)),
+    )

@@ -11,4 +11,4 @@ decreases-check_shape l = l.depth
 abbrev pub invariant-loop-item : goal.invariant-loop-item
 invariant-loop-item l =
     least l.found (flat_map (shape l.vertices.count (l.depth - 1)) (items_left l.item-iterator))
-        ≡ least l.initial.found (shape l.vertices.count l.depth (tree l.node))
+    ≡ least l.initial.found (shape l.vertices.count l.depth (tree l.node))

@@ -12,7 +12,7 @@ use Rattle.cj_geometry.proofs.boundaries.check_indices.Goals as goal
 pub loop-item-preserved : goal.loop-item-preserved
 loop-item-preserved c =
     least_on (shape c.args.vertices.count 0) _ _ _ _ _ _ c.loop-item.invariant c.in-Some.ensures.steps.0
-        c.check_index_below.ensures
+    c.check_index_below.ensures
 
 pub loop-item-init : goal.loop-item-init
 loop-item-init c =
@@ -21,5 +21,5 @@ loop-item-init c =
     let behind = c.items_behind-item-items.ensures front.result front.ensures.lone.within front.ensures.lone.sizes in
     let left = ap items_left c.into_iter-item-iterator.ensures.into_iter_gives ∙ behind in
     ap (λ ts. least c.args.found.now (flat_map (shape v 0) ts)) left
-        ∙ ap (least c.args.found.now)
-        (past-none (shape v 0) front.result (items_of (tree c.args.node)) (front.ensures.none VertexIndex))
+    ∙ ap (least c.args.found.now)
+    (past-none (shape v 0) front.result (items_of (tree c.args.node)) (front.ensures.none VertexIndex))

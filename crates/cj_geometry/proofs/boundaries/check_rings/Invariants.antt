@@ -9,4 +9,4 @@ use Rattle.cj_geometry.proofs.boundaries.check_rings.Given as goal
 abbrev pub invariant-loop-item : goal.invariant-loop-item
 invariant-loop-item l =
     least l.found (flat_map (shape l.vertices.count 1) (items_left l.item-iterator))
-        ≡ least l.initial.found (flat_map (shape l.vertices.count 1) (items_of (tree l.node)))
+    ≡ least l.initial.found (flat_map (shape l.vertices.count 1) (items_of (tree l.node)))

@@ -12,7 +12,7 @@ returns-then-text_is c =
     let t = tree c.args.name in
     let h : has_text (chars (codes "MultiSurface")) t ≡ true = sym c.text_is.ensures.test ∙ c.if-text_is.true in
     let a : has_text (chars (codes "MultiPoint")) t ≡ false =
-        other_text (chars (codes "MultiSurface")) (chars (codes "MultiPoint")) t h in
+    other_text (chars (codes "MultiSurface")) (chars (codes "MultiPoint")) t h in
     let b : has_text (chars (codes "MultiLineString")) t ≡ false =
-        other_text (chars (codes "MultiSurface")) (chars (codes "MultiLineString")) t h in
+    other_text (chars (codes "MultiSurface")) (chars (codes "MultiLineString")) t h in
     rw (a, b, h) (ap Some c.parts.ensures)

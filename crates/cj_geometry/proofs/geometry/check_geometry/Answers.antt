@@ -13,6 +13,6 @@ returns-then-check_object c =
     let n = tree c.args.node in
     let typed = typed_rules c.args.vertices (given c.args.templates) in
     of_kind-then is_object (λ g. distinct g ++ typed g) n _ _ _ (sym c.if-check_object.ensures.is)
-        c.check_object.ensures.found
+    c.check_object.ensures.found
     (least-two c.check_object.new.found c.check_names.new.found c.check_typed.new.found (distinct n)
-        (typed n) c.check_names.ensures c.check_typed.ensures)
+    (typed n) c.check_names.ensures c.check_typed.ensures)

@@ -12,7 +12,7 @@ returns c =
     let n = tree c.args.object in
     let members = c.get_three.ensures in
     least-three c.args.found.now c.check_text_there.new.found c.check_boundaries.new.found
-        c.check_semantics_if.new.found (needs (chars (codes "lod")) (of_kind is_text nothing) n)
+    c.check_semantics_if.new.found (needs (chars (codes "lod")) (of_kind is_text nothing) n)
     (needs (chars (codes "boundaries")) (shape c.args.vertices c.args.depth) n) (semantics_if c.args.values n)
     (c.check_text_there.ensures (chars (codes "lod")) members.first) c.check_boundaries.ensures
-        (c.check_semantics_if.ensures n members.third members.second)
+    (c.check_semantics_if.ensures n members.third members.second)

@@ -12,9 +12,9 @@ pub loop-item-preserved : goal.loop-item-preserved
 loop-item-preserved t c = record {
   found =
       beside-on (values c.args.surfaces.count (c.args.depth - 1)) _ _ (left_of c.loop-item.parts) _
-          (option_map tree c.next_part-beside.result) (left_of c.next_part-beside.new.parts) _ _ _
+      (option_map tree c.next_part-beside.result) (left_of c.next_part-beside.new.parts) _ _ _
       c.loop-item.invariant.found c.in-Some.ensures.steps.0 c.next_part-beside.ensures.part
-          c.next_part-beside.ensures.left c.check_values.ensures;
+      c.next_part-beside.ensures.left c.check_values.ensures;
   even = search rules;
 }
 
@@ -26,11 +26,11 @@ returns-in-None t c =
     let kind = sym c.kind.ensures ∙ c.in-Array.is in
     let some : 0 < c.args.depth = omega (arith, c.if-depth-eq0.false) in
     let walked : items_left c.into_iter-item-iterator.result ≡ items_of n =
-        ap items_left c.into_iter-item-iterator.ensures.into_iter_gives ∙ c.items-item-items.ensures.items in
+    ap items_left c.into_iter-item-iterator.ensures.into_iter_gives ∙ c.items-item-items.ensures.items in
     let done = rw (c.in-None.ensures.steps.0.0, walked, c.walk-parts.ensures) at c.loop-item.invariant.found in
     rw (values-array c.args.surfaces.count c.args.depth n part some kind)
     (least-two c.args.found.now c.loop-item.found c.check_evenness.new.found (beside rule (items_of n) (parts_of part))
-        (other_count n part) done c.check_evenness.ensures
+    (other_count n part) done c.check_evenness.ensures
     ∙ least-swap c.args.found.now (beside rule (items_of n) (parts_of part)) (other_count n part))
 
 pub returns-then-depth-eq1 : goal.returns-then-depth-eq1
@@ -39,4 +39,4 @@ returns-then-depth-eq1 t c =
     let part = option_map tree c.args.part in
     rw (values-one c.args.surfaces.count c.args.depth n part c.if-depth-eq1.true (sym c.kind.ensures ∙ c.in-Array.is))
     (c.check_entries.ensures ∙ least-swap c.args.found.now (flat_map (entry c.args.surfaces.count) (items_of n))
-        (other_count n part))
+    (other_count n part))

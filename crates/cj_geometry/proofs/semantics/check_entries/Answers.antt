@@ -11,5 +11,5 @@ returns c =
     let n = tree c.args.node in
     let walked = rw c.in-None.ensures.steps.0.0 at c.loop-item.invariant.found in
     least-two c.args.found.now c.loop-item.found c.check_evenness.new.found
-        (flat_map (entry c.args.surfaces.count) (items_of n)) (other_count n (option_map tree c.args.part)) walked
-        c.check_evenness.ensures
+    (flat_map (entry c.args.surfaces.count) (items_of n)) (other_count n (option_map tree c.args.part)) walked
+    c.check_evenness.ensures

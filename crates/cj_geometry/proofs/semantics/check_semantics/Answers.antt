@@ -16,10 +16,10 @@ returns-then-check_object c =
     let b = option_map tree c.args.boundaries in
     let needed_surfaces = needs (chars (codes "surfaces")) surfaces in
     let needed_values =
-        λ (u : Tree). needs (chars (codes "values"))
-            (λ v. values (count_of (member_of (chars (codes "surfaces")) u)) c.args.depth v b) u in
+    λ (u : Tree). needs (chars (codes "values"))
+    (λ v. values (count_of (member_of (chars (codes "surfaces")) u)) c.args.depth v b) u in
     of_kind-then is_object (λ u. distinct u ++ needed_surfaces u ++ needed_values u) n _ _ _
-        (sym c.if-check_object.ensures.is) c.check_object.ensures.found
+    (sym c.if-check_object.ensures.is) c.check_object.ensures.found
     (least-three c.check_object.new.found c.check_names.new.found c.check_surfaces_member.new.found
-        c.check_values_member.new.found (distinct n) (needed_surfaces n) (needed_values n)
+    c.check_values_member.new.found (distinct n) (needed_surfaces n) (needed_values n)
     c.check_names.ensures c.check_surfaces_member.ensures c.check_values_member.ensures)

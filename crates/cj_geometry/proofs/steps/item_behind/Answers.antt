@@ -7,4 +7,4 @@ use Rattle.cj_geometry.proofs.steps.item_behind.Goals as goal
 pub returns : goal.returns
 returns c =
     c.item_at.ensures ∙ found_item (items_of (tree c.args.list)) (items_left c.items_behind.result) c.args.sizes.now
-        c.args.step c.args.number _ c.requires.sizes c.requires.within refl c.items_behind.ensures
+    c.args.step c.args.number _ c.requires.sizes c.requires.within refl c.items_behind.ensures

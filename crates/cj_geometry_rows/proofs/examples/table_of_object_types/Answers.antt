@@ -3,5 +3,11 @@ use Rattle.cj_geometry_rows.proofs.examples.table_of_object_types.Goals as goal
 
 pub returns : goal.returns
 returns c =
-    record { count = count; number = has-number; level = has-level; name = of-name; types = type-number;
-        apart = same-row }
+    record {
+      count = count;
+      number = has-number;
+      level = has-level;
+      name = of-name;
+      types = type-number;
+      apart = same-row;
+    }

@@ -17,7 +17,7 @@ returns-then-place-line-clause-answer c = λ ts ks s.
     let l = c.loop-place in
     let a = c.close_array-outer in
     standing_closed c.args.line.now ts ks l.tokens a.new.tokens l.stack a.new.stack l.place (l.invariant.answer ts ks s)
-        l.invariant.within l.invariant.bracket a.ensures.tokens a.ensures.stack a.ensures.closed
+    l.invariant.within l.invariant.bracket a.ensures.tokens a.ensures.stack a.ensures.closed
 
 pub bounds-line-place : goal.bounds-line-place
 bounds-line-place c = let h = c.loop-place.invariant.within in let n = c.if-place-line.false in omega (arith, h, n)
@@ -31,7 +31,7 @@ returns-then-line-place-ne93-clause-answer c = λ ts ks s.
     let l = c.loop-place in
     let a = c.close_array-outer in
     standing_closed c.args.line.now ts ks l.tokens a.new.tokens l.stack a.new.stack l.place (l.invariant.answer ts ks s)
-        l.invariant.within l.invariant.bracket a.ensures.tokens a.ensures.stack a.ensures.closed
+    l.invariant.within l.invariant.bracket a.ensures.tokens a.ensures.stack a.ensures.closed
 
 same_byte : (c n : ℕ) → IsTrue (nat_eq c n) → c ≡ n
 same_byte c n h = grind (arith, nat_tests)
@@ -53,10 +53,10 @@ loop-place-preserved c =
     let order = l.invariant.order in
     let w = l.invariant.within in let n = c.if-place-line.false in
     let go : (ts : BoundedList Token) (ks : BoundedList ℕ)
-        → Standing c.args.line.now ts ks l.tokens l.stack After l.place
-        → Standing c.args.line.now ts ks a.new.tokens a.new.stack After (l.place + 1)
+    → Standing c.args.line.now ts ks l.tokens l.stack After l.place
+    → Standing c.args.line.now ts ks a.new.tokens a.new.stack After (l.place + 1)
     = λ ts ks s. standing_closed c.args.line.now ts ks l.tokens a.new.tokens l.stack a.new.stack l.place s w
-        l.invariant.bracket a.ensures.tokens a.ensures.stack a.ensures.closed in
+    l.invariant.bracket a.ensures.tokens a.ensures.stack a.ensures.closed in
     record {
       stands = stands_on c.args.line.now l.tokens a.new.tokens l.stack a.new.stack After After l.place
           (l.place + 1) l.invariant.stands go;

@@ -22,8 +22,8 @@ pub returns-in-Err-clause-answer : goal.returns-in-Err-clause-answer
 returns-in-Err-clause-answer c = λ ts ks s.
     let l = c.loop-next in
     standing_refused c.args.line.now l.tokens c.open.new.tokens l.stack c.open.new.stack l.next.mode l.next.place
-        c.in-Err.fault c.in-Err.ensures l.invariant.begins c.loop-next-test.true c.if-line-next-ne91.false ts ks
-        (l.invariant.answer ts ks s)
+    c.in-Err.fault c.in-Err.ensures l.invariant.begins c.loop-next-test.true c.if-line-next-ne91.false ts ks
+    (l.invariant.answer ts ks s)
 
 pub loop-next-preserved : goal.loop-next-preserved
 loop-next-preserved c =
@@ -31,7 +31,7 @@ loop-next-preserved c =
     let o = c.open.new in
     let order = l.invariant.order in
     let go = standing_opened c.args.line.now l.tokens o.tokens l.stack o.stack l.next.mode l.next.place c.in-Ok.field-0
-        c.in-Ok.ensures l.invariant.begins c.loop-next-test.true c.if-line-next-ne91.false in
+    c.in-Ok.ensures l.invariant.begins c.loop-next-test.true c.if-line-next-ne91.false in
     record {
       stands = stands_on c.args.line.now l.tokens o.tokens l.stack o.stack l.next.mode FirstItem l.next.place
           (l.next.place + 1) l.invariant.stands go;
@@ -65,12 +65,12 @@ loop-next-preserved-then-line-stop-eq44 c =
     let order = l.invariant.order in let further = n.order in
     let array = innermost_more _ _ _ _ _ l.invariant.array k.ensures.elements in
     let go : (ts : BoundedList Token) (ks : BoundedList ℕ)
-        → Standing c.args.line.now ts ks l.tokens l.stack l.next.mode l.next.place
-        → Standing c.args.line.now ts ks k.new.tokens l.stack Ready (c.in-Some.stop + 1)
+    → Standing c.args.line.now ts ks l.tokens l.stack l.next.mode l.next.place
+    → Standing c.args.line.now ts ks k.new.tokens l.stack Ready (c.in-Some.stop + 1)
     = λ ts ks s. standing_comma c.args.line.now ts ks k.new.tokens l.stack c.in-Some.stop
-        (standing_number c.args.line.now ts ks l.tokens k.new.tokens l.stack l.next.mode l.next.place c.in-Some.stop s
-        l.invariant.begins n (inl c.if-line-stop-eq44.true) k.ensures)
-        (record { within = n.within; comma = c.if-line-stop-eq44.true; array = array }) in
+    (standing_number c.args.line.now ts ks l.tokens k.new.tokens l.stack l.next.mode l.next.place c.in-Some.stop s
+    l.invariant.begins n (inl c.if-line-stop-eq44.true) k.ensures)
+    (record { within = n.within; comma = c.if-line-stop-eq44.true; array = array }) in
     record {
       stands = stands_on c.args.line.now l.tokens k.new.tokens l.stack l.stack l.next.mode Ready l.next.place
           (c.in-Some.stop + 1) l.invariant.stands go;
@@ -86,9 +86,9 @@ close_arrays-behind-requires-clause-stands c =
     let n = c.in-Some.ensures in
     let k = c.keep_atom-then-line-stop-eq93 in
     stands_on c.args.line.now l.tokens k.new.tokens l.stack l.stack l.next.mode After l.next.place c.in-Some.stop
-        l.invariant.stands
+    l.invariant.stands
     (λ ts ks s. standing_number c.args.line.now ts ks l.tokens k.new.tokens l.stack l.next.mode l.next.place
-        c.in-Some.stop s l.invariant.begins n (inr c.if-line-stop-eq93.true) k.ensures)
+    c.in-Some.stop s l.invariant.begins n (inr c.if-line-stop-eq93.true) k.ensures)
 
 pub close_arrays-behind-requires-clause-array : goal.close_arrays-behind-requires-clause-array
 close_arrays-behind-requires-clause-array c =
@@ -100,8 +100,8 @@ returns-then-not-behind-clause-answer c = λ ts ks s.
     let n = c.in-Some.ensures in
     let k = c.keep_atom-then-line-stop-eq93 in
     c.close_arrays-behind.ensures.answer ts ks
-        (standing_number c.args.line.now ts ks l.tokens k.new.tokens l.stack l.next.mode l.next.place c.in-Some.stop
-        (l.invariant.answer ts ks s) l.invariant.begins n (inr c.if-line-stop-eq93.true) k.ensures)
+    (standing_number c.args.line.now ts ks l.tokens k.new.tokens l.stack l.next.mode l.next.place c.in-Some.stop
+    (l.invariant.answer ts ks s) l.invariant.begins n (inr c.if-line-stop-eq93.true) k.ensures)
 
 set : (x : Bool) → not x ≡ false → IsTrue x
 set true h = refl
@@ -116,11 +116,11 @@ loop-next-preserved-then-line-stop-eq93 c =
     let order = l.invariant.order in let further = n.order in let last = e.ensures.order in
     let comma = e.ensures.comma (set _ c.if-not-behind.false) in
     let go : (ts : BoundedList Token) (ks : BoundedList ℕ)
-        → Standing c.args.line.now ts ks l.tokens l.stack l.next.mode l.next.place
-        → Standing c.args.line.now ts ks e.new.tokens e.new.stack Ready (e.result.place + 1)
+    → Standing c.args.line.now ts ks l.tokens l.stack l.next.mode l.next.place
+    → Standing c.args.line.now ts ks e.new.tokens e.new.stack Ready (e.result.place + 1)
     = λ ts ks s. standing_comma c.args.line.now ts ks e.new.tokens e.new.stack e.result.place
-        (e.ensures.answer ts ks (standing_number c.args.line.now ts ks l.tokens k.new.tokens l.stack l.next.mode
-            l.next.place c.in-Some.stop s l.invariant.begins n (inr c.if-line-stop-eq93.true) k.ensures)) comma in
+    (e.ensures.answer ts ks (standing_number c.args.line.now ts ks l.tokens k.new.tokens l.stack l.next.mode
+    l.next.place c.in-Some.stop s l.invariant.begins n (inr c.if-line-stop-eq93.true) k.ensures)) comma in
     record {
       stands = stands_on c.args.line.now l.tokens e.new.tokens l.stack e.new.stack l.next.mode Ready l.next.place
           (e.result.place + 1) l.invariant.stands go;

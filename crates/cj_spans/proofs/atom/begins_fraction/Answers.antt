@@ -6,4 +6,4 @@ pub returns : goal.returns
 returns c = λ t x point.
     let l = c.requires in
     goes_fraction c.args.line.now c.args.place x (omega arith) c.if-line-place-ne46.false (sym c.is_digit.ensures ∙ t)
-        point
+    point

@@ -10,13 +10,13 @@ pub loop-next-preserved : goal.loop-next-preserved
 loop-next-preserved c =
     let s = c.skip_plain-stop.ensures in
     goes_far c.loop-next.invariant
-        (goes_far c.in-Some.ensures.1
-        (goes_same c.args.line.now c.in-Some.next c.skip_plain-stop.result InString s.same s.order s.end))
+    (goes_far c.in-Some.ensures.1
+    (goes_same c.args.line.now c.in-Some.next c.skip_plain-stop.result InString s.same s.order s.end))
 
 pub returns-then-ends_string : goal.returns-then-ends_string
 returns-then-ends_string c =
     reads_far c.loop-next.invariant
-        (reads_quote c.args.line.now c.loop-next.stop (c.ends_string.ensures c.if-ends_string.true))
+    (reads_quote c.args.line.now c.loop-next.stop (c.ends_string.ensures c.if-ends_string.true))
 
 pub returns : goal.returns
 returns c = reads_far c.loop-next.invariant c.read_on.ensures

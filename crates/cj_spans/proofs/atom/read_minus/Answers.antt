@@ -11,4 +11,4 @@ pub returns : goal.returns
 returns c =
     let l = c.requires in
     reads_far (goes_minus c.args.line.now c.args.place (omega arith) c.if-line-place-eq48.false
-        (sym c.is_digit.ensures ∙ c.if-not-is_digit.false)) c.read_whole.ensures
+    (sym c.is_digit.ensures ∙ c.if-not-is_digit.false)) c.read_whole.ensures

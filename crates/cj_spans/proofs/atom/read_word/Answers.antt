@@ -16,4 +16,4 @@ pub returns-then-stands_at : goal.returns-then-stands_at
 returns-then-stands_at c =
     let h = c.has_letters-in-AfterF.ensures in let t = c.if-has_letters-3.true in
     reads_as (sym c.in-AfterF.is)
-        (reads_false c.args.line.now c.args.place (h.within t) (h.letters t) (c.stands_at.ensures c.if-stands_at.true))
+    (reads_false c.args.line.now c.args.place (h.within t) (h.letters t) (c.stands_at.ensures c.if-stands_at.true))

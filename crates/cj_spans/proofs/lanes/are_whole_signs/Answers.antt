@@ -23,10 +23,10 @@ returns-then-marks-eq0 c none k from to =
           let n = k - c.args.from in
           let e : c.args.from + n ≡ k = omega arith in
           subst (λ m. IsWholeSign (byte b m)) e
-              (c.mark_others.ensures 0 n (grind (arith, nat_tests)) (omega arith) (omega arith))
+          (c.mark_others.ensures 0 n (grind (arith, nat_tests)) (omega arith) (omega arith))
       | inr g ↦
           let n = k - (c.args.to - 16) in
           let e : c.args.to - 16 + n ≡ k = omega arith in
           subst (λ m. IsWholeSign (byte b m)) e
-              (c.mark_others-marks.ensures 0 n (omega arith) (omega arith) (omega arith))
+          (c.mark_others-marks.ensures 0 n (omega arith) (omega arith) (omega arith))
     ]

@@ -8,6 +8,8 @@ returns-then-others-eq0-clause-none c =
 
 pub returns-else-others-eq0-clause-found : goal.returns-else-others-eq0-clause-found
 returns-else-others-eq0-clause-found c =
-    let within = digits_within c.args.line.now c.args.place c.requires c.if-others-eq0.false in
-    (omega arith, omega arith,
-        digits_before c.args.line.now c.args.place c.requires (λ k. (c.type_inv.line k).fits) c.if-others-eq0.false)
+    let within = digits_within c.args.line.now c.args.place c.requires c.if-others-eq0.false in (
+      omega arith,
+      omega arith,
+      digits_before c.args.line.now c.args.place c.requires (λ k. (c.type_inv.line k).fits) c.if-others-eq0.false,
+    )

@@ -11,5 +11,7 @@ returns-clause-total c = options_total nat_list_cmp_total
 
 pub returns-clause-same : goal.returns-clause-same
 returns-clause-same c =
-    λ s t. (λ h. (bytes_decides s t).0 (texts_ties s t ∙ ap is_eq h),
-        λ h. subst (λ u. compare s u ≡ Equal) h (tied_itself nat_list_cmp_total s))
+    λ s t. (
+      λ h. (bytes_decides s t).0 (texts_ties s t ∙ ap is_eq h),
+      λ h. subst (λ u. compare s u ≡ Equal) h (tied_itself nat_list_cmp_total s),
+    )

@@ -9,6 +9,8 @@ returns-in-Some-clause-same c = λ i x r.
 
 pub loop-stop-preserved : goal.loop-stop-preserved
 loop-stop-preserved c =
-    let order = c.loop-stop.invariant.1 in
-    (λ i x r. plain_run 16 c.args.line.now i c.loop-stop.stop x c.in-None.ensures.none (c.loop-stop.invariant.0 i x r),
-        omega arith, omega arith)
+    let order = c.loop-stop.invariant.1 in (
+      λ i x r. plain_run 16 c.args.line.now i c.loop-stop.stop x c.in-None.ensures.none (c.loop-stop.invariant.0 i x r),
+      omega arith,
+      omega arith,
+    )

@@ -17,7 +17,7 @@ returns-clause-marked c = ap (λ ts. is_marked_at ts c.args.number) (become c)
 pub returns-clause-others : goal.returns-clause-others
 returns-clause-others c = λ k h.
     ap (λ ts. is_marked_at ts k) (become c)
-        ∙ marked_elsewhere c.args.tokens.now.elements c.args.number k (with_mark c.token_at-token.result) h
+    ∙ marked_elsewhere c.args.tokens.now.elements c.args.number k (with_mark c.token_at-token.result) h
 
 pub returns-clause-kept : goal.returns-clause-kept
 returns-clause-kept c =
@@ -25,7 +25,7 @@ returns-clause-kept c =
     let new = c.set.new.self in
     let t = c.token_at-token.result in
     let found : slice_get old.elements c.args.number ≡ Some t =
-        ap (λ ts. slice_get ts c.args.number) (sym c.as_slice.ensures.value) ∙ c.token_at-token.ensures in
+    ap (λ ts. slice_get ts c.args.number) (sym c.as_slice.ensures.value) ∙ c.token_at-token.ensures in
     let list : new ≡ record old { elements = new.elements } = c.set.ensures.set
-        ∙ ap (λ ts. record old { elements = ts }) (sym (ap (λ b. b.elements) c.set.ensures.set)) in
+    ∙ ap (λ ts. record old { elements = ts }) (sym (ap (λ b. b.elements) c.set.ensures.set)) in
     keeps old new c.args.number t found (become c) list c.set.ensures.within

@@ -6,12 +6,12 @@ use Rattle.cj_spans.proofs.members.pass_name.Goals as goal
 pub read_string-requires-clause-small : goal.read_string-requires-clause-small
 read_string-requires-clause-small c =
     (name_small c.args.line.now c.args.tokens.now c.args.from.mode c.args.from.place c.requires.stands
-        c.requires.within).1
+    c.requires.within).1
 
 pub read_string-requires-clause-room : goal.read_string-requires-clause-room
 read_string-requires-clause-room c =
     name_room c.args.line.now c.args.tokens.now c.args.from.mode c.args.from.place c.requires.stands c.requires.within
-        c.requires.begins
+    c.requires.begins
 
 pub read_string-requires-clause-reserved : goal.read_string-requires-clause-reserved
 read_string-requires-clause-reserved c =
@@ -24,12 +24,12 @@ returns-then-stands_at-clause-leads c =
     let q = c.in-Some.ensures.string in
     leads_on c.args.line.now c.args.tokens.now us us f.mode AfterName Ready f.place c.in-Some.stop (c.in-Some.stop + 1)
     (leads_string c.args.line.now c.args.tokens.now us f.mode AfterName f.place c.in-Some.stop
-        (name_leads f.mode c.requires.begins) q.0 q.1)
-        (leads_colon c.args.line.now us c.in-Some.stop (c.stands_at.ensures c.if-stands_at.true))
+    (name_leads f.mode c.requires.begins) q.0 q.1)
+    (leads_colon c.args.line.now us c.in-Some.stop (c.stands_at.ensures c.if-stands_at.true))
 
 pub returns-clause-leads : goal.returns-clause-leads
 returns-clause-leads c =
     let f = c.args.from in
     let q = c.in-Some.ensures.string in
     leads_string c.args.line.now c.args.tokens.now c.read_string.new.tokens f.mode AfterName f.place c.in-Some.stop
-        (name_leads f.mode c.requires.begins) q.0 q.1
+    (name_leads f.mode c.requires.begins) q.0 q.1

@@ -20,12 +20,12 @@ returns-then-stands_at-clause-leads c =
     let us = c.read_string.new.tokens in
     let q = c.in-Some.ensures.string in
     leads_on c.args.line.now c.args.tokens.now us us Ready After NextName c.args.place c.in-Some.stop
-        (c.in-Some.stop + 1)
+    (c.in-Some.stop + 1)
     (leads_string c.args.line.now c.args.tokens.now us Ready After c.args.place c.in-Some.stop tt q.0 q.1)
-        (leads_comma c.args.line.now us c.in-Some.stop (c.stands_at.ensures c.if-stands_at.true))
+    (leads_comma c.args.line.now us c.in-Some.stop (c.stands_at.ensures c.if-stands_at.true))
 
 pub returns-clause-leads : goal.returns-clause-leads
 returns-clause-leads c =
     let q = c.in-Some.ensures.string in
     leads_string c.args.line.now c.args.tokens.now c.read_string.new.tokens Ready After c.args.place c.in-Some.stop tt
-        q.0 q.1
+    q.0 q.1

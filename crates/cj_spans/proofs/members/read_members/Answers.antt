@@ -22,7 +22,7 @@ pass_value-next-requires c =
     record {
       stands = subst (λ m. StandsInObject c.args.line.now n.new.tokens m n.result.place) c.in-Ready.is
           (stands_leads c.args.line.now l.tokens n.new.tokens l.next.mode n.result.mode l.next.place n.result.place
-              l.invariant.stands n.ensures.leads);
+          l.invariant.stands n.ensures.leads);
     }
 
 pub loop-next-preserved : goal.loop-next-preserved
@@ -32,10 +32,10 @@ loop-next-preserved c =
     let s = c.pass_value-next in
     let order = l.invariant.order in let more = n.ensures.order in let most = s.ensures.order in
     let named =
-        subst (λ m. Leads c.args.line.now l.tokens l.next.mode l.next.place n.new.tokens m n.result.place) c.in-Ready.is
-            n.ensures.leads in
+    subst (λ m. Leads c.args.line.now l.tokens l.next.mode l.next.place n.new.tokens m n.result.place) c.in-Ready.is
+    n.ensures.leads in
     let go = leads_on c.args.line.now l.tokens n.new.tokens s.new.tokens l.next.mode Ready s.result.mode l.next.place
-        n.result.place s.result.place named s.ensures.leads in
+    n.result.place s.result.place named s.ensures.leads in
     record {
       stands = stands_leads c.args.line.now l.tokens s.new.tokens l.next.mode s.result.mode l.next.place s.result.place
           l.invariant.stands go;

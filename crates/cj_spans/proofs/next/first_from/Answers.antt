@@ -5,7 +5,7 @@ use Rattle.cj_spans.proofs.next.first_from.Goals as goal
 pub returns-then-token_at-stop-clause-first : goal.returns-then-token_at-stop-clause-first
 returns-then-token_at-stop-clause-first c =
     let e = before_stopped c.args.tokens.now c.args.stop c.loop-next.next c.token_at.result c.token_at.ensures
-        c.if-token_at-stop.true in
+    c.if-token_at-stop.true in
     let h = c.loop-next.invariant.0 in
     omega arith
 

@@ -9,7 +9,7 @@ pub returns-then-line-place-eq48 : goal.returns-then-line-place-eq48
 returns-then-line-place-eq48 c =
     let room = c.requires.room in
     (number_is c.args.line.now c.args.place (c.args.place + 1) c.requires.digit (λ e. refl) (λ i x r. r) (omega arith)
-        (omega arith)).1
+    (omega arith)).1
 
 pub returns : goal.returns
 returns c =
@@ -19,4 +19,4 @@ returns c =
     let order = f.0 in let end = f.1 in
     (number_is c.args.line.now c.args.place k c.requires.digit (λ e. absurd (c.if-line-place-eq48.false e))
     (λ i x r. read_to c.args.line.now i (c.args.place + 1) k x Whole f.0
-        (λ j low high. whole_stays (byte c.args.line.now j) (f.2 j low high)) r) (omega arith) (omega arith)).1
+    (λ j low high. whole_stays (byte c.args.line.now j) (f.2 j low high)) r) (omega arith) (omega arith)).1

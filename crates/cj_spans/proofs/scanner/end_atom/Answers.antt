@@ -6,8 +6,8 @@ pub returns-in_default-clause-answer : goal.returns-in_default-clause-answer
 returns-in_default-clause-answer c = λ ks p.
     let r = c.read_atom-reach in
     ends_err c.args.line.now c.args.place r.result.stop p c.args.first r.result.read c.args.next ks
-        c.args.tokens.now.elements r.ensures.read r.ensures.halts r.ensures.end
-        (sym c.lex_kind.ensures ∙ c.in_default.is)
+    c.args.tokens.now.elements r.ensures.read r.ensures.halts r.ensures.end
+    (sym c.lex_kind.ensures ∙ c.in_default.is)
 
 pub returns-clause-answer : goal.returns-clause-answer
 returns-clause-answer c = λ ks p.

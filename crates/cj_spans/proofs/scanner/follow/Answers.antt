@@ -6,18 +6,30 @@ use Rattle.cj_spans.proofs.scanner.follow.Goals as goal
 
 pub returns-in-Stay-clause-answer : goal.returns-in-Stay-clause-answer
 returns-in-Stay-clause-answer c =
-    λ ks p. (settles_at c.args.line.now c.args.mode c.args.mode c.args.place _ p _ Stay ks c.args.tokens.now.elements
-        c.in-Stay.is refl refl, omega arith, omega arith)
+    λ ks p. (
+      settles_at c.args.line.now c.args.mode c.args.mode c.args.place _ p _ Stay ks c.args.tokens.now.elements
+          c.in-Stay.is refl refl,
+      omega arith,
+      omega arith,
+    )
 
 pub returns-in-To-clause-answer : goal.returns-in-To-clause-answer
 returns-in-To-clause-answer c =
-    λ ks p. (settles_at c.args.line.now c.args.mode c.in-To.mode c.args.place _ p _ (To c.in-To.mode) ks
-        c.args.tokens.now.elements c.in-To.is refl refl, omega arith, omega arith)
+    λ ks p. (
+      settles_at c.args.line.now c.args.mode c.in-To.mode c.args.place _ p _ (To c.in-To.mode) ks
+          c.args.tokens.now.elements c.in-To.is refl refl,
+      omega arith,
+      omega arith,
+    )
 
 pub returns-in-Open-clause-answer : goal.returns-in-Open-clause-answer
 returns-in-Open-clause-answer c =
-    λ ks p. (settles_at c.args.line.now c.args.mode c.in-Open.mode c.args.place _ p _ (Open c.in-Open.mode) ks
-        c.args.tokens.now.elements c.in-Open.is refl refl, omega arith, omega arith)
+    λ ks p. (
+      settles_at c.args.line.now c.args.mode c.in-Open.mode c.args.place _ p _ (Open c.in-Open.mode) ks
+          c.args.tokens.now.elements c.in-Open.is refl refl,
+      omega arith,
+      omega arith,
+    )
 
 pub returns-in-Ok-clause-answer : goal.returns-in-Ok-clause-answer
 returns-in-Ok-clause-answer c = λ ks p.
@@ -27,11 +39,11 @@ returns-in-Ok-clause-answer c = λ ks p.
     let order = n.ensures.order in
     let reached = e.1 in
     subst (λ v. EndAnswers c.args.line.now (state (phase_after c.args.mode c.args.place v) ks ts (suc c.args.place) p)
-        (Ok n.result) c.end_atom.new.tokens.elements) (sym c.in-Atom.is)
+    (Ok n.result) c.end_atom.new.tokens.elements) (sym c.in-Atom.is)
     (n.ensures.answer _ ks _ p e.0, omega arith, n.ensures.end e.2)
 
 pub returns-in-Err-clause-answer : goal.returns-in-Err-clause-answer
 returns-in-Err-clause-answer c = λ ks p.
     let ts = c.args.tokens.now.elements in
     subst (λ v. EndAnswers c.args.line.now (state (phase_after c.args.mode c.args.place v) ks ts (suc c.args.place) p)
-        (Err c.in-Err.fault) c.end_atom.new.tokens.elements) (sym c.in-Atom.is) (c.in-Err.ensures.answer ks p)
+    (Err c.in-Err.fault) c.end_atom.new.tokens.elements) (sym c.in-Atom.is) (c.in-Err.ensures.answer ks p)

@@ -20,60 +20,60 @@ returns-clause-judgement c = judgement c.args.line.now c.args.stack.now.limit
 pub returns-in_err-scan_reserved-clause-not_utf8 : goal.returns-in_err-scan_reserved-clause-not_utf8
 returns-in_err-scan_reserved-clause-not_utf8 c = λ i h.
     let p = err_from_is_err_and c.from_residual-in_err-scan_reserved.result
-        c.from_residual-in_err-scan_reserved.ensures.1 in
+    c.from_residual-in_err-scan_reserved.ensures.1 in
     let is = rw p.2 at p.1 in
     (c.in_err-scan_reserved.ensures.not_utf8 i).0 (fault_back _ _ is (NotUtf8 i) h)
 
 pub returns-in_err-scan_reserved-clause-too_deep : goal.returns-in_err-scan_reserved-clause-too_deep
 returns-in_err-scan_reserved-clause-too_deep c = λ i h.
     let p = err_from_is_err_and c.from_residual-in_err-scan_reserved.result
-        c.from_residual-in_err-scan_reserved.ensures.1 in
+    c.from_residual-in_err-scan_reserved.ensures.1 in
     let is = rw p.2 at p.1 in
     let limit = c.in_ok-make_room.ensures.emptied.1.limit in
     subst (λ n. DeepAt c.args.line.now n i) limit
-        (c.in_err-scan_reserved.ensures.too_deep i (fault_back _ _ is (TooDeep i) h))
+    (c.in_err-scan_reserved.ensures.too_deep i (fault_back _ _ is (TooDeep i) h))
 
 pub returns-in_err-scan_reserved-clause-first_too_deep : goal.returns-in_err-scan_reserved-clause-first_too_deep
 returns-in_err-scan_reserved-clause-first_too_deep c = λ i h.
     let p = err_from_is_err_and c.from_residual-in_err-scan_reserved.result
-        c.from_residual-in_err-scan_reserved.ensures.1 in
+    c.from_residual-in_err-scan_reserved.ensures.1 in
     let is = rw p.2 at p.1 in
     let limit = c.in_ok-make_room.ensures.emptied.1.limit in
     subst (λ n. IsFirstTooDeep c.args.line.now n i) limit
-        (c.in_err-scan_reserved.ensures.first_too_deep i (fault_back _ _ is (TooDeep i) h))
+    (c.in_err-scan_reserved.ensures.first_too_deep i (fault_back _ _ is (TooDeep i) h))
 
 pub returns-in_err-scan_reserved-clause-first_fault : goal.returns-in_err-scan_reserved-clause-first_fault
 returns-in_err-scan_reserved-clause-first_fault c = λ i h.
     let p = err_from_is_err_and c.from_residual-in_err-scan_reserved.result
-        c.from_residual-in_err-scan_reserved.ensures.1 in
+    c.from_residual-in_err-scan_reserved.ensures.1 in
     let is = rw p.2 at p.1 in
     c.in_err-scan_reserved.ensures.first_fault i (fault_back _ _ is (Syntax i) h)
 
 pub returns-in_err-scan_reserved-clause-finds_not_utf8 : goal.returns-in_err-scan_reserved-clause-finds_not_utf8
 returns-in_err-scan_reserved-clause-finds_not_utf8 c = λ i v.
     let p = err_from_is_err_and c.from_residual-in_err-scan_reserved.result
-        c.from_residual-in_err-scan_reserved.ensures.1 in
+    c.from_residual-in_err-scan_reserved.ensures.1 in
     let is = rw p.2 at p.1 in
     inl (fault_on _ _ is (NotUtf8 i) ((c.in_err-scan_reserved.ensures.not_utf8 i).1 v))
 
 pub returns-in_err-scan_reserved-clause-finds_syntax : goal.returns-in_err-scan_reserved-clause-finds_syntax
 returns-in_err-scan_reserved-clause-finds_syntax c = λ u n i s.
     let p = err_from_is_err_and c.from_residual-in_err-scan_reserved.result
-        c.from_residual-in_err-scan_reserved.ensures.1 in
+    c.from_residual-in_err-scan_reserved.ensures.1 in
     let is = rw p.2 at p.1 in
     let limit = c.in_ok-make_room.ensures.emptied.1.limit in
     inl (fault_on _ _ is (Syntax i)
-        (c.in_err-scan_reserved.ensures.finds_syntax u (subst (λ d. NowhereDeep c.args.line.now d) (sym limit) n) i s))
+    (c.in_err-scan_reserved.ensures.finds_syntax u (subst (λ d. NowhereDeep c.args.line.now d) (sym limit) n) i s))
 
 pub returns-in_err-scan_reserved-clause-judged : goal.returns-in_err-scan_reserved-clause-judged
 returns-in_err-scan_reserved-clause-judged c = λ j u.
     let p = err_from_is_err_and c.from_residual-in_err-scan_reserved.result
-        c.from_residual-in_err-scan_reserved.ensures.1 in
+    c.from_residual-in_err-scan_reserved.ensures.1 in
     let is = rw p.2 at p.1 in
     let limit = c.in_ok-make_room.ensures.emptied.1.limit in
     fault_judged _ _ is j (subst
-        (λ d. (k : Judgement c.args.line.now d) → IsReservedAnswerOf k (Err c.in_err-scan_reserved.field-0.0)) limit
-        (λ k. c.in_err-scan_reserved.ensures.judged k u) j)
+    (λ d. (k : Judgement c.args.line.now d) → IsReservedAnswerOf k (Err c.in_err-scan_reserved.field-0.0)) limit
+    (λ k. c.in_err-scan_reserved.ensures.judged k u) j)
 
 pub returns-clause-finds_not_utf8 : goal.returns-clause-finds_not_utf8
 returns-clause-finds_not_utf8 c =

@@ -9,18 +9,18 @@ pub returns-in-Ok-clause-tree : goal.returns-in-Ok-clause-tree
 returns-in-Ok-clause-tree c =
     let ts = c.clear.new.self in let ks = c.clear-2.new.self in
     answers_tree (Unit {0}) c.args.line.now c.args.tokens.now ts c.run.new.tokens c.args.stack.now ks c.run.new.stack
-        (cleared _ _ c.clear.ensures.cleared) (cleared _ _ c.clear-2.ensures.cleared) c.run.result c.run.ensures.answer
-        c.run.ensures.law c.requires.short
+    (cleared _ _ c.clear.ensures.cleared) (cleared _ _ c.clear-2.ensures.cleared) c.run.result c.run.ensures.answer
+    c.run.ensures.law c.requires.short
 
 pub returns-in-Ok-clause-sized : goal.returns-in-Ok-clause-sized
 returns-in-Ok-clause-sized c =
     sized_on (Unit {0}) c.args.line.now c.args.tokens.now c.run.new.tokens c.args.stack.now c.run.new.stack c.run.result
-        (returns-in-Ok-clause-tree c)
+    (returns-in-Ok-clause-tree c)
 
 pub returns-in-Ok-clause-unmarked : goal.returns-in-Ok-clause-unmarked
 returns-in-Ok-clause-unmarked c =
     run_unmarked (Unit {0}) c.args.line.now c.clear-2.new.self c.run.new.tokens c.run.new.stack c.clear.new.self
-        c.run.result c.run.ensures.answer c.run.ensures.law c.requires.short
+    c.run.result c.run.ensures.answer c.run.ensures.law c.requires.short
 
 pub returns-in-Ok-clause-not_utf8 : goal.returns-in-Ok-clause-not_utf8
 returns-in-Ok-clause-not_utf8 c = λ i.
@@ -34,48 +34,48 @@ pub returns-in-Ok-clause-too_deep : goal.returns-in-Ok-clause-too_deep
 returns-in-Ok-clause-too_deep c = λ i e.
     let ts = c.clear.new.self in let ks = c.clear-2.new.self in
     answers_deep (Unit {0}) c.args.line.now c.args.tokens.now ts c.run.new.tokens c.args.stack.now ks c.run.new.stack
-        (cleared _ _ c.clear.ensures.cleared) (cleared _ _ c.clear-2.ensures.cleared) c.run.result i
-        c.run.ensures.answer e
+    (cleared _ _ c.clear.ensures.cleared) (cleared _ _ c.clear-2.ensures.cleared) c.run.result i
+    c.run.ensures.answer e
 
 pub returns-in-Ok-clause-syntax : goal.returns-in-Ok-clause-syntax
 returns-in-Ok-clause-syntax c = λ i e.
     let ts = c.clear.new.self in let ks = c.clear-2.new.self in
     answers_syntax (Unit {0}) c.args.line.now c.args.tokens.now ts c.run.new.tokens c.args.stack.now ks c.run.new.stack
-        (cleared _ _ c.clear.ensures.cleared) (cleared _ _ c.clear-2.ensures.cleared) c.run.result i
-        c.run.ensures.answer e
+    (cleared _ _ c.clear.ensures.cleared) (cleared _ _ c.clear-2.ensures.cleared) c.run.result i
+    c.run.ensures.answer e
 
 pub returns-in-Ok-clause-first_too_deep : goal.returns-in-Ok-clause-first_too_deep
 returns-in-Ok-clause-first_too_deep c = λ i e.
     let ts = c.clear.new.self in let ks = c.clear-2.new.self in
     answers_first_too_deep (Unit {0}) c.args.line.now c.args.stack.now ks c.run.new.stack c.run.new.tokens
-        (cleared _ _ c.clear-2.ensures.cleared) c.run.result i c.run.ensures.answer e
+    (cleared _ _ c.clear-2.ensures.cleared) c.run.result i c.run.ensures.answer e
 
 pub returns-in-Ok-clause-first_fault : goal.returns-in-Ok-clause-first_fault
 returns-in-Ok-clause-first_fault c = λ i e.
     let ts = c.clear.new.self in let ks = c.clear-2.new.self in
     answers_first_fault (Unit {0}) c.args.line.now c.args.stack.now ks c.run.new.stack c.run.new.tokens
-        (cleared _ _ c.clear-2.ensures.cleared) c.run.result i c.run.ensures.answer e
+    (cleared _ _ c.clear-2.ensures.cleared) c.run.result i c.run.ensures.answer e
 
 pub returns-in-Ok-clause-finds_tree : goal.returns-in-Ok-clause-finds_tree
 returns-in-Ok-clause-finds_tree c = λ u t j h.
     let ts = c.clear.new.self in let ks = c.clear-2.new.self in
     answers_finds_tree (Unit {0}) c.args.line.now c.args.tokens.now ts c.run.new.tokens c.args.stack.now ks
-        c.run.new.stack (cleared _ _ c.clear.ensures.cleared) (cleared _ _ c.clear-2.ensures.cleared) c.run.result t
-        c.run.ensures.answer j h
+    c.run.new.stack (cleared _ _ c.clear.ensures.cleared) (cleared _ _ c.clear-2.ensures.cleared) c.run.result t
+    c.run.ensures.answer j h
 
 pub returns-in-Ok-clause-finds_deep : goal.returns-in-Ok-clause-finds_deep
 returns-in-Ok-clause-finds_deep c = λ u i d.
     let ts = c.clear.new.self in let ks = c.clear-2.new.self in
     answers_finds_deep (Unit {0}) c.args.line.now c.args.tokens.now ts c.run.new.tokens c.args.stack.now ks
-        c.run.new.stack (cleared _ _ c.clear.ensures.cleared) (cleared _ _ c.clear-2.ensures.cleared) c.run.result i
-        c.run.ensures.answer d
+    c.run.new.stack (cleared _ _ c.clear.ensures.cleared) (cleared _ _ c.clear-2.ensures.cleared) c.run.result i
+    c.run.ensures.answer d
 
 pub returns-in-Ok-clause-finds_syntax : goal.returns-in-Ok-clause-finds_syntax
 returns-in-Ok-clause-finds_syntax c = λ u n i s.
     let ts = c.clear.new.self in let ks = c.clear-2.new.self in
     answers_finds_syntax (Unit {0}) c.args.line.now c.args.tokens.now ts c.run.new.tokens c.args.stack.now ks
-        c.run.new.stack (cleared _ _ c.clear.ensures.cleared) (cleared _ _ c.clear-2.ensures.cleared) c.run.result i
-        c.run.ensures.answer n s
+    c.run.new.stack (cleared _ _ c.clear.ensures.cleared) (cleared _ _ c.clear-2.ensures.cleared) c.run.result i
+    c.run.ensures.answer n s
 
 pub returns-in-Err-clause-utf8 : goal.returns-in-Err-clause-utf8
 returns-in-Err-clause-utf8 c = λ h. absurd (h _ refl)
@@ -83,7 +83,7 @@ returns-in-Err-clause-utf8 c = λ h. absurd (h _ refl)
 pub returns-in-Err-clause-not_utf8 : goal.returns-in-Err-clause-not_utf8
 returns-in-Err-clause-not_utf8 c =
     utf8_fault c.args.line.now c.valid_up_to.result _ c.in-Err.ensures.cases.1 c.in-Err.ensures.valid_len
-        c.valid_up_to.ensures
+    c.valid_up_to.ensures
 
 pub returns-in-Ok-clause-judgement : goal.returns-in-Ok-clause-judgement
 returns-in-Ok-clause-judgement c = judgement c.args.line.now c.args.stack.now.limit
@@ -94,4 +94,4 @@ returns-in-Err-clause-judgement c = judgement c.args.line.now c.args.stack.now.l
 pub returns-in-Ok-clause-judged : goal.returns-in-Ok-clause-judged
 returns-in-Ok-clause-judged c = λ j u.
     answer_of j c.run.result (returns-in-Ok-clause-finds_tree c u) (returns-in-Ok-clause-finds_deep c u)
-        (λ n i s. returns-in-Ok-clause-finds_syntax c u n i s)
+    (λ n i s. returns-in-Ok-clause-finds_syntax c u n i s)

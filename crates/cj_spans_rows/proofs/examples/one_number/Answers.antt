@@ -10,10 +10,21 @@ returns c =
     padded 0 0 3 3 _ (no_white _ 0)
     (full_array 0 1 2 no_items _ refl (no_led 1)
     (padded 1 1 2 2 _ (no_white _ 1)
-    (atom Number 1 2 (record
-            { order = lit< tt; within = lit≤ tt;
-                spelled = record { minus = []; int = 48 ∷ []; frac = []; exp = []; minus_is = inl refl;
-                int_is = inl (refl, refl); frac_is = tt; exp_is = tt; joined = refl } }))
+    (atom Number 1 2 (record {
+      order = lit< tt;
+      within = lit≤ tt;
+      spelled = record {
+        minus = [];
+        int = 48 ∷ [];
+        frac = [];
+        exp = [];
+        minus_is = inl refl;
+        int_is = inl (refl, refl);
+        frac_is = tt;
+        exp_is = tt;
+        joined = refl;
+      };
+    }))
     (no_white _ 2))
     refl)
     (no_white _ 3)

@@ -17,7 +17,7 @@ returns-clause-lines g c = λ run left a b runs none.
 pub returns-clause-headline : goal.returns-clause-headline
 returns-clause-headline g c = λ run left a b n m runs noting cause.
     Headline-run g.N.ReportSink.notes run (IsAtEnd left) (channel g.W.Write.contents a) (channel g.W.Write.contents b) n
-        m runs.account
+    m runs.account
     (Writes-puts (λ o. g.W.Write.contents (output_writer o)) output_failures run.rules run.read a b run.outcome.ended
     runs.puts) noting.noted cause
 

@@ -19,7 +19,7 @@ returns-clause-kept c =
 pub returns-clause-output : goal.returns-clause-output
 returns-clause-output c =
     λ rules h a b cut refused. ap (λ z. flat_map raw_item (kept_from rules [] z))
-        (refused-stays rules h a cut b refused).1
+    (refused-stays rules h a cut b refused).1
 
 pub returns-clause-reported : goal.returns-clause-reported
 returns-clause-reported c =

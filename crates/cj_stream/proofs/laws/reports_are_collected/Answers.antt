@@ -15,7 +15,7 @@ returns-clause-runs g c =
 pub returns-clause-headline : goal.returns-clause-headline
 returns-clause-headline g c = λ run left a b runs none cause.
     Headline-run Collects run (IsAtEnd left) (channel g.W.Write.contents a) (channel g.W.Write.contents b) []
-        (reported_first run.rules run.outcome.lines run.read) runs.account
+    (reported_first run.rules run.outcome.lines run.read) runs.account
     (Writes-puts (λ o. g.W.Write.contents (output_writer o)) output_failures run.rules run.read a b run.outcome.ended
     runs.puts)
     (Noting-collected run (IsAtEnd left) runs.account.counts.good runs.account.ends none).noted cause

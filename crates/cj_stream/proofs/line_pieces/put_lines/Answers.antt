@@ -14,15 +14,15 @@ returns-clause-puts g c = λ p st.
     (st.going c.requires.going).0.lines c.args.sink.now c.feed_all.new.sink
     (map (λ piece. piece.now) c.args.pieces.now)
     r.taken (lines_of n) n.reading.kept n.reading.refused (e.fed p st).counts r.ended r.peaks (e.ends p st)
-        (e.taken p st)
+    (e.taken p st)
 
 pub returns-clause-notes : goal.returns-clause-notes
 returns-clause-notes g c = λ p st.
     let e = c.feed_all.ensures in
     let r = c.feed_all.result in
     lines-noted g.N.ReportSink.notes (rules_of c.args.reader.now) p (lines_of c.args.reader.now)
-        (st.going c.requires.going).0.lines c.args.reports.now c.feed_all.new.reports
-        (map (λ piece. piece.now) c.args.pieces.now)
+    (st.going c.requires.going).0.lines c.args.reports.now c.feed_all.new.reports
+    (map (λ piece. piece.now) c.args.pieces.now)
     r.taken (lines_of c.feed_all.new.reader) (e.fed p st).counts.good (e.reports p st) r.ended r.peaks (e.ends p st)
 
 pub returns-clause-sink : goal.returns-clause-sink

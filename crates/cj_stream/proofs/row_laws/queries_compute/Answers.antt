@@ -3,5 +3,12 @@ use Rattle.cj_stream.proofs.row_laws.queries_compute.Goals as goal
 
 pub returns : goal.returns
 returns c =
-    record { ids = ids; types = types; lods = lods; instance = instance; in_box = within; out_of_box = outside;
-        each = each }
+    record {
+      ids = ids;
+      types = types;
+      lods = lods;
+      instance = instance;
+      in_box = within;
+      out_of_box = outside;
+      each = each;
+    }

@@ -25,8 +25,12 @@ returns-in-Err-clause-runs g c =
     let stands = i.5.2 in (
       r,
       Consumes-kept _ _ _ r i.5.1 c.in-Err.ensures.bytes,
-      record { giving = c.loop-i._i; gave = omega arith; least = i.5.4;
-          most = omega (arith, i.1, (stands.going i.2).2) },
+      record {
+        giving = c.loop-i._i;
+        gave = omega arith;
+        least = i.5.4;
+        most = omega (arith, i.1, (stands.going i.2).2);
+      },
       rw (← i.3) (let k = rw (← i.3) at i.5.3 in
           Runs-left _ c.loop-i.engine r _ _ _ ReadFault fault-not_complete
           (whole-good c.loop-i.engine r (stands.going i.2).0) (λ m u e. e) stands k),
@@ -34,11 +38,11 @@ returns-in-Err-clause-runs g c =
           (record { rules = rules_of c.args.engine.now; read = r; outcome = outcome_of c.loop-i.engine ReadFault })
           (Unit {0}) c.args.reports.now c.loop-i.reports
           (let k = stands.counts.good in rw i.3 at k) (let k = whole-good c.loop-i.engine r (stands.going i.2).0 in
-              rw i.3 at k) (λ h. absurd (fault-apart h)) i.5.5,
+          rw i.3 at k) (λ h. absurd (fault-apart h)) i.5.5,
       stops-after c.loop-i.engine.reading _ r [] (stands.going i.2).0 i.3 (sym (append-nil r)) refl (omega arith)
           (λ h. absurd (fault-apart h))
           (let k = least-going c.loop-i.engine r (stands.going i.2).0 (stands.going i.2).1 in rw i.3 at k)
-              (let k = begun-held c.loop-i.engine.reading r (stands.going i.2).0 in rw i.3 at k),
+          (let k = begun-held c.loop-i.engine.reading r (stands.going i.2).0 in rw i.3 at k),
     )
 
 pub returns-in-Ok-eq0-clause-runs : goal.returns-in-Ok-eq0-clause-runs
@@ -48,11 +52,14 @@ returns-in-Ok-eq0-clause-runs g c =
     let stands = c.finish.ensures.finished.stands r i.5.2 in (
       r,
       let k = Consumes-then _ _ _ r (take c.in-Ok-eq0.field-0 c.read.new.buffer) i.5.1 c.in-Ok-eq0.ensures.bytes.0 in
-      rw (c.in-Ok-eq0.field-0-test, append-nil r) at k,
-      record { giving = c.loop-i._i;
-          gave = Gave-finished _ _ c.finish.result (omega arith)
-          (unread-concludes _ r _ c.finish.result (c.finish.ensures.finished.concludes r i.5.2 i.2)); least = i.5.4;
-          most = omega (arith, i.1, (i.5.2.going i.2).2) },
+          rw (c.in-Ok-eq0.field-0-test, append-nil r) at k,
+      record {
+        giving = c.loop-i._i;
+        gave = Gave-finished _ _ c.finish.result (omega arith)
+            (unread-concludes _ r _ c.finish.result (c.finish.ensures.finished.concludes r i.5.2 i.2));
+        least = i.5.4;
+        most = omega (arith, i.1, (i.5.2.going i.2).2);
+      },
       Runs-told g.S.LineSink.law (record {
         rules = rules_of c.args.engine.now;
         read = r;
@@ -71,21 +78,27 @@ returns-in-Ok-eq0-clause-runs g c =
           let j = rw (i.3, c.finish.ensures.finished.ended) at k in
           Delivers-then refl i.5.3 j),
       Noting-told g.N.ReportSink.notes
-          (record { rules = rules_of c.args.engine.now; read = r;
-              outcome = outcome_of c.finish.new.self c.finish.result }) (Unit {0}) c.args.reports.now
+          (record {
+            rules = rules_of c.args.engine.now;
+            read = r;
+            outcome = outcome_of c.finish.new.self c.finish.result;
+          }) (Unit {0}) c.args.reports.now
           c.finish.new.reports
           (let k = stands.counts.good in rw (c.finish.ensures.finished.rules, i.3) at k)
           (Ends-finished _ r _ (Unit {0}) c.finish.result tt (let k = c.finish.ensures.finished.concludes r i.5.2 i.2 in
-                  rw i.3 at k))
+          rw i.3 at k))
           (λ h. absurd (c.finish.ensures.finished.memory i.2 h))
           (let k = c.finish.ensures.reports r i.5.2 i.2 in Notes-then g.N.ReportSink.notes _ i.5.5 (rw i.3 at k)),
       stops-after c.loop-i.engine.reading _ r [] (i.5.2.going i.2).0 i.3 (sym (append-nil r))
           (last-none c.finish.result) (c.finish.ensures.finished.onward r i.5.2)
           (λ h. absurd (c.finish.ensures.finished.memory i.2 h))
           (let k = c.finish.ensures.finished.least r i.5.2 i.2 in rw i.3 at k)
-              (begun-judged (record { rules = rules_of c.args.engine.now; read = r;
-                      outcome = outcome_of c.finish.new.self c.finish.result }) c.finish.result
-              (unread-concludes _ r _ c.finish.result (c.finish.ensures.finished.concludes r i.5.2 i.2))),
+          (begun-judged (record {
+            rules = rules_of c.args.engine.now;
+            read = r;
+            outcome = outcome_of c.finish.new.self c.finish.result;
+          }) c.finish.result
+          (unread-concludes _ r _ c.finish.result (c.finish.ensures.finished.concludes r i.5.2 i.2))),
     )
 
 pub returns-in-Ok-eq0-clause-cause : goal.returns-in-Ok-eq0-clause-cause
@@ -99,14 +112,17 @@ returns-in-Err-feed-clause-runs g c =
     let piece = take c.in-Ok.n c.read.new.buffer in
     let e = c.loop-i.engine in
     let grown : length (r ++ piece) ≡ length r + c.in-Ok.n = length-append r piece
-        ∙ ap (λ n. length r + n) (sym c.in-Ok.ensures.bound.1) in
+    ∙ ap (λ n. length r + n) (sym c.in-Ok.ensures.bound.1) in
     let stands = c.feed.ensures.feeds.stands r i.5.2 in (
       r ++ piece,
       Consumes-then _ _ _ r piece i.5.1 c.in-Ok.ensures.bytes.0,
-      record { giving = c.loop-i._i + 1;
-          gave = Gave-fed _ (r ++ piece) _ _ _ c.in-Err-feed.end (omega arith)
-          (c.in-Err-feed.ensures.feeds.told r i.5.2 i.2); least = omega (arith, i.5.4, grown);
-          most = omega (arith, i.1, (i.5.2.going i.2).2, grown, c.in-Ok.ensures.bound.0, c.read.auto.buffer, i.0) },
+      record {
+        giving = c.loop-i._i + 1;
+        gave = Gave-fed _ (r ++ piece) _ _ _ c.in-Err-feed.end (omega arith)
+            (c.in-Err-feed.ensures.feeds.told r i.5.2 i.2);
+        least = omega (arith, i.5.4, grown);
+        most = omega (arith, i.1, (i.5.2.going i.2).2, grown, c.in-Ok.ensures.bound.0, c.read.auto.buffer, i.0);
+      },
       Runs-told g.S.LineSink.law (record {
         rules = rules_of c.args.engine.now;
         read = r ++ piece;
@@ -126,30 +142,36 @@ returns-in-Err-feed-clause-runs g c =
           Delivers-then
           (kept_first-same _ (lines_of e) r piece (i.5.2.going i.2).0.lines) i.5.3 j),
       Noting-told g.N.ReportSink.notes
-          (record { rules = rules_of c.args.engine.now; read = r ++ piece;
-              outcome = outcome_of c.feed.new.self c.in-Err-feed.end }) (Unit {0}) c.args.reports.now c.feed.new.reports
+          (record {
+            rules = rules_of c.args.engine.now;
+            read = r ++ piece;
+            outcome = outcome_of c.feed.new.self c.in-Err-feed.end;
+          }) (Unit {0}) c.args.reports.now c.feed.new.reports
           (let k = stands.counts.good in rw (i.2, c.feed.ensures.feeds.rules, i.3) at k)
           (Ends-fed _ (r ++ piece) _ (Unit {0}) c.in-Err-feed.end
-              (let k = c.in-Err-feed.ensures.feeds.told r i.5.2 i.2 in rw i.3 at k))
+          (let k = c.in-Err-feed.ensures.feeds.told r i.5.2 i.2 in rw i.3 at k))
           (λ h. (c.feed.ensures.feeds.memory r i.5.2 i.2 (c.in-Err-feed.is ∙ ap Err h)).0.none)
           (let k = c.feed.ensures.reports r i.5.2 i.2 in
           Notes-then g.N.ReportSink.notes _
-              (Notes-more g.N.ReportSink.notes _ r piece _ _ _ (i.5.2.going i.2).0.lines i.5.5) (rw i.3 at k)),
+          (Notes-more g.N.ReportSink.notes _ r piece _ _ _ (i.5.2.going i.2).0.lines i.5.5) (rw i.3 at k)),
       stops-after e.reading _ r piece (i.5.2.going i.2).0 i.3 refl
           (last-piece _ (r ++ piece) _ c.in-Err-feed.end piece (c.in-Err-feed.ensures.feeds.told r i.5.2 i.2)
-              (omega (arith, c.in-Ok.ensures.bound.0, c.in-Ok.ensures.bound.1, c.read.auto.buffer, i.0)))
+          (omega (arith, c.in-Ok.ensures.bound.0, c.in-Ok.ensures.bound.1, c.read.auto.buffer, i.0)))
           (c.feed.ensures.feeds.onward r i.5.2)
           (λ h. inr (let k = (c.feed.ensures.feeds.memory r i.5.2 i.2 (c.in-Err-feed.is ∙ ap Err h)).0 in rw i.3 at k))
           (let k = c.feed.ensures.feeds.least r i.5.2 i.2 in rw i.3 at k)
-              (begun-judged (record { rules = rules_of c.args.engine.now; read = r ++ piece;
-                      outcome = outcome_of c.feed.new.self c.in-Err-feed.end }) c.in-Err-feed.end
-              (unread-told _ (r ++ piece) _ c.in-Err-feed.end (c.in-Err-feed.ensures.feeds.told r i.5.2 i.2))),
+          (begun-judged (record {
+            rules = rules_of c.args.engine.now;
+            read = r ++ piece;
+            outcome = outcome_of c.feed.new.self c.in-Err-feed.end;
+          }) c.in-Err-feed.end
+          (unread-told _ (r ++ piece) _ c.in-Err-feed.end (c.in-Err-feed.ensures.feeds.told r i.5.2 i.2))),
     )
 
 pub returns-in-Err-feed-clause-cause : goal.returns-in-Err-feed-clause-cause
 returns-in-Err-feed-clause-cause g c =
     λ e. HasRisen-after _ _ _ c.loop-i.invariant.4
-        (c.feed.ensures.feeds.cause c.loop-i.invariant.2 (c.in-Err-feed.is ∙ ap Err e))
+    (c.feed.ensures.feeds.cause c.loop-i.invariant.2 (c.in-Err-feed.is ∙ ap Err e))
 
 -- memory is refused before any line was dealt with
 pub returns-in-Err-feed-clause-memory : goal.returns-in-Err-feed-clause-memory
@@ -167,7 +189,7 @@ loop-i-preserved g c =
     let piece = take c.in-Ok.n c.read.new.buffer in
     let e = c.loop-i.engine in
     let grown : length (r ++ piece) ≡ length r + c.in-Ok.n = length-append r piece
-        ∙ ap (λ n. length r + n) (sym c.in-Ok.ensures.bound.1) in (
+    ∙ ap (λ n. length r + n) (sym c.in-Ok.ensures.bound.1) in (
       c.read.auto.buffer ∙ i.0,
       omega (arith, c.in_default.ensures.taken, length-take c.in-Ok.n c.read.new.buffer, c.read.auto.buffer, i.0, i.1),
       c.in_default.ensures.feeds.unended,
@@ -184,7 +206,7 @@ loop-i-preserved g c =
         omega (arith, i.5.4, grown),
         let k = c.feed.ensures.reports r i.5.2 i.2 in
             Notes-then g.N.ReportSink.notes _
-                (Notes-more g.N.ReportSink.notes _ r piece _ _ _ (i.5.2.going i.2).0.lines i.5.5) (rw i.3 at k),
+            (Notes-more g.N.ReportSink.notes _ r piece _ _ _ (i.5.2.going i.2).0.lines i.5.5) (rw i.3 at k),
       ),
       c.read.ensures.failed ∙ ap is_err c.in-Ok.is,
       c.read.ensures.same_reference ∙ i.7,
@@ -197,14 +219,14 @@ pub returns-in-Ok-eq0-clause-failed : goal.returns-in-Ok-eq0-clause-failed
 returns-in-Ok-eq0-clause-failed g c =
     let i = c.loop-i.invariant in
     unfailed-end _ c.finish.result (c.read.ensures.failed ∙ ap is_err c.in-Ok-eq0.is)
-        (unread-concludes _ i.5.0 _ c.finish.result (c.finish.ensures.finished.concludes i.5.0 i.5.2 i.2))
+    (unread-concludes _ i.5.0 _ c.finish.result (c.finish.ensures.finished.concludes i.5.0 i.5.2 i.2))
 
 pub returns-in-Err-feed-clause-failed : goal.returns-in-Err-feed-clause-failed
 returns-in-Err-feed-clause-failed g c =
     let i = c.loop-i.invariant in
     unfailed-end _ c.in-Err-feed.end (c.read.ensures.failed ∙ ap is_err c.in-Ok.is)
-        (unread-told _ (i.5.0 ++ take c.in-Ok.n c.read.new.buffer) _ c.in-Err-feed.end
-        (c.in-Err-feed.ensures.feeds.told i.5.0 i.5.2 i.2))
+    (unread-told _ (i.5.0 ++ take c.in-Ok.n c.read.new.buffer) _ c.in-Err-feed.end
+    (c.in-Err-feed.ensures.feeds.told i.5.0 i.5.2 i.2))
 
 pub returns-clause-failed : goal.returns-clause-failed
 returns-clause-failed g c = unfailed-limit _ c.loop-i.invariant.6
@@ -216,8 +238,12 @@ returns-clause-runs g c =
     let stands = i.5.2 in (
       r,
       i.5.1,
-      record { giving = c.args.reads; gave = refl; least = omega (arith, i.5.4);
-          most = omega (arith, i.1, (stands.going i.2).2) },
+      record {
+        giving = c.args.reads;
+        gave = refl;
+        least = omega (arith, i.5.4);
+        most = omega (arith, i.1, (stands.going i.2).2);
+      },
       rw (← i.3) (let k = rw (← i.3) at i.5.3 in
           Runs-left _ c.loop-i.engine r _ _ _ ReadLimit limit-not_complete
           (whole-good c.loop-i.engine r (stands.going i.2).0) (λ m u e. e) stands k),
@@ -225,22 +251,22 @@ returns-clause-runs g c =
           (record { rules = rules_of c.args.engine.now; read = r; outcome = outcome_of c.loop-i.engine ReadLimit })
           (Unit {0}) c.args.reports.now c.loop-i.reports
           (let k = stands.counts.good in rw i.3 at k) (let k = whole-good c.loop-i.engine r (stands.going i.2).0 in
-              rw i.3 at k) (λ h. absurd (limit-apart h)) i.5.5,
+          rw i.3 at k) (λ h. absurd (limit-apart h)) i.5.5,
       stops-after c.loop-i.engine.reading _ r [] (stands.going i.2).0 i.3 (sym (append-nil r)) refl (omega arith)
           (λ h. absurd (limit-apart h))
           (let k = least-going c.loop-i.engine r (stands.going i.2).0 (stands.going i.2).1 in rw i.3 at k)
-              (let k = begun-held c.loop-i.engine.reading r (stands.going i.2).0 in rw i.3 at k),
+          (let k = begun-held c.loop-i.engine.reading r (stands.going i.2).0 in rw i.3 at k),
     )
 
 pub returns-in-Ok-eq0-clause-limit : goal.returns-in-Ok-eq0-clause-limit
 returns-in-Ok-eq0-clause-limit g c =
     let i = c.loop-i.invariant in
     unread-limit c.finish.result
-        (unread-concludes _ i.5.0 _ c.finish.result (c.finish.ensures.finished.concludes i.5.0 i.5.2 i.2))
+    (unread-concludes _ i.5.0 _ c.finish.result (c.finish.ensures.finished.concludes i.5.0 i.5.2 i.2))
 
 pub returns-in-Err-feed-clause-limit : goal.returns-in-Err-feed-clause-limit
 returns-in-Err-feed-clause-limit g c =
     let i = c.loop-i.invariant in
     unread-limit c.in-Err-feed.end
-        (unread-told _ (i.5.0 ++ take c.in-Ok.n c.read.new.buffer) _ c.in-Err-feed.end
-        (c.in-Err-feed.ensures.feeds.told i.5.0 i.5.2 i.2))
+    (unread-told _ (i.5.0 ++ take c.in-Ok.n c.read.new.buffer) _ c.in-Err-feed.end
+    (c.in-Err-feed.ensures.feeds.told i.5.0 i.5.2 i.2))

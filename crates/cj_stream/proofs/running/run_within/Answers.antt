@@ -8,7 +8,7 @@ use Rattle.cj_stream.proofs.running.run_within.Goals as goal
 pub returns : goal.returns
 returns g c =
     let back : c.reader-1.given.0 ≡ source_reader c.drive-ended.new.source =
-        c.reader-1.given.1 (sym c.new-source.ensures.same_reference ∙ sym c.drive-ended.ensures.same_reference) in
+    c.reader-1.given.1 (sym c.new-source.ensures.same_reference ∙ sym c.drive-ended.ensures.same_reference) in
     let runs = rw (c.new-source.ensures.reader, ← back, c.in-Ok.ensures.empty.1) at c.drive-ended.ensures.runs in
     rw c.of.ensures (record {
       runs = runs;
@@ -45,7 +45,13 @@ returns-in-Err g c = record {
   );
   cause = λ fault. absurd (memory-no_fault (sym (ap (λ o. o.ended) c.without_memory.ensures) ∙ fault));
   enough = enough-memory _ _ _ (ap (λ o. o.ended) c.without_memory.ensures);
-  none = λ _. (refl, refl, refl, inr (ap (λ o. o.ended) c.without_memory.ensures),
-      ap (λ o. o.lines) c.without_memory.ensures, ap (λ o. o.kept) c.without_memory.ensures);
+  none = λ _. (
+    refl,
+    refl,
+    refl,
+    inr (ap (λ o. o.ended) c.without_memory.ensures),
+    ap (λ o. o.lines) c.without_memory.ensures,
+    ap (λ o. o.kept) c.without_memory.ensures,
+  );
   memory = λ _. (ap (λ o. o.lines) c.without_memory.ensures, refl, refl);
 }

@@ -23,16 +23,16 @@ pub returns-in-Some-clause-account : goal.returns-in-Some-clause-account
 returns-in-Some-clause-account c rules h a b cut few x y =
     let e = c.in-Some.ended in
     let same : e ≡ y.outcome.ended =
-        same-end e y.outcome.ended (ended_by c.args.next.now) (sym c.ended.ensures ∙ c.in-Some.is) (ended-of y) in
+    same-end e y.outcome.ended (ended_by c.args.next.now) (sym c.ended.ensures ∙ c.in-Some.is) (ended-of y) in
     let first : c.outcome.result ≡ x.outcome = c.outcome.ensures
-        ∙ outcome-of x Complete (complete-of x c.if-self-ne0.false) in
+    ∙ outcome-of x Complete (complete-of x c.if-self-ne0.false) in
     let second : c.outcome-in-Some.result ≡ y.outcome = c.outcome-in-Some.ensures ∙ outcome-of y e same in
     let both = c.then.ensures.complete (ap (λ o. o.ended) c.outcome.ensures) in
     record {
       outcome = c.then.result;
       judged = subst (λ o. IsJudged o.ended) (sym both)
           (subst (λ o. IsJudged (capped_end (moved_end (c.outcome.result.lines - 1) o.ended))) (sym second)
-              (judged-moved (c.outcome.result.lines - 1) y.outcome.ended y.judged));
+          (judged-moved (c.outcome.result.lines - 1) y.outcome.ended y.judged));
       account = c.then.ensures.account rules h a b None None cut
           (subst (λ o. IsUnread o.ended) (sym first) (judged-unread x.outcome.ended x.judged))
           (rw (c.outcome.ensures, c.outcome-in-Some.ensures) few)

@@ -26,8 +26,8 @@ returns-clause-count c =
     c.sum_of.ensures
     ∙ (capped-sum counts (counts_of ns) long each
     ∙ ap capped (all-counted (λ (g : Tree). class_of (lod (templates_of (feature_header f)) g))
-        (λ g. class-small (option_and_then first_code_of (lod (templates_of (feature_header f)) g)))
-        (flat_map object_geometries (objects_of (feature_tree f)))))
+    (λ g. class-small (option_and_then first_code_of (lod (templates_of (feature_header f)) g)))
+    (flat_map object_geometries (objects_of (feature_tree f)))))
 
 pub returns-clause-lods : goal.returns-clause-lods
 returns-clause-lods c =
@@ -37,4 +37,4 @@ returns-clause-lods c =
     c.bits_of.ensures
     ∙ (ap (λ k. bits (λ n. nat_lt 0 (get_or counts n 0)) k) long
     ∙ bits-among 6 (replicate 6 0) (lod_classes (feature_header f) (feature_tree f)) counts
-        (λ n small. get_or-replicate {A = ℕ} 6 n 0 0 small) c.count_lods.ensures)
+    (λ n small. get_or-replicate {A = ℕ} 6 n 0 0 small) c.count_lods.ensures)

@@ -9,7 +9,7 @@ use Rattle.cityseq_c.proofs.features.record_of.tally_objects.Goals as goal
 pub loop-object-init : goal.loop-object-init
 loop-object-init c =
     let all = ap objects_left c.into_iter-object-iterator.ensures.into_iter_gives
-        ∙ c.objects-object-items.ensures.objects in
+    ∙ c.objects-object-items.ensures.objects in
     let long = ap length all in
     record {
       few = omega arith;

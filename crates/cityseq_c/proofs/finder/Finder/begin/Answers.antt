@@ -12,7 +12,7 @@ pub invariant_of-self-in-loop-self-clause-along : goal.invariant_of-self-in-loop
 invariant_of-self-in-loop-self-clause-along c =
     let self = c.loop-self.self in
     along-next self.part.now (place_of self.cursor) c.next_line.result.now (place_of c.next_line.new.self) self.along
-        c.next_line.ensures.passes
+    c.next_line.ensures.passes
 
 pub returns-clause-begin : goal.returns-clause-begin
 returns-clause-begin c =
@@ -25,7 +25,7 @@ returns-clause-begin c =
       | else-line w ↦ ap finder_text w.self-is
     ] in
     let text : finder_text self ≡ finder_text c.args.self.now = ap (λ h. h.now ++ self.part.now) kept.0
-        ∙ (ap (λ p. c.if-line.self.header.now ++ p.now) kept.1 ∙ first) in
+    ∙ (ap (λ p. c.if-line.self.header.now ++ p.now) kept.1 ∙ first) in
     let end : (self.cursor.line ≡ line) ⊎ ((place_of self.cursor).left ≡ []) = elim c.loop-self-test.branch [
       | then-loop-self-test+else-not-is_at_end w ↦
           inr (ap lines (drop_all self.cursor.at self.cursor.part.now (w.if-not-is_at_end.ensures.0 refl)))

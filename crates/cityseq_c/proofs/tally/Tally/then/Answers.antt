@@ -7,10 +7,10 @@ use Rattle.cityseq_c.proofs.tally.Tally.then.Goals.{then-self-eq0, else-self-eq0
 pub returns : goal.returns
 returns c rules h a b cut done first second =
     tallied-then rules h a b c.args.self.now c.args.next.now c.of.result c.if-self-eq0.header.now c.sink.result
-        c.sink-2.result c.then.result cut done own
+    c.sink-2.result c.then.result cut done own
     c.sink.ensures c.sink-2.ensures c.then.ensures c.of.ensures
     (λ x y both of_x of_y joins. c.parts_are_joined.ensures.tally rules h a b x y both cut done of_x of_y joins) first
-        second
+    second
   where
     own : c.args.self.now.transformed ≢ 0 → c.if-self-eq0.header.now ≡ c.args.self.now
     own some = elim c.if-self-eq0.branch [

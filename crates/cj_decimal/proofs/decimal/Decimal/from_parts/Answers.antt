@@ -15,10 +15,10 @@ returns-then-power-lt-LEAST_POWER-clause-none c = λ n e s r.
     let up : ℕ = parts.digits.extra + c.without_zeros-lead.result.1 in
     let whole = stands_trimmed _ _ _ n _ c.without_zeros-lead.result.1 s c.if-parts.false t in
     let low : (parts.exponent -ℤ pos parts.after_point +ℤ pos up) <ℤ neg_ℤ (pos 1000000) =
-        omega (arith, ints, c.without_zeros-lead.ensures.few, parts.exponent_fits) in
+    omega (arith, ints, c.without_zeros-lead.ensures.few, parts.exponent_fits) in
     power_out parts.negative n _ up (e -ℤ pos parts.after_point) whole t.last
-        (inl (power_low_out e parts.exponent parts.after_point up r (omega arith)
-            (omega (arith, c.without_zeros-lead.ensures.few)) low))
+    (inl (power_low_out e parts.exponent parts.after_point up r (omega arith)
+    (omega (arith, c.without_zeros-lead.ensures.few)) low))
 
 pub returns-then-power-gt-GREATEST_POWER-clause-none : goal.returns-then-power-gt-GREATEST_POWER-clause-none
 returns-then-power-gt-GREATEST_POWER-clause-none c = λ n e s r.
@@ -27,10 +27,10 @@ returns-then-power-gt-GREATEST_POWER-clause-none c = λ n e s r.
     let up : ℕ = parts.digits.extra + c.without_zeros-lead.result.1 in
     let whole = stands_trimmed _ _ _ n _ c.without_zeros-lead.result.1 s c.if-parts.false t in
     let high : pos 1000000 <ℤ (parts.exponent -ℤ pos parts.after_point +ℤ pos up) =
-        omega (arith, ints, c.without_zeros-lead.ensures.few, parts.exponent_fits) in
+    omega (arith, ints, c.without_zeros-lead.ensures.few, parts.exponent_fits) in
     power_out parts.negative n _ up (e -ℤ pos parts.after_point) whole t.last
-        (inr (power_high_out e parts.exponent parts.after_point up r (omega arith)
-            (omega (arith, c.without_zeros-lead.ensures.few)) high))
+    (inr (power_high_out e parts.exponent parts.after_point up r (omega arith)
+    (omega (arith, c.without_zeros-lead.ensures.few)) high))
 
 pub with_sign-requires : goal.with_sign-requires
 with_sign-requires c =
@@ -41,10 +41,10 @@ invariant_of-result-2 c =
     let parts = c.args.parts in
     let few = c.without_zeros-lead.ensures.few in
     let small : c.without_zeros-lead.result.0 < 10 ^ 36 =
-        omega (arith, trimmed_le _ _ _ c.without_zeros-lead.ensures.trimmed, parts.digits.lead_fits) in
+    omega (arith, trimmed_le _ _ _ c.without_zeros-lead.ensures.trimmed, parts.digits.lead_fits) in
     in_form parts.negative c.without_zeros-lead.result.0 _ _ (omega (arith, ints, c.with_sign.ensures)) small
-        c.without_zeros-lead.ensures.trimmed.last (omega (arith, ints, few, parts.exponent_fits))
-        (omega (arith, ints, few, parts.exponent_fits))
+    c.without_zeros-lead.ensures.trimmed.last (omega (arith, ints, few, parts.exponent_fits))
+    (omega (arith, ints, few, parts.exponent_fits))
 
 pub returns-clause-some : goal.returns-clause-some
 returns-clause-some c = λ n e s r.
@@ -52,27 +52,27 @@ returns-clause-some c = λ n e s r.
     let few = c.without_zeros-lead.ensures.few in
     let up : ℕ = parts.digits.extra + c.without_zeros-lead.result.1 in
     let small : c.without_zeros-lead.result.0 < 10 ^ 36 =
-        omega (arith, trimmed_le _ _ _ c.without_zeros-lead.ensures.trimmed, parts.digits.lead_fits) in
+    omega (arith, trimmed_le _ _ _ c.without_zeros-lead.ensures.trimmed, parts.digits.lead_fits) in
     let whole =
-        stands_trimmed _ _ _ n _ c.without_zeros-lead.result.1 s c.if-parts.false
-            c.without_zeros-lead.ensures.trimmed in
+    stands_trimmed _ _ _ n _ c.without_zeros-lead.result.1 s c.if-parts.false
+    c.without_zeros-lead.ensures.trimmed in
     let low : neg_ℤ (pos 1000000) ≤ℤ (parts.exponent -ℤ pos parts.after_point +ℤ pos up) =
-        omega (arith, ints, few, parts.exponent_fits) in
+    omega (arith, ints, few, parts.exponent_fits) in
     let high : (parts.exponent -ℤ pos parts.after_point +ℤ pos up) ≤ℤ pos 1000000 =
-        omega (arith, ints, few, parts.exponent_fits) in
+    omega (arith, ints, few, parts.exponent_fits) in
     let power : (e -ℤ pos parts.after_point +ℤ pos up) ≡ (parts.exponent -ℤ pos parts.after_point +ℤ pos up) =
-        power_in e parts.exponent parts.after_point up r (omega arith) (omega (arith, few)) low high in
+    power_in e parts.exponent parts.after_point up r (omega arith) (omega (arith, few)) low high in
     same_form parts.negative n c.without_zeros-lead.result.0 up (e -ℤ pos parts.after_point) _ _ whole
-        (sign_cast parts.negative c.without_zeros-lead.result.0 c.with_sign.result c.with_sign.ensures small)
-        (power_cast parts.exponent parts.after_point parts.digits.extra c.without_zeros-lead.result.1
-        parts.exponent_fits (omega arith) (omega arith) few low high ∙ sym power)
+    (sign_cast parts.negative c.without_zeros-lead.result.0 c.with_sign.result c.with_sign.ensures small)
+    (power_cast parts.exponent parts.after_point parts.digits.extra c.without_zeros-lead.result.1
+    parts.exponent_fits (omega arith) (omega arith) few low high ∙ sym power)
 
 pub returns-clause-form : goal.returns-clause-form
 returns-clause-form c =
     let parts = c.args.parts in
     let few = c.without_zeros-lead.ensures.few in
     let small : c.without_zeros-lead.result.0 < 10 ^ 36 =
-        omega (arith, trimmed_le _ _ _ c.without_zeros-lead.ensures.trimmed, parts.digits.lead_fits) in
+    omega (arith, trimmed_le _ _ _ c.without_zeros-lead.ensures.trimmed, parts.digits.lead_fits) in
     in_form parts.negative c.without_zeros-lead.result.0 _ _ (omega (arith, ints, c.with_sign.ensures)) small
-        c.without_zeros-lead.ensures.trimmed.last (omega (arith, ints, few, parts.exponent_fits))
-        (omega (arith, ints, few, parts.exponent_fits))
+    c.without_zeros-lead.ensures.trimmed.last (omega (arith, ints, few, parts.exponent_fits))
+    (omega (arith, ints, few, parts.exponent_fits))

@@ -11,20 +11,20 @@ returns-then-power-lt0-clause-none c = λ u same.
     let inside = c.self.inside in
     let range = c.self.invariant.1 in
     let low : inside.power <ℤ neg_ℤ (pos c.args.after_point) =
-        omega (arith, ints, range.power_low, range.power_high, c.requires.bounded, c.requires.apart) in
+    omega (arith, ints, range.power_low, range.power_high, c.requires.bounded, c.requires.apart) in
     absurd (units_below (number inside.coefficient inside.power) u (neg_ℤ (pos c.args.after_point)) c.self.invariant.0
-        (rw c.self.view_is same) low (omega (arith, ints)))
+    (rw c.self.view_is same) low (omega (arith, ints)))
 
 pub returns-then-power-digits-clause-none : goal.returns-then-power-digits-clause-none
 returns-then-power-digits-clause-none c = λ u same.
     let inside = c.self.inside in
     let range = c.self.invariant.1 in
     let high : pos c.args.digits ≤ℤ (inside.power +ℤ pos c.args.after_point) =
-        omega (arith, ints, range.power_low, range.power_high, c.requires.bounded, c.requires.apart) in
+    omega (arith, ints, range.power_low, range.power_high, c.requires.bounded, c.requires.apart) in
     let k : ℕ = int_gap (neg_ℤ (pos c.args.after_point)) inside.power in
     let at = gap_is (neg_ℤ (pos c.args.after_point)) inside.power (omega (arith, ints, high)) in
     far_units (number inside.coefficient inside.power) u c.args.after_point c.args.digits k c.self.invariant.0
-        (sym at) c.requires.apart (omega (arith, ints, at, high)) (rw c.self.view_is same)
+    (sym at) c.requires.apart (omega (arith, ints, at, high)) (rw c.self.view_is same)
 
 pub with_zeros-requires-clause-fits : goal.with_zeros-requires-clause-fits
 with_zeros-requires-clause-fits c =
@@ -36,15 +36,15 @@ returns-clause-value c =
     let inside = c.self.inside in
     let range = c.self.invariant.1 in
     value_in_units c.with_zeros.result (number inside.coefficient inside.power) c.args.self
-        (neg_ℤ (pos c.args.after_point)) _ c.args.digits _ c.with_zeros.ensures.value c.self.view_is
+    (neg_ℤ (pos c.args.after_point)) _ c.args.digits _ c.with_zeros.ensures.value c.self.view_is
     (coefficient_same (number inside.coefficient inside.power) range)
-        (omega (arith, ints, range.power_low, range.power_high, c.requires.bounded, c.requires.apart))
+    (omega (arith, ints, range.power_low, range.power_high, c.requires.bounded, c.requires.apart))
 
 pub returns-clause-none : goal.returns-clause-none
 returns-clause-none c =
     let inside = c.self.inside in
     let range = c.self.invariant.1 in
     none_in_units c.with_zeros.result (number inside.coefficient inside.power) c.args.self
-        (neg_ℤ (pos c.args.after_point)) _ c.args.digits _ c.with_zeros.ensures.none c.self.view_is
+    (neg_ℤ (pos c.args.after_point)) _ c.args.digits _ c.with_zeros.ensures.none c.self.view_is
     (coefficient_same (number inside.coefficient inside.power) range)
-        (omega (arith, ints, range.power_low, range.power_high, c.requires.bounded, c.requires.apart))
+    (omega (arith, ints, range.power_low, range.power_high, c.requires.bounded, c.requires.apart))

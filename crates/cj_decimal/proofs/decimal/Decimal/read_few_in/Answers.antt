@@ -11,6 +11,8 @@ returns-clause-answer c =
 pub returns-clause-few : goal.returns-clause-few
 returns-clause-few c =
     let few = c.read_word.ensures.few in
-    let l = length_slice c.args.line.now c.args.start c.args.stop c.requires.within in
-    (λ some. let all = few.0 some in let near = all.1 in
-        ((all.0, omega (arith, l, near)), all.1, all.2), λ all. few.1 (all.0.0, all.1, all.2))
+    let l = length_slice c.args.line.now c.args.start c.args.stop c.requires.within in (
+      λ some. let all = few.0 some in let near = all.1 in
+          ((all.0, omega (arith, l, near)), all.1, all.2),
+      λ all. few.1 (all.0.0, all.1, all.2),
+    )

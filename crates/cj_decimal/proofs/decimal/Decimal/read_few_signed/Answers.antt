@@ -26,9 +26,10 @@ module _ (s : List ℕ) (from : ℕ) (is : drop from s ≡ body s) where
 
 pub returns-in_default-clause-few : goal.returns-in_default-clause-few
 returns-in_default-clause-few c =
-    let s = c.args.spelling.now in
-    (λ e. absurd (false≢true e),
-        λ few. c.in_default.ensures.few.1 (few_of_left s _ c.after_minus-from.ensures.body (body_of_signed s few)))
+    let s = c.args.spelling.now in (
+      λ e. absurd (false≢true e),
+      λ few. c.in_default.ensures.few.1 (few_of_left s _ c.after_minus-from.ensures.body (body_of_signed s few)),
+    )
 
 pub returns-then-negative-clause-answer : goal.returns-then-negative-clause-answer
 returns-then-negative-clause-answer c = λ class.
@@ -37,13 +38,14 @@ returns-then-negative-clause-answer c = λ class.
     let short = short_of_body s _ c.after_minus-from.ensures.body n c.in-Some.ensures.short in
     let cast : neg_ℤ (pos n) ≡ to_z w64 (of_z w64 (pos 0 -ℤ to_z w64 n)) = omega (arith, ints, short.small) in
     signed_answer s true n class (sym c.if-negative.true ∙ c.has_byte-negative.ensures) short
-        ∙ ap (λ z. Ok (Some z)) cast
+    ∙ ap (λ z. Ok (Some z)) cast
 
 pub returns-then-negative-clause-few : goal.returns-then-negative-clause-few
 returns-then-negative-clause-few c =
-    let few = c.in-Some.ensures.few.0 refl in
-    (λ _. signed_from_body c.args.spelling.now (few_of_body c.args.spelling.now _ c.after_minus-from.ensures.body few),
-        λ _. refl)
+    let few = c.in-Some.ensures.few.0 refl in (
+      λ _. signed_from_body c.args.spelling.now (few_of_body c.args.spelling.now _ c.after_minus-from.ensures.body few),
+      λ _. refl,
+    )
 
 pub returns-else-negative-clause-answer : goal.returns-else-negative-clause-answer
 returns-else-negative-clause-answer c = λ class.
@@ -52,10 +54,11 @@ returns-else-negative-clause-answer c = λ class.
     let short = short_of_body s _ c.after_minus-from.ensures.body n c.in-Some.ensures.short in
     let cast : pos n ≡ to_z w64 n = omega (arith, ints, short.small) in
     signed_answer s false n class (sym c.if-negative.false ∙ c.has_byte-negative.ensures) short
-        ∙ ap (λ z. Ok (Some z)) cast
+    ∙ ap (λ z. Ok (Some z)) cast
 
 pub returns-else-negative-clause-few : goal.returns-else-negative-clause-few
 returns-else-negative-clause-few c =
-    let few = c.in-Some.ensures.few.0 refl in
-    (λ _. signed_from_body c.args.spelling.now (few_of_body c.args.spelling.now _ c.after_minus-from.ensures.body few),
-        λ _. refl)
+    let few = c.in-Some.ensures.few.0 refl in (
+      λ _. signed_from_body c.args.spelling.now (few_of_body c.args.spelling.now _ c.after_minus-from.ensures.body few),
+      λ _. refl,
+    )

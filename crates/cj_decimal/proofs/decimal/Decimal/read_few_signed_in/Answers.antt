@@ -20,15 +20,15 @@ returns-clause-answer c = λ class.
     let minus = minus_first line start stop c.requires.order c.requires.within c.if-line-start-ne45.false in
     let cast : neg_ℤ (pos n) ≡ to_z w64 (of_z w64 (pos 0 -ℤ to_z w64 n)) = omega (arith, ints, short.small) in
     signed_answer (slice_range line start stop) true n class minus
-        (short_behind line start stop n c.requires.order minus short) ∙ ap (λ z. Ok (Some z)) cast
+    (short_behind line start stop n c.requires.order minus short) ∙ ap (λ z. Ok (Some z)) cast
 
 pub returns-then-line-start-ne45-clause-number : goal.returns-then-line-start-ne45-clause-number
 returns-then-line-start-ne45-clause-number c = λ some.
     let line = c.args.line.now in let start = c.args.start in let stop = c.args.stop in
     let int = c.in-Some.ensures.few.0 refl in
     signed_from_body (slice_range line start stop)
-        (few_in line start stop _ (body_plain line start stop c.requires.order c.if-line-start-ne45.true)
-        c.requires.within int.1 int.0)
+    (few_in line start stop _ (body_plain line start stop c.requires.order c.if-line-start-ne45.true)
+    c.requires.within int.1 int.0)
 
 pub returns-clause-number : goal.returns-clause-number
 returns-clause-number c = λ some.
@@ -36,14 +36,14 @@ returns-clause-number c = λ some.
     let int = c.in-Some-read_word.ensures.few.0 refl in
     let minus = minus_first line start stop c.requires.order c.requires.within c.if-line-start-ne45.false in
     signed_from_body (slice_range line start stop)
-        (few_in line (start + 1) stop _ (body_behind line start stop c.requires.order minus) c.requires.within int.1
-        int.0)
+    (few_in line (start + 1) stop _ (body_behind line start stop c.requires.order minus) c.requires.within int.1
+    int.0)
 
 pub returns-in_default-clause-few : goal.returns-in_default-clause-few
 returns-in_default-clause-few c = λ few near room.
     let line = c.args.line.now in let start = c.args.start in let stop = c.args.stop in
     let int = int_in _ _ (body_plain line start stop c.requires.order c.if-line-start-ne45.true)
-        (body_of_signed (slice_range line start stop) few) in
+    (body_of_signed (slice_range line start stop) few) in
     c.in_default.ensures.few.1 (int, near, room)
 
 pub returns-in_default-read_word-clause-few : goal.returns-in_default-read_word-clause-few
@@ -51,7 +51,7 @@ returns-in_default-read_word-clause-few c = λ few near room.
     let line = c.args.line.now in let start = c.args.start in let stop = c.args.stop in
     let minus = minus_first line start stop c.requires.order c.requires.within c.if-line-start-ne45.false in
     let int = int_in _ _ (body_behind line start stop c.requires.order minus)
-        (body_of_signed (slice_range line start stop) few) in
+    (body_of_signed (slice_range line start stop) few) in
     c.in_default-read_word.ensures.few.1 (int, omega arith, room)
 
 pub returns-then-start-stop-clause-few : goal.returns-then-start-stop-clause-few
@@ -59,5 +59,5 @@ returns-then-start-stop-clause-few c = λ few near room.
     let line = c.args.line.now in let start = c.args.start in let stop = c.args.stop in
     let minus = minus_first line start stop c.requires.order c.requires.within c.if-line-start-ne45.false in
     let int = int_in _ _ (body_behind line start stop c.requires.order minus)
-        (body_of_signed (slice_range line start stop) few) in
+    (body_of_signed (slice_range line start stop) few) in
     absurd (no_int line (start + 1) stop (omega arith) int)

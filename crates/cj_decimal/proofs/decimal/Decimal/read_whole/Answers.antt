@@ -7,7 +7,7 @@ pub returns-in-Some-clause-answer : goal.returns-in-Some-clause-answer
 returns-in-Some-clause-answer c = λ class.
     let w = c.in-Some.whole in
     let same : to_z w64 (of_z w64 w) ≡ w =
-        to_z-of_z w64 w (fits_signed_from_abs w64 w (omega (arith, c.in-Some.ensures.small))) in
+    to_z-of_z w64 w (fits_signed_from_abs w64 w (omega (arith, c.in-Some.ensures.small))) in
     ap (λ z. Ok (Some z)) same ∙ sym (c.in-Some.ensures.answer class)
 
 pub returns-in-None-clause-small : goal.returns-in-None-clause-small

@@ -6,4 +6,4 @@ pub returns : goal.returns
 returns c =
     let read = c.read_digits_word in
     word_answer read.result (slice_range c.args.line.now c.args.start c.args.stop) c.requires.number read.ensures.digits
-        read.ensures.word
+    read.ensures.word

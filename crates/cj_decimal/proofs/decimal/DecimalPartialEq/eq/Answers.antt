@@ -7,15 +7,15 @@ returns-then-other-self-clause-same_value c =
     let mine = c.self.inside in
     let theirs = c.other.inside in
     rw (← c.self.view_is, ← c.other.view_is)
-        (turned _ (number mine.coefficient mine.power) (number theirs.coefficient theirs.power)
+    (turned _ (number mine.coefficient mine.power) (number theirs.coefficient theirs.power)
     (same_by_power (number theirs.coefficient theirs.power) (number mine.coefficient mine.power) c.other.invariant
-        c.self.invariant c.if-other-self.true))
+    c.self.invariant c.if-other-self.true))
 
 pub returns-else-other-self-clause-same_value : goal.returns-else-other-self-clause-same_value
 returns-else-other-self-clause-same_value c =
     let mine = c.self.inside in
     let theirs = c.other.inside in
     rw (← c.self.view_is, ← c.other.view_is)
-        (turned _ (number mine.coefficient mine.power) (number theirs.coefficient theirs.power)
+    (turned _ (number mine.coefficient mine.power) (number theirs.coefficient theirs.power)
     (apart_by_coefficient (number theirs.coefficient theirs.power) (number mine.coefficient mine.power)
-        c.other.invariant c.self.invariant c.if-other-self.false))
+    c.other.invariant c.self.invariant c.if-other-self.false))

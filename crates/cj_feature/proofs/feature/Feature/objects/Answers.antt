@@ -19,7 +19,7 @@ over-requires c =
     let objects = tree c.objects_node.result in
     let vertices = count_of (member_of (chars (codes "vertices")) t) in
     let none = then-none (city_objects vertices (templates_of (document f.header))) t (chars (codes "CityObjects"))
-        (has-objects (templates_of (document f.header)) t f.valid) (Some objects) (sym c.objects_node.ensures.tree)
-        objects refl in
+    (has-objects (templates_of (document f.header)) t f.valid) (Some objects) (sym c.objects_node.ensures.tree)
+    objects refl in
     ap (list_all is_typed) c.members.ensures.members
-        ∙ all-typed vertices (templates_of (document f.header)) objects none
+    ∙ all-typed vertices (templates_of (document f.header)) objects none

@@ -16,6 +16,6 @@ over-requires c =
     let t = document f.doc in
     let vertices = tree f.vertices in
     let none = then-none vertex_list t (chars (codes "vertices"))
-        (has-vertices (templates_of (document f.header)) t f.valid) (Some vertices) (sym f.has_vertices) vertices
-        refl in
+    (has-vertices (templates_of (document f.header)) t f.valid) (Some vertices) (sym f.has_vertices) vertices
+    refl in
     ap (list_all is_vertex) c.items.ensures.items ∙ all-vertices vertices none

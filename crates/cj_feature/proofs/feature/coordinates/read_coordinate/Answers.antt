@@ -18,12 +18,12 @@ pub next_whole-requires : goal.next_whole-requires
 next_whole-requires c =
     let vertex = vertex_of (tree c.args.node) in
     ap begins_whole (from-axis (tree c.args.node) (items_left c.loop.items) c.loop.counter c.args.axis c.loop.invariant
-        (omega arith)) ∙ three-begin c.args.axis vertex c.requires.whole c.requires.on_an_axis
+    (omega arith)) ∙ three-begin c.args.axis vertex c.requires.whole c.requires.on_an_axis
 
 pub returns : goal.returns
 returns c =
     let vertex = vertex_of (tree c.args.node) in
     let left = from-axis (tree c.args.node) (items_left c.loop.items) c.loop.counter c.args.axis c.loop.invariant
-        (omega arith) in
+    (omega arith) in
     let value = sym (number-begins c.args.axis vertex _ c.next_whole.result (sym left ∙ c.next_whole.ensures)) in
     search (rules, value)

@@ -10,4 +10,4 @@ abbrev pub invariant-loop-item : goal.invariant-loop-item
 invariant-loop-item l =
     least l.found (flat_map (child (members_of (tree l.objects)) (tree l.name)) (items_left l.item-iterator))
     ≡ least l.initial.found (flat_map (child (members_of (tree l.objects)) (tree l.name))
-        (items_left l.initial.item-iterator))
+    (items_left l.initial.item-iterator))

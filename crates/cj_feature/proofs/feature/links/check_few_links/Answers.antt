@@ -7,4 +7,4 @@ use Rattle.cj_feature.proofs.feature.links.check_few_links.Goals as goal
 pub loop-name-preserved : goal.loop-name-preserved
 loop-name-preserved c =
     least_on (object_links (members_of (tree c.args.objects))) _ _ _ _ _ _ c.loop-name.invariant
-        c.in-Some.ensures.steps.0 c.check_object_links.ensures
+    c.in-Some.ensures.steps.0 c.check_object_links.ensures

@@ -9,5 +9,5 @@ returns c =
     let all = members_of (tree c.args.objects) in
     let m = trees (c.args.name, c.args.object) in
     least-three c.args.found.now c.check_children.new.found c.check_parents.new.found c.check_part.new.found
-        (children all m) (parents all m) (part all m) c.check_children.ensures c.check_parents.ensures
-        c.check_part.ensures
+    (children all m) (parents all m) (part all m) c.check_children.ensures c.check_parents.ensures
+    c.check_part.ensures

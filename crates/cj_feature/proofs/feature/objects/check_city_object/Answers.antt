@@ -19,12 +19,12 @@ returns-then-check_object-clause-found c =
     let parents = may_have (chars (codes "parents")) texts in
     let members = c.get_three.ensures in
     let three =
-        least-three o _ _ _ (distinct n) (name n) (geometry n) c.check_names.ensures
-            c.check_type_member-second.ensures.found (rw members.first at c.check_geometries_if.ensures) in
+    least-three o _ _ _ (distinct n) (name n) (geometry n) c.check_names.ensures
+    c.check_type_member-second.ensures.found (rw members.first at c.check_geometries_if.ensures) in
     let five = least-three o _ _ _ (distinct n ++ name n ++ geometry n) (children n) (parents n) three
-        (rw members.second at c.check_texts_if.ensures)
-        (rw members.third at c.check_texts_if-then-check_object.ensures) in
+    (rw members.second at c.check_texts_if.ensures)
+    (rw members.third at c.check_texts_if-then-check_object.ensures) in
     let six = least-two o _ _ (distinct n ++ name n ++ geometry n ++ children n ++ parents n) (second_level n) five
-        c.check_second_level.ensures in
+    c.check_second_level.ensures in
     of_kind-then is_object (λ u. distinct u ++ name u ++ geometry u ++ children u ++ parents u ++ second_level u) n _ _
-        _ (sym c.if-check_object.ensures.is) c.check_object.ensures.found six
+    _ (sym c.if-check_object.ensures.is) c.check_object.ensures.found six

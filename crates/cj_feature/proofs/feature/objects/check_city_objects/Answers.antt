@@ -20,7 +20,7 @@ loop-object-preserved c = (
   λ e all.
       let n = neither c.loop-object.linked c.check_city_object-linked.result e in
       next_unlinked (object_links all) _ _ _ _ (c.loop-object.invariant.1 n.0 all) c.in-Some.ensures.steps.0
-          (c.check_city_object-linked.ensures.unlinked n.1 all (tree c.in-Some.field-0-0)),
+      (c.check_city_object-linked.ensures.unlinked n.1 all (tree c.in-Some.field-0-0)),
 )
 
 pub returns-in-None-clause-found : goal.returns-in-None-clause-found
@@ -29,6 +29,6 @@ returns-in-None-clause-found c =
     let each = λ (u : Tree). flat_map (λ m. city_object c.args.vertices (given c.args.templates) m.1) (members_of u) in
     let walked = rw c.in-None.ensures.steps.0.0 at c.loop-object.invariant.0 in
     of_kind-then is_object (λ u. distinct u ++ each u) n _ _ _ (sym c.if-check_object.ensures.is)
-        c.check_object.ensures.found
+    c.check_object.ensures.found
     (least-two c.check_object.new.found c.check_names.new.found c.loop-object.found (distinct n)
-        (each n) c.check_names.ensures walked)
+    (each n) c.check_names.ensures walked)

@@ -22,24 +22,24 @@ returns-then-check_object c =
     let templates = given c.args.templates in
     let type_rule = has_member_named (chars (codes "type")) WrongType (chars (codes "CityJSONFeature")) n in
     let objects =
-        needs (chars (codes "CityObjects")) (city_objects (count_of (member_of (chars (codes "vertices")) n)) templates)
-            n in
+    needs (chars (codes "CityObjects")) (city_objects (count_of (member_of (chars (codes "vertices")) n)) templates)
+    n in
     let vertices = needs (chars (codes "vertices")) vertex_list n in
     let linked = rw c.requires.objects at c.check_links_if.ensures in
     let counted = rw c.check_vertices_member-count.ensures.count at c.check_city_objects_member-linked.ensures.found in
     let three =
-        least-three o _ _ _ (distinct n) type_rule (id_rule n) c.check_names.ensures c.check_name_member.ensures
-            c.check_id_member.ensures in
+    least-three o _ _ _ (distinct n) type_rule (id_rule n) c.check_names.ensures c.check_name_member.ensures
+    c.check_id_member.ensures in
     let first = distinct n ++ type_rule ++ id_rule n in
     let both = least-two c.check_id_member.new.found _ _ vertices objects c.check_vertices_member-count.ensures.found
-        counted ∙ least-swap c.check_id_member.new.found vertices objects in
+    counted ∙ least-swap c.check_id_member.new.found vertices objects in
     let five = least-two o _ _ first (objects ++ vertices) three both
-        ∙ ap (λ fs. least o fs) (sym (append_assoc first objects vertices)) in
+    ∙ ap (λ fs. least o fs) (sym (append_assoc first objects vertices)) in
     let six = least-two o _ _ (distinct n ++ type_rule ++ id_rule n ++ objects ++ vertices)
-        (links (member_of (chars (codes "CityObjects")) n)) five linked in
+    (links (member_of (chars (codes "CityObjects")) n)) five linked in
     let seven =
-        least-two o _ _ (distinct n ++ type_rule ++ id_rule n ++ objects ++ vertices
-            ++ links (member_of (chars (codes "CityObjects")) n)) (reach_if c.args.connected n) six
-            c.check_reached.ensures in
+    least-two o _ _ (distinct n ++ type_rule ++ id_rule n ++ objects ++ vertices
+    ++ links (member_of (chars (codes "CityObjects")) n)) (reach_if c.args.connected n) six
+    c.check_reached.ensures in
     of_kind-then is_object (feature_rules templates c.args.connected) n _ _ _ (sym c.if-check_object.ensures.is)
-        c.check_object.ensures.found seven
+    c.check_object.ensures.found seven

@@ -15,6 +15,8 @@ loop-item-init c =
     let behind = c.items_behind-item-items.ensures front.result front.ensures.lone.within front.ensures.lone.sizes in
     let left = ap items_left c.into_iter-item-iterator.ensures.into_iter_gives ∙ behind in
     let count = ap length left ∙ length-drop front.result ts in
-    let within = front.ensures.lone.within in
-    (omega (arith, count, within), ap (λ us. least c.args.found.now (flat_map whole_number us)) left
-        ∙ ap (least c.args.found.now) (past-none whole_number front.result ts front.ensures.none))
+    let within = front.ensures.lone.within in (
+      omega (arith, count, within),
+      ap (λ us. least c.args.found.now (flat_map whole_number us)) left
+          ∙ ap (least c.args.found.now) (past-none whole_number front.result ts front.ensures.none),
+    )

@@ -10,4 +10,4 @@ abbrev pub invariant-loop-item : goal.invariant-loop-item
 invariant-loop-item l =
     (l.count + length (items_left l.item-iterator) ≡ length (items_of (tree l.node)))
     × (least l.found (flat_map whole_number (items_left l.item-iterator))
-        ≡ least l.initial.found (flat_map whole_number (items_of (tree l.node))))
+    ≡ least l.initial.found (flat_map whole_number (items_of (tree l.node))))

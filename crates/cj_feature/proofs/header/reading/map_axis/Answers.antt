@@ -17,5 +17,5 @@ unreachable-requires c =
 pub unreachable-requires-in_default-fixed18 : goal.unreachable-requires-in_default-fixed18
 unreachable-requires-in_default-fixed18 c =
     let some = c.in_default-fixed18.ensures.fixed.1
-        (units_of c.args.shift, fixed-units c.args.shift c.requires.shift) in
+    (units_of c.args.shift, fixed-units c.args.shift c.requires.shift) in
     absurd (cc some)

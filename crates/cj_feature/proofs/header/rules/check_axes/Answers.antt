@@ -10,5 +10,5 @@ pub returns-then-with_box : goal.returns-then-with_box
 returns-then-with_box c =
     let n = tree c.args.node in
     rw c.if-with_box.true (least-two c.args.found.now c.check_three_numbers.new.found c.check_first_two.new.found
-        (of_length NotThree 3 number n) (first_two fixed (items_of n)) c.check_three_numbers.ensures
-        c.check_first_two.ensures)
+    (of_length NotThree 3 number n) (first_two fixed (items_of n)) c.check_three_numbers.ensures
+    c.check_first_two.ensures)

@@ -9,4 +9,4 @@ returns-in-Some-clause-verdict c =
     let d = document c.args.doc in
     let checked = rw c.root-root.ensures.tree at c.check_root.ensures in
     only-findings (header c.args.with_box d) c.new-found.result (Some c.in-Some.finding) c.new-found.ensures
-        (c.in-Some.ensures.held ∙ checked)
+    (c.in-Some.ensures.held ∙ checked)

@@ -11,6 +11,6 @@ pub returns-then-check_object : goal.returns-then-check_object
 returns-then-check_object c =
     let n = tree c.args.node in
     of_kind-then is_object (λ u. distinct u ++ no_members u) n _ _ _ (sym c.if-check_object.ensures.is)
-        c.check_object.ensures.found
+    c.check_object.ensures.found
     (least-two c.check_object.new.found c.check_names.new.found c.check_no_members.new.found (distinct n)
-        (no_members n) c.check_names.ensures c.check_no_members.ensures)
+    (no_members n) c.check_names.ensures c.check_no_members.ensures)

@@ -20,12 +20,12 @@ returns-then-check_object c =
     let vertices = needs (chars (codes "vertices")) empty_array n in
     let templates = may_have (chars (codes "geometry-templates")) geometry_templates n in
     let three =
-        least-three o _ _ _ (distinct n) type_rule version c.check_names.ensures c.check_name_member.ensures
-            c.check_name_member-then-check_object.ensures in
+    least-three o _ _ _ (distinct n) type_rule version c.check_names.ensures c.check_name_member.ensures
+    c.check_name_member-then-check_object.ensures in
     let five = least-three o _ _ _ (distinct n ++ type_rule ++ version) map objects three
-        c.check_transform_member.ensures c.check_no_objects_member.ensures in
+    c.check_transform_member.ensures c.check_no_objects_member.ensures in
     let seven =
-        least-three o _ _ _ (distinct n ++ type_rule ++ version ++ map ++ objects) vertices templates five
-            c.check_no_vertices_member.ensures c.check_templates_member.ensures in
+    least-three o _ _ _ (distinct n ++ type_rule ++ version ++ map ++ objects) vertices templates five
+    c.check_no_vertices_member.ensures c.check_templates_member.ensures in
     of_kind-then is_object (header_rules c.args.with_box) n _ _ _ (sym c.if-check_object.ensures.is)
-        c.check_object.ensures.found seven
+    c.check_object.ensures.found seven

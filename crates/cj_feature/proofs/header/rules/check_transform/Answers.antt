@@ -14,7 +14,7 @@ returns-then-check_object c =
     let scale = needs (chars (codes "scale")) (three_numbers c.args.with_box) in
     let translate = needs (chars (codes "translate")) (three_numbers c.args.with_box) in
     of_kind-then is_object (λ u. distinct u ++ scale u ++ translate u) n _ _ _ (sym c.if-check_object.ensures.is)
-        c.check_object.ensures.found
+    c.check_object.ensures.found
     (least-three c.check_object.new.found c.check_names.new.found c.check_axes_member.new.found
-        c.check_axes_member-then-check_object.new.found (distinct n) (scale n) (translate n)
+    c.check_axes_member-then-check_object.new.found (distinct n) (scale n) (translate n)
     c.check_names.ensures c.check_axes_member.ensures c.check_axes_member-then-check_object.ensures)

@@ -9,4 +9,4 @@ check_feature-requires c = λ k asked.
     let marks = k.mark_reached.ensures.marks (document d) k.of-in-Ok.ensures.json in
     let tokens = k.of-in-Ok.ensures.tokens ∙ k.as_slice-in-Ok.ensures.value in
     subst (λ l. AreMarks (document d) l (tokens_in (document_source d))) (sym k.of-in-Ok.ensures.line)
-        (subst (AreMarks (document d) k.args.line.now) (sym tokens) marks)
+    (subst (AreMarks (document d) k.args.line.now) (sym tokens) marks)

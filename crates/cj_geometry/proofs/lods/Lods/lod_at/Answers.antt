@@ -14,4 +14,4 @@ returns-in-Some-clause-lod c =
     answer-right trees self.answers kept.0 c.in-Some.answer self.answered kept.1
     ∙ ap (λ n. option_and_then (member_of (chars (codes "lod"))) (slice_get trees n)) c.in-Some.ensures.number
     ∙ ap (λ ts. option_and_then (member_of (chars (codes "lod"))) (slice_get ts c.args.number))
-        (sym (ap parts_of c.requires))
+    (sym (ap parts_of c.requires))

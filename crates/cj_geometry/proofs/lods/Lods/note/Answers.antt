@@ -12,7 +12,7 @@ invariant_of-self-clause-answered c =
     let self = c.args.self.now in
     let trees = parts_of (list_of (given self.templates)) in
     let right = c.requires.right
-        ∙ ap (λ ts. option_and_then (member_of (chars (codes "lod"))) (slice_get ts c.args.answer.number))
-        (ap parts_of c.requires.list) in
+    ∙ ap (λ ts. option_and_then (member_of (chars (codes "lod"))) (slice_get ts c.args.answer.number))
+    (ap parts_of c.requires.list) in
     let kept = answer-kept trees self.answers (self.oldest % 64) c.args.answer self.answered right in
     subst (AreAnswersIn trees) (sym c.with_answer-self.ensures) kept

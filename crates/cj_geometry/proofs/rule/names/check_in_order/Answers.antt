@@ -20,10 +20,10 @@ returns-then-is_none c =
     let no_ceiling = none_there c.gather-held.result.ceiling (c.is_none.ensures ∙ ap not c.if-is_none.true) in
     let h = subst (λ o. HoldNames s (names_of ms) [] floor (limit_in s o) es) no_ceiling g.names in
     let r = reached_more ms g.order c.args.found.now c.loop-floor.found c.deal-floor.new.found floor
-        (last_of floor (names_in s fs)) (names_in s fs) c.loop-floor.invariant.reached
-        (are_next s ms floor None es fs h d.permutation d.order) d.found refl in
+    (last_of floor (names_in s fs)) (names_in s fs) c.loop-floor.invariant.reached
+    (are_next s ms floor None es fs h d.permutation d.order) d.found refl in
     all_reached ms g.order c.args.found.now c.deal-floor.new.found (last_of floor (names_in s fs)) r
-        (none_left s ms floor es fs h d.permutation d.order)
+    (none_left s ms floor es fs h d.permutation d.order)
 
 pub loop-floor-smaller : goal.loop-floor-smaller
 loop-floor-smaller c =
@@ -39,7 +39,7 @@ loop-floor-smaller c =
     let l = length-take-le c.gather-held.result.count c.gather-held.new.room (omega arith) in
     let filled : 0 < length es = omega arith in
     subst (λ o. left_above (names_of ms) o < left_above (names_of ms) floor) (sym d.last)
-        (first_held s ms floor _ es fs g.names d.permutation d.order filled)
+    (first_held s ms floor _ es fs g.names d.permutation d.order filled)
 
 pub loop-floor-preserved : goal.loop-floor-preserved
 loop-floor-preserved c =

@@ -14,5 +14,5 @@ invariant-loop-name l = record {
   told : least l.found (neighbours (limit_in (source_of l.object) l.before)
       (names_in (source_of l.object) (drop l.name-index l.names)))
       ≡ least l.initial.found (neighbours (limit_in (source_of l.object) l.fn.floor)
-          (names_in (source_of l.object) l.names));
+      (names_in (source_of l.object) l.names));
 }

@@ -13,7 +13,7 @@ loop-node-init c =
     let ms = members_of (tree c.args.object) in
     let walk = c.into_iter-node-iterator.ensures.into_iter_gives in
     let all : members_left c.into_iter-node-iterator.result ≡ ms = ap members_left walk
-        ∙ c.members-node-items.ensures.members in
+    ∙ c.members-node-items.ensures.members in
     record {
       some = c.requires.some;
       fewer = c.requires.fewer;
@@ -45,10 +45,10 @@ loop-node-preserved-then-has_place c =
           c.loop-node.held.ceiling c.put-held.result.ceiling name (tree c.in-Some.node)
           (take c.loop-node.held.count c.loop-node.room) _
           (subst (λ x. name_in x name ≡ tree c.in-Some.node) e c.of-name.ensures.name)
-              (subst (λ x. IsWorded x name) e c.of-name.ensures.word)
+          (subst (λ x. IsWorded x name) e c.of-name.ensures.word)
           (sym c.is_left.ensures ∙ c.if-is_left.true) (sym c.has_place.ensures ∙ c.if-has_place.true) r.taken
           (subst (λ xs. HasGathered s names (names_of xs) (limit_in s c.args.floor) c.loop-node.held.ceiling
-                  (take c.loop-node.held.count c.loop-node.room)) y.0 i.gathered);
+          (take c.loop-node.held.count c.loop-node.room)) y.0 i.gathered);
     }
 
 pub loop-node-preserved : goal.loop-node-preserved
@@ -79,7 +79,7 @@ loop-node-preserved c =
           (tree c.in-Some.node) (take c.loop-node.held.count c.loop-node.room)
           (subst (λ x. name_in x name ≡ tree c.in-Some.node) e c.of-name.ensures.name) unwanted
           (subst (λ xs. HasGathered s names (names_of xs) floor ceiling (take c.loop-node.held.count c.loop-node.room))
-              y.0 i.gathered);
+          y.0 i.gathered);
     }
   where
     both_or : (a b : Bool) → b ≡ false → a && b ≡ false

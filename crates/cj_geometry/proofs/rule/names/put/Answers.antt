@@ -5,7 +5,10 @@ use Rattle.cj_geometry.proofs.rule.names.put.Goals as goal
 
 pub returns-clause-taken : goal.returns-clause-taken
 returns-clause-taken c =
-    inr (c.take_least-ceiling.result, refl,
-        full_least (source_of c.args.object) c.args.room.now c.args.held.count c.args.name
-        c.take_least-ceiling.new.least c.put_back.new.room c.take_least-ceiling.result c.requires.place
-        c.if-count-room.false c.take_least-ceiling.ensures.least c.put_back.ensures.front)
+    inr (
+      c.take_least-ceiling.result,
+      refl,
+      full_least (source_of c.args.object) c.args.room.now c.args.held.count c.args.name
+          c.take_least-ceiling.new.least c.put_back.new.room c.take_least-ceiling.result c.requires.place
+          c.if-count-room.false c.take_least-ceiling.ensures.least c.put_back.ensures.front,
+    )

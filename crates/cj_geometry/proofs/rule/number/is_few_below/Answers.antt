@@ -6,6 +6,10 @@ pub returns : goal.returns
 returns c = λ holds.
     let span = c.span-start.ensures in
     let read = c.is_few_below_in.ensures in
-    let r = read.below holds c.args.bound.limit c.args.bound.tells in
-    (r.0, r.1, r.2, few-there (line_of c.args.node) c.line.result.now (tree c.args.node) c.span-start.result.0
-        c.span-start.result.1 c.line.ensures span.order span.spelling span.kind r.0 (read.few holds) r.3)
+    let r = read.below holds c.args.bound.limit c.args.bound.tells in (
+      r.0,
+      r.1,
+      r.2,
+      few-there (line_of c.args.node) c.line.result.now (tree c.args.node) c.span-start.result.0
+          c.span-start.result.1 c.line.ensures span.order span.spelling span.kind r.0 (read.few holds) r.3,
+    )

@@ -6,11 +6,11 @@ pub read_word_in-requires-clause-number : goal.read_word_in-requires-clause-numb
 read_word_in-requires-clause-number c =
     let span = c.span-start.ensures in
     number-there (line_of c.args.node) c.line.result.now (tree c.args.node) c.span-start.result.0 c.span-start.result.1
-        c.line.ensures span.order span.spelling span.kind c.requires.0 c.requires.1
+    c.line.ensures span.order span.spelling span.kind c.requires.0 c.requires.1
 
 pub returns : goal.returns
 returns c =
     let span = c.span-start.ensures in
     word-there-if (line_of c.args.node) c.line.result.now (tree c.args.node) c.span-start.result.0 c.span-start.result.1
-        c.line.ensures span.order span.spelling span.kind c.read_word_in.result
-        (whole-kind (tree c.args.node) c.requires.0 c.requires.1) c.read_word_in.ensures
+    c.line.ensures span.order span.spelling span.kind c.read_word_in.result
+    (whole-kind (tree c.args.node) c.requires.0 c.requires.1) c.read_word_in.ensures

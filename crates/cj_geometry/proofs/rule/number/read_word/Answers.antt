@@ -7,5 +7,5 @@ returns c =
     let span = c.span-start.ensures in
     let read = c.read_few_in.ensures in
     few-there-if (line_of c.args.node) c.line.result.now (tree c.args.node) c.span-start.result.0 c.span-start.result.1
-        c.line.ensures span.order span.spelling span.kind c.read_few_in.result (λ some. (read.few.0 some).0) read.answer
-        read.small
+    c.line.ensures span.order span.spelling span.kind c.read_few_in.result (λ some. (read.few.0 some).0) read.answer
+    read.small

@@ -7,5 +7,5 @@ returns c =
     let span = c.span-start.ensures in
     let read = c.read_few_signed_in.ensures in
     signed-there-if (line_of c.args.node) c.line.result.now (tree c.args.node) c.span-start.result.0
-        c.span-start.result.1 c.line.ensures span.order span.spelling span.kind c.read_few_signed_in.result read.number
-        read.answer
+    c.span-start.result.1 c.line.ensures span.order span.spelling span.kind c.read_few_signed_in.result read.number
+    read.answer

@@ -7,9 +7,16 @@ use Rattle.cj_spans.proofs.node.Doc.of.Goals as goal
 
 pub invariant_of-result : goal.invariant_of-result
 invariant_of-result c = let k = known c.args.line.now c.args.tokens.now c.requires in
-    record { within = k.within; rising = k.rising; nested = k.nested; named = k.named; linked = k.linked;
-    spelled = k.spelled; lone = are_lone c.args.line.now c.args.tokens.now c.requires;
-    full = are_full c.args.line.now c.args.tokens.now c.requires }
+    record {
+      within = k.within;
+      rising = k.rising;
+      nested = k.nested;
+      named = k.named;
+      linked = k.linked;
+      spelled = k.spelled;
+      lone = are_lone c.args.line.now c.args.tokens.now c.requires;
+      full = are_full c.args.line.now c.args.tokens.now c.requires;
+    }
 
 pub invariant_of-result-2 : goal.invariant_of-result-2
 invariant_of-result-2 c = record { known = (known c.args.line.now c.args.tokens.now c.requires).some }

@@ -11,14 +11,19 @@ returns-then-index-self-clause-steps c = let s = c.args.self.now in
 pub returns-clause-steps : goal.returns-clause-steps
 unfolding items_left tree items_line line_of items_source source_of
 returns-clause-steps c =
-    let s = c.args.self.now in
-    (item_on s.source.line.now s.source.tokens.now s.next s.stop c.after-self.result s.source.nested s.source.linked
-        s.whole (omega arith) c.after-self.ensures.link, refl, refl, refl, refl)
+    let s = c.args.self.now in (
+      item_on s.source.line.now s.source.tokens.now s.next s.stop c.after-self.result s.source.nested s.source.linked
+          s.whole (omega arith) c.after-self.ensures.link,
+      refl,
+      refl,
+      refl,
+      refl,
+    )
 
 pub returns-clause-goes : goal.returns-clause-goes
 unfolding items_left tree
 returns-clause-goes c =
     let s = c.args.self.now in
     let e = item_on s.source.line.now s.source.tokens.now s.next s.stop c.after-self.result s.source.nested
-        s.source.linked s.whole (omega arith) c.after-self.ensures.link in
+    s.source.linked s.whole (omega arith) c.after-self.ensures.link in
     search (rules, ap length e, e)

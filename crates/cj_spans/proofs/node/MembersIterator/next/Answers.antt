@@ -13,7 +13,7 @@ pub after-self-requires : goal.after-self-requires
 after-self-requires c =
     let s = c.args.self.now in
     let a = at_name s.source.line.now s.source.tokens.now s.next s.stop s.source.nested s.source.linked s.source.lone
-        s.whole s.named (omega arith) in
+    s.whole s.named (omega arith) in
     let v = a.value in
     let w = s.whole.0 in
     omega arith
@@ -22,16 +22,18 @@ pub invariant_of-self : goal.invariant_of-self
 invariant_of-self c =
     let s = c.args.self.now in
     let m = member_on s.source.line.now s.source.tokens.now s.next s.stop c.after-self.result s.source.nested
-        s.source.linked s.source.lone s.whole s.named (omega arith) c.after-self.ensures.link in
-    record { whole = whole_later s.source.tokens.now s.next c.after-self.result s.stop (omega arith) s.whole;
-        named = m.named }
+    s.source.linked s.source.lone s.whole s.named (omega arith) c.after-self.ensures.link in
+    record {
+      whole = whole_later s.source.tokens.now s.next c.after-self.result s.stop (omega arith) s.whole;
+      named = m.named;
+    }
 
 pub returns-clause-steps : goal.returns-clause-steps
 unfolding members_left tree members_line line_of members_source source_of
 returns-clause-steps c =
     let s = c.args.self.now in
     let m = member_on s.source.line.now s.source.tokens.now s.next s.stop c.after-self.result s.source.nested
-        s.source.linked s.source.lone s.whole s.named (omega arith) c.after-self.ensures.link in
+    s.source.linked s.source.lone s.whole s.named (omega arith) c.after-self.ensures.link in
     (m.shown, refl, (refl, refl), refl, (refl, refl))
 
 pub returns-clause-goes : goal.returns-clause-goes
@@ -39,6 +41,6 @@ unfolding members_left tree
 returns-clause-goes c =
     let s = c.args.self.now in
     let m = member_on s.source.line.now s.source.tokens.now s.next s.stop c.after-self.result s.source.nested
-        s.source.linked s.source.lone s.whole s.named (omega arith) c.after-self.ensures.link in
+    s.source.linked s.source.lone s.whole s.named (omega arith) c.after-self.ensures.link in
     let e = m.shown in
     search (rules, ap length e, e)

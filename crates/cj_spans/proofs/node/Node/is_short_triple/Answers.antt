@@ -14,7 +14,7 @@ are_whole_signs-requires-clause-order c =
     let t = c.token_at-token.result in
     let here = c.token_at-token.ensures in
     room_within s.line.now t.start t.stop (s.within n.index t here).0 c.if-self-start-ne91.false
-        ((s.spelled n.index t here).1 c.if-self-start-ne91.false)
+    ((s.spelled n.index t here).1 c.if-self-start-ne91.false)
 
 pub returns-then-stop-start-le-FEW_BYTES-clause-array : goal.returns-then-stop-start-le-FEW_BYTES-clause-array
 unfolding tree
@@ -33,9 +33,9 @@ returns-then-stop-start-le-FEW_BYTES-clause-three c so =
     let t = c.token_at-token.result in
     let here = c.token_at-token.ensures in
     three_long s.line.now s.tokens.now s.within s.rising s.nested s.linked s.spelled
-        (full_sized s.line.now s.tokens.now s.nested s.linked s.full) n.index t here c.if-self-start-ne91.false
-        (sym (c.after.ensures.link t here) ∙ c.if-after-self.false)
-        (c.are_whole_signs.ensures c.if-are_whole_signs.true)
+    (full_sized s.line.now s.tokens.now s.nested s.linked s.full) n.index t here c.if-self-start-ne91.false
+    (sym (c.after.ensures.link t here) ∙ c.if-after-self.false)
+    (c.are_whole_signs.ensures c.if-are_whole_signs.true)
 
 pub returns-then-stop-start-le-FEW_BYTES-clause-wholes : goal.returns-then-stop-start-le-FEW_BYTES-clause-wholes
 unfolding tree line_of
@@ -45,9 +45,9 @@ returns-then-stop-start-le-FEW_BYTES-clause-wholes c so =
     let t = c.token_at-token.result in
     let here = c.token_at-token.ensures in
     few_wholes s.line.now s.tokens.now s.within s.rising s.nested s.linked s.spelled
-        (full_sized s.line.now s.tokens.now s.nested s.linked s.full) n.index t here c.if-self-start-ne91.false
-        (sym (c.after.ensures.link t here) ∙ c.if-after-self.false)
-        (c.are_whole_signs.ensures c.if-are_whole_signs.true) (omega arith)
+    (full_sized s.line.now s.tokens.now s.nested s.linked s.full) n.index t here c.if-self-start-ne91.false
+    (sym (c.after.ensures.link t here) ∙ c.if-after-self.false)
+    (c.are_whole_signs.ensures c.if-are_whole_signs.true) (omega arith)
 
 pub returns-else-stop-start-le-FEW_BYTES-clause-array : goal.returns-else-stop-start-le-FEW_BYTES-clause-array
 unfolding tree
@@ -66,9 +66,9 @@ returns-else-stop-start-le-FEW_BYTES-clause-three c so =
     let t = c.token_at-token.result in
     let here = c.token_at-token.ensures in
     three_long s.line.now s.tokens.now s.within s.rising s.nested s.linked s.spelled
-        (full_sized s.line.now s.tokens.now s.nested s.linked s.full) n.index t here c.if-self-start-ne91.false
-        (sym (c.after.ensures.link t here) ∙ c.if-after-self.false)
-        (c.are_whole_signs.ensures c.if-are_whole_signs.true)
+    (full_sized s.line.now s.tokens.now s.nested s.linked s.full) n.index t here c.if-self-start-ne91.false
+    (sym (c.after.ensures.link t here) ∙ c.if-after-self.false)
+    (c.are_whole_signs.ensures c.if-are_whole_signs.true)
 
 pub returns-else-stop-start-le-FEW_BYTES-clause-wholes : goal.returns-else-stop-start-le-FEW_BYTES-clause-wholes
 unfolding tree line_of
@@ -78,6 +78,6 @@ returns-else-stop-start-le-FEW_BYTES-clause-wholes c so =
     let t = c.token_at-token.result in
     let here = c.token_at-token.ensures in
     wholes s.line.now s.tokens.now s.within s.rising s.nested s.linked s.spelled
-        (full_sized s.line.now s.tokens.now s.nested s.linked s.full) n.index t here c.if-self-start-ne91.false
-        (sym (c.after.ensures.link t here) ∙ c.if-after-self.false)
-        (c.are_whole_signs.ensures c.if-are_whole_signs.true) (λ m u l h g. c.has_short_items.ensures so m u l h g)
+    (full_sized s.line.now s.tokens.now s.nested s.linked s.full) n.index t here c.if-self-start-ne91.false
+    (sym (c.after.ensures.link t here) ∙ c.if-after-self.false)
+    (c.are_whole_signs.ensures c.if-are_whole_signs.true) (λ m u l h g. c.has_short_items.ensures so m u l h g)

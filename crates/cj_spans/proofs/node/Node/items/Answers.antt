@@ -8,8 +8,8 @@ unfolding tree
 invariant_of-result c =
     let n = c.args.self in
     let w = items_from_link n.source.line.now n.source.tokens.now n.index c.after.result c.items_end-stop.result
-        c.kind.result n.source.nested n.source.linked n.known c.after.ensures.link c.kind.ensures
-        c.items_end-stop.ensures in
+    c.kind.result n.source.nested n.source.linked n.known c.after.ensures.link c.kind.ensures
+    c.items_end-stop.ensures in
     record { whole = w.whole }
 
 pub returns-clause-items : goal.returns-clause-items
@@ -17,7 +17,7 @@ unfolding tree items_left
 returns-clause-items c =
     let n = c.args.self in
     (items_from_link n.source.line.now n.source.tokens.now n.index c.after.result c.items_end-stop.result c.kind.result
-        n.source.nested n.source.linked n.known c.after.ensures.link c.kind.ensures c.items_end-stop.ensures).shown
+    n.source.nested n.source.linked n.known c.after.ensures.link c.kind.ensures c.items_end-stop.ensures).shown
 
 pub returns-clause-line : goal.returns-clause-line
 unfolding line_of items_line
@@ -37,4 +37,4 @@ unfolding items_left
 returns-clause-sizes c =
     let n = c.args.self in
     small_items n.source.line.now n.source.tokens.now n.index c.after.result c.items_end-stop.result c.kind.result
-        n.source.linked n.known c.after.ensures.link c.items_end-stop.ensures
+    n.source.linked n.known c.after.ensures.link c.items_end-stop.ensures

@@ -9,16 +9,18 @@ unfolding tree
 invariant_of-result c =
     let n = c.args.self in
     let w = items_from_link n.source.line.now n.source.tokens.now n.index c.after.result c.items_end-stop.result
-        c.kind.result n.source.nested n.source.linked n.known c.after.ensures.link c.kind.ensures
-        c.items_end-stop.ensures in
-    record { whole = whole_later n.source.tokens.now (n.index + 1) (n.index + 1 + c.args.size) c.items_end-stop.result
-        (omega arith) w.whole }
+    c.kind.result n.source.nested n.source.linked n.known c.after.ensures.link c.kind.ensures
+    c.items_end-stop.ensures in
+    record {
+      whole = whole_later n.source.tokens.now (n.index + 1) (n.index + 1 + c.args.size) c.items_end-stop.result
+          (omega arith) w.whole;
+    }
 
 pub returns : goal.returns
 unfolding tree items_left
 returns c = λ k few e.
     let n = c.args.self in
     items_behind_link n.source.line.now n.source.tokens.now n.index c.after.result c.items_end-stop.result k c.args.size
-        c.kind.result n.source.nested n.source.linked
-        (full_sized n.source.line.now n.source.tokens.now n.source.nested n.source.linked n.source.full) n.known
-        c.after.ensures.link c.kind.ensures c.items_end-stop.ensures few e
+    c.kind.result n.source.nested n.source.linked
+    (full_sized n.source.line.now n.source.tokens.now n.source.nested n.source.linked n.source.full) n.known
+    c.after.ensures.link c.kind.ensures c.items_end-stop.ensures few e

@@ -19,6 +19,6 @@ returns-clause-no c = λ no m.
     let n = c.args.self in
     let ts = n.source.tokens.now in
     let same = one_number n.source.line.now ts m.number n.index n.source.rising (marked_within ts m.number m.marked)
-        n.known m.shown in
+    n.known m.shown in
     let here : is_marked_at ts n.index ≡ true = subst (λ k. is_marked_at ts k ≡ true) same m.marked in
     absurd (cc (sym (own c) ∙ no, here))

@@ -10,8 +10,8 @@ unfolding tree
 invariant_of-result c =
     let n = c.args.self in
     let w = members_from_link n.source.line.now n.source.tokens.now n.index c.after.result c.members_end-stop.result
-        c.kind.result n.source.nested n.source.linked n.source.named n.known c.after.ensures.link c.kind.ensures
-        c.members_end-stop.ensures in
+    c.kind.result n.source.nested n.source.linked n.source.named n.known c.after.ensures.link c.kind.ensures
+    c.members_end-stop.ensures in
     record { whole = w.whole; named = w.named }
 
 pub returns-clause-members : goal.returns-clause-members
@@ -19,8 +19,8 @@ unfolding tree members_left
 returns-clause-members c =
     let n = c.args.self in
     (members_from_link n.source.line.now n.source.tokens.now n.index c.after.result c.members_end-stop.result
-        c.kind.result n.source.nested n.source.linked n.source.named n.known c.after.ensures.link c.kind.ensures
-        c.members_end-stop.ensures).shown
+    c.kind.result n.source.nested n.source.linked n.source.named n.known c.after.ensures.link c.kind.ensures
+    c.members_end-stop.ensures).shown
 
 pub returns-clause-order : goal.returns-clause-order
 unfolding members_left

@@ -22,4 +22,4 @@ returns-clause-link c = λ t h.
     let u = c.token_at.result in
     let l = s.linked c.args.index u c.token_at.ensures in
     l ∙ ap (λ (v : Token). c.args.index + 1 + before v.stop (drop (c.args.index + 1) s.tokens.now))
-        (some_same u t (sym c.token_at.ensures ∙ h))
+    (some_same u t (sym c.token_at.ensures ∙ h))

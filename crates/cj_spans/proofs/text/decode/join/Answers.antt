@@ -8,12 +8,12 @@ returns-then-not-is_high c = λ cs u t. join_lone c.args.bytes.now cs c.args.hig
 pub returns-then-is_low : goal.returns-then-is_low
 returns-then-is_low c = λ cs u t.
     join_pair c.args.bytes.now cs c.args.high c.in-Some.low (search rules)
-        (sym (c.in-Some.ensures.is (drop 6 cs) t.rest)) (c.in-Some.ensures.reads (drop 6 cs) t.rest) (search rules) u t
+    (sym (c.in-Some.ensures.is (drop 6 cs) t.rest)) (c.in-Some.ensures.reads (drop 6 cs) t.rest) (search rules) u t
 
 pub returns-else-is_low : goal.returns-else-is_low
 returns-else-is_low c =
     λ cs u t. join_not_low c.args.bytes.now cs c.args.high c.in-Some.low (c.in-Some.ensures.reads (drop 6 cs) t.rest)
-        (search rules) u t
+    (search rules) u t
 
 pub returns-in-None : goal.returns-in-None
 returns-in-None c =

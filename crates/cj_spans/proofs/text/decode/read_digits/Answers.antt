@@ -10,4 +10,4 @@ returns-clause-reads c = λ cs e.
     let v = c.char_at-third.ensures (drop 2 cs) (rest_two bs cs _ _ _ _ t u) in
     let w = c.char_at-fourth.ensures (drop 3 cs) (rest_three bs cs _ _ v) in
     digits_read bs cs _ _ _ _ _ _ _ _ t u v w c.digit_value.ensures.value c.digit_value-2.ensures.value
-        c.digit_value-3.ensures.value c.digit_value-4.ensures.value
+    c.digit_value-3.ensures.value c.digit_value-4.ensures.value

@@ -7,4 +7,4 @@ returns-in-None c = λ cs e a.
     let bs = c.args.bytes.now in
     let t = c.char_at-slash.ensures cs e in
     letter_read bs cs _ _ _ (sym (c.in-None.ensures.is cs e)) a t (c.char_at-letter.ensures (drop 1 cs) t.rest)
-        c.escaped.ensures
+    c.escaped.ensures

@@ -8,4 +8,4 @@ returns-then-mark-clause-reads c = λ cs e.
     let t = c.char_at-slash.ensures cs e in
     let u = c.char_at-mark.ensures (drop 1 cs) t.rest in
     takes_on bs cs _ 2 4 _ (takes_on bs cs _ 1 1 _ t _ _ u) _ _
-        (c.read_digits.ensures.reads (drop 2 cs) (rest_two bs cs _ _ _ _ t u))
+    (c.read_digits.ensures.reads (drop 2 cs) (rest_two bs cs _ _ _ _ t u))

@@ -16,9 +16,9 @@ returns-in-Err-clause-verdict c =
     let shown : t ≡ document c.of-doc.result = sym (c.of-doc.ensures.only t
     (rw c.requires.lists.opened at c.in_ok-judge.ensures.tree).json) in
     let found : IsLeast (header_findings (needs_box rules.criteria) (document c.of-doc.result))
-        (Some c.in-Err.finding) =
+    (Some c.in-Err.finding) =
     subst (λ b. IsLeast (header_findings b (document c.of-doc.result)) (Some c.in-Err.finding)) c.wants_box.ensures
-        c.in-Err.ensures.verdict in
+    c.in-Err.ensures.verdict in
     let least : IsLeast (findings rules 1 t t) (Some c.in-Err.finding) =
     subst (λ u. IsLeast (header_findings (needs_box rules.criteria) u) (Some c.in-Err.finding)) (sym shown) found in
     (rw c.requires.lists.opened at c.in_ok-judge.ensures.says) rules 1 t c.requires.short refl refl ∙ tree-refused rules

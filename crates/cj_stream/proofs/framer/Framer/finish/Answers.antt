@@ -16,9 +16,9 @@ returns-then-has_begun-clause-finishes g c =
     record {
       answers = λ p reads. finishes-with g.S.LineSink.law (begun p) f c.deal.new.self.reading c.args.sink.now
           c.deal.new.sink (answer_of line_end c.deal.result) (some p reads)
-              (Settles-begun g.S.LineSink.law (is_lenient f) f
+          (Settles-begun g.S.LineSink.law (is_lenient f) f
           c.deal.new.self.reading c.args.sink.now c.deal.new.sink (begun p) false (answer_of line_end c.deal.result)
-              reads.begun
+          reads.begun
           c.deal.ensures.settles);
       scanned = ok-answer line_end _ c.deal.result
           (ok-then _ _ c.deal.result (λ deal p reads s. scanned-last f p c.args.self.now.scanning
@@ -33,7 +33,7 @@ returns-then-has_begun-clause-reports g c = λ p reads.
     Notes-finished g.N.ReportSink.notes g.S.LineSink.law _ _ _ f c.deal.new.self.reading c.args.sink.now c.deal.new.sink
     p c.args.reports.now c.deal.new.reports (answer_of line_end c.deal.result)
     reads some c.deal.ensures.settles (ok-answer line_end _ c.deal.result c.deal.ensures.one)
-        (ok-answer line_end _ c.deal.result c.deal.ensures.noted)
+    (ok-answer line_end _ c.deal.result c.deal.ensures.noted)
     (err-answer line_end _ c.deal.result c.deal.ensures.silent)
 
 pub returns-clause-finishes : goal.returns-clause-finishes

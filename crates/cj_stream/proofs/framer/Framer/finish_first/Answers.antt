@@ -14,7 +14,7 @@ returns-then-has_begun-clause-finishes g c =
     (c.has_begun.ensures.some c.if-has_begun.true) in
     let settles = Settles-first g.S.LineSink.law f c.settle_first.new.self.reading c.args.sink.now
     c.settle_first.new.sink _ _ (answer_of header_end c.settle_first.result) c.requires.first
-        c.settle_first.ensures.settles in
+    c.settle_first.ensures.settles in
     record {
       answers = λ p reads. finishes-with g.S.LineSink.law (begun p) f c.settle_first.new.self.reading
           c.args.sink.now c.settle_first.new.sink (answer_of header_end c.settle_first.result) (some p reads)

@@ -17,7 +17,7 @@ returns-in_err-store_first-clause-err g c =
 pub returns-in_err-settle_first-clause-err : goal.returns-in_err-settle_first-clause-err
 returns-in_err-settle_first-clause-err g c =
     let p = err_from_is_err_and c.from_residual-in_err-settle_first.result
-        c.from_residual-in_err-settle_first.ensures.1 in
+    c.from_residual-in_err-settle_first.ensures.1 in
     let stored = c.in_ok-store_first.ensures.ok in
     let settles = Settles-first g.S.LineSink.law c.store_first.new.self.reading c.settle_first.new.self.reading
     c.args.sink.now c.settle_first.new.sink _ _ (answer_of header_end c.settle_first.result)
@@ -41,7 +41,7 @@ returns-clause-ok g c =
 pub returns-in_err-settle_first-clause-undealt : goal.returns-in_err-settle_first-clause-undealt
 returns-in_err-settle_first-clause-undealt g c =
     let p = err_from_is_err_and c.from_residual-in_err-settle_first.result
-        c.from_residual-in_err-settle_first.ensures.1 in
+    c.from_residual-in_err-settle_first.ensures.1 in
     let settles = rw c.in_err-settle_first.was at c.settle_first.ensures.settles in
     let f = c.store_first.new.self.reading in
     rw p.1 (settled-err g.S.LineSink.law false (told_verdict f)

@@ -28,7 +28,7 @@ returns-in_default-clause-ok g c =
     let piece = c.args.piece.now in
     let none = NoLf-not_found piece c.memchr.result c.memchr.ensures c.in_default.not-Some in
     let all : take (length c.args.piece.now) c.args.piece.now ≡ c.args.piece.now =
-        take_all (length piece) piece (omega arith) in
+    take_all (length piece) piece (omega arith) in
     rw all (TakesAll-stored g.S.LineSink.law c.args.self.now c.args.sink.now piece none c.store_first.new.self
     c.in_ok-store_first.ensures.ok c.store_first.ensures.lists)
 
@@ -47,15 +47,18 @@ pub returns-in_err-take_first-clause-least : goal.returns-in_err-take_first-clau
 returns-in_err-take_first-clause-least g c =
     let p = err_from_is_err_and c.from_residual-in_err-take_first.result c.from_residual-in_err-take_first.ensures.1 in
     rw p.1 (λ q reads s. held-now c.args.self.now.reading.rules.limits q c.args.piece.now _ c.args.self.now.scanning
-        c.take_first.new.self.scanning (c.in_err-take_first.ensures.undealt ∙ reads.lines) s
-        c.take_first.ensures.carries.rises)
+    c.take_first.new.self.scanning (c.in_err-take_first.ensures.undealt ∙ reads.lines) s
+    c.take_first.ensures.carries.rises)
 
 pub returns-clause-front : goal.returns-clause-front
 returns-clause-front g c = record {
   within = omega (arith, c.in-Some.ensures.0.high);
   all = λ e. cc;
-  first = λ _. (take c.in-Some.at c.args.piece.now, lf_front c.args.piece.now c.in-Some.at c.in-Some.ensures,
-      NoLf-before c.args.piece.now c.in-Some.at c.in-Some.ensures);
+  first = λ _. (
+    take c.in-Some.at c.args.piece.now,
+    lf_front c.args.piece.now c.in-Some.at c.in-Some.ensures,
+    NoLf-before c.args.piece.now c.in-Some.at c.in-Some.ensures,
+  );
 }
 
 pub returns-clause-ok : goal.returns-clause-ok

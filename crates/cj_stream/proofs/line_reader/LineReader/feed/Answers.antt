@@ -34,4 +34,4 @@ returns-in-Err-clause-reports g c =
 pub returns-in-Some-clause-reports : goal.returns-in-Some-clause-reports
 returns-in-Some-clause-reports g c =
     λ p st going. absurd (not-going c.args.self.now.ended (line_end c.in-Some.end)
-        (rw (← c.self.view_is) (ap (option_map line_end) c.in-Some.is)) going)
+    (rw (← c.self.view_is) (ap (option_map line_end) c.in-Some.is)) going)

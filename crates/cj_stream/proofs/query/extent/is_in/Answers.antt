@@ -14,12 +14,12 @@ returns-then-meets_on c =
     let t = feature_tree c.args.feature.now in
     let box = box_of c.args.bounds.now in
     let maps = maps_shown (has_box c.args.header.now) header c.affine.result c.in-Some.maps c.requires c.affine.ensures
-        c.in-Some.is in
+    c.in-Some.is in
     let two : length c.in-Some.maps ≡ 2 = search rules in
     let x = axis_told header 0 c.in-Some.maps c.index-maps-0.result box.min_x box.max_x (numbers_on 0 t)
-        c.meets_on.result maps (omega arith) c.meets_on.ensures in
+    c.meets_on.result maps (omega arith) c.meets_on.ensures in
     let y = axis_told header 1 c.in-Some.maps c.index-maps-1.result box.min_y box.max_y (numbers_on 1 t)
-        c.meets_on-then-meets_on.result maps (omega arith) c.meets_on-then-meets_on.ensures in
+    c.meets_on-then-meets_on.result maps (omega arith) c.meets_on-then-meets_on.ensures in
     and_second _ _ _ _ x c.if-meets_on.true y ∙ sym (box-numbers box header t)
 
 pub returns-else-meets_on : goal.returns-else-meets_on
@@ -28,9 +28,9 @@ returns-else-meets_on c =
     let t = feature_tree c.args.feature.now in
     let box = box_of c.args.bounds.now in
     let maps = maps_shown (has_box c.args.header.now) header c.affine.result c.in-Some.maps c.requires c.affine.ensures
-        c.in-Some.is in
+    c.in-Some.is in
     let two : length c.in-Some.maps ≡ 2 = search rules in
     let x = axis_told header 0 c.in-Some.maps c.index-maps-0.result box.min_x box.max_x (numbers_on 0 t)
-        c.meets_on.result maps (omega arith) c.meets_on.ensures in
+    c.meets_on.result maps (omega arith) c.meets_on.ensures in
     and_first _ _ (meets (axis_map header 1) box.min_y box.max_y (numbers_on 1 t)) x c.if-meets_on.false
-        ∙ sym (box-numbers box header t)
+    ∙ sym (box-numbers box header t)

@@ -11,5 +11,5 @@ use Rattle.cj_stream.proofs.query.holding.has_lod_alone.Given as goal
 abbrev pub invariant-loop-geometry : goal.invariant-loop-geometry
 invariant-loop-geometry l =
     list_any (λ g. there_is (is_one_of (map string_bytes l.lods)) (lod (given l.templates) g))
-        (geometries_left l.geometry-iterator) ≡ has_lod (map string_bytes l.lods) (header_tree l.fn.header)
-        (feature_tree l.fn.feature)
+    (geometries_left l.geometry-iterator) ≡ has_lod (map string_bytes l.lods) (header_tree l.fn.header)
+    (feature_tree l.fn.feature)

@@ -10,4 +10,4 @@ use Rattle.cj_stream.proofs.query.holding.has_type.Given as goal
 abbrev pub invariant-loop-object : goal.invariant-loop-object
 invariant-loop-object l =
     list_any (λ m. there_is (λ (r : ObjectRow). get_or l.types r.number false) (type_row m.1))
-        (objects_left l.object-iterator) ≡ has_type l.types (feature_tree l.feature)
+    (objects_left l.object-iterator) ≡ has_type l.types (feature_tree l.feature)

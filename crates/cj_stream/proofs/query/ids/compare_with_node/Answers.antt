@@ -14,6 +14,6 @@ returns-in-Equal c =
     let text = text_of (tree c.args.node) in
     let numbers : nat_cmp c.args.entry.number c.args.number ≡ Equal = cc in
     c.reverse.ensures ∙ ap ordering_reverse
-        (c.compare_with.ensures ∙ ap (λ s. compare_texts text (Some (chars s))) c.text_at.ensures)
+    (c.compare_with.ensures ∙ ap (λ s. compare_texts text (Some (chars s))) c.text_at.ensures)
     ∙ compare_turned c.args.entry.number c.args.number
-        (chars (piece c.args.text.now c.args.entry.start c.args.entry.end)) text numbers
+    (chars (piece c.args.text.now c.args.entry.start c.args.entry.end)) text numbers

@@ -11,5 +11,5 @@ is_in_run_of-requires c =
     let n = get_or c.args.runs.now c.loop-length.length-index 0 in
     let first = drop_more c.args.runs.now c.loop-length.length-index 0 c.loop-length-test.true in
     let up : Ascend (take n (keys_at text rest)) =
-        first_run (keys_at text rest) _ _ n first c.loop-length.invariant.ordered in
+    first_run (keys_at text rest) _ _ n first c.loop-length.invariant.ordered in
     subst Ascend (take-map (key_at text) n rest ∙ ap (keys_at text) (sym c.split_at.ensures.front)) up

@@ -9,6 +9,6 @@ returns c =
     let lengths = c.args.lengths.now in
     let sorted = c.sort_from.new.entries in
     subst (λ ns. AreIndexed text lengths sorted ns)
-        (sym (c.put.ensures ∙ ap (λ ns. ns ++ length sorted ∷ []) c.clear.ensures.items))
+    (sym (c.put.ensures ∙ ap (λ ns. ns ++ length sorted ∷ []) c.clear.ensures.items))
     (indexed_whole text lengths c.args.entries.now sorted (vec_items c.args.runs.now) _ c.requires
-        c.sort_from.ensures.moved c.sort_from.ensures.ascends refl)
+    c.sort_from.ensures.moved c.sort_from.ensures.ascends refl)

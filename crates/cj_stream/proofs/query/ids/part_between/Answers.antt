@@ -7,8 +7,14 @@ use Rattle.cj_stream.proofs.query.ids.part_between.Goals.{then-start-gt0, else-s
 pub returns : goal.returns
 returns c =
     part_has c.args.number (record { number = 0; start = 0; end = 0 }) c.args.run.now c.args.start c.min-end.result
-        c.requires (omega arith) (omega arith)
-    (λ h. elim c.if-start-gt0.branch [ then-start-gt0 w ↦
-            grind (arith, nat_tests, w.value-is, c.if-run-start.false) | else-start-gt0 w ↦ absurd (omega arith) ])
-    (λ h. elim c.else-end-run.branch [ else-end-run-via-then-end-run+else-run-end w ↦
-            w.if-run-end.false | else-end-run-via-else-end-run w ↦ absurd (omega arith) ])
+    c.requires (omega arith) (omega arith)
+    (λ h. elim c.if-start-gt0.branch [
+      | then-start-gt0 w ↦
+          grind (arith, nat_tests, w.value-is, c.if-run-start.false)
+      | else-start-gt0 w ↦ absurd (omega arith)
+    ])
+    (λ h. elim c.else-end-run.branch [
+      | else-end-run-via-then-end-run+else-run-end w ↦
+          w.if-run-end.false
+      | else-end-run-via-else-end-run w ↦ absurd (omega arith)
+    ])

@@ -12,18 +12,18 @@ use Rattle.cj_stream.proofs.tally.adding.count_alone.Goals as goal
 pub loop-geometry-init : goal.loop-geometry-init
 loop-geometry-init c =
     rw (c.into_iter-geometry-iterator.ensures.into_iter_gives, c.geometries-geometry-items.ensures.geometries)
-        (Counting-start _ _ _ c.told-counts c.fits-counts)
+    (Counting-start _ _ _ c.told-counts c.fits-counts)
 
 pub loop-geometry-preserved : goal.loop-geometry-preserved
 loop-geometry-preserved c =
     let class = λ (g : Tree). class_of (lod (templates_of (feature_header c.args.feature.now)) g) in
     let found = ap (λ templates. lod templates (tree c.in-Some.geometry)) (sym c.templates-templates.ensures)
-        ∙ sym c.lod_of.ensures in
+    ∙ sym c.lod_of.ensures in
     let own = ap class_of found ∙ sym c.class_of-class.ensures.class in
     let first = ap (map class) c.in-Some.ensures.steps.0
-        ∙ ap (λ n. n ∷ map class (geometries_left c.next.new.self)) own in
+    ∙ ap (λ n. n ∷ map class (geometries_left c.next.new.self)) own in
     Counting-step 6 _ _ c.loop-geometry.counts c.class_of-class.result _ _ _ c.class_of-class.ensures.below first
-        c.saturating_add.ensures c.loop-geometry.invariant
+    c.saturating_add.ensures c.loop-geometry.invariant
 
 pub returns : goal.returns
 returns c = Counting-end 6 _ _ _ (rw c.in-None.ensures.steps.0.0 at c.loop-geometry.invariant)

@@ -10,4 +10,4 @@ use Rattle.cj_stream.proofs.tally.adding.count_alone.Given as goal
 abbrev pub invariant-loop-geometry : goal.invariant-loop-geometry
 invariant-loop-geometry l =
     Counting 6 l.initial.counts (lod_classes (feature_header l.feature) (feature_tree l.feature)) l.counts
-        (map (λ g. class_of (lod (templates_of (feature_header l.feature)) g)) (geometries_left l.geometry-iterator))
+    (map (λ g. class_of (lod (templates_of (feature_header l.feature)) g)) (geometries_left l.geometry-iterator))

@@ -23,7 +23,7 @@ loop-geometry-preserved c =
     let found = ap (λ templates. lod templates (tree c.in-Some.geometry)) (sym same) ∙ sym c.lod_of.ensures.lod in
     let own = ap class_of found ∙ sym c.class_of-class.ensures.class in
     let first = ap (map class) c.in-Some.ensures.steps.0
-        ∙ ap (λ n. n ∷ map class (geometries_left c.next.new.self)) own in
+    ∙ ap (λ n. n ∷ map class (geometries_left c.next.new.self)) own in
     record {
       templates = c.lod_of.ensures.same ∙ same;
       counts = Counting-step 6 _ _ c.loop-geometry.counts c.class_of-class.result _ _ _ c.class_of-class.ensures.below

@@ -15,9 +15,9 @@ loop-object-preserved c =
     let number = λ (m : Tree × Tree). row_number (type_row m.1) in
     let own = ap row_number c.in-Some.object.typed ∙ sym c.number-number.ensures.number in
     let first = ap (map number) c.in-Some.ensures.steps.0
-        ∙ ap (λ n. n ∷ map number (objects_left c.next.new.self)) own in
+    ∙ ap (λ n. n ∷ map number (objects_left c.next.new.self)) own in
     Counting-step 33 _ _ c.loop-object.counts c.number-number.result _ _ _ (omega arith) first c.saturating_add.ensures
-        c.loop-object.invariant
+    c.loop-object.invariant
 
 pub returns : goal.returns
 returns c =

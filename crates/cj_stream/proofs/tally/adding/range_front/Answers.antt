@@ -39,6 +39,6 @@ returns-in-Some c =
     let y = words-passed 1 _ _ _ _ _ _ step.1 (step.2 1 (omega arith)) (c.widen_words.ensures 1 (omega arith)) in
     let z = words-passed 2 _ _ _ _ _ _ step.1 (step.2 2 (omega arith)) (c.widen_words.ensures 2 (omega arith)) in
     on_axis (λ axis. map (number_on axis) (vertices_left c.args.vertices.now))
-        (λ axis. map (number_on axis) (vertices_left c.widen_words.new.vertices)) _ _ _
+    (λ axis. map (number_on axis) (vertices_left c.widen_words.new.vertices)) _ _ _
     (words-range _ _ _ _ x c.range_of_words.ensures) (words-range _ _ _ _ y c.range_of_words-in-Some.ensures)
-        (words-range _ _ _ _ z c.range_of_words-in-Some-2.ensures)
+    (words-range _ _ _ _ z c.range_of_words-in-Some-2.ensures)

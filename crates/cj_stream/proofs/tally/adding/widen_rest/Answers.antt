@@ -10,7 +10,7 @@ first-widened : (range : Option (ℤ × ℤ)) (all rest : List ℤ) (n : ℤ) (m
     → Widens range (n ∷ []) (Some mid) → Widens (Some mid) rest (Some end) → Widens range all (Some end)
 first-widened range all rest n mid end e first later =
     subst (λ (ns : List ℤ). Widens range ns (Some end)) (sym e)
-        (Widens-two (n ∷ []) rest range (Some mid) (Some end) first later)
+    (Widens-two (n ∷ []) rest range (Some mid) (Some end) first later)
 
 on_axis : (ranges : List (Option (ℤ × ℤ))) (numbers : ℕ → List ℤ) (x y z : Option (ℤ × ℤ))
     → Widens (get_or ranges 0 None) (numbers 0) x → Widens (get_or ranges 1 None) (numbers 1) y
@@ -25,25 +25,25 @@ pub returns-in-Some : goal.returns-in-Some
 returns-in-Some c =
     let v = c.in-Some.vertex in
     let x : to_z w64 (of_z w64 (get_or c.in-Some.vertex 0 (pos 0))) ≡ get_or c.in-Some.vertex 0 (pos 0) =
-        search rules in
+    search rules in
     let y : to_z w64 (of_z w64 (get_or c.in-Some.vertex 1 (pos 0))) ≡ get_or c.in-Some.vertex 1 (pos 0) =
-        search rules in
+    search rules in
     let z : to_z w64 (of_z w64 (get_or c.in-Some.vertex 2 (pos 0))) ≡ get_or c.in-Some.vertex 2 (pos 0) =
-        search rules in
+    search rules in
     let left = vertices_left c.next.new.self in
     on_axis c.args.ranges (λ axis. map (number_on axis) (vertices_left c.args.rest)) _ _ _
     (first-widened _ _ (map (number_on 0) left) _ c.begun.result _ (numbers-first 0 _ _ _ v x c.in-Some.ensures.steps)
-        c.begun.ensures (c.widen_by.ensures 0 (omega arith)))
+    c.begun.ensures (c.widen_by.ensures 0 (omega arith)))
     (first-widened _ _ (map (number_on 1) left) _ c.begun-in-Some.result _
-        (numbers-first 1 _ _ _ v y c.in-Some.ensures.steps) c.begun-in-Some.ensures
-        (c.widen_by.ensures 1 (omega arith)))
+    (numbers-first 1 _ _ _ v y c.in-Some.ensures.steps) c.begun-in-Some.ensures
+    (c.widen_by.ensures 1 (omega arith)))
     (first-widened _ _ (map (number_on 2) left) _ c.begun-in-Some-2.result _
-        (numbers-first 2 _ _ _ v z c.in-Some.ensures.steps) c.begun-in-Some-2.ensures
-        (c.widen_by.ensures 2 (omega arith)))
+    (numbers-first 2 _ _ _ v z c.in-Some.ensures.steps) c.begun-in-Some-2.ensures
+    (c.widen_by.ensures 2 (omega arith)))
 
 pub returns-in-None : goal.returns-in-None
 returns-in-None c axis low =
     let none : map (number_on axis) (vertices_left c.args.rest) ≡ [] =
-        ap (map (number_on axis)) c.in-None.ensures.steps.0 in
+    ap (map (number_on axis)) c.in-None.ensures.steps.0 in
     subst (λ (ns : List ℤ). Widens (get_or c.args.ranges axis None) ns (get_or c.args.ranges axis None)) (sym none)
-        (Widens-no (get_or c.args.ranges axis None))
+    (Widens-no (get_or c.args.ranges axis None))

@@ -31,7 +31,7 @@ on_axis : (words : List (ℕ × ℕ)) (start left : ℕ → List ℤ) (x y z : �
     → WidensWords (get_or words 1 (0, 0)) (start 1) y (left 1)
     → WidensWords (get_or words 2 (0, 0)) (start 2) z (left 2)
     → (axis : ℕ) → axis < 3 → WidensWords (get_or words axis (0, 0)) (start axis) (get_or (x ∷ y ∷ z ∷ []) axis (0, 0))
-        (left axis)
+    (left axis)
 on_axis words start left x y z on_x on_y on_z zero b = on_x
 on_axis words start left x y z on_x on_y on_z (suc zero) b = on_y
 on_axis words start left x y z on_x on_y on_z (suc (suc zero)) b = on_z

@@ -16,4 +16,4 @@ pub returns : goal.returns
 returns g c =
     let all = members_of (tree c.args.objects) in
     c.check_all_parents.ensures ∙ ap (λ o. least o (flat_map (parents_and_part all) all)) c.check_all_children.ensures
-        ∙ walks all all c.args.found.now
+    ∙ walks all all c.args.found.now

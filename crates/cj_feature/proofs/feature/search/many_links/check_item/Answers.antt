@@ -8,14 +8,14 @@ use Rattle.cj_feature.proofs.feature.search.many_links.check_item.Goals as goal
 pub returns-then-is_told_before-clause-found : goal.returns-then-is_told_before-clause-found
 returns-then-is_told_before-clause-found g c =
     told_linked c.args.ahead.link (members_of (tree c.args.objects)) (noted_in c.args.objects c.args.ahead.name)
-        (tree c.args.item) c.args.found.now (λ r. c.is_told_before.ensures c.if-is_told_before.true r)
+    (tree c.args.item) c.args.found.now (λ r. c.is_told_before.ensures c.if-is_told_before.true r)
 
 pub returns-in-Listed-clause-found : goal.returns-in-Listed-clause-found
 returns-in-Listed-clause-found g c =
     listed_linked c.args.ahead.link (members_of (tree c.args.objects)) (noted_in c.args.objects c.args.ahead.name)
-        (tree c.args.item) c.args.found.now c.in-Listed.ensures.answer
+    (tree c.args.item) c.args.found.now c.in-Listed.ensures.answer
 
 pub returns-in-Listed-clause-known : goal.returns-in-Listed-clause-known
 returns-in-Listed-clause-known g c h =
     lists_known (back_of c.args.ahead.link) (members_of (tree c.args.objects)) (tree c.args.item)
-        (noted_in c.args.objects c.args.ahead.name) c.in-Listed.ensures.answer
+    (noted_in c.args.objects c.args.ahead.name) c.in-Listed.ensures.answer

@@ -24,11 +24,11 @@ loop-object-preserved-then-not-marked c =
     let source : source_of n ≡ source_of objects = steps.4.1 ∙ walk.source in
     let held = first-among objects c.loop-object.object-iterator c.next.new.self _ walk steps.0 in
     let unreached_here : is_reached all id name ≡ false =
-        unmarked-unreached objects id name (tree n) c.requires held
-            (λ h. c.marked.ensures.no c.if-not-marked.true
-            (marked-beside n objects (sym line) (sym source) (tree n) h)) in
+    unmarked-unreached objects id name (tree n) c.requires held
+    (λ h. c.marked.ensures.no c.if-not-marked.true
+    (marked-beside n objects (sym line) (sym source) (tree n) h)) in
     let these = c.add.ensures
-        ∙ ap (λ b. least c.loop-object.found (cond b [] (one NotReached (tree n)))) (sym unreached_here) in
+    ∙ ap (λ b. least c.loop-object.found (cond b [] (one NotReached (tree n)))) (sym unreached_here) in
     record {
       walk = later-among objects c.loop-object.object-iterator c.next.new.self _ walk steps.0 steps.1 steps.3;
       found = least_on (unreached all id) _ _ _ _ _ _ c.loop-object.invariant.found steps.0 these;
@@ -47,10 +47,10 @@ loop-object-preserved c =
     let source : source_of n ≡ source_of objects = steps.4.1 ∙ walk.source in
     let held = first-among objects c.loop-object.object-iterator c.next.new.self _ walk steps.0 in
     let order : AreInValueOrder all =
-        subst AreInValueOrder c.members-object-items.ensures.members c.members-object-items.ensures.values in
+    subst AreInValueOrder c.members-object-items.ensures.members c.members-object-items.ensures.values in
     let reached_here : is_reached all id name ≡ true =
-        marked-reached objects id name (tree n) c.requires held order
-            (marked-beside objects n line source (tree n) (c.marked.ensures.yes c.if-not-marked.false)) in
+    marked-reached objects id name (tree n) c.requires held order
+    (marked-beside objects n line source (tree n) (c.marked.ensures.yes c.if-not-marked.false)) in
     let these = ap (λ b. least c.loop-object.found (cond b [] (one NotReached (tree n)))) (sym reached_here) in
     record {
       walk = later-among objects c.loop-object.object-iterator c.next.new.self _ walk steps.0 steps.1 steps.3;

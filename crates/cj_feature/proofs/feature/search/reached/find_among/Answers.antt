@@ -30,7 +30,7 @@ loop-object-preserved-in_default c =
     let steps = c.in-Some.ensures.steps in
     let walk = c.loop-object.invariant.walk in
     let P : Tree × Tree → Type 0 = λ m. IsMarkedBy all m.1
-        → SoughtHaveMarks all c.args.names (listed_in (chars (codes "children")) m.1) in
+    → SoughtHaveMarks all c.args.names (listed_in (chars (codes "children")) m.1) in
     record {
       walk = later-among all c.loop-object.object-iterator c.next.new.self _ walk steps.0 steps.1 steps.3;
       left = λ h. c.loop-object.invariant.left
@@ -47,9 +47,9 @@ loop-object-preserved c =
     let line : line_of n ≡ line_of all = steps.2.1 ∙ walk.line in
     let source : source_of n ≡ source_of all = steps.4.1 ∙ walk.source in
     let P : Tree × Tree → Type 0 = λ m. IsMarkedBy all m.1
-        → SoughtHaveMarks all c.args.names (listed_in (chars (codes "children")) m.1) in
+    → SoughtHaveMarks all c.args.names (listed_in (chars (codes "children")) m.1) in
     let none : P (tree c.in-Some.field-0-0, tree n) =
-        λ h. absurd (c.marked.ensures.no c.if-marked.false (marked-beside n all (sym line) (sym source) (tree n) h)) in
+    λ h. absurd (c.marked.ensures.no c.if-marked.false (marked-beside n all (sym line) (sym source) (tree n) h)) in
     record {
       walk = later-among all c.loop-object.object-iterator c.next.new.self _ walk steps.0 steps.1 steps.3;
       left = λ h. c.loop-object.invariant.left

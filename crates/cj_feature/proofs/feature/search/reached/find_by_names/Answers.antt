@@ -13,8 +13,11 @@ loop-later-preserved c =
           elim (inv.left p held marked item listed m among same) [
             | inl later ↦ elim (next.passed m later) [
               | inl k ↦ inl k
-              | inr k ↦ inr (elim k [ inl has ↦ has | inr noted ↦
-                      c.in_default.ensures.none p held marked item listed m among same noted ])
+              | inr k ↦ inr (elim k [
+                | inl has ↦ has
+                | inr noted ↦
+                    c.in_default.ensures.none p held marked item listed m among same noted
+              ])
             ]
             | inr has ↦ inr has
           ];

@@ -27,7 +27,7 @@ loop-item-preserved-in_default-find_unmarked c =
     let e = c.in-Some-item.ensures.steps.0 in
     let objects = c.args.objects in
     let P : Tree → Type 0 = λ t. (m : Tree × Tree) → Contains (members_of (tree objects)) m → same_text m.0 t ≡ true
-        → IsSought objects c.args.names m.0 → IsMarkedBy objects m.1 in
+    → IsSought objects c.args.names m.0 → IsMarkedBy objects m.1 in
     record {
       among = λ t h. c.loop-item.invariant.among t (subst (λ ts. Contains ts t) (sym e) (there item _ t h));
       left = λ h. c.loop-item.invariant.left
@@ -41,9 +41,9 @@ loop-item-preserved c =
     let e = c.in-Some-item.ensures.steps.0 in
     let objects = c.args.objects in
     let P : Tree → Type 0 = λ t. (m : Tree × Tree) → Contains (members_of (tree objects)) m → same_text m.0 t ≡ true
-        → IsSought objects c.args.names m.0 → IsMarkedBy objects m.1 in
+    → IsSought objects c.args.names m.0 → IsMarkedBy objects m.1 in
     let none : P item =
-        λ m held same n. absurd (c.has.ensures c.if-has.false (sought-same objects c.args.names m.0 item same n)) in
+    λ m held same n. absurd (c.has.ensures c.if-has.false (sought-same objects c.args.names m.0 item same n)) in
     record {
       among = λ t h. c.loop-item.invariant.among t (subst (λ ts. Contains ts t) (sym e) (there item _ t h));
       left = λ h. c.loop-item.invariant.left

@@ -25,12 +25,12 @@ returns-in-Some-clause-found c =
     let n = c.in-Some-Some.objects in
     let id = tree c.in-Some-Some.id in
     let i : member_of (chars (codes "id")) (tree f) ≡ Some id = sym c.get.ensures.value
-        ∙ ap (option_map tree) c.in-Some-Some.is-0 in
+    ∙ ap (option_map tree) c.in-Some-Some.is-0 in
     let o : member_of (chars (codes "CityObjects")) (tree f) ≡ Some (tree n) = sym c.get-2.ensures.value
-        ∙ ap (option_map tree) c.in-Some-Some.is-1 in
+    ∙ ap (option_map tree) c.in-Some-Some.is-1 in
     of-document (λ t l s. IsToMark t l (tokens_in s) c.in-Some.number) _ _ _ _ _ _ e.tree e.line e.source
     (first-to-mark f n id i o c.in-Some-Some.ensures'.line c.in-Some-Some.ensures'.source c.in-Some.number
-        c.in-Some.ensures.found)
+    c.in-Some.ensures.found)
 
 pub returns-in-None-clause-found : goal.returns-in-None-clause-found
 returns-in-None-clause-found c =
@@ -39,9 +39,9 @@ returns-in-None-clause-found c =
     let n = c.in-Some-Some.objects in
     let id = tree c.in-Some-Some.id in
     let i : member_of (chars (codes "id")) (tree f) ≡ Some id = sym c.get.ensures.value
-        ∙ ap (option_map tree) c.in-Some-Some.is-0 in
+    ∙ ap (option_map tree) c.in-Some-Some.is-0 in
     let o : member_of (chars (codes "CityObjects")) (tree f) ≡ Some (tree n) = sym c.get-2.ensures.value
-        ∙ ap (option_map tree) c.in-Some-Some.is-1 in
+    ∙ ap (option_map tree) c.in-Some-Some.is-1 in
     IfSome_then c.find_listed.result c.find_listed.ensures.found
     (λ number x.
     of-document (λ t l s. IsToMark t l (tokens_in s) number) _ _ _ _ _ _ e.tree e.line e.source
@@ -54,13 +54,13 @@ returns-in-None-clause-none c =
     let n = c.in-Some-Some.objects in
     let id = tree c.in-Some-Some.id in
     let i : member_of (chars (codes "id")) (tree f) ≡ Some id = sym c.get.ensures.value
-        ∙ ap (option_map tree) c.in-Some-Some.is-0 in
+    ∙ ap (option_map tree) c.in-Some-Some.is-0 in
     let o : member_of (chars (codes "CityObjects")) (tree f) ≡ Some (tree n) = sym c.get-2.ensures.value
-        ∙ ap (option_map tree) c.in-Some-Some.is-1 in
+    ∙ ap (option_map tree) c.in-Some-Some.is-1 in
     if-none c.find_listed.result
     (λ listed.
     of-document (λ t l s. (u : Tree) → IsReachedObject t u → IsMarked l (tokens_in s) u) _ _ _ _ _ _ e.tree e.line
-        e.source
+    e.source
     (all-are-marked f n id i o c.in-Some-Some.ensures'.line c.in-Some-Some.ensures'.source c.in-None.ensures.none
-        listed))
+    listed))
     c.find_listed.ensures.none

@@ -15,8 +15,8 @@ pub of-requires : goal.of-requires
 of-requires c =
     let line = c.args.line.now in
     subst (AreOf line) (sym c.as_slice.ensures.value)
-        (of_kept line c.args.tokens.now.elements c.loop-number.tokens.elements c.loop-number.invariant.tokens
-        c.requires.scanned)
+    (of_kept line c.args.tokens.now.elements c.loop-number.tokens.elements c.loop-number.invariant.tokens
+    c.requires.scanned)
 
 -- the city object that is found next, told by the tokens
 found : (c : goal.After-set_mark)
@@ -25,7 +25,7 @@ found c =
     let tokens = c.of.ensures.tokens ∙ c.as_slice.ensures.value in
     subst (λ ts. IsToMark (document c.of.result) c.args.line.now ts c.in-Some.number) tokens
     (subst (λ l. IsToMark (document c.of.result) l (tokens_in (document_source c.of.result)) c.in-Some.number)
-        c.of.ensures.line c.in-Some.ensures.found)
+    c.of.ensures.line c.in-Some.ensures.found)
 
 pub loop-number-smaller : goal.loop-number-smaller
 loop-number-smaller c =
@@ -33,10 +33,10 @@ loop-number-smaller c =
     let n = c.in-Some.number in
     let m = found c in
     let none : is_marked_at ts n ≡ false =
-        not-so _ (λ yes. m.unmarked (record { number = n; marked = yes; shown = refl })) in
+    not-so _ (λ yes. m.unmarked (record { number = n; marked = yes; shown = refl })) in
     count-less ts c.set_mark.new.tokens.elements n
-        (length_kept ts c.set_mark.new.tokens.elements c.set_mark.ensures.kept.tokens) m.within none
-        c.set_mark.ensures.marked c.set_mark.ensures.others
+    (length_kept ts c.set_mark.new.tokens.elements c.set_mark.ensures.kept.tokens) m.within none
+    c.set_mark.ensures.marked c.set_mark.ensures.others
 
 pub loop-number-preserved : goal.loop-number-preserved
 loop-number-preserved c =
@@ -76,5 +76,10 @@ returns-clause-kept c =
     let old = c.args.tokens.now.elements in
     let new = c.loop-number.tokens.elements in
     let same = c.loop-number.invariant.tokens in
-    record { tokens = same; spans = spans_kept old new same; of = λ line. of_kept line old new same;
-        list = c.loop-number.invariant.list; within = c.as_slice.ensures.within }
+    record {
+      tokens = same;
+      spans = spans_kept old new same;
+      of = λ line. of_kept line old new same;
+      list = c.loop-number.invariant.list;
+      within = c.as_slice.ensures.within;
+    }

@@ -11,9 +11,9 @@ returns c = λ none.
     let objects = c.args.objects in
     let t = c.of-text.result in
     let side : text_side t ≡ side_of (text_of (tree c.args.text)) = ap (λ n. (n, text_of (tree t.node))) t.tagged
-        ∙ ap (λ u. side_of (text_of u)) c.of-text.ensures in
+    ∙ ap (λ u. side_of (text_of u)) c.of-text.ensures in
     let found =
-        c.binary_search_by.ensures.position (λ n. compare_sides (side_in objects n) (text_side t))
-            (always_returns_same _ _ _ (λ a r g h. search rules)) in
+    c.binary_search_by.ensures.position (λ n. compare_sides (side_in objects n) (text_side t))
+    (always_returns_same _ _ _ (λ a r g h. search rules)) in
     not-found objects c.args.names.now (tree c.args.text) (text_side t) c.binary_search_by.result c.requires side
-        (sym c.is_ok.ensures.value ∙ none) found
+    (sym c.is_ok.ensures.value ∙ none) found

@@ -27,16 +27,19 @@ loop-count-preserved-then-not-marked c =
     let long : length c.note.new.names ≡ length names = ap length e ∙ length-set names count v in
     let source : source_of c.in-Some.name ≡ source_of objects = steps.4.0 ∙ inv.source in
     let node : tree_in (source_of objects) v.number ≡ name =
-        subst (λ s. tree_in s v.number ≡ name) source c.of.ensures.node in
+    subst (λ s. tree_in s v.number ≡ name) source c.of.ensures.node in
     let side : side_in objects v ≡ side_of (text_of name) =
-        ap (λ n. (n, text_of (tree_in (source_of objects) v.number))) c.of.ensures.tag
-        ∙ ap (λ t. (tag_of (text_of name), text_of t)) node in
+    ap (λ n. (n, text_of (tree_in (source_of objects) v.number))) c.of.ensures.tag
+    ∙ ap (λ t. (tag_of (text_of name), text_of t)) node in
     let noted : (t : Tree) → IsNoted objects (take count names) t
-        → IsNoted objects (take (count + 1) c.note.new.names) t =
-    λ t n. (n.0, subst (λ xs. Contains (take (count + 1) xs) n.0) (sym e) (kept-first names count v below n.0 n.1),
-        n.2) in
+    → IsNoted objects (take (count + 1) c.note.new.names) t =
+    λ t n. (
+      n.0,
+      subst (λ xs. Contains (take (count + 1) xs) n.0) (sym e) (kept-first names count v below n.0 n.1),
+      n.2,
+    ) in
     let here : IsNoted objects (take (count + 1) c.note.new.names) name =
-        (v, subst (λ xs. Contains (take (count + 1) xs) v) (sym e) (last-first names count v below), side) in
+    (v, subst (λ xs. Contains (take (count + 1) xs) v) (sym e) (last-first names count v below), side) in
     record {
       few = omega (arith, below, long);
       same = long ∙ inv.same;
@@ -45,10 +48,11 @@ loop-count-preserved-then-not-marked c =
           elim (inv.passed m h) [
             | inl k ↦ elim (next-or (members_left c.loop-count.later) (name, tree c.in-Some.object)
                 (members_left c.next.new.self) m steps.0 k) [
-              | inl z ↦ inr (inr (subst (λ (w : Tree × Tree). IsNoted objects (take (count + 1) c.note.new.names) w.0) z
+                  | inl z ↦ inr (inr (subst
+                      (λ (w : Tree × Tree). IsNoted objects (take (count + 1) c.note.new.names) w.0) z
                       here))
-              | inr later ↦ inl later
-            ]
+                  | inr later ↦ inl later
+                ]
             | inr k ↦ inr (elim k [ inl marked ↦ inl marked | inr n ↦ inr (noted m.0 n) ])
           ];
       line = steps.1 ∙ inv.line;

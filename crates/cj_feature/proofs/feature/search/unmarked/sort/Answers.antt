@@ -10,4 +10,4 @@ pub returns-clause-order : goal.returns-clause-order
 returns-clause-order c =
     let side = side_in c.args.objects in
     c.sort_unstable_by.ensures.sorted (λ a b. is_lt (compare_sides (side a) (side b))) (ranks_by sides_total side)
-        (always_returns_same _ _ _ (λ a r g h. search rules))
+    (always_returns_same _ _ _ (λ a r g h. search rules))

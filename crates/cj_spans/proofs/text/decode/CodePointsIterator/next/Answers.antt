@@ -11,7 +11,7 @@ pub returns-in-Some-clause-goes : goal.returns-in-Some-clause-goes
 returns-in-Some-clause-goes c =
     let s = c.args.self.now in
     let e = points_step s.bytes.now s.place c.in-Some.first c.code_point_of-point.result c.in-Some.ensures.char
-        c.code_point_of-point.ensures in search (rules, ap length e, e)
+    c.code_point_of-point.ensures in search (rules, ap length e, e)
 
 pub returns-in-None-clause-steps : goal.returns-in-None-clause-steps
 returns-in-None-clause-steps c = let s = c.args.self.now in

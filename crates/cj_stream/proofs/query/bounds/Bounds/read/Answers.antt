@@ -7,7 +7,7 @@ use Rattle.cj_stream.proofs.query.bounds.Bounds.read.Goals as goal
 pub returns-in_default-2 : goal.returns-in_default-2
 returns-in_default-2 c =
     let said = read-edges c.args.text.now _ _ _ _ c.in-Some.ensures _ _ _ _ c.in_ok-min_x.ensures c.in_ok-min_y.ensures
-        c.in_ok-max_x.ensures c.in_ok-max_y.ensures in
+    c.in_ok-max_x.ensures c.in_ok-max_y.ensures in
     elim c.in_default-2.branch [
       | in_default-2-via-in-Some+in-Some+in-Some+in_default w ↦ said
           ∙ (rw (w.in_default-2.is-0, w.in_default-2.is-1, w.in_default-2.is-2, w.in_default-2.is-3) refl)
@@ -20,7 +20,7 @@ returns-in_default-2 c =
 pub returns-then-is_below : goal.returns-then-is_below
 returns-then-is_below c =
     let said = read-edges c.args.text.now _ _ _ _ c.in-Some.ensures _ _ _ _ c.in_ok-min_x.ensures c.in_ok-min_y.ensures
-        c.in_ok-max_x.ensures c.in_ok-max_y.ensures in
+    c.in_ok-max_x.ensures c.in_ok-max_y.ensures in
     let edges = c.in-Some-Some-Some-Some in
     let read = said ∙ (λ i. by_edges (edges.is-0 i) (edges.is-1 i) (edges.is-2 i) (edges.is-3 i)) in
     elim c.then-is_below.branch [
@@ -36,7 +36,7 @@ returns-then-is_below c =
 pub returns : goal.returns
 returns c =
     let said = read-edges c.args.text.now _ _ _ _ c.in-Some.ensures _ _ _ _ c.in_ok-min_x.ensures c.in_ok-min_y.ensures
-        c.in_ok-max_x.ensures c.in_ok-max_y.ensures in
+    c.in_ok-max_x.ensures c.in_ok-max_y.ensures in
     let edges = c.in-Some-Some-Some-Some in
     let read = said ∙ (λ i. by_edges (edges.is-0 i) (edges.is-1 i) (edges.is-2 i) (edges.is-3 i)) in
     let x : int_lt edges.max_x edges.min_x ≡ false = sym c.is_below.ensures ∙ c.if-is_below.false in

@@ -7,6 +7,6 @@ returns-else-is_ge c =
     let told = at_least_told c.args.map.now in
     let least = told c.args.self.least c.args.end c.compare.result c.requires.least c.compare.ensures.order in
     let greatest =
-        told c.args.self.greatest c.args.end c.compare-else-is_ge.result c.requires.greatest
-            c.compare-else-is_ge.ensures.order in
+    told c.args.self.greatest c.args.end c.compare-else-is_ge.result c.requires.greatest
+    c.compare-else-is_ge.ensures.order in
     or_second _ _ _ _ (sym least ∙ sym c.is_ge.ensures) c.if-is_ge.false (c.is_ge-else-is_ge.ensures ∙ greatest)

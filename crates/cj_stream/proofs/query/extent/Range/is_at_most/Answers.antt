@@ -7,6 +7,6 @@ returns-else-is_le c =
     let told = at_most_told c.args.map.now in
     let least = told c.args.self.least c.args.end c.compare.result c.requires.least c.compare.ensures.order in
     let greatest =
-        told c.args.self.greatest c.args.end c.compare-else-is_le.result c.requires.greatest
-            c.compare-else-is_le.ensures.order in
+    told c.args.self.greatest c.args.end c.compare-else-is_le.result c.requires.greatest
+    c.compare-else-is_le.ensures.order in
     or_second _ _ _ _ (sym least ∙ sym c.is_le.ensures) c.if-is_le.false (c.is_le-else-is_le.ensures ∙ greatest)

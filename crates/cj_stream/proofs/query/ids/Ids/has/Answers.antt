@@ -18,7 +18,7 @@ returns c =
     let test : Key → Bool = λ key. is_eq (compare_keys key (key_of (text_of t))) in
     let keys : keys_at c.as_str.result.now c.as_slice-2.result.now ≡ keys_at bytes entries =
     ap (λ t. keys_at t c.as_slice-2.result.now) c.as_str.ensures.value
-        ∙ ap (keys_at bytes) c.as_slice-2.ensures.value in
+    ∙ ap (keys_at bytes) c.as_slice-2.ensures.value in
     c.is_in_runs.ensures ∙ ap (list_any test) keys
     ∙ sym (list_any-IsPermutation test (keys_of ids) (keys_at bytes entries) c.self.invariant.each)
     ∙ has_key ids t ∙ ap (λ texts. is_one_of texts t) c.self.view_is

@@ -9,7 +9,7 @@ returns-in_default-clause-guide g c =
     let line = c.args.line.now in
     let ts = c.loop.tokens.elements in
     guide-on line ts c.loop.self _ c.loop.invariant.guide (same-hand c.loop.self.lists)
-        (λ f j waits. c.pop.ensures.pending f line (spans_of ts) waits)
+    (λ f j waits. c.pop.ensures.pending f line (spans_of ts) waits)
 
 pub mark-requires : goal.mark-requires
 mark-requires g c =
@@ -18,9 +18,13 @@ mark-requires g c =
     let guide = c.loop.invariant.guide in
     let same = length-spans_of ts in
     let within =
-        (c.in-Some.ensures.number guide.of.tree line (spans_of ts) (guide.waiting guide.of.tree guide.of.json)).0 in
+    (c.in-Some.ensures.number guide.of.tree line (spans_of ts) (guide.waiting guide.of.tree guide.of.json)).0 in
     let same_guide =
-        guide-on line ts c.loop.self _ guide (same-hand c.loop.self.lists)
-            (λ f j waits. c.pop.ensures.pending f line (spans_of ts) waits) in
-    (search rules, (same_guide,
-            (omega arith, λ f j. (c.in-Some.ensures.number f line (spans_of ts) (guide.waiting f j)).1)))
+    guide-on line ts c.loop.self _ guide (same-hand c.loop.self.lists)
+    (λ f j waits. c.pop.ensures.pending f line (spans_of ts) waits) in (
+      search rules,
+      (
+        same_guide,
+        (omega arith, λ f j. (c.in-Some.ensures.number f line (spans_of ts) (guide.waiting f j)).1),
+      ),
+    )

@@ -14,10 +14,12 @@ note_children-requires g c =
     let n = c.in-Some.objects in
     let source : source_of n ≡ document_source d = c.in-Some.ensures.source ∙ c.root-root.ensures.source in
     let o : member_of (chars (codes "CityObjects")) (document d) ≡ Some (tree n) =
-        ap (member_of (chars (codes "CityObjects"))) (sym c.root-root.ensures.tree) ∙ sym c.get.ensures.value
-        ∙ ap (option_map tree) c.in-Some.is in
-    (search rules, known-here n d source c.args.self.now.lists
-        (c.requires.known (document d) (tree n) (the-json d c.requires.of) o))
+    ap (member_of (chars (codes "CityObjects"))) (sym c.root-root.ensures.tree) ∙ sym c.get.ensures.value
+    ∙ ap (option_map tree) c.in-Some.is in (
+      search rules,
+      known-here n d source c.args.self.now.lists
+          (c.requires.known (document d) (tree n) (the-json d c.requires.of) o),
+    )
 
 pub returns-in-Some : goal.returns-in-Some
 returns-in-Some g c =
@@ -30,14 +32,14 @@ returns-in-Some g c =
     let marked = c.marked.ensures.yes c.if-marked.true in
     let here : IsMarked line (tokens_in (document_source d)) (tree u) =
     subst (λ s. IsMarked line (tokens_in s) (tree u)) u_source
-        (subst (λ l. IsMarked l (tokens_in (source_of u)) (tree u)) (line-of-document u d u_source) marked) in
+    (subst (λ l. IsMarked l (tokens_in (source_of u)) (tree u)) (line-of-document u d u_source) marked) in
     guide-on line (tokens_in (document_source d)) c.args.self.now c.note_children.new.self c.requires
-        c.note_children.ensures.hand
+    c.note_children.ensures.hand
     (λ f j waits.
     let is = c.root-root.ensures.tree ∙ the-document d c.requires.of f j in
     let o : member_of (chars (codes "CityObjects")) f ≡ Some (tree n) =
-        ap (member_of (chars (codes "CityObjects"))) (sym is) ∙ sym c.get.ensures.value
-        ∙ ap (option_map tree) c.in-Some.is in
+    ap (member_of (chars (codes "CityObjects"))) (sym is) ∙ sym c.get.ensures.value
+    ∙ ap (option_map tree) c.in-Some.is in
     waits-there n d source f c.note_children.new.self.pending
-        (c.note_children.ensures.pending f o (c.requires.sound f j (tree u) here)
-        (waits-here n d source f c.args.self.now.pending waits)))
+    (c.note_children.ensures.pending f o (c.requires.sound f j (tree u) here)
+    (waits-here n d source f c.args.self.now.pending waits)))

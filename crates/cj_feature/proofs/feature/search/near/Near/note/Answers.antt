@@ -15,7 +15,7 @@ loop-place-preserved g c =
 pub returns-then-is_sorted-clause-hand : goal.returns-then-is_sorted-clause-hand
 returns-then-is_sorted-clause-hand g c =
     more-hand c.args.self.now.lists c.loop-place.self.lists c.note_one.new.self.lists c.loop-place.invariant.hand
-        c.note_one.ensures.hand
+    c.note_one.ensures.hand
 
 pub returns-then-is_sorted-clause-pending : goal.returns-then-is_sorted-clause-pending
 returns-then-is_sorted-clause-pending g c =

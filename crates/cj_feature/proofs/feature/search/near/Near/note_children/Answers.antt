@@ -16,8 +16,8 @@ loop-item-preserved g c =
       known = known-kept c.args.objects c.loop-item.self.lists c.note.new.self.lists c.note.ensures.hand inv.known;
       pending = λ f o r waits.
           c.note.ensures.pending f
-              (lists-reached f (tree c.args.object) item c.args.objects o r
-              (inv.among item (subst (λ ts. Contains ts item) (sym e) (here item _)))) (inv.pending f o r waits);
+          (lists-reached f (tree c.args.object) item c.args.objects o r
+          (inv.among item (subst (λ ts. Contains ts item) (sym e) (here item _)))) (inv.pending f o r waits);
     }
 
 pub loop-item-preserved-then-gone-skip : goal.loop-item-preserved-then-gone-skip
@@ -25,13 +25,17 @@ loop-item-preserved-then-gone-skip g c =
     let inv = c.loop-item.invariant in
     let e = c.in-Some-item.ensures.steps.0 in
     let item = tree c.in-Some-item.item in
-    record { among = λ t h. inv.among t (subst (λ ts. Contains ts t) (sym e) (there item _ t h)); hand = inv.hand;
-        known = inv.known; pending = inv.pending }
+    record {
+      among = λ t h. inv.among t (subst (λ ts. Contains ts t) (sym e) (there item _ t h));
+      hand = inv.hand;
+      known = inv.known;
+      pending = inv.pending;
+    }
 
 pub returns-then-is_full-clause-hand : goal.returns-then-is_full-clause-hand
 returns-then-is_full-clause-hand g c =
     more-hand c.args.self.now.lists c.loop-item.self.lists c.note.new.self.lists c.loop-item.invariant.hand
-        c.note.ensures.hand
+    c.note.ensures.hand
 
 pub returns-then-is_full-clause-pending : goal.returns-then-is_full-clause-pending
 returns-then-is_full-clause-pending g c = λ f o r waits.
@@ -39,5 +43,5 @@ returns-then-is_full-clause-pending g c = λ f o r waits.
     let e = c.in-Some-item.ensures.steps.0 in
     let item = tree c.in-Some-item.item in
     c.note.ensures.pending f
-        (lists-reached f (tree c.args.object) item c.args.objects o r
-        (inv.among item (subst (λ ts. Contains ts item) (sym e) (here item _)))) (inv.pending f o r waits)
+    (lists-reached f (tree c.args.object) item c.args.objects o r
+    (inv.among item (subst (λ ts. Contains ts item) (sym e) (here item _)))) (inv.pending f o r waits)

@@ -17,9 +17,9 @@ returns-then-not-marked-clause-pending g c = λ f reaches waits.
     let ready : IsReady c.slot.result n = subst (IsHeld c.slot.result) c.in-Ready.is c.held.ensures in
     let named = c.requires.known c.args.place n c.slot.result c.slot.ensures ready in
     let shown : tree c.at.result ≡ tree_at line spans (n - 1) = c.at.ensures.tree
-        ∙ found_at-number o (n - 1) (omega (arith, named.0, same_length)) in
+    ∙ found_at-number o (n - 1) (omega (arith, named.0, same_length)) in
     let told : same_text (tree c.at.result) (tree c.args.text) ≡ true = sym c.same_text.ensures.test
-        ∙ c.if-not-same_text.false in
+    ∙ c.if-not-same_text.false in
     let same : same_text (tree_at line spans (n - 1)) (tree c.args.text) ≡ true =
-        subst (λ u. same_text u (tree c.args.text) ≡ true) shown told in
+    subst (λ u. same_text u (tree c.args.text) ≡ true) shown told in
     c.add.ensures f line spans named.0 (reaches (tree_at line spans (n - 1)) (tree_at line spans n) named.1 same) waits

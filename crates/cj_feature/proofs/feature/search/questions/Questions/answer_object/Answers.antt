@@ -25,7 +25,7 @@ answer_items-requires g c =
     let a = c.args.self.now in
     let rest = members_left c.args.later in
     let below : c.in-Some.place < length (noted a) =
-        slice_get_within (noted a) c.in-Some.place c.in-Some.ensures.first.question c.in-Some.ensures.first.stands in (
+    slice_get_within (noted a) c.in-Some.place c.in-Some.ensures.first.question c.in-Some.ensures.first.stands in (
       search rules,
       (
         record {
@@ -36,8 +36,8 @@ answer_items-requires g c =
               (left_flagged c.args.objects (noted a) a.known (trees (c.args.name, c.args.object)) rest
               c.requires.answered.known c.in-Some.place (grind (arith, common_steps))
               (λ i f. sym c.in-Some.is
-                  ∙ c.first_on.ensures.only i
-                  (subst (λ t. IsFirstOn c.args.objects (noted a) t i) (sym c.of-from.ensures) f)));
+              ∙ c.first_on.ensures.only i
+              (subst (λ t. IsFirstOn c.args.objects (noted a) t i) (sym c.of-from.ensures) f)));
         },
         λ f t h k. c.requires.listed f t (subst (λ u. same_text u f ≡ true) c.of-from.ensures h) k,
       ),

@@ -21,7 +21,7 @@ loop-i-preserved c =
         length = search rules;
         order = λ up. subst InOrder
             (sym (ap (λ n. take n c.if-kept-eq0.questions ++ drop (i + 1) c.if-kept-eq0.questions) w.kept-is
-                ∙ ap (λ l. take (kept + 1) l ++ drop (i + 1) l) w.questions-is ∙ one_more qs kept i _ inv.few below))
+            ∙ ap (λ l. take (kept + 1) l ++ drop (i + 1) l) w.questions-is ∙ one_more qs kept i _ inv.few below))
             (inv.order up);
       }
       | else-kept-eq0+else-not-are_same w ↦
@@ -31,9 +31,9 @@ loop-i-preserved c =
             length = search rules;
             order = λ up.
                 let less = one_less _ (ranks_by keys_total (key_in c.args.objects)) (take kept qs) next.0
-                    (drop (i + 1) qs) (subst (λ l. InOrder (take kept qs ++ l)) next.1 (inv.order up)) in
+                (drop (i + 1) qs) (subst (λ l. InOrder (take kept qs ++ l)) next.1 (inv.order up)) in
                 subst InOrder (sym (ap (λ n. take n c.if-kept-eq0.questions ++ drop (i + 1) c.if-kept-eq0.questions)
-                        w.kept-is ∙ ap (λ l. take kept l ++ drop (i + 1) l) w.questions-is)) less;
+                w.kept-is ∙ ap (λ l. take kept l ++ drop (i + 1) l) w.questions-is)) less;
           }
     ]
 
@@ -43,5 +43,5 @@ returns-clause-order c = λ up.
     let kept = c.loop-i.kept in
     let end : length qs ≤ c.loop-i.i = omega arith in
     subst (AreInOrder c.args.objects)
-        (ap (λ l. take kept qs ++ l) (drop_all c.loop-i.i qs end) ∙ append-nil (take kept qs))
-        (c.loop-i.invariant.order up)
+    (ap (λ l. take kept qs ++ l) (drop_all c.loop-i.i qs end) ∙ append-nil (take kept qs))
+    (c.loop-i.invariant.order up)

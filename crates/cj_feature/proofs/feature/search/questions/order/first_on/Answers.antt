@@ -11,12 +11,17 @@ pub returns-in-Some : goal.returns-in-Some
 returns-in-Some c =
     let t = tree c.args.from.node in
     let place =
-        place_by_texts c.args.objects c.args.questions.now c.place_of-place.result c.args.from.tag c.of-to.result.tag t
-            (tree c.of-to.result.node) c.args.from.tagged c.of-to.result.tagged c.of-to.ensures
-            c.place_of-place.ensures in
+    place_by_texts c.args.objects c.args.questions.now c.place_of-place.result c.args.from.tag c.of-to.result.tag t
+    (tree c.of-to.result.node) c.args.from.tagged c.of-to.result.tagged c.of-to.ensures
+    c.place_of-place.ensures in
     record {
-      first = record { place = place; question = c.in-Some.question; stands = c.in-Some.ensures;
-          tagged = c.is.ensures.tag c.if-is.true ∙ c.args.from.tagged; same = c.is.ensures.text c.if-is.true };
+      first = record {
+        place = place;
+        question = c.in-Some.question;
+        stands = c.in-Some.ensures;
+        tagged = c.is.ensures.tag c.if-is.true ∙ c.args.from.tagged;
+        same = c.is.ensures.text c.if-is.true;
+      };
       only = λ i f. ap (λ z. Some z)
           (sym (only_here c.args.objects c.args.questions.now t c.place_of-place.result i place f));
     }
@@ -25,22 +30,22 @@ pub returns-in_default-clause-only : goal.returns-in_default-clause-only
 returns-in_default-clause-only c = λ i f.
     let t = tree c.args.from.node in
     let place =
-        place_by_texts c.args.objects c.args.questions.now c.place_of-place.result c.args.from.tag c.of-to.result.tag t
-            (tree c.of-to.result.node) c.args.from.tagged c.of-to.result.tagged c.of-to.ensures
-            c.place_of-place.ensures in
+    place_by_texts c.args.objects c.args.questions.now c.place_of-place.result c.args.from.tag c.of-to.result.tag t
+    (tree c.of-to.result.node) c.args.from.tagged c.of-to.result.tagged c.of-to.ensures
+    c.place_of-place.ensures in
     let other : c.in-Some.question.from.tag ≡ tag_of (text_of t)
-        → same_text (from_in c.args.objects c.in-Some.question) t ≡ false =
-        λ m. c.is.ensures.other c.if-is.false (m ∙ sym c.args.from.tagged) in
+    → same_text (from_in c.args.objects c.in-Some.question) t ≡ false =
+    λ m. c.is.ensures.other c.if-is.false (m ∙ sym c.args.from.tagged) in
     absurd (none_here c.args.objects c.args.questions.now t c.place_of-place.result i place
-        (λ q e. let is : c.in-Some.question ≡ q = cc (c.in-Some.ensures, e) in
-            subst (λ w. w.from.tag ≡ tag_of (text_of t) → same_text (from_in c.args.objects w) t ≡ false) is other) f)
+    (λ q e. let is : c.in-Some.question ≡ q = cc (c.in-Some.ensures, e) in
+    subst (λ w. w.from.tag ≡ tag_of (text_of t) → same_text (from_in c.args.objects w) t ≡ false) is other) f)
 
 pub returns-in_default-2-clause-only : goal.returns-in_default-2-clause-only
 returns-in_default-2-clause-only c = λ i f.
     let t = tree c.args.from.node in
     let place =
-        place_by_texts c.args.objects c.args.questions.now c.place_of-place.result c.args.from.tag c.of-to.result.tag t
-            (tree c.of-to.result.node) c.args.from.tagged c.of-to.result.tagged c.of-to.ensures
-            c.place_of-place.ensures in
+    place_by_texts c.args.objects c.args.questions.now c.place_of-place.result c.args.from.tag c.of-to.result.tag t
+    (tree c.of-to.result.node) c.args.from.tagged c.of-to.result.tagged c.of-to.ensures
+    c.place_of-place.ensures in
     absurd (none_here c.args.objects c.args.questions.now t c.place_of-place.result i place
-        (λ q e. absurd (cc (c.question_at.ensures, c.in_default.is, e))) f)
+    (λ q e. absurd (cc (c.question_at.ensures, c.in_default.is, e))) f)

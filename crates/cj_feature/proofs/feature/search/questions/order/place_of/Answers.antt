@@ -9,5 +9,5 @@ pub returns : goal.returns
 returns c =
     let key = pair_key c.args.pair in
     IsPartitionPoint-from_clause (λ q. is_lt (compare_keys (key_in c.args.objects q) key)) _ _
-        c.partition_point.ensures.partitioned (parted c.args.objects c.args.questions.now key c.requires)
-        (λ a r q k. search rules)
+    c.partition_point.ensures.partitioned (parted c.args.objects c.args.questions.now key c.requires)
+    (λ a r q k. search rules)

@@ -6,22 +6,31 @@ pub loop-name-preserved-then-passed-skip : goal.loop-name-preserved-then-passed-
 loop-name-preserved-then-passed-skip g c =
     let steps = c.in-Some.ensures.steps in
     let inv = c.loop-name.invariant in
-    record { walk = later-among c.args.objects c.loop-name.name-iterator c.next.new.self _ inv.walk steps.0 steps.1
-        steps.3; known = inv.known }
+    record {
+      walk = later-among c.args.objects c.loop-name.name-iterator c.next.new.self _ inv.walk steps.0 steps.1
+          steps.3;
+      known = inv.known;
+    }
 
 pub loop-name-preserved-then-not-is_meant : goal.loop-name-preserved-then-not-is_meant
 loop-name-preserved-then-not-is_meant g c =
     let steps = c.in-Some.ensures.steps in
     let inv = c.loop-name.invariant in
-    record { walk = later-among c.args.objects c.loop-name.name-iterator c.next.new.self _ inv.walk steps.0 steps.1
-        steps.3; known = inv.known }
+    record {
+      walk = later-among c.args.objects c.loop-name.name-iterator c.next.new.self _ inv.walk steps.0 steps.1
+          steps.3;
+      known = inv.known;
+    }
 
 pub loop-name-preserved : goal.loop-name-preserved
 loop-name-preserved g c =
     let steps = c.in-Some.ensures.steps in
     let inv = c.loop-name.invariant in
-    record { walk = later-among c.args.objects c.loop-name.name-iterator c.next.new.self _ inv.walk steps.0 steps.1
-        steps.3; known = inv.known }
+    record {
+      walk = later-among c.args.objects c.loop-name.name-iterator c.next.new.self _ inv.walk steps.0 steps.1
+          steps.3;
+      known = inv.known;
+    }
 
 pub loop-name-preserved-then-taken-self : goal.loop-name-preserved-then-taken-self
 loop-name-preserved-then-taken-self g c =
@@ -35,7 +44,13 @@ loop-name-preserved-then-taken-self g c =
 pub take-requires : goal.take-requires
 take-requires g c =
     let steps = c.in-Some.ensures.steps in
-    let inv = c.loop-name.invariant in
-    (search rules, (inv.known,
-            (first-among c.args.objects c.loop-name.name-iterator c.next.new.self _ inv.walk steps.0,
-                (search rules, search rules))))
+    let inv = c.loop-name.invariant in (
+      search rules,
+      (
+        inv.known,
+        (
+          first-among c.args.objects c.loop-name.name-iterator c.next.new.self _ inv.walk steps.0,
+          (search rules, search rules),
+        ),
+      ),
+    )

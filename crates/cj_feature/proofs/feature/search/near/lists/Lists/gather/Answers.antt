@@ -6,9 +6,11 @@ pub fill_lists-requires : goal.fill_lists-requires
 fill_lists-requires g c =
     let a = c.args.self.now in
     let b = c.count_lists.new.self in
-    let d = c.start_lists.new.self in
-    (search rules, known-kept c.args.objects a d (more-hand a b d c.count_lists.ensures c.start_lists.ensures)
-        c.requires)
+    let d = c.start_lists.new.self in (
+      search rules,
+      known-kept c.args.objects a d (more-hand a b d c.count_lists.ensures c.start_lists.ensures)
+          c.requires,
+    )
 
 pub returns : goal.returns
 returns g c =

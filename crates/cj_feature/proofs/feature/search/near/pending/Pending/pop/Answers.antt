@@ -7,4 +7,4 @@ returns-clause-pending g c = λ f line spans all k n l h. all k n (omega arith) 
 pub returns-clause-number : goal.returns-clause-number
 returns-clause-number g c =
     λ f line spans all. all (c.args.self.now.count - 1) c.number_at-number.result
-        (omega arith) c.number_at-number.ensures
+    (omega arith) c.number_at-number.ensures
