@@ -12,4 +12,4 @@ unfoldable pub header_line : Header → List ℕ
 header_line h = document_line h.doc
 
 unfoldable pub has_box : Header → Bool
-has_box h = h.parts.with_box
+has_box h = h.with_box

@@ -17,3 +17,4 @@ pub mod Typed
 pub mod Unmarked
 pub mod View
 pub mod Walks
+pub mod RootMembers

@@ -74,3 +74,8 @@ pub record ArePartsOf (t : Tree) (parts : HeaderParts) : Type 0 where
 -- whether parts were read for a box
 unfoldable pub parts_box : HeaderParts → Bool
 parts_box parts = parts.with_box
+
+-- parts of the tree, read for a box or for none
+pub record AreKept (t : Tree) (with_box : Bool) (parts : HeaderParts) : Type 0 where
+  pub of_tree : ArePartsOf t parts
+  pub for_box : parts.with_box ≡ with_box

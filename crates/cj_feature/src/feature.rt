@@ -2,7 +2,7 @@
 ghost use Rattle.std.specs.Prelude.{◌≡◌, ◌<◌, ℕ, List, [], false, Some, IfSome, codes, map, option_map};
 ghost use Rattle.std.specs.Str.{chars};
 ghost use Rattle.cj_spans.specs.Parts.{member_of, text_of};
-ghost use Rattle.cj_spans.specs.View.{document, document_line, tree, line_of};
+ghost use Rattle.cj_spans.specs.View.{document, document_line, document_source, tree, tree_in, line_of};
 ghost use Rattle.cj_geometry.specs.Given.{given};
 ghost use Rattle.cj_feature.specs.Feature.{feature, templates_of};
 ghost use Rattle.cj_geometry.specs.TreeSet.{tree_if-set, given-set};
@@ -26,19 +26,18 @@ pub use rules::check_feature;
 pub use search::reached::mark_reached;
 pub use vertices::Vertices;
 
-/// A valid feature, with its header. The nodes where its walks begin are looked up once, when it is
-/// judged.
+/// A valid feature, with its header. The members where its walks begin are looked up once, when it
+/// is judged, and kept as numbers.
 #[derive(Clone, Copy)]
 pub struct Feature<'a> {
     doc: Doc<'a>,
     header: Doc<'a>,
-    objects: Node<'a>,
-    vertices: Node<'a>,
+    objects: u32,
+    vertices: u32,
     templates: Templates<'a>,
     ghost valid: { feature (document header) (document doc) false ≡ [] },
-    ghost has_objects: { member_of (chars (codes "CityObjects")) (document doc) ≡ Some (tree objects) } by { tree_if-set _ _ },
-    ghost of_line: { line_of objects ≡ document_line doc },
-    ghost has_vertices: { member_of (chars (codes "vertices")) (document doc) ≡ Some (tree vertices) } by { tree_if-set _ _ },
+    ghost has_objects: { member_of (chars (codes "CityObjects")) (document doc) ≡ Some (tree_in (document_source doc) objects) } by { tree_if-set _ _ },
+    ghost has_vertices: { member_of (chars (codes "vertices")) (document doc) ≡ Some (tree_in (document_source doc) vertices) } by { tree_if-set _ _ },
     ghost has_templates: { given templates ≡ templates_of (document header) } by { given-set _ _ },
 }
 
@@ -52,19 +51,20 @@ impl<'a> Feature<'a> {
     ghost use Rattle.cj_feature.specs.Walks.{object_geometries, vertices_left, coordinates_left};
 
     /// Returns the feature of a document that has no findings with this header. `objects` and
-    /// `vertices` are members of the document, and `templates` those of the header.
+    /// `vertices` are the numbers of its members, and `templates` are those of the header.
     #[tactic(auto, unfolding(crate::specs::View::feature_tree, crate::specs::View::feature_line, crate::specs::View::feature_header))]
     fn of(
         doc: Doc<'a>,
         header: Doc<'a>,
-        objects: Option<Node<'a>>,
-        vertices: Option<Node<'a>>,
+        objects: Option<u32>,
+        vertices: Option<u32>,
         templates: Templates<'a>,
     ) -> Feature<'a>
         requires valid { feature (document header) (document doc) false ≡ [] }
-        requires objects { option_map tree objects ≡ member_of (chars (codes "CityObjects")) (document doc) }
-        requires line { IfSome objects (λ n. line_of n ≡ document_line doc) }
-        requires vertices { option_map tree vertices ≡ member_of (chars (codes "vertices")) (document doc) }
+        requires objects { option_map (tree_in (document_source doc)) objects
+            ≡ member_of (chars (codes "CityObjects")) (document doc) }
+        requires vertices { option_map (tree_in (document_source doc)) vertices
+            ≡ member_of (chars (codes "vertices")) (document doc) }
         requires templates { given templates ≡ templates_of (document header) }
         ensures tree { feature_tree result ≡ document doc.entry }
         ensures line { feature_line result ≡ document_line doc.entry }
@@ -104,7 +104,14 @@ impl<'a> Feature<'a> {
         ensures tree { member_of (chars (codes "CityObjects")) (document self.now.doc) ≡ Some (tree result) }
         ensures line { line_of result ≡ document_line self.now.doc }
     {
-        self.objects
+        self.doc.root().at(self.objects)
+    }
+
+    /// Returns the value of `vertices`.
+    fn vertices_node(&self) -> Node<'a>
+        ensures { member_of (chars (codes "vertices")) (document self.now.doc) ≡ Some (tree result) }
+    {
+        self.doc.root().at(self.vertices)
     }
 
     /// Returns the city objects, in order.
@@ -134,7 +141,7 @@ impl<'a> Feature<'a> {
         ensures { vertices_left result
             ≡ map vertex_of (items_if (member_of (chars (codes "vertices")) (feature_tree self.now))) }
     {
-        Vertices::over(self.vertices.items())
+        Vertices::over(self.vertices_node().items())
     }
 
     /// Returns the coordinates of the vertices on an axis, in order: 0 is x, 1 is y, and 2 is z.

@@ -1,10 +1,12 @@
 //! Headers: the first line of a stream.
-ghost use Rattle.std.specs.Prelude.{◌≡◌, Some, None, map, codes};
+ghost use Rattle.std.specs.Prelude.{◌≡◌, [], Some, None, map, codes};
+ghost use Rattle.std.specs.Option.{ForSome};
 ghost use Rattle.std.specs.Str.{chars};
 ghost use Rattle.cj_spans.specs.View.{document, document_line};
 ghost use Rattle.cj_geometry.specs.Given.{given};
 ghost use Rattle.cj_feature.specs.Feature.{templates_of};
-ghost use Rattle.cj_feature.specs.Shown.{ArePartsOf};
+ghost use Rattle.cj_feature.specs.Header.{header};
+ghost use Rattle.cj_feature.specs.Shown.{ArePartsOf, AreKept};
 
 mod reading;
 mod rules;
@@ -13,22 +15,42 @@ use cj_decimal::{Affine, Decimal};
 use cj_geometry::Templates;
 use cj_spans::Doc;
 pub use reading::HeaderParts;
-use reading::template_list;
+use reading::{read_parts, template_list};
 pub use rules::check_header;
 
 /// A valid header.
+///
+/// It borrows the parts that were read of it before, or reads what it is asked for. So it is small,
+/// and can be made again for each line.
 #[derive(Clone, Copy)]
 pub struct Header<'a> {
     doc: Doc<'a>,
-    parts: HeaderParts,
-    ghost known: { ArePartsOf (document doc) parts },
+    with_box: bool,
+    kept: Option<&'a HeaderParts>,
+    ghost valid: { header with_box (document doc) ≡ [] },
+    ghost known: { ForSome kept (λ p. AreKept (document doc) with_box p.now) },
 }
 
 impl<'a> Header<'a> {
     ghost use Rattle.cj_feature.specs.Shown.{transform_values, maps_if, parts_box};
     ghost use Rattle.cj_feature.specs.HeaderView.{header_tree, header_line, has_box};
 
-    /// Returns the header of this document again, from the parts that were read of it.
+    /// Returns the header of a document that was judged for a box or for none.
+    #[tactic(auto, unfolding(crate::specs::HeaderView::header_tree, crate::specs::HeaderView::header_line, crate::specs::HeaderView::has_box))]
+    fn judged(doc: Doc<'a>, with_box: bool) -> Header<'a>
+        requires { header with_box (document doc) ≡ [] }
+        ensures tree { header_tree result ≡ document doc.entry }
+        ensures line { header_line result ≡ document_line doc.entry }
+        ensures with_box { has_box result ≡ with_box }
+    {
+        Header {
+            doc,
+            with_box,
+            kept: None,
+        }
+    }
+
+    /// Returns the header of this document again, given parts that were read of it.
     #[tactic(auto, unfolding(crate::specs::HeaderView::header_tree, crate::specs::HeaderView::header_line, crate::specs::HeaderView::has_box, crate::specs::Shown::parts_box))]
     pub fn of(doc: Doc<'a>, parts: HeaderParts) -> Header<'a>
         requires { ArePartsOf (document doc) parts }
@@ -36,7 +58,23 @@ impl<'a> Header<'a> {
         ensures line { header_line result ≡ document_line doc.entry }
         ensures with_box { has_box result ≡ parts_box parts }
     {
-        Header { doc, parts }
+        Header::judged(doc, parts.with_box)
+    }
+
+    /// Returns the same header as [`Header::of`], which borrows the parts. So it reads none of them
+    /// again.
+    #[tactic(auto, unfolding(crate::specs::HeaderView::header_tree, crate::specs::HeaderView::header_line, crate::specs::HeaderView::has_box, crate::specs::Shown::parts_box))]
+    pub fn kept(doc: Doc<'a>, parts: &'a HeaderParts) -> Header<'a>
+        requires { ArePartsOf (document doc) parts.now }
+        ensures tree { header_tree result ≡ document doc.entry }
+        ensures line { header_line result ≡ document_line doc.entry }
+        ensures with_box { has_box result ≡ parts_box parts.now }
+    {
+        Header {
+            doc,
+            with_box: parts.with_box,
+            kept: Some(parts),
+        }
     }
 
     /// Returns the scale on each axis (CityJSON 2.0, section 4). A vertex is multiplied by it.
@@ -44,8 +82,10 @@ impl<'a> Header<'a> {
     pub fn scale(&self) -> [Decimal; 3]
         ensures { transform_values (chars (codes "scale")) (header_tree self.now) ≡ map Some result }
     {
-        let parts = self.parts;
-        parts.scale
+        match self.kept {
+            Some(parts) => parts.scale,
+            None => self.read().scale,
+        }
     }
 
     /// Returns the translation on each axis. It is added to the scaled vertex.
@@ -53,22 +93,56 @@ impl<'a> Header<'a> {
     pub fn translate(&self) -> [Decimal; 3]
         ensures { transform_values (chars (codes "translate")) (header_tree self.now) ≡ map Some result }
     {
-        let parts = self.parts;
-        parts.translate
+        match self.kept {
+            Some(parts) => parts.translate,
+            None => self.read().translate,
+        }
     }
 
-    /// Returns the templates that instances of later lines name. If the header has no list of them,
-    /// it searches for none.
-    #[tactic(auto, unfolding(crate::specs::HeaderView::header_tree, crate::specs::HeaderView::header_line), using(crate::proofs::Listed::no_list))]
-    pub fn templates(&'a self) -> Templates<'a>
-        ensures { given result ≡ templates_of (header_tree self.now) }
+    /// Reads the parts.
+    #[inline(never)]
+    fn read(&self) -> HeaderParts
+        ensures { AreKept (document self.now.doc) self.now.with_box result }
     {
-        let Some(steps) = &self.parts.templates else {
+        read_parts(self.doc.root(), self.with_box)
+    }
+
+    /// Returns the templates, by a walk over their list.
+    #[inline(never)]
+    fn listed_templates(&self) -> Templates<'a>
+        ensures { given result ≡ templates_of (document self.now.doc) }
+    {
+        match template_list(self.doc.root()) {
+            Some(list) => Templates::list(list),
+            None => Templates::empty(),
+        }
+    }
+
+    /// Returns the templates, by the steps of an earlier walk. If there is no list of them, it
+    /// searches for none.
+    #[tactic(auto, using(crate::proofs::Listed::no_list))]
+    fn stepped_templates(&self, parts: &'a HeaderParts) -> Templates<'a>
+        requires { ArePartsOf (document self.now.doc) parts.now }
+        ensures { given result ≡ templates_of (document self.now.doc) }
+    {
+        let Some(steps) = &parts.templates else {
             return Templates::empty();
         };
         match template_list(self.doc.root()) {
             Some(list) => Templates::stepped(list, steps),
             None => Templates::empty(),
+        }
+    }
+
+    /// Returns the templates that instances of later lines name. If the header has no list of them,
+    /// it searches for none.
+    #[tactic(auto, unfolding(crate::specs::HeaderView::header_tree, crate::specs::HeaderView::header_line))]
+    pub fn templates(&'a self) -> Templates<'a>
+        ensures { given result ≡ templates_of (header_tree self.now) }
+    {
+        match self.kept {
+            Some(parts) => self.stepped_templates(parts),
+            None => self.listed_templates(),
         }
     }
 
@@ -86,8 +160,10 @@ impl<'a> Header<'a> {
     pub fn affine(&self) -> Option<[Affine; 2]>
         ensures { result ≡ maps_if (has_box self.now) (header_tree self.now) }
     {
-        let parts = self.parts;
-        parts.maps
+        match self.kept {
+            Some(parts) => parts.maps,
+            None => self.read().maps,
+        }
     }
 
     /// Returns the line's content.
@@ -104,6 +180,9 @@ impl<'a> Header<'a> {
         ensures parts { ArePartsOf (header_tree self.now) result }
         ensures with_box { parts_box result ≡ has_box self.now }
     {
-        self.parts
+        match self.kept {
+            Some(parts) => *parts,
+            None => self.read(),
+        }
     }
 }

@@ -25,9 +25,14 @@ fn check_parts(
     ensures { found.new ≡ least found.old (part_rules vertices depth values (tree object.entry)) }
 {
     let (lod, boundaries, semantics) = object.get_three("lod", "boundaries", "semantics");
-    check_text_there(object, lod, found);
-    check_boundaries(object, boundaries, depth, vertices, found);
-    check_semantics_if(semantics, boundaries, values, found);
+    check_text_there(object, object.at_if(lod), found);
+    check_boundaries(object, object.at_if(boundaries), depth, vertices, found);
+    check_semantics_if(
+        object.at_if(semantics),
+        object.at_if(boundaries),
+        values,
+        found,
+    );
 }
 
 /// Checks the rules of the geometry's type. The second node is the name of the type.

@@ -7,7 +7,7 @@ use Rattle.std.specs.List.{prefix_len}
 use Rattle.std.specs.Int.Count.{count_trailing_zeros}
 use Rattle.std.proofs.lemmas.List.Sums.{prefix_len-le-length, prefix_len_passes}
 use Rattle.std.proofs.lemmas.Simd.{bit_mask_l, get_or-chunk, leading_from_mask_l, tops_compared, bitmask_splat, zip2_splat, zip2_splat_left, mask_l-mod, map-map, length-chunk, none_from_empty_mask, trailing_mask_l, run_in_chunk_le, run_in_chunk_fails}
-use Rattle.std.proofs.lemmas.List.{length-map, get_or-map}
+use Rattle.std.proofs.lemmas.List.{length-map, get_or-map, map-id}
 use Rattle.std.proofs.Math.Nat.{div-eq_of_lt}
 use Rattle.std.proofs.Math.Pow.{pow_mono}
 use Rattle.cj_spans.specs.Spelling.{is_plain}
@@ -85,18 +85,22 @@ digits_before b i room small n k l h =
 abbrev dropped : ℕ → ℕ → ℕ
 dropped n x = cond (eqb x n) 0 x
 
+-- the byte, or 0 in the place of a quote or a backslash
+abbrev kept : ℕ → ℕ
+kept x = cond (eqb x 92) 0 (dropped 34 x)
+
 -- a byte that does not stand for itself in a string
 abbrev special : ℕ → Bool
-special x = ltb (dropped 92 (dropped 34 x)) 32
+special x = ltb (kept x) 32
 
 plain_from : (x : ℕ) → special x ≡ false → is_plain x ≡ true
 plain_from x h = grind (arith, nat_tests)
 
-chosen : (p : ℕ → Bool) (n : ℕ) (v : List ℕ) → length v ≡ n
-    → sel_l (map p v) (replicate n 0) v ≡ map (λ x. cond (p x) 0 x) v
-chosen p n [] h = refl
-chosen p zero (x ∷ v) h = absurd (omega arith)
-chosen p (suc n) (x ∷ v) h = ap (λ z. cond (p x) 0 x ∷ z) (chosen p n v (omega arith))
+chosen : (p : ℕ → Bool) (f : ℕ → ℕ) (n : ℕ) (v : List ℕ) → length v ≡ n
+    → sel_l (map p v) (replicate n 0) (map f v) ≡ map (λ x. cond (p x) 0 (f x)) v
+chosen p f n [] h = refl
+chosen p f zero (x ∷ v) h = absurd (omega arith)
+chosen p f (suc n) (x ∷ v) h = ap (λ z. cond (p x) 0 (f x) ∷ z) (chosen p f n v (omega arith))
 
 -- the vector v with 0 in the place of n
 abbrev without : ℕ → List ℕ → List ℕ
@@ -105,26 +109,33 @@ without n v = sel_l (map (top 7) (zip2 (λ a c. cond (eqb a c) 255 0) v (replica
 without_is : (n : ℕ) (v : List ℕ) → length v ≡ 16 → without n v ≡ map (dropped n) v
 without_is n v long =
     ap (λ ms. sel_l ms (replicate 16 0) v) (tops_compared w8 eqb v (replicate 16 n) ∙ zip2_splat eqb v 16 n long)
-    ∙ chosen (λ x. eqb x n) 16 v long
+    ∙ ap (sel_l (map (λ x. eqb x n) v) (replicate 16 0)) (sym (map-id v))
+    ∙ chosen (λ x. eqb x n) (λ x. x) 16 v long
+
+-- the vector v with 0 in the place of quotes and backslashes
+abbrev kept_lanes : List ℕ → List ℕ
+kept_lanes v = sel_l (map (top 7) (zip2 (λ a c. cond (eqb a c) 255 0) v (replicate 16 92))) (replicate 16 0) (without 34 v)
+
+kept_lanes_are : (v : List ℕ) → length v ≡ 16 → kept_lanes v ≡ map kept v
+kept_lanes_are v long =
+    ap (λ ms. sel_l ms (replicate 16 0) (without 34 v))
+    (tops_compared w8 eqb v (replicate 16 92) ∙ zip2_splat eqb v 16 92 long)
+    ∙ ap (sel_l (map (λ x. eqb x 92) v) (replicate 16 0)) (without_is 34 v long)
+    ∙ chosen (λ x. eqb x 92) (dropped 34) 16 v long
 
 -- the marks of the bytes from i on that do not stand for themselves
 abbrev pub plain_marks : List ℕ → ℕ → ℕ
 plain_marks b i =
-    mask_l (map (top 7) (zip2 (λ a c. cond (ltb a c) 255 0) (without 92 (without 34 (chunk i 16 b)))
-    (replicate 16 32))) % 2 ^ 64
+    mask_l (map (top 7) (zip2 (λ a c. cond (ltb a c) 255 0) (kept_lanes (chunk i 16 b)) (replicate 16 32))) % 2 ^ 64
 
 plain_marks_are : (b : List ℕ) (i : ℕ) → i + 16 ≤ length b → plain_marks b i ≡ mask_l (map special (chunk i 16 b))
 plain_marks_are b i room =
     let v = chunk i 16 b in
     let long : length v ≡ 16 = length-chunk i 16 b room in
-    let long1 : length (map (dropped 34) v) ≡ 16 = length-map v (dropped 34) ∙ long in
-    let w = map (dropped 92) (map (dropped 34) v) in
-    let long2 : length w ≡ 16 = length-map (map (dropped 34) v) (dropped 92) ∙ long1 in
     ap (λ u. mask_l (map (top 7) (zip2 (λ a c. cond (ltb a c) 255 0) u (replicate 16 32))) % 2 ^ 64)
-    (ap (without 92) (without_is 34 v long) ∙ without_is 92 (map (dropped 34) v) long1)
-    ∙ bitmask_splat w8 ltb w 16 32 long2 (omega arith)
-    ∙ ap mask_l (map-map (λ x. ltb x 32) (dropped 92) (map (dropped 34) v)
-    ∙ map-map (λ x. ltb (dropped 92 x) 32) (dropped 34) v)
+    (kept_lanes_are v long)
+    ∙ bitmask_splat w8 ltb (map kept v) 16 32 (length-map v kept ∙ long) (omega arith)
+    ∙ ap mask_l (map-map (λ x. ltb x 32) kept v)
 
 pub all_plain : (b : List ℕ) (i : ℕ) → i + 16 ≤ length b → plain_marks b i ≡ 0 → (k : ℕ) → i ≤ k → k < i + 16
     → is_plain (byte b k) ≡ true

@@ -81,7 +81,7 @@ pub fn find_special(line: &[u8], place: usize) -> Option<usize>
     let zero = u8x16::splat(0);
     let bytes = u8x16::from_slice(&line[place..]);
     let unquoted = bytes.simd_eq(u8x16::splat(b'"')).select(zero, bytes);
-    let unescaped = unquoted.simd_eq(u8x16::splat(b'\\')).select(zero, unquoted);
+    let unescaped = bytes.simd_eq(u8x16::splat(b'\\')).select(zero, unquoted);
     let others = unescaped.simd_lt(u8x16::splat(b' ')).to_bitmask();
     if others == 0 {
         None

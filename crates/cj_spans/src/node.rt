@@ -391,7 +391,7 @@ impl<'a> Node<'a> {
     ghost use Rattle.cj_spans.specs.Tail.{tail_of};
     ghost use Rattle.cj_spans.specs.Mix.{mix_of};
     ghost use Rattle.cj_spans.specs.Order.{compare_texts, word_of};
-    ghost use Rattle.cj_spans.specs.View.{tree, line_of, source_of};
+    ghost use Rattle.cj_spans.specs.View.{tree, tree_in, line_of, source_of};
 
     /// Returns the spelling of a string or a name, with its quotes. None for any other value.
     fn spelling(self) -> Option<&'a [u8]>
@@ -541,35 +541,46 @@ impl<'a> Node<'a> {
         None
     }
 
-    /// Keeps the value of a member, if no earlier one was kept.
+    /// Returns the node of this number, as [`Node::at`] does. None if there is no number.
     #[inline(always)]
-    fn keep_first(kept: &mut Option<Node<'a>>, value: Node<'a>)
-        ensures { kept.new ≡ option_or kept.old (Some value.entry) }
+    pub fn at_if(self, number: Option<u32>) -> Option<Node<'a>>
+        ensures tree { option_map tree result ≡ option_map (tree_in (source_of self.entry)) number }
+        ensures line { IfSome result (λ n. line_of n ≡ line_of self.entry) }
+        ensures source { IfSome result (λ n. source_of n ≡ source_of self.entry) }
     {
-        if kept.is_none() {
-            *kept = Some(value);
+        match number {
+            Some(number) => Some(self.at(number)),
+            None => None,
         }
     }
 
-    /// Keeps the value of a member for each of three names that is its own, if no earlier member
-    /// was kept for that name.
+    /// Keeps the number of the value of a member, if no earlier one was kept.
+    #[inline(always)]
+    fn keep_first(kept: &mut Option<u32>, value: Node)
+        ensures { let shown = tree_in (source_of value.entry) in
+            option_map shown kept.new ≡ option_or (option_map shown kept.old) (Some (tree value.entry)) }
+    {
+        if kept.is_none() {
+            *kept = Some(value.number());
+        }
+    }
+
+    /// Keeps the number of the value of a member for each of three names that is its own, if no
+    /// earlier member was kept for that name.
     ///
     /// The test whether a third one was kept stands between the tests of first bytes. Without it
     /// the compiler makes a jump table of them.
     #[inline(always)]
-    fn keep_three(
-        member: (Node<'a>, Node<'a>),
-        a: &str,
-        b: &str,
-        c: &str,
-        kept: &mut ThreeMembers<'a>,
-    )
-        ensures first { kept.new.first ≡ option_or kept.old.first
-            (cond (has_text (chars a.now) (tree member.entry.0)) (Some member.entry.1) None) }
-        ensures second { kept.new.second ≡ option_or kept.old.second
-            (cond (has_text (chars b.now) (tree member.entry.0)) (Some member.entry.1) None) }
-        ensures third { kept.new.third ≡ option_or kept.old.third
-            (cond (has_text (chars c.now) (tree member.entry.0)) (Some member.entry.1) None) }
+    fn keep_three(member: (Node<'a>, Node<'a>), a: &str, b: &str, c: &str, kept: &mut ThreeNumbers)
+        ensures first { let shown = tree_in (source_of member.entry.1) in
+            option_map shown kept.new.first ≡ option_or (option_map shown kept.old.first)
+            (cond (has_text (chars a.now) (tree member.entry.0)) (Some (tree member.entry.1)) None) }
+        ensures second { let shown = tree_in (source_of member.entry.1) in
+            option_map shown kept.new.second ≡ option_or (option_map shown kept.old.second)
+            (cond (has_text (chars b.now) (tree member.entry.0)) (Some (tree member.entry.1)) None) }
+        ensures third { let shown = tree_in (source_of member.entry.1) in
+            option_map shown kept.new.third ≡ option_or (option_map shown kept.old.third)
+            (cond (has_text (chars c.now) (tree member.entry.0)) (Some (tree member.entry.1)) None) }
     {
         let (key, value) = member;
         if key.text_is(a) {
@@ -586,26 +597,21 @@ impl<'a> Node<'a> {
                 Node::keep_first(&mut kept.third, value);
             }
         } else if kept.third.is_none() && key.text_is(c) {
-            kept.third = Some(value);
+            kept.third = Some(value.number());
         }
     }
 
-    /// Returns what [`Node::get`] returns for each of three names, by one walk.
+    /// Returns the number of what [`Node::get`] returns for each of three names, by one walk.
+    /// [`Node::at_if`] returns the node of each. Numbers are kept in place of nodes, since the
+    /// compiler does not see that several nodes share their line and tokens.
     #[inline(always)]
-    pub fn get_three(
-        self,
-        a: &str,
-        b: &str,
-        c: &str,
-    ) -> (Option<Node<'a>>, Option<Node<'a>>, Option<Node<'a>>)
-        ensures first { option_map tree result.0 ≡ member_of (chars a.now) (tree self.entry) }
-        ensures second { option_map tree result.1 ≡ member_of (chars b.now) (tree self.entry) }
-        ensures third { option_map tree result.2 ≡ member_of (chars c.now) (tree self.entry) }
-        ensures sources { IfSome result.0 (λ n. source_of n ≡ source_of self.entry)
-            × IfSome result.1 (λ n. source_of n ≡ source_of self.entry)
-            × IfSome result.2 (λ n. source_of n ≡ source_of self.entry) }
+    pub fn get_three(self, a: &str, b: &str, c: &str) -> (Option<u32>, Option<u32>, Option<u32>)
+        ensures first { option_map (tree_in (source_of self.entry)) result.0 ≡ member_of (chars a.now) (tree self.entry) }
+        ensures second { option_map (tree_in (source_of self.entry)) result.1
+            ≡ member_of (chars b.now) (tree self.entry) }
+        ensures third { option_map (tree_in (source_of self.entry)) result.2 ≡ member_of (chars c.now) (tree self.entry) }
     {
-        let mut kept = ThreeMembers {
+        let mut kept = ThreeNumbers {
             first: None,
             second: None,
             third: None,
@@ -617,12 +623,12 @@ impl<'a> Node<'a> {
     }
 }
 
-/// What a walk has kept of three members.
+/// The numbers of the values that a walk has kept of three members.
 #[derive(Clone, Copy)]
-struct ThreeMembers<'a> {
-    first: Option<Node<'a>>,
-    second: Option<Node<'a>>,
-    third: Option<Node<'a>>,
+struct ThreeNumbers {
+    first: Option<u32>,
+    second: Option<u32>,
+    third: Option<u32>,
 }
 
 impl<'a> Iterator for Items<'a> {

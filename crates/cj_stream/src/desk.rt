@@ -203,7 +203,7 @@ impl<'q> Desk<'q> {
         let Some(header_parts) = &self.header_parts else {
             unreachable!()
         };
-        Header::of(Doc::of(first, self.header_tokens.as_slice()), *header_parts)
+        Header::kept(Doc::of(first, self.header_tokens.as_slice()), header_parts)
     }
 
     /// Judges a later line, and puts it to the sink if it is a valid feature to keep. The query and

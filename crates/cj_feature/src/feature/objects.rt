@@ -142,9 +142,9 @@ fn check_city_object(
         check_names(node, found);
         let second = check_type_member(node, found);
         let (geometry, children, parents) = node.get_three("geometry", "children", "parents");
-        check_geometries_if(geometry, vertices, templates, found);
-        check_texts_if(children, found);
-        check_texts_if(parents, found);
+        check_geometries_if(node.at_if(geometry), vertices, templates, found);
+        check_texts_if(node.at_if(children), found);
+        check_texts_if(node.at_if(parents), found);
         check_second_level(node, second, found);
         children.is_some() | parents.is_some()
     } else {

@@ -13,8 +13,8 @@ ghost use Rattle.cj_geometry.specs.Rule.{of_kind, needs, whole_number, of_length
 ghost use Rattle.cj_feature.specs.Feature.{vertex_list, feature_rules, feature};
 ghost use Rattle.cj_feature.specs.HeaderView.{header_tree};
 ghost use Rattle.cj_feature.specs.Links.{links};
-ghost use Rattle.cj_feature.specs.Marking.{IsBeside};
 ghost use Rattle.cj_feature.specs.Reached.{AreMarks};
+ghost use Rattle.cj_feature.specs.RootMembers.{AreMembers};
 ghost use Rattle.cj_feature.specs.View.{feature_tree, feature_line, feature_header};
 
 use crate::feature::Feature;
@@ -112,21 +112,18 @@ fn check_links_if(linked: bool, objects: Option<Node>, found: &mut Least)
     }
 }
 
-/// Members of a feature, each if it is there.
+/// The numbers of members of a feature, each if it is there.
 #[derive(Clone, Copy)]
-struct Members<'a> {
-    id: Option<Node<'a>>,
-    objects: Option<Node<'a>>,
-    vertices: Option<Node<'a>>,
+struct Members {
+    id: Option<u32>,
+    objects: Option<u32>,
+    vertices: Option<u32>,
 }
 
-/// Returns these members of a feature.
+/// Returns the numbers of these members of a feature.
 #[inline(always)]
-fn members_of<'a>(node: Node<'a>) -> Members<'a>
-    ensures id { option_map tree result.id ≡ member_of (chars (codes "id")) (tree node.entry) }
-    ensures objects { option_map tree result.objects ≡ member_of (chars (codes "CityObjects")) (tree node.entry) }
-    ensures source { IfSome result.objects (λ n. IsBeside node.entry n) }
-    ensures vertices { option_map tree result.vertices ≡ member_of (chars (codes "vertices")) (tree node.entry) }
+fn members_of(node: Node) -> Members
+    ensures { AreMembers node.entry result }
 {
     let (id, objects, vertices) = node.get_three("id", "CityObjects", "vertices");
     Members {
@@ -146,10 +143,7 @@ fn check_root(
     connected: bool,
     found: &mut Least,
 )
-    requires id { option_map tree members.id ≡ member_of (chars (codes "id")) (tree node) }
-    requires objects { option_map tree members.objects ≡ member_of (chars (codes "CityObjects")) (tree node) }
-    requires source { IfSome members.objects (λ n. IsBeside node n) }
-    requires vertices { option_map tree members.vertices ≡ member_of (chars (codes "vertices")) (tree node) }
+    requires members { AreMembers node members }
     requires marks { IsTrue connected → AreMarks (tree node) (line_of node) (tokens_in (source_of node)) }
     ensures { found.new
         ≡ least found.old (of_kind is_object (feature_rules (given templates.entry) connected) (tree node.entry)) }
@@ -162,11 +156,11 @@ fn check_root(
         } = members;
         check_names(node, found);
         check_name_member(node, "type", "CityJSONFeature", Reason::WrongType, found);
-        check_id_member(node, id, objects, found);
-        let count = check_vertices_member(node, vertices, found);
-        let linked = check_city_objects_member(node, objects, count, templates, found);
-        check_links_if(linked, objects, found);
-        check_reached(connected, node, objects, found);
+        check_id_member(node, node.at_if(id), node.at_if(objects), found);
+        let count = check_vertices_member(node, node.at_if(vertices), found);
+        let linked = check_city_objects_member(node, node.at_if(objects), count, templates, found);
+        check_links_if(linked, node.at_if(objects), found);
+        check_reached(connected, node, node.at_if(objects), found);
     }
 }
 

@@ -12,7 +12,6 @@ ghost use Rattle.cj_feature.specs.Header.{empty_array, template_vertices, templa
 ghost use Rattle.cj_feature.specs.HeaderView.{header_tree, header_line, has_box};
 
 use crate::header::Header;
-use crate::header::reading::read_parts;
 use crate::member::{check_name_member, count_member};
 use cj_decimal::Decimal;
 use cj_geometry::rule::{
@@ -247,6 +246,6 @@ pub fn check_header<'a>(doc: Doc<'a>, with_box: bool) -> Result<Header<'a>, Find
     check_root(root, with_box, &mut found);
     match found.get() {
         Some(finding) => Err(finding),
-        None => Ok(Header::of(doc, read_parts(root, with_box))),
+        None => Ok(Header::judged(doc, with_box)),
     }
 }

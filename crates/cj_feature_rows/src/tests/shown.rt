@@ -53,18 +53,22 @@ fn again<'a>(doc: Doc<'a>, header: &Header<'a>) -> Header<'a>
     Header::of(doc, header.parts())
 }
 
-/// Returns what a line shows as a header, and as the header made from its parts.
+/// Returns what a line shows as a header, as the header made from its parts, and as the one made
+/// from parts that are kept.
 fn header_texts(
     rt: &impl Abort,
     alloc: Global,
     line: &[u8],
-) -> Result<(String, String), AllocError> {
+) -> Result<(String, String, String), AllocError> {
     let tokens = tokens_of(rt, alloc, line);
     let doc = Doc::of(line, tokens.as_slice());
     match check_header(doc, false) {
         Ok(header) => {
-            let second = again(doc, &header);
-            Ok((header_text(alloc, &header)?, header_text(alloc, &second)?))
+            let first = header_text(alloc, &header)?;
+            let second = header_text(alloc, &again(doc, &header))?;
+            let parts = header.parts();
+            let third = header_text(alloc, &Header::kept(doc, &parts))?;
+            Ok((first, second, third))
         }
         Err(_) => panic!(rt; "no header"),
     }
@@ -73,9 +77,10 @@ fn header_texts(
 #[test]
 fn a_header_of_its_parts_shows_the_same(rt: HostRuntime) -> Result<(), Fail> {
     let want = "1e-3 1e-3 1e-3, 1e3 2e3 0e0, 140 bytes, box false";
-    let (text, second) = header_texts(&rt, rt.alloc(), HEADER.as_bytes())?;
+    let (text, second, third) = header_texts(&rt, rt.alloc(), HEADER.as_bytes())?;
     is_text(&rt, &text, want, "a header", "itself");
     is_text(&rt, &second, want, "a header", "of its parts");
+    is_text(&rt, &third, want, "a header", "of kept parts");
     Ok(())
 }
 

@@ -278,9 +278,13 @@ fn got<'a>(node: Node<'a>, name: &str) -> Option<&'a [u8]> {
 /// Checks that a walk for this name and two others finds its value, at each of the three places.
 fn is_got_of_three(rt: &impl Abort, object: Node, name: &str, other: &str, want: Option<&[u8]>) {
     let (first, second, third) = object.get_three(name, other, name);
-    assert_eq!(rt; bytes_of(first), want, "{name}");
-    assert_eq!(rt; bytes_of(second), got(object, other), "{other}");
-    assert_eq!(rt; bytes_of(third), want, "{name}");
+    assert_eq!(rt; bytes_of(object.at_if(first)), want, "{name}");
+    assert_eq!(rt;
+        bytes_of(object.at_if(second)),
+        got(object, other),
+        "{other}"
+    );
+    assert_eq!(rt; bytes_of(object.at_if(third)), want, "{name}");
 }
 
 /// Checks that an object has these values by name, alone and beside others.

@@ -1,4 +1,4 @@
-use Rattle.std.proofs.Common.{codes}
+use Rattle.std.proofs.Common.{codes, ◌∙◌}
 use Rattle.std.specs.Str.{chars}
 use Rattle.cj_spans.specs.View.{tree}
 use Rattle.cj_spans.specs.Kinds.{is_text}
@@ -10,9 +10,9 @@ use Rattle.cj_geometry.proofs.geometry.check_parts.Goals as goal
 pub returns : goal.returns
 returns c =
     let n = tree c.args.object in
-    let members = c.get_three.ensures in
+    let members = c.get_three-lod.ensures in
     least-three c.args.found.now c.check_text_there.new.found c.check_boundaries.new.found
     c.check_semantics_if.new.found (needs (chars (codes "lod")) (of_kind is_text nothing) n)
     (needs (chars (codes "boundaries")) (shape c.args.vertices c.args.depth) n) (semantics_if c.args.values n)
-    (c.check_text_there.ensures (chars (codes "lod")) members.first) c.check_boundaries.ensures
-    (c.check_semantics_if.ensures n members.third members.second)
+    (c.check_text_there.ensures (chars (codes "lod")) (c.at_if.ensures.tree ∙ members.first)) c.check_boundaries.ensures
+    (c.check_semantics_if.ensures n (c.at_if-3.ensures.tree ∙ members.third) (c.at_if-4.ensures.tree ∙ members.second))

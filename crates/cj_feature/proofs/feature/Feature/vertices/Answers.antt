@@ -14,8 +14,8 @@ pub over-requires : goal.over-requires
 over-requires c =
     let f = c.args.self.now in
     let t = document f.doc in
-    let vertices = tree f.vertices in
+    let vertices = tree c.vertices_node.result in
     let none = then-none vertex_list t (chars (codes "vertices"))
-    (has-vertices (templates_of (document f.header)) t f.valid) (Some vertices) (sym f.has_vertices) vertices
+    (has-vertices (templates_of (document f.header)) t f.valid) (Some vertices) (sym c.vertices_node.ensures) vertices
     refl in
     ap (list_all is_vertex) c.items.ensures.items ∙ all-vertices vertices none

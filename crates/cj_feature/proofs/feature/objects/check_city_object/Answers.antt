@@ -1,4 +1,4 @@
-use Rattle.std.proofs.Common.{sym, codes, ◌++◌}
+use Rattle.std.proofs.Common.{sym, codes, ◌++◌, ◌∙◌}
 use Rattle.std.specs.Str.{chars}
 use Rattle.cj_spans.specs.View.{tree}
 use Rattle.cj_spans.specs.Kinds.{is_object}
@@ -17,13 +17,13 @@ returns-then-check_object-clause-found c =
     let geometry = may_have (chars (codes "geometry")) (geometries c.args.vertices (given c.args.templates)) in
     let children = may_have (chars (codes "children")) texts in
     let parents = may_have (chars (codes "parents")) texts in
-    let members = c.get_three.ensures in
+    let members = c.get_three-geometry.ensures in
     let three =
     least-three o _ _ _ (distinct n) (name n) (geometry n) c.check_names.ensures
-    c.check_type_member-second.ensures.found (rw members.first at c.check_geometries_if.ensures) in
+    c.check_type_member-second.ensures.found (rw (c.at_if.ensures.tree ∙ members.first) at c.check_geometries_if.ensures) in
     let five = least-three o _ _ _ (distinct n ++ name n ++ geometry n) (children n) (parents n) three
-    (rw members.second at c.check_texts_if.ensures)
-    (rw members.third at c.check_texts_if-then-check_object.ensures) in
+    (rw (c.at_if-then-check_object.ensures.tree ∙ members.second) at c.check_texts_if.ensures)
+    (rw (c.at_if-then-check_object-2.ensures.tree ∙ members.third) at c.check_texts_if-then-check_object.ensures) in
     let six = least-two o _ _ (distinct n ++ name n ++ geometry n ++ children n ++ parents n) (second_level n) five
     c.check_second_level.ensures in
     of_kind-then is_object (λ u. distinct u ++ name u ++ geometry u ++ children u ++ parents u ++ second_level u) n _ _

@@ -1,0 +1,10 @@
+use Rattle.std.proofs.Common.{◌∙◌, ap, sym, Some}
+use Rattle.cj_spans.specs.View.{line_of, source_of, document_line, document_source}
+use Rattle.cj_feature.proofs.feature.Feature.objects_node.Goals as goal
+
+pub returns-clause-tree : goal.returns-clause-tree
+returns-clause-tree c = c.args.self.now.has_objects ∙ ap Some (sym (rw c.root.ensures.source at c.at.ensures.tree))
+
+pub returns-clause-line : goal.returns-clause-line
+unfolding line_of source_of document_line document_source
+returns-clause-line c = ap (λ s. s.line.now) (c.at.ensures.source ∙ c.root.ensures.source)

@@ -1,0 +1,7 @@
+use Rattle.std.proofs.Common.{ap}
+use Rattle.cj_spans.specs.View.{line_of, source_of}
+use Rattle.cj_spans.proofs.node.Node.at_if.Goals as goal
+
+pub returns-in-Some-clause-line : goal.returns-in-Some-clause-line
+unfolding line_of source_of
+returns-in-Some-clause-line c = ap (λ s. s.line.now) c.at.ensures.source
