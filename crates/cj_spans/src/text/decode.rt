@@ -3,7 +3,7 @@
 //! Most bytes are plain: ASCII, and no backslash. Such a byte is a code point by itself. All other
 //! characters and escapes are read by functions that are marked cold.
 ghost use Rattle.std.specs.Prelude.{◌≡◌, ◌+◌, ◌*◌, ◌<◌, ◌≤◌, ◌^◌, ℕ, suc, length, drop};
-ghost use Rattle.std.specs.Prelude.{IfSome, MatchOption, is_some, Some, List, [], true, get_or};
+ghost use Rattle.std.specs.Prelude.{IfSome, IsTrue, MatchOption, is_some, Some, List, [], true, get_or};
 ghost use Rattle.std.specs.Str.{chars, chars_after};
 ghost use Rattle.std.specs.Char.{digit_value as digit_value_of};
 ghost use Rattle.std.specs.Char.Utf16.{is_high_surrogate as is_high_of, is_low_surrogate as is_low_of};
@@ -144,17 +144,90 @@ fn char_at(bytes: &[u8], place: usize) -> CodePoint
     }
 }
 
-/// Returns the value of a hexadecimal digit.
+/// Returns the ASCII character at a place.
+#[inline(always)]
+fn ascii_at(bytes: &[u8], place: usize) -> CodePoint
+    requires within { place < length bytes.now }
+    requires ascii { get_or bytes.now place 0 < 128 }
+    ensures reads { (cs : List ℕ) → left bytes.now place ≡ cs → ReadsCodePoint bytes.now cs (char_of cs 0) 1 result }
+    ensures stop { result.stop ≡ place + 1 }
+{
+    CodePoint {
+        code: bytes[place] as u32,
+        stop: place + 1,
+    }
+}
+
+/// Returns the value of a hexadecimal digit. Two tests of a range are one comparison.
+#[inline(always)]
 fn digit_value(digit: u32) -> u32
     ensures value { result ≡ digit_value_of digit }
     ensures size { result ≤ 36 }
 {
-    match digit {
-        48..=57 => digit - 48,
-        65..=90 => digit - 55,
-        97..=122 => digit - 87,
-        _ => 36,
+    if digit >= 48 && digit <= 57 {
+        return digit - 48;
     }
+    if digit >= 65 && digit <= 90 {
+        return digit - 55;
+    }
+    if digit >= 97 && digit <= 122 {
+        return digit - 87;
+    }
+    36
+}
+
+/// Returns the number that four hexadecimal digits spell, all of them ASCII.
+#[inline(always)]
+fn read_ascii_digits(bytes: &[u8], place: usize) -> CodePoint
+    requires { (k : ℕ) → k < 4 → (place + k < length bytes.now) × (get_or bytes.now (place + k) 0 < 128) }
+    ensures reads { (cs : List ℕ) → left bytes.now place ≡ cs → ReadsCodePoint bytes.now cs (four_digits cs) 4 result }
+    ensures size { result.code < 2 ^ 18 }
+{
+    let first = ascii_at(bytes, place);
+    let second = ascii_at(bytes, first.stop);
+    let third = ascii_at(bytes, second.stop);
+    let fourth = ascii_at(bytes, third.stop);
+    let high = digit_value(first.code) * 16 + digit_value(second.code);
+    let low = digit_value(third.code) * 16 + digit_value(fourth.code);
+    CodePoint {
+        code: high * 256 + low,
+        stop: fourth.stop,
+    }
+}
+
+/// Returns the unit of an escape with `u`, if the six bytes at the place are ASCII, as those of
+/// each such escape are. None if another character or escape is there.
+#[inline(always)]
+fn read_ascii_unit(bytes: &[u8], place: usize) -> Option<CodePoint>
+    requires { (k : ℕ) → k < 6 → (place + k < length bytes.now) × (get_or bytes.now (place + k) 0 < 128) }
+    ensures is { (cs : List ℕ) → left bytes.now place ≡ cs → is_some result ≡ is_unicode cs }
+    ensures reads { IfSome result
+        (λ p. (cs : List ℕ) → left bytes.now place ≡ cs → ReadsCodePoint bytes.now cs (unit cs) 6 p) }
+    ensures size { IfSome result (λ p. p.code < 2 ^ 18) }
+{
+    let slash = ascii_at(bytes, place);
+    let mark = ascii_at(bytes, slash.stop);
+    if slash.code == b'\\' as u32 && mark.code == b'u' as u32 {
+        Some(read_ascii_digits(bytes, mark.stop))
+    } else {
+        None
+    }
+}
+
+/// Returns whether six bytes are here, and are ASCII.
+#[inline(always)]
+fn are_six_ascii(bytes: &[u8], place: usize) -> bool
+    ensures { IsTrue result
+        → (k : ℕ) → k < 6 → (place + k < length bytes.now) × (get_or bytes.now (place + k) 0 < 128) }
+{
+    bytes.len() >= 6
+        && place <= bytes.len() - 6
+        && bytes[place] < 128
+        && bytes[place + 1] < 128
+        && bytes[place + 2] < 128
+        && bytes[place + 3] < 128
+        && bytes[place + 4] < 128
+        && bytes[place + 5] < 128
 }
 
 /// Returns the number that four hexadecimal digits spell.
@@ -255,10 +328,10 @@ fn join(bytes: &[u8], high: CodePoint) -> CodePoint
     }
 }
 
-/// Returns the code point of an escape.
+/// Returns the code point of an escape, also of a letter, and of a pair.
 #[cold]
 #[inline(never)]
-fn read_escape(bytes: &[u8], place: usize) -> CodePoint
+fn read_any_escape(bytes: &[u8], place: usize) -> CodePoint
     ensures { (cs : List ℕ) → left bytes.now place ≡ cs → is_escaped cs ≡ true
         → ReadsCodePoint bytes.now cs (first_code_point cs) (first_width cs) result }
 {
@@ -273,6 +346,23 @@ fn read_escape(bytes: &[u8], place: usize) -> CodePoint
             }
         }
     }
+}
+
+/// Returns the code point of an escape. One with `u` that is in no pair is read at once.
+#[cold]
+#[inline(never)]
+fn read_escape(bytes: &[u8], place: usize) -> CodePoint
+    ensures { (cs : List ℕ) → left bytes.now place ≡ cs → is_escaped cs ≡ true
+        → ReadsCodePoint bytes.now cs (first_code_point cs) (first_width cs) result }
+{
+    if are_six_ascii(bytes, place) {
+        if let Some(unit) = read_ascii_unit(bytes, place) {
+            if !is_high(unit.code) {
+                return unit;
+            }
+        }
+    }
+    read_any_escape(bytes, place)
 }
 
 /// Returns the code point at a place. Its first character has been read.

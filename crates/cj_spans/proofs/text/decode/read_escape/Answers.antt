@@ -1,10 +1,8 @@
-use Rattle.std.proofs.Common.{sym, drop}
-use Rattle.cj_spans.proofs.Texts.{letter_read}
+use Rattle.std.proofs.Common.{sym, rules}
+use Rattle.cj_spans.proofs.Texts.{join_lone}
 use Rattle.cj_spans.proofs.text.decode.read_escape.Goals as goal
 
-pub returns-in-None : goal.returns-in-None
-returns-in-None c = λ cs e a.
-    let bs = c.args.bytes.now in
-    let t = c.char_at-slash.ensures cs e in
-    letter_read bs cs _ _ _ (sym (c.in-None.ensures.is cs e)) a t (c.char_at-letter.ensures (drop 1 cs) t.rest)
-    c.escaped.ensures
+pub returns-then-not-is_high : goal.returns-then-not-is_high
+returns-then-not-is_high c =
+    λ cs e a. join_lone c.args.bytes.now cs c.in-Some.unit (search rules) (sym (c.in-Some.ensures.is cs e))
+    (c.in-Some.ensures.reads cs e)
