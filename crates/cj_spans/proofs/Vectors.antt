@@ -114,7 +114,8 @@ without_is n v long =
 
 -- the vector v with 0 in the place of quotes and backslashes
 abbrev kept_lanes : List ℕ → List ℕ
-kept_lanes v = sel_l (map (top 7) (zip2 (λ a c. cond (eqb a c) 255 0) v (replicate 16 92))) (replicate 16 0) (without 34 v)
+kept_lanes v =
+    sel_l (map (top 7) (zip2 (λ a c. cond (eqb a c) 255 0) v (replicate 16 92))) (replicate 16 0) (without 34 v)
 
 kept_lanes_are : (v : List ℕ) → length v ≡ 16 → kept_lanes v ≡ map kept v
 kept_lanes_are v long =

@@ -20,7 +20,8 @@ returns-then-check_object-clause-found c =
     let members = c.get_three-geometry.ensures in
     let three =
     least-three o _ _ _ (distinct n) (name n) (geometry n) c.check_names.ensures
-    c.check_type_member-second.ensures.found (rw (c.at_if.ensures.tree ∙ members.first) at c.check_geometries_if.ensures) in
+    c.check_type_member-second.ensures.found
+    (rw (c.at_if.ensures.tree ∙ members.first) at c.check_geometries_if.ensures) in
     let five = least-three o _ _ _ (distinct n ++ name n ++ geometry n) (children n) (parents n) three
     (rw (c.at_if-then-check_object.ensures.tree ∙ members.second) at c.check_texts_if.ensures)
     (rw (c.at_if-then-check_object-2.ensures.tree ∙ members.third) at c.check_texts_if-then-check_object.ensures) in

@@ -25,7 +25,8 @@ returns-then-check_object c =
     needs (chars (codes "CityObjects")) (city_objects (count_of (member_of (chars (codes "vertices")) n)) templates)
     n in
     let vertices = needs (chars (codes "vertices")) vertex_list n in
-    let linked = rw (c.at_if-then-check_object-4.ensures.tree ∙ c.requires.members.objects) at c.check_links_if.ensures in
+    let there = c.at_if-then-check_object-4.ensures.tree ∙ c.requires.members.objects in
+    let linked = rw there at c.check_links_if.ensures in
     let counted = rw c.check_vertices_member-count.ensures.count at c.check_city_objects_member-linked.ensures.found in
     let three =
     least-three o _ _ _ (distinct n) type_rule (id_rule n) c.check_names.ensures c.check_name_member.ensures
