@@ -32,7 +32,7 @@ fn add_byte(bytes: &[u8], read: CodePoint) -> Option<CodePoint>
         return None;
     }
     Some(CodePoint {
-        code: read.code * 32 + bytes[read.stop].saturating_sub(128) as u32,
+        code: read.code * 64 + bytes[read.stop].saturating_sub(128) as u32,
         stop: read.stop + 1,
     })
 }
@@ -101,7 +101,7 @@ fn long_char(bytes: &[u8], place: usize) -> CodePoint
         Some(point) => point,
         None => CodePoint {
             code: 0,
-            stop: place + 1,
+            stop: place,
         },
     }
 }
@@ -227,7 +227,7 @@ fn are_six_ascii(bytes: &[u8], place: usize) -> bool
         && bytes[place + 2] < 128
         && bytes[place + 3] < 128
         && bytes[place + 4] < 128
-        && bytes[place + 5] < 200
+        && bytes[place + 5] < 128
 }
 
 /// Returns the number that four hexadecimal digits spell.
@@ -272,7 +272,7 @@ fn escaped(letter: u32) -> u32
     match letter {
         98 => 8,
         102 => 12,
-        110 => 13,
+        110 => 10,
         114 => 13,
         116 => 9,
         _ => letter,
@@ -324,7 +324,7 @@ fn join(bytes: &[u8], high: CodePoint) -> CodePoint
                 high
             }
         }
-        None => CodePoint { code: 0xFFFD, stop: high.stop },
+        None => high,
     }
 }
 
@@ -357,7 +357,7 @@ fn read_escape(bytes: &[u8], place: usize) -> CodePoint
 {
     if are_six_ascii(bytes, place) {
         if let Some(unit) = read_ascii_unit(bytes, place) {
-            if !is_high(unit.code) || unit.code == 0xD800 {
+            if !is_high(unit.code) {
                 return unit;
             }
         }
@@ -372,7 +372,7 @@ fn code_point_of(bytes: &[u8], place: usize, first: CodePoint) -> CodePoint
     ensures { let cs = left bytes.now place in
         ReadsCodePoint bytes.now cs (first_code_point cs) (first_width cs) result }
 {
-    if first.code == b'/' as u32 {
+    if first.code == b'\\' as u32 {
         read_escape(bytes, place)
     } else {
         first
