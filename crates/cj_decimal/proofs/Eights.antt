@@ -5,15 +5,16 @@ use Rattle.std.proofs.lemmas.Nat.{xor_lt, pow-add, shr-shr, shr_le, and_mask, an
 use Rattle.std.proofs.lemmas.Nat.Bits.{and_high_mask}
 use Rattle.std.proofs.lemmas.Bool.Decides.{nat_tests}
 use Rattle.std.proofs.lemmas.Bool.{cases_lt}
-use Rattle.std.specs.Prelude.{slice_range, Option, Some, None, IfSome, IsTrue}
+use Rattle.std.specs.Prelude.{slice_range, ◌⊎◌, Option, Some, None, IfSome, IsTrue}
 use Rattle.std.proofs.Common.{get_or}
 use Rattle.std.proofs.lemmas.List.{drop-take, drop-drop, get_or-take, get_or-drop, length-drop, length-take-le}
 use Rattle.cj_decimal.specs.Reading.{IsShort, digits_front, begins, begins_digit, body, is_int}
 use Rattle.cj_decimal.proofs.Grammar.{append_nil, digit_begins, front_append, int_from_test}
 use Rattle.cj_decimal.proofs.Parts.{minus_there, no_minus, not_int}
 use Rattle.cj_decimal.proofs.Wholes.{int_alone_reads}
-use Rattle.cj_decimal.specs.Spelling.{AllDigits, IsInt, IsFewDigits, IsNumber, digits_value, value_after}
-use Rattle.cj_decimal.specs.Word.{word_of, AllBelow}
+use Rattle.cj_decimal.proofs.NumberBytes.{NumberBytes}
+use Rattle.cj_decimal.specs.Spelling.{AllDigits, IsDigit, IsInt, IsFewDigits, IsNumber, digits_value, value_after}
+use Rattle.cj_decimal.specs.Word.{word_of, AllBelow, AreLow}
 
 copies : ℕ → ℕ → List ℕ
 copies zero c = []
@@ -331,6 +332,19 @@ digits_small zero (b ∷ s) d = (digit_small b d.0.0 d.0.1, digits_small zero s 
 digits_small (suc j) [] d = tt
 digits_small (suc j) (b ∷ s) d = (omega arith, digits_small j s d)
 
+-- of the bytes in a number of JSON those below 16 are digits
+low_digit : (b : ℕ) → IsDigit b ⊎ (16 ≤ bit_xor b 48) → bit_xor b 48 < 16 → bit_xor b 48 < 10
+low_digit b (inl digit) low = digit_small b digit.0 digit.1
+low_digit b (inr high) low = absurd (omega (arith, high, low))
+
+low_digits : (j : ℕ) (s : List ℕ) → NumberBytes (drop j s) → AllBelow 16 (clear j (without_zeros s))
+    → AllBelow 10 (clear j (without_zeros s))
+unfolding clear without_zeros
+low_digits zero [] h z = tt
+low_digits zero (b ∷ s) h z = (low_digit b h.0 z.0, low_digits zero s h.1 z.1)
+low_digits (suc j) [] h z = tt
+low_digits (suc j) (b ∷ s) h z = (omega arith, low_digits j s h z.1)
+
 low_of : (b : ℕ) → b < 16 → bit_and b 240 ≡ 0
 low_of b l = let e : bit_and b (2 ^ 8 - 2 ^ 4) ≡ b / 2 ^ 4 * 2 ^ 4 = and_high_mask 8 4 (omega arith) b (omega arith) in
     omega (arith, e)
@@ -373,13 +387,14 @@ module _ (j : ℕ) (s : List ℕ) (w m : ℕ) (lj : j ≤ 8) (ls : length s ≡ 
       ∙ ap (λ v. bit_and v (2 ^ 64 - 2 ^ (8 * j))) same
       ∙ masked j xs lj (length_map (λ b. bit_xor b 48) s ∙ ls) (xor_below s h)
 
-  -- the eight digits of the word, where each of its bytes is below 10, and those that stand at the end of eight bytes
-  pub eight_at_end : ((t : List ℕ) → length t ≡ 8 → AllBelow 256 t → m ≡ word_of t → AllBelow 10 t)
+  -- the eight digits of the word, where each of its bytes is below 16, and those that stand at the end of eight bytes,
+  -- which are of a number
+  pub eight_at_end : AreLow m → NumberBytes (drop j s)
       → (t : List ℕ) × (length t ≡ 8) × AllBelow 10 t × (m ≡ word_of t) × AllDigits (drop j s)
       × (digits_value (map (λ d. d + 48) t) ≡ digits_value (drop j s))
-  eight_at_end each =
+  eight_at_end low bytes =
       let t = clear j (without_zeros s) in
-      let small = each t tested_length (clear_below j (without_zeros s) (xor_below s h)) tested in
+      let small = low_digits j s bytes (low t tested_length (clear_below j (without_zeros s) (xor_below s h)) tested) in
       let end = cleared j s h small in
       (t, tested_length, small, tested, end.0, end.1)
 
@@ -498,6 +513,10 @@ passes_each w s e h is small =
     ∙ no_nibbles (map (λ b. b + 6) s) (length_map (λ b. b + 6) s ∙ e) (sixes_below s small) in
     is_zero _ (ap (λ v. bit_or v (bit_and ((w + 0x0606060606060606) % 2 ^ 64) 0xf0f0f0f0f0f0f0f0)) low
     ∙ ap (bit_or 0) high)
+
+-- the test of low bytes alone
+pub low_each : (w : ℕ) → IsTrue (nat_eq (bit_and w 0xf0f0f0f0f0f0f0f0) 0) → AreLow w
+low_each w test s e h is = nibbles s e h (ap (λ v. bit_and v 0xf0f0f0f0f0f0f0f0) (sym is) ∙ zero_is _ test)
 
 -- ---- short numbers
 

@@ -12,6 +12,7 @@ pub mod OneClass
 pub mod Wholes
 pub mod Below
 pub mod Eights
+pub mod NumberBytes
 pub mod Few
 pub mod Scales
 pub mod Splits

@@ -1,0 +1,80 @@
+-- The bytes of a number of JSON: digits, and others that are not below 16 without the bits of `0`.
+use Rattle.std.proofs.Common.{◌≡◌, ℕ, ◌≤◌, List, [], ◌∷◌, ◌++◌, Bool, true, false, refl, sym, subst, arith, inl, inr}
+use Rattle.std.specs.Prelude.{◌⊎◌, ℤ}
+use Rattle.std.specs.Int.Bits.{bit_xor}
+use Rattle.cj_decimal.specs.Spelling.{AllDigits, IsDigit, IsDigits, IsExp, IsExpSign, IsFrac, IsInt, IsMinus, IsNumber, Written, Spells, ExpParts}
+
+abbrev pub NumberBytes : List ℕ → Type 0
+NumberBytes [] = Unit {0}
+NumberBytes (b ∷ s) = (IsDigit b ⊎ (16 ≤ bit_xor b 48)) × NumberBytes s
+
+both : (s t : List ℕ) → NumberBytes s → NumberBytes t → NumberBytes (s ++ t)
+both [] t h i = i
+both (b ∷ s) t h i = (h.0, both s t h.1 i)
+
+of_digits : (s : List ℕ) → AllDigits s → NumberBytes s
+of_digits [] h = tt
+of_digits (b ∷ s) h = (inl h.0, of_digits s h.1)
+
+of_some : (s : List ℕ) → IsDigits s → NumberBytes s
+of_some [] h = absurd h
+of_some (b ∷ s) h = (inl h.0, of_digits s h.1)
+
+-- a byte that is no digit, and others
+behind : (n b : ℕ) (s t : List ℕ) → 16 ≤ bit_xor n 48 → b ≡ n → NumberBytes s → t ≡ b ∷ s → NumberBytes t
+behind n b s t high is h e =
+    subst NumberBytes (sym e) (inr (subst (λ k. 16 ≤ bit_xor k 48) (sym is) high), h)
+
+none : (s : List ℕ) → s ≡ [] → NumberBytes s
+none s e = subst NumberBytes (sym e) tt
+
+minus : 16 ≤ bit_xor 45 48
+minus = let v : bit_xor 45 48 ≡ 29 = refl in omega (arith, v)
+
+plus : 16 ≤ bit_xor 43 48
+plus = let v : bit_xor 43 48 ≡ 27 = refl in omega (arith, v)
+
+point : 16 ≤ bit_xor 46 48
+point = let v : bit_xor 46 48 ≡ 30 = refl in omega (arith, v)
+
+small : 16 ≤ bit_xor 101 48
+small = let v : bit_xor 101 48 ≡ 85 = refl in omega (arith, v)
+
+capital : 16 ≤ bit_xor 69 48
+capital = let v : bit_xor 69 48 ≡ 117 = refl in omega (arith, v)
+
+of_minus : (b : Bool) (s : List ℕ) → IsMinus b s → NumberBytes s
+of_minus true s e = behind 45 45 [] s minus refl tt e
+of_minus false s e = none s e
+
+of_int : (s : List ℕ) → IsInt s → NumberBytes s
+of_int [] h = absurd h
+of_int (b ∷ s) (inl zero) = (inl (omega (arith, zero.0), omega (arith, zero.0)), none s zero.1)
+of_int (b ∷ s) (inr h) = (inl (omega (arith, h.0), h.1), of_digits s h.2)
+
+of_frac : (digits s : List ℕ) → IsFrac digits s → NumberBytes s
+of_frac digits s (inl nothing) = none s nothing.1
+of_frac digits s (inr h) = behind 46 46 digits s point refl (of_some digits h.0) h.1
+
+of_sign : (b : Bool) (s : List ℕ) → IsExpSign b s → NumberBytes s
+of_sign true s e = behind 45 45 [] s minus refl tt e
+of_sign false s (inl e) = none s e
+of_sign false s (inr e) = behind 43 43 [] s plus refl tt e
+
+of_mark : (m : ℕ) (s t : List ℕ) → (m ≡ 101) ⊎ (m ≡ 69) → NumberBytes s → t ≡ m ∷ s → NumberBytes t
+of_mark m s t (inl e) h is = behind 101 m s t small e h is
+of_mark m s t (inr e) h is = behind 69 m s t capital e h is
+
+of_exp : (e : ℤ) (s : List ℕ) → IsExp e s → NumberBytes s
+of_exp e s (inl nothing) = none s nothing.1
+of_exp e s (inr p) =
+    of_mark p.mark (p.sign ++ p.digits) s p.mark_is
+    (both p.sign p.digits (of_sign p.negative p.sign p.sign_is) (of_some p.digits p.digits_are)) p.joined
+
+pub number_bytes : (s : List ℕ) → IsNumber s → NumberBytes s
+number_bytes s number =
+    let n = number.0 in let p = number.1 in
+    subst NumberBytes (sym p.joined)
+    (both p.minus _ (of_minus n.negative p.minus p.minus_is)
+    (both n.int _ (of_int n.int p.int_is)
+    (both p.fraction p.exp (of_frac n.frac p.fraction p.frac_is) (of_exp n.exponent p.exp p.exp_is))))
