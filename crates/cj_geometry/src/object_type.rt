@@ -97,12 +97,21 @@ impl ObjectType {
     /// compared by code points, with escapes undone (RFC 8259, sections 7 and 8.3).
     ///
     /// Most city objects are buildings and their parts, so it compares these names first.
+    #[inline(always)]
     pub fn of(node: Node) -> Option<ObjectType>
         ensures { option_map row_at result ≡ row_of (tree node.entry) }
     {
         if node.text_is(ObjectType::Building.name()) {
             return Some(ObjectType::Building);
         }
+        ObjectType::of_other(node)
+    }
+
+    /// Does the same, if the name is probably not `Building`.
+    #[inline(never)]
+    fn of_other(node: Node) -> Option<ObjectType>
+        ensures { option_map row_at result ≡ row_of (tree node.entry) }
+    {
         if node.text_is(ObjectType::BuildingPart.name()) {
             return Some(ObjectType::BuildingPart);
         }

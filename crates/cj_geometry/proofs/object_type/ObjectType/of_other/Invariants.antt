@@ -1,7 +1,7 @@
 use Rattle.std.proofs.Common.{◌≡◌, drop, map}
 use Rattle.cj_spans.specs.View.{tree}
 use Rattle.cj_geometry.specs.ObjectTypes.{row_in, row_of, row_at}
-use Rattle.cj_geometry.proofs.object_type.ObjectType.of.Given as goal
+use Rattle.cj_geometry.proofs.object_type.ObjectType.of_other.Given as goal
 
 abbrev pub invariant-loop-object_type : goal.invariant-loop-object_type
 invariant-loop-object_type l = row_in (map row_at (drop l.object_type-index l.object_type-items)) (tree l.node)
