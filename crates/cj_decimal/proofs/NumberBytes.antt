@@ -2,7 +2,7 @@
 use Rattle.std.proofs.Common.{◌≡◌, ℕ, ◌≤◌, List, [], ◌∷◌, ◌++◌, Bool, true, false, refl, sym, subst, arith, inl, inr}
 use Rattle.std.specs.Prelude.{◌⊎◌, ℤ}
 use Rattle.std.specs.Int.Bits.{bit_xor}
-use Rattle.cj_decimal.specs.Spelling.{AllDigits, IsDigit, IsDigits, IsExp, IsExpSign, IsFrac, IsInt, IsMinus, IsNumber, Written, Spells, ExpParts}
+use Rattle.cj_decimal.specs.Spelling.{AllDigits, IsDigit, IsDigits, IsExp, IsExpSign, IsFrac, IsInt, IsMinus, IsNumber}
 
 abbrev pub NumberBytes : List ℕ → Type 0
 NumberBytes [] = Unit {0}
