@@ -13,6 +13,7 @@ pub mod Passes
 pub mod Questions
 pub mod Reaching
 pub mod Typed
+pub mod OwnLods
 pub mod Unlinked
 pub mod Valid
 pub mod Values

@@ -42,7 +42,9 @@ pub struct Feature<'a> {
 }
 
 impl<'a> Feature<'a> {
+    ghost use Rattle.std.specs.Prelude.{IsTrue};
     ghost use Rattle.std.specs.List.{flat_map};
+    ghost use Rattle.cj_geometry.specs.Lod.{lod};
     ghost use Rattle.cj_feature.specs.Members.{items_if};
     ghost use Rattle.cj_feature.specs.Relations.{IsIn};
     ghost use Rattle.cj_feature.specs.Typed.{members_if, vertex_of, number_on};
@@ -162,6 +164,19 @@ impl<'a> Feature<'a> {
         ensures { result.now ≡ feature_line self.now }
     {
         self.doc.line()
+    }
+
+    /// Returns whether the header has no templates. If so, no geometry is an instance, and each has
+    /// an LoD of its own.
+    #[tactic(auto, unfolding(crate::specs::View::feature_tree, crate::specs::View::feature_header))]
+    pub fn has_own_lods(&self) -> bool
+        ensures { let geometries = flat_map object_geometries
+            (members_if (member_of (chars (codes "CityObjects")) (feature_tree self.now))) in
+            IsTrue result → map (lod (templates_of (feature_header self.now))) geometries
+            ≡ map (member_of (chars (codes "lod"))) geometries }
+    {
+        let templates = self.templates;
+        templates.is_empty()
     }
 
     /// Returns the header's templates, which instances name.

@@ -71,7 +71,7 @@ fn read_words(node: Node) -> Option<[u64; 3]>
 }
 
 impl<'a> Vertices<'a> {
-    ghost use Rattle.std.specs.Prelude.{◌≡◌, ◌∷◌, ℤ, List, Option, IfSome, IfNone};
+    ghost use Rattle.std.specs.Prelude.{◌≡◌, ◌∷◌, [], ℤ, List, Option, IfSome, IfNone, IsTrue};
     ghost use Rattle.cj_spans.specs.Parts.{items_of};
     ghost use Rattle.cj_feature.specs.Typed.{HaveWords};
     ghost use Rattle.cj_feature.specs.Walks.{vertices_left};
@@ -83,6 +83,16 @@ impl<'a> Vertices<'a> {
         ensures { vertices_left result ≡ map vertex_of (items_left items.entry) }
     {
         Vertices { items }
+    }
+
+    /// Returns whether no vertex is left.
+    #[inline(always)]
+    #[tactic(auto, unfolding(crate::specs::Walks::vertices_left))]
+    pub fn is_at_end(&self) -> bool
+        ensures { IsTrue result → vertices_left self.now ≡ [] }
+    {
+        let mut items = self.items;
+        items.next().is_none()
     }
 
     /// Goes past the next vertex if all its numbers have at most eight digits and no minus. Returns
