@@ -1,10 +1,19 @@
 -- Counts that go up, number by number.
-use Rattle.std.proofs.Common.{◌≡◌, ℕ, ◌+◌, ◌^◌, ◌<◌, List, [], ◌∷◌, length, get_or, sym, ap, subst, refl, ◌∙◌, cond, arith, Bool, true, false, nat_eq}
-use Rattle.std.specs.List.{filter}
+use Rattle.std.proofs.Common.{◌≡◌, ℕ, ◌+◌, ◌^◌, ◌<◌, List, [], ◌∷◌, ◌++◌, length, map, codes, get_or, sym, ap, subst, refl, ◌∙◌, cond, arith, inl, inr, Bool, true, false, nat_eq}
+use Rattle.std.specs.List.{filter, flat_map}
+use Rattle.std.specs.Str.{chars}
 use Rattle.std.proofs.Math.ListN.{set, length-set}
-use Rattle.std.proofs.lemmas.Bool.{eqb-true, eqb-false}
-use Rattle.std.proofs.lemmas.List.{get_or-set_same, get_or-set_other}
-use Rattle.cj_stream.specs.Tallied.{capped, how_often}
+use Rattle.std.proofs.lemmas.Bool.{cases_lt, eqb-true, eqb-false}
+use Rattle.std.proofs.lemmas.List.{get_or_past, get_or-set_same, get_or-set_other}
+use Rattle.std.proofs.lemmas.List.{length-append, map-append}
+use Rattle.std.proofs.lemmas.List.Elements.{filter-append}
+use Rattle.std.proofs.lemmas.Simd.{map-map}
+use Rattle.cj_spans.specs.Tree.{Tree}
+use Rattle.cj_spans.specs.Parts.{member_of}
+use Rattle.cj_geometry.specs.Geometry.{Given}
+use Rattle.cj_geometry.specs.Lod.{lod}
+use Rattle.cj_feature.specs.Walks.{object_geometries}
+use Rattle.cj_stream.specs.Tallied.{capped, class_count, class_of, how_often, own_classes}
 use Rattle.cj_stream.specs.TallySink.{RisesBy}
 
 -- some counts went up on the way to all numbers, and the numbers `left` are left
@@ -58,3 +67,47 @@ Counting-step size old all counts k v whole left inside first up h =
           (subst (λ (ns : List ℕ). capped (get_or counts n 0 + how_often n ns)
           ≡ capped (get_or old n 0 + how_often n all)) first (h.rises n b));
     }
+
+-- ---- some numbers at once
+
+how_often-append : (n : ℕ) (ks left : List ℕ) → how_often n (ks ++ left) ≡ how_often n ks + how_often n left
+how_often-append n ks left =
+    ap length (filter-append (nat_eq n) ks left)
+    ∙ length-append (filter (nat_eq n) ks) (filter (nat_eq n) left)
+
+-- the first numbers that are left are counted
+pub Counting-some : (size : ℕ) (old all counts new whole ks left : List ℕ) → length new ≡ size → whole ≡ ks ++ left
+    → RisesBy size counts ks new → Counting size old all counts whole → Counting size old all new left
+Counting-some size old all counts new whole ks left long first up h = record {
+  long = long;
+  fit = λ n.
+      elim (cases_lt n size) [
+        | inl below ↦ let here = up n below in omega (arith, here)
+        | inr above ↦ let none = get_or_past new n 0 (omega (arith, long, above)) in omega (arith, none)
+      ];
+  rises = λ n b.
+      let sum = how_often-append n ks left in
+      let here = up n b in
+      let before = subst (λ (ns : List ℕ). capped (get_or counts n 0 + how_often n ns)
+      ≡ capped (get_or old n 0 + how_often n all)) first (h.rises n b) in
+      omega (arith, sum, here, before);
+}
+
+-- ---- the classes of LoDs that geometries have themselves
+
+pub own-first : (m : Tree × Tree) (whole rest : List (Tree × Tree)) → whole ≡ m ∷ rest
+    → own_classes (flat_map object_geometries whole)
+    ≡ own_classes (object_geometries m) ++ own_classes (flat_map object_geometries rest)
+own-first m whole rest e =
+    ap (λ ms. own_classes (flat_map object_geometries ms)) e
+    ∙ map-append (λ g. class_of (member_of (chars (codes "lod")) g)) (object_geometries m)
+    (flat_map object_geometries rest)
+
+-- if no geometry is an instance, they are those of its LoDs
+pub RisesBy-own : (templates : Given) (gs : List Tree) (old new : List ℕ)
+    → map (lod templates) gs ≡ map (member_of (chars (codes "lod"))) gs → RisesBy class_count old (own_classes gs) new
+    → RisesBy class_count old (map (λ g. class_of (lod templates g)) gs) new
+RisesBy-own templates gs old new same =
+    subst (λ (ns : List ℕ). RisesBy class_count old ns new)
+    (sym (map-map class_of (member_of (chars (codes "lod"))) gs) ∙ ap (map class_of) (sym same)
+    ∙ map-map class_of (lod templates) gs)

@@ -10,7 +10,7 @@ use Rattle.cj_stream.specs.declared.report_sink.Report.{Report}
 use Rattle.cj_stream.specs.declared.running.Outcome.{Outcome}
 use Rattle.cj_stream.specs.Lines.{newline, NoLf, whole}
 use Rattle.cj_stream.specs.Tallied.{capped}
-use Rattle.cj_stream.specs.TallySink.{Tally}
+use Rattle.cj_stream.specs.TallySink.{RangesFront, Tally}
 use Rattle.cj_stream.specs.Verdict.{Rules, ending}
 
 -- the stream of a first line with this content, and then these bytes
@@ -80,6 +80,10 @@ abbrev pub wider : Option (ℤ × ℤ) → Option (ℤ × ℤ) → Option (ℤ �
 wider None q = q
 wider (Some p) None = Some p
 wider (Some p) (Some q) = Some (int_min p.0 q.0, int_max p.1 q.1)
+
+-- a range is joined to that of the numbers before those that are left
+abbrev pub WidensFront : Option (ℤ × ℤ) → List ℤ → Option (ℤ × ℤ) → List ℤ → Type 0
+WidensFront old all new left = (r : Option (ℤ × ℤ)) × RangesFront all r left × (new ≡ wider old r)
 
 -- the tally of both parts, by that of each: counts add up, ranges become wider, and the transform is that of the first
 pub record JoinsTallies (first second both : Tally) : Type 0 where

@@ -1,9 +1,10 @@
 -- What is tallied of features: types of city objects, classes of LoDs, and numbers of vertices.
 use Rattle.std.specs.Prelude.{◌≡◌, ℕ, ◌-◌, ◌^◌, List, [], length, min, if◌then◌else◌, ◌&&◌, Option, Some, None, ℤ, ◌≤ℤ◌}
-use Rattle.std.specs.Prelude.{map, option_and_then, nat_eq, nat_le, All, Contains}
+use Rattle.std.specs.Prelude.{map, option_and_then, nat_eq, nat_le, All, Contains, codes}
 use Rattle.std.specs.List.{filter, flat_map}
 use Rattle.cj_spans.specs.Tree.{Tree}
-use Rattle.cj_spans.specs.Parts.{first_code_of}
+use Rattle.std.specs.Str.{chars}
+use Rattle.cj_spans.specs.Parts.{first_code_of, member_of}
 use Rattle.cj_geometry.specs.Lod.{lod}
 use Rattle.cj_geometry.specs.ObjectTypes.{ObjectRow, type_count}
 use Rattle.cj_feature.specs.Feature.{templates_of}
@@ -52,6 +53,10 @@ class_of t = class_by (option_and_then first_code_of t)
 -- the classes of the LoDs of a feature's geometries; an instance has that of its template, which the header has
 abbrev pub lod_classes : Tree → Tree → List ℕ
 lod_classes header t = map (λ g. class_of (lod (templates_of header) g)) (flat_map object_geometries (objects_of t))
+
+-- the classes of the LoDs that geometries have themselves
+abbrev pub own_classes : List Tree → List ℕ
+own_classes gs = map (λ g. class_of (member_of (chars (codes "lod")) g)) gs
 
 -- ---- numbers of vertices
 

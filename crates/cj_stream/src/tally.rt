@@ -11,7 +11,7 @@ mod joining;
 
 use crate::output::WriteFault;
 use crate::sink::LineSink;
-use adding::count_types;
+use adding::count_objects;
 pub use adding::{count_lods, widen_all};
 use cj_decimal::Decimal;
 use cj_feature::{Feature, Header};
@@ -192,9 +192,8 @@ impl LineSink for TallySink {
 
     fn put(&mut self, feature: &Feature<'_>, _lf: bool) -> Result<(), WriteFault> {
         self.features = self.features.saturating_add(1);
-        count_types(&mut self.types, feature);
-        count_lods(&mut self.lods, feature);
-        self.ranges = widen_all(self.ranges, feature);
+        count_objects(&mut self.types, &mut self.lods, feature);
+        widen_all(&mut self.ranges, feature);
         Ok(())
     }
 }

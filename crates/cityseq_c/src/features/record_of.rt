@@ -101,7 +101,9 @@ impl FeatureRecord {
         let id = feature.id();
         let (objects, types) = tally_objects(feature);
         let (geometries, lods) = tally_geometries(feature);
-        let [x, y, z] = widen_all([None; 3], feature);
+        let mut ranges = [None; 3];
+        widen_all(&mut ranges, feature);
+        let [x, y, z] = ranges;
         FeatureRecord {
             line,
             begin,

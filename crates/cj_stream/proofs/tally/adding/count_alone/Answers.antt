@@ -1,11 +1,6 @@
-use Rattle.std.proofs.Common.{◌∷◌, sym, ap, ◌∙◌, map}
-use Rattle.cj_spans.specs.Tree.{Tree}
-use Rattle.cj_spans.specs.View.{tree}
-use Rattle.cj_geometry.specs.Lod.{lod}
-use Rattle.cj_feature.specs.Feature.{templates_of}
-use Rattle.cj_feature.specs.View.{feature_header}
+use Rattle.std.proofs.Common.{◌∷◌, sym, ap, ◌∙◌}
 use Rattle.cj_feature.specs.Walks.{geometries_left}
-use Rattle.cj_stream.specs.Tallied.{class_of}
+use Rattle.cj_stream.specs.Tallied.{class_of, own_classes}
 use Rattle.cj_stream.proofs.Counted.{Counting-start, Counting-step, Counting-end}
 use Rattle.cj_stream.proofs.tally.adding.count_alone.Goals as goal
 
@@ -16,12 +11,9 @@ loop-geometry-init c =
 
 pub loop-geometry-preserved : goal.loop-geometry-preserved
 loop-geometry-preserved c =
-    let class = λ (g : Tree). class_of (lod (templates_of (feature_header c.args.feature.now)) g) in
-    let found = ap (λ templates. lod templates (tree c.in-Some.geometry)) (sym c.templates-templates.ensures)
-    ∙ sym c.lod_of.ensures in
-    let own = ap class_of found ∙ sym c.class_of-class.ensures.class in
-    let first = ap (map class) c.in-Some.ensures.steps.0
-    ∙ ap (λ n. n ∷ map class (geometries_left c.next.new.self)) own in
+    let own = ap class_of (sym c.get.ensures.value) ∙ sym c.class_of-class.ensures.class in
+    let first = ap own_classes c.in-Some.ensures.steps.0
+    ∙ ap (λ n. n ∷ own_classes (geometries_left c.next.new.self)) own in
     Counting-step 6 _ _ c.loop-geometry.counts c.class_of-class.result _ _ _ c.class_of-class.ensures.below first
     c.saturating_add.ensures c.loop-geometry.invariant
 

@@ -1,13 +1,12 @@
-use Rattle.std.proofs.Common.{map}
-use Rattle.cj_geometry.specs.Lod.{lod}
-use Rattle.cj_feature.specs.Feature.{templates_of}
-use Rattle.cj_feature.specs.View.{feature_tree, feature_header}
-use Rattle.cj_feature.specs.Walks.{geometries_left}
-use Rattle.cj_stream.specs.Tallied.{class_of, lod_classes}
+use Rattle.std.specs.List.{flat_map}
+use Rattle.cj_feature.specs.View.{feature_tree}
+use Rattle.cj_feature.specs.Walks.{geometries_left, object_geometries}
+use Rattle.cj_stream.specs.Criteria.{objects_of}
+use Rattle.cj_stream.specs.Tallied.{own_classes}
 use Rattle.cj_stream.proofs.Counted.{Counting}
 use Rattle.cj_stream.proofs.tally.adding.count_alone.Given as goal
 
 abbrev pub invariant-loop-geometry : goal.invariant-loop-geometry
 invariant-loop-geometry l =
-    Counting 6 l.initial.counts (lod_classes (feature_header l.feature) (feature_tree l.feature)) l.counts
-    (map (λ g. class_of (lod (templates_of (feature_header l.feature)) g)) (geometries_left l.geometry-iterator))
+    Counting 6 l.initial.counts (own_classes (flat_map object_geometries (objects_of (feature_tree l.feature))))
+    l.counts (own_classes (geometries_left l.geometry-iterator))

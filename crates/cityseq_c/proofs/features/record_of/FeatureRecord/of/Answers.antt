@@ -21,9 +21,9 @@ returns c lf = record {
   types = c.tally_objects-objects.ensures.types;
   lods = c.tally_geometries-geometries.ensures.lods;
   ranges = λ axis small. record {
-    range = get_or c.widen_all.result axis None;
+    range = get_or c.widen_all.new.ranges axis None;
     ends = c.widen_all.ensures axis small [] (nothing-ranged axis small);
-    told = ranges-told c.widen_all.result c.range_of.result c.range_of-2.result c.range_of-3.result c.range_of.ensures
-        c.range_of-2.ensures c.range_of-3.ensures axis small;
+    told = ranges-told c.widen_all.new.ranges c.range_of.result c.range_of-2.result c.range_of-3.result
+        c.range_of.ensures c.range_of-2.ensures c.range_of-3.ensures axis small;
   };
 }

@@ -1,18 +1,20 @@
-use Rattle.std.proofs.Common.{ℕ, ◌<◌, ◌∷◌, [], List, Option, None, map, get_or, suc, zero, arith}
+use Rattle.std.proofs.Common.{◌≡◌, ℕ, ◌<◌, List, Option, None, Some, map, get_or, refl, suc, zero, arith}
 use Rattle.std.specs.Prelude.{ℤ}
 use Rattle.cj_feature.specs.Typed.{number_on}
 use Rattle.cj_feature.specs.Walks.{vertices_left}
-use Rattle.cj_stream.specs.TallySink.{RangesFront}
+use Rattle.cj_stream.specs.Parts.{wider, WidensFront}
 use Rattle.cj_stream.proofs.Ranges.{words-passed, words-range}
-use Rattle.cj_stream.proofs.tally.adding.range_front.Goals as goal
+use Rattle.cj_stream.proofs.tally.adding.widen_front.Goals as goal
 
-on_axis : (all left : ℕ → List ℤ) (x y z : Option (ℤ × ℤ)) → RangesFront (all 0) x (left 0)
-    → RangesFront (all 1) y (left 1) → RangesFront (all 2) z (left 2)
-    → (axis : ℕ) → axis < 3 → RangesFront (all axis) (get_or (x ∷ y ∷ z ∷ []) axis None) (left axis)
-on_axis all left x y z h i j zero b = h
-on_axis all left x y z h i j (suc zero) b = i
-on_axis all left x y z h i j (suc (suc zero)) b = j
-on_axis all left x y z h i j (suc (suc (suc n))) b = absurd (omega arith)
+on_axis : (old new : List (Option (ℤ × ℤ))) (all left : ℕ → List ℤ)
+    → WidensFront (get_or old 0 None) (all 0) (get_or new 0 None) (left 0)
+    → WidensFront (get_or old 1 None) (all 1) (get_or new 1 None) (left 1)
+    → WidensFront (get_or old 2 None) (all 2) (get_or new 2 None) (left 2)
+    → (axis : ℕ) → axis < 3 → WidensFront (get_or old axis None) (all axis) (get_or new axis None) (left axis)
+on_axis old new all left x y z zero b = x
+on_axis old new all left x y z (suc zero) b = y
+on_axis old new all left x y z (suc (suc zero)) b = z
+on_axis old new all left x y z (suc (suc (suc n))) b = absurd (omega arith)
 
 pub range_of_words-requires : goal.range_of_words-requires
 range_of_words-requires c =
@@ -38,7 +40,12 @@ returns-in-Some c =
     let x = words-passed 0 _ _ _ _ _ _ step.1 (step.2 0 (omega arith)) (c.widen_words.ensures 0 (omega arith)) in
     let y = words-passed 1 _ _ _ _ _ _ step.1 (step.2 1 (omega arith)) (c.widen_words.ensures 1 (omega arith)) in
     let z = words-passed 2 _ _ _ _ _ _ step.1 (step.2 2 (omega arith)) (c.widen_words.ensures 2 (omega arith)) in
-    on_axis (λ axis. map (number_on axis) (vertices_left c.args.vertices.now))
-    (λ axis. map (number_on axis) (vertices_left c.widen_words.new.vertices)) _ _ _
-    (words-range _ _ _ _ x c.range_of_words.ensures) (words-range _ _ _ _ y c.range_of_words-in-Some.ensures)
-    (words-range _ _ _ _ z c.range_of_words-in-Some-2.ensures)
+    on_axis c.args.ranges.now c.join_to.new.ranges (λ axis. map (number_on axis) (vertices_left c.args.vertices.now))
+    (λ axis. map (number_on axis) (vertices_left c.widen_words.new.vertices))
+    (Some _, words-range _ _ _ _ x c.range_of_words.ensures, c.join_to.ensures.on_x)
+    (Some _, words-range _ _ _ _ y c.range_of_words-in-Some.ensures, c.join_to.ensures.on_y)
+    (Some _, words-range _ _ _ _ z c.range_of_words-in-Some-2.ensures, c.join_to.ensures.on_z)
+
+alone : (r : Option (ℤ × ℤ)) → r ≡ wider r None
+alone None = refl
+alone (Some r) = refl

@@ -1,0 +1,9 @@
+use Rattle.cj_feature.specs.Feature.{templates_of}
+use Rattle.cj_feature.specs.View.{feature_header}
+use Rattle.cj_stream.proofs.Counted.{RisesBy-own}
+use Rattle.cj_stream.proofs.tally.adding.count_lods.Goals as goal
+
+pub returns-then-has_own_lods : goal.returns-then-has_own_lods
+returns-then-has_own_lods c =
+    RisesBy-own (templates_of (feature_header c.args.feature.now)) _ _ _ (c.has_own_lods.ensures c.if-has_own_lods.true)
+    c.count_alone.ensures
