@@ -2,7 +2,7 @@
 use super::calls::check_bytes;
 use super::steps::{Opening, Step, check_steps};
 use cj_feature::{CityObject, Feature, Header};
-use cj_stream::{End, LineSink, TallySink, WriteFault};
+use cj_stream::{End, LineSink, ObjectType, TallySink, WriteFault};
 use cj_stream_samples::{FEATURE, joined, ran_to};
 use std::alloc::{AllocError, Global};
 use std::process::Abort;
@@ -208,5 +208,157 @@ fn city_objects_are_tallied_by_type(rt: HostRuntime) -> Result<(), Fail> {
     let _ = ran_to(rt.alloc(), &text, 100, &mut sink);
     assert!(&rt; !sink.lost);
     check_bytes(&rt, sink.notes.as_bytes(), TYPES.as_bytes(), "types", 0);
+    Ok(())
+}
+
+/// A header without templates.
+const PLAIN: &str =
+    r#"{"type":"CityJSON","version":"2.0","transform":{"scale":[1,1,1],"translate":[0,0,0]},"CityObjects":{},"vertices":[]}"#;
+
+/// Two features of that header, and the ranges of their vertices.
+struct RangeRow {
+    name: &'static str,
+    first: &'static str,
+    second: &'static str,
+    ranges: &'static str,
+}
+
+/// In the second feature the vertices are at the start of the line.
+const RANGES: [RangeRow; 14] = [
+    RangeRow {
+        name: "no vertex",
+        first: "[]",
+        second: "[]",
+        ranges: "",
+    },
+    RangeRow {
+        name: "one vertex, after none",
+        first: "[]",
+        second: "[[1,20,300]]",
+        ranges: "1 to 1\n20 to 20\n300 to 300\n",
+    },
+    RangeRow {
+        name: "none, after one vertex",
+        first: "[[1,20,300]]",
+        second: "[]",
+        ranges: "1 to 1\n20 to 20\n300 to 300\n",
+    },
+    RangeRow {
+        name: "a feature inside the earlier one",
+        first: "[[0,0,0],[9,10,11]]",
+        second: "[[0,10,1],[9,0,2]]",
+        ranges: "0 to 9\n0 to 10\n0 to 11\n",
+    },
+    RangeRow {
+        name: "less on x",
+        first: "[[5,5,5],[9,9,9]]",
+        second: "[[4,6,7]]",
+        ranges: "4 to 9\n5 to 9\n5 to 9\n",
+    },
+    RangeRow {
+        name: "more on x",
+        first: "[[5,5,5],[9,9,9]]",
+        second: "[[10,6,7]]",
+        ranges: "5 to 10\n5 to 9\n5 to 9\n",
+    },
+    RangeRow {
+        name: "less on y",
+        first: "[[5,5,5],[9,9,9]]",
+        second: "[[6,4,7]]",
+        ranges: "5 to 9\n4 to 9\n5 to 9\n",
+    },
+    RangeRow {
+        name: "more on y",
+        first: "[[5,5,5],[9,9,9]]",
+        second: "[[6,10,7]]",
+        ranges: "5 to 9\n5 to 10\n5 to 9\n",
+    },
+    RangeRow {
+        name: "less on z",
+        first: "[[5,5,5],[9,9,9]]",
+        second: "[[6,7,4]]",
+        ranges: "5 to 9\n5 to 9\n4 to 9\n",
+    },
+    RangeRow {
+        name: "more on z",
+        first: "[[5,5,5],[9,9,9]]",
+        second: "[[6,7,10]]",
+        ranges: "5 to 9\n5 to 9\n5 to 10\n",
+    },
+    RangeRow {
+        name: "a minus",
+        first: "[[1,-2,3],[4,5,6]]",
+        second: "[[7,8,9],[10,11,-12]]",
+        ranges: "1 to 10\n-2 to 11\n-12 to 9\n",
+    },
+    RangeRow {
+        name: "eight digits, then nine",
+        first: "[[99999999,12345678,87654321]]",
+        second: "[[100000000,12345679,87654320],[3,20000000,90000000]]",
+        ranges: "3 to 100000000\n12345678 to 20000000\n87654320 to 90000000\n",
+    },
+    RangeRow {
+        name: "nine digits, then eight",
+        first: "[[0,123456789,1],[10000000,2,3]]",
+        second: "[[0,3,2]]",
+        ranges: "0 to 10000000\n2 to 123456789\n1 to 3\n",
+    },
+    RangeRow {
+        name: "other spellings",
+        first: "[[1e1,2.0,3]]",
+        second: "[[4,50E-1,6],[1E+2,0,-0]]",
+        ranges: "4 to 100\n0 to 5\n0 to 6\n",
+    },
+];
+
+/// Tallies two features with these vertices.
+fn check_ranges(rt: &impl Abort, alloc: Global, row: &RangeRow) -> Result<(), Fail> {
+    let text = joined(
+        alloc,
+        &[
+            PLAIN.as_bytes(),
+            br#"
+{"type":"CityJSONFeature","id":"a","CityObjects":{"a":{"type":"Road"}},"vertices":"#,
+            row.first.as_bytes(),
+            br#"}
+{"vertices":"#,
+            row.second.as_bytes(),
+            br#","type":"CityJSONFeature","id":"a","CityObjects":{"a":{"type":"Road"}}}"#,
+        ],
+    )?;
+    let mut tally = TallySink::new();
+    let _ = ran_to(alloc, &text, 100, &mut tally);
+    assert!(rt; tally.features() == 2);
+    let mut told = String::new(alloc);
+    add_ranges(alloc, &tally, &mut told)?;
+    check_bytes(rt, told.as_bytes(), row.ranges.as_bytes(), row.name, 0);
+    Ok(())
+}
+
+#[test]
+fn ranges_are_widened(rt: HostRuntime) -> Result<(), Fail> {
+    for row in &RANGES {
+        check_ranges(&rt, rt.alloc(), row)?;
+    }
+    Ok(())
+}
+
+/// A feature beside no templates. Its LoDs have the classes 2, 0, other and 1.
+const OWN: &str =
+    r#"{"type":"CityJSONFeature","id":"t","CityObjects":{"t":{"type":"Road","geometry":[{"type":"MultiPoint","lod":"2.2","boundaries":[0]},{"lod":"\u0030","boundaries":[0],"type":"MultiPoint"}]},"u":{"geometry":[],"type":"Tunnel"},"v":{"type":"Bridge"},"w":{"geometry":[{"type":"MultiPoint","boundaries":[0],"lod":"9"},{"type":"MultiPoint","lod":"1","boundaries":[0]}],"type":"Road"}},"vertices":[[1,2,3]]}"#;
+
+/// The tally of that feature, twice.
+const OWN_TALLY: &str =
+    "features 2\nlods 2 2 2 0 0 2\n1 to 1\n2 to 2\n3 to 3\n1e0\n1e0\n1e0\n0e0\n0e0\n0e0\n";
+
+#[test]
+fn own_lods_are_tallied(rt: HostRuntime) -> Result<(), Fail> {
+    let own = OWN.as_bytes();
+    let text = joined(rt.alloc(), &[PLAIN.as_bytes(), b"\n", own, b"\n", own])?;
+    let mut tally = TallySink::new();
+    let _ = ran_to(rt.alloc(), &text, 100, &mut tally);
+    let told = report(rt.alloc(), &tally)?;
+    check_bytes(&rt, told.as_bytes(), OWN_TALLY.as_bytes(), "own", 0);
+    assert!(&rt; tally.by_type(ObjectType::Road) == 4 && tally.by_type(ObjectType::Tunnel) == 2);
     Ok(())
 }
