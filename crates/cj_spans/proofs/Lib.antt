@@ -30,6 +30,7 @@ pub mod Scanned
 pub mod Sizes
 pub mod Rising
 pub mod Walks
+pub mod Noted
 pub mod Strings
 pub mod Granted
 pub mod Marking

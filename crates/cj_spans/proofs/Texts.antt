@@ -518,6 +518,18 @@ alike_one_more bs i ds j n s h k same low other =
       ap (λ v. nat_eq (get_or bs v 0) 92) x ∙ other,
     ))
 
+-- those behind the first one are alike too
+alike_behind : (bs : List ℕ) (i : ℕ) (ds : List ℕ) (j n : ℕ) → AreAlike bs i ds j (suc n)
+    → AreAlike bs (i + 1) ds (j + 1) n
+alike_behind bs i ds j n a l m =
+    let e : i + suc l ≡ i + 1 + l = omega arith in
+    let f : j + suc l ≡ j + 1 + l = omega arith in
+    let s = a (suc l) (omega arith) in (
+      ap (λ v. get_or bs v 0) (sym e) ∙ s.0 ∙ ap (λ v. get_or ds v 0) f,
+      subst (λ v. get_or bs v 0 < 128) e s.1,
+      ap (λ v. nat_eq (get_or bs v 0) 92) (sym e) ∙ s.2,
+    )
+
 -- the code points that they share
 pub shared_front : (n : ℕ) (bs : List ℕ) (i : ℕ) (ds : List ℕ) (j : ℕ) → n ≤ length bs - i → n ≤ length ds - j
     → AreAlike bs i ds j n → (f : List ℕ) × (code_points_from bs i ≡ f ++ code_points_from bs (i + n))
@@ -532,7 +544,7 @@ shared_front (suc n) bs i ds j h k a =
     let plain : nat_eq (get_or bs i 0) 92 ≡ false = ap (λ v. nat_eq (get_or bs v 0) 92) (sym x) ∙ s.2 in
     let p = plain_code bs i (omega arith) low plain in
     let q = plain_code ds j (omega arith) (subst (λ v. v < 128) same low) (ap (λ v. nat_eq v 92) (sym same) ∙ plain) in
-    let r = shared_front n bs (i + 1) ds (j + 1) (omega arith) (omega arith) (shifted bs i ds j n a) in
+    let r = shared_front n bs (i + 1) ds (j + 1) (omega arith) (omega arith) (alike_behind bs i ds j n a) in
     let e : i + 1 + n ≡ i + suc n = omega arith in
     let f : j + 1 + n ≡ j + suc n = omega arith in (
       get_or bs i 0 ∷ r.0,
@@ -541,17 +553,23 @@ shared_front (suc n) bs i ds j h k a =
           ∙ ap (λ cs. get_or ds j 0 ∷ cs) (r.2 ∙ ap (λ v. r.0 ++ code_points_from ds v) f)
           ∙ ap (λ c. c ∷ r.0 ++ code_points_from ds (j + suc n)) (sym same),
     )
-  where
-    shifted : (bs : List ℕ) (i : ℕ) (ds : List ℕ) (j n : ℕ) → AreAlike bs i ds j (suc n)
-        → AreAlike bs (i + 1) ds (j + 1) n
-    shifted bs i ds j n a l m =
-        let e : i + suc l ≡ i + 1 + l = omega arith in
-        let f : j + suc l ≡ j + 1 + l = omega arith in
-        let s = a (suc l) (omega arith) in (
-          ap (λ v. get_or bs v 0) (sym e) ∙ s.0 ∙ ap (λ v. get_or ds v 0) f,
-          subst (λ v. get_or bs v 0 < 128) e s.1,
-          ap (λ v. nat_eq (get_or bs v 0) 92) (sym e) ∙ s.2,
-        )
+
+-- plain bytes up to the ends of a string and of a text: they are the same
+pub same_alike : (n : ℕ) (ws : List ℕ) (i : ℕ) (bs : List ℕ) (j : ℕ) → n ≡ length ws - i → n ≡ length bs - j
+    → AreAlike ws i bs j n → are_same (code_points_from bs j) (left ws i) ≡ true
+same_alike zero ws i bs j h k a = text_ends bs ws j i (omega arith) (omega arith)
+same_alike (suc n) ws i bs j h k a =
+    let x : i + 0 ≡ i = omega arith in
+    let y : j + 0 ≡ j = omega arith in
+    let s = a 0 (omega arith) in
+    let same : get_or ws i 0 ≡ get_or bs j 0 = ap (λ v. get_or ws v 0) (sym x) ∙ s.0 ∙ ap (λ v. get_or bs v 0) y in
+    let low : get_or ws i 0 < 128 = subst (λ v. get_or ws v 0 < 128) x s.1 in
+    let plain : nat_eq (get_or ws i 0) 92 ≡ false = ap (λ v. nat_eq (get_or ws v 0) 92) (sym x) ∙ s.2 in
+    let p = plain_character ws i (omega arith) low in
+    let q = plain_code bs j (omega arith) (subst (λ v. v < 128) same low) (ap (λ v. nat_eq v 92) (sym same) ∙ plain) in
+    let one : nat_eq (get_or bs j 0) (get_or ws i 0) ≡ true = grind (arith, nat_tests, same) in
+    let rest = same_alike n ws (i + 1) bs (j + 1) (omega arith) (omega arith) (alike_behind ws i bs j n a) in
+    (λ l. are_same (q l) (p l)) ∙ ap (λ b. b && are_same (code_points_from bs (j + 1)) (left ws (i + 1))) one ∙ rest
 
 -- tell nothing
 number_equal : (x : ℕ) → nat_cmp x x ≡ Equal

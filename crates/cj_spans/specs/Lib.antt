@@ -21,6 +21,8 @@ pub mod Kinds
 pub mod Parts
 pub mod Sound
 pub mod View
+pub mod Initials
+pub mod Noted
 pub mod Marks
 pub mod Atom
 pub mod Wholes

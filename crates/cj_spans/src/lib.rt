@@ -57,7 +57,7 @@ pub use finding::Finding;
 pub use least::Least;
 pub use mark::set_mark;
 pub use next::slow_next;
-pub use node::{Doc, Items, Members, Node};
+pub use node::{Doc, FourMembers, Items, Members, Node};
 pub use reason::Reason;
 pub use scanner::{scan, scan_reserved};
 pub use text::{compare_strings, tail_of_string};

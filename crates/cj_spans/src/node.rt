@@ -25,7 +25,8 @@ ghost use Rattle.cj_spans.specs.Sound.{items_end as items_end_of, members_end as
 use crate::lanes::are_whole_signs;
 use crate::mark::{LINKS, has_mark};
 use crate::text::{
-    CodePoints, compare_spelling_with, compare_spellings, mix, spell_one_text, spells, tail, word,
+    CodePoints, compare_spelling_with, compare_spellings, is_spelled_so, mix, spell_one_text,
+    spells, tail, word,
 };
 use crate::token::{Kind, Token};
 use std::cmp::Ordering;
@@ -279,6 +280,21 @@ impl<'a> Node<'a> {
         }
     }
 
+    /// Returns the walk over the members of an object. Any other value has none.
+    #[inline(always)]
+    fn walk(self) -> Members<'a>
+        ensures begun { 0 < result.next }
+        ensures members { members_left result ≡ members_of (tree self.entry) }
+        ensures source { members_source result ≡ source_of self.entry }
+    {
+        let stop = members_end(self.kind(), self.source.after(self.index));
+        Members {
+            source: self.source,
+            next: self.index + 1,
+            stop,
+        }
+    }
+
     /// Returns the members of an object, names with values, in order (RFC 8259, section 4). Any
     /// other value has none.
     pub fn members(self) -> Members<'a>
@@ -289,12 +305,7 @@ impl<'a> Node<'a> {
         ensures source { members_source result ≡ source_of self.entry }
         ensures few { length (members_left result) < 2 ^ 63 }
     {
-        let stop = members_end(self.kind(), self.source.after(self.index));
-        Members {
-            source: self.source,
-            next: self.index + 1,
-            stop,
-        }
+        self.walk()
     }
 }
 
@@ -382,10 +393,10 @@ impl<'a> Node<'a> {
 }
 
 impl<'a> Node<'a> {
-    ghost use Rattle.std.specs.Prelude.{option_map, IfSome, ◌↔◌, None, cond};
-    ghost use Rattle.std.specs.Option.{option_or};
+    ghost use Rattle.std.specs.Prelude.{option_map, IfSome, ◌↔◌, true};
     ghost use Rattle.std.specs.Str.{chars};
-    ghost use Rattle.cj_spans.specs.Parts.{text_of, are_same_texts, has_text, first_code_of, member_of};
+    ghost use Rattle.cj_spans.specs.Initials.{begin_apart};
+    ghost use Rattle.cj_spans.specs.Parts.{text_of, are_same_texts, has_text, first_code_of, member_of, members_of};
     ghost use Rattle.cj_spans.specs.Decoding.{code_points_left};
     ghost use Rattle.cj_spans.specs.Text.{text};
     ghost use Rattle.cj_spans.specs.Tail.{tail_of};
@@ -439,6 +450,17 @@ impl<'a> Node<'a> {
     {
         match self.spelling() {
             Some(spelling) => spells(spelling, text),
+            None => false,
+        }
+    }
+
+    /// Returns whether it is a string or a name whose spelling is this text between quotes.
+    #[inline(always)]
+    fn is_spelled(self, text: &str) -> bool
+        ensures { result ≡ true → has_text (chars text.now) (tree self.entry) ≡ true }
+    {
+        match self.spelling() {
+            Some(spelling) => is_spelled_so(spelling, text),
             None => false,
         }
     }
@@ -554,81 +576,166 @@ impl<'a> Node<'a> {
         }
     }
 
-    /// Keeps the number of the value of a member, if no earlier one was kept.
+    /// Returns the numbers of what [`Node::get`] returns for each of four names, by one walk over
+    /// the members, and whether their names begin apart. [`Node::at_if`] returns the node of a
+    /// number. Numbers are kept in place of nodes, since the compiler does not see that several
+    /// nodes share their line and tokens.
     #[inline(always)]
-    fn keep_first(kept: &mut Option<u32>, value: Node)
-        ensures { let shown = tree_in (source_of value.entry) in
-            option_map shown kept.new ≡ option_or (option_map shown kept.old) (Some (tree value.entry)) }
-    {
-        if kept.is_none() {
-            *kept = Some(value.number());
-        }
-    }
-
-    /// Keeps the number of the value of a member for each of three names that is its own, if no
-    /// earlier member was kept for that name.
-    ///
-    /// The test whether a third one was kept stands between the tests of first bytes. Without it
-    /// the compiler makes a jump table of them.
-    #[inline(always)]
-    fn keep_three(member: (Node<'a>, Node<'a>), a: &str, b: &str, c: &str, kept: &mut ThreeNumbers)
-        ensures first { let shown = tree_in (source_of member.entry.1) in
-            option_map shown kept.new.first ≡ option_or (option_map shown kept.old.first)
-            (cond (has_text (chars a.now) (tree member.entry.0)) (Some (tree member.entry.1)) None) }
-        ensures second { let shown = tree_in (source_of member.entry.1) in
-            option_map shown kept.new.second ≡ option_or (option_map shown kept.old.second)
-            (cond (has_text (chars b.now) (tree member.entry.0)) (Some (tree member.entry.1)) None) }
-        ensures third { let shown = tree_in (source_of member.entry.1) in
-            option_map shown kept.new.third ≡ option_or (option_map shown kept.old.third)
-            (cond (has_text (chars c.now) (tree member.entry.0)) (Some (tree member.entry.1)) None) }
-    {
-        let (key, value) = member;
-        if key.text_is(a) {
-            Node::keep_first(&mut kept.first, value);
-            if key.text_is(b) {
-                Node::keep_first(&mut kept.second, value);
-            }
-            if key.text_is(c) {
-                Node::keep_first(&mut kept.third, value);
-            }
-        } else if key.text_is(b) {
-            Node::keep_first(&mut kept.second, value);
-            if key.text_is(c) {
-                Node::keep_first(&mut kept.third, value);
-            }
-        } else if kept.third.is_none() && key.text_is(c) {
-            kept.third = Some(value.number());
-        }
-    }
-
-    /// Returns the number of what [`Node::get`] returns for each of three names, by one walk.
-    /// [`Node::at_if`] returns the node of each. Numbers are kept in place of nodes, since the
-    /// compiler does not see that several nodes share their line and tokens.
-    #[inline(always)]
-    pub fn get_three(self, a: &str, b: &str, c: &str) -> (Option<u32>, Option<u32>, Option<u32>)
-        ensures first { option_map (tree_in (source_of self.entry)) result.0 ≡ member_of (chars a.now) (tree self.entry) }
-        ensures second { option_map (tree_in (source_of self.entry)) result.1
+    pub fn get_four(self, a: &str, b: &str, c: &str, d: &str) -> FourMembers
+        ensures first { option_map (tree_in (source_of self.entry)) result.first
+            ≡ member_of (chars a.now) (tree self.entry) }
+        ensures second { option_map (tree_in (source_of self.entry)) result.second
             ≡ member_of (chars b.now) (tree self.entry) }
-        ensures third { option_map (tree_in (source_of self.entry)) result.2 ≡ member_of (chars c.now) (tree self.entry) }
+        ensures third { option_map (tree_in (source_of self.entry)) result.third
+            ≡ member_of (chars c.now) (tree self.entry) }
+        ensures fourth { option_map (tree_in (source_of self.entry)) result.fourth
+            ≡ member_of (chars d.now) (tree self.entry) }
+        ensures apart { result.apart ≡ true → begin_apart (members_of (tree self.entry)) ≡ true }
     {
-        let mut kept = ThreeNumbers {
-            first: None,
-            second: None,
-            third: None,
-        };
-        for (key, value) in self.members() {
-            Node::keep_three((key, value), a, b, c, &mut kept);
+        let members = self.walk();
+        let mut places = [0; SLOTS];
+        let apart = members.note_all(&mut places);
+        FourMembers {
+            first: members.find(&places, a),
+            second: members.find(&places, b),
+            third: members.find(&places, c),
+            fourth: members.find(&places, d),
+            apart,
         }
-        (kept.first, kept.second, kept.third)
     }
 }
 
-/// The numbers of the values that a walk has kept of three members.
+/// The numbers of the values of four members of an object, each if it is there.
 #[derive(Clone, Copy)]
-struct ThreeNumbers {
-    first: Option<u32>,
-    second: Option<u32>,
-    third: Option<u32>,
+pub struct FourMembers {
+    pub first: Option<u32>,
+    pub second: Option<u32>,
+    pub third: Option<u32>,
+    pub fourth: Option<u32>,
+    /// Whether the names of all members begin with characters of different slots. Then the names
+    /// are distinct.
+    pub apart: bool,
+}
+
+/// How many slots there are. The slot of a character is the remainder of its code.
+const SLOTS: usize = 32;
+
+impl<'a> Members<'a> {
+    ghost use Rattle.std.specs.Prelude.{◌%◌, option_map, replicate, [], true, IfSome};
+    ghost use Rattle.std.specs.Str.{chars};
+    ghost use Rattle.cj_spans.specs.Initials.{begin_apart};
+    ghost use Rattle.cj_spans.specs.Noted.{AreNoted, members_from, note, is_free};
+    ghost use Rattle.cj_spans.specs.Parts.{head, first_named};
+    ghost use Rattle.cj_spans.specs.View.{tree_in, members_left, members_source};
+
+    /// Returns the slot of the first character of a text. None if it has none that is ASCII.
+    #[tactic(auto, using(crate::proofs::Texts::plain_character))]
+    #[inline(always)]
+    fn slot_of(text: &str) -> Option<usize>
+        ensures within { IfSome result (λ s. s < 32) }
+        ensures slot { IfSome result (λ s. (c : ℕ) × (head (chars text.now) ≡ Some c) × (c % 32 ≡ s)) }
+    {
+        let bytes = text.as_bytes();
+        if bytes.is_empty() || bytes[0] >= 128 {
+            return None;
+        }
+        Some(bytes[0] as usize % SLOTS)
+    }
+
+    /// Notes the place of a member whose name begins with this character, if its slot has none.
+    /// Returns whether it had none.
+    #[inline(always)]
+    fn note_place(code: Option<u32>, place: u32, places: &mut [u32; SLOTS]) -> bool
+        ensures places { places.new ≡ note code place places.old }
+        ensures free { result ≡ is_free code places.old }
+    {
+        let Some(code) = code else {
+            return false;
+        };
+        let slot = (code % SLOTS as u32) as usize;
+        if places[slot] != 0 {
+            return false;
+        }
+        places[slot] = place;
+        true
+    }
+
+    /// Notes the place of the first member for each slot. Returns whether no slot has two members.
+    #[inline(always)]
+    fn note_all(self, places: &mut [u32; SLOTS]) -> bool
+        requires begun { 0 < self.next }
+        requires none { places.old ≡ replicate 32 0 }
+        ensures noted { AreNoted self.entry [] places.new }
+        ensures apart { result ≡ true → begin_apart (members_left self.entry) ≡ true }
+    {
+        let mut apart = true;
+        let mut next = self.next;
+        while next < self.stop {
+            let name = Node {
+                source: self.source,
+                index: next,
+            };
+            if !Members::note_place(name.first_code(), next as u32, places) {
+                apart = false;
+            }
+            next = self.source.after(next + 1);
+        }
+        apart
+    }
+
+    /// Returns the number of the value of the first member whose name has this text, from a
+    /// place on.
+    ///
+    /// Few names are looked for behind another of the same slot. So this function is never inlined.
+    #[cold]
+    #[inline(never)]
+    fn find_from(self, place: usize, text: &str) -> Option<u32>
+        requires whole { AreWhole self.source.tokens.now place self.stop }
+        requires named { ShowMembers self.source.line.now self.source.tokens.now place self.stop }
+        ensures { option_map (tree_in (members_source self.entry)) result
+            ≡ first_named (chars text.now) (members_from self.entry place) }
+    {
+        let left = Members {
+            source: self.source,
+            next: place,
+            stop: self.stop,
+        };
+        for (key, value) in left {
+            if key.text_is(text) {
+                return Some(value.number());
+            }
+        }
+        None
+    }
+
+    /// Returns the number of the value of the first member with this name. The places of all
+    /// members are noted. Most names are the first of their slot, and are spelled without escapes.
+    #[inline(always)]
+    fn find(self, places: &[u32; SLOTS], name: &str) -> Option<u32>
+        requires { AreNoted self [] places.now }
+        ensures { option_map (tree_in (members_source self.entry)) result
+            ≡ first_named (chars name.now) (members_left self.entry) }
+    {
+        let Some(slot) = Members::slot_of(name) else {
+            return self.find_from(self.next, name);
+        };
+        let place = places[slot] as usize;
+        if place == 0 {
+            return None;
+        }
+        let key = Node {
+            source: self.source,
+            index: place,
+        };
+        if !key.is_spelled(name) {
+            return self.find_from(place, name);
+        }
+        let value = Node {
+            source: self.source,
+            index: place + 1,
+        };
+        Some(value.number())
+    }
 }
 
 impl<'a> Iterator for Items<'a> {

@@ -6,7 +6,9 @@ mod decode;
 mod numbers;
 
 pub use compare::compare_strings;
-pub(crate) use compare::{compare_spelling_with, compare_spellings, spell_one_text, spells};
+pub(crate) use compare::{
+    compare_spelling_with, compare_spellings, is_spelled_so, spell_one_text, spells,
+};
 pub(crate) use decode::CodePoints;
 pub use numbers::tail_of_string;
 pub(crate) use numbers::{mix, tail, word};

@@ -1,7 +1,7 @@
 //! The order of texts, and whether two texts are the same. Both go by code points.
 ghost use Rattle.std.specs.Prelude.{◌≡◌, ◌+◌, ◌-◌, ◌<◌, ◌≤◌, length, nat_eq, true, false};
 ghost use Rattle.std.specs.Str.{chars};
-ghost use Rattle.cj_spans.specs.Decoding.{code_points_left, StartAlike};
+ghost use Rattle.cj_spans.specs.Decoding.{code_points_from, code_points_left, left, StartAlike};
 ghost use Rattle.cj_spans.specs.Order.{compare};
 ghost use Rattle.cj_spans.specs.Text.{text, are_same};
 
@@ -192,20 +192,14 @@ pub fn compare_strings(first: &str, second: &str) -> Ordering
     Characters::of(first).cmp(Characters::of(second))
 }
 
-/// Returns whether the spelling of a string, with its quotes, is exactly the plain bytes of this
-/// text, as for nearly every name. If the text is known at compile time, a byte of it costs one
-/// comparison.
-#[tactic(auto, using(crate::proofs::Texts::plain_character, crate::proofs::Texts::plain_code, crate::proofs::Texts::code_points_between, crate::proofs::Texts::text_ends))]
+/// Returns whether a string, without its last quote, has the plain bytes of a text. Both have as
+/// many bytes. If the text is known at compile time, a byte of it costs one comparison.
+#[tactic(auto, using(crate::proofs::Texts::plain_character, crate::proofs::Texts::plain_code, crate::proofs::Texts::text_ends))]
 #[inline(always)]
-fn is_spelled_so(spelling: &[u8], wanted: &str) -> bool
-    requires { 0 < length spelling.now }
-    ensures { result ≡ true → are_same (text spelling.now) (chars wanted.now) ≡ true }
+fn has_bytes_singly(body: &[u8], characters: &[u8]) -> bool
+    requires { length body.now ≡ length characters.now + 1 }
+    ensures { result ≡ true → are_same (code_points_from body.now 1) (left characters.now 0) ≡ true }
 {
-    let characters = wanted.as_bytes();
-    let body = &spelling[..spelling.len() - 1];
-    if body.is_empty() || body.len() - 1 != characters.len() {
-        return false;
-    }
     let mut count = 0;
     while count < characters.len() {
         if !is_alike(characters[count], body[count + 1]) {
@@ -214,6 +208,36 @@ fn is_spelled_so(spelling: &[u8], wanted: &str) -> bool
         count += 1;
     }
     true
+}
+
+/// Does the same. It compares 8 bytes at a time if there are 8 to 16, as in many names.
+#[inline(always)]
+fn has_bytes(body: &[u8], characters: &[u8]) -> bool
+    requires { length body.now ≡ length characters.now + 1 }
+    ensures { result ≡ true → are_same (code_points_from body.now 1) (left characters.now 0) ≡ true }
+{
+    let length = characters.len();
+    if length >= FEW_LANES && length <= LANES {
+        count_few_alike(characters, 0, body, 1, length) == length
+    } else {
+        has_bytes_singly(body, characters)
+    }
+}
+
+/// Returns whether the spelling of a string, with its quotes, is exactly the plain bytes of this
+/// text, as for nearly every name.
+#[tactic(auto, using(crate::proofs::Texts::code_points_between))]
+#[inline(always)]
+pub(crate) fn is_spelled_so(spelling: &[u8], wanted: &str) -> bool
+    requires { 0 < length spelling.now }
+    ensures { result ≡ true → are_same (text spelling.now) (chars wanted.now) ≡ true }
+{
+    let characters = wanted.as_bytes();
+    let body = &spelling[..spelling.len() - 1];
+    if body.is_empty() || body.len() - 1 != characters.len() {
+        return false;
+    }
+    has_bytes(body, characters)
 }
 
 /// Returns whether a string has this text. `spelling` includes its quotes. Most names that a search
@@ -232,7 +256,7 @@ pub(crate) fn spells(spelling: &[u8], wanted: &str) -> bool
 }
 
 /// Returns whether two strings, with their quotes, have one text. It compares their first bytes
-/// before anything else, if the second string is not empty.
+/// before anything else, if the second string is not empty. Short strings are mostly spelled alike.
 #[tactic(auto, using(crate::proofs::Texts::other_texts))]
 #[inline(always)]
 pub(crate) fn spell_one_text(spelling: &[u8], other: &[u8]) -> bool
@@ -242,6 +266,9 @@ pub(crate) fn spell_one_text(spelling: &[u8], other: &[u8]) -> bool
 {
     if spelling.len() > 1 && other.len() > 2 && tell_apart(spelling[1], other[1]) {
         return false;
+    }
+    if spelling.len() <= FEW_LANES && spelling == other {
+        return true;
     }
     compare_spellings(spelling, other).is_eq()
 }

@@ -158,6 +158,8 @@ enum Shown<'a> {
     Got(&'a [Got]),
     /// The values of names in the value of a name.
     GotWithin(&'a str, &'a [Got]),
+    /// Whether its names begin apart.
+    Apart(bool),
     /// The texts of its items. Two are the same if they are equal here.
     Texts(&'a [Option<&'a str>]),
     /// The ranks of its items in the order of their texts. Items of one rank are equal.
@@ -184,6 +186,7 @@ fn is_shown(rt: &impl Abort, root: Node, shown: Shown) {
         Shown::Members(want) => members_are(rt, root, want),
         Shown::Got(want) => are_got(rt, root, want),
         Shown::GotWithin(name, want) => are_got_within(rt, root, name, want),
+        Shown::Apart(want) => assert_eq!(rt; root.get_four("", "", "", "").apart, want),
         Shown::Texts(texts) => are_texts(rt, root.items(), texts),
         Shown::Ranks(ranks) => are_ranked(rt, root.items(), ranks),
         Shown::Beside(text, want) => are_ordered_beside(rt, root.items(), text, want),
@@ -275,16 +278,14 @@ fn got<'a>(node: Node<'a>, name: &str) -> Option<&'a [u8]> {
     bytes_of(node.get(name))
 }
 
-/// Checks that a walk for this name and two others finds its value, at each of the three places.
-fn is_got_of_three(rt: &impl Abort, object: Node, name: &str, other: &str, want: Option<&[u8]>) {
-    let (first, second, third) = object.get_three(name, other, name);
-    assert_eq!(rt; bytes_of(object.at_if(first)), want, "{name}");
-    assert_eq!(rt;
-        bytes_of(object.at_if(second)),
-        got(object, other),
-        "{other}"
-    );
-    assert_eq!(rt; bytes_of(object.at_if(third)), want, "{name}");
+/// Checks that a walk for this name and another finds their values, at each of the four places.
+fn are_got_of_four(rt: &impl Abort, object: Node, name: &str, other: &str, want: Option<&[u8]>) {
+    let members = object.get_four(name, other, name, other);
+    let behind = got(object, other);
+    assert_eq!(rt; bytes_of(object.at_if(members.first)), want, "{name}");
+    assert_eq!(rt; bytes_of(object.at_if(members.second)), behind, "{other}");
+    assert_eq!(rt; bytes_of(object.at_if(members.third)), want, "{name}");
+    assert_eq!(rt; bytes_of(object.at_if(members.fourth)), behind, "{other}");
 }
 
 /// Checks that an object has these values by name, alone and beside others.
@@ -292,7 +293,7 @@ fn are_got(rt: &impl Abort, object: Node, rows: &[Got]) {
     for (name, want) in rows {
         assert_eq!(rt; got(object, *name), *want, "{name}");
         for (other, _) in rows {
-            is_got_of_three(rt, object, *name, *other, *want);
+            are_got_of_four(rt, object, *name, *other, *want);
         }
     }
 }
@@ -324,6 +325,46 @@ fn members_are_found_by_their_text(rt: HostRuntime) {
         b"{\"a\":1,\"\\u0062\":2,\"b\":3,\"a\":4,\"\\uD83D\\uDE00\":5,\"\\ud83d\":6,\"\xE2\x82\xAC\":7,\"a\\nb\":8,\"\":9,\"aa\":[10]}";
     shows(&rt, rt.alloc(), line, Shown::Got(&BY_TEXT));
     shows(&rt, rt.alloc(), line, Shown::GotWithin("aa", &IN_AA));
+}
+
+const LONG_NAMES: [Got; 11] = [
+    ("geometry", Some(b"2")),
+    ("geometrz", Some(b"1")),
+    ("geometr", None),
+    ("geometryy", None),
+    ("boundaries", Some(b"4")),
+    ("boundariez", Some(b"3")),
+    ("sixteen letters.", Some(b"6")),
+    ("sixteen letters,", None),
+    ("seventeen letters", Some(b"7")),
+    ("g\u{E9}ometrie", Some(b"8")),
+    ("geometrie", None),
+];
+
+#[test]
+fn members_of_long_names_are_found(rt: HostRuntime) {
+    let line =
+        b"{\"geometrz\":1,\"geometry\":2,\"boundariez\":3,\"\\u0062oundaries\":4,\"boundaries\":5,\"sixteen letters.\":6,\"seventeen letters\":7,\"g\xC3\xA9ometrie\":8}";
+    shows(&rt, rt.alloc(), line, Shown::Got(&LONG_NAMES));
+}
+
+const APART: [(&[u8], bool); 9] = [
+    (b"{}", true),
+    (b"3", true),
+    (b"{\"a\":1,\"b\":{\"a\":2}}", true),
+    (b"{\"\\u0061\":1,\"\\u0062\":2}", true),
+    (b"{\"a\":1,\"b\":2,\"a\":3}", false),
+    (b"{\"ab\":1,\"ac\":2}", false),
+    (b"{\"ab\":1,\"\\u0061c\":2}", false),
+    (b"{\"A\":1,\"a\":2}", false),
+    (b"{\"\":1}", false),
+];
+
+#[test]
+fn names_that_begin_apart_are_seen(rt: HostRuntime) {
+    for (line, want) in &APART {
+        shows(&rt, rt.alloc(), *line, Shown::Apart(*want));
+    }
 }
 
 /// Returns whether an item has the text of another exactly if both are wanted to have one. What is

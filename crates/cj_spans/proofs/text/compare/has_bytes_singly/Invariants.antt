@@ -1,12 +1,11 @@
 use Rattle.std.proofs.Common.{◌≡◌, ◌+◌, ◌-◌, length}
-use Rattle.std.specs.Str.{chars}
-use Rattle.cj_spans.specs.Text.{are_same, text}
+use Rattle.cj_spans.specs.Text.{are_same}
 use Rattle.cj_spans.specs.Decoding.{left, code_points_from}
-use Rattle.cj_spans.proofs.text.compare.is_spelled_so.Given as goal
+use Rattle.cj_spans.proofs.text.compare.has_bytes_singly.Given as goal
 
 abbrev pub invariant-loop-count : goal.invariant-loop-count
 invariant-loop-count l = are_same (code_points_from l.body (l.count + 1)) (left l.characters l.count)
-    ≡ are_same (text l.fn.spelling) (chars l.fn.wanted)
+    ≡ are_same (code_points_from l.body 1) (left l.characters 0)
 
 abbrev pub decreases-loop-count : goal.decreases-loop-count
 decreases-loop-count l = length l.characters - l.count

@@ -1,0 +1,222 @@
+-- One walk that notes the place of the first member of each slot.
+use Rattle.std.proofs.Common.{◌≡◌, ◌≢◌, ◌∙◌, ◌<◌, ℕ, List, [], ◌∷◌, Bool, true, false, not, ◌⊎◌, Option, Some, None}
+use Rattle.std.proofs.Common.{cond, length, get_or, map, nat_eq, ap, refl, sym, subst, inl, inr, arith}
+use Rattle.std.specs.Prelude.{◌+◌, ◌%◌, drop, option_and_then, replicate, slice_set, zero, suc}
+use Rattle.std.specs.Cmp.Lexicographic.{same_text}
+use Rattle.std.proofs.lemmas.Bool.{cases_eq, false≢true}
+use Rattle.std.proofs.lemmas.Bool.Decides.{nat_tests}
+use Rattle.std.proofs.lemmas.List.{get_or-set_same, get_or-set_other, length-set, map-set, get_or-map}
+use Rattle.cj_spans.specs.declared.node.Members.{Members}
+use Rattle.cj_spans.specs.Initials.{are_apart, then_apart}
+use Rattle.cj_spans.specs.Noted.{AreNoted, IsPlace, members_from, noted_from, note, is_noted, is_free}
+use Rattle.cj_spans.specs.Parts.{are_same_texts, first_code_of, first_named, has_text, head, text_of}
+use Rattle.cj_spans.specs.Preorder.{spans_of}
+use Rattle.cj_spans.specs.Sound.{before}
+use Rattle.cj_spans.specs.Tree.{Tree}
+use Rattle.cj_spans.specs.View.{members_left, tree_at}
+use Rattle.cj_spans.proofs.Spellings.{some_same}
+use Rattle.cj_spans.proofs.Views.{below}
+use Rattle.cj_spans.proofs.Walks.{LinksTo, at_name, member_on}
+
+pub noted-yes : (p : ℕ) → 0 < p → is_noted p ≡ true
+noted-yes p h = let e : nat_eq p 0 ≡ false = grind (arith, nat_tests) in ap not e
+
+pub noted-no : (p : ℕ) → p ≡ 0 → is_noted p ≡ false
+noted-no p h = ap is_noted h
+
+-- ---- a text with another first character
+
+same_texts : (a b : Option (List ℕ)) → are_same_texts a b ≡ true → a ≡ b
+same_texts None b h = cc
+same_texts (Some s) None h = cc
+same_texts (Some s) (Some t) h = ap Some (same_text s t (sym h))
+
+first_of : (s : List ℕ) (t : Tree) → has_text s t ≡ true → first_code_of t ≡ head s
+first_of s t h = ap (λ o. option_and_then head o) (same_texts (text_of t) (Some s) h)
+
+other_first : (s : List ℕ) (t : Tree) → first_code_of t ≢ head s → has_text s t ≡ false
+other_first s t n = by_test (has_text s t) refl
+  where
+    by_test : (b : Bool) → has_text s t ≡ b → b ≡ false
+    by_test true e = absurd (n (first_of s t e))
+    by_test false e = refl
+
+-- such a member is passed over
+pub passed : (s : List ℕ) (m : Tree × Tree) (rest : List (Tree × Tree)) → first_code_of m.0 ≢ head s
+    → first_named s (m ∷ rest) ≡ first_named s rest
+passed s m rest n = ap (λ b. cond b (Some m.1) (first_named s rest)) (other_first s m.0 n)
+
+-- ---- one member more
+
+none-other : (s : List ℕ) (c : ℕ) (t : Tree) → head s ≡ Some c → first_code_of t ≡ None → first_code_of t ≢ head s
+none-other s c t e n h = let x : ◌≡◌ {A = Option ℕ} None (Some c) = sym n ∙ h ∙ e in absurd (none x)
+  where
+    none : ◌≡◌ {A = Option ℕ} None (Some c) → ⊥
+    none h = cc
+
+some-other : (s : List ℕ) (c d : ℕ) (t : Tree) → head s ≡ Some c → first_code_of t ≡ Some d → d % 32 ≢ c % 32
+    → first_code_of t ≢ head s
+some-other s c d t e f n h = let x : ◌≡◌ {A = Option ℕ} (Some d) (Some c) = sym f ∙ h ∙ e in
+    n (ap (λ k. k % 32) (some x))
+  where
+    some : ◌≡◌ {A = Option ℕ} (Some d) (Some c) → d ≡ c
+    some h = cc
+
+-- what is found from a place that was noted before, or among those that are left behind the member
+on_from : (w : Members) (m : Tree × Tree) (rest : List (Tree × Tree)) (s : List ℕ) (p : ℕ)
+    → (is_noted p ≡ false → first_named s (m ∷ rest) ≡ first_named s rest)
+    → first_named s (noted_from w rest p) ≡ first_named s (noted_from w (m ∷ rest) p)
+on_from w m rest s p h = by_test (is_noted p) h
+  where
+    by_test : (b : Bool) → (b ≡ false → first_named s (m ∷ rest) ≡ first_named s rest)
+        → first_named s (cond b (members_from w p) rest) ≡ first_named s (cond b (members_from w p) (m ∷ rest))
+    by_test true h = refl
+    by_test false h = sym (h refl)
+
+-- nothing is noted of the member
+noted_past : (w : Members) (m : Tree × Tree) (rest : List (Tree × Tree)) (ps : List ℕ) → AreNoted w (m ∷ rest) ps
+    → ((s : List ℕ) (c : ℕ) → head s ≡ Some c → is_noted (get_or ps (c % 32) 0) ≡ false → first_code_of m.0 ≢ head s)
+    → AreNoted w rest ps
+noted_past w m rest ps a n = record {
+  count = a.count;
+  places = a.places;
+  first = λ s c e. on_from w m rest s (get_or ps (c % 32) 0) (λ f. passed s m rest (n s c e f)) ∙ a.first s c e;
+}
+
+-- its place is noted
+noted_new : (w : Members) (m : Tree × Tree) (rest : List (Tree × Tree)) (ps : List ℕ) (d p : ℕ)
+    → AreNoted w (m ∷ rest) ps → first_code_of m.0 ≡ Some d → is_noted (get_or ps (d % 32) 0) ≡ false → 0 < p
+    → IsPlace w p → members_from w p ≡ m ∷ rest → AreNoted w rest (slice_set ps (d % 32) p)
+noted_new w m rest ps d p a code free some place from = record {
+  count = length-set ps (d % 32) p ∙ a.count;
+  places = λ i h. by_place i (cases_eq i (d % 32)) h;
+  first = λ s c e. by_slot s c e (cases_eq (c % 32) (d % 32));
+}
+  where
+    below : d % 32 < length ps
+    below = let e = a.count in omega arith
+
+    here : get_or (slice_set ps (d % 32) p) (d % 32) 0 ≡ p
+    here = get_or-set_same ps (d % 32) p 0 below
+
+    by_place : (i : ℕ) → (i ≡ d % 32) ⊎ (i ≢ d % 32) → 0 < get_or (slice_set ps (d % 32) p) i 0
+        → IsPlace w (get_or (slice_set ps (d % 32) p) i 0)
+    by_place i (inl e) h =
+        subst (IsPlace w) (sym (ap (λ k. get_or (slice_set ps (d % 32) p) k 0) e ∙ here)) place
+    by_place i (inr n) h = let e = get_or-set_other ps (d % 32) i p 0 n in
+        subst (IsPlace w) (sym e) (a.places i (subst (λ k. 0 < k) e h))
+
+    by_slot : (s : List ℕ) (c : ℕ) → head s ≡ Some c → (c % 32 ≡ d % 32) ⊎ (c % 32 ≢ d % 32)
+        → first_named s (noted_from w rest (get_or (slice_set ps (d % 32) p) (c % 32) 0))
+        ≡ first_named s (members_left w)
+    by_slot s c e (inl f) =
+        let now : get_or (slice_set ps (d % 32) p) (c % 32) 0 ≡ p =
+        ap (λ k. get_or (slice_set ps (d % 32) p) k 0) f ∙ here in
+        let before : is_noted (get_or ps (c % 32) 0) ≡ false =
+        ap (λ k. is_noted (get_or ps k 0)) f ∙ free in
+        ap (λ k. first_named s (noted_from w rest k)) now
+        ∙ ap (λ b. first_named s (cond b (members_from w p) rest)) (noted-yes p some)
+        ∙ ap (first_named s) from
+        ∙ sym (ap (λ b. first_named s (cond b (members_from w (get_or ps (c % 32) 0)) (m ∷ rest))) before)
+        ∙ a.first s c e
+    by_slot s c e (inr n) =
+        ap (λ k. first_named s (noted_from w rest k)) (get_or-set_other ps (d % 32) (c % 32) p 0 n)
+        ∙ on_from w m rest s (get_or ps (c % 32) 0)
+        (λ f. passed s m rest (some-other s c d m.0 e code (λ g. n (sym g))))
+        ∙ a.first s c e
+
+pub noted_on : (w : Members) (m : Tree × Tree) (rest : List (Tree × Tree)) (ps : List ℕ) (o : Option ℕ) (p : ℕ)
+    → AreNoted w (m ∷ rest) ps → first_code_of m.0 ≡ o → 0 < p → IsPlace w p → members_from w p ≡ m ∷ rest
+    → AreNoted w rest (note o p ps)
+noted_on w m rest ps None p a code some place from =
+    noted_past w m rest ps a (λ s c e f. none-other s c m.0 e code)
+noted_on w m rest ps (Some d) p a code some place from = by_test (is_noted (get_or ps (d % 32) 0)) refl
+  where
+    other : (c : ℕ) → is_noted (get_or ps (d % 32) 0) ≡ true → is_noted (get_or ps (c % 32) 0) ≡ false
+        → d % 32 ≢ c % 32
+    other c taken free h = false≢true (sym free ∙ ap (λ k. is_noted (get_or ps k 0)) (sym h) ∙ taken)
+
+    by_test : (b : Bool) → is_noted (get_or ps (d % 32) 0) ≡ b → AreNoted w rest (cond b ps (slice_set ps (d % 32) p))
+    by_test true e = noted_past w m rest ps a (λ s c f g. some-other s c d m.0 f code (other c e g))
+    by_test false e = noted_new w m rest ps d p a code e some place from
+
+-- ---- slots that no two members share
+
+pub apart_on : (m : Tree × Tree) (rest : List (Tree × Tree)) (ps : List ℕ) (o : Option ℕ) (p : ℕ) → length ps ≡ 32
+    → first_code_of m.0 ≡ o → 0 < p → is_free o ps ≡ true
+    → are_apart (map is_noted ps) (m ∷ rest) ≡ are_apart (map is_noted (note o p ps)) rest
+apart_on m rest ps None p count code some free = absurd (false≢true free)
+apart_on m rest ps (Some d) p count code some free = by_test (is_noted (get_or ps (d % 32) 0)) refl
+  where
+    taken : get_or (map is_noted ps) (d % 32) false ≡ is_noted (get_or ps (d % 32) 0)
+    taken = get_or-map is_noted ps (d % 32) 0 false (omega (arith, count))
+
+    by_test : (b : Bool) → is_noted (get_or ps (d % 32) 0) ≡ b
+        → are_apart (map is_noted ps) (m ∷ rest) ≡ are_apart (map is_noted (cond b ps (slice_set ps (d % 32) p))) rest
+    by_test true e = absurd (false≢true (sym (ap not e) ∙ free))
+    by_test false e =
+        ap (λ o. then_apart o (map is_noted ps) (λ more. are_apart more rest)) code
+        ∙ ap (λ b. cond b false (are_apart (slice_set (map is_noted ps) (d % 32) true) rest)) (taken ∙ e)
+        ∙ sym (ap (λ qs. are_apart qs rest) (map-set is_noted ps (d % 32) p
+        ∙ ap (slice_set (map is_noted ps) (d % 32)) (noted-yes p some)))
+
+-- ---- where a walk begins
+
+none-at : (n i : ℕ) → ◌≡◌ {A = ℕ} (get_or (replicate n 0) i 0) 0
+none-at zero i = refl
+none-at (suc n) zero = refl
+none-at (suc n) (suc i) = none-at n i
+
+pub noted_none : (w : Members) → AreNoted w (members_left w) (replicate 32 0)
+noted_none w = record {
+  count = refl;
+  places = λ i h. absurd (omega (arith, none-at 32 i));
+  first = λ s c e. ap (λ p. first_named s (noted_from w (members_left w) p)) (none-at 32 (c % 32));
+}
+
+-- ---- what is found
+
+-- the member at a place
+member_at : (w : Members) (p : ℕ) → IsPlace w p
+    → (r : ℕ) × (members_from w p ≡ (
+      tree_at w.source.line.now (spans_of w.source.tokens.now) p,
+      tree_at w.source.line.now (spans_of w.source.tokens.now) (p + 1),
+    ) ∷ members_from w r)
+member_at w p h =
+    let s = w.source in
+    let line = s.line.now in
+    let tokens = s.tokens.now in
+    let whole = h.whole.0 in
+    let a = at_name line tokens p w.stop s.nested s.linked s.lone h.whole h.named h.within in
+    let value = a.value in
+    let t = below line tokens (p + 1) (omega arith) in
+    let r = p + 1 + 1 + before t.0.stop (drop (p + 1 + 1) tokens) in
+    let links : LinksTo tokens (p + 1) r =
+    λ u e. ap (λ v. p + 1 + 1 + before v.stop (drop (p + 1 + 1) tokens)) (some_same t.0 u (sym t.1 ∙ e)) in
+    (r, (member_on line tokens p w.stop r s.nested s.linked s.lone h.whole h.named h.within links).shown)
+
+pub found_here : (w : Members) (p : ℕ) (s : List ℕ) → IsPlace w p
+    → has_text s (tree_at w.source.line.now (spans_of w.source.tokens.now) p) ≡ true
+    → first_named s (members_from w p) ≡ Some (tree_at w.source.line.now (spans_of w.source.tokens.now) (p + 1))
+found_here w p s h is =
+    let m = member_at w p h in
+    let value = tree_at w.source.line.now (spans_of w.source.tokens.now) (p + 1) in
+    ap (first_named s) m.1 ∙ ap (λ b. cond b (Some value) (first_named s (members_from w m.0))) is
+
+-- a text whose first character has this slot
+abbrev pub HasSlot : List ℕ → ℕ → Type 0
+HasSlot s slot = (c : ℕ) × (head s ≡ Some c) × (c % 32 ≡ slot)
+
+-- it is found from the place of the slot on
+pub found_from : (w : Members) (ps : List ℕ) (s : List ℕ) (slot : ℕ) → AreNoted w [] ps → HasSlot s slot
+    → 0 < get_or ps slot 0 → first_named s (members_from w (get_or ps slot 0)) ≡ first_named s (members_left w)
+found_from w ps s slot a h some =
+    ap (λ b. first_named s (cond b (members_from w (get_or ps slot 0)) [])) (sym (noted-yes (get_or ps slot 0) some))
+    ∙ ap (λ k. first_named s (noted_from w [] (get_or ps k 0))) (sym h.2) ∙ a.first s h.0 h.1
+
+-- and if none is noted, there is none
+pub found_none : (w : Members) (ps : List ℕ) (s : List ℕ) (slot : ℕ) → AreNoted w [] ps → HasSlot s slot
+    → get_or ps slot 0 ≡ 0 → None ≡ first_named s (members_left w)
+found_none w ps s slot a h none =
+    ap (λ p. first_named s (noted_from w [] p)) (sym none)
+    ∙ ap (λ k. first_named s (noted_from w [] (get_or ps k 0))) (sym h.2) ∙ a.first s h.0 h.1

@@ -1,0 +1,88 @@
+use Rattle.std.proofs.Common.{◌≡◌, ◌+◌, ◌∙◌, ◌<◌, Bool, true, false, map, ap, sym, subst, arith}
+use Rattle.std.proofs.lemmas.Bool.{false≢true}
+use Rattle.cj_spans.specs.Initials.{are_apart}
+use Rattle.cj_spans.specs.Noted.{AreNoted, IsPlace, is_noted, members_from}
+use Rattle.cj_spans.specs.Preorder.{spans_of}
+use Rattle.cj_spans.specs.Tree.{Tree}
+use Rattle.cj_spans.specs.View.{tree, tree_at, members_left, pairs_of}
+use Rattle.cj_spans.proofs.Noted.{noted_on, apart_on, noted_none}
+use Rattle.cj_spans.proofs.Walks.{at_name, member_on, shown_none, whole_later, number_linked}
+use Rattle.cj_spans.proofs.node.Members.note_all.Goals as goal
+use Rattle.cj_spans.proofs.node.Members.note_all.Goals.{then-not-note_place, else-not-note_place}
+
+pub loop-next-init : goal.loop-next-init
+unfolding members_left
+loop-next-init c =
+    let w = c.args.self in
+    let none = sym c.requires.none in
+    record {
+      begun = c.requires.begun;
+      whole = w.whole;
+      named = w.named;
+      noted = subst (AreNoted w (members_left w)) none (noted_none w);
+      apart = λ h. ap (λ ps. are_apart (map is_noted ps) (members_left w)) none;
+    }
+
+pub overflow_cast-next : goal.overflow_cast-next
+overflow_cast-next c =
+    let s = c.args.self.source in
+    let i = c.loop-next.invariant in
+    let whole = i.whole.0 in
+    let l = number_linked s.tokens.now c.loop-next.next s.linked (omega arith) in omega arith
+
+pub after-next-requires : goal.after-next-requires
+after-next-requires c =
+    let s = c.args.self.source in
+    let i = c.loop-next.invariant in
+    let whole = i.whole.0 in
+    let a = at_name s.line.now s.tokens.now c.loop-next.next c.args.self.stop s.nested s.linked s.lone i.whole i.named
+    c.loop-next-test.true in
+    let v = a.value in
+    omega arith
+
+pub loop-next-preserved : goal.loop-next-preserved
+unfolding tree
+loop-next-preserved c =
+    let w = c.args.self in
+    let s = w.source in
+    let i = c.loop-next.invariant in
+    let next = c.loop-next.next in
+    let r = c.after-next.result in
+    let order = c.after-next.ensures.order in
+    let m = member_on s.line.now s.tokens.now next w.stop r s.nested s.linked s.lone i.whole i.named
+    c.loop-next-test.true c.after-next.ensures.link in
+    let shown = tree_at s.line.now (spans_of s.tokens.now) in
+    let member : Tree × Tree = (shown next, shown (next + 1)) in
+    let ps = c.loop-next.places in
+    let noted = subst (λ all. AreNoted w all ps) m.shown i.noted in
+    let place : IsPlace w next = record { within = c.loop-next-test.true; whole = i.whole; named = i.named } in
+    let code = sym c.first_code.ensures in
+    record {
+      begun = omega arith;
+      whole = whole_later s.tokens.now next r w.stop (omega arith) i.whole;
+      named = m.named;
+      noted = subst (AreNoted w (members_from w r)) (sym c.note_place.ensures.places)
+          (noted_on w member (members_from w r) ps c.first_code.result next noted code i.begun place m.shown);
+      apart = λ h. elim c.if-not-note_place.branch [
+        | then-not-note_place t ↦ absurd (false≢true (sym t.apart-is ∙ h))
+        | else-not-note_place t ↦
+            i.apart (sym t.apart-is ∙ h) ∙ ap (are_apart (map is_noted ps)) m.shown
+            ∙ apart_on member (members_from w r) ps c.first_code.result next noted.count code i.begun
+            (sym c.note_place.ensures.free ∙ t.if-not-note_place.false)
+            ∙ ap (λ qs. are_apart (map is_noted qs) (members_from w r)) (sym c.note_place.ensures.places)
+      ];
+    }
+
+pub returns-clause-noted : goal.returns-clause-noted
+returns-clause-noted c =
+    let w = c.args.self in
+    let s = w.source in
+    subst (λ all. AreNoted w all c.loop-next.places)
+    (ap pairs_of (shown_none s.line.now s.tokens.now c.loop-next.next w.stop (omega arith))) c.loop-next.invariant.noted
+
+pub returns-clause-apart : goal.returns-clause-apart
+returns-clause-apart c = λ h.
+    let w = c.args.self in
+    let s = w.source in
+    c.loop-next.invariant.apart h ∙ ap (are_apart (map is_noted c.loop-next.places))
+    (ap pairs_of (shown_none s.line.now s.tokens.now c.loop-next.next w.stop (omega arith)))
