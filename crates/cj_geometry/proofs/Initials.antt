@@ -1,39 +1,31 @@
 -- Names whose first characters have different slots are distinct.
-use Rattle.std.proofs.Common.{◌≡◌, ◌≢◌, ◌∙◌, ◌<◌, ◌≤◌, ℕ, List, [], ◌∷◌, ◌++◌, Bool, true, false, Option, Some, None, sym, ap}
+use Rattle.std.proofs.Common.{◌≡◌, ◌≢◌, ◌∙◌, ◌<◌, ◌≤◌, ℕ, List, [], ◌∷◌, ◌++◌, Bool, true, false}
+use Rattle.std.proofs.Common.{Option, Some, None, sym, ap}
 use Rattle.std.proofs.Common.{inl, inr, length, get_or, cond, arith, refl, subst}
-use Rattle.std.specs.Prelude.{◌%◌, option_and_then, slice_set}
+use Rattle.std.specs.Prelude.{◌%◌, option_and_then, replicate, slice_set}
 use Rattle.std.proofs.lemmas.Bool.{cases_eq, false≢true}
 use Rattle.std.proofs.lemmas.List.{get_or-set_same, get_or-set_other, length-set}
+use Rattle.cj_spans.specs.Initials.{are_apart, begin_apart, then_apart}
 use Rattle.cj_spans.specs.declared.reason.Reason.TheVariants.{DuplicateName}
-use Rattle.cj_spans.specs.Parts.{are_same_texts, first_code_of, head, text_of}
+use Rattle.cj_spans.specs.Parts.{are_same_texts, first_code_of, head, members_of, text_of}
 use Rattle.cj_spans.specs.Tree.{Tree}
-use Rattle.cj_geometry.specs.Rule.{one, repeats_of, repeats}
+use Rattle.cj_geometry.specs.Rule.{distinct, one, repeats_of, repeats}
 use Rattle.cj_geometry.proofs.Repeats.{same_texts}
-
--- the slot of a first character was free, and so were those of the rest once it is taken
-abbrev then_apart : Option ℕ → List Bool → (List Bool → Bool) → Bool
-then_apart None taken rest = false
-then_apart (Some c) taken rest = cond (get_or taken (c % 64) false) false (rest (slice_set taken (c % 64) true))
-
--- the first characters of these names have different slots, and all were free
-abbrev pub are_apart : List Bool → List (Tree × Tree) → Bool
-are_apart taken [] = true
-are_apart taken (m ∷ ms) = then_apart (first_code_of m.0) taken (λ more. are_apart more ms)
 
 -- one name more
 pub apart-on : (taken : List Bool) (all rest : List (Tree × Tree)) (m : Tree × Tree) (c : ℕ) → all ≡ m ∷ rest
-    → first_code_of m.0 ≡ Some c → get_or taken (c % 64) false ≡ false
-    → are_apart taken all ≡ are_apart (slice_set taken (c % 64) true) rest
+    → first_code_of m.0 ≡ Some c → get_or taken (c % 32) false ≡ false
+    → are_apart taken all ≡ are_apart (slice_set taken (c % 32) true) rest
 apart-on taken all rest m c e code free =
     ap (are_apart taken) e ∙ ap (λ o. then_apart o taken (λ more. are_apart more rest)) code
-    ∙ ap (λ b. cond b false (are_apart (slice_set taken (c % 64) true) rest)) free
+    ∙ ap (λ b. cond b false (are_apart (slice_set taken (c % 32) true) rest)) free
 
 -- ---- what it says
 
 -- the slot of each name is free
 abbrev AreFree : List Bool → List (Tree × Tree) → Type 0
 AreFree taken [] = Unit {0}
-AreFree taken (m ∷ ms) = ((c : ℕ) × (first_code_of m.0 ≡ Some c) × (get_or taken (c % 64) false ≡ false))
+AreFree taken (m ∷ ms) = ((c : ℕ) × (first_code_of m.0 ≡ Some c) × (get_or taken (c % 32) false ≡ false))
     × AreFree taken ms
 
 -- what is free after a slot is taken is another one, and was free before
@@ -56,36 +48,36 @@ all_still_free : (taken : List Bool) (s : ℕ) → s < length taken → (ms : Li
     → AreFree (slice_set taken s true) ms → AreFree taken ms
 all_still_free taken s below [] free = tt
 all_still_free taken s below (m ∷ ms) free = (
-  (free.0.0, free.0.1, (still_free taken s (free.0.0 % 64) below free.0.2).1),
+  (free.0.0, free.0.1, (still_free taken s (free.0.0 % 32) below free.0.2).1),
   all_still_free taken s below ms free.1,
 )
 
 -- what are apart are free
-all_free : (taken : List Bool) (ms : List (Tree × Tree)) → 64 ≤ length taken → are_apart taken ms ≡ true
+all_free : (taken : List Bool) (ms : List (Tree × Tree)) → 32 ≤ length taken → are_apart taken ms ≡ true
     → AreFree taken ms
 all_free taken [] room h = tt
 all_free taken (m ∷ ms) room h =
     by_code (first_code_of m.0) h refl (λ more wide after. all_free more ms wide after)
   where
-    by_slot : (c : ℕ) (b : Bool) → get_or taken (c % 64) false ≡ b
-        → cond b false (are_apart (slice_set taken (c % 64) true) ms) ≡ true → first_code_of m.0 ≡ Some c
-        → ((more : List Bool) → 64 ≤ length more → are_apart more ms ≡ true → AreFree more ms) → AreFree taken (m ∷ ms)
+    by_slot : (c : ℕ) (b : Bool) → get_or taken (c % 32) false ≡ b
+        → cond b false (are_apart (slice_set taken (c % 32) true) ms) ≡ true → first_code_of m.0 ≡ Some c
+        → ((more : List Bool) → 32 ≤ length more → are_apart more ms ≡ true → AreFree more ms) → AreFree taken (m ∷ ms)
     by_slot c true e h is rest = absurd (false≢true h)
     by_slot c false e h is rest =
-        let wide : 64 ≤ length (slice_set taken (c % 64) true) =
-        omega (arith, length-set taken (c % 64) true, room) in (
+        let wide : 32 ≤ length (slice_set taken (c % 32) true) =
+        omega (arith, length-set taken (c % 32) true, room) in (
           (c, is, e),
-          all_still_free taken (c % 64) (omega (arith, room)) ms
-              (rest (slice_set taken (c % 64) true) wide h),
+          all_still_free taken (c % 32) (omega (arith, room)) ms
+              (rest (slice_set taken (c % 32) true) wide h),
         )
 
     by_code : (o : Option ℕ) → then_apart o taken (λ more. are_apart more ms) ≡ true → first_code_of m.0 ≡ o
-        → ((more : List Bool) → 64 ≤ length more → are_apart more ms ≡ true → AreFree more ms) → AreFree taken (m ∷ ms)
+        → ((more : List Bool) → 32 ≤ length more → are_apart more ms ≡ true → AreFree more ms) → AreFree taken (m ∷ ms)
     by_code None h is rest = absurd (false≢true h)
-    by_code (Some c) h is rest = by_slot c (get_or taken (c % 64) false) refl h is rest
+    by_code (Some c) h is rest = by_slot c (get_or taken (c % 32) false) refl h is rest
 
 -- texts of different first characters differ
-others : (t u : Tree) (c d : ℕ) → first_code_of t ≡ Some c → first_code_of u ≡ Some d → d % 64 ≢ c % 64
+others : (t u : Tree) (c d : ℕ) → first_code_of t ≡ Some c → first_code_of u ≡ Some d → d % 32 ≢ c % 32
     → are_same_texts (text_of u) (text_of t) ≡ false
 others t u c d is other apart = by_test (are_same_texts (text_of u) (text_of t)) refl
   where
@@ -97,37 +89,41 @@ others t u c d is other apart = by_test (are_same_texts (text_of u) (text_of t))
         let same : first_code_of u ≡ first_code_of t =
         ap (λ o. option_and_then head o) (same_texts (text_of u) (text_of t) e) in
         let codes : Some d ≡ Some c = sym other ∙ same ∙ is in
-        absurd (apart (ap (λ k. k % 64) (some-is codes)))
+        absurd (apart (ap (λ k. k % 32) (some-is codes)))
     by_test false e = refl
 
 -- none of the names repeats one whose slot was taken before
-none_repeats : (t : Tree) (c : ℕ) → first_code_of t ≡ Some c → (taken : List Bool) → c % 64 < length taken
-    → (ms : List (Tree × Tree)) → AreFree (slice_set taken (c % 64) true) ms → repeats_of t ms ≡ []
+none_repeats : (t : Tree) (c : ℕ) → first_code_of t ≡ Some c → (taken : List Bool) → c % 32 < length taken
+    → (ms : List (Tree × Tree)) → AreFree (slice_set taken (c % 32) true) ms → repeats_of t ms ≡ []
 none_repeats t c is taken below [] free = refl
 none_repeats t c is taken below (m ∷ ms) free =
-    let apart = (still_free taken (c % 64) (free.0.0 % 64) below free.0.2).0 in
+    let apart = (still_free taken (c % 32) (free.0.0 % 32) below free.0.2).0 in
     ap (λ b. cond b (one DuplicateName m.0) [] ++ repeats_of t ms) (others t m.0 c free.0.0 is free.0.1 apart)
     ∙ none_repeats t c is taken below ms free.1
 
 -- names that are apart are distinct
-pub distinct_apart : (taken : List Bool) (ms : List (Tree × Tree)) → 64 ≤ length taken → are_apart taken ms ≡ true
+pub distinct_apart : (taken : List Bool) (ms : List (Tree × Tree)) → 32 ≤ length taken → are_apart taken ms ≡ true
     → repeats ms ≡ []
 distinct_apart taken [] room h = refl
 distinct_apart taken (m ∷ ms) room h =
     by_code (first_code_of m.0) h refl (λ more wide after. distinct_apart more ms wide after)
   where
-    by_slot : (c : ℕ) (b : Bool) → get_or taken (c % 64) false ≡ b
-        → cond b false (are_apart (slice_set taken (c % 64) true) ms) ≡ true → first_code_of m.0 ≡ Some c
-        → ((more : List Bool) → 64 ≤ length more → are_apart more ms ≡ true → repeats ms ≡ []) → repeats (m ∷ ms) ≡ []
+    by_slot : (c : ℕ) (b : Bool) → get_or taken (c % 32) false ≡ b
+        → cond b false (are_apart (slice_set taken (c % 32) true) ms) ≡ true → first_code_of m.0 ≡ Some c
+        → ((more : List Bool) → 32 ≤ length more → are_apart more ms ≡ true → repeats ms ≡ []) → repeats (m ∷ ms) ≡ []
     by_slot c true e h is rest = absurd (false≢true h)
     by_slot c false e h is rest =
-        let more = slice_set taken (c % 64) true in
-        let wide : 64 ≤ length more = omega (arith, length-set taken (c % 64) true, room) in
+        let more = slice_set taken (c % 32) true in
+        let wide : 32 ≤ length more = omega (arith, length-set taken (c % 32) true, room) in
         let first : repeats_of m.0 ms ≡ [] =
         none_repeats m.0 c is taken (omega (arith, room)) ms (all_free more ms wide h) in
         ap (λ fs. fs ++ repeats ms) first ∙ rest more wide h
 
     by_code : (o : Option ℕ) → then_apart o taken (λ more. are_apart more ms) ≡ true → first_code_of m.0 ≡ o
-        → ((more : List Bool) → 64 ≤ length more → are_apart more ms ≡ true → repeats ms ≡ []) → repeats (m ∷ ms) ≡ []
+        → ((more : List Bool) → 32 ≤ length more → are_apart more ms ≡ true → repeats ms ≡ []) → repeats (m ∷ ms) ≡ []
     by_code None h is rest = absurd (false≢true h)
-    by_code (Some c) h is rest = by_slot c (get_or taken (c % 64) false) refl h is rest
+    by_code (Some c) h is rest = by_slot c (get_or taken (c % 32) false) refl h is rest
+
+-- names that begin apart are distinct
+pub begin_distinct : (t : Tree) → begin_apart (members_of t) ≡ true → distinct t ≡ []
+begin_distinct t h = distinct_apart (replicate 32 false) (members_of t) (omega arith) h

@@ -1,5 +1,6 @@
 pub mod Form
 pub mod Geometry
+pub mod GeometryParts
 pub mod Given
 pub mod Grammar
 pub mod ListSteps

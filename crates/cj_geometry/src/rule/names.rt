@@ -14,6 +14,7 @@
 ghost use Rattle.std.specs.Prelude.{◌≡◌, ◌<◌, ◌≤◌, ◌^◌, [], length, take, true, Some, IsSome, IfSome, All};
 ghost use Rattle.std.specs.List.Sorted.{IsPermutation};
 ghost use Rattle.cj_spans.specs.Finding.{least};
+ghost use Rattle.cj_spans.specs.Initials.{begin_apart};
 ghost use Rattle.cj_spans.specs.Parts.{members_of, AreInOrder};
 ghost use Rattle.cj_spans.specs.View.{tree, source_of, members_left};
 ghost use Rattle.cj_geometry.specs.Rule.{repeats_of, distinct};
@@ -35,7 +36,7 @@ const FEW_SIZE: u32 = 97;
 const LEAST_SIZE: u32 = 7;
 
 /// How many numbers the first characters of names are told apart by.
-const SLOTS: usize = 64;
+const SLOTS: usize = 32;
 
 /// At most this number of names are sorted in the small array.
 const SOME: usize = 1_000;
@@ -334,18 +335,60 @@ fn has_more(object: Node, count: usize) -> bool {
     left.next().is_some()
 }
 
-/// The names of an object are distinct. Each that has the text of an earlier one has a finding.
-#[inline(always)]
-pub fn check_names(object: Node, found: &mut Least)
+/// The names of an object with more than `FEW` names are distinct.
+#[cold]
+#[inline(never)]
+fn check_many(object: Node, found: &mut Least)
     ensures { found.new ≡ least found.old (distinct (tree object.entry)) }
 {
-    if object.size() <= FEW_SIZE || !has_more(object, FEW) {
-        check_few(object, found);
-    } else if !has_more(object, SOME) {
+    if !has_more(object, SOME) {
         check_by::<SMALL_ROOM, 1>(object, found);
     } else if object.bytes().len() <= SHORT {
         check_by::<MIDDLE_ROOM, MIDDLE_KEPT>(object, found);
     } else {
         check_by::<LARGE_ROOM, LARGE_KEPT>(object, found);
+    }
+}
+
+/// Returns whether an object has at most `FEW` names.
+#[inline(always)]
+fn has_few(object: Node) -> bool {
+    object.size() <= FEW_SIZE || !has_more(object, FEW)
+}
+
+/// The names of an object are distinct. Each that has the text of an earlier one has a finding.
+#[inline(always)]
+pub fn check_names(object: Node, found: &mut Least)
+    ensures { found.new ≡ least found.old (distinct (tree object.entry)) }
+{
+    if has_few(object) {
+        check_few(object, found);
+    } else {
+        check_many(object, found);
+    }
+}
+
+/// The names of an object, of which some may begin alike, are distinct.
+#[inline(never)]
+fn check_alike(object: Node, found: &mut Least)
+    ensures { found.new ≡ least found.old (distinct (tree object.entry)) }
+{
+    if has_few(object) {
+        check_pairs(object, found);
+    } else {
+        check_many(object, found);
+    }
+}
+
+/// The names of an object are distinct. They are if a walk of the caller has seen them begin apart
+/// ([`Node::get_four`]).
+#[tactic(auto, using(crate::proofs::Initials::begin_distinct))]
+#[inline(always)]
+pub fn check_names_unless(apart: bool, object: Node, found: &mut Least)
+    requires { apart ≡ true → begin_apart (members_of (tree object)) ≡ true }
+    ensures { found.new ≡ least found.old (distinct (tree object.entry)) }
+{
+    if !apart {
+        check_alike(object, found);
     }
 }

@@ -47,6 +47,7 @@ const BESIDE_ONE_VERTEX: [Table; 6] = [
         a name that begins 64 code points later | "´":1 | none
         that name again | "´":1,^"´":1 | 11 duplicate name
         names that begin like each other | "ab":1,"ac":2,^"ab":3 | 11 duplicate name
+        a name that begins 32 code points earlier | "Type":1,^"\u0054ype":2 | 11 duplicate name
         "#,
     },
     Table {
@@ -58,6 +59,8 @@ const BESIDE_ONE_VERTEX: [Table; 6] = [
         the first boundaries | {"type":"MultiPoint","lod":"1","boundaries":[^1],"boundaries":[0]} | 25 vertex index out of range
         the first type | {"type":"Solid","lod":"1","boundaries":[^0],"type":"MultiPoint"} | 12 wrong kind
         the first type by an escape | {"typ\u0065":"Solid","lod":"1","boundaries":[^0],"type":"MultiPoint"} | 12 wrong kind
+        a level of detail behind a name that begins like it | {"land":1,"type":"MultiPoint","lod":^1,"boundaries":[0]} | 12 wrong kind
+        the first of two behind such a name | {"Lod":"1","type":"MultiPoint","\u006Cod":^1,"boundaries":[0],"lod":"1"} | 12 wrong kind
         "#,
     },
     Table {

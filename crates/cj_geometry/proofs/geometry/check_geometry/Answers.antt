@@ -14,5 +14,5 @@ returns-then-check_object c =
     let typed = typed_rules c.args.vertices (given c.args.templates) in
     of_kind-then is_object (λ g. distinct g ++ typed g) n _ _ _ (sym c.if-check_object.ensures.is)
     c.check_object.ensures.found
-    (least-two c.check_object.new.found c.check_names.new.found c.check_typed.new.found (distinct n)
-    (typed n) c.check_names.ensures c.check_typed.ensures)
+    (least-two c.check_object.new.found c.check_names_unless.new.found c.check_typed.new.found (distinct n)
+    (typed n) c.check_names_unless.ensures c.check_typed.ensures)

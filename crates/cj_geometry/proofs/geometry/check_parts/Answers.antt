@@ -9,10 +9,11 @@ use Rattle.cj_geometry.proofs.geometry.check_parts.Goals as goal
 
 pub returns : goal.returns
 returns c =
-    let n = tree c.args.object in
-    let members = c.get_three-lod.ensures in
+    let n = tree c.args.geometry.object in
+    let parts = c.requires in
     least-three c.args.found.now c.check_text_there.new.found c.check_boundaries.new.found
     c.check_semantics_if.new.found (needs (chars (codes "lod")) (of_kind is_text nothing) n)
     (needs (chars (codes "boundaries")) (shape c.args.vertices c.args.depth) n) (semantics_if c.args.values n)
-    (c.check_text_there.ensures (chars (codes "lod")) (c.at_if.ensures.tree ∙ members.first)) c.check_boundaries.ensures
-    (c.check_semantics_if.ensures n (c.at_if-3.ensures.tree ∙ members.third) (c.at_if-4.ensures.tree ∙ members.second))
+    (c.check_text_there.ensures (chars (codes "lod")) (c.at_if.ensures.tree ∙ parts.lod)) c.check_boundaries.ensures
+    (c.check_semantics_if.ensures n (c.at_if-3.ensures.tree ∙ parts.semantics)
+    (c.at_if-4.ensures.tree ∙ parts.boundaries))

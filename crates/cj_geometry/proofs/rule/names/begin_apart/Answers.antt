@@ -3,13 +3,14 @@ use Rattle.std.proofs.lemmas.List.{length-set}
 use Rattle.std.specs.Prelude.{◌%◌, replicate}
 use Rattle.cj_spans.specs.Parts.{members_of}
 use Rattle.cj_spans.specs.View.{tree, trees, members_left}
-use Rattle.cj_geometry.proofs.Initials.{apart-on, are_apart, distinct_apart}
+use Rattle.cj_spans.specs.Initials.{are_apart}
+use Rattle.cj_geometry.proofs.Initials.{apart-on, distinct_apart}
 use Rattle.cj_geometry.proofs.rule.names.begin_apart.Goals as goal
 
 pub loop-name-init : goal.loop-name-init
 loop-name-init c =
     let walk = c.into_iter-name-iterator.ensures.into_iter_gives in
-    (ap (are_apart (replicate 64 false)) (sym (ap members_left walk ∙ c.members-name-items.ensures.members)), refl)
+    (ap (are_apart (replicate 32 false)) (sym (ap members_left walk ∙ c.members-name-items.ensures.members)), refl)
 
 pub loop-name-preserved : goal.loop-name-preserved
 loop-name-preserved c =
@@ -18,10 +19,10 @@ loop-name-preserved c =
           ∙ apart-on c.loop-name.taken (members_left c.loop-name.name-iterator) (members_left c.next.new.self)
           (trees (c.in-Some.name, c.in-Some.field-0-1)) code c.in-Some.ensures.steps.0
           (sym c.first_code.ensures ∙ c.in-Some-first_code.is) c.if-taken-slot.false,
-      length-set c.loop-name.taken (code % 64) true ∙ c.loop-name.invariant.1,
+      length-set c.loop-name.taken (code % 32) true ∙ c.loop-name.invariant.1,
     )
 
 pub returns : goal.returns
 returns c = λ h.
-    distinct_apart (replicate 64 false) (members_of (tree c.args.object)) (omega arith)
+    distinct_apart (replicate 32 false) (members_of (tree c.args.object)) (omega arith)
     (c.loop-name.invariant.0 ∙ ap (are_apart c.loop-name.taken) c.in-None.ensures.steps.0.0)
