@@ -1,8 +1,14 @@
 -- City objects that list nobody have no links.
-use Rattle.std.proofs.Common.{◌≡◌, List, [], ◌∷◌, ◌++◌, Bool, true, false, ◌||◌, refl, ap, ◌∙◌}
+use Rattle.std.proofs.Common.{◌≡◌, ℕ, List, [], ◌∷◌, ◌++◌, Bool, true, false, ◌||◌, cond, Option, None, Some}
+use Rattle.std.proofs.Common.{refl, ap, sym, ◌∙◌}
+use Rattle.std.specs.Prelude.{codes, is_some, option_map}
 use Rattle.std.specs.List.{flat_map}
+use Rattle.std.specs.Str.{chars}
 use Rattle.cj_spans.specs.declared.finding.Finding.{Finding}
+use Rattle.cj_spans.specs.Parts.{member_of}
 use Rattle.cj_spans.specs.Tree.{Tree}
+use Rattle.cj_feature.specs.Links.{child, is_group, is_part, object_links, parent, part_of}
+use Rattle.cj_feature.specs.Members.{items_if}
 
 -- and the next of some members has none
 pub next_unlinked : (f : Tree × Tree → List Finding) (all rest : List (Tree × Tree)) (m : Tree × Tree)
@@ -12,3 +18,23 @@ next_unlinked f all rest m total h e n = h ∙ ap (flat_map f) e ∙ ap (λ fs. 
 pub neither : (a b : Bool) → (a || b) ≡ false → (a ≡ false) × (b ≡ false)
 neither true b h = absurd (cc h)
 neither false b h = (refl, h)
+
+-- a member that has no number is not there
+pub not_there : (f : ℕ → Tree) (o : Option ℕ) (t : Option Tree) → is_some o ≡ false → option_map f o ≡ t → t ≡ None
+not_there f None t h e = sym e
+not_there f (Some n) t h e = absurd (cc h)
+
+none_at_all : (a b : Bool) → ◌≡◌ {A = List Finding} (cond a [] [] ++ [] ++ cond b [] []) []
+none_at_all true true = refl
+none_at_all true false = refl
+none_at_all false true = refl
+none_at_all false false = refl
+
+-- a city object without children and parents has no links
+pub unlisted : (o : Tree) → member_of (chars (codes "children")) o ≡ None
+    → member_of (chars (codes "parents")) o ≡ None → (all : List (Tree × Tree)) (name : Tree)
+    → object_links all (name, o) ≡ []
+unlisted o no_children no_parents all name =
+    (λ i. cond (is_group o) [] (flat_map (child all name) (items_if (no_children i)))
+    ++ flat_map (parent all name) (items_if (no_parents i)) ++ cond (is_part o) (part_of all o (no_parents i)) [])
+    ∙ none_at_all (is_group o) (is_part o)

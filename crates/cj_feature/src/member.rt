@@ -1,5 +1,5 @@
 //! Members that must be a certain text, and members that are counted.
-ghost use Rattle.std.specs.Prelude.{◌≡◌, option_map};
+ghost use Rattle.std.specs.Prelude.{◌≡◌, ℕ, List, option_map};
 ghost use Rattle.std.specs.Str.{chars};
 ghost use Rattle.cj_spans.specs.Finding.{least};
 ghost use Rattle.cj_spans.specs.Kinds.{is_text};
@@ -9,7 +9,7 @@ ghost use Rattle.cj_geometry.specs.Geometry.{count_of};
 ghost use Rattle.cj_geometry.specs.Rule.{of_kind, missing};
 ghost use Rattle.cj_feature.specs.Header.{is_named, has_member_named};
 
-use cj_geometry::rule::{add, count_items, needed};
+use cj_geometry::rule::{add, check_there, count_items};
 use cj_spans::{Kind, Least, Node, Reason};
 
 /// Checks that the value is this text. Another text has `reason`.
@@ -27,6 +27,25 @@ fn check_name(node: Node, text: &str, reason: Reason, found: &mut Least)
     }
 }
 
+/// Checks that the object has this member, and that it is this text. The caller has looked it up.
+/// Another text has `reason`.
+#[inline(always)]
+pub fn check_name_there(
+    object: Node,
+    member: Option<Node>,
+    text: &str,
+    reason: Reason,
+    found: &mut Least,
+)
+    ensures { (name : List ℕ) → option_map tree member.entry ≡ member_of name (tree object.entry)
+        → found.new ≡ least found.old (has_member_named name reason (chars text.now) (tree object.entry)) }
+{
+    check_there(object, member, found);
+    if let Some(value) = member {
+        check_name(value, text, reason, found);
+    }
+}
+
 /// Checks that the object has a member with this name, which is this text. Another text has
 /// `reason`.
 #[inline(always)]
@@ -34,9 +53,7 @@ pub fn check_name_member(object: Node, name: &str, text: &str, reason: Reason, f
     ensures { found.new
         ≡ least found.old (has_member_named (chars name.now) reason (chars text.now) (tree object.entry)) }
 {
-    if let Some(value) = needed(object, name, found) {
-        check_name(value, text, reason, found);
-    }
+    check_name_there(object, object.get(name), text, reason, found);
 }
 
 /// Returns how many items the member with this name has, if it is an array.

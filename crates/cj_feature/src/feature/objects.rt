@@ -12,10 +12,11 @@ ghost use Rattle.cj_feature.specs.Feature.{object_type, geometries, texts, secon
 ghost use Rattle.cj_feature.specs.Links.{is_part as is_part_of, object_links, links};
 
 use cj_geometry::rule::{
-    add, check_array, check_names, check_object, check_text, check_there, needed,
+    add, check_array, check_names, check_names_unless, check_object, check_text, check_there,
+    needed,
 };
 use cj_geometry::{ObjectType, Templates, check_geometry};
-use cj_spans::{Kind, Least, Node, Reason};
+use cj_spans::{FourMembers, Kind, Least, Node, Reason};
 
 /// Returns whether the type, if there is one, is of the second level.
 fn is_second_level(object_type: Option<ObjectType>) -> bool
@@ -44,13 +45,15 @@ fn check_type(node: Node, found: &mut Least) -> bool
     is_second_level(object_type)
 }
 
-/// Checks that the city object has a type. Returns whether it is of the second level, so that the
-/// type is read once.
-fn check_type_member(object: Node, found: &mut Least) -> bool
+/// Checks that the city object has a type, which the caller has looked up. Returns whether it is of
+/// the second level, so that the type is read once.
+fn check_type_there(object: Node, member: Option<Node>, found: &mut Least) -> bool
+    requires { option_map tree member ≡ member_of (chars (codes "type")) (tree object) }
     ensures second { result ≡ is_part_of (tree object.entry) }
     ensures found { found.new ≡ least found.old (needs (chars (codes "type")) object_type (tree object.entry)) }
 {
-    match needed(object, "type", found) {
+    check_there(object, member, found);
+    match member {
         Some(value) => check_type(value, found),
         None => false,
     }
@@ -139,9 +142,15 @@ fn check_city_object(
     ensures found { found.new ≡ least found.old (city_object vertices (given templates.entry) (tree node.entry)) }
 {
     if check_object(node, found) {
-        check_names(node, found);
-        let second = check_type_member(node, found);
-        let (geometry, children, parents) = node.get_three("geometry", "children", "parents");
+        let FourMembers {
+            first: kind,
+            second: geometry,
+            third: children,
+            fourth: parents,
+            apart,
+        } = node.get_four("type", "geometry", "children", "parents");
+        check_names_unless(apart, node, found);
+        let second = check_type_there(node, node.at_if(kind), found);
         check_geometries_if(node.at_if(geometry), vertices, templates, found);
         check_texts_if(node.at_if(children), found);
         check_texts_if(node.at_if(parents), found);

@@ -23,10 +23,10 @@ use crate::feature::links::check_links;
 use crate::feature::objects::check_city_objects_member;
 use crate::feature::search::reached::check_reached;
 use crate::header::Header;
-use crate::member::check_name_member;
+use crate::member::check_name_there;
 use cj_geometry::Templates;
 use cj_geometry::rule::{
-    add, check_array, check_names, check_object, check_there, check_whole, count_wholes,
+    add, check_array, check_names_unless, check_object, check_there, check_whole, count_wholes,
     is_short_triple,
 };
 use cj_spans::{Doc, Finding, Least, Node, Reason};
@@ -112,12 +112,14 @@ fn check_links_if(linked: bool, objects: Option<Node>, found: &mut Least)
     }
 }
 
-/// The numbers of members of a feature, each if it is there.
+/// The numbers of members of a feature, each if it is there, and whether all names begin apart.
 #[derive(Clone, Copy)]
 struct Members {
+    kind: Option<u32>,
     id: Option<u32>,
     objects: Option<u32>,
     vertices: Option<u32>,
+    apart: bool,
 }
 
 /// Returns the numbers of these members of a feature.
@@ -125,11 +127,13 @@ struct Members {
 fn members_of(node: Node) -> Members
     ensures { AreMembers node.entry result }
 {
-    let (id, objects, vertices) = node.get_three("id", "CityObjects", "vertices");
+    let members = node.get_four("type", "id", "CityObjects", "vertices");
     Members {
-        id,
-        objects,
-        vertices,
+        kind: members.first,
+        id: members.second,
+        objects: members.third,
+        vertices: members.fourth,
+        apart: members.apart,
     }
 }
 
@@ -150,12 +154,15 @@ fn check_root(
 {
     if check_object(node, found) {
         let Members {
+            kind,
             id,
             objects,
             vertices,
+            apart,
         } = members;
-        check_names(node, found);
-        check_name_member(node, "type", "CityJSONFeature", Reason::WrongType, found);
+        check_names_unless(apart, node, found);
+        let kind = node.at_if(kind);
+        check_name_there(node, kind, "CityJSONFeature", Reason::WrongType, found);
         check_id_member(node, node.at_if(id), node.at_if(objects), found);
         let count = check_vertices_member(node, node.at_if(vertices), found);
         let linked = check_city_objects_member(node, node.at_if(objects), count, templates, found);
@@ -193,9 +200,11 @@ pub fn check_feature<'a>(
         Some(finding) => Err(finding),
         None => {
             let Members {
+                kind: _,
                 id: _,
                 objects,
                 vertices,
+                apart: _,
             } = members;
             Ok(Feature::of(doc, header.doc(), objects, vertices, templates))
         }

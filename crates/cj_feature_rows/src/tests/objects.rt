@@ -79,6 +79,7 @@ const FEATURES: [Table; 10] = [
         rows: r#"
         no geometries | "geometry":[] | none
         an object of geometries | "geometry":^{} | 12 wrong kind
+        one behind a name that begins like it | "geographicalExtent":[0,0,0,0,0,0],"geometry":^{} | 12 wrong kind
         null for geometries | "geometry":^null | 12 wrong kind
         a geometry that is a number | "geometry":[^3] | 12 wrong kind
         a geometry of no type | "geometry":[^{}] | 10 member missing

@@ -7,7 +7,15 @@ use Rattle.cj_geometry.specs.Given.{given}
 use Rattle.cj_geometry.specs.Rule.{needs, may_have, distinct}
 use Rattle.cj_geometry.proofs.OfKind.{of_kind-then}
 use Rattle.cj_feature.specs.Feature.{object_type, geometries, texts, second_level}
+use Rattle.cj_feature.proofs.Unlinked.{neither, not_there, unlisted}
 use Rattle.cj_feature.proofs.feature.objects.check_city_object.Goals as goal
+
+pub returns-then-check_object-clause-unlinked : goal.returns-then-check_object-clause-unlinked
+returns-then-check_object-clause-unlinked c = λ h.
+    let none = neither c.is_some.result c.is_some-then-check_object.result h in
+    let members = c.get_four-kind.ensures in
+    unlisted (tree c.args.node) (not_there _ _ _ (sym c.is_some.ensures ∙ none.0) members.third)
+    (not_there _ _ _ (sym c.is_some-then-check_object.ensures ∙ none.1) members.fourth)
 
 pub returns-then-check_object-clause-found : goal.returns-then-check_object-clause-found
 returns-then-check_object-clause-found c =
@@ -17,14 +25,14 @@ returns-then-check_object-clause-found c =
     let geometry = may_have (chars (codes "geometry")) (geometries c.args.vertices (given c.args.templates)) in
     let children = may_have (chars (codes "children")) texts in
     let parents = may_have (chars (codes "parents")) texts in
-    let members = c.get_three-geometry.ensures in
+    let members = c.get_four-kind.ensures in
     let three =
-    least-three o _ _ _ (distinct n) (name n) (geometry n) c.check_names.ensures
-    c.check_type_member-second.ensures.found
-    (rw (c.at_if.ensures.tree ∙ members.first) at c.check_geometries_if.ensures) in
+    least-three o _ _ _ (distinct n) (name n) (geometry n) c.check_names_unless.ensures
+    c.check_type_there-second.ensures.found
+    (rw (c.at_if-then-check_object.ensures.tree ∙ members.second) at c.check_geometries_if.ensures) in
     let five = least-three o _ _ _ (distinct n ++ name n ++ geometry n) (children n) (parents n) three
-    (rw (c.at_if-then-check_object.ensures.tree ∙ members.second) at c.check_texts_if.ensures)
-    (rw (c.at_if-then-check_object-2.ensures.tree ∙ members.third) at c.check_texts_if-then-check_object.ensures) in
+    (rw (c.at_if-then-check_object-2.ensures.tree ∙ members.third) at c.check_texts_if.ensures)
+    (rw (c.at_if-then-check_object-3.ensures.tree ∙ members.fourth) at c.check_texts_if-then-check_object.ensures) in
     let six = least-two o _ _ (distinct n ++ name n ++ geometry n ++ children n ++ parents n) (second_level n) five
     c.check_second_level.ensures in
     of_kind-then is_object (λ u. distinct u ++ name u ++ geometry u ++ children u ++ parents u ++ second_level u) n _ _

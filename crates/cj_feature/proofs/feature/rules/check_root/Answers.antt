@@ -29,7 +29,8 @@ returns-then-check_object c =
     let linked = rw there at c.check_links_if.ensures in
     let counted = rw c.check_vertices_member-count.ensures.count at c.check_city_objects_member-linked.ensures.found in
     let three =
-    least-three o _ _ _ (distinct n) type_rule (id_rule n) c.check_names.ensures c.check_name_member.ensures
+    least-three o _ _ _ (distinct n) type_rule (id_rule n) c.check_names_unless.ensures
+    (c.check_name_there.ensures (chars (codes "type")) (c.at_if-kind.ensures.tree ∙ c.requires.members.kind))
     c.check_id_member.ensures in
     let first = distinct n ++ type_rule ++ id_rule n in
     let both = least-two c.check_id_member.new.found _ _ vertices objects c.check_vertices_member-count.ensures.found

@@ -2,7 +2,9 @@ use Rattle.cj_feature.proofs.feature.rules.members_of.Goals as goal
 
 pub returns : goal.returns
 returns c = record {
-  id = c.get_three-id.ensures.first;
-  objects = c.get_three-id.ensures.second;
-  vertices = c.get_three-id.ensures.third;
+  kind = c.get_four-members.ensures.first;
+  id = c.get_four-members.ensures.second;
+  objects = c.get_four-members.ensures.third;
+  vertices = c.get_four-members.ensures.fourth;
+  apart = c.get_four-members.ensures.apart;
 }
