@@ -22,7 +22,6 @@ pub mod Verdicts
 pub mod Endings
 pub mod WorkedLines
 pub mod Findings
-pub mod FirstNamed
 pub mod Texts
 pub mod Words
 pub mod Views

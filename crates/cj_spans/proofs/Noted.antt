@@ -21,9 +21,6 @@ use Rattle.cj_spans.proofs.Walks.{LinksTo, at_name, member_on}
 pub noted-yes : (p : ℕ) → 0 < p → is_noted p ≡ true
 noted-yes p h = let e : nat_eq p 0 ≡ false = grind (arith, nat_tests) in ap not e
 
-pub noted-no : (p : ℕ) → p ≡ 0 → is_noted p ≡ false
-noted-no p h = ap is_noted h
-
 -- ---- a text with another first character
 
 same_texts : (a b : Option (List ℕ)) → are_same_texts a b ≡ true → a ≡ b
