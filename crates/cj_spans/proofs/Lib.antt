@@ -8,6 +8,7 @@ pub mod Lists
 pub mod Runs
 pub mod Places
 pub mod Follows
+pub mod Letters
 pub mod Sound
 pub mod Facts
 pub mod Fronts

@@ -5,7 +5,6 @@ use Rattle.std.proofs.Math.Nat.{eq-or-lt_of_le}
 use Rattle.std.proofs.lemmas.Bool.{cases_lt, cases_order}
 use Rattle.std.specs.Prelude.{IsSomeAnd, OnOk, IsErrOf, IsOk, IsUtf8}
 use Rattle.std.specs.Str.{IsValidUpTo}
-use Rattle.std.specs.Str.Lossy.{utf8_valid_len}
 use Rattle.std.proofs.lemmas.Str.{utf8_valid_len-IsValidUpTo}
 use Rattle.cj_budget.specs.Bounded.{BoundedList, Becomes}
 use Rattle.cj_spans.specs.declared.fault.LineFault.{LineFault}
@@ -392,10 +391,10 @@ utf8_whole b i v u = let s = v.short in v.longest (length b) s (subst IsUtf8 (sy
 fault_same : (i j : ℕ) → ◌≡◌ {A = Result (Unit {0}) LineFault} (Err (NotUtf8 i)) (Err (NotUtf8 j)) → i ≡ j
 fault_same i j h = cc
 
-pub utf8_fault : (b : List ℕ) (n m : ℕ) → IsValidUpTo b m → m ≡ utf8_valid_len b → n ≡ m → (i : ℕ)
+pub utf8_fault : (b : List ℕ) (n : ℕ) → IsValidUpTo b n → (i : ℕ)
     → (IsErrOf {T = Unit {0}} (Err (NotUtf8 n)) (NotUtf8 i) → IsValidUpTo b i)
     × (IsValidUpTo b i → IsErrOf {T = Unit {0}} (Err (NotUtf8 n)) (NotUtf8 i))
-utf8_fault b n m v e q i = (
-  λ h. subst (IsValidUpTo b) (sym q ∙ fault_same n i h) v,
-  λ w. ap (λ k. Err (NotUtf8 k)) (q ∙ e ∙ utf8_valid_len-IsValidUpTo b i w),
+utf8_fault b n v i = (
+  λ h. subst (IsValidUpTo b) (fault_same n i h) v,
+  λ w. ap (λ k. Err (NotUtf8 k)) (sym (utf8_valid_len-IsValidUpTo b n v) ∙ utf8_valid_len-IsValidUpTo b i w),
 )

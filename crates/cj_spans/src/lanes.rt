@@ -1,4 +1,4 @@
-//! Bytes of a line, 16 at a time.
+//! Bytes of a line, 16 or more at a time.
 ghost use Rattle.std.specs.Prelude.{◌≡◌, ◌+◌, ◌^◌, ◌≤◌, ◌<◌, length, ℕ, true, IfSome, IfNone, IsTrue};
 ghost use Rattle.cj_spans.specs.Decoding.{AreAlike};
 ghost use Rattle.cj_spans.specs.Spelling.{is_plain as is_plain_of};
@@ -13,6 +13,39 @@ pub const LANES: usize = 16;
 
 /// The number of bytes in one step if fewer than `LANES` remain.
 pub const FEW_LANES: usize = 8;
+
+/// The number of bytes in one step over what is nearly always ASCII: four vectors to a jump.
+pub const BLOCK: usize = 64;
+
+/// Returns whether the 64 bytes from `place` on are ASCII.
+#[inline(always)]
+pub fn is_ascii_block(line: &[u8], place: usize) -> bool
+    requires { place + 64 ≤ length line.now }
+    ensures { IsTrue result → (k : ℕ) → place ≤ k → k < place + 64 → byte_of line.now k < 128 }
+{
+    u8x64::from_slice(&line[place..])
+        .simd_gt(u8x64::splat(127))
+        .to_bitmask()
+        == 0
+}
+
+/// Returns the place of the first byte beyond ASCII, among the 16 from `place` on.
+#[inline(always)]
+pub fn find_beyond_ascii(line: &[u8], place: usize) -> Option<usize>
+    requires { place + 16 ≤ length line.now }
+    ensures found { IfSome result (λ n. (place ≤ n) × (n ≤ place + 16)
+        × ((k : ℕ) → place ≤ k → k < n → byte_of line.now k < 128)) }
+    ensures none { IfNone result ((k : ℕ) → place ≤ k → k < place + 16 → byte_of line.now k < 128) }
+{
+    let others = u8x16::from_slice(&line[place..])
+        .simd_gt(u8x16::splat(127))
+        .to_bitmask();
+    if others == 0 {
+        None
+    } else {
+        Some(place + others.trailing_zeros() as usize)
+    }
+}
 
 /// Returns the place of the first byte that is no digit, among the 16 from `place` on.
 #[inline(always)]

@@ -51,6 +51,7 @@ mod scanner;
 mod step;
 mod text;
 mod token;
+mod utf8;
 
 pub use fault::{LineFault, ScanFault};
 pub use finding::Finding;

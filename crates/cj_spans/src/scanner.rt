@@ -43,8 +43,8 @@ use crate::lex::{Lex, lex_kind};
 use crate::members::{enters_object, read_members};
 use crate::step::{Mode, Move, Next, read_byte};
 use crate::token::{Token, keep_atom};
+use crate::utf8::check_utf8;
 use cj_budget::{Bounded, NoMemory, Stack};
-use simdutf8::compat::from_utf8;
 
 /// Reads the rest of the scalar or the name that the byte at `place` began, and keeps its token.
 #[inline(always)]
@@ -271,9 +271,9 @@ pub fn scan_reserved(
 {
     tokens.clear();
     stack.clear();
-    match from_utf8(line) {
+    match check_utf8(line) {
         Ok(_) => run(line, tokens, stack),
-        Err(error) => Err(LineFault::NotUtf8(error.valid_up_to() as u64)),
+        Err(place) => Err(LineFault::NotUtf8(place as u64)),
     }
 }
 

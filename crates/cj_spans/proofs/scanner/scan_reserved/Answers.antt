@@ -27,7 +27,7 @@ returns-in-Ok-clause-not_utf8 c = λ i.
     let ts = c.clear.new.self in let ks = c.clear-2.new.self in (
       λ e. absurd (run_utf8 (Unit {0}) c.args.line.now ks c.run.new.tokens c.run.new.stack c.run.result i
           c.run.ensures.answer e),
-      λ v. absurd (utf8_whole c.args.line.now i v c.in-Ok.ensures.cases.1),
+      λ v. absurd (utf8_whole c.args.line.now i v c.in-Ok.ensures.ok),
     )
 
 pub returns-in-Ok-clause-too_deep : goal.returns-in-Ok-clause-too_deep
@@ -82,8 +82,7 @@ returns-in-Err-clause-utf8 c = λ h. absurd (h _ refl)
 
 pub returns-in-Err-clause-not_utf8 : goal.returns-in-Err-clause-not_utf8
 returns-in-Err-clause-not_utf8 c =
-    utf8_fault c.args.line.now c.valid_up_to.result _ c.in-Err.ensures.cases.1 c.in-Err.ensures.valid_len
-    c.valid_up_to.ensures
+    utf8_fault c.args.line.now c.in-Err.place c.in-Err.ensures.err
 
 pub returns-in-Ok-clause-judgement : goal.returns-in-Ok-clause-judgement
 returns-in-Ok-clause-judgement c = judgement c.args.line.now c.args.stack.now.limit
@@ -95,3 +94,15 @@ pub returns-in-Ok-clause-judged : goal.returns-in-Ok-clause-judged
 returns-in-Ok-clause-judged c = λ j u.
     answer_of j c.run.result (returns-in-Ok-clause-finds_tree c u) (returns-in-Ok-clause-finds_deep c u)
     (λ n i s. returns-in-Ok-clause-finds_syntax c u n i s)
+
+pub returns-in-Err-clause-finds_tree : goal.returns-in-Err-clause-finds_tree
+returns-in-Err-clause-finds_tree c = λ u. absurd (utf8_whole c.args.line.now c.in-Err.place c.in-Err.ensures.err u)
+
+pub returns-in-Err-clause-finds_deep : goal.returns-in-Err-clause-finds_deep
+returns-in-Err-clause-finds_deep c = λ u. absurd (utf8_whole c.args.line.now c.in-Err.place c.in-Err.ensures.err u)
+
+pub returns-in-Err-clause-finds_syntax : goal.returns-in-Err-clause-finds_syntax
+returns-in-Err-clause-finds_syntax c = λ u. absurd (utf8_whole c.args.line.now c.in-Err.place c.in-Err.ensures.err u)
+
+pub returns-in-Err-clause-judged : goal.returns-in-Err-clause-judged
+returns-in-Err-clause-judged c = λ j u. absurd (utf8_whole c.args.line.now c.in-Err.place c.in-Err.ensures.err u)

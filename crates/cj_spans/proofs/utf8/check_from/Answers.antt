@@ -1,0 +1,13 @@
+use Rattle.std.proofs.lemmas.List.{take_rest}
+use Rattle.simdutf8.proofs.Parts.{front_and_rest, valid_after}
+use Rattle.cj_spans.proofs.utf8.check_from.Goals as goal
+
+pub returns-in-Ok-clause-ok : goal.returns-in-Ok-clause-ok
+returns-in-Ok-clause-ok c =
+    front_and_rest c.args.line.now c.args.from c.requires.within c.requires.utf8
+    (rw take_rest at c.in-Ok.ensures.cases.1)
+
+pub returns-in-Err-clause-err : goal.returns-in-Err-clause-err
+returns-in-Err-clause-err c =
+    valid_after c.args.line.now c.args.from c.valid_up_to.result c.requires.within c.requires.utf8
+    (rw (c.valid_up_to.ensures) (rw take_rest at c.in-Err.ensures.cases.1))
