@@ -2,11 +2,13 @@
 //!
 //! - `scans`: which lines are JSON texts, and the tokens that a scan leaves. Also the reasons.
 //! - `strings`: each byte at a place of a string.
+//! - `letters`: letters beyond ASCII at many places of a string.
 //! - `views`: what a scanned line shows.
 //! - `findings`: the least of some findings.
 ghost use Rattle.cj_spans.specs.Sound.{AreOf};
 
 mod findings;
+mod letters;
 mod scans;
 mod strings;
 mod views;
