@@ -1,7 +1,8 @@
 //! Whether a line is UTF-8 (RFC 3629).
 //!
-//! A usual line is ASCII but for a few letters of two bytes. This passes them by itself, and reads
-//! only what it cannot pass with the general check. That one costs more from the first letter on.
+//! A usual line is ASCII but for a few letters of two bytes. The general check takes slower steps
+//! from the first letter on. So these functions pass ASCII and the first such letters, and the
+//! general check reads only what they leave.
 ghost use Rattle.std.specs.Prelude.{◌≡◌, ◌+◌, ◌≤◌, ◌<◌, length, take, ℕ, IfErr, IsUtf8, OnOk};
 ghost use Rattle.std.specs.Str.{IsValidUpTo};
 ghost use Rattle.cj_spans.specs.Json.{byte as byte_of};
@@ -89,7 +90,8 @@ fn pass_letter(line: &[u8], place: usize) -> usize
     }
 }
 
-/// Returns how many bytes at the front were seen to be UTF-8, in few steps.
+/// Returns how many bytes at the front are ASCII and letters of two bytes. It gives up after a
+/// number of letters.
 #[inline(always)]
 fn pass_plain(line: &[u8]) -> usize
     ensures within { result ≤ length line.now }
