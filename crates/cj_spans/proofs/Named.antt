@@ -1,5 +1,5 @@
 -- Names and strings of an object: where the pass stands behind each of their parts.
-use Rattle.std.proofs.Common.{◌≡◌, ℕ, suc, ◌+◌, ◌<◌, List, [], ◌∷◌, ◌++◌, length, Some, inr, refl, ap, arith}
+use Rattle.std.proofs.Common.{◌≡◌, ℕ, suc, ◌+◌, ◌<◌, List, [], ◌∷◌, ◌++◌, length, Some, inr, refl, ap, subst, arith}
 use Rattle.std.specs.Prelude.{IsTrue}
 use Rattle.cj_budget.specs.Bounded.{BoundedList, Becomes}
 use Rattle.cj_spans.specs.declared.token.Kind.TheVariants.{Text, Object}
@@ -9,10 +9,11 @@ use Rattle.cj_spans.specs.declared.step.Mode.{Mode}
 use Rattle.cj_spans.specs.declared.step.Mode.TheVariants.{Ready, After, FirstName, NextName, AfterName}
 use Rattle.cj_spans.specs.Json.{byte}
 use Rattle.cj_spans.specs.Preorder.{token_at}
-use Rattle.cj_spans.specs.Machine.{State, state, in_atom, start, step, ComesTo, BeginsName, StringLeads, IsQuoted}
-use Rattle.cj_spans.specs.Pass.{StandsInObject, Leads}
+use Rattle.cj_spans.specs.Machine.{State, state, in_atom, start, step, ComesTo, BeginsName, InObject, StringLeads, IsQuoted}
+use Rattle.cj_spans.specs.Pass.{Standing, Stands, StandsInObject, Leads}
 use Rattle.cj_spans.proofs.Runs.{idle}
 use Rattle.cj_spans.proofs.Atoms.{ends_ok}
+use Rattle.cj_spans.proofs.Nested.{stands_on}
 use Rattle.cj_spans.proofs.Signs.{step_on, colon_read, comma_read, innermost_more}
 use Rattle.cj_spans.proofs.Standing.{standing_small, standing_name_room, standing_room, standing_with, settles_both, grown_same, grown_more}
 
@@ -65,6 +66,24 @@ module _ (b : List ℕ) (ts : BoundedList Token) where
         };
         object = h.0;
       }
+
+  -- the same where the stack is known
+  pub stands_inside : (ks : BoundedList ℕ) (m : Mode) (i : ℕ) → Stands b ts ks m i → InObject ks.elements ts.elements
+      → StandsInObject b ts m i
+  stands_inside ks m i s a = record { stack = ks; stands = s; object = a }
+
+  pub leads_from : (us : BoundedList Token) (ks : BoundedList ℕ) (m n o : Mode) (i j : ℕ)
+      → InObject ks.elements ts.elements → Leads b ts m i us n j → n ≡ o → (t0 : BoundedList Token)
+      → (s0 : BoundedList ℕ) → Standing b t0 s0 ts ks m i → Standing b t0 s0 us ks o j
+  leads_from us ks m n o i j a f e t0 s0 s = subst (λ x. Standing b t0 s0 us ks x j) e (f t0 s0 ks a s).1
+
+  pub stands_from : (us : BoundedList Token) (ks : BoundedList ℕ) (m n o : Mode) (i j : ℕ) → Stands b ts ks m i
+      → InObject ks.elements ts.elements → Leads b ts m i us n j → n ≡ o → Stands b us ks o j
+  stands_from us ks m n o i j s a f e = stands_on b ts us ks ks m o i j s (leads_from us ks m n o i j a f e)
+
+  pub object_from : (us : BoundedList Token) (ks : BoundedList ℕ) (m n : Mode) (i j : ℕ) → Stands b ts ks m i
+      → InObject ks.elements ts.elements → Leads b ts m i us n j → InObject ks.elements us.elements
+  object_from us ks m n i j s a f = (f s.tokens0 s.stack0 ks a s.standing).0
 
   pub leads_string : (us : BoundedList Token) (m n : Mode) (i k : ℕ) → StringLeads m n → IsQuoted b i k
       → Becomes ts (ts.elements ++ token_at i k (length ts.elements + 1) ∷ []) us → Leads b ts m i us n k

@@ -1,17 +1,18 @@
--- Arrays of whole numbers: where the pass stands behind each of their parts.
+-- Arrays of whole numbers, and brackets: where the pass stands behind each of their parts.
 use Rattle.std.proofs.Common.{◌≡◌, ℕ, suc, ◌+◌, ◌<◌, List, [], ◌∷◌, ◌++◌, length, Option, Some, Ok, Err, refl, sym, ap, subst, arith, ◌∙◌}
 use Rattle.std.specs.Prelude.{IsTrue}
-use Rattle.cj_budget.specs.Bounded.{BoundedList, Becomes}
+use Rattle.cj_budget.specs.Bounded.{BoundedList, Becomes, IsWithin}
 use Rattle.cj_spans.specs.declared.fault.LineFault.{LineFault}
-use Rattle.cj_spans.specs.declared.token.Kind.TheVariants.{Array}
+use Rattle.cj_spans.specs.declared.token.Kind.{Kind}
+use Rattle.cj_spans.specs.declared.token.Kind.TheVariants.{Array, Object}
 use Rattle.cj_spans.specs.declared.token.Token.{Token}
 use Rattle.cj_spans.specs.declared.step.Mode.{Mode}
-use Rattle.cj_spans.specs.declared.step.Mode.TheVariants.{Ready, FirstItem, After}
+use Rattle.cj_spans.specs.declared.step.Mode.TheVariants.{Ready, FirstItem, FirstName, After}
 use Rattle.cj_spans.specs.declared.step.Move.{Move}
 use Rattle.cj_spans.specs.declared.step.Move.TheVariants.{To}
 use Rattle.cj_spans.specs.Json.{byte}
 use Rattle.cj_spans.specs.Preorder.{token_at}
-use Rattle.cj_spans.specs.Machine.{State, state, between, start, read, with_opened, phase_after, deepest_after, Answers, ReadsByte, BeginsValue, InArray, IsNumberUpTo, EndsItem, FitsToken, Grown, Kept}
+use Rattle.cj_spans.specs.Machine.{State, state, between, start, read, with_opened, open_kind, open_link, phase_after, deepest_after, Answers, ReadsByte, BeginsValue, IsInnermost, IsNumberUpTo, EndsItem, FitsToken, Grown, Kept}
 use Rattle.cj_spans.specs.Pass.{Standing, Stands, GoesOn, IsComma}
 use Rattle.cj_spans.proofs.Spellings.{some_same}
 use Rattle.cj_spans.proofs.Runs.{idle}
@@ -35,6 +36,10 @@ stands_small b ts ks m i s l = standing_small b s.tokens0 s.stack0 ts ks m i s.s
 pub stands_room : (b : List ℕ) (ts : BoundedList Token) (ks : BoundedList ℕ) (m : Mode) (i : ℕ) → Stands b ts ks m i
     → i < length b → BeginsValue m → length ts.elements < ts.limit
 stands_room b ts ks m i s l v = standing_room b s.tokens0 s.stack0 ts ks m i s.standing s.room.room l v
+
+pub stands_within : (b : List ℕ) (ts : BoundedList Token) (ks : BoundedList ℕ) (m : Mode) (i : ℕ) → Stands b ts ks m i
+    → IsWithin ts × IsWithin ks
+stands_within b ts ks m i s = (s.standing.kept.within, s.standing.stack_within)
 
 pub stands_reserved : (b : List ℕ) (ts : BoundedList Token) (ks : BoundedList ℕ) (m : Mode) (i : ℕ) → Stands b ts ks m i
     → IsTrue ts.reserved × IsTrue ks.reserved
@@ -78,42 +83,59 @@ module _ (b : List ℕ) (t0 : BoundedList Token) (s0 : BoundedList ℕ) where
       standing_with b t0 s0 ts ts1 ks m After i k s (grown_more ts ts1 _ s.kept.within e) (omega arith)
       (λ p. number_read b start m ks.elements ts.elements ts1.elements i k p n w v e.elements)
 
--- `[` opens an array where a value may begin
-opened_at : (m : Mode) (s : State) → BeginsValue m → read m 91 s ≡ Some (with_opened Array FirstItem s)
-opened_at Ready s v = refl
-opened_at FirstItem s v = refl
-opened_at _ s v = absurd v
+-- the bracket c opens a container of the kind d where a value may begin, and the mode n comes in it
+pub record Opens (d : Kind) (n : Mode) (c : ℕ) : Type 0 where
+  pub at : (m : Mode) (s : State) → BeginsValue m → read m c s ≡ Some (with_opened d n s)
+  pub shown : (i : ℕ) → open_kind (token_at i 0 (open_link d)) ≡ d
 
-bracket_at : (m : Mode) (c : ℕ) (s : State) → BeginsValue m → c ≡ 91 → read m c s ≡ Some (with_opened Array FirstItem s)
-bracket_at m c s v e = ap (λ n. read m n s) e ∙ opened_at m s v
+array_at : (m : Mode) (s : State) → BeginsValue m → read m 91 s ≡ Some (with_opened Array FirstItem s)
+array_at Ready s v = refl
+array_at FirstItem s v = refl
+array_at _ s v = absurd v
 
--- what a call does that opens an array
-abbrev opens : State → Option State
-opens s = Some (with_opened Array FirstItem s)
+object_at : (m : Mode) (s : State) → BeginsValue m → read m 123 s ≡ Some (with_opened Object FirstName s)
+object_at Ready s v = refl
+object_at FirstItem s v = refl
+object_at _ s v = absurd v
 
-module _ (b : List ℕ) (ts ts1 : BoundedList Token) (ks ks1 : BoundedList ℕ) (m : Mode) (i : ℕ) where
-  -- behind the bracket that opens an array
-  pub standing_opened : (v : Move) → ReadsByte opens i (Ok v) ts ts1 ks ks1 → BeginsValue m → i < length b
-      → byte b i ≡ 91 → (t0 : BoundedList Token) (s0 : BoundedList ℕ) → Standing b t0 s0 ts ks m i
-      → Standing b t0 s0 ts1 ks1 FirstItem (i + 1)
+pub opens_array : Opens Array FirstItem 91
+opens_array = record { at = array_at; shown = λ i. refl }
+
+pub opens_object : Opens Object FirstName 123
+opens_object = record { at = object_at; shown = λ i. refl }
+
+-- what a call does that opens a container
+abbrev opens : Kind → Mode → State → Option State
+opens d n s = Some (with_opened d n s)
+
+module _ (d : Kind) (n : Mode) (c : ℕ) (h : Opens d n c) (b : List ℕ) (ts ts1 : BoundedList Token)
+    (ks ks1 : BoundedList ℕ) (m : Mode) (i : ℕ) where
+  bracket_at : (s : State) → BeginsValue m → byte b i ≡ c → read m (byte b i) s ≡ Some (with_opened d n s)
+  bracket_at s v e = ap (λ x. read m x s) e ∙ h.at m s v
+
+  -- behind the bracket that opens a container
+  pub standing_opened : (v : Move) → ReadsByte (opens d n) i (Ok v) ts ts1 ks ks1 → BeginsValue m → i < length b
+      → byte b i ≡ c → (t0 : BoundedList Token) (s0 : BoundedList ℕ) → Standing b t0 s0 ts ks m i
+      → Standing b t0 s0 ts1 ks1 n (i + 1)
   standing_opened v r w l e t0 s0 s =
-      let f : phase_after m i v ≡ between FirstItem = sym (ap (λ u. u.phase) (some_same _ _ (r.answer m 0))) in
-      standing_moved b t0 s0 ts ts1 ks ks1 m FirstItem i v s l r.tokens r.stack f
-      (λ p. bracket_at m (byte b i) (idle m ks.elements ts.elements i p) w e ∙ r.answer m p)
+      let f : phase_after m i v ≡ between n = sym (ap (λ u. u.phase) (some_same _ _ (r.answer m 0))) in
+      standing_moved b t0 s0 ts ts1 ks ks1 m n i v s l r.tokens r.stack f
+      (λ p. bracket_at (idle m ks.elements ts.elements i p) w e ∙ r.answer m p)
 
-  pub opened_in : (v : Move) → ReadsByte opens i (Ok v) ts ts1 ks ks1 → InArray ks1.elements ts1.elements
+  pub opened_in : (v : Move) → ReadsByte (opens d n) i (Ok v) ts ts1 ks ks1
+      → IsInnermost d ks1.elements ts1.elements
   opened_in v r =
       let e = some_same _ _ (r.answer m 0) in
-      innermost_same Array _ ks1.elements _ ts1.elements (ap (λ u. u.stack) e) (ap (λ u. u.tokens) e)
-      (innermost_opened Array ks.elements ts.elements i refl)
+      innermost_same d _ ks1.elements _ ts1.elements (ap (λ u. u.stack) e) (ap (λ u. u.tokens) e)
+      (innermost_opened d ks.elements ts.elements i (h.shown i))
 
   -- where it is refused
-  pub standing_refused : (f : LineFault) → ReadsByte opens i (Err f) ts ts1 ks ks1 → BeginsValue m → i < length b
-      → byte b i ≡ 91 → (t0 : BoundedList Token) (s0 : BoundedList ℕ) → Standing b t0 s0 ts ks m i
+  pub standing_refused : (f : LineFault) → ReadsByte (opens d n) i (Err f) ts ts1 ks ks1 → BeginsValue m
+      → i < length b → byte b i ≡ c → (t0 : BoundedList Token) (s0 : BoundedList ℕ) → Standing b t0 s0 ts ks m i
       → GoesOn b t0 s0 (Err f) ts1 ks1
   standing_refused f r w l e t0 s0 s = (
     standing_fault (Unit {0}) b t0 s0 ts ts1 ks ks1 m i f s l
         (λ p. subst (λ o. Answers o m i p ks.limit (Err f) ks1.elements ts1.elements)
-        (sym (bracket_at m (byte b i) (idle m ks.elements ts.elements i p) w e)) (r.answer m p)),
+        (sym (bracket_at (idle m ks.elements ts.elements i p) w e)) (r.answer m p)),
     standing_law b t0 s0 ts ts1 ks ks1 m i s r.tokens r.stack r.err.0 r.err.1,
   )

@@ -5,9 +5,10 @@ use Rattle.cj_spans.specs.declared.fault.LineFault.{LineFault}
 use Rattle.cj_spans.specs.declared.token.Token.{Token}
 use Rattle.cj_spans.specs.declared.step.Mode.{Mode}
 use Rattle.cj_spans.specs.declared.step.Next.{Next}
+use Rattle.cj_spans.specs.declared.step.Inner.{Inner}
 use Rattle.cj_spans.specs.Json.{byte}
 use Rattle.cj_spans.specs.Scan.{KeepsLaw}
-use Rattle.cj_spans.specs.Machine.{state, between, start, ComesTo, Kept, InArray, InObject, RunAnswers}
+use Rattle.cj_spans.specs.Machine.{state, between, start, ComesTo, Kept, BeginsValue, InArray, InObject, RunAnswers}
 use Rattle.cj_spans.specs.Signs.{comma}
 
 -- the machine has come to the mode m at the place i, and the lists are those that it has, from these on
@@ -41,6 +42,16 @@ abbrev pub GoesOn : List ℕ → BoundedList Token → BoundedList ℕ → Resul
 GoesOn b tokens0 stack0 (Ok n) tokens stack = Standing b tokens0 stack0 tokens stack n.mode n.place
 GoesOn b tokens0 stack0 (Err f) tokens stack = RunAnswers {X = Unit {0}} b stack0 (Err f) tokens stack
     × KeepsLaw b tokens0 tokens stack0 stack
+
+-- the same of a call that also tells whether a value of an array comes
+abbrev pub GoesInto : List ℕ → BoundedList Token → BoundedList ℕ → Result Inner LineFault → BoundedList Token
+    → BoundedList ℕ → Type 0
+GoesInto b tokens0 stack0 (Ok n) tokens stack = Standing b tokens0 stack0 tokens stack n.next.mode n.next.place
+GoesInto b tokens0 stack0 (Err f) tokens stack = GoesOn b tokens0 stack0 (Err f) tokens stack
+
+-- a value of an array comes, if that was told
+abbrev pub IsInside : BoundedList Token → BoundedList ℕ → Inner → Type 0
+IsInside tokens stack n = IsTrue n.in_array → InArray stack.elements tokens.elements × BeginsValue n.next.mode
 
 -- the comma of an array stands at the place i
 pub record IsComma (b : List ℕ) (tokens : BoundedList Token) (stack : BoundedList ℕ) (i : ℕ) : Type 0 where

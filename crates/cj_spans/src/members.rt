@@ -1,20 +1,24 @@
-//! Members of an object without white space: names with their colons, and values that are strings.
+//! Members of an object without white space: names with their colons, values that are strings, and
+//! the brackets of values that are containers.
 //!
-//! The scanner could read any line without this module, one byte after another. Here several names
-//! and strings are read in one go, and everything else is left to the scanner.
-ghost use Rattle.std.specs.Prelude.{◌≡◌, ◌+◌, ◌^◌, ◌≤◌, ◌<◌, ◌++◌, ◌∷◌, ◌↔◌, [], length, IfSome, IfNone, IsTrue};
-ghost use Rattle.cj_budget.specs.Bounded.{Becomes};
-ghost use Rattle.cj_spans.specs.declared.step.Mode.TheVariants.{Ready};
+//! The scanner could read any line without this module, one byte after another. Here several names,
+//! strings and brackets are read in one go, and everything else is left to the scanner.
+ghost use Rattle.std.specs.Prelude.{◌≡◌, ◌+◌, ◌^◌, ◌≤◌, ◌<◌, ◌++◌, ◌∷◌, ◌↔◌, [], length, true, false, ℕ};
+ghost use Rattle.std.specs.Prelude.{IfOk, IfSome, IfNone, IsTrue};
+ghost use Rattle.cj_budget.specs.Bounded.{Becomes, BoundedList};
+ghost use Rattle.cj_spans.specs.declared.token.Token.{Token as TokenOf};
+ghost use Rattle.cj_spans.specs.declared.step.Mode.TheVariants.{Ready, FirstItem};
 ghost use Rattle.cj_spans.specs.Json.{byte as byte_of};
 ghost use Rattle.cj_spans.specs.Preorder.{token_at};
-ghost use Rattle.cj_spans.specs.Machine.{IsQuoted, BeginsName, StaysInObjectNext};
-ghost use Rattle.cj_spans.specs.Pass.{StandsInObject, Leads};
+ghost use Rattle.cj_spans.specs.Machine.{IsQuoted, BeginsName, InObject, StaysInObjectNext};
+ghost use Rattle.cj_spans.specs.Pass.{Standing, Stands, StandsInObject, Leads, GoesInto, IsInside};
 
 use crate::bytes::stands_at;
+use crate::fault::LineFault;
 use crate::lex::plain_string_stop;
-use crate::step::{Mode, Move, Next};
-use crate::token::{Token, keep_atom};
-use cj_budget::Bounded;
+use crate::step::{Inner, Mode, Move, Next, open};
+use crate::token::{Kind, Token, keep_atom};
+use cj_budget::{Bounded, Stack};
 
 /// Reads the string that begins at `place`, and keeps its token. Returns where it ends. None if no
 /// string begins there, or if a byte of it is not plain.
@@ -103,23 +107,74 @@ fn begins_name(mode: Mode) -> bool
     }
 }
 
-/// Reads names, colons, strings and commas from a place on where a name may begin. It stops before
-/// anything else.
-pub fn read_members(line: &[u8], from: Next, tokens: &mut Bounded<Token>) -> Next
-    requires stands { StandsInObject line.now tokens.old from.mode from.place }
-    ensures leads { Leads line.now tokens.old from.mode from.place tokens.new result.mode result.place }
-    ensures order { from.place ≤ result.place }
+/// Returns this place as one where no value of an array comes.
+#[inline(always)]
+fn outside_arrays(next: Next) -> Inner
+    ensures { result ≡ record { next = next; in_array = false } }
+{
+    Inner {
+        next,
+        in_array: false,
+    }
+}
+
+/// Returns the place behind the bracket of an array at this place.
+#[inline(always)]
+fn in_array(place: usize) -> Inner
+    requires { place < 2 ^ 31 }
+    ensures { result ≡ record { next = record { mode = FirstItem; place = place + 1 }; in_array = true } }
+{
+    Inner {
+        next: Next {
+            mode: Mode::FirstItem,
+            place: place + 1,
+        },
+        in_array: true,
+    }
+}
+
+/// Reads names, colons, strings, commas, and the brackets of objects, from a place on where a name
+/// may begin. It stops behind the bracket of an array, and before anything else.
+pub fn read_members(
+    line: &[u8],
+    from: Next,
+    tokens: &mut Bounded<Token>,
+    stack: &mut Stack,
+) -> Result<Inner, LineFault>
+    requires stands { Stands line.now tokens.old stack.old from.mode from.place }
+    requires object { InObject stack.old.elements tokens.old.elements }
+    ensures answer { (ts : BoundedList TokenOf) (ks : BoundedList ℕ)
+        → Standing line.now ts ks tokens.old stack.old from.mode from.place
+        → GoesInto line.now ts ks result tokens.new stack.new }
+    ensures array { IfOk result (IsInside tokens.new stack.new) }
+    ensures order { IfOk result (λ n. from.place ≤ n.next.place) }
 {
     let mut next = from;
     while next.place < line.len() && begins_name(next.mode) {
         let named = pass_name(line, next, tokens);
         match named.mode {
             Mode::Ready => {}
-            _ => return named,
+            _ => return Ok(outside_arrays(named)),
         }
-        next = pass_value(line, named.place, tokens);
+        if stands_at(line, named.place, b'{') {
+            match open(Kind::Object, Mode::FirstName, named.place, tokens, stack) {
+                Ok(_) => {}
+                Err(fault) => return Err(fault),
+            }
+            next = Next {
+                mode: Mode::FirstName,
+                place: named.place + 1,
+            };
+        } else if stands_at(line, named.place, b'[') {
+            return match open(Kind::Array, Mode::FirstItem, named.place, tokens, stack) {
+                Ok(_) => Ok(in_array(named.place)),
+                Err(fault) => Err(fault),
+            };
+        } else {
+            next = pass_value(line, named.place, tokens);
+        }
     }
-    next
+    Ok(outside_arrays(next))
 }
 
 /// Returns whether a name may begin in an object after the byte of this move. The byte is then `{`,

@@ -34,14 +34,14 @@ ghost use Rattle.cj_spans.specs.declared.token.Token.{Token as TokenOf};
 ghost use Rattle.cj_spans.specs.Machine.{State, state, between, in_atom, ComesTo, phase_after, EndAnswers, Grown};
 ghost use Rattle.cj_spans.specs.Machine.{BeginsAtom, BeginsValue, BeginsValueNext, BeginsNameNext, InArray, InObject};
 ghost use Rattle.cj_spans.specs.Machine.{StaysInArrayNext, StaysInObjectNext, RunAnswers};
-ghost use Rattle.cj_spans.specs.Pass.{Standing, Stands, GoesOn};
+ghost use Rattle.cj_spans.specs.Pass.{Standing, Stands, GoesOn, GoesInto, IsInside};
 
 use crate::arrays::{enters_array, read_arrays};
 use crate::atom::read_atom;
 use crate::fault::{LineFault, ScanFault};
 use crate::lex::{Lex, lex_kind};
 use crate::members::{enters_object, read_members};
-use crate::step::{Mode, Move, Next, read_byte};
+use crate::step::{Inner, Mode, Move, Next, read_byte};
 use crate::token::{Token, keep_atom};
 use crate::utf8::check_utf8;
 use cj_budget::{Bounded, NoMemory, Stack};
@@ -144,8 +144,40 @@ fn follow(
 }
 
 /// Continues after the byte at `place`, whose move came to `next`. If the innermost container is
+/// then an object, it passes names, strings and brackets.
+#[inline(always)]
+fn pass_members(
+    line: &[u8],
+    place: usize,
+    taken: Move,
+    next: Next,
+    tokens: &mut Bounded<Token>,
+    stack: &mut Stack,
+) -> Result<Inner, LineFault>
+    requires within { place < length line.now }
+    requires stands { Stands line.now tokens.old stack.old next.mode next.place }
+    requires array { StaysInArrayNext (byte_of line.now place) taken
+        → InArray stack.old.elements tokens.old.elements × BeginsValue next.mode }
+    requires object { StaysInObjectNext (byte_of line.now place) taken
+        → InObject stack.old.elements tokens.old.elements }
+    ensures answer { (ts : BoundedList TokenOf) (ks : BoundedList ℕ)
+        → Standing line.now ts ks tokens.old stack.old next.mode next.place
+        → GoesInto line.now ts ks result tokens.new stack.new }
+    ensures array { IfOk result (IsInside tokens.new stack.new) }
+    ensures order { IfOk result (λ n. next.place ≤ n.next.place) }
+{
+    if enters_object(line[place], taken) {
+        return read_members(line, next, tokens, stack);
+    }
+    Ok(Inner {
+        next,
+        in_array: enters_array(line[place], taken),
+    })
+}
+
+/// Continues after the byte at `place`, whose move came to `next`. If the innermost container is
 /// then an array, it passes the arrays and numbers that follow. If it is an object, it passes names
-/// and strings.
+/// and strings first.
 #[inline(always)]
 fn pass_parts(
     line: &[u8],
@@ -166,13 +198,16 @@ fn pass_parts(
         → GoesOn line.now ts ks result tokens.new stack.new }
     ensures order { IfOk result (λ n. next.place ≤ n.place) }
 {
-    if enters_array(line[place], taken) {
-        return read_arrays(line, next, tokens, stack);
+    match pass_members(line, place, taken, next, tokens, stack) {
+        Ok(inner) => {
+            if inner.in_array {
+                read_arrays(line, inner.next, tokens, stack)
+            } else {
+                Ok(inner.next)
+            }
+        }
+        Err(fault) => Err(fault),
     }
-    if enters_object(line[place], taken) {
-        return Ok(read_members(line, next, tokens));
-    }
-    Ok(next)
 }
 
 /// Returns whether the line is a JSON text if it ends here.

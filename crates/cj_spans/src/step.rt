@@ -360,3 +360,10 @@ pub struct Next {
     pub mode: Mode,
     pub place: usize,
 }
+
+/// What may come next, and where, and whether that is a value of an array.
+#[derive(Clone, Copy)]
+pub struct Inner {
+    pub next: Next,
+    pub in_array: bool,
+}

@@ -2,9 +2,10 @@ use Rattle.std.proofs.Common.{◌≡◌, ℕ, ◌+◌, Bool, true, false, not, i
 use Rattle.std.specs.Prelude.{IsTrue}
 use Rattle.cj_budget.specs.Bounded.{BoundedList}
 use Rattle.cj_spans.specs.declared.token.Token.{Token}
+use Rattle.cj_spans.specs.declared.token.Kind.TheVariants.{Array}
 use Rattle.cj_spans.specs.declared.step.Mode.TheVariants.{Ready, FirstItem, After}
 use Rattle.cj_spans.specs.Pass.{Standing}
-use Rattle.cj_spans.proofs.Nested.{stands_on, stands_small, stands_room, stands_reserved, standing_number, standing_comma, standing_opened, opened_in, standing_refused}
+use Rattle.cj_spans.proofs.Nested.{stands_on, stands_small, stands_room, stands_reserved, standing_number, standing_comma, opens_array, standing_opened, opened_in, standing_refused}
 use Rattle.cj_spans.proofs.Signs.{innermost_more}
 use Rattle.cj_spans.proofs.arrays.read_arrays.Goals as goal
 
@@ -21,7 +22,7 @@ open-requires-clause-reserved c = stands_reserved _ _ _ _ _ c.loop-next.invarian
 pub returns-in-Err-clause-answer : goal.returns-in-Err-clause-answer
 returns-in-Err-clause-answer c = λ ts ks s.
     let l = c.loop-next in
-    standing_refused c.args.line.now l.tokens c.open.new.tokens l.stack c.open.new.stack l.next.mode l.next.place
+    standing_refused Array FirstItem 91 opens_array c.args.line.now l.tokens c.open.new.tokens l.stack c.open.new.stack l.next.mode l.next.place
     c.in-Err.fault c.in-Err.ensures l.invariant.begins c.loop-next-test.true c.if-line-next-ne91.false ts ks
     (l.invariant.answer ts ks s)
 
@@ -30,13 +31,13 @@ loop-next-preserved c =
     let l = c.loop-next in
     let o = c.open.new in
     let order = l.invariant.order in
-    let go = standing_opened c.args.line.now l.tokens o.tokens l.stack o.stack l.next.mode l.next.place c.in-Ok.field-0
+    let go = standing_opened Array FirstItem 91 opens_array c.args.line.now l.tokens o.tokens l.stack o.stack l.next.mode l.next.place c.in-Ok.field-0
     c.in-Ok.ensures l.invariant.begins c.loop-next-test.true c.if-line-next-ne91.false in
     record {
       stands = stands_on c.args.line.now l.tokens o.tokens l.stack o.stack l.next.mode FirstItem l.next.place
           (l.next.place + 1) l.invariant.stands go;
       answer = λ ts ks s. go ts ks (l.invariant.answer ts ks s);
-      array = opened_in c.args.line.now l.tokens o.tokens l.stack o.stack l.next.mode l.next.place c.in-Ok.field-0
+      array = opened_in Array FirstItem 91 opens_array c.args.line.now l.tokens o.tokens l.stack o.stack l.next.mode l.next.place c.in-Ok.field-0
           c.in-Ok.ensures;
       begins = tt;
       order = omega arith;

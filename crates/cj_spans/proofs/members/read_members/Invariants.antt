@@ -1,11 +1,17 @@
-use Rattle.std.proofs.Common.{◌-◌, ◌≤◌, length}
-use Rattle.cj_spans.specs.Pass.{StandsInObject, Leads}
+use Rattle.std.proofs.Common.{ℕ, ◌-◌, ◌≤◌, length}
+use Rattle.cj_budget.specs.Bounded.{BoundedList}
+use Rattle.cj_spans.specs.declared.token.Token.{Token}
+use Rattle.cj_spans.specs.Machine.{InObject}
+use Rattle.cj_spans.specs.Pass.{Standing, Stands}
 use Rattle.cj_spans.proofs.members.read_members.Given as goal
 
 abbrev pub invariant-loop-next : goal.invariant-loop-next
 invariant-loop-next l = record {
-  stands : StandsInObject l.line l.tokens l.next.mode l.next.place;
-  leads : Leads l.line l.fn.tokens l.fn.from.mode l.fn.from.place l.tokens l.next.mode l.next.place;
+  stands : Stands l.line l.tokens l.stack l.next.mode l.next.place;
+  answer : (ts : BoundedList Token) (ks : BoundedList ℕ)
+      → Standing l.line ts ks l.fn.tokens l.fn.stack l.fn.from.mode l.fn.from.place
+      → Standing l.line ts ks l.tokens l.stack l.next.mode l.next.place;
+  object : InObject l.stack.elements l.tokens.elements;
   order : l.fn.from.place ≤ l.next.place;
 }
 
