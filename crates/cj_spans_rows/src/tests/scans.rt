@@ -463,6 +463,62 @@ fn members_that_are_texts(rt: HostRuntime) {
     all_meet_at_depths(&rt, rt.alloc(), MEMBERS.as_slice());
 }
 
+const CONTAINERS: [DepthRow; 8] = [
+    (
+        "an object in an object",
+        2,
+        b"{\"a\":{\"b\":\"c\"}}",
+        Ok((5, 2)),
+    ),
+    (
+        "empty containers",
+        2,
+        b"{\"a\":{},\"b\":[],\"c\":\"d\"}",
+        Ok((7, 2)),
+    ),
+    (
+        "a comma behind a brace",
+        2,
+        b"{\"a\":{,\"b\":1}}",
+        Err(ScanFault::Syntax(6)),
+    ),
+    (
+        "an object deeper than allowed",
+        1,
+        b"{\"a\":{}}",
+        Err(ScanFault::TooDeep(5)),
+    ),
+    (
+        "an array deeper than allowed",
+        1,
+        b"{\"a\":[]}",
+        Err(ScanFault::TooDeep(5)),
+    ),
+    (
+        "an object closed as an array",
+        2,
+        b"{\"a\":{\"b\":\"c\"]}",
+        Err(ScanFault::Syntax(13)),
+    ),
+    (
+        "an array closed as an object",
+        2,
+        b"{\"a\":[}}",
+        Err(ScanFault::Syntax(6)),
+    ),
+    (
+        "a line that ends behind a brace",
+        2,
+        b"{\"a\":{",
+        Err(ScanFault::Syntax(6)),
+    ),
+];
+
+#[test]
+fn members_that_are_containers(rt: HostRuntime) {
+    all_meet_at_depths(&rt, rt.alloc(), CONTAINERS.as_slice());
+}
+
 fn have_lengths(rt: &impl Abort, tokens: &Bounded<Token>, stack: &Stack, want: (usize, usize)) {
     assert_eq!(rt; (tokens.len(), stack.len()), want);
 }

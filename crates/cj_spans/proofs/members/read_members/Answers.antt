@@ -124,8 +124,11 @@ returns-in-Ok-open-clause-array c =
     let n = c.pass_name-named in
     let o = c.open-then-stands_at-2.new in
     subst (IsInside o.tokens o.stack) (sym c.in_array.ensures)
-    (λ t. (opened_in Array FirstItem 91 opens_array c.args.line.now n.new.tokens o.tokens l.stack o.stack Ready
-    n.result.place c.in-Ok-open.field-0 c.in-Ok-open.ensures, tt))
+    (λ t. (
+      opened_in Array FirstItem 91 opens_array c.args.line.now n.new.tokens o.tokens l.stack o.stack Ready
+          n.result.place c.in-Ok-open.field-0 c.in-Ok-open.ensures,
+      tt,
+    ))
 
 pub returns-in-Err-open-clause-answer : goal.returns-in-Err-open-clause-answer
 returns-in-Err-open-clause-answer c = λ ts ks z.
