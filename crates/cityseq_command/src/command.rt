@@ -14,8 +14,8 @@ use cj_stream::Output;
 use std::alloc::Global;
 use std::io::{Read, Write};
 
-/// How many bytes the program collects before a write to standard output: 64 KiB.
-pub const OUTPUT_BUFFER: usize = 65_536;
+/// How many bytes the program collects before a write to standard output: 16 KiB.
+pub const OUTPUT_BUFFER: usize = 16_384;
 
 /// Does what the words ask for, and returns the exit status. The first word is the program's name.
 /// If the words are wrong or ask for help, it reads nothing. It ignores a failed write to `err`.
