@@ -92,7 +92,9 @@ fn pass_letter(line: &[u8], place: usize) -> usize
 
 /// Returns how many bytes at the front are ASCII and letters of two bytes. It gives up after a
 /// number of letters.
-#[inline(always)]
+///
+/// It is never inlined, so that its code does not lie between the jumps of the scan.
+#[inline(never)]
 fn pass_plain(line: &[u8]) -> usize
     ensures within { result ≤ length line.now }
     ensures utf8 { IsUtf8 (take result line.now) }
