@@ -22,23 +22,24 @@ open-requires-clause-reserved c = stands_reserved _ _ _ _ _ c.loop-next.invarian
 pub returns-in-Err-clause-answer : goal.returns-in-Err-clause-answer
 returns-in-Err-clause-answer c = λ ts ks s.
     let l = c.loop-next in
-    standing_refused Array FirstItem 91 opens_array c.args.line.now l.tokens c.open.new.tokens l.stack c.open.new.stack l.next.mode l.next.place
-    c.in-Err.fault c.in-Err.ensures l.invariant.begins c.loop-next-test.true c.if-line-next-ne91.false ts ks
-    (l.invariant.answer ts ks s)
+    standing_refused Array FirstItem 91 opens_array c.args.line.now l.tokens c.open.new.tokens l.stack c.open.new.stack
+    l.next.mode l.next.place c.in-Err.fault c.in-Err.ensures l.invariant.begins c.loop-next-test.true
+    c.if-line-next-ne91.false ts ks (l.invariant.answer ts ks s)
 
 pub loop-next-preserved : goal.loop-next-preserved
 loop-next-preserved c =
     let l = c.loop-next in
     let o = c.open.new in
     let order = l.invariant.order in
-    let go = standing_opened Array FirstItem 91 opens_array c.args.line.now l.tokens o.tokens l.stack o.stack l.next.mode l.next.place c.in-Ok.field-0
-    c.in-Ok.ensures l.invariant.begins c.loop-next-test.true c.if-line-next-ne91.false in
+    let go = standing_opened Array FirstItem 91 opens_array c.args.line.now l.tokens o.tokens l.stack o.stack
+    l.next.mode l.next.place c.in-Ok.field-0 c.in-Ok.ensures l.invariant.begins c.loop-next-test.true
+    c.if-line-next-ne91.false in
     record {
       stands = stands_on c.args.line.now l.tokens o.tokens l.stack o.stack l.next.mode FirstItem l.next.place
           (l.next.place + 1) l.invariant.stands go;
       answer = λ ts ks s. go ts ks (l.invariant.answer ts ks s);
-      array = opened_in Array FirstItem 91 opens_array c.args.line.now l.tokens o.tokens l.stack o.stack l.next.mode l.next.place c.in-Ok.field-0
-          c.in-Ok.ensures;
+      array = opened_in Array FirstItem 91 opens_array c.args.line.now l.tokens o.tokens l.stack o.stack l.next.mode
+          l.next.place c.in-Ok.field-0 c.in-Ok.ensures;
       begins = tt;
       order = omega arith;
     }
