@@ -3,7 +3,7 @@
 //! Contracts see the top first, since a scan looks at the innermost container. The code pushes at
 //! the end. The first items are in the stack itself. So `push`, `reserve_all` and `is_reserved`
 //! have a clause of their own for these. `reserve_all` requests exactly the missing memory.
-ghost use Rattle.std.specs.Prelude.{◌≡◌, ◌<◌, ◌≤◌, ◌↔◌, ◌∷◌, [], length, drop, IsTrue, IsOk, slice_get};
+ghost use Rattle.std.specs.Prelude.{◌≡◌, ◌+◌, ◌<◌, ◌≤◌, ◌↔◌, ◌∷◌, [], length, drop, max, IsTrue, IsOk, slice_get};
 ghost use Rattle.cj_budget.specs.Bounded.{IsNew, IsWithin, Becomes, Adds, Reserves};
 
 use crate::bounded::Refused;
@@ -113,6 +113,20 @@ impl Stack {
     {
         let length = self.items.len() + 1;
         self.items.push_reserved(item);
+        if length > self.peak {
+            self.peak = length;
+        }
+    }
+
+    /// Notes one item more in the peak, as a push and a pop do. So an item that is soon removed need
+    /// not be put here.
+    #[inline(always)]
+    pub fn note_item(&mut self)
+        requires fits { length self.old.elements < self.old.limit }
+        ensures noted { self.new ≡ record self.old { peak = max self.old.peak (length self.old.elements + 1) } }
+        ensures within { IsWithin self.new }
+    {
+        let length = self.items.len() + 1;
         if length > self.peak {
             self.peak = length;
         }

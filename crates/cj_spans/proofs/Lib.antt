@@ -15,6 +15,7 @@ pub mod Fronts
 pub mod Forests
 pub mod Standing
 pub mod Nested
+pub mod Leads
 pub mod Named
 pub mod WholeNumbers
 pub mod Signs

@@ -1,5 +1,5 @@
 -- Names and strings of an object: where the pass stands behind each of their parts.
-use Rattle.std.proofs.Common.{◌≡◌, ℕ, suc, ◌+◌, ◌<◌, List, [], ◌∷◌, ◌++◌, length, Some, inr, refl, ap, subst, arith}
+use Rattle.std.proofs.Common.{◌≡◌, ℕ, suc, ◌+◌, ◌<◌, List, [], ◌∷◌, ◌++◌, length, Some, inr, refl, ap, arith}
 use Rattle.std.specs.Prelude.{IsTrue}
 use Rattle.cj_budget.specs.Bounded.{BoundedList, Becomes}
 use Rattle.cj_spans.specs.declared.token.Kind.TheVariants.{Text, Object}
@@ -9,11 +9,10 @@ use Rattle.cj_spans.specs.declared.step.Mode.{Mode}
 use Rattle.cj_spans.specs.declared.step.Mode.TheVariants.{Ready, After, FirstName, NextName, AfterName}
 use Rattle.cj_spans.specs.Json.{byte}
 use Rattle.cj_spans.specs.Preorder.{token_at}
-use Rattle.cj_spans.specs.Machine.{State, state, in_atom, start, step, ComesTo, BeginsName, InObject, StringLeads, IsQuoted}
-use Rattle.cj_spans.specs.Pass.{Standing, Stands, StandsInObject, Leads}
+use Rattle.cj_spans.specs.Machine.{State, state, in_atom, start, step, ComesTo, BeginsName, StringLeads, IsQuoted}
+use Rattle.cj_spans.specs.Pass.{StandsIn, LeadsIn}
 use Rattle.cj_spans.proofs.Runs.{idle}
 use Rattle.cj_spans.proofs.Atoms.{ends_ok}
-use Rattle.cj_spans.proofs.Nested.{stands_on}
 use Rattle.cj_spans.proofs.Signs.{step_on, colon_read, comma_read, innermost_more}
 use Rattle.cj_spans.proofs.Standing.{standing_small, standing_name_room, standing_room, standing_with, settles_both, grown_same, grown_more}
 
@@ -45,55 +44,15 @@ name_leads _ h = absurd h
 -- ---- what leads where
 
 module _ (b : List ℕ) (ts : BoundedList Token) where
-  pub leads_here : (m : Mode) (i : ℕ) → Leads b ts m i ts m i
-  leads_here m i = λ t0 s0 ks o s. (o, s)
-
-  pub leads_on : (us vs : BoundedList Token) (m n o : Mode) (i j k : ℕ) → Leads b ts m i us n j → Leads b us n j vs o k
-      → Leads b ts m i vs o k
-  leads_on us vs m n o i j k f g = λ t0 s0 ks a s. let h = f t0 s0 ks a s in g t0 s0 ks h.0 h.1
-
-  pub stands_leads : (us : BoundedList Token) (m n : Mode) (i j : ℕ) → StandsInObject b ts m i → Leads b ts m i us n j
-      → StandsInObject b us n j
-  stands_leads us m n i j s f =
-      let h = f s.stands.tokens0 s.stands.stack0 s.stack s.object s.stands.standing in
-      record {
-        stack = s.stack;
-        stands = record {
-          tokens0 = s.stands.tokens0;
-          stack0 = s.stands.stack0;
-          standing = h.1;
-          room = s.stands.room;
-        };
-        object = h.0;
-      }
-
-  -- the same where the stack is known
-  pub stands_inside : (ks : BoundedList ℕ) (m : Mode) (i : ℕ) → Stands b ts ks m i → InObject ks.elements ts.elements
-      → StandsInObject b ts m i
-  stands_inside ks m i s a = record { stack = ks; stands = s; object = a }
-
-  pub leads_from : (us : BoundedList Token) (ks : BoundedList ℕ) (m n o : Mode) (i j : ℕ)
-      → InObject ks.elements ts.elements → Leads b ts m i us n j → n ≡ o → (t0 : BoundedList Token)
-      → (s0 : BoundedList ℕ) → Standing b t0 s0 ts ks m i → Standing b t0 s0 us ks o j
-  leads_from us ks m n o i j a f e t0 s0 s = subst (λ x. Standing b t0 s0 us ks x j) e (f t0 s0 ks a s).1
-
-  pub stands_from : (us : BoundedList Token) (ks : BoundedList ℕ) (m n o : Mode) (i j : ℕ) → Stands b ts ks m i
-      → InObject ks.elements ts.elements → Leads b ts m i us n j → n ≡ o → Stands b us ks o j
-  stands_from us ks m n o i j s a f e = stands_on b ts us ks ks m o i j s (leads_from us ks m n o i j a f e)
-
-  pub object_from : (us : BoundedList Token) (ks : BoundedList ℕ) (m n : Mode) (i j : ℕ) → Stands b ts ks m i
-      → InObject ks.elements ts.elements → Leads b ts m i us n j → InObject ks.elements us.elements
-  object_from us ks m n i j s a f = (f s.tokens0 s.stack0 ks a s.standing).0
-
   pub leads_string : (us : BoundedList Token) (m n : Mode) (i k : ℕ) → StringLeads m n → IsQuoted b i k
-      → Becomes ts (ts.elements ++ token_at i k (length ts.elements + 1) ∷ []) us → Leads b ts m i us n k
+      → Becomes ts (ts.elements ++ token_at i k (length ts.elements + 1) ∷ []) us → LeadsIn Object b ts m i us n k
   leads_string us m n i k v q e = λ t0 s0 ks a s. (
     innermost_more Object ks.elements ts.elements us.elements _ a e.elements,
     standing_with b t0 s0 ts us ks m n i k s (grown_more ts us _ s.kept.within e) q.within
         (λ p. string_read b start m n ks.elements ts.elements us.elements i k p q v e.elements),
   )
 
-  pub leads_colon : (k : ℕ) → (k < length b) × (byte b k ≡ 58) → Leads b ts AfterName k ts Ready (k + 1)
+  pub leads_colon : (k : ℕ) → (k < length b) × (byte b k ≡ 58) → LeadsIn Object b ts AfterName k ts Ready (k + 1)
   leads_colon k h = λ t0 s0 ks a s.
       let l = h.0 in (
         a,
@@ -101,7 +60,7 @@ module _ (b : List ℕ) (ts : BoundedList Token) where
             (λ p. colon_read b start ks.elements ts.elements k p h.0 h.1),
       )
 
-  pub leads_comma : (k : ℕ) → (k < length b) × (byte b k ≡ 44) → Leads b ts After k ts NextName (k + 1)
+  pub leads_comma : (k : ℕ) → (k < length b) × (byte b k ≡ 44) → LeadsIn Object b ts After k ts NextName (k + 1)
   leads_comma k h = λ t0 s0 ks a s.
       let l = h.0 in (
         a,
@@ -111,20 +70,20 @@ module _ (b : List ℕ) (ts : BoundedList Token) where
 
   -- ---- what the calls need
 
-  pub name_small : (m : Mode) (i : ℕ) → StandsInObject b ts m i → i < length b → (length b < 2147483648)
+  pub name_small : (m : Mode) (i : ℕ) → StandsIn Object b ts m i → i < length b → (length b < 2147483648)
       × (length ts.elements < 2147483648)
   name_small m i s l =
       let h = s.stands.room.short in
       (omega arith, (standing_small b s.stands.tokens0 s.stands.stack0 ts s.stack m i s.stands.standing h l).1)
 
-  pub name_room : (m : Mode) (i : ℕ) → StandsInObject b ts m i → i < length b → BeginsName m
+  pub name_room : (m : Mode) (i : ℕ) → StandsIn Object b ts m i → i < length b → BeginsName m
       → length ts.elements < ts.limit
   name_room m i s l v =
       standing_name_room b s.stands.tokens0 s.stands.stack0 ts s.stack m i s.stands.standing s.stands.room.room l v
 
-  pub string_room : (i : ℕ) → StandsInObject b ts Ready i → i < length b → length ts.elements < ts.limit
+  pub string_room : (i : ℕ) → StandsIn Object b ts Ready i → i < length b → length ts.elements < ts.limit
   string_room i s l =
       standing_room b s.stands.tokens0 s.stands.stack0 ts s.stack Ready i s.stands.standing s.stands.room.room l tt
 
-  pub name_reserved : (m : Mode) (i : ℕ) → StandsInObject b ts m i → IsTrue ts.reserved
+  pub name_reserved : (m : Mode) (i : ℕ) → StandsIn Object b ts m i → IsTrue ts.reserved
   name_reserved m i s = s.stands.standing.kept.room s.stands.room.reserved.0

@@ -12,8 +12,8 @@ use Rattle.cj_spans.specs.declared.step.Move.{Move}
 use Rattle.cj_spans.specs.declared.step.Move.TheVariants.{To}
 use Rattle.cj_spans.specs.Json.{byte}
 use Rattle.cj_spans.specs.Preorder.{token_at}
-use Rattle.cj_spans.specs.Machine.{State, state, between, start, read, with_opened, open_kind, open_link, phase_after, deepest_after, Answers, ReadsByte, BeginsValue, IsInnermost, IsNumberUpTo, EndsItem, FitsToken, Grown, Kept}
-use Rattle.cj_spans.specs.Pass.{Standing, Stands, GoesOn, IsComma}
+use Rattle.cj_spans.specs.Machine.{State, state, between, start, read, with_opened, open_kind, open_link, phase_after, deepest_after, Answers, ReadsByte, BeginsValue, InArray, IsInnermost, IsNumberUpTo, EndsItem, FitsToken, Grown, Kept}
+use Rattle.cj_spans.specs.Pass.{Standing, Stands, GoesOn}
 use Rattle.cj_spans.proofs.Spellings.{some_same}
 use Rattle.cj_spans.proofs.Runs.{idle}
 use Rattle.cj_spans.proofs.Atoms.{settles_at}
@@ -68,11 +68,10 @@ module _ (b : List ℕ) (t0 : BoundedList Token) (s0 : BoundedList ℕ) where
 
   -- behind the comma of an array
   pub standing_comma : (ts : BoundedList Token) (ks : BoundedList ℕ) (i : ℕ) → Standing b t0 s0 ts ks After i
-      → IsComma b ts ks i → Standing b t0 s0 ts ks Ready (i + 1)
-  standing_comma ts ks i s c =
-      let l = c.within in
+      → i < length b → byte b i ≡ 44 → InArray ks.elements ts.elements → Standing b t0 s0 ts ks Ready (i + 1)
+  standing_comma ts ks i s l c a =
       standing_with b t0 s0 ts ts ks After Ready i (i + 1) s (grown_same ts s.kept.within) (omega arith)
-      (λ p. comma_read b start Array Ready ks.elements ts.elements i p (λ _ _ _. refl) c.array c.within c.comma)
+      (λ p. comma_read b start Array Ready ks.elements ts.elements i p (λ _ _ _. refl) a l c)
 
   -- behind a number
   pub standing_number : (ts ts1 : BoundedList Token) (ks : BoundedList ℕ) (m : Mode) (i k : ℕ)

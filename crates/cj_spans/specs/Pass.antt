@@ -1,15 +1,17 @@
 -- Where the pass over a line stands in the machine. Only private clauses cite it.
-use Rattle.std.specs.Prelude.{◌≡◌, ℕ, ◌+◌, ◌/◌, ◌<◌, ◌≤◌, List, length, max, Result, Ok, Err, IsTrue}
+use Rattle.std.specs.Prelude.{◌≡◌, ℕ, ◌+◌, ◌/◌, ◌<◌, ◌≤◌, List, length, max, slice_get, Some, Result, Ok, Err, IsTrue}
 use Rattle.cj_budget.specs.Bounded.{BoundedList, IsWithin}
 use Rattle.cj_spans.specs.declared.fault.LineFault.{LineFault}
+use Rattle.cj_spans.specs.declared.token.Kind.{Kind}
 use Rattle.cj_spans.specs.declared.token.Token.{Token}
 use Rattle.cj_spans.specs.declared.step.Mode.{Mode}
+use Rattle.cj_spans.specs.declared.step.Mode.TheVariants.{After}
 use Rattle.cj_spans.specs.declared.step.Next.{Next}
 use Rattle.cj_spans.specs.declared.step.Inner.{Inner}
 use Rattle.cj_spans.specs.Json.{byte}
 use Rattle.cj_spans.specs.Scan.{KeepsLaw}
-use Rattle.cj_spans.specs.Machine.{state, between, start, ComesTo, Kept, BeginsValue, InArray, InObject, RunAnswers}
-use Rattle.cj_spans.specs.Signs.{comma}
+use Rattle.cj_spans.specs.Machine.{state, between, start, ComesTo, Kept, BeginsValue, IsInnermost, InArray, RunAnswers}
+use Rattle.cj_spans.specs.Signs.{right_bracket}
 
 -- the machine has come to the mode m at the place i, and the lists are those that it has, from these on
 pub record Standing (b : List ℕ) (tokens0 : BoundedList Token) (stack0 : BoundedList ℕ) (tokens : BoundedList Token)
@@ -53,20 +55,25 @@ GoesInto b tokens0 stack0 (Err f) tokens stack = GoesOn b tokens0 stack0 (Err f)
 abbrev pub IsInside : BoundedList Token → BoundedList ℕ → Inner → Type 0
 IsInside tokens stack n = IsTrue n.in_array → InArray stack.elements tokens.elements × BeginsValue n.next.mode
 
--- the comma of an array stands at the place i
-pub record IsComma (b : List ℕ) (tokens : BoundedList Token) (stack : BoundedList ℕ) (i : ℕ) : Type 0 where
-  pub within : i < length b
-  pub comma : byte b i ≡ comma
-  pub array : InArray stack.elements tokens.elements
-
--- a pass over the line stands so, and an object is innermost
-pub record StandsInObject (b : List ℕ) (tokens : BoundedList Token) (m : Mode) (i : ℕ) : Type 0 where
+-- a pass over the line stands so, and a container of the kind d is innermost
+pub record StandsIn (d : Kind) (b : List ℕ) (tokens : BoundedList Token) (m : Mode) (i : ℕ) : Type 0 where
   pub stack : BoundedList ℕ
   pub stands : Stands b tokens stack m i
-  pub object : InObject stack.elements tokens.elements
+  pub innermost : IsInnermost d stack.elements tokens.elements
 
--- a call that leaves the stack takes a pass, where an object is innermost, from the mode m at the place i to n at j
-abbrev pub Leads : List ℕ → BoundedList Token → Mode → ℕ → BoundedList Token → Mode → ℕ → Type 0
-Leads b tokens m i tokens1 n j = (tokens0 : BoundedList Token) (stack0 stack : BoundedList ℕ)
-    → InObject stack.elements tokens.elements → Standing b tokens0 stack0 tokens stack m i
-    → InObject stack.elements tokens1.elements × Standing b tokens0 stack0 tokens1 stack n j
+-- a call that leaves the stack takes a pass, where a container of the kind d is innermost, from the mode m at the
+-- place i to n at j
+abbrev pub LeadsIn : Kind → List ℕ → BoundedList Token → Mode → ℕ → BoundedList Token → Mode → ℕ → Type 0
+LeadsIn d b tokens m i tokens1 n j = (tokens0 : BoundedList Token) (stack0 stack : BoundedList ℕ)
+    → IsInnermost d stack.elements tokens.elements → Standing b tokens0 stack0 tokens stack m i
+    → IsInnermost d stack.elements tokens1.elements × Standing b tokens0 stack0 tokens1 stack n j
+
+-- the tokens so far stay where they are
+abbrev pub KeepsTokens : List Token → List Token → Type 0
+KeepsTokens ts us = (k : ℕ) (t : Token) → slice_get ts k ≡ Some t → slice_get us k ≡ Some t
+
+-- a value of an array has ended, and the bracket of the array is there
+pub record EndsArray (b : List ℕ) (n : Next) : Type 0 where
+  pub after : n.mode ≡ After
+  pub within : n.place < length b
+  pub bracket : byte b n.place ≡ right_bracket

@@ -2,19 +2,24 @@
 //!
 //! The scanner could read any line without this module, one byte after another. Here such arrays
 //! are read in one go, and everything else is left to the scanner.
-ghost use Rattle.std.specs.Prelude.{◌≡◌, ◌≤◌, ◌<◌, ◌↔◌, List, length, suc, ℕ, Some, IfOk, IsTrue, slice_get};
-ghost use Rattle.cj_budget.specs.Bounded.{BoundedList, IsWithin};
+ghost use Rattle.std.specs.Prelude.{◌≡◌, ◌^◌, ◌≤◌, ◌<◌, ◌++◌, ◌∷◌, ◌↔◌, List, [], length, suc, ℕ, Some, false};
+ghost use Rattle.std.specs.Prelude.{IfOk, IsTrue, slice_get, slice_set};
+ghost use Rattle.cj_budget.specs.Bounded.{Becomes, BoundedList, IsWithin};
+ghost use Rattle.cj_spans.specs.declared.token.Kind.TheVariants.{Array};
 ghost use Rattle.cj_spans.specs.declared.token.Token.{Token as TokenOf};
 ghost use Rattle.cj_spans.specs.declared.step.Mode.TheVariants.{After};
 ghost use Rattle.cj_spans.specs.Json.{byte as byte_of};
+ghost use Rattle.cj_spans.specs.Preorder.{token_at};
 ghost use Rattle.cj_spans.specs.Machine.{state, between, read as read_of, Kept, Grown, InArray, BeginsValue};
 ghost use Rattle.cj_spans.specs.Machine.{StaysInArrayNext, FitsToken};
-ghost use Rattle.cj_spans.specs.Pass.{Standing, Stands, GoesOn, IsComma};
+ghost use Rattle.cj_spans.specs.Pass.{Standing, Stands, StandsIn, LeadsIn, GoesOn, GoesInto, IsInside};
+ghost use Rattle.cj_spans.specs.Pass.{KeepsTokens, EndsArray};
 
+use crate::bytes::stands_at;
 use crate::fault::LineFault;
 use crate::numbers::number_stop;
-use crate::step::{Mode, Move, Next, open};
-use crate::token::{Kind, Token, keep_atom};
+use crate::step::{Inner, Mode, Move, Next, outside_arrays};
+use crate::token::{Token, keep_atom};
 use cj_budget::{Bounded, Stack};
 
 /// Returns whether the container whose token has this index is an open array.
@@ -29,6 +34,41 @@ fn is_open_array(tokens: &Bounded<Token>, index: Option<u32>) -> bool
         Some(token) => token.link == 0,
         None => false,
     }
+}
+
+/// Keeps the token of an array that opens at `place`.
+#[inline(always)]
+fn open_array(place: usize, tokens: &mut Bounded<Token>)
+    requires short { place < 2 ^ 31 }
+    requires room { length tokens.old.elements < tokens.old.limit }
+    requires reserved { IsTrue tokens.old.reserved }
+    ensures { Becomes tokens.old (tokens.old.elements ++ token_at place 0 0 ∷ []) tokens.new }
+{
+    let token = Token {
+        start: place as u32,
+        stop: 0,
+        link: 0,
+    };
+    tokens.push_reserved(token);
+}
+
+/// Closes the array whose token has this index, with the bracket at `place`.
+#[inline(always)]
+fn close_token(index: usize, place: usize, tokens: &mut Bounded<Token>)
+    requires small { FitsToken place tokens.old }
+    requires within { index < length tokens.old.elements }
+    requires list { IsWithin tokens.old }
+    ensures closed { (t : TokenOf) → slice_get tokens.old.elements index ≡ Some t
+        → tokens.new.elements ≡ slice_set tokens.old.elements index
+        (token_at t.start (suc place) (length tokens.old.elements)) }
+    ensures tokens { Grown tokens.old tokens.new }
+{
+    let whole = Token {
+        stop: place as u32 + 1,
+        link: tokens.len() as u32,
+        ..tokens.as_slice()[index]
+    };
+    tokens.set(index, whole);
 }
 
 /// Closes the innermost array with the bracket at `place`. Returns the index of the container that
@@ -50,53 +90,179 @@ fn close_array(place: usize, tokens: &mut Bounded<Token>, stack: &mut Stack) -> 
         return stack.top();
     };
     let outer = stack.top();
-    let whole = Token {
-        stop: place as u32 + 1,
-        link: tokens.len() as u32,
-        ..tokens.as_slice()[index as usize]
-    };
-    tokens.set(index as usize, whole);
+    close_token(index as usize, place, tokens);
     outer
 }
 
-/// The place after an item, and whether the comma of an array is there.
-#[derive(Clone, Copy)]
-struct Behind {
-    place: usize,
-    comma: bool,
-}
-
-/// Closes the arrays that end from `from` on, where a bracket closes one. The innermost container
-/// is an array.
+/// Leaves the arrays that end from `from` on, where a value of an array has ended: past their
+/// brackets, and past the comma of the next array, if it is there.
 #[inline(always)]
-fn close_arrays(line: &[u8], from: usize, tokens: &mut Bounded<Token>, stack: &mut Stack) -> Behind
+fn leave_arrays(line: &[u8], from: usize, tokens: &mut Bounded<Token>, stack: &mut Stack) -> Inner
     requires stands { Stands line.now tokens.old stack.old After from }
     requires array { InArray stack.old.elements tokens.old.elements }
-    requires within { from < length line.now }
-    requires bracket { byte_of line.now from ≡ 93 }
     ensures answer { (ts : BoundedList TokenOf) (ks : BoundedList ℕ)
         → Standing line.now ts ks tokens.old stack.old After from
-        → Standing line.now ts ks tokens.new stack.new After result.place }
-    ensures comma { IsTrue result.comma → IsComma line.now tokens.new stack.new result.place }
-    ensures order { from ≤ result.place }
+        → Standing line.now ts ks tokens.new stack.new result.next.mode result.next.place }
+    ensures array { IsInside tokens.new stack.new result }
+    ensures order { from ≤ result.next.place }
+    ensures further { IsTrue result.in_array → from < result.next.place }
 {
     let mut place = from;
-    loop {
+    while stands_at(line, place, b']') {
         let outer = close_array(place, tokens, stack);
         place += 1;
-        if place == line.len() || !is_open_array(tokens, outer) {
-            return Behind {
+        if !is_open_array(tokens, outer) {
+            return outside_arrays(Next {
+                mode: Mode::After,
                 place,
-                comma: false,
-            };
-        }
-        if line[place] != b']' {
-            return Behind {
-                place,
-                comma: line[place] == b',',
-            };
+            });
         }
     }
+    if !stands_at(line, place, b',') {
+        return outside_arrays(Next {
+            mode: Mode::After,
+            place,
+        });
+    }
+    Inner {
+        next: Next {
+            mode: Mode::Ready,
+            place: place + 1,
+        },
+        in_array: true,
+    }
+}
+
+/// What may come next after numbers of an array, and whether the bracket of the array is there.
+#[derive(Clone, Copy)]
+struct Numbers {
+    next: Next,
+    ended: bool,
+}
+
+/// Reads whole numbers of an array, each with its comma. It stops before the bracket after the last
+/// one, and before any other value.
+#[inline(always)]
+fn read_numbers(line: &[u8], from: Next, tokens: &mut Bounded<Token>) -> Numbers
+    requires stands { StandsIn Array line.now tokens.old from.mode from.place }
+    requires begins { BeginsValue from.mode }
+    ensures leads { LeadsIn Array line.now tokens.old from.mode from.place tokens.new result.next.mode
+        result.next.place }
+    ensures kept { KeepsTokens tokens.old.elements tokens.new.elements }
+    ensures ended { IsTrue result.ended → EndsArray line.now result.next }
+    ensures begins { result.ended ≡ false → BeginsValue result.next.mode }
+    ensures order { from.place ≤ result.next.place }
+{
+    let mut next = from;
+    while next.place < line.len() {
+        let Some(stop) = number_stop(line, next.place) else {
+            return Numbers { next, ended: false };
+        };
+        if line[stop] == b',' {
+            keep_atom(next.place, stop, tokens);
+            next = Next {
+                mode: Mode::Ready,
+                place: stop + 1,
+            };
+        } else if line[stop] == b']' {
+            keep_atom(next.place, stop, tokens);
+            return Numbers {
+                next: Next {
+                    mode: Mode::After,
+                    place: stop,
+                },
+                ended: true,
+            };
+        } else {
+            return Numbers { next, ended: false };
+        }
+    }
+    Numbers { next, ended: false }
+}
+
+/// Reads the array that begins at `place`, if it has nothing but whole numbers, and leaves those
+/// that end with it. It stops before any other value.
+///
+/// Most arrays have whole numbers alone. So an array comes to the stack only if it has more.
+#[inline(always)]
+fn read_array(line: &[u8], from: Next, tokens: &mut Bounded<Token>, stack: &mut Stack) -> Inner
+    requires stands { Stands line.now tokens.old stack.old from.mode from.place }
+    requires array { InArray stack.old.elements tokens.old.elements }
+    requires begins { BeginsValue from.mode }
+    requires within { from.place < length line.now }
+    requires bracket { byte_of line.now from.place ≡ 91 }
+    requires shallow { length stack.old.elements < stack.old.limit }
+    ensures answer { (ts : BoundedList TokenOf) (ks : BoundedList ℕ)
+        → Standing line.now ts ks tokens.old stack.old from.mode from.place
+        → Standing line.now ts ks tokens.new stack.new result.next.mode result.next.place }
+    ensures array { IsInside tokens.new stack.new result }
+    ensures order { from.place < result.next.place }
+{
+    let index = tokens.len();
+    open_array(from.place, tokens);
+    let first = Next {
+        mode: Mode::FirstItem,
+        place: from.place + 1,
+    };
+    let numbers = read_numbers(line, first, tokens);
+    if numbers.ended {
+        close_token(index, numbers.next.place, tokens);
+        stack.note_item();
+        return leave_arrays(line, numbers.next.place + 1, tokens, stack);
+    }
+    stack.push_reserved(index as u32);
+    Inner {
+        next: numbers.next,
+        in_array: true,
+    }
+}
+
+/// Reads numbers of the innermost array, and leaves it if it ends after them.
+#[inline(always)]
+fn read_rest(line: &[u8], from: Next, tokens: &mut Bounded<Token>, stack: &mut Stack) -> Inner
+    requires stands { Stands line.now tokens.old stack.old from.mode from.place }
+    requires array { InArray stack.old.elements tokens.old.elements }
+    requires begins { BeginsValue from.mode }
+    ensures answer { (ts : BoundedList TokenOf) (ks : BoundedList ℕ)
+        → Standing line.now ts ks tokens.old stack.old from.mode from.place
+        → Standing line.now ts ks tokens.new stack.new result.next.mode result.next.place }
+    ensures array { IsInside tokens.new stack.new result }
+    ensures order { from.place ≤ result.next.place }
+    ensures further { IsTrue result.in_array → from.place < result.next.place }
+{
+    let numbers = read_numbers(line, from, tokens);
+    if numbers.ended {
+        return leave_arrays(line, numbers.next.place, tokens, stack);
+    }
+    outside_arrays(numbers.next)
+}
+
+/// Reads an array, or numbers of the innermost one.
+#[inline(always)]
+fn read_part(
+    line: &[u8],
+    from: Next,
+    tokens: &mut Bounded<Token>,
+    stack: &mut Stack,
+) -> Result<Inner, LineFault>
+    requires stands { Stands line.now tokens.old stack.old from.mode from.place }
+    requires array { InArray stack.old.elements tokens.old.elements }
+    requires begins { BeginsValue from.mode }
+    requires within { from.place < length line.now }
+    ensures answer { (ts : BoundedList TokenOf) (ks : BoundedList ℕ)
+        → Standing line.now ts ks tokens.old stack.old from.mode from.place
+        → GoesInto line.now ts ks result tokens.new stack.new }
+    ensures array { IfOk result (IsInside tokens.new stack.new) }
+    ensures order { IfOk result (λ n. from.place ≤ n.next.place) }
+    ensures further { IfOk result (λ n. IsTrue n.in_array → from.place < n.next.place) }
+{
+    if line[from.place] != b'[' {
+        return Ok(read_rest(line, from, tokens, stack));
+    }
+    if stack.len() == stack.limit() {
+        return Err(LineFault::TooDeep(from.place as u64));
+    }
+    Ok(read_array(line, from, tokens, stack))
 }
 
 /// Reads arrays and whole numbers from a place on where a value may begin in an array. It stops
@@ -117,42 +283,14 @@ pub fn read_arrays(
 {
     let mut next = from;
     while next.place < line.len() {
-        if line[next.place] != b'[' {
-            let Some(stop) = number_stop(line, next.place) else {
-                return Ok(next);
-            };
-            if line[stop] == b',' {
-                keep_atom(next.place, stop, tokens);
-                next = Next {
-                    mode: Mode::Ready,
-                    place: stop + 1,
-                };
-            } else if line[stop] == b']' {
-                keep_atom(next.place, stop, tokens);
-                let behind = close_arrays(line, stop, tokens, stack);
-                if !behind.comma {
-                    return Ok(Next {
-                        mode: Mode::After,
-                        place: behind.place,
-                    });
-                }
-                next = Next {
-                    mode: Mode::Ready,
-                    place: behind.place + 1,
-                };
-            } else {
-                return Ok(next);
-            }
-        } else {
-            match open(Kind::Array, Mode::FirstItem, next.place, tokens, stack) {
-                Ok(_) => {}
-                Err(fault) => return Err(fault),
-            }
-            next = Next {
-                mode: Mode::FirstItem,
-                place: next.place + 1,
-            };
+        let inner = match read_part(line, next, tokens, stack) {
+            Ok(inner) => inner,
+            Err(fault) => return Err(fault),
+        };
+        if !inner.in_array {
+            return Ok(inner.next);
         }
+        next = inner.next;
     }
     Ok(next)
 }

@@ -6,17 +6,18 @@
 ghost use Rattle.std.specs.Prelude.{◌≡◌, ◌+◌, ◌^◌, ◌≤◌, ◌<◌, ◌++◌, ◌∷◌, ◌↔◌, [], length, true, false, ℕ};
 ghost use Rattle.std.specs.Prelude.{IfOk, IfSome, IfNone, IsTrue};
 ghost use Rattle.cj_budget.specs.Bounded.{Becomes, BoundedList};
+ghost use Rattle.cj_spans.specs.declared.token.Kind.TheVariants.{Object};
 ghost use Rattle.cj_spans.specs.declared.token.Token.{Token as TokenOf};
 ghost use Rattle.cj_spans.specs.declared.step.Mode.TheVariants.{Ready, FirstItem};
 ghost use Rattle.cj_spans.specs.Json.{byte as byte_of};
 ghost use Rattle.cj_spans.specs.Preorder.{token_at};
 ghost use Rattle.cj_spans.specs.Machine.{IsQuoted, BeginsName, InObject, StaysInObjectNext};
-ghost use Rattle.cj_spans.specs.Pass.{Standing, Stands, StandsInObject, Leads, GoesInto, IsInside};
+ghost use Rattle.cj_spans.specs.Pass.{Standing, Stands, StandsIn, LeadsIn, GoesInto, IsInside};
 
 use crate::bytes::stands_at;
 use crate::fault::LineFault;
 use crate::lex::plain_string_stop;
-use crate::step::{Inner, Mode, Move, Next, open};
+use crate::step::{Inner, Mode, Move, Next, open, outside_arrays};
 use crate::token::{Kind, Token, keep_atom};
 use cj_budget::{Bounded, Stack};
 
@@ -43,10 +44,10 @@ fn read_string(line: &[u8], place: usize, tokens: &mut Bounded<Token>) -> Option
 /// there.
 #[inline(always)]
 fn pass_name(line: &[u8], from: Next, tokens: &mut Bounded<Token>) -> Next
-    requires stands { StandsInObject line.now tokens.old from.mode from.place }
+    requires stands { StandsIn Object line.now tokens.old from.mode from.place }
     requires within { from.place < length line.now }
     requires begins { BeginsName from.mode }
-    ensures leads { Leads line.now tokens.old from.mode from.place tokens.new result.mode result.place }
+    ensures leads { LeadsIn Object line.now tokens.old from.mode from.place tokens.new result.mode result.place }
     ensures further { result.mode ≡ Ready → from.place < result.place }
     ensures order { from.place ≤ result.place }
 {
@@ -69,8 +70,8 @@ fn pass_name(line: &[u8], from: Next, tokens: &mut Bounded<Token>) -> Next
 /// them as is there.
 #[inline(always)]
 fn pass_value(line: &[u8], place: usize, tokens: &mut Bounded<Token>) -> Next
-    requires stands { StandsInObject line.now tokens.old Ready place }
-    ensures leads { Leads line.now tokens.old Ready place tokens.new result.mode result.place }
+    requires stands { StandsIn Object line.now tokens.old Ready place }
+    ensures leads { LeadsIn Object line.now tokens.old Ready place tokens.new result.mode result.place }
     ensures order { place ≤ result.place }
 {
     let ready = Next {
@@ -104,17 +105,6 @@ fn begins_name(mode: Mode) -> bool
         Mode::FirstName => true,
         Mode::NextName => true,
         _ => false,
-    }
-}
-
-/// Returns this place as one where no value of an array comes.
-#[inline(always)]
-fn outside_arrays(next: Next) -> Inner
-    ensures { result ≡ record { next = next; in_array = false } }
-{
-    Inner {
-        next,
-        in_array: false,
     }
 }
 

@@ -367,3 +367,14 @@ pub struct Inner {
     pub next: Next,
     pub in_array: bool,
 }
+
+/// Returns this place as one where no value of an array comes.
+#[inline(always)]
+pub fn outside_arrays(next: Next) -> Inner
+    ensures { result ≡ record { next = next; in_array = false } }
+{
+    Inner {
+        next,
+        in_array: false,
+    }
+}

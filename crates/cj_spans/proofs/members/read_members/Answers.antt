@@ -4,7 +4,7 @@ use Rattle.cj_spans.specs.declared.step.Mode.TheVariants.{Ready, FirstItem, Firs
 use Rattle.cj_spans.specs.declared.step.Inner.{Inner}
 use Rattle.cj_spans.specs.Pass.{Standing, IsInside}
 use Rattle.cj_spans.proofs.Nested.{stands_on, stands_small, stands_within, stands_room, stands_reserved, opens_array, opens_object, standing_opened, opened_in, standing_refused}
-use Rattle.cj_spans.proofs.Named.{leads_from, stands_from, object_from, stands_inside}
+use Rattle.cj_spans.proofs.Leads.{leads_from, stands_from, innermost_from, stands_inside}
 use Rattle.cj_spans.proofs.members.read_members.Goals as goal
 
 pub open-requires-clause-small : goal.open-requires-clause-small
@@ -150,7 +150,7 @@ pass_value-next-requires c =
     n.result.place l.invariant.stands l.invariant.object n.ensures.leads c.in-Ready.is in
     record {
       stands = stands_inside c.args.line.now n.new.tokens l.stack Ready n.result.place s
-          (object_from c.args.line.now l.tokens n.new.tokens l.stack l.next.mode n.result.mode l.next.place
+          (innermost_from c.args.line.now l.tokens n.new.tokens l.stack l.next.mode n.result.mode l.next.place
           n.result.place l.invariant.stands l.invariant.object n.ensures.leads);
     }
 
@@ -164,7 +164,7 @@ loop-next-preserved c =
     n.result.place l.invariant.object n.ensures.leads c.in-Ready.is in
     let v = c.pass_value-next in
     let order = l.invariant.order in let more = n.ensures.order in let most = v.ensures.order in
-    let object = object_from c.args.line.now l.tokens n.new.tokens l.stack l.next.mode n.result.mode l.next.place
+    let object = innermost_from c.args.line.now l.tokens n.new.tokens l.stack l.next.mode n.result.mode l.next.place
     n.result.place l.invariant.stands l.invariant.object n.ensures.leads in
     let go = leads_from c.args.line.now n.new.tokens v.new.tokens l.stack Ready v.result.mode v.result.mode
     n.result.place v.result.place object v.ensures.leads refl in
@@ -172,7 +172,7 @@ loop-next-preserved c =
       stands = stands_on c.args.line.now n.new.tokens v.new.tokens l.stack l.stack Ready v.result.mode n.result.place
           v.result.place s go;
       answer = λ ts ks z. go ts ks (from ts ks (l.invariant.answer ts ks z));
-      object = object_from c.args.line.now n.new.tokens v.new.tokens l.stack Ready v.result.mode n.result.place
+      object = innermost_from c.args.line.now n.new.tokens v.new.tokens l.stack Ready v.result.mode n.result.place
           v.result.place s object v.ensures.leads;
       order = omega arith;
     }

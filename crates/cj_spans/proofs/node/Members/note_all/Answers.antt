@@ -1,4 +1,4 @@
-use Rattle.std.proofs.Common.{◌≡◌, ◌+◌, ◌∙◌, ◌<◌, Bool, true, false, map, ap, sym, subst, arith}
+use Rattle.std.proofs.Common.{◌+◌, ◌∙◌, map, ap, sym, subst, arith}
 use Rattle.std.proofs.lemmas.Bool.{false≢true}
 use Rattle.cj_spans.specs.Initials.{are_apart}
 use Rattle.cj_spans.specs.Noted.{AreNoted, IsPlace, is_noted, members_from}

@@ -1,4 +1,4 @@
-use Rattle.std.proofs.Common.{◌≡◌, ◌<◌, ◌-◌, true, map, replicate, false}
+use Rattle.std.proofs.Common.{◌≡◌, ◌<◌, ◌-◌, true, map}
 use Rattle.cj_spans.specs.Initials.{are_apart, begin_apart}
 use Rattle.cj_spans.specs.Noted.{AreNoted, members_from, is_noted}
 use Rattle.cj_spans.specs.Sound.{AreWhole, ShowMembers}

@@ -1,4 +1,4 @@
-use Rattle.std.proofs.Common.{refl, ◌+◌}
+use Rattle.std.proofs.Common.{refl}
 use Rattle.cj_spans.specs.View.{tree, source_of, members_source, members_left}
 use Rattle.cj_spans.proofs.Walks.{members_from_link}
 use Rattle.cj_spans.proofs.node.Node.walk.Goals as goal

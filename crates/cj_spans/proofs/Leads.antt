@@ -1,0 +1,253 @@
+-- Calls that leave the stack: where the pass stands behind them, in whatever container is innermost.
+use Rattle.std.proofs.Common.{◌≡◌, ℕ, ◌+◌, ◌<◌, List, [], ◌∷◌, ◌++◌, length, max, zero, suc, ◌≤◌, refl, subst, sym, ap, ◌∙◌, inl, arith, Some, Ok, Err, slice_get, slice_set}
+use Rattle.cj_spans.proofs.Lists.{slice_get-append}
+use Rattle.std.specs.Prelude.{IsTrue}
+use Rattle.cj_budget.specs.Bounded.{BoundedList, Becomes, IsWithin}
+use Rattle.cj_spans.specs.declared.fault.LineFault.TheVariants.{TooDeep}
+use Rattle.cj_spans.specs.declared.token.Kind.{Kind}
+use Rattle.cj_spans.specs.declared.token.Kind.TheVariants.{Array}
+use Rattle.cj_spans.specs.declared.token.Token.{Token}
+use Rattle.cj_spans.specs.declared.step.Mode.{Mode}
+use Rattle.cj_spans.specs.declared.step.Mode.TheVariants.{Ready, FirstItem, After}
+use Rattle.cj_spans.specs.declared.step.Move.TheVariants.{Open}
+use Rattle.cj_spans.specs.Json.{byte}
+use Rattle.cj_spans.specs.Preorder.{token_at}
+use Rattle.cj_spans.specs.Machine.{state, between, start, with_opened, read, after_in, after_token, ComesTo, ReadsByte, Grown, BeginsValue, InArray, IsInnermost, IsNumberUpTo, EndsItem, FitsToken}
+use Rattle.cj_spans.specs.Pass.{Standing, Stands, StandsIn, LeadsIn, GoesOn, KeepsTokens}
+use Rattle.cj_spans.proofs.Nested.{stands_on, stands_small, stands_room, stands_within, standing_number, standing_comma, standing_opened, standing_closed, standing_refused, opened_in, opens_array}
+use Rattle.std.proofs.lemmas.Option.{slice_get_within}
+use Rattle.cj_spans.proofs.Spellings.{some_same}
+use Rattle.cj_spans.proofs.Runs.{idle}
+use Rattle.cj_spans.proofs.Standing.{grown_more, grown_same, kept_same}
+use Rattle.cj_spans.proofs.Signs.{innermost_more}
+
+module _ {d : Kind} (b : List ℕ) (ts : BoundedList Token) where
+  pub leads_here : (m : Mode) (i : ℕ) → LeadsIn d b ts m i ts m i
+  leads_here m i = λ t0 s0 ks o s. (o, s)
+
+  pub leads_on : (us vs : BoundedList Token) (m n o : Mode) (i j k : ℕ) → LeadsIn d b ts m i us n j
+      → LeadsIn d b us n j vs o k → LeadsIn d b ts m i vs o k
+  leads_on us vs m n o i j k f g = λ t0 s0 ks a s. let h = f t0 s0 ks a s in g t0 s0 ks h.0 h.1
+
+  pub stands_leads : (us : BoundedList Token) (m n : Mode) (i j : ℕ) → StandsIn d b ts m i → LeadsIn d b ts m i us n j
+      → StandsIn d b us n j
+  stands_leads us m n i j s f =
+      let h = f s.stands.tokens0 s.stands.stack0 s.stack s.innermost s.stands.standing in
+      record {
+        stack = s.stack;
+        stands = record {
+          tokens0 = s.stands.tokens0;
+          stack0 = s.stands.stack0;
+          standing = h.1;
+          room = s.stands.room;
+        };
+        innermost = h.0;
+      }
+
+  -- the same where the stack is known
+  pub stands_inside : (ks : BoundedList ℕ) (m : Mode) (i : ℕ) → Stands b ts ks m i
+      → IsInnermost d ks.elements ts.elements → StandsIn d b ts m i
+  stands_inside ks m i s a = record { stack = ks; stands = s; innermost = a }
+
+  pub leads_from : (us : BoundedList Token) (ks : BoundedList ℕ) (m n o : Mode) (i j : ℕ)
+      → IsInnermost d ks.elements ts.elements → LeadsIn d b ts m i us n j → n ≡ o → (t0 : BoundedList Token)
+      → (s0 : BoundedList ℕ) → Standing b t0 s0 ts ks m i → Standing b t0 s0 us ks o j
+  leads_from us ks m n o i j a f e t0 s0 s = subst (λ x. Standing b t0 s0 us ks x j) e (f t0 s0 ks a s).1
+
+  pub stands_from : (us : BoundedList Token) (ks : BoundedList ℕ) (m n o : Mode) (i j : ℕ) → Stands b ts ks m i
+      → IsInnermost d ks.elements ts.elements → LeadsIn d b ts m i us n j → n ≡ o → Stands b us ks o j
+  stands_from us ks m n o i j s a f e = stands_on b ts us ks ks m o i j s (leads_from us ks m n o i j a f e)
+
+  pub innermost_from : (us : BoundedList Token) (ks : BoundedList ℕ) (m n : Mode) (i j : ℕ) → Stands b ts ks m i
+      → IsInnermost d ks.elements ts.elements → LeadsIn d b ts m i us n j → IsInnermost d ks.elements us.elements
+  innermost_from us ks m n i j s a f = (f s.tokens0 s.stack0 ks a s.standing).0
+
+-- ---- numbers of an array
+
+pub kept_more : (ts us vs : List Token) → us ≡ ts ++ vs → KeepsTokens ts us
+kept_more ts us vs e = λ j t h. subst (λ z. slice_get z j ≡ Some t) (sym e) (slice_get-append ts vs j t h)
+
+module _ (b : List ℕ) (ts us : BoundedList Token) (m : Mode) (i k : ℕ) (v : BeginsValue m) (n : IsNumberUpTo b i k)
+    (e : Becomes ts (ts.elements ++ token_at i k (length ts.elements + 1) ∷ []) us) where
+  pub leads_number : EndsItem (byte b k) → LeadsIn Array b ts m i us After k
+  leads_number w = λ t0 s0 ks a s. (
+    innermost_more Array ks.elements ts.elements us.elements _ a e.elements,
+    standing_number b t0 s0 ts us ks m i k s v n w e,
+  )
+
+  -- and its comma
+  pub leads_item : byte b k ≡ 44 → LeadsIn Array b ts m i us Ready (k + 1)
+  leads_item c = λ t0 s0 ks a s.
+      let h = leads_number (inl c) t0 s0 ks a s in
+      (h.0, standing_comma b t0 s0 us ks k h.1 n.within c h.0)
+
+pub kept_all : (ts us vs : List Token) → KeepsTokens ts us → KeepsTokens us vs → KeepsTokens ts vs
+kept_all ts us vs f g = λ k t h. g k t (f k t h)
+
+-- what the calls need
+pub in_small : (d : Kind) (b : List ℕ) (ts : BoundedList Token) (m : Mode) (i : ℕ) → StandsIn d b ts m i → i < length b
+    → FitsToken i ts
+in_small d b ts m i s l = stands_small b ts s.stack m i s.stands l
+
+pub in_room : (d : Kind) (b : List ℕ) (ts : BoundedList Token) (m : Mode) (i : ℕ) → StandsIn d b ts m i → i < length b
+    → BeginsValue m → length ts.elements < ts.limit
+in_room d b ts m i s l v = stands_room b ts s.stack m i s.stands l v
+
+-- ---- an array that is not put on the stack
+
+-- the stack with an item more, as if it were put there
+abbrev pub with_top : BoundedList ℕ → ℕ → BoundedList ℕ
+with_top ks k = record ks { elements = k ∷ ks.elements; peak = max ks.peak (suc (length ks.elements)) }
+
+module _ (b : List ℕ) (ts us : BoundedList Token) (ks : BoundedList ℕ) (m : Mode) (i : ℕ)
+    (e : Becomes ts (ts.elements ++ token_at i 0 0 ∷ []) us) (w : IsWithin ts) (x : IsWithin ks)
+    (f : length ks.elements < ks.limit) where
+  -- the bracket opens it
+  array_opens : ReadsByte (λ s. Some (with_opened Array FirstItem s)) i (Ok (Open FirstItem)) ts us ks
+      (with_top ks (length ts.elements))
+  array_opens =
+      let p = x.below_peak in let q = x.below_limit in
+      record {
+        answer = λ n p. ap (λ z. Some (state (between FirstItem) (length ts.elements ∷ ks.elements) z (suc i)
+            (max p (suc (length ks.elements))))) (sym e.elements);
+        tokens = grown_more ts us _ w e;
+        stack = record {
+          limit = refl;
+          peak = refl;
+          room = λ r. r;
+          within = record { below_peak = omega arith; below_limit = omega arith };
+        };
+        err = tt;
+      }
+
+  pub flat_opened : BeginsValue m → i < length b → byte b i ≡ 91 → (t0 : BoundedList Token) (s0 : BoundedList ℕ)
+      → Standing b t0 s0 ts ks m i → Standing b t0 s0 us (with_top ks (length ts.elements)) FirstItem (i + 1)
+  flat_opened v l h = standing_opened Array FirstItem 91 opens_array b ts us ks (with_top ks (length ts.elements)) m i
+      (Open FirstItem) array_opens v l h
+
+  pub flat_in : InArray (length ts.elements ∷ ks.elements) us.elements
+  flat_in = opened_in Array FirstItem 91 opens_array b ts us ks (with_top ks (length ts.elements)) m i
+      (Open FirstItem) array_opens
+
+pub top_there : (ks : List ℕ) (k : ℕ) (ts : List Token) (a : InArray (k ∷ ks) ts) → slice_get ts k ≡ Some a.token
+top_there ks k ts a = subst (λ z. slice_get ts z ≡ Some a.token) (sym (some_same k a.top a.innermost)) a.there
+
+-- the machine closes the innermost array, whose token is then whole
+array_closes : (ks : List ℕ) (k : ℕ) (ts us : List Token) (i : ℕ) → InArray (k ∷ ks) ts
+    → ((t : Token) → slice_get ts k ≡ Some t → us ≡ slice_set ts k (token_at t.start (suc i) (length ts)))
+    → (p : ℕ) → read After 93 (idle After (k ∷ ks) ts i p) ≡ Some (idle After ks us (suc i) p)
+array_closes ks k ts us i a h p =
+    let u = idle After (k ∷ ks) ts i p in
+    let there = top_there ks k ts a in
+    ap (λ o. after_token 93 k o u) there ∙ ap (λ g. after_in g 93 k a.token u) a.kind
+    ∙ ap (λ z. Some (idle After ks z (suc i) p)) (sym (h a.token there))
+
+-- behind the bracket of an array that was never put on the stack, which notes an item more
+pub flat_closed : (b : List ℕ) (ts us : BoundedList Token) (ks ks1 : BoundedList ℕ) (k i : ℕ) → i < length b
+    → byte b i ≡ 93 → InArray (k ∷ ks.elements) ts.elements → IsWithin ks → IsWithin ks1
+    → ks1 ≡ record ks { peak = max ks.peak (length ks.elements + 1) }
+    → ((t : Token) → slice_get ts.elements k ≡ Some t
+    → us.elements ≡ slice_set ts.elements k (token_at t.start (suc i) (length ts.elements))) → Grown ts us
+    → (t0 : BoundedList Token) (s0 : BoundedList ℕ) → Standing b t0 s0 ts (with_top ks k) After i
+    → Standing b t0 s0 us ks1 After (i + 1)
+flat_closed b ts us ks ks1 k i l e a x y f h g t0 s0 s =
+    let limit = ap (λ z. z.limit) f in
+    let peak = ap (λ z. z.peak) f in
+    let elements = ap (λ z. z.elements) f in
+    let n : length ks1.elements ≡ length ks.elements = ap length elements in
+    let p = x.below_peak in
+    standing_closed b t0 s0 ts us (with_top ks k) ks1 i s l e g
+    (record { limit = limit; peak = omega arith; room = λ r. subst IsTrue (sym (ap (λ z. z.reserved) f)) r; within = y })
+    (λ q. subst (λ z. read After 93 (idle After (k ∷ ks.elements) ts.elements i q)
+    ≡ Some (idle After z us.elements (suc i) q)) (sym elements)
+    (array_closes ks.elements k ts.elements us.elements i a h q))
+
+-- the same stack, however it came to be
+pub standing_stack : (b : List ℕ) (ts : BoundedList Token) (ks ks1 : BoundedList ℕ) (k : ℕ) (m : Mode) (i : ℕ)
+    → Becomes ks (k ∷ ks.elements) ks1 → (t0 : BoundedList Token) (s0 : BoundedList ℕ)
+    → Standing b t0 s0 ts (with_top ks k) m i → Standing b t0 s0 ts ks1 m i
+standing_stack b ts ks ks1 k m i e t0 s0 s = record {
+  deepest = s.deepest;
+  settles = subst (λ z. ComesTo b start (state (between m) z ts.elements i s.deepest)) (sym e.elements) s.settles;
+  place = s.place;
+  kept = s.kept;
+  stack_limit = e.limit ∙ s.stack_limit;
+  stack_peak = e.peak ∙ s.stack_peak;
+  stack_room = λ r. e.room (s.stack_room r);
+  stack_within = e.within;
+}
+
+-- a token before the one that is set
+get_before : (ts : List Token) (k j : ℕ) (u : Token) → j < k → slice_get (slice_set ts k u) j ≡ slice_get ts j
+get_before [] k j u l = refl
+get_before (z ∷ ts) zero j u l = absurd (omega arith)
+get_before (z ∷ ts) (suc k) zero u l = refl
+get_before (z ∷ ts) (suc k) (suc j) u l = get_before ts k j u (omega arith)
+
+-- an array stays the innermost, when tokens come behind it and the first of these is set
+pub outer_stays : (ks : List ℕ) (ts us vs : List Token) (k : ℕ) (t : Token) → InArray ks ts → length ts ≤ k
+    → KeepsTokens ts us → vs ≡ slice_set us k t → InArray ks vs
+outer_stays ks ts us vs k t a l f e = record {
+  top = a.top;
+  token = a.token;
+  innermost = a.innermost;
+  there =
+      let h = slice_get_within ts a.top a.token a.there in
+      subst (λ z. slice_get z a.top ≡ Some a.token) (sym e)
+      (get_before us k a.top t (omega arith) ∙ f a.top a.token a.there);
+  kind = a.kind;
+}
+
+-- an array opens with the bracket at the place i and is not put on the stack, and a call then leads to the mode n at j
+module _ (b : List ℕ) (ts us vs : BoundedList Token) (ks : BoundedList ℕ) (m n : Mode) (i j : ℕ) (s : Stands b ts ks m i)
+    (v : BeginsValue m) (l : i < length b) (h : byte b i ≡ 91) (f : length ks.elements < ks.limit)
+    (e : Becomes ts (ts.elements ++ token_at i 0 0 ∷ []) us) where
+  abbrev top : BoundedList ℕ
+  top = with_top ks (length ts.elements)
+
+  opens_flat : (t0 : BoundedList Token) (s0 : BoundedList ℕ) → Standing b t0 s0 ts ks m i
+      → Standing b t0 s0 us top FirstItem (i + 1)
+  opens_flat = let w = stands_within b ts ks m i s in flat_opened b ts us ks m i e w.0 w.1 f v l h
+
+  inside : InArray (length ts.elements ∷ ks.elements) us.elements
+  inside = let w = stands_within b ts ks m i s in flat_in b ts us ks m i e w.0 w.1 f
+
+  pub flat_stands : StandsIn Array b us FirstItem (i + 1)
+  flat_stands = record {
+    stack = top;
+    stands = stands_on b ts us ks top m FirstItem i (i + 1) s opens_flat;
+    innermost = inside;
+  }
+
+  module _ (g : LeadsIn Array b us FirstItem (i + 1) vs n j) where
+    pub flat_read : (t0 : BoundedList Token) (s0 : BoundedList ℕ) → Standing b t0 s0 ts ks m i
+        → Standing b t0 s0 vs top n j
+    flat_read t0 s0 z = (g t0 s0 top inside (opens_flat t0 s0 z)).1
+
+    pub flat_innermost : InArray (length ts.elements ∷ ks.elements) vs.elements
+    flat_innermost = (g s.tokens0 s.stack0 top inside (opens_flat s.tokens0 s.stack0 s.standing)).0
+
+    pub flat_inside : StandsIn Array b vs n j
+    flat_inside = stands_leads b us vs FirstItem n (i + 1) j flat_stands g
+
+pub index_within : (ks : List ℕ) (k : ℕ) (ts : List Token) → InArray (k ∷ ks) ts → k < length ts
+index_within ks k ts a = slice_get_within ts k a.token (top_there ks k ts a)
+
+-- the bracket of an array is refused, where the stack is full
+array_refused : (ts : BoundedList Token) (ks : BoundedList ℕ) (i : ℕ) → IsWithin ts → IsWithin ks
+    → length ks.elements ≡ ks.limit
+    → ReadsByte (λ s. Some (with_opened Array FirstItem s)) i (Err (TooDeep i)) ts ts ks ks
+array_refused ts ks i w x e = record {
+  answer = λ m p. (refl, ap suc e);
+  tokens = grown_same ts w;
+  stack = kept_same ks x;
+  err = (refl, omega arith);
+}
+
+pub too_deep : (b : List ℕ) (ts : BoundedList Token) (ks : BoundedList ℕ) (m : Mode) (i : ℕ) → Stands b ts ks m i
+    → BeginsValue m → i < length b → byte b i ≡ 91 → length ks.elements ≡ ks.limit → (t0 : BoundedList Token)
+    → (s0 : BoundedList ℕ) → Standing b t0 s0 ts ks m i → GoesOn b t0 s0 (Err (TooDeep i)) ts ks
+too_deep b ts ks m i s v l h e t0 s0 z =
+    let w = stands_within b ts ks m i s in
+    standing_refused Array FirstItem 91 opens_array b ts ts ks ks m i (TooDeep i) (array_refused ts ks i w.0 w.1 e) v l h
+    t0 s0 z
