@@ -1,5 +1,5 @@
 -- Calls that leave the stack: where the pass stands behind them, in whatever container is innermost.
-use Rattle.std.proofs.Common.{◌≡◌, ℕ, ◌+◌, ◌<◌, List, [], ◌∷◌, ◌++◌, length, max, zero, suc, ◌≤◌, refl, subst, sym, ap, ◌∙◌, inl, arith, Some, Ok, Err, slice_get, slice_set}
+use Rattle.std.proofs.Common.{◌≡◌, ℕ, ◌+◌, ◌<◌, List, [], ◌∷◌, ◌++◌, length, max, zero, suc, ◌≤◌, refl, subst, sym, ap, ◌∙◌, inl, inr, true, false, arith, Some, Ok, Err, slice_get, slice_set}
 use Rattle.cj_spans.proofs.Lists.{slice_get-append}
 use Rattle.std.specs.Prelude.{IsTrue}
 use Rattle.cj_budget.specs.Bounded.{BoundedList, Becomes, IsWithin}
@@ -10,10 +10,12 @@ use Rattle.cj_spans.specs.declared.token.Token.{Token}
 use Rattle.cj_spans.specs.declared.step.Mode.{Mode}
 use Rattle.cj_spans.specs.declared.step.Mode.TheVariants.{Ready, FirstItem, After}
 use Rattle.cj_spans.specs.declared.step.Move.TheVariants.{Open}
+use Rattle.cj_spans.specs.declared.step.Next.{Next}
+use Rattle.cj_spans.specs.declared.arrays.Numbers.{Numbers}
 use Rattle.cj_spans.specs.Json.{byte}
 use Rattle.cj_spans.specs.Preorder.{token_at}
 use Rattle.cj_spans.specs.Machine.{state, between, start, with_opened, read, after_in, after_token, ComesTo, ReadsByte, Grown, BeginsValue, InArray, IsInnermost, IsNumberUpTo, EndsItem, FitsToken}
-use Rattle.cj_spans.specs.Pass.{Standing, Stands, StandsIn, LeadsIn, GoesOn, KeepsTokens}
+use Rattle.cj_spans.specs.Pass.{Standing, Stands, StandsIn, LeadsIn, GoesOn, KeepsTokens, ReadsNumbers}
 use Rattle.cj_spans.proofs.Nested.{stands_on, stands_small, stands_room, stands_within, standing_number, standing_comma, standing_opened, standing_closed, standing_refused, opened_in, opens_array}
 use Rattle.std.proofs.lemmas.Option.{slice_get_within}
 use Rattle.cj_spans.proofs.Spellings.{some_same}
@@ -83,6 +85,63 @@ module _ (b : List ℕ) (ts us : BoundedList Token) (m : Mode) (i k : ℕ) (v : 
 
 pub kept_all : (ts us vs : List Token) → KeepsTokens ts us → KeepsTokens us vs → KeepsTokens ts vs
 kept_all ts us vs f g = λ k t h. g k t (f k t h)
+
+-- ---- calls that read numbers
+
+-- more numbers may come
+abbrev before_more : Next → Numbers
+before_more n = record { next = n; ended = false }
+
+pub reads_none : (b : List ℕ) (ts : BoundedList Token) (f : Next) → BeginsValue f.mode
+    → ReadsNumbers b ts f ts (before_more f)
+reads_none b ts f v = record {
+  leads = leads_here b ts f.mode f.place;
+  kept = λ k t h. h;
+  ended = λ t. cc;
+  begins = λ e. v;
+  order = omega arith;
+}
+
+-- one call after another
+pub reads_on : (b : List ℕ) (ts us vs : BoundedList Token) (f n : Next) (r : Numbers)
+    → ReadsNumbers b ts f us (before_more n) → ReadsNumbers b us n vs r → ReadsNumbers b ts f vs r
+reads_on b ts us vs f n r x y =
+    let first = x.order in let more = y.order in
+    record {
+      leads = leads_on b ts us vs f.mode n.mode r.next.mode f.place n.place r.next.place x.leads y.leads;
+      kept = kept_all ts.elements us.elements vs.elements x.kept y.kept;
+      ended = y.ended;
+      begins = y.begins;
+      order = omega arith;
+    }
+
+-- a number and its comma
+pub reads_item : (b : List ℕ) (ts us : BoundedList Token) (f : Next) (k : ℕ) → BeginsValue f.mode
+    → IsNumberUpTo b f.place k → Becomes ts (ts.elements ++ token_at f.place k (length ts.elements + 1) ∷ []) us
+    → byte b k ≡ 44 → ReadsNumbers b ts f us (before_more (record { mode = Ready; place = k + 1 }))
+reads_item b ts us f k v n e c =
+    let further = n.order in
+    record {
+      leads = leads_item b ts us f.mode f.place k v n e c;
+      kept = kept_more ts.elements us.elements _ e.elements;
+      ended = λ t. cc;
+      begins = λ q. tt;
+      order = omega arith;
+    }
+
+-- the last number of an array
+pub reads_last : (b : List ℕ) (ts us : BoundedList Token) (f : Next) (k : ℕ) → BeginsValue f.mode
+    → IsNumberUpTo b f.place k → Becomes ts (ts.elements ++ token_at f.place k (length ts.elements + 1) ∷ []) us
+    → byte b k ≡ 93 → ReadsNumbers b ts f us (record { next = record { mode = After; place = k }; ended = true })
+reads_last b ts us f k v n e c =
+    let further = n.order in
+    record {
+      leads = leads_number b ts us f.mode f.place k v n e (inr c);
+      kept = kept_more ts.elements us.elements _ e.elements;
+      ended = λ t. record { after = refl; within = n.within; bracket = c };
+      begins = λ q. cc;
+      order = omega arith;
+    }
 
 -- what the calls need
 pub in_small : (d : Kind) (b : List ℕ) (ts : BoundedList Token) (m : Mode) (i : ℕ) → StandsIn d b ts m i → i < length b

@@ -16,6 +16,7 @@ pub mod Forests
 pub mod Standing
 pub mod Nested
 pub mod Leads
+pub mod Blocks
 pub mod Named
 pub mod WholeNumbers
 pub mod Signs

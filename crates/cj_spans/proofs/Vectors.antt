@@ -6,7 +6,7 @@ use Rattle.std.specs.Simd.Lanes.{zip2, mask_l, sel_l, top, chunk}
 use Rattle.std.specs.List.{prefix_len}
 use Rattle.std.specs.Int.Count.{count_trailing_zeros}
 use Rattle.std.proofs.lemmas.List.Sums.{prefix_len-le-length, prefix_len_passes}
-use Rattle.std.proofs.lemmas.Simd.{bit_mask_l, get_or-chunk, leading_from_mask_l, tops_compared, bitmask_splat, zip2_splat, zip2_splat_left, mask_l-mod, map-map, length-chunk, none_from_empty_mask, trailing_mask_l, run_in_chunk_le, run_in_chunk_fails}
+use Rattle.std.proofs.lemmas.Simd.{bit_mask_l, mask_l-lt, get_or-chunk, leading_from_mask_l, tops_compared, bitmask_splat, zip2_splat, zip2_splat_left, mask_l-mod, map-map, length-chunk, none_from_empty_mask, trailing_mask_l, run_in_chunk_le, run_in_chunk_fails}
 use Rattle.std.proofs.lemmas.List.{length-map, get_or-map, map-id}
 use Rattle.std.proofs.Math.Nat.{div-eq_of_lt}
 use Rattle.std.proofs.Math.Pow.{pow_mono}
@@ -14,7 +14,7 @@ use Rattle.cj_spans.specs.Spelling.{is_plain}
 use Rattle.cj_spans.specs.Json.{byte}
 use Rattle.cj_spans.specs.Machine.{is_digit}
 use Rattle.cj_spans.specs.Decoding.{AreAlike}
-use Rattle.cj_spans.specs.Wholes.{IsWholeSign}
+use Rattle.cj_spans.specs.Wholes.{IsWholeSign, AreMarkedTo}
 
 -- how far a byte is above `0`, where bytes below it come last
 abbrev above : ℕ → ℕ
@@ -30,28 +30,63 @@ digit_from x l h = let e : (x + 208) % 256 ≤ 9 = grind (arith, nat_tests) in t
     test : (x : ℕ) → 48 ≤ x → x ≤ 57 → is_digit x ≡ true
     test x a b = grind (arith, nat_tests)
 
--- the marks of the lanes above n
-marks_over : (n : ℕ) (v : List ℕ) → length v ≡ 16
-    → mask_l (map (top 7) (zip2 (λ a c. cond (ltb a c) 255 0) (replicate 16 n) v)) % 2 ^ 64
+-- the marks of the m lanes above n
+marks_over : (m n : ℕ) (v : List ℕ) → length v ≡ m → m ≤ 64
+    → mask_l (map (top 7) (zip2 (λ a c. cond (ltb a c) 255 0) (replicate m n) v)) % 2 ^ 64
     ≡ mask_l (map (λ y. ltb n y) v)
-marks_over n v long =
-    ap (λ ms. mask_l ms % 2 ^ 64) (tops_compared w8 ltb (replicate 16 n) v ∙ zip2_splat_left ltb n 16 v long)
+marks_over m n v long few =
+    ap (λ ms. mask_l ms % 2 ^ 64) (tops_compared w8 ltb (replicate m n) v ∙ zip2_splat_left ltb n m v long)
     ∙ mask_l-mod (map (λ y. ltb n y) v) 64 (omega (arith, length-map v (λ y. ltb n y)))
 
--- the marks of the bytes from i on that are no digits
+-- the marks of the m bytes from i on that are no digits
+abbrev marks_of : ℕ → List ℕ → ℕ → ℕ
+marks_of m b i =
+    mask_l (map (top 7) (zip2 (λ a c. cond (ltb a c) 255 0) (replicate m 9)
+    (zip2 (λ a c. (a + (256 - c)) % 256) (chunk i m b) (replicate m 48)))) % 2 ^ 64
+
+marks_are : (m : ℕ) (b : List ℕ) (i : ℕ) → i + m ≤ length b → m ≤ 64 → marks_of m b i ≡ mask_l (map other (chunk i m b))
+marks_are m b i room few =
+    let v = chunk i m b in
+    let long : length v ≡ m = length-chunk i m b room in
+    ap (λ w. mask_l (map (top 7) (zip2 (λ a c. cond (ltb a c) 255 0) (replicate m 9) w)) % 2 ^ 64)
+    (zip2_splat (λ a c. (a + (256 - c)) % 256) v m 48 long)
+    ∙ marks_over m 9 (map above v) (length-map v above ∙ long) few
+    ∙ ap mask_l (map-map (λ y. ltb 9 y) above v)
+
 abbrev pub digit_marks : List ℕ → ℕ → ℕ
-digit_marks b i =
-    mask_l (map (top 7) (zip2 (λ a c. cond (ltb a c) 255 0) (replicate 16 9)
-    (zip2 (λ a c. (a + (256 - c)) % 256) (chunk i 16 b) (replicate 16 48)))) % 2 ^ 64
+digit_marks b i = marks_of 16 b i
 
 digit_marks_are : (b : List ℕ) (i : ℕ) → i + 16 ≤ length b → digit_marks b i ≡ mask_l (map other (chunk i 16 b))
-digit_marks_are b i room =
-    let v = chunk i 16 b in
-    let long : length v ≡ 16 = length-chunk i 16 b room in
-    ap (λ w. mask_l (map (top 7) (zip2 (λ a c. cond (ltb a c) 255 0) (replicate 16 9) w)) % 2 ^ 64)
-    (zip2_splat (λ a c. (a + (256 - c)) % 256) v 16 48 long)
-    ∙ marks_over 9 (map above v) (length-map v above ∙ long)
-    ∙ ap mask_l (map-map (λ y. ltb 9 y) above v)
+digit_marks_are b i room = marks_are 16 b i room (omega arith)
+
+unset : (x : Bool) → ◌≡◌ {A = ℕ} (cond x 1 0) 0 → x ≡ false
+unset true h = absurd (omega arith)
+unset false h = refl
+
+-- the marks of 32 bytes
+pub block_marked : (b : List ℕ) (i : ℕ) → i + 32 ≤ length b → ((k : ℕ) → byte b k < 256)
+    → AreMarkedTo b i (i + 32) (marks_of 32 b i)
+block_marked b i room small =
+    let v = chunk i 32 b in
+    let e = marks_are 32 b i room (omega arith) in
+    let long : length (map other v) ≡ 32 = length-map v other ∙ length-chunk i 32 b room in
+    record {
+      order = omega arith;
+      near = omega arith;
+      within = room;
+      few =
+          let q : i + 32 - i ≡ 32 = omega arith in
+          subst (λ n. marks_of 32 b i < 2 ^ n) (sym q)
+          (subst (λ n. n < 2 ^ 32) (sym e) (subst (λ n. mask_l (map other v) < 2 ^ n) long (mask_l-lt (map other v))));
+      digits = λ k l h.
+          let few : k < 32 = omega arith in
+          let at : get_or (map other v) k false ≡ other (byte b (i + k)) =
+          get_or-map other v k 0 false (omega (arith, length-chunk i 32 b room))
+          ∙ ap other (get_or-chunk i 32 b k 0 few) in
+          digit_from (byte b (i + k)) (small (i + k))
+          (sym at ∙ unset (get_or (map other v) k false)
+          (sym (bit_mask_l (map other v) k) ∙ ap (λ n. n / 2 ^ k % 2) (sym e) ∙ h));
+    }
 
 pub all_digits : (b : List ℕ) (i : ℕ) → i + 16 ≤ length b → ((k : ℕ) → byte b k < 256) → digit_marks b i ≡ 0 → (k : ℕ)
     → i ≤ k → k < i + 16 → is_digit (byte b k) ≡ true
@@ -199,7 +234,7 @@ foreign_marks_are b i room =
     (zip2 (λ a c. (a + (256 - c)) % 256) u (replicate 16 44)))) % 2 ^ 64) (without_is 46 v long)
     ∙ ap (λ u. mask_l (map (top 7) (zip2 (λ a c. cond (ltb a c) 255 0) (replicate 16 13) u)) % 2 ^ 64)
     (zip2_splat (λ a c. (a + (256 - c)) % 256) w 16 44 long1)
-    ∙ marks_over 13 (map (λ a. (a + 212) % 256) w) (length-map w (λ a. (a + 212) % 256) ∙ long1)
+    ∙ marks_over 16 13 (map (λ a. (a + 212) % 256) w) (length-map w (λ a. (a + 212) % 256) ∙ long1) (omega arith)
     ∙ ap mask_l (map-map (λ y. ltb 13 y) (λ a. (a + 212) % 256) w
     ∙ map-map (λ a. ltb 13 ((a + 212) % 256)) (dropped 46) v)
 
@@ -217,10 +252,6 @@ signs_above b i room small j k low order few =
     ∙ ap foreign (get_or-chunk i 16 b k 0 few) in
     sign_from (byte b (i + k)) (small (i + k))
     (sym at ∙ unset (get_or (map foreign v) k false) (sym bit ∙ ap (λ n. n % 2) none))
-  where
-    unset : (x : Bool) → ◌≡◌ {A = ℕ} (cond x 1 0) 0 → x ≡ false
-    unset true h = absurd (omega arith)
-    unset false h = refl
 
 -- ---- bytes of two strings
 

@@ -1,12 +1,14 @@
 -- Where the pass over a line stands in the machine. Only private clauses cite it.
-use Rattle.std.specs.Prelude.{◌≡◌, ℕ, ◌+◌, ◌/◌, ◌<◌, ◌≤◌, List, length, max, slice_get, Some, Result, Ok, Err, IsTrue}
+use Rattle.std.specs.Prelude.{◌≡◌, ℕ, ◌+◌, ◌/◌, ◌<◌, ◌≤◌, List, length, max, slice_get, Some, false, Result, Ok, Err, IsTrue}
 use Rattle.cj_budget.specs.Bounded.{BoundedList, IsWithin}
 use Rattle.cj_spans.specs.declared.fault.LineFault.{LineFault}
 use Rattle.cj_spans.specs.declared.token.Kind.{Kind}
+use Rattle.cj_spans.specs.declared.token.Kind.TheVariants.{Array}
 use Rattle.cj_spans.specs.declared.token.Token.{Token}
 use Rattle.cj_spans.specs.declared.step.Mode.{Mode}
 use Rattle.cj_spans.specs.declared.step.Mode.TheVariants.{After}
 use Rattle.cj_spans.specs.declared.step.Next.{Next}
+use Rattle.cj_spans.specs.declared.arrays.Numbers.{Numbers}
 use Rattle.cj_spans.specs.declared.step.Inner.{Inner}
 use Rattle.cj_spans.specs.Json.{byte}
 use Rattle.cj_spans.specs.Scan.{KeepsLaw}
@@ -77,3 +79,13 @@ pub record EndsArray (b : List ℕ) (n : Next) : Type 0 where
   pub after : n.mode ≡ After
   pub within : n.place < length b
   pub bracket : byte b n.place ≡ right_bracket
+
+-- a call that reads numbers of an array, where a value may begin, from f on: it leaves the stack, and stops at the
+-- bracket of the array or where a value may begin
+pub record ReadsNumbers (b : List ℕ) (tokens : BoundedList Token) (f : Next) (tokens1 : BoundedList Token) (r : Numbers)
+    : Type 0 where
+  pub leads : LeadsIn Array b tokens f.mode f.place tokens1 r.next.mode r.next.place
+  pub kept : KeepsTokens tokens.elements tokens1.elements
+  pub ended : IsTrue r.ended → EndsArray b r.next
+  pub begins : r.ended ≡ false → BeginsValue r.next.mode
+  pub order : f.place ≤ r.next.place

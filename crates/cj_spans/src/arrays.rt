@@ -3,7 +3,7 @@
 //! The scanner could read any line without this module, one byte after another. Here such arrays
 //! are read in one go, and everything else is left to the scanner.
 ghost use Rattle.std.specs.Prelude.{◌≡◌, ◌^◌, ◌≤◌, ◌<◌, ◌++◌, ◌∷◌, ◌↔◌, List, [], length, suc, ℕ, Some, false};
-ghost use Rattle.std.specs.Prelude.{IfOk, IsTrue, slice_get, slice_set};
+ghost use Rattle.std.specs.Prelude.{◌+◌, ◌⊎◌, IfOk, IsTrue, slice_get, slice_set};
 ghost use Rattle.cj_budget.specs.Bounded.{Becomes, BoundedList, IsWithin};
 ghost use Rattle.cj_spans.specs.declared.token.Kind.TheVariants.{Array};
 ghost use Rattle.cj_spans.specs.declared.token.Token.{Token as TokenOf};
@@ -11,12 +11,13 @@ ghost use Rattle.cj_spans.specs.declared.step.Mode.TheVariants.{After};
 ghost use Rattle.cj_spans.specs.Json.{byte as byte_of};
 ghost use Rattle.cj_spans.specs.Preorder.{token_at};
 ghost use Rattle.cj_spans.specs.Machine.{state, between, read as read_of, Kept, Grown, InArray, BeginsValue};
-ghost use Rattle.cj_spans.specs.Machine.{StaysInArrayNext, FitsToken};
+ghost use Rattle.cj_spans.specs.Machine.{StaysInArrayNext, FitsToken, IsNumberUpTo};
 ghost use Rattle.cj_spans.specs.Pass.{Standing, Stands, StandsIn, LeadsIn, GoesOn, GoesInto, IsInside};
-ghost use Rattle.cj_spans.specs.Pass.{KeepsTokens, EndsArray};
+ghost use Rattle.cj_spans.specs.Pass.{KeepsTokens, EndsArray, ReadsNumbers};
 
-use crate::bytes::stands_at;
+use crate::bytes::{is_digit, stands_at};
 use crate::fault::LineFault;
+use crate::lanes::mark_others;
 use crate::numbers::number_stop;
 use crate::step::{Inner, Mode, Move, Next, outside_arrays};
 use crate::token::{Token, keep_atom};
@@ -140,44 +141,122 @@ struct Numbers {
     ended: bool,
 }
 
+/// Returns that more numbers may come here.
+#[inline(always)]
+fn before_more(next: Next) -> Numbers
+    ensures { result ≡ record { next = next; ended = false } }
+{
+    Numbers { next, ended: false }
+}
+
+/// Keeps the number from `from` to `stop`, if the comma or the bracket of an array is there. It
+/// passes the comma.
+#[inline(always)]
+fn keep_number(line: &[u8], from: Next, stop: usize, tokens: &mut Bounded<Token>) -> Numbers
+    requires stands { StandsIn Array line.now tokens.old from.mode from.place }
+    requires begins { BeginsValue from.mode }
+    requires number { IsNumberUpTo line.now from.place stop }
+    ensures reads { ReadsNumbers line.now tokens.old from tokens.new result }
+    ensures comma { result.ended ≡ false
+        → (result.next.place ≡ from.place) ⊎ (result.next.place ≡ stop + 1) }
+{
+    if line[stop] == b',' {
+        keep_atom(from.place, stop, tokens);
+        return before_more(Next {
+            mode: Mode::Ready,
+            place: stop + 1,
+        });
+    }
+    if line[stop] != b']' {
+        return before_more(from);
+    }
+    keep_atom(from.place, stop, tokens);
+    Numbers {
+        next: Next {
+            mode: Mode::After,
+            place: stop,
+        },
+        ended: true,
+    }
+}
+
+/// Reads a whole number of an array, of any length and perhaps with a minus.
+#[inline(always)]
+fn read_number(line: &[u8], from: Next, tokens: &mut Bounded<Token>) -> Numbers
+    requires stands { StandsIn Array line.now tokens.old from.mode from.place }
+    requires begins { BeginsValue from.mode }
+    requires within { from.place < length line.now }
+    ensures { ReadsNumbers line.now tokens.old from tokens.new result }
+{
+    match number_stop(line, from.place) {
+        Some(stop) => keep_number(line, from, stop, tokens),
+        None => before_more(from),
+    }
+}
+
+/// Reads the whole numbers of an array that end in the next 32 bytes.
+///
+/// One look at these bytes finds all ends. So a number need not wait for the end of the one before
+/// it.
+#[inline(always)]
+fn read_block(line: &[u8], from: Next, tokens: &mut Bounded<Token>) -> Numbers
+    requires stands { StandsIn Array line.now tokens.old from.mode from.place }
+    requires begins { BeginsValue from.mode }
+    requires within { from.place < length line.now }
+    ensures { ReadsNumbers line.now tokens.old from tokens.new result }
+{
+    let mut next = from;
+    let mut others = mark_others(line, from.place);
+    while others != 0 {
+        let digits = others.trailing_zeros() as usize;
+        if digits == 0 || (line[next.place] == b'0' && digits != 1) {
+            return before_more(next);
+        }
+        let numbers = keep_number(line, next, next.place + digits, tokens);
+        if numbers.ended || numbers.next.place == next.place {
+            return numbers;
+        }
+        next = numbers.next;
+        others >>= digits + 1;
+    }
+    before_more(next)
+}
+
+/// Reads whole numbers of an array, one at least if there is one.
+#[inline(always)]
+fn read_some(line: &[u8], from: Next, tokens: &mut Bounded<Token>) -> Numbers
+    requires stands { StandsIn Array line.now tokens.old from.mode from.place }
+    requires begins { BeginsValue from.mode }
+    requires within { from.place < length line.now }
+    ensures { ReadsNumbers line.now tokens.old from tokens.new result }
+{
+    if !is_digit(line[from.place]) {
+        return read_number(line, from, tokens);
+    }
+    let numbers = read_block(line, from, tokens);
+    if numbers.ended || numbers.next.place != from.place {
+        return numbers;
+    }
+    read_number(line, numbers.next, tokens)
+}
+
 /// Reads whole numbers of an array, each with its comma. It stops before the bracket after the last
 /// one, and before any other value.
 #[inline(always)]
 fn read_numbers(line: &[u8], from: Next, tokens: &mut Bounded<Token>) -> Numbers
     requires stands { StandsIn Array line.now tokens.old from.mode from.place }
     requires begins { BeginsValue from.mode }
-    ensures leads { LeadsIn Array line.now tokens.old from.mode from.place tokens.new result.next.mode
-        result.next.place }
-    ensures kept { KeepsTokens tokens.old.elements tokens.new.elements }
-    ensures ended { IsTrue result.ended → EndsArray line.now result.next }
-    ensures begins { result.ended ≡ false → BeginsValue result.next.mode }
-    ensures order { from.place ≤ result.next.place }
+    ensures { ReadsNumbers line.now tokens.old from tokens.new result }
 {
     let mut next = from;
     while next.place < line.len() {
-        let Some(stop) = number_stop(line, next.place) else {
-            return Numbers { next, ended: false };
-        };
-        if line[stop] == b',' {
-            keep_atom(next.place, stop, tokens);
-            next = Next {
-                mode: Mode::Ready,
-                place: stop + 1,
-            };
-        } else if line[stop] == b']' {
-            keep_atom(next.place, stop, tokens);
-            return Numbers {
-                next: Next {
-                    mode: Mode::After,
-                    place: stop,
-                },
-                ended: true,
-            };
-        } else {
-            return Numbers { next, ended: false };
+        let numbers = read_some(line, next, tokens);
+        if numbers.ended || numbers.next.place == next.place {
+            return numbers;
         }
+        next = numbers.next;
     }
-    Numbers { next, ended: false }
+    before_more(next)
 }
 
 /// Reads the array that begins at `place`, if it has nothing but whole numbers, and leaves those

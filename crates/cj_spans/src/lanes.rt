@@ -4,7 +4,7 @@ ghost use Rattle.cj_spans.specs.Decoding.{AreAlike};
 ghost use Rattle.cj_spans.specs.Spelling.{is_plain as is_plain_of};
 ghost use Rattle.cj_spans.specs.Json.{byte as byte_of};
 ghost use Rattle.cj_spans.specs.Machine.{is_digit as is_digit_of};
-ghost use Rattle.cj_spans.specs.Wholes.{IsWholeSign};
+ghost use Rattle.cj_spans.specs.Wholes.{IsWholeSign, AreMarked, AreMarkedTo};
 
 use std::simd::prelude::*;
 
@@ -65,13 +65,43 @@ pub fn find_other(line: &[u8], place: usize) -> Option<usize>
     }
 }
 
+/// The number of bytes in a block of numbers.
+const NUMBERS: usize = 32;
+
+/// Returns a number with bit `k` set if the byte at `place + k` is no digit, for 32 bytes.
+#[inline(always)]
+fn mark_block(line: &[u8], place: usize) -> u64
+    requires { place + 32 ≤ length line.now }
+    ensures { AreMarkedTo line.now place (place + 32) result }
+{
+    let above = u8x32::from_slice(&line[place..]) - u8x32::splat(b'0');
+    above.simd_gt(u8x32::splat(9)).to_bitmask()
+}
+
+/// Returns a number with bit `k` set if the byte at `place + k` is no digit, for the next 32 bytes,
+/// or for all that are left. It is 0 in a line of less than 32 bytes.
+#[inline(always)]
+pub fn mark_others(line: &[u8], place: usize) -> u64
+    requires { place ≤ length line.now }
+    ensures { AreMarked line.now place result }
+{
+    let room = line.len() - place;
+    if room >= NUMBERS {
+        return mark_block(line, place);
+    }
+    if line.len() < NUMBERS {
+        return 0;
+    }
+    mark_block(line, line.len() - NUMBERS) >> (NUMBERS - room)
+}
+
 /// How far the byte `9` is above a comma.
 const COMMA_TO_NINE: u8 = 13;
 
 /// Returns a number with bit `k` set if the byte at `place + k` cannot be in an array of whole
 /// numbers, for 16 bytes.
 #[inline(always)]
-fn mark_others(line: &[u8], place: usize) -> u64
+fn mark_foreign(line: &[u8], place: usize) -> u64
     requires { place + 16 ≤ length line.now }
     ensures { (j k : ℕ) → result < 2 ^ j → j ≤ k → k < 16 → IsWholeSign (byte_of line.now (place + k)) }
 {
@@ -95,11 +125,11 @@ pub fn are_whole_signs(line: &[u8], from: usize, to: usize) -> bool
     if count > 2 * LANES || to < LANES {
         return false;
     }
-    let marks = mark_others(line, to - LANES);
+    let marks = mark_foreign(line, to - LANES);
     if count < LANES {
         return marks < 1 << (LANES - count);
     }
-    marks == 0 && mark_others(line, from) == 0
+    marks == 0 && mark_foreign(line, from) == 0
 }
 
 /// Returns the place of the first byte that is not plain in a string, among the 16 from `place` on.

@@ -6,7 +6,6 @@ ghost use Rattle.cj_spans.specs.Json.{byte as byte_of};
 ghost use Rattle.cj_spans.specs.Machine.{Continues, IsNumberUpTo};
 
 use crate::bytes::is_digit;
-use crate::lanes::{LANES, find_other};
 use crate::lex::{Lex, skip_digits};
 
 /// Returns `stop`, where the digits that begin at `place` end. None if a 0 comes before another
@@ -43,7 +42,7 @@ fn digits_stop(line: &[u8], place: usize) -> Option<usize>
 
 /// Does what [`number_stop`] does, for a minus, for any count of digits, and near the end of the
 /// line.
-#[inline(always)]
+#[inline(never)]
 fn any_number_stop(line: &[u8], place: usize) -> Option<usize>
     requires within { place < length line.now }
     ensures { IfSome result (λ k. IsNumberUpTo line.now place k) }
@@ -57,23 +56,6 @@ fn any_number_stop(line: &[u8], place: usize) -> Option<usize>
     digits_stop(line, place + 1)
 }
 
-/// Returns where the digits that begin at `place` end, the usual case. None if they are more than
-/// one vector has.
-///
-/// A 0 is the whole number. If a digit follows it, no item ends there.
-#[inline(always)]
-fn few_digits_stop(line: &[u8], place: usize) -> Option<usize>
-    requires digit { (48 ≤ byte_of line.now place) × (byte_of line.now place ≤ 57) }
-    requires room { place + 17 < length line.now }
-    ensures { IfSome result (λ k. IsNumberUpTo line.now place k) }
-{
-    if line[place] == b'0' {
-        return Some(place + 1);
-    }
-    let stop = find_other(line, place + 1)?;
-    Some(stop)
-}
-
 /// Returns where the whole number that begins at `place` ends. It begins with a digit or a minus.
 /// None unless there is such a number, and another byte follows.
 #[inline(always)]
@@ -84,11 +66,6 @@ pub fn number_stop(line: &[u8], place: usize) -> Option<usize>
 {
     if !is_digit(line[place]) && line[place] != b'-' {
         return None;
-    }
-    if is_digit(line[place]) && place < line.len().saturating_sub(LANES + 1) {
-        if let Some(stop) = few_digits_stop(line, place) {
-            return Some(stop);
-        }
     }
     any_number_stop(line, place)
 }

@@ -11,8 +11,8 @@ returns-then-count-lt-LANES c low k from to =
     let n = k - (c.args.to - 16) in
     let e : c.args.to - 16 + n ≡ k = omega arith in
     let s = 16 - (c.args.to - c.args.from) in
-    let less : c.mark_others-marks.result < 2 ^ s = grind (arith, nat_tests) in
-    subst (λ m. IsWholeSign (byte b m)) e (c.mark_others-marks.ensures s n less (omega arith) (omega arith))
+    let less : c.mark_foreign-marks.result < 2 ^ s = grind (arith, nat_tests) in
+    subst (λ m. IsWholeSign (byte b m)) e (c.mark_foreign-marks.ensures s n less (omega arith) (omega arith))
 
 pub returns-then-marks-eq0 : goal.returns-then-marks-eq0
 returns-then-marks-eq0 c none k from to =
@@ -23,10 +23,10 @@ returns-then-marks-eq0 c none k from to =
           let n = k - c.args.from in
           let e : c.args.from + n ≡ k = omega arith in
           subst (λ m. IsWholeSign (byte b m)) e
-          (c.mark_others.ensures 0 n (grind (arith, nat_tests)) (omega arith) (omega arith))
+          (c.mark_foreign.ensures 0 n (grind (arith, nat_tests)) (omega arith) (omega arith))
       | inr g ↦
           let n = k - (c.args.to - 16) in
           let e : c.args.to - 16 + n ≡ k = omega arith in
           subst (λ m. IsWholeSign (byte b m)) e
-          (c.mark_others-marks.ensures 0 n (omega arith) (omega arith) (omega arith))
+          (c.mark_foreign-marks.ensures 0 n (omega arith) (omega arith) (omega arith))
     ]

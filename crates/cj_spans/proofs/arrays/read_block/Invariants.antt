@@ -1,0 +1,17 @@
+use Rattle.std.proofs.Common.{◌-◌, false, length}
+use Rattle.cj_spans.specs.declared.token.Kind.TheVariants.{Array}
+use Rattle.cj_spans.specs.Machine.{BeginsValue}
+use Rattle.cj_spans.specs.Pass.{StandsIn, ReadsNumbers}
+use Rattle.cj_spans.specs.Wholes.{AreMarked}
+use Rattle.cj_spans.proofs.arrays.read_block.Given as goal
+
+abbrev pub invariant-loop-others : goal.invariant-loop-others
+invariant-loop-others l = record {
+  stands : StandsIn Array l.line l.tokens l.next.mode l.next.place;
+  reads : ReadsNumbers l.line l.fn.tokens l.fn.from l.tokens (record { next = l.next; ended = false });
+  begins : BeginsValue l.next.mode;
+  marked : AreMarked l.line l.next.place l.others;
+}
+
+abbrev pub decreases-loop-others : goal.decreases-loop-others
+decreases-loop-others l = length l.line - l.next.place
