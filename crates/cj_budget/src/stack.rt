@@ -111,11 +111,8 @@ impl Stack {
         requires fits { length self.old.elements < self.old.limit }
         ensures { Becomes self.old (item ∷ self.old.elements) self.new }
     {
-        let length = self.items.len() + 1;
+        self.note_item();
         self.items.push_reserved(item);
-        if length > self.peak {
-            self.peak = length;
-        }
     }
 
     /// Notes one item more in the peak, as a push and a pop do. So an item that is soon removed need

@@ -418,6 +418,107 @@ fn arrays_of_numbers(rt: HostRuntime) {
     all_meet_at_depths(&rt, rt.alloc(), ARRAYS.as_slice());
 }
 
+const BLOCKS: [DepthRow; 18] = [
+    (
+        "numbers to the end of a block",
+        2,
+        b"[[1234567,1234567,1234567,1234567]]",
+        Ok((6, 2)),
+    ),
+    (
+        "a digit more",
+        2,
+        b"[[1234567,1234567,1234567,12345678]]",
+        Ok((6, 2)),
+    ),
+    (
+        "a number longer than a block",
+        2,
+        b"[[111111111111111111111111111111111,2]]",
+        Ok((4, 2)),
+    ),
+    (
+        "a 0 before a digit",
+        2,
+        b"[[10,20,30,40,50,60,70,80,00,1]]",
+        Err(ScanFault::Syntax(27)),
+    ),
+    (
+        "two commas",
+        2,
+        b"[[10,20,30,40,50,60,70,80,,90,1]]",
+        Err(ScanFault::Syntax(26)),
+    ),
+    (
+        "a minus here and there",
+        2,
+        b"[[10,-20,30,-40,50,-60,70,-80,90]]",
+        Ok((11, 2)),
+    ),
+    (
+        "a minus alone",
+        2,
+        b"[[10,20,30,40,50,60,70,80,-,90,1]]",
+        Err(ScanFault::Syntax(27)),
+    ),
+    (
+        "a fraction",
+        2,
+        b"[[10,20,30,40,50,60,70,80,1.5,90]]",
+        Ok((12, 2)),
+    ),
+    (
+        "a comma before the bracket",
+        2,
+        b"[[100,20,30,40,50,60,70,80,90,]]",
+        Err(ScanFault::Syntax(30)),
+    ),
+    (
+        "closed as an object",
+        2,
+        b"[[100,20,30,40,50,60,70,80,90,1}]",
+        Err(ScanFault::Syntax(31)),
+    ),
+    (
+        "cut behind a number",
+        2,
+        b"[[10,20,30,40,50,60,70,80,90,100",
+        Err(ScanFault::Syntax(32)),
+    ),
+    (
+        "cut behind a comma",
+        2,
+        b"[[10,20,30,40,50,60,70,80,90,10,",
+        Err(ScanFault::Syntax(32)),
+    ),
+    (
+        "white space behind a number",
+        2,
+        b"[[1 ,2],[3, 4]]",
+        Ok((7, 2)),
+    ),
+    ("a text behind a number", 2, b"[[1,\"a\"],2]", Ok((5, 2))),
+    ("empty arrays", 2, b"[[],[1],[]]", Ok((5, 2))),
+    (
+        "too deep with numbers alone",
+        1,
+        b"[[1,2],3]",
+        Err(ScanFault::TooDeep(1)),
+    ),
+    (
+        "too deep behind numbers",
+        2,
+        b"[[1,2,[3]]]",
+        Err(ScanFault::TooDeep(6)),
+    ),
+    ("an array behind numbers", 3, b"[[1,2,[3]]]", Ok((6, 3))),
+];
+
+#[test]
+fn numbers_in_blocks(rt: HostRuntime) {
+    all_meet_at_depths(&rt, rt.alloc(), BLOCKS.as_slice());
+}
+
 const MEMBERS: [DepthRow; 7] = [
     ("two texts", 1, b"{\"a\":\"b\",\"c\":\"d\"}", Ok((5, 1))),
     (
@@ -660,11 +761,14 @@ const LINKS_OF_MEMBERS: [u32; 7] = [7, 2, 5, 4, 5, 6, 7];
 
 const LINKS_OF_ITEMS: [u32; 5] = [5, 2, 3, 5, 5];
 
+const LINKS_OF_NUMBERS: [u32; 6] = [6, 4, 3, 4, 6, 6];
+
 #[test]
 fn tokens_link_past_their_parts(rt: HostRuntime) {
     let members = b"{\"a\":{\"b\":[]},\"c\":0}";
     has_links(&rt, rt.alloc(), members, &LINKS_OF_MEMBERS);
     has_links(&rt, rt.alloc(), b"[[],{},[1]]", &LINKS_OF_ITEMS);
+    has_links(&rt, rt.alloc(), b"[[1,2],[3]]", &LINKS_OF_NUMBERS);
 }
 
 /// Scans three lines, one after another, into lists that grow.
