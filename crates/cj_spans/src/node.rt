@@ -189,7 +189,9 @@ impl<'a> Doc<'a> {
 }
 
 impl<'a> Node<'a> {
+    ghost use Rattle.cj_spans.specs.declared.token.Kind.TheVariants.{Number};
     ghost use Rattle.cj_spans.specs.Parts.{kind_of, spelling_of, items_of, members_of, AreInOrder, AreInValueOrder};
+    ghost use Rattle.cj_spans.specs.Spelling.{IsNumber};
     ghost use Rattle.cj_spans.specs.Tree.{start_of, size, total_size};
     ghost use Rattle.cj_spans.specs.View.{tree, line_of, source_of, items_left, items_line, items_source, members_left};
     ghost use Rattle.cj_spans.specs.View.{members_line, members_source};
@@ -237,6 +239,8 @@ impl<'a> Node<'a> {
         ensures spelling { slice_range (line_of self.entry) result.0 result.1
             ≡ spelling_of (line_of self.entry) (tree self.entry) }
         ensures kind { kind_by (byte (line_of self.entry) result.0) ≡ kind_of (tree self.entry) }
+        ensures number { kind_of (tree self.entry) ≡ Number
+            → IsNumber (slice_range (line_of self.entry) result.0 result.1) }
     {
         let token = token_at(self.source.tokens, self.index);
         (token.start as usize, token.stop as usize)

@@ -1,5 +1,6 @@
-use Rattle.std.proofs.Common.{refl}
+use Rattle.std.proofs.Common.{◌∙◌, refl}
 use Rattle.cj_spans.specs.View.{tree, line_of}
+use Rattle.cj_spans.proofs.Triples.{told_number}
 use Rattle.cj_spans.proofs.Views.{kind_shown, spelling_shown}
 use Rattle.cj_spans.proofs.node.Node.span.Goals as goal
 
@@ -17,3 +18,11 @@ pub returns-clause-within : goal.returns-clause-within
 unfolding line_of
 returns-clause-within c =
     (c.args.self.source.within c.args.self.index c.token_at-token.result c.token_at-token.ensures).1
+
+pub returns-clause-number : goal.returns-clause-number
+unfolding tree line_of
+returns-clause-number c = λ is.
+    let s = c.args.self.source in
+    let token = c.token_at-token.result in
+    told_number _ ((s.spelled c.args.self.index token c.token_at-token.ensures).0
+    (kind_shown s.line.now s.tokens.now c.args.self.index token _ c.token_at-token.ensures refl ∙ is))
