@@ -6,10 +6,11 @@ use Rattle.std.proofs.lemmas.Bool.{cases_lt}
 use Rattle.std.proofs.Math.Nat.{mul-le-mul_left}
 use Rattle.std.specs.Prelude.{Option, None, Some, IfSome, IsSome, Ok, pos}
 use Rattle.cj_decimal.specs.Class.{Class, whole_answer}
-use Rattle.cj_decimal.specs.Spelling.{AllDigits, IsNumber, digits_value}
+use Rattle.cj_decimal.specs.Reading.{IsShort}
+use Rattle.cj_decimal.specs.Spelling.{IsInt, digits_value}
 use Rattle.cj_decimal.specs.Word.{word_of, AllBelow, IsWordOf, TellsBelow, weighed}
 use Rattle.cj_decimal.proofs.Wholes.{answer_digits}
-use Rattle.cj_decimal.proofs.Eights.{eight, horner, number_short, spelled_value}
+use Rattle.cj_decimal.proofs.Eights.{eight, horner, int_short, spelled_value}
 
 -- a digit more in front
 below_next : (p d x n : ℕ) → suc d ≤ n → x < p → p * d + x < p * n
@@ -155,19 +156,26 @@ word_small w n h =
     let p : 10 ^ length h.0 ≡ 100000000 = ap (λ k. 10 ^ k) h.1 in
     omega (arith, m, b, p)
 
+-- digits that have a word are a short number
+pub word_short : (s : List ℕ) (w n : ℕ) → IsInt s → IsWordOf w (digits_value s) → n ≡ digits_value s → IsShort s n
+word_short s w n int word is =
+    int_short s n int is (subst (λ k. k < 2 ^ 32) (sym is) (word_small w (digits_value s) word))
+
 -- the word of a number's digits has the number that reading it answers
-pub word_answer : (o : Option ℕ) (s : List ℕ) → IsNumber s → (IsSome o → AllDigits s)
-    → IfSome o (λ w. IsWordOf w (digits_value s))
+pub word_answer : (o : Option ℕ) (s : List ℕ) → (IsSome o → IsInt s) → IfSome o (λ w. IsWordOf w (digits_value s))
     → IfSome o (λ w. (n : ℕ) × IsWordOf w n × ((c : Class s) → whole_answer c ≡ Ok (Some (pos n))))
-word_answer None s number digits word = word
-word_answer (Some w) s number digits word = (
+word_answer None s int word = word
+word_answer (Some w) s int word = (
   digits_value s,
   word,
-  λ c.
-      answer_digits s (digits_value s) c (number_short s number (digits refl) (word_small w (digits_value s) word)),
+  λ c. answer_digits s (digits_value s) c (word_short s w (digits_value s) (int refl) word refl),
 )
 
 -- ---- what a word of a count tells
+
+pub told_below : (w n word limit : ℕ) → IsWordOf w n → w < word → TellsBelow word limit → n < limit
+told_below w n word limit h less tells =
+    subst (λ k. k < limit) (sym h.4) (tells h.0 h.1 h.2 (subst (λ k. k < word) h.3 less))
 
 pub all_below : (n word : ℕ) → 100000000 ≤ n → TellsBelow word n
 unfolding weighed

@@ -1,20 +1,20 @@
 -- Numbers of at most eight digits, read by one word of eight bytes.
 use Rattle.std.proofs.Common.{◌≡◌, ℕ, zero, suc, ◌+◌, ◌-◌, ◌*◌, ◌/◌, ◌%◌, ◌^◌, ◌<◌, ◌≤◌, List, [], ◌∷◌, length, take, drop, map, Bool, true, false, ◌&&◌, ◌||◌, nat_le, nat_eq, refl, sym, ap, subst, arith, ◌∙◌, inl, inr, not}
-use Rattle.std.specs.Int.Bits.{bit_and, bit_or, bit_xor, and_block, xor_block}
-use Rattle.std.proofs.lemmas.Nat.{xor_lt, pow-add, shr-shr, shr_le, and_mask, and_shr, le_or_l, le_or_r}
+use Rattle.std.specs.Int.Bits.{bit_and, bit_xor, and_block, xor_block}
+use Rattle.std.proofs.lemmas.Nat.{xor_lt, pow-add, shr-shr, shr_le, and_mask}
 use Rattle.std.proofs.lemmas.Nat.Bits.{and_high_mask}
 use Rattle.std.proofs.lemmas.Bool.Decides.{nat_tests}
 use Rattle.std.proofs.lemmas.Bool.{cases_lt}
-use Rattle.std.specs.Prelude.{slice_range, ◌⊎◌, Option, Some, None, IfSome, IsTrue}
+use Rattle.std.specs.Prelude.{slice_range, ◌⊎◌, IsTrue}
 use Rattle.std.proofs.Common.{get_or}
 use Rattle.std.proofs.lemmas.List.{drop-take, drop-drop, get_or-take, get_or-drop, length-drop, length-take-le}
-use Rattle.cj_decimal.specs.Reading.{IsShort, digits_front, begins, begins_digit, body, is_int}
-use Rattle.cj_decimal.proofs.Grammar.{append_nil, digit_begins, front_append, int_from_test}
+use Rattle.cj_decimal.specs.Reading.{IsShort, after_frac, digits_front, digits_rest, begins, begins_digit, body, is_exp, is_frac, is_int, written_of}
+use Rattle.cj_decimal.proofs.Grammar.{append_nil, both_left, digit_begins, front_all, front_append, front_rest, int_digits, int_from_test, int_is_digits, spells_test, test_spells}
 use Rattle.cj_decimal.proofs.Parts.{minus_there, no_minus, not_int}
 use Rattle.cj_decimal.proofs.Wholes.{int_alone_reads}
-use Rattle.cj_decimal.proofs.NumberBytes.{NumberBytes}
-use Rattle.cj_decimal.specs.Spelling.{AllDigits, IsDigit, IsInt, IsFewDigits, IsNumber, digits_value, value_after}
-use Rattle.cj_decimal.specs.Word.{word_of, AllBelow, AreLow}
+use Rattle.cj_decimal.proofs.NumberBytes.{NumberBytes, number_bytes}
+use Rattle.cj_decimal.specs.Spelling.{AllDigits, IsDigit, IsInt, IsFewDigits, IsNumber, IsNumberIfBegun, digits_value, value_after}
+use Rattle.cj_decimal.specs.Word.{word_of, AllBelow}
 
 copies : ℕ → ℕ → List ℕ
 copies zero c = []
@@ -46,11 +46,6 @@ xor_same c l (b ∷ s) h =
     let rest = xor_same c l s h.1 in
     ap (λ n. bit_xor n (c + 256 * v)) p ∙ ap (bit_xor (w * 2 ^ 8 + b)) q ∙ omega (arith, block, rest)
 
-add_same : (c : ℕ) (s : List ℕ) → word_of s + word_of (copies (length s) c) ≡ word_of (map (λ b. b + c) s)
-unfolding copies
-add_same c [] = refl
-add_same c (b ∷ s) = let rest = add_same c s in omega (arith, rest)
-
 high_of : (b : ℕ) → b < 256 → bit_and b 240 ≡ 0 → b < 16
 high_of b l h = let e : bit_and b (2 ^ 8 - 2 ^ 4) ≡ b / 2 ^ 4 * 2 ^ 4 = and_high_mask 8 4 (omega arith) b l in
     omega (arith, e, h)
@@ -68,29 +63,9 @@ nibbles s e h z =
     all_high s h (sym same ∙ ap (λ n. bit_and (word_of s) (word_of (copies n 240))) e ∙ ap (bit_and (word_of s)) high
     ∙ z)
 
-more_below : (s : List ℕ) → AllBelow 16 s → AllBelow 256 (map (λ b. b + 6) s)
-more_below [] h = tt
-more_below (b ∷ s) h = (omega (arith, h.0), more_below s h.1)
-
-less_below : (s : List ℕ) → AllBelow 16 (map (λ b. b + 6) s) → AllBelow 10 s
-less_below [] h = tt
-less_below (b ∷ s) h = (omega (arith, h.0), less_below s h.1)
-
 length_map : (f : ℕ → ℕ) (s : List ℕ) → length (map f s) ≡ length s
 length_map f [] = refl
 length_map f (b ∷ s) = ap suc (length_map f s)
-
--- both tests of a word hold: each byte is below 10
-all_small : (s : List ℕ) → length s ≡ 8 → AllBelow 256 s → bit_and (word_of s) 0xf0f0f0f0f0f0f0f0 ≡ 0
-    → bit_and (word_of s + 0x0606060606060606) 0xf0f0f0f0f0f0f0f0 ≡ 0 → AllBelow 10 s
-unfolding copies
-all_small s e h z y =
-    let low = nibbles s e h z in
-    let six : word_of (copies 8 6) ≡ 0x0606060606060606 = refl in
-    let sum : word_of s + 0x0606060606060606 ≡ word_of (map (λ b. b + 6) s) =
-    ap (λ n. word_of s + n) (sym six ∙ ap (λ n. word_of (copies n 6)) (sym e)) ∙ add_same 6 s in
-    less_below s (nibbles (map (λ b. b + 6) s) (length_map (λ b. b + 6) s ∙ e) (more_below s low)
-    (ap (λ n. bit_and n 0xf0f0f0f0f0f0f0f0) (sym sum) ∙ y))
 
 -- ---- one byte
 
@@ -129,6 +104,25 @@ back b l h = let t : not (nat_le (bit_xor b 48) 9) || nat_eq (bit_xor b 48 + 48)
   where
     from : (x b : ℕ) → x < 10 → not (nat_le x 9) || nat_eq (x + 48) b ≡ true → x + 48 ≡ b
     from x b h t = grind (arith, nat_tests)
+
+is_begun : ℕ → Bool
+is_begun b = not (nat_le (bit_xor b 48) 15) || (nat_le 45 b && nat_le b 63)
+
+all_begun : all_to 256 is_begun ≡ true
+unfolding all_to is_begun
+all_begun = refl
+
+-- what is below 16 without the bits of `0` is from `-` to `?`
+begun : (b : ℕ) → b < 256 → bit_xor b 48 < 16 → (45 ≤ b) × (b < 64)
+unfolding is_begun
+begun b l h = let t : not (nat_le (bit_xor b 48) 15) || (nat_le 45 b && nat_le b 63) ≡ true =
+    of_all 256 is_begun all_begun b l in (low (bit_xor b 48) b h t, high (bit_xor b 48) b h t)
+  where
+    low : (x b : ℕ) → x < 16 → not (nat_le x 15) || (nat_le 45 b && nat_le b 63) ≡ true → 45 ≤ b
+    low x b h t = grind (arith, nat_tests)
+
+    high : (x b : ℕ) → x < 16 → not (nat_le x 15) || (nat_le 45 b && nat_le b 63) ≡ true → b < 64
+    high x b h t = grind (arith, nat_tests)
 
 -- ---- the bytes before a number are cleared
 
@@ -345,6 +339,15 @@ low_digits zero (b ∷ s) h z = (low_digit b h.0 z.0, low_digits zero s h.1 z.1)
 low_digits (suc j) [] h z = tt
 low_digits (suc j) (b ∷ s) h z = (omega arith, low_digits j s h z.1)
 
+-- the first byte at the end of eight, if each of them is low there
+first_begun : (j : ℕ) (s : List ℕ) → j < length s → AllBelow 256 s → AllBelow 16 (clear j (without_zeros s))
+    → (45 ≤ get_or (drop j s) 0 0) × (get_or (drop j s) 0 0 < 64)
+unfolding clear without_zeros
+first_begun zero [] l h z = absurd (omega (arith, l))
+first_begun zero (b ∷ s) l h z = begun b h.0 z.0
+first_begun (suc j) [] l h z = absurd (omega (arith, l))
+first_begun (suc j) (b ∷ s) l h z = first_begun j s (omega (arith, l)) h.1 z.1
+
 low_of : (b : ℕ) → b < 16 → bit_and b 240 ≡ 0
 low_of b l = let e : bit_and b (2 ^ 8 - 2 ^ 4) ≡ b / 2 ^ 4 * 2 ^ 4 = and_high_mask 8 4 (omega arith) b (omega arith) in
     omega (arith, e)
@@ -364,11 +367,7 @@ no_nibbles s e h =
     let same = and_same 240 (omega arith) s (below_more 16 256 (omega arith) s h) in
     ap (bit_and (word_of s)) (sym high ∙ ap (λ n. word_of (copies n 240)) (sym e)) ∙ same ∙ all_low s h
 
-sixes_below : (s : List ℕ) → AllBelow 10 s → AllBelow 16 (map (λ b. b + 6) s)
-sixes_below [] h = tt
-sixes_below (b ∷ s) h = (omega (arith, h.0), sixes_below s h.1)
-
--- the word that is tested, and what its tests say of the bytes
+-- the word that is tested, and what its test says of the bytes
 module _ (j : ℕ) (s : List ℕ) (w m : ℕ) (lj : j ≤ 8) (ls : length s ≡ 8) (h : AllBelow 256 s) (is : w ≡ word_of s)
     (word : m ≡ bit_and (bit_xor w 0x3030303030303030) (2 ^ 64 - 2 ^ (8 * j))) where
   tested_length : length (clear j (without_zeros s)) ≡ 8
@@ -387,44 +386,30 @@ module _ (j : ℕ) (s : List ℕ) (w m : ℕ) (lj : j ≤ 8) (ls : length s ≡ 
       ∙ ap (λ v. bit_and v (2 ^ 64 - 2 ^ (8 * j))) same
       ∙ masked j xs lj (length_map (λ b. bit_xor b 48) s ∙ ls) (xor_below s h)
 
-  -- the eight digits of the word, where each of its bytes is below 16, and those that stand at the end of eight bytes,
-  -- which are of a number
-  pub eight_at_end : AreLow m → NumberBytes (drop j s)
-      → (t : List ℕ) × (length t ≡ 8) × AllBelow 10 t × (m ≡ word_of t) × AllDigits (drop j s)
-      × (digits_value (map (λ d. d + 48) t) ≡ digits_value (drop j s))
-  eight_at_end low bytes =
+  -- where each byte of the word is below 16: the eight digits of the word, and those that stand at the end of eight
+  -- bytes, which are a number if begun as one
+  pub eight_at_end : j < 8 → ((t : List ℕ) → length t ≡ 8 → AllBelow 256 t → m ≡ word_of t → AllBelow 16 t)
+      → IsNumberIfBegun (drop j s)
+      → IsNumber (drop j s) × AllDigits (drop j s)
+      × ((t : List ℕ) × (length t ≡ 8) × AllBelow 10 t × (m ≡ word_of t)
+      × (digits_value (map (λ d. d + 48) t) ≡ digits_value (drop j s)))
+  eight_at_end few each if_begun =
       let t = clear j (without_zeros s) in
-      let small = low_digits j s bytes (low t tested_length (clear_below j (without_zeros s) (xor_below s h)) tested) in
+      let low = each t tested_length (clear_below j (without_zeros s) (xor_below s h)) tested in
+      let first = first_begun j s (omega (arith, few, ls)) h low in
+      let number = if_begun first.0 first.1 in
+      let small = low_digits j s (number_bytes (drop j s) number) low in
       let end = cleared j s h small in
-      (t, tested_length, small, tested, end.0, end.1)
-
-  -- the digits that stand at the end of eight bytes, where each byte of the word is below 10
-  pub digits_at_end : ((t : List ℕ) → length t ≡ 8 → AllBelow 256 t → m ≡ word_of t → AllBelow 10 t)
-      → (n : ℕ) → ((t : List ℕ) → length t ≡ 8 → AllBelow 10 t → m ≡ word_of t → n ≡ digits_value (map (λ d. d + 48) t))
-      → AllDigits (drop j s) × (n ≡ digits_value (drop j s))
-  digits_at_end each n value =
-      let t = clear j (without_zeros s) in
-      let small = each t tested_length (clear_below j (without_zeros s) (xor_below s h)) tested in
-      let end = cleared j s h small in
-      (end.0, value t tested_length small tested ∙ end.1)
-
-  -- the same, where a number is known to be above theirs
-  pub digits_below : ((t : List ℕ) → length t ≡ 8 → AllBelow 256 t → m ≡ word_of t → AllBelow 10 t)
-      → (n : ℕ) → ((t : List ℕ) → length t ≡ 8 → AllBelow 10 t → m ≡ word_of t → digits_value (map (λ d. d + 48) t) < n)
-      → AllDigits (drop j s) × (digits_value (drop j s) < n)
-  digits_below each n value =
-      let t = clear j (without_zeros s) in
-      let small = each t tested_length (clear_below j (without_zeros s) (xor_below s h)) tested in
-      let end = cleared j s h small in
-      (end.0, subst (λ v. v < n) end.1 (value t tested_length small tested))
+      (number, end.0, (t, tested_length, small, tested, end.1))
 
   -- and digits pass the test
   pub digits_pass : (b : Bool)
-      → ((t : List ℕ) → length t ≡ 8 → AllBelow 256 t → m ≡ word_of t → AllBelow 10 t → IsTrue b)
+      → ((t : List ℕ) → length t ≡ 8 → AllBelow 256 t → m ≡ word_of t → AllBelow 16 t → IsTrue b)
       → AllDigits (drop j s) → IsTrue b
   digits_pass b each d =
       let t = clear j (without_zeros s) in
-      each t tested_length (clear_below j (without_zeros s) (xor_below s h)) tested (digits_small j s d)
+      each t tested_length (clear_below j (without_zeros s) (xor_below s h)) tested
+      (below_more 10 16 (omega arith) t (digits_small j s d))
 
 -- ---- in a line
 
@@ -460,63 +445,20 @@ end_of_eight line count stop few room =
     ∙ ap (take count) (drop-drop (8 - count) (stop - 8) line ∙ ap (λ k. drop k line) p)
     ∙ ap (λ k. take k (drop (stop - count) line)) (sym m)
 
--- the top half of the last byte is 0
-pub below_top : (m : ℕ) → m < 2 ^ 64 → bit_and m 0xf0f0f0f0f0f0f0f0 ≡ 0 → m < 2 ^ 60
-below_top m l h =
-    let top : bit_and m 0xf0f0f0f0f0f0f0f0 / 2 ^ 60 ≡ bit_and (m / 2 ^ 60) (2 ^ 4 - 1) =
-    and_shr m 0xf0f0f0f0f0f0f0f0 60 in
-    let mask = and_mask (m / 2 ^ 60) 4 in
-    omega (arith, top, mask, h)
-
-both_zero : (a b : ℕ) → bit_or a b ≡ 0 → (a ≡ 0) × (b ≡ 0)
-both_zero a b h = let l = le_or_l a b in let r = le_or_r a b in (omega (arith, l, h), omega (arith, r, h))
-
 zero_is : (n : ℕ) → IsTrue (nat_eq n 0) → n ≡ 0
 zero_is n h = grind (arith, nat_tests)
 
 is_zero : (n : ℕ) → n ≡ 0 → IsTrue (nat_eq n 0)
 is_zero n h = grind (arith, nat_tests)
 
--- the test of a word: no bit is set in a high half, nor when 6 is added to each byte
-pub passed_room : (w : ℕ) → w < 2 ^ 64
-    → IsTrue (nat_eq (bit_or (bit_and w 0xf0f0f0f0f0f0f0f0)
-    (bit_and ((w + 0x0606060606060606) % 2 ^ 64) 0xf0f0f0f0f0f0f0f0)) 0) → w < 2 ^ 60
-passed_room w l h = below_top w l (both_zero _ _ (zero_is _ h)).0
+-- the test of a word: no bit is set in a high half
+pub low_each : (w : ℕ) (s : List ℕ) → length s ≡ 8 → AllBelow 256 s → w ≡ word_of s
+    → IsTrue (nat_eq (bit_and w 0xf0f0f0f0f0f0f0f0) 0) → AllBelow 16 s
+low_each w s e h is test = nibbles s e h (ap (λ v. bit_and v 0xf0f0f0f0f0f0f0f0) (sym is) ∙ zero_is _ test)
 
-pub passed_each : (w : ℕ) (s : List ℕ) → length s ≡ 8 → AllBelow 256 s → w ≡ word_of s
-    → IsTrue (nat_eq (bit_or (bit_and w 0xf0f0f0f0f0f0f0f0)
-    (bit_and ((w + 0x0606060606060606) % 2 ^ 64) 0xf0f0f0f0f0f0f0f0)) 0) → AllBelow 10 s
-passed_each w s e h is test =
-    let z = both_zero _ _ (zero_is _ test) in
-    let l : w < 2 ^ 64 = subst (λ v. v < 2 ^ 64) (sym is) (word_below s e h) in
-    let room = below_top w l z.0 in
-    let sum : (w + 0x0606060606060606) % 2 ^ 64 ≡ w + 0x0606060606060606 = omega arith in
-    all_small s e h (ap (λ v. bit_and v 0xf0f0f0f0f0f0f0f0) (sym is) ∙ z.0)
-    (ap (λ v. bit_and (v + 0x0606060606060606) 0xf0f0f0f0f0f0f0f0) (sym is)
-    ∙ ap (λ v. bit_and v 0xf0f0f0f0f0f0f0f0) (sym sum) ∙ z.1)
-
-pub passes_each : (w : ℕ) (s : List ℕ) → length s ≡ 8 → AllBelow 256 s → w ≡ word_of s → AllBelow 10 s
-    → IsTrue (nat_eq (bit_or (bit_and w 0xf0f0f0f0f0f0f0f0)
-    (bit_and ((w + 0x0606060606060606) % 2 ^ 64) 0xf0f0f0f0f0f0f0f0)) 0)
-unfolding copies
-passes_each w s e h is small =
-    let six : word_of (copies 8 6) ≡ 0x0606060606060606 = refl in
-    let added : word_of s + 0x0606060606060606 ≡ word_of (map (λ b. b + 6) s) =
-    ap (λ n. word_of s + n) (sym six ∙ ap (λ n. word_of (copies n 6)) (sym e)) ∙ add_same 6 s in
-    let low : bit_and w 0xf0f0f0f0f0f0f0f0 ≡ 0 = ap (λ v. bit_and v 0xf0f0f0f0f0f0f0f0) is
-    ∙ no_nibbles s e (below_more 10 16 (omega arith) s small) in
-    let l : w < 2 ^ 64 = subst (λ v. v < 2 ^ 64) (sym is) (word_below s e h) in
-    let room = below_top w l low in
-    let sum : (w + 0x0606060606060606) % 2 ^ 64 ≡ word_of (map (λ b. b + 6) s) = omega (arith, is, added, room) in
-    let high : bit_and ((w + 0x0606060606060606) % 2 ^ 64) 0xf0f0f0f0f0f0f0f0 ≡ 0 =
-    ap (λ v. bit_and v 0xf0f0f0f0f0f0f0f0) sum
-    ∙ no_nibbles (map (λ b. b + 6) s) (length_map (λ b. b + 6) s ∙ e) (sixes_below s small) in
-    is_zero _ (ap (λ v. bit_or v (bit_and ((w + 0x0606060606060606) % 2 ^ 64) 0xf0f0f0f0f0f0f0f0)) low
-    ∙ ap (bit_or 0) high)
-
--- the test of low bytes alone
-pub low_each : (w : ℕ) → IsTrue (nat_eq (bit_and w 0xf0f0f0f0f0f0f0f0) 0) → AreLow w
-low_each w test s e h is = nibbles s e h (ap (λ v. bit_and v 0xf0f0f0f0f0f0f0f0) (sym is) ∙ zero_is _ test)
+pub passes_low : (w : ℕ) (s : List ℕ) → length s ≡ 8 → w ≡ word_of s → AllBelow 16 s
+    → IsTrue (nat_eq (bit_and w 0xf0f0f0f0f0f0f0f0) 0)
+passes_low w s e is low = is_zero _ (ap (λ v. bit_and v 0xf0f0f0f0f0f0f0f0) is ∙ no_nibbles s e low)
 
 -- ---- short numbers
 
@@ -524,58 +466,23 @@ alone : (t : List ℕ) → length t ≡ 0 → t ≡ []
 alone [] h = refl
 alone (b ∷ t) h = absurd (omega (arith, h))
 
-int_of : (s : List ℕ) → 0 < length s → AllDigits s → (get_or s 0 0 ≡ 48 → length s ≡ 1) → IsInt s
-int_of [] l all lead = absurd (omega (arith, l))
-int_of (b ∷ t) l all lead =
-    let low = all.0.0 in let high = all.0.1 in
-    elim (cases_lt 48 b) [
-      | inl more ↦ inr (omega arith, omega arith, all.1)
-      | inr less ↦ let zero_is : b ≡ 48 = omega arith in let one = lead zero_is in
-          inl (zero_is, alone t (omega (arith, one)))
-    ]
+int_filled : (s : List ℕ) → IsInt s → 0 < length s
+int_filled [] int = absurd int
+int_filled (b ∷ t) int = omega arith
 
-short_of : (s : List ℕ) (n : ℕ) → 0 < length s → AllDigits s → n ≡ digits_value s → n < 2 ^ 32
-    → (get_or s 0 0 ≡ 48 → length s ≡ 1) → IsShort s n
+-- an int alone is a short number
+pub int_short : (s : List ℕ) (n : ℕ) → IsInt s → n ≡ digits_value s → n < 2 ^ 32 → IsShort s n
 unfolding begins_digit
-short_of s n l all value small lead =
-    let int = int_of s l all lead in
+int_short s n int value small =
+    let all = int_digits s int in
     let front : digits_front s ≡ s = ap digits_front (sym (append_nil s)) ∙ front_append s [] all refl in
     let tests = int_alone_reads s int in
     record { int = tests.0; rest = tests.1; value = value ∙ ap digits_value (sym front); small = omega (arith, small) }
-
-pub word_short : (o : Option ℕ) (line : List ℕ) (start stop : ℕ) → start < stop → stop ≤ length line
-    → (get_or line start 0 ≡ 48 → stop - start ≡ 1) → IfSome o (λ n. n < 2 ^ 32)
-    → IfSome o (λ n. AllDigits (slice_range line (stop - (stop - start)) stop)
-    × (n ≡ digits_value (slice_range line (stop - (stop - start)) stop)))
-    → IfSome o (λ n. IsShort (slice_range line start stop) n)
-word_short None line start stop order within lead small value = value
-word_short (Some n) line start stop order within lead small value =
-    let e : stop - (stop - start) ≡ start = omega arith in
-    let s = slice_range line start stop in
-    let P : ℕ → Type 0 = λ k. AllDigits (slice_range line k stop) × (n ≡ digits_value (slice_range line k stop)) in
-    let is = subst P e value in
-    let l = length_slice line start stop within in
-    let first : get_or s 0 0 ≡ get_or line start 0 = get_or-take (stop - start) (drop start line) 0 0 (omega arith)
-    ∙ get_or-drop start line 0 0 ∙ ap (λ k. get_or line k 0) (omega arith) in
-    short_of s n (omega (arith, l)) is.0 is.1 small (λ z. l ∙ lead (sym first ∙ z))
 
 pub first_is : (line : List ℕ) (start stop : ℕ) → start < stop
     → get_or (slice_range line start stop) 0 0 ≡ get_or line start 0
 first_is line start stop order = get_or-take (stop - start) (drop start line) 0 0 (omega arith)
     ∙ get_or-drop start line 0 0 ∙ ap (λ k. get_or line k 0) (omega arith)
-
-pub int_slice : (line : List ℕ) (start stop : ℕ) → start < stop → stop ≤ length line
-    → (get_or line start 0 ≡ 48 → stop - start ≡ 1) → AllDigits (slice_range line start stop)
-    → IsInt (slice_range line start stop)
-int_slice line start stop order within lead all =
-    let l = length_slice line start stop within in
-    int_of (slice_range line start stop) (omega (arith, l)) all
-    (λ z. l ∙ lead (sym (first_is line start stop order) ∙ z))
-
-one_zero : (s : List ℕ) → IsInt s → get_or s 0 0 ≡ 48 → length s ≡ 1
-one_zero [] int z = absurd int
-one_zero (b ∷ t) (inl alone_is) z = let n : length t ≡ 0 = ap length alone_is.1 in omega (arith, n)
-one_zero (b ∷ t) (inr more) z = let low = more.0 in absurd (omega arith)
 
 -- ---- behind a minus
 
@@ -650,7 +557,7 @@ digits_unsigned [] all = refl
 digits_unsigned (b ∷ t) all = ap (begins 45) (sym (append_nil (b ∷ t))) ∙ digit_begins 45 (b ∷ t) [] all (omega arith)
 
 -- they are an int
-number_int : (s : List ℕ) → IsNumber s → AllDigits s → IsInt s
+pub number_int : (s : List ℕ) → IsNumber s → AllDigits s → IsInt s
 unfolding begins_digit
 number_int s number all = go (is_int (digits_front (body s))) refl
   where
@@ -661,12 +568,26 @@ number_int s number all = go (is_int (digits_front (body s))) refl
     go true e = int_from_test s all (ap is_int (sym same) ∙ e)
     go false e = absurd (not_int s e number)
 
-int_filled : (s : List ℕ) → IsInt s → 0 < length s
-int_filled [] int = absurd int
-int_filled (b ∷ t) int = omega arith
+-- ---- and what stands behind the minus of a number is one
 
--- and they spell a short number
-pub number_short : (s : List ℕ) → IsNumber s → AllDigits s → digits_value s < 2 ^ 32 → IsShort s (digits_value s)
-number_short s number all small =
-    let int = number_int s number all in
-    short_of s (digits_value s) (int_filled s int) all refl small (one_zero s int)
+tests : List ℕ → Bool
+tests t = is_int (digits_front t) && (is_frac (digits_rest t) && is_exp (after_frac (digits_rest t)))
+
+body_number : (s : List ℕ) → IsNumber s → IsNumber (body s)
+unfolding tests
+body_number s number =
+    let test = (spells_test s number.0 number.1).0 in
+    let front = digits_front (body s) in
+    let int = int_from_test front (front_all (body s)) (both_left _ _ test) in
+    let unsigned : begins 45 (body s) ≡ false = ap (begins 45) (front_rest (body s))
+    ∙ digit_begins 45 front (digits_rest (body s)) (int_is_digits front int) (omega arith) in
+    (written_of (body s), test_spells (body s) (ap tests (no_minus (body s) unsigned) ∙ test))
+
+pub begun_behind : (line : List ℕ) (start stop : ℕ) → start < stop → stop ≤ length line → get_or line start 0 ≡ 45
+    → IsNumberIfBegun (slice_range line start stop) → IsNumberIfBegun (slice_range line (start + 1) stop)
+begun_behind line start stop order within minus number = λ low high.
+    let s = slice_range line start stop in
+    let first = first_is line start stop order ∙ minus in
+    let P : List ℕ → Type 0 = IsNumber in
+    subst P (body_behind line start stop order (minus_first line start stop order within minus))
+    (body_number s (number (omega (arith, first)) (omega (arith, first))))

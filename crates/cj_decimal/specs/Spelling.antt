@@ -1,6 +1,6 @@
 -- The numbers of RFC 8259, section 6, and what their spellings stand for.
 use Rattle.std.specs.Prelude.{◌≡◌, ℕ, ◌+◌, ◌-◌, ◌*◌, ◌≤◌, List, [], ◌∷◌, ◌++◌, length, Bool, true, false, ◌⊎◌, ℤ, pos}
-use Rattle.std.specs.Prelude.{◌-ℤ◌}
+use Rattle.std.specs.Prelude.{◌-ℤ◌, ◌<◌, get_or}
 use Rattle.cj_decimal.specs.Number.{Number, number, signed, SameValue, IsNormal, IsInRange}
 use Rattle.cj_decimal.specs.Signs.{capital_e, decimal_point, digit_0, digit_1, digit_9, minus_sign, plus_sign, small_e}
 
@@ -91,6 +91,11 @@ pub record Spells (s : List ℕ) (n : Written) : Type 0 where
 -- s is a number of JSON
 abbrev pub IsNumber : List ℕ → Type 0
 IsNumber s = (n : Written) × Spells s n
+
+-- if the first byte is from `-` to `?`, the bytes are a number of JSON. That is so for each value of JSON: those that are
+-- no numbers begin with a quote, a letter, `[` or `{`
+abbrev pub IsNumberIfBegun : List ℕ → Type 0
+IsNumberIfBegun s = minus_sign ≤ get_or s 0 0 → get_or s 0 0 < digit_0 + 16 → IsNumber s
 
 -- the number that is written: all its digits, times ten to the exponent less the digits after the point
 abbrev pub number_of : Written → Number

@@ -27,7 +27,3 @@ TellsBelow word n = (s : List ℕ) → length s ≡ 8 → AllBelow 10 s → weig
 abbrev pub IsWordOf : ℕ → ℕ → Type 0
 IsWordOf word n = (s : List ℕ) × (length s ≡ 8) × AllBelow 10 s × (word ≡ weighed 256 s)
     × (n ≡ digits_value (map (λ d. d + digit_0) s))
-
--- each of the eight bytes of the word is below 16
-abbrev pub AreLow : ℕ → Type 0
-AreLow word = (s : List ℕ) → length s ≡ 8 → AllBelow 256 s → word ≡ word_of s → AllBelow 16 s

@@ -7,8 +7,8 @@ ghost use Rattle.std.specs.Prelude.{◌≡◌, ◌↔◌, ℕ, ◌+◌, ◌*◌,
 ghost use Rattle.std.specs.Prelude.{length, slice_range, IsTrue, IfSome, IfNone, IsSome, IfOk, IsOk, IsErrOf};
 ghost use Rattle.std.proofs.Common.{rules};
 ghost use Rattle.std.specs.Cmp.Rules.{comparing};
-ghost use Rattle.cj_decimal.specs.Spelling.{IsFewDigits, IsFewSigned, IsNumber, IsValue, IsNumberInRange};
-ghost use Rattle.cj_decimal.specs.Spelling.{IsNumberOutOfRange, HasOneValue};
+ghost use Rattle.cj_decimal.specs.Spelling.{IsFewDigits, IsFewSigned, IsNumber, IsNumberIfBegun, IsValue};
+ghost use Rattle.cj_decimal.specs.Spelling.{IsNumberInRange, IsNumberOutOfRange, HasOneValue};
 ghost use Rattle.cj_decimal.specs.Class.{Class, whole_answer};
 ghost use Rattle.cj_decimal.specs.Number.{number, signed, same_parts, SameValue, IsNormal, IsInRange, IsOutOfRange};
 ghost use Rattle.cj_decimal.specs.Number.{IsWhole, IsFixed};
@@ -212,10 +212,13 @@ impl Decimal {
     /// Returns the number of [`Decimal::read_few`] in a line from `start` to `stop`, if it has at
     /// most eight digits. It is faster still, since one word of the line has them all. None also if
     /// `stop` is below 8.
+    ///
+    /// The bytes must be those of a value of JSON. Then one test shows that they are digits.
     #[inline(always)]
     pub fn read_few_in(line: &[u8], start: usize, stop: usize) -> Option<u64>
         requires order { start < stop }
         requires within { stop ≤ length line.now }
+        requires number { IsNumberIfBegun (slice_range line.now start stop) }
         ensures answer { IfSome result (λ n. (c : Class (slice_range line.now start stop))
             → whole_answer c ≡ Ok (Some (pos n))) }
         ensures small { IfSome result (λ n. n < 10 ^ 18) }
@@ -231,6 +234,7 @@ impl Decimal {
     pub fn is_few_below_in(line: &[u8], start: usize, stop: usize, word: u64) -> bool
         requires order { start < stop }
         requires within { stop ≤ length line.now }
+        requires number { IsNumberIfBegun (slice_range line.now start stop) }
         ensures few { IsTrue result → IsFewDigits (slice_range line.now start stop) }
         ensures below { IsTrue result → (n : ℕ) → TellsBelow word n → (m : ℕ) × (m < n) × (m < 10 ^ 18)
             × ((c : Class (slice_range line.now start stop)) → whole_answer c ≡ Ok (Some (pos m))) }
@@ -243,6 +247,7 @@ impl Decimal {
     pub fn read_few_signed_in(line: &[u8], start: usize, stop: usize) -> Option<i64>
         requires order { start < stop }
         requires within { stop ≤ length line.now }
+        requires number { IsNumberIfBegun (slice_range line.now start stop) }
         ensures answer { IfSome result (λ w. (c : Class (slice_range line.now start stop))
             → whole_answer c ≡ Ok (Some w)) }
         ensures small { IfSome result (λ w. unsigned_abs w < 10 ^ 18) }
@@ -275,7 +280,7 @@ impl Decimal {
     pub fn read_word_in(line: &[u8], start: usize, stop: usize) -> Option<u64>
         requires order { start < stop }
         requires within { stop ≤ length line.now }
-        requires number { IsNumber (slice_range line.now start stop) }
+        requires number { IsNumberIfBegun (slice_range line.now start stop) }
         ensures { IfSome result (λ w. (n : ℕ) × IsWordOf w n
             × ((c : Class (slice_range line.now start stop)) → whole_answer c ≡ Ok (Some (pos n)))) }
     {

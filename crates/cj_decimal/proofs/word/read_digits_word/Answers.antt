@@ -1,15 +1,16 @@
-use Rattle.std.proofs.Common.{◌≡◌, ◌-◌, ◌∙◌, ℕ, List, ap, subst, sym, arith}
+use Rattle.std.proofs.Common.{◌≡◌, ◌-◌, ◌∙◌, ℕ, List, ap, refl, subst, sym, arith}
+use Rattle.std.proofs.lemmas.Bool.{false≢true}
 use Rattle.std.specs.Prelude.{slice_range}
 use Rattle.std.specs.Int.Bits.{bit_and, bit_xor}
-use Rattle.cj_decimal.specs.Spelling.{AllDigits, digits_value}
+use Rattle.cj_decimal.specs.Spelling.{AllDigits, IsInt, IsNumberIfBegun, digits_value}
 use Rattle.cj_decimal.specs.Word.{IsWordOf}
+use Rattle.cj_decimal.proofs.Grammar.{int_digits}
 use Rattle.cj_decimal.proofs.Below.{word_of_eight}
-use Rattle.cj_decimal.proofs.Eights.{bytes_below, length_slice, end_of_eight, eight_at_end}
+use Rattle.cj_decimal.proofs.Eights.{all_from_eight, bytes_below, length_slice, end_of_eight, eight_at_end, digits_pass, number_int}
 use Rattle.cj_decimal.proofs.word.read_digits_word.Goals.{After-swap_bytes}
-use Rattle.cj_decimal.proofs.NumberBytes.{NumberBytes, number_bytes}
 use Rattle.cj_decimal.proofs.word.read_digits_word.Goals as goal
 
-read : (c : After-swap_bytes) → AllDigits (slice_range c.args.line.now c.args.start c.args.stop)
+read : (c : After-swap_bytes) → IsInt (slice_range c.args.line.now c.args.start c.args.stop)
     × IsWordOf c.swap_bytes.result (digits_value (slice_range c.args.line.now c.args.start c.args.stop))
 read c =
     let line = c.args.line.now in let start = c.args.start in let stop = c.args.stop in
@@ -23,17 +24,43 @@ read c =
     let length_is = length_slice line (stop - 8) stop c.requires.within in
     let at = eight_at_end (8 - count) s c.word_before.result (bit_and x c.last_bytes.result) (omega arith)
     (length_is ∙ omega arith) (bytes_below line (stop - 8) stop (λ k. (c.type_inv.line k).fits)) c.word_before.ensures
-    (ap (bit_and x) c.last_bytes.ensures) (c.are_low.ensures c.if-are_low.true)
-    (subst NumberBytes (sym end) (number_bytes _ c.requires.number)) in
+    (ap (bit_and x) c.last_bytes.ensures) (omega arith)
+    (λ t l h is. (c.are_low.ensures t l h is).0 c.if-are_low.true)
+    (subst IsNumberIfBegun (sym end) c.requires.number) in
+    let eight = at.2 in
     let P : ℕ → Type 0 = λ w. IsWordOf w (digits_value (slice_range line start stop)) in
-    let Q : List ℕ → Type 0 = λ t. AllDigits t in (
-      subst Q end at.4,
+    let Q : List ℕ → Type 0 = λ t. IsInt t in (
+      subst Q end (number_int _ at.0 at.1),
       subst P (sym c.swap_bytes.ensures)
-          (word_of_eight at.0 _ _ at.1 at.2 at.3 (at.5 ∙ ap digits_value end)),
+          (word_of_eight eight.0 _ _ eight.1 eight.2 eight.3 (eight.4 ∙ ap digits_value end)),
     )
-
-pub returns-then-are_low-clause-digits : goal.returns-then-are_low-clause-digits
-returns-then-are_low-clause-digits c = λ some. (read c).0
 
 pub returns-then-are_low-clause-word : goal.returns-then-are_low-clause-word
 returns-then-are_low-clause-word c = (read c).1
+
+pub returns-then-are_low-clause-few : goal.returns-then-are_low-clause-few
+returns-then-are_low-clause-few c =
+    let few = c.if-count-gt-BYTES.false in
+    let order = c.requires.order in
+    (λ some. ((read c).0, omega arith, c.if-stop-lt-BYTES.false), λ int. refl)
+
+pub returns-else-are_low-clause-few : goal.returns-else-are_low-clause-few
+returns-else-are_low-clause-few c = (
+  λ e. absurd (false≢true e),
+  λ int.
+      let line = c.args.line.now in let start = c.args.start in let stop = c.args.stop in
+      let count = stop - start in
+      let order = c.requires.order in
+      let x = bit_xor c.word_before.result 0x3030303030303030 in
+      let few = c.if-count-gt-BYTES.false in let room = c.if-stop-lt-BYTES.false in
+      let back : start ≡ stop - count = omega arith in
+      let P : ℕ → Type 0 = λ k. AllDigits (slice_range line k stop) in
+      let length_is = length_slice line (stop - 8) stop c.requires.within in
+      let passed = digits_pass (8 - count) (slice_range line (stop - 8) stop) c.word_before.result
+      (bit_and x c.last_bytes.result) (omega arith) (length_is ∙ omega arith)
+      (bytes_below line (stop - 8) stop (λ k. (c.type_inv.line k).fits)) c.word_before.ensures
+      (ap (bit_and x) c.last_bytes.ensures) c.are_low.result
+      (λ t l h is low. (c.are_low.ensures t l h is).1 low)
+      (all_from_eight line count stop few room (subst P back (int_digits _ int.0))) in
+      sym c.if-are_low.false ∙ passed,
+)

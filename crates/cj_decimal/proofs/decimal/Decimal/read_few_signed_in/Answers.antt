@@ -2,8 +2,13 @@ use Rattle.std.proofs.Common.{◌≡◌, ◌+◌, true, Some, Ok, pos, neg_ℤ, 
 use Rattle.std.specs.Prelude.{slice_range}
 use Rattle.std.proofs.lemmas.Int.{ints}
 use Rattle.cj_decimal.proofs.Wholes.{answer_digits, signed_answer, signed_from_body, body_of_signed}
-use Rattle.cj_decimal.proofs.Eights.{minus_first, short_behind, body_plain, body_behind, few_in, int_in, no_int}
+use Rattle.cj_decimal.proofs.Eights.{begun_behind, minus_first, short_behind, body_plain, body_behind, few_in, int_in, no_int}
 use Rattle.cj_decimal.proofs.decimal.Decimal.read_few_signed_in.Goals as goal
+
+pub read_word-requires-2-clause-number : goal.read_word-requires-2-clause-number
+read_word-requires-2-clause-number c =
+    begun_behind c.args.line.now c.args.start c.args.stop c.requires.order c.requires.within
+    c.if-line-start-ne45.false c.requires.number
 
 pub returns-then-line-start-ne45-clause-answer : goal.returns-then-line-start-ne45-clause-answer
 returns-then-line-start-ne45-clause-answer c = λ class.
