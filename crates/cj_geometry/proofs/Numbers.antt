@@ -16,12 +16,14 @@ use Rattle.cj_spans.specs.Parts.{kind_of, spelling_of}
 use Rattle.cj_decimal.specs.declared.decimal.DecimalFault.{DecimalFault}
 use Rattle.cj_decimal.specs.declared.decimal.DecimalFault.TheVariants.{NotANumber, NumberRange as OutOfRange}
 use Rattle.cj_decimal.proofs.Eights.{first_is}
-use Rattle.cj_decimal.specs.Spelling.{IsInt, IsFewDigits, IsFewSigned, IsNumber, IsNumberInRange, IsNumberOutOfRange}
+use Rattle.cj_decimal.specs.Spelling.{IsInt, IsFewDigits, IsFewSigned, IsNumber, IsNumberIfBegun, IsNumberInRange, IsNumberOutOfRange}
 use Rattle.cj_decimal.specs.Word.{IsWordOf}
 use Rattle.cj_decimal.specs.Class.{Class, no_number, out_of_range, not_whole, whole, whole_answer}
 use Rattle.cj_decimal.proofs.Classes.{class}
 use Rattle.cj_decimal.proofs.Law.{not_both, value_is_number}
 use Rattle.cj_decimal.proofs.Wholes.{answer_fault}
+use Rattle.cj_spans.specs.Spelling as scanned
+use Rattle.cj_geometry.proofs.Grammars.{read_number}
 use Rattle.cj_geometry.specs.Rule.{one, spelling, is_outside, fault_reason, number_findings, index_findings, number, index, whole_by, whole_of}
 
 in-range : (s : List ℕ) (t : Tree) (c : Class s) → IsNumberInRange s → number_findings t c ≡ []
@@ -86,13 +88,6 @@ index-of-whole t w is reason count = go (is_number (kind_of t)) refl
     go true e = rw e (by-whole (spelling t) t (class (spelling t)) w (rw e at is) reason count)
     go false e = absurd (cc (rw e at is))
 
--- it is spelled as a number
-whole-by-number : (s : List ℕ) (c : Class s) (w : ℤ) → whole_by c ≡ Some w → IsNumber s
-whole-by-number s (no_number n) w is = absurd (cc is)
-whole-by-number s (out_of_range n) w is = absurd (cc is)
-whole-by-number s (not_whole v value range n) w is = absurd (cc is)
-whole-by-number s (whole v x value range are) w is = value_is_number s v value
-
 pub whole-kind : (t : Tree) (w : ℤ) → whole_of t ≡ Some w → kind_of t ≡ Number
 whole-kind (scalar Null a) w is = absurd (cc is)
 whole-kind (scalar Truth a) w is = absurd (cc is)
@@ -132,10 +127,6 @@ module _ (line : List ℕ) (t : Tree) (kind : kind_of t ≡ Number) where
       go (scalar k a) e = refl
       go (array i j ts) e = cc
       go (object i j ms) e = cc
-
-  spelled-number : (w : ℤ) → whole_of t ≡ Some w → IsNumber (spelling_of line t)
-  spelled-number w is = let P : List ℕ → Type 0 = IsNumber in
-      subst P (sym spelled) (whole-by-number (spelling t) (class (spelling t)) w (rw kind at is))
 
   pub number-in : IsNumberInRange (spelling_of line t) → number t ≡ []
   number-in o = rw kind (in-range (spelling t) t (class (spelling t)) (rw spelled at o))
@@ -179,20 +170,20 @@ module _ (line : List ℕ) (t : Tree) (kind : kind_of t ≡ Number) where
     few-signed-read (Some w) answer = whole-there w answer
 
 -- ---- what stands in a line as few digits is a number
-digit-kind : (b : ℕ) → 45 ≤ b → b ≤ 57 → kind_by b ≡ Number
+digit-kind : (b : ℕ) → 45 ≤ b → b < 64 → kind_by b ≡ Number
 digit-kind b low high = grind (arith, nat_tests)
 
-int-first : (s : List ℕ) → IsInt s → (45 ≤ get_or s 0 0) × (get_or s 0 0 ≤ 57)
+int-first : (s : List ℕ) → IsInt s → (45 ≤ get_or s 0 0) × (get_or s 0 0 < 64)
 int-first [] int = absurd int
 int-first (b ∷ t) (inl zero) = let e = zero.0 in (omega arith, omega arith)
 int-first (b ∷ t) (inr more) = let low = more.0 in let high = more.1 in (omega arith, omega arith)
 
-signed-first : (s : List ℕ) → IsFewSigned s → (45 ≤ get_or s 0 0) × (get_or s 0 0 ≤ 57)
+signed-first : (s : List ℕ) → IsFewSigned s → (45 ≤ get_or s 0 0) × (get_or s 0 0 < 64)
 signed-first s (inl few) = int-first s few.0
 signed-first s (inr minus) = let e : get_or s 0 0 ≡ 45 = ap (λ t. get_or t 0 0) minus.1 in (omega arith, omega arith)
 
 kind-at : (line : List ℕ) (start stop : ℕ) → start < stop → (45 ≤ get_or (slice_range line start stop) 0 0)
-    × (get_or (slice_range line start stop) 0 0 ≤ 57) → kind_by (byte line start) ≡ Number
+    × (get_or (slice_range line start stop) 0 0 < 64) → kind_by (byte line start) ≡ Number
 kind-at line start stop order first = let e = first_is line start stop order in
     digit-kind (byte line start) (omega (arith, first.0, e)) (omega (arith, first.1, e))
 
@@ -230,12 +221,14 @@ module _ (line b : List ℕ) (t : Tree) (start stop : ℕ) (e : b ≡ line) (ord
   signed-there-if None few answer = answer
   signed-there-if (Some w) few answer = signed-there w (few refl) answer
 
-  -- a whole number, and the word of its digits
-  pub number-there : (w : ℤ) → whole_of t ≡ Some w → IsNumber (slice_range b start stop)
-  number-there w is =
-      let P : List ℕ → Type 0 = λ s. IsNumber (slice_range s start stop) in
-      let Q : List ℕ → Type 0 = IsNumber in
-      subst P (sym e) (subst Q (sym same) (spelled-number line t (whole-kind t w is) w is))
+  -- of the values that a scan accepted, none but a number begins as one
+  pub begun-there : (kind_of t ≡ Number → scanned.IsNumber (slice_range line start stop))
+      → IsNumberIfBegun (slice_range b start stop)
+  begun-there number =
+      let P : List ℕ → Type 0 = λ s. IsNumberIfBegun (slice_range s start stop) in
+      subst P (sym e)
+      (λ low high. read_number (slice_range line start stop)
+      (number (sym kind ∙ kind-at line start stop order (low, high))))
 
   pub word-there-if : (o : Option ℕ) → kind_of t ≡ Number
       → IfSome o (λ d. (n : ℕ) × IsWordOf d n

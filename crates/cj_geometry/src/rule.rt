@@ -36,6 +36,7 @@ pub use array::{check_length, count_items};
 use cj_spans::{Finding, Kind, Least, Node, Reason};
 pub use member::{check_text_member, check_text_there, check_there, needed};
 pub use names::{check_names, check_names_unless};
+pub(crate) use number::is_few_below;
 pub use number::{
     Bound, check_index, check_index_below, check_number, check_whole, count_indices, count_wholes,
     is_short_triple, read_whole, read_whole_word,

@@ -1,18 +1,20 @@
 //! Semantics: surfaces, and values that assign a surface to each part of the boundaries.
-ghost use Rattle.std.specs.Prelude.{◌≡◌, ◌++◌, codes, length, nat_eq, option_map};
+ghost use Rattle.std.specs.Prelude.{◌≡◌, ◌++◌, ◌<◌, ◌^◌, [], codes, length, nat_eq, option_map, take};
+ghost use Rattle.std.specs.Prelude.{IsTrue};
 ghost use Rattle.std.specs.List.{flat_map};
 ghost use Rattle.std.specs.Str.{chars};
 ghost use Rattle.cj_spans.specs.Finding.{least};
 ghost use Rattle.cj_spans.specs.Parts.{items_of, member_of};
-ghost use Rattle.cj_spans.specs.Tree.{Tree};
+ghost use Rattle.cj_spans.specs.Tree.{Tree, size};
 ghost use Rattle.cj_spans.specs.View.{tree};
+ghost use Rattle.cj_geometry.specs.Lone.{AreLone};
 ghost use Rattle.cj_geometry.specs.Rule.{needs};
 ghost use Rattle.cj_geometry.specs.Geometry.{first_part, other_parts, left_of, parts_of, other_count, entry, values};
 ghost use Rattle.cj_geometry.specs.Geometry.{surface, surfaces, count_of, semantics, semantics_if};
 
 use crate::rule::{
     Bound, add, check_array, check_index_below, check_names, check_object, check_text_member,
-    count_items, needed,
+    count_items, is_few_below, needed,
 };
 use cj_spans::{Items, Kind, Least, Node, Reason};
 
@@ -58,6 +60,16 @@ fn check_evenness(node: Node, part: Option<Node>, even: bool, found: &mut Least)
     }
 }
 
+/// Returns how many parts a part has. 0 if there is none.
+fn count_parts(part: Option<Node>) -> u64
+    ensures { result ≡ length (parts_of (option_map tree part.entry)) }
+{
+    match part {
+        Some(part) => count_items(part),
+        None => 0,
+    }
+}
+
 /// Checks that the value is null, or an index of a surface.
 #[inline(always)]
 fn check_entry(node: Node, surfaces: Bound, found: &mut Least)
@@ -69,21 +81,56 @@ fn check_entry(node: Node, surfaces: Bound, found: &mut Least)
     }
 }
 
+/// Returns whether the value is null, or an index of a surface of at most eight digits.
+#[inline(always)]
+fn is_entry(node: Node, surfaces: Bound) -> bool
+    ensures single { IsTrue result → size (tree node.entry) ≡ 1 }
+    ensures none { IsTrue result → entry surfaces.count (tree node.entry) ≡ [] }
+{
+    match node.kind() {
+        Kind::Null => true,
+        _ => is_few_below(node, surfaces),
+    }
+}
+
+/// Returns how many items at the front of an array are such values, in the way of
+/// [`count_indices`](crate::rule::count_indices). None of them has a finding.
+#[inline(always)]
+fn count_entries(node: Node, surfaces: Bound) -> u32
+    ensures lone { AreLone result (items_of (tree node.entry)) }
+    ensures none { flat_map (entry surfaces.count) (take result (items_of (tree node.entry))) ≡ [] }
+    ensures few { length (items_of (tree node.entry)) < 2 ^ 63 }
+{
+    let mut items = node.items();
+    let mut front = 0;
+    while let Some(item) = items.next() {
+        if !is_entry(item, surfaces) {
+            break;
+        }
+        front += 1;
+        items = node.items_behind(front);
+    }
+    front
+}
+
 /// Checks that the items are entries, as many as there are parts: the lowest level, with nearly all
 /// of them.
+///
+/// It first counts the valid entries at the front, in a loop that does nothing else. The parts are
+/// counted by a walk of their own.
 fn check_entries(node: Node, part: Option<Node>, surfaces: Bound, found: &mut Least)
     ensures { found.new
         ≡ least found.old
         (flat_map (entry surfaces.count) (items_of (tree node.entry)) ++ other_count (tree node.entry)
         (option_map tree part.entry)) }
 {
-    let mut parts = walk(part);
-    let mut even = true;
-    for item in node.items() {
-        even &= next_part(&mut parts).is_some();
+    let front = count_entries(node, surfaces);
+    let mut count = front as u64;
+    for item in node.items_behind(front) {
         check_entry(item, surfaces, found);
+        count += 1;
     }
-    even &= next_part(&mut parts).is_none();
+    let even = count == count_parts(part);
     check_evenness(node, part, even, found);
 }
 

@@ -251,7 +251,7 @@ impl Bound {
 /// Returns whether the value is a number of at most eight digits below the bound. It reads the line
 /// as [`read_word`] does, and computes no value.
 #[inline(always)]
-fn is_few_below(node: Node, bound: Bound) -> bool
+pub(crate) fn is_few_below(node: Node, bound: Bound) -> bool
     ensures { IsTrue result → (n : ℕ) × (n < bound.limit) × (n < 10 ^ 18)
         × (whole_of (tree node.entry) ≡ Some (pos n)) }
 {

@@ -1,10 +1,28 @@
-use Rattle.std.proofs.Common.{option_map}
+use Rattle.std.proofs.Common.{ap, arith, length, option_map, ◌∙◌}
 use Rattle.std.specs.List.{flat_map}
+use Rattle.std.proofs.lemmas.List.{length-drop}
+use Rattle.cj_spans.specs.Finding.{least}
 use Rattle.cj_spans.specs.Parts.{items_of}
-use Rattle.cj_spans.specs.View.{tree}
+use Rattle.cj_spans.specs.View.{tree, items_left}
 use Rattle.cj_spans.proofs.Findings.{least-two}
 use Rattle.cj_geometry.specs.Geometry.{entry, other_count}
+use Rattle.cj_geometry.proofs.Lone.{past-none}
 use Rattle.cj_geometry.proofs.semantics.check_entries.Goals as goal
+
+pub loop-item-init : goal.loop-item-init
+loop-item-init c =
+    let rule = entry c.args.surfaces.count in
+    let items = items_of (tree c.args.node) in
+    let front = c.count_entries-front in
+    let lone = front.ensures.lone in
+    let left = ap items_left c.into_iter-item-iterator.ensures.into_iter_gives
+    ∙ c.items_behind-item-items.ensures front.result lone.within lone.sizes in
+    let rest = ap length left ∙ length-drop front.result items in
+    record {
+      found = ap (λ ts. least c.args.found.now (flat_map rule ts)) left
+          ∙ ap (least c.args.found.now) (past-none rule front.result items front.ensures.none);
+      count = omega (arith, rest, lone.within);
+    }
 
 pub returns : goal.returns
 returns c =

@@ -1,12 +1,12 @@
 use Rattle.cj_spans.specs.View.{tree, line_of}
-use Rattle.cj_geometry.proofs.Numbers.{whole-kind, number-there, word-there-if}
+use Rattle.cj_geometry.proofs.Numbers.{whole-kind, begun-there, word-there-if}
 use Rattle.cj_geometry.proofs.rule.number.read_whole_word.Goals as goal
 
 pub read_word_in-requires-clause-number : goal.read_word_in-requires-clause-number
 read_word_in-requires-clause-number c =
     let span = c.span-start.ensures in
-    number-there (line_of c.args.node) c.line.result.now (tree c.args.node) c.span-start.result.0 c.span-start.result.1
-    c.line.ensures span.order span.spelling span.kind c.requires.0 c.requires.1
+    begun-there (line_of c.args.node) c.line.result.now (tree c.args.node) c.span-start.result.0 c.span-start.result.1
+    c.line.ensures span.order span.spelling span.kind span.number
 
 pub returns : goal.returns
 returns c =
