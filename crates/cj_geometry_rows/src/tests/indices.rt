@@ -25,6 +25,8 @@ const BESIDE_FOUR_VERTICES: [Table; 5] = [
         the last | 3 | none
         equal to the count | ^4 | 25 vertex index out of range
         above the count | ^5 | 25 vertex index out of range
+        eight digits | ^10000003 | 25 vertex index out of range
+        nine digits | ^100000003 | 25 vertex index out of range
         the greatest whole number | ^999999999999999999 | 25 vertex index out of range
         below 0 | ^-1 | 25 vertex index out of range
         the least whole number | ^-999999999999999999 | 25 vertex index out of range
@@ -37,7 +39,9 @@ const BESIDE_FOUR_VERTICES: [Table; 5] = [
         null | ^null | 12 wrong kind
         a truth | ^true | 12 wrong kind
         a text | ^"3" | 12 wrong kind
+        a text of eight bytes | ^"000003" | 12 wrong kind
         an array | ^[3] | 12 wrong kind
+        an array of eight bytes | ^[1,2,13] | 12 wrong kind
         an object | ^{} | 12 wrong kind
         "#,
     },
@@ -48,6 +52,7 @@ const BESIDE_FOUR_VERTICES: [Table; 5] = [
         minus 0 | -0 | none
         minus 0 with a fraction | -0.0 | none
         a fraction of 0 | 3.0 | none
+        a fraction of 0, in eight bytes | 3.000000 | none
         an exponent of 0 | 3e0 | none
         an exponent of minus 0 | 3E-0 | none
         a great exponent of 0 | 0e999999999999 | none
@@ -110,7 +115,11 @@ const BESIDE_NO_VERTICES: [Table; 1] = [Table {
 const BESIDE_MANY_VERTICES: [Table; 1] = [Table {
     name: "the greatest index names the last vertex of many",
     geometry: r#"{"type":"MultiPoint","lod":"1","boundaries":_}"#,
-    rows: "the greatest whole number|[999999999999999999]|none",
+    rows: r#"
+        the greatest of eight digits | [99999999] | none
+        the least of nine digits | [100000000] | none
+        the greatest whole number | [999999999999999999] | none
+        "#,
 }];
 
 const BESIDE_UNKNOWN_VERTICES: [Table; 1] = [Table {
