@@ -149,6 +149,35 @@ eight_room s m l =
       z.1.1.1.1.1.1.1.0,
     )) s l
 
+-- the word of a number is not the greatest word
+pub word_room : (w n : ℕ) → IsWordOf w n → w < 2 ^ 60
+unfolding weighed
+word_room w n k =
+    eight (λ s. AllBelow 10 s → w ≡ weighed 256 s → w < 2 ^ 60)
+    (λ a b c d e f g h z is.
+    omega (
+      arith,
+      is,
+      z.0,
+      z.1.0,
+      z.1.1.0,
+      z.1.1.1.0,
+      z.1.1.1.1.0,
+      z.1.1.1.1.1.0,
+      z.1.1.1.1.1.1.0,
+      z.1.1.1.1.1.1.1.0,
+    )) k.0 k.1 k.2 k.3
+
+-- 0 is the word of 0
+pub word_zero : IsWordOf 0 0
+unfolding weighed
+word_zero = (0 ∷ 0 ∷ 0 ∷ 0 ∷ 0 ∷ 0 ∷ 0 ∷ 0 ∷ [], refl, low, omega arith, refl)
+  where
+    low : AllBelow 10 (0 ∷ 0 ∷ 0 ∷ 0 ∷ 0 ∷ 0 ∷ 0 ∷ 0 ∷ [])
+    low =
+        let z : 0 < 10 = omega arith in
+        (z, (z, (z, (z, (z, (z, (z, (z, tt))))))))
+
 word_small : (w n : ℕ) → IsWordOf w n → n < 2 ^ 32
 word_small w n h =
     let m = h.4 ∙ value_weighed h.0 h.1 in
