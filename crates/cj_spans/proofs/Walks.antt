@@ -589,6 +589,47 @@ items_behind_link b ts k l n j m r nested linked sized inside e f g few same =
     walk_behind b ts j (k + 1) m n nested linked sized w.whole (omega arith)
     (ap (λ xs. total_size (take j xs)) w.shown ∙ same) ∙ ap (drop j) w.shown
 
+-- the item behind the first ones of a node, if there is one
+pub record ItemBehind (b : List ℕ) (ts : List Token) (k j m : ℕ) : Type 0 where
+  pub inside : k + 1 + m < length ts
+  pub rest : List Tree
+  pub first : drop j (items_of (tree_at b (spans_of ts) k)) ≡ tree_at b (spans_of ts) (k + 1 + m) ∷ rest
+
+some_one : {t u : Token} → Some t ≡ Some u → t ≡ u
+some_one e = cc
+
+pub item_behind_link : (b : List ℕ) (ts : List Token) (k j m : ℕ) → AreNested ts → AreLinked ts → AreSized b ts
+    → k < length ts → j < length (items_of (tree_at b (spans_of ts) k))
+    → total_size (take j (items_of (tree_at b (spans_of ts) k))) ≡ m
+    → ItemBehind b ts k j m
+item_behind_link b ts k j m nested linked sized inside few same =
+    let found = below b ts k inside in
+    let l = k + 1 + before found.0.stop (drop (k + 1) ts) in
+    let r = kind_of (tree_at b (spans_of ts) k) in
+    let n = items_end r l in
+    let links : LinksTo ts k l = λ t e. sym (linked k found.0 found.1) ∙ ap link_of (some_one (sym found.1 ∙ e))
+    ∙ linked k t e in
+    let w = items_from_link b ts k l n r nested linked inside links refl refl in
+    let left =
+    items_behind_link b ts k l n j m r nested linked sized inside links refl refl (omega (arith, few)) same in
+    let count = length-drop j (items_of (tree_at b (spans_of ts) k)) in
+    elim (cases_lt (k + 1 + m) n) [
+      | inl low ↦
+          let whole = whole_later ts (k + 1) (k + 1 + m) n (omega arith) w.whole in
+          let there = below b ts (k + 1 + m) (omega (arith, whole.0, low)) in
+          let u = there.0 in
+          let step = walk_on b ts (k + 1 + m) n (link_of u) u nested there.1 (linked (k + 1 + m) u there.1)
+          (whole.1 (k + 1 + m) u (omega arith) low there.1) in
+          record {
+            inside = omega (arith, whole.0, low);
+            rest = shown_between b ts (link_of u) n;
+            first = sym left ∙ step;
+          }
+      | inr high ↦
+          let none = ap length (sym left ∙ shown_none b ts (k + 1 + m) n high) in
+          absurd (omega (arith, none, count, few))
+    ]
+
 -- a token's link, by the size of its tree
 pub linked_size : (b : List ℕ) (ts : List Token) (k l : ℕ) → AreLinked ts → AreSized b ts → k < length ts
     → LinksTo ts k l → (l ≡ k + size (tree_at b (spans_of ts) k)) × (l < 2 ^ 31)

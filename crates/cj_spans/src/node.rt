@@ -11,7 +11,8 @@
 //!     None => false,
 //! }
 //! ```
-ghost use Rattle.std.specs.Prelude.{◌≡◌, ◌<◌, ◌≤◌, ◌+◌, ◌^◌, ℕ, length, slice_get, Some, List, take, drop, slice_range};
+ghost use Rattle.std.specs.Prelude.{◌≡◌, ◌<◌, ◌≤◌, ◌+◌, ◌^◌, ◌∷◌, ℕ, length, slice_get, Some, List, take, drop};
+ghost use Rattle.std.specs.Prelude.{slice_range};
 ghost use Rattle.std.specs.Prelude.{IsTrue};
 ghost use Rattle.cj_spans.specs.Sound.{AreOf, AreFull, AreWithin, AreRising, AreNested, AreNamed, AreSpelled};
 ghost use Rattle.cj_spans.specs.Sound.{AreLinked, AreLone};
@@ -281,6 +282,23 @@ impl<'a> Node<'a> {
             source: self.source,
             next: self.index + 1 + size as usize,
             stop,
+        }
+    }
+
+    /// Returns the item of an array that [`Node::items_behind`] begins with. It looks at no token,
+    /// so a caller must show that there is an item.
+    #[inline(always)]
+    pub fn item_behind(self, size: u32) -> Node<'a>
+        requires { (k : ℕ) × (k < length (items_of (tree self))) × (total_size (take k (items_of (tree self))) ≡ size) }
+        ensures tree { (k : ℕ) → k < length (items_of (tree self.entry))
+            → total_size (take k (items_of (tree self.entry))) ≡ size
+            → (rest : List Tree) × (drop k (items_of (tree self.entry)) ≡ tree result ∷ rest) }
+        ensures line { line_of result ≡ line_of self.entry }
+        ensures source { source_of result ≡ source_of self.entry }
+    {
+        Node {
+            source: self.source,
+            index: self.index + 1 + size as usize,
         }
     }
 
