@@ -1,9 +1,9 @@
 -- Where the rules on city objects and vertices find nothing, types are known and vertices have three whole numbers.
-use Rattle.std.proofs.Common.{◌≡◌, ◌∙◌, sym, ap, ℕ, zero, suc, ◌<◌, ◌≤◌, drop, take, pos, List, [], ◌∷◌, ◌++◌, length, map, Bool, true, false, nat_eq, cond, Option, Some, None, ℤ, codes, refl, arith}
+use Rattle.std.proofs.Common.{◌≡◌, ◌∙◌, sym, ap, ℕ, zero, suc, ◌<◌, ◌≤◌, drop, take, pos, List, [], ◌∷◌, ◌++◌, length, map, Bool, true, false, nat_eq, cond, Option, Some, None, ℤ, codes, refl, inl, inr, arith}
 use Rattle.std.specs.List.{flat_map, list_all}
 use Rattle.std.specs.Prelude.{IfSome}
-use Rattle.std.proofs.lemmas.List.{drop-map}
-use Rattle.std.proofs.lemmas.Bool.{eqb-true}
+use Rattle.std.proofs.lemmas.List.{drop-map, drop_all}
+use Rattle.std.proofs.lemmas.Bool.{cases_lt, eqb-true}
 use Rattle.std.specs.Str.{chars}
 use Rattle.cj_spans.specs.declared.reason.Reason.TheVariants.{NotThree}
 use Rattle.cj_spans.specs.Tree.{Tree, total_size}
@@ -150,10 +150,16 @@ module _ (axis : ℕ) (t : Tree) (is : is_vertex t ≡ true) (within : axis < 3)
   pub lone-before : (axis ≤ length (items_of t)) × (total_size (take axis (items_of t)) ≡ axis)
   lone-before = lone axis (items_of t) (λ k l. three-begin k (map whole_of (items_of t)) is (omega arith))
 
-  pub not-past : drop axis (items_of t) ≡ [] → ⊥
+  not-past : drop axis (items_of t) ≡ [] → ⊥
   not-past none =
       absurd (cc (ap begins_whole (sym (ap (map whole_of) none) ∙ sym (drop-map whole_of axis (items_of t)))
       ∙ three-begin axis (map whole_of (items_of t)) is within))
+
+  pub within-items : axis < length (items_of t)
+  within-items = elim (cases_lt axis (length (items_of t))) [
+    | inl low ↦ low
+    | inr high ↦ absurd (not-past (drop_all axis (items_of t) high))
+  ]
 
   module _ (x : Tree) (rest : List Tree) (e : drop axis (items_of t) ≡ x ∷ rest) where
     pub whole-on : (w : ℤ) × (whole_of x ≡ Some w)

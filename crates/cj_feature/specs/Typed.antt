@@ -1,10 +1,9 @@
 -- What a valid feature's city objects and vertices have: a type that is known, and three whole numbers.
-use Rattle.std.specs.Prelude.{◌≡◌, ◌<◌, ℕ, List, [], ◌∷◌, Bool, true, false, map, get_or, unwrap_or, Option, Some, None, ℤ, pos}
+use Rattle.std.specs.Prelude.{ℕ, List, [], ◌∷◌, Bool, true, false, map, get_or, unwrap_or, Option, Some, None, ℤ, pos}
 use Rattle.std.specs.Prelude.{option_and_then, codes}
 use Rattle.std.specs.Str.{chars}
 use Rattle.cj_spans.specs.Tree.{Tree}
 use Rattle.cj_spans.specs.Parts.{items_of, members_of, member_of}
-use Rattle.cj_decimal.specs.Word.{IsWordOf}
 use Rattle.cj_geometry.specs.ObjectTypes.{ObjectRow, row_of}
 use Rattle.cj_geometry.specs.Rule.{whole_of}
 
@@ -58,7 +57,3 @@ abbrev pub begins_whole : List (Option ℤ) → Bool
 begins_whole [] = false
 begins_whole (None ∷ ws) = false
 begins_whole (Some w ∷ ws) = true
-
--- words have the numbers of a vertex on the axes
-abbrev pub HaveWords : List (Option ℤ) → List ℕ → Type 0
-HaveWords v words = (axis : ℕ) → axis < 3 → (n : ℕ) × IsWordOf (get_or words axis 0) n × (number_on axis v ≡ pos n)

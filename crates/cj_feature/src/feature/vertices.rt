@@ -4,7 +4,7 @@ ghost use Rattle.std.specs.List.{list_all};
 ghost use Rattle.cj_spans.specs.View.{tree, items_left};
 ghost use Rattle.cj_decimal.specs.Word.{IsWordOf};
 ghost use Rattle.cj_geometry.specs.Rule.{whole_of};
-ghost use Rattle.cj_feature.specs.Typed.{vertex_of, is_vertex, begins_whole, number_on, HaveWords};
+ghost use Rattle.cj_feature.specs.Typed.{vertex_of, is_vertex, begins_whole, number_on};
 
 use cj_geometry::rule::{read_whole, read_whole_word};
 use cj_spans::{Items, Node};
@@ -45,35 +45,20 @@ fn read_vertex(node: Node) -> [i64; 3]
 }
 
 /// Returns the digits of the number of a vertex on an axis as a word ([`read_whole_word`]), if they
-/// are few. The number is found without a walk, since each one before it is a single token.
+/// are few. The number is found without a walk and without a test, since a vertex has three, and
+/// each one is a single token.
 #[inline(always)]
 fn read_word_on(node: Node, axis: u32) -> Option<u64>
     requires vertex { is_vertex (tree node) ≡ true }
     requires on_an_axis { axis < 3 }
     ensures { IfSome result (λ w. (n : ℕ) × IsWordOf w n × (number_on axis (vertex_of (tree node.entry)) ≡ pos n)) }
 {
-    match node.items_behind(axis).next() {
-        Some(item) => read_whole_word(item),
-        None => unreachable!(),
-    }
-}
-
-/// Returns those words on all axes, if all have few digits.
-#[inline(always)]
-fn read_words(node: Node) -> Option<[u64; 3]>
-    requires { is_vertex (tree node) ≡ true }
-    ensures { IfSome result (λ ws. HaveWords (vertex_of (tree node.entry)) ws) }
-{
-    let x = read_word_on(node, 0)?;
-    let y = read_word_on(node, 1)?;
-    let z = read_word_on(node, 2)?;
-    Some([x, y, z])
+    read_whole_word(node.item_behind(axis))
 }
 
 impl<'a> Vertices<'a> {
-    ghost use Rattle.std.specs.Prelude.{◌≡◌, ◌∷◌, [], ℤ, List, Option, IfSome, IfNone, IsTrue};
+    ghost use Rattle.std.specs.Prelude.{◌≡◌, ◌∷◌, [], ℤ, List, Option, IfSome, IsTrue, drop};
     ghost use Rattle.cj_spans.specs.Parts.{items_of};
-    ghost use Rattle.cj_feature.specs.Typed.{HaveWords};
     ghost use Rattle.cj_feature.specs.Walks.{vertices_left};
 
     /// Returns a walk over items that are vertices.
@@ -95,23 +80,32 @@ impl<'a> Vertices<'a> {
         items.next().is_none()
     }
 
-    /// Goes past the next vertex if all its numbers have at most eight digits and no minus. Returns
-    /// their digits as words ([`cj_decimal::Decimal::read_word_in`]), which have the order of their
-    /// numbers. None for any other vertex, and at the end. Then it stays where it is.
+    /// Returns the digits of the next vertex's number on an axis as a word
+    /// ([`cj_decimal::Decimal::read_word_in`]), if it has at most eight digits and no minus. Words
+    /// have the order of their numbers. None for any other number, and at the end.
     #[inline(always)]
     #[tactic(auto, unfolding(crate::specs::Walks::vertices_left))]
-    pub fn next_words(&mut self) -> Option<[u64; 3]>
-        ensures words { IfSome result (λ ws. (v : List (Option ℤ))
-            × (vertices_left self.old ≡ v ∷ vertices_left self.new) × HaveWords v ws) }
-        ensures none { IfNone result (self.new ≡ self.old) }
+    pub fn next_word_on(&self, axis: u32) -> Option<u64>
+        requires { axis < 3 }
+        ensures { IfSome result (λ w. (v : List (Option ℤ)) × (vs : List (List (Option ℤ)))
+            × (vertices_left self.now ≡ v ∷ vs) × (n : ℕ) × IsWordOf w n × (number_on axis v ≡ pos n)) }
     {
         let mut items = self.items;
-        let Some(node) = items.next() else {
-            return None;
-        };
-        let words = read_words(node)?;
+        match items.next() {
+            Some(node) => read_word_on(node, axis),
+            None => None,
+        }
+    }
+
+    /// Goes past the next vertex, if there is one. It does not read the numbers.
+    #[inline(always)]
+    #[tactic(auto, unfolding(crate::specs::Walks::vertices_left))]
+    pub fn go_past(&mut self)
+        ensures { vertices_left self.new ≡ drop 1 (vertices_left self.old) }
+    {
+        let mut items = self.items;
+        let _ = items.next();
         *self = Vertices { items };
-        Some(words)
     }
 }
 
