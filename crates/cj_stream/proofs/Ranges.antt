@@ -1,17 +1,17 @@
 -- Ranges that are widened.
-use Rattle.std.proofs.Common.{◌≡◌, ℕ, ◌≤◌, List, [], ◌∷◌, ◌++◌, Option, Some, None, sym, ap, subst, refl, ◌∙◌, arith, append_assoc, ℤ, ◌≤ℤ◌, inl, inr, Bool, true, false, cond, get_or, map, pos, zero, suc}
-use Rattle.std.specs.Prelude.{Contains, ◌⊎◌, int_lt, min, max}
+use Rattle.std.proofs.Common.{◌≡◌, ℕ, ◌≤◌, List, [], ◌∷◌, ◌++◌, Option, Some, None, sym, ap, subst, refl, ◌∙◌, arith, append_assoc, ℤ, ◌≤ℤ◌, inl, inr, Bool, true, false, cond, get_or, length, map, pos, zero, suc, ◌+◌, ◌<◌}
+use Rattle.std.specs.Prelude.{All, Contains, IsTrue, ◌⊎◌, ◌-◌, ◌^◌, int_lt, min, max}
 use Rattle.std.specs.Int.{int_min, int_max}
 use Rattle.std.proofs.lemmas.Int.{ints}
-use Rattle.std.proofs.lemmas.Bool.{cases_lt}
+use Rattle.std.proofs.lemmas.Bool.{cases_lt, false≢true}
 use Rattle.std.proofs.lemmas.List.{append-nil}
-use Rattle.std.proofs.lemmas.List.Elements.{All-nil, All-cons, All-append, All-weaker, Contains-append_left, Contains-append_right, Contains-push}
+use Rattle.std.proofs.lemmas.List.Elements.{All-nil, All-cons, All-append, All-contains, All-contains_itself, All-weaker, Contains-append_cases, Contains-append_left, Contains-append_right, Contains-push}
 use Rattle.cj_decimal.specs.Word.{IsWordOf}
-use Rattle.cj_decimal.proofs.Below.{words_in_order}
+use Rattle.cj_decimal.proofs.Below.{words_in_order, word_room, word_zero}
 use Rattle.cj_feature.specs.Typed.{number_on}
-use Rattle.cj_stream.specs.Parts.{wider}
+use Rattle.cj_stream.specs.Parts.{wider, WidensFront}
 use Rattle.cj_stream.specs.Tallied.{IsRange}
-use Rattle.cj_stream.specs.TallySink.{AreWordsOf, RangesFront, Widens, WidensWords}
+use Rattle.cj_stream.specs.TallySink.{AreWordsOf, RangesFront, TakesNumber, TakesSome, Widens}
 
 -- not below one number and not above another
 abbrev Within : ℤ → ℤ → ℤ → Type 0
@@ -169,10 +169,18 @@ greatest-word high w m b n is x y = elim (cases_lt high w) [
       (b, subst (λ k. IsWordOf k b) e x, inl refl, omega arith, above)
 ]
 
-pub words-widened : (low high w l h : ℕ) (r : ℤ × ℤ) (n : ℕ) → l ≡ min low w → h ≡ max high w → AreWordsOf (low, high) r
-    → IsWordOf w n
-    → (s : ℤ × ℤ) × AreWordsOf (l, h) s × Widens (Some r) (pos n ∷ []) (Some s)
-words-widened low high w l h r n is_low is_high words word =
+-- words with the word of one number more
+pub words-widened : (low high w l h n : ℕ) → l ≡ min low w → h ≡ max high w → IsWordOf w n
+    → TakesNumber (low, high) (pos n) (l, h)
+words-widened low high w l h n is_low is_high word None none =
+    let room = word_room w n word in let least = none.0 in let greatest = none.1 in
+    let same_low : w ≡ l = omega (arith, is_low, room, least) in
+    let same_high : w ≡ h = omega (arith, is_high, greatest) in (
+      (pos n, pos n),
+      (n, n, subst (λ k. IsWordOf k n) same_low word, subst (λ k. IsWordOf k n) same_high word, refl),
+      Widens-first (pos n),
+    )
+words-widened low high w l h n is_low is_high word (Some r) words =
     let a = words.0 in let b = words.1 in
     let c = least-word low w l a n is_low words.2 word in
     let d = greatest-word high w h b n is_high words.3 word in
@@ -184,78 +192,181 @@ words-widened low high w l h r n is_low is_high words word =
       subst (λ (q : ℤ × ℤ). Widens (Some q) (pos n ∷ []) (Some (pos c.0, pos d.0))) (sym words.4) wide,
     )
 
--- ---- the range of the numbers before those that are left
+-- what words have a range, and which
+pub words-none : (words : ℕ × ℕ) (r : Option (ℤ × ℤ)) → AreWordsOf words r → words.0 ≡ 2 ^ 64 - 1 → r ≡ None
+words-none words None are e = refl
+words-none words (Some r) are e = let room = word_room words.0 are.0 are.2 in absurd (omega (arith, room, e))
 
-front-next : (all : List ℤ) (a b : Option (ℤ × ℤ)) (whole left : List ℤ) (n : ℤ) → whole ≡ n ∷ left
-    → Widens a (n ∷ []) b → RangesFront all a whole → RangesFront all b left
-front-next all a b whole left n e wide h = record {
-  front = h.front ++ n ∷ [];
-  joined = h.joined ∙ ap (λ ns. h.front ++ ns) e ∙ sym (append_assoc h.front (n ∷ []) left);
-  range_is = wide h.front h.range_is;
-}
+pub words-some : (words : ℕ × ℕ) (r : Option (ℤ × ℤ)) → AreWordsOf words r → (words.0 ≡ 2 ^ 64 - 1 → ⊥) → (a b : ℕ)
+    × IsWordOf words.0 a × IsWordOf words.1 b × (r ≡ Some (pos a, pos b))
+words-some words None are not = absurd (not are.0)
+words-some words (Some r) are not = (are.0, are.1, are.2, are.3, ap (λ (q : ℤ × ℤ). Some q) are.4)
+
+-- the greatest word has a number, also if there is none
+pub words-top : (words : ℕ × ℕ) (r : Option (ℤ × ℤ)) → AreWordsOf words r → (n : ℕ) × IsWordOf words.1 n
+words-top words None are = (0, subst (λ k. IsWordOf k 0) (sym are.1) word_zero)
+words-top words (Some r) are = (are.1, are.3)
+
+-- a range that is not widened
+pub wider-none : (r : Option (ℤ × ℤ)) → wider r None ≡ r
+wider-none None = refl
+wider-none (Some r) = refl
+
+not-lesser : (a n : ℤ) (b : Bool) → int_lt n a ≡ b → a ≤ℤ n → cond b n a ≡ a
+not-lesser a n true e h = absurd (grind (arith, ints))
+not-lesser a n false e h = refl
+
+not-greater : (a n : ℤ) (b : Bool) → int_lt n a ≡ b → n ≤ℤ a → cond b a n ≡ a
+not-greater a n true e h = refl
+not-greater a n false e h = grind (arith, ints)
+
+pub wider-within : (least greatest low high : ℤ) → least ≤ℤ low → high ≤ℤ greatest
+    → wider (Some (least, greatest)) (Some (low, high)) ≡ Some (least, greatest)
+wider-within least greatest low high l h =
+    ap (λ (x : ℤ). Some (x, int_max greatest high)) (not-lesser least low (int_lt low least) refl l)
+    ∙ ap (λ (x : ℤ). Some (least, x)) (not-greater greatest high (int_lt high greatest) refl h)
+
+-- words that stay take none of the numbers
+pub words-kept : (old new : ℕ × ℕ) (left : List ℤ) → new ≡ old → TakesSome old left new
+words-kept old new left e r are =
+    (r, subst (λ (w : ℕ × ℕ). AreWordsOf w r) (sym e) are, [], All-nil (Contains left), Widens-no r)
+
+-- words that take the first number take some of them
+pub words-first : (old new : ℕ × ℕ) (n : ℤ) (left rest : List ℤ) → left ≡ n ∷ rest → TakesNumber old n new
+    → TakesSome old left new
+words-first old new n left rest e takes r are =
+    let t = takes r are in
+    let first : Contains left n =
+    subst (λ (ns : List ℤ). Contains ns n) (sym e) (Contains-append_left (n ∷ []) rest n (Contains-push [] n)) in
+    (Some t.0, t.1, n ∷ [], All-cons (Contains left) n [] first (All-nil (Contains left)), t.2)
 
 -- a vertex and what is left, on an axis
-axis-next : (axis : ℕ) (whole left : List (List (Option ℤ))) (v : List (Option ℤ)) (n : ℤ) → whole ≡ v ∷ left
-    → number_on axis v ≡ n → map (number_on axis) whole ≡ n ∷ map (number_on axis) left
-axis-next axis whole left v n is has = ap (map (number_on axis)) is ∙ ap (λ m. m ∷ map (number_on axis) left) has
+pub axis-next : (axis : ℕ) (whole left : List (List (Option ℤ))) (v : List (Option ℤ)) → whole ≡ v ∷ left
+    → map (number_on axis) whole ≡ number_on axis v ∷ map (number_on axis) left
+axis-next axis whole left v is = ap (map (number_on axis)) is
 
--- words are widened by one vertex more
-pub words-next : (axis : ℕ) (old : ℕ × ℕ) (start : List ℤ) (words wider_words : ℕ × ℕ) (w : ℕ)
-    (whole left : List (List (Option ℤ))) (v : List (Option ℤ)) → whole ≡ v ∷ left → (n : ℕ) × IsWordOf w n
-    × (number_on axis v ≡ pos n)
-    → ((r : ℤ × ℤ) (n : ℕ) → AreWordsOf words r → IsWordOf w n → (s : ℤ × ℤ) × AreWordsOf wider_words s
-    × Widens (Some r) (pos n ∷ []) (Some s))
-    → WidensWords old start words (map (number_on axis) whole)
-    → WidensWords old start wider_words (map (number_on axis) left)
-words-next axis old start words wider_words w whole left v is has widened h all r are front =
-    let before = h all r are front in
-    let wide = widened before.0 has.0 before.1 has.1 in (
-      wide.0,
-      wide.1,
-      front-next all (Some before.0) (Some wide.0) (map (number_on axis) whole)
-          (map (number_on axis) left) (pos has.0) (axis-next axis whole left v (pos has.0) is has.2) wide.2 before.2,
+-- words that may take the number of the next vertex
+pub words-tried : (b : Bool) (axis : ℕ) (old new : ℕ × ℕ) (whole : List (List (Option ℤ)))
+    → (IsTrue b → (v : List (Option ℤ)) × (vs : List (List (Option ℤ))) × (whole ≡ v ∷ vs)
+    × TakesNumber old (number_on axis v) new)
+    → IsTrue b ⊎ (new ≡ old) → TakesSome old (map (number_on axis) whole) new
+words-tried true axis old new whole taken kept =
+    let t = taken refl in
+    words-first old new (number_on axis t.0) (map (number_on axis) whole) (map (number_on axis) t.1)
+    (axis-next axis whole t.1 t.0 t.2) t.3
+words-tried false axis old new whole taken kept = elim kept [
+  | inl e ↦ absurd (false≢true e)
+  | inr same ↦ words-kept old new (map (number_on axis) whole) same
+]
+
+-- ---- words on the way over the numbers of all vertices
+
+-- words are of the numbers before those that are left; at the end of the way, also of some of these
+abbrev pub OnWay : Bool → List ℤ → ℕ × ℕ → List ℤ → Type 0
+OnWay true all words left = (r : Option (ℤ × ℤ)) × AreWordsOf words r × (front : List ℤ) × (all ≡ front ++ left)
+    × IsRange front r
+OnWay false all words left = (r : Option (ℤ × ℤ)) × AreWordsOf words r × RangesFront all r left
+
+pub way-start : (all : List ℤ) (words : ℕ × ℕ) → words.0 ≡ 2 ^ 64 - 1 → words.1 ≡ 0 → OnWay true all words all
+way-start all words least greatest = (None, (least, greatest), [], refl, refl)
+
+pub way-next : (all : List ℤ) (old new : ℕ × ℕ) (n : ℤ) (whole left : List ℤ) → whole ≡ n ∷ left
+    → TakesNumber old n new → OnWay true all old whole → OnWay true all new left
+way-next all old new n whole left e takes h =
+    let t = takes h.0 h.1 in
+    let front = h.2 in (
+      Some t.0,
+      t.1,
+      front ++ n ∷ [],
+      h.3 ∙ ap (λ ns. front ++ ns) e ∙ sym (append_assoc front (n ∷ []) left),
+      t.2 front h.4,
     )
 
-pub words-same : (words : ℕ × ℕ) (left : List ℤ) → WidensWords words left words left
-words-same words left all r are front = (r, are, front)
-
-pub words-kept : (old : ℕ × ℕ) (start : List ℤ) (new : ℕ × ℕ) (rest left : List ℤ) → rest ≡ left
-    → WidensWords old start new rest → WidensWords old start new left
-words-kept old start new rest left e h all r are front = let p = h all r are front in
-    (p.0, p.1, subst (λ (ns : List ℤ). RangesFront all (Some p.0) ns) e p.2)
-
--- the range of one vertex
-words-first : (axis w : ℕ) (whole left : List (List (Option ℤ))) (v : List (Option ℤ)) → whole ≡ v ∷ left → (n : ℕ)
-    × IsWordOf w n × (number_on axis v ≡ pos n)
-    → (r : ℤ × ℤ) × AreWordsOf (w, w) r × RangesFront (map (number_on axis) whole) (Some r) (map (number_on axis) left)
-words-first axis w whole left v is has =
-    let n = pos has.0 in (
-      (n, n),
-      (has.0, has.0, has.1, has.1, refl),
-      record { front = n ∷ []; joined = axis-next axis whole left v n is has.2; range_is = Widens-first n [] refl },
+pub way-end : (all : List ℤ) (old new : ℕ × ℕ) (whole left : List ℤ) → left ≡ whole → TakesSome old whole new
+    → OnWay true all old whole → OnWay false all new left
+way-end all old new whole left e takes h =
+    let t = takes h.0 h.1 in (
+      t.0,
+      t.1,
+      record {
+        front = h.2;
+        more = t.2;
+        joined = h.3 ∙ ap (λ ns. h.2 ++ ns) (sym e);
+        inside = subst (λ (ns : List ℤ). All (Contains ns) t.2) (sym e) t.3;
+        range_is = t.4 h.2 h.4;
+      },
     )
 
--- the range of one vertex and of those after it that words are widened by
-pub words-passed : (axis w : ℕ) (whole mid left : List (List (Option ℤ))) (v : List (Option ℤ)) (words : ℕ × ℕ)
-    → whole ≡ v ∷ mid → (n : ℕ) × IsWordOf w n × (number_on axis v ≡ pos n)
-    → WidensWords (w, w) (map (number_on axis) mid) words (map (number_on axis) left)
-    → (r : ℤ × ℤ) × AreWordsOf words r × RangesFront (map (number_on axis) whole) (Some r) (map (number_on axis) left)
-words-passed axis w whole mid left v words is has wide = let f = words-first axis w whole mid v is has in
-    wide (map (number_on axis) whole) f.0 f.1 f.2
+pub way-step : (b : Bool) (all : List ℤ) (old new : ℕ × ℕ) (whole left : List ℤ)
+    → (IsTrue b → (n : ℤ) × (whole ≡ n ∷ left) × TakesNumber old n new)
+    → IsTrue b ⊎ ((left ≡ whole) × TakesSome old whole new) → OnWay true all old whole → OnWay b all new left
+way-step true all old new whole left gone stays h =
+    let g = gone refl in way-next all old new g.0 whole left g.1 g.2 h
+way-step false all old new whole left gone stays h = elim stays [
+  | inl e ↦ absurd (false≢true e)
+  | inr s ↦ way-end all old new whole left s.0 s.1 h
+]
 
--- a range that was computed of its words
-pub words-range : (all left : List ℤ) (words : ℕ × ℕ) (range : ℤ × ℤ) → (s : ℤ × ℤ) × AreWordsOf words s
-    × RangesFront all (Some s) left → ((r : ℤ × ℤ) → AreWordsOf words r → range ≡ r) → RangesFront all (Some range) left
-words-range all left words range h is = subst (λ (q : ℤ × ℤ). RangesFront all (Some q) left) (sym (is h.0 h.1)) h.2
+-- each step passes over a vertex, or is the last one
+pub way-shorter : (b going : Bool) (whole left : List (List (Option ℤ))) → going ≡ true
+    → (IsTrue b → (v : List (Option ℤ)) × (whole ≡ v ∷ left)) → IsTrue b ⊎ (left ≡ whole)
+    → length left + cond b 1 0 < length whole + cond going 1 0
+way-shorter b false whole left e gone stays = absurd (false≢true e)
+way-shorter true true whole left e gone stays = let n = ap length (gone refl).1 in omega (arith, n)
+way-shorter false true whole left e gone stays = elim stays [
+  | inl t ↦ absurd (false≢true t)
+  | inr same ↦ let n = ap length same in omega (arith, n)
+]
 
-pub front-none : (all left : List ℤ) → left ≡ all → RangesFront all None left
-front-none all left e = record { front = []; joined = sym e; range_is = refl }
+-- the range of the front is joined to another
+pub way-joined : (all left : List ℤ) (words : ℕ × ℕ) (old new : Option (ℤ × ℤ)) → OnWay false all words left
+    → ((r : Option (ℤ × ℤ)) → AreWordsOf words r → new ≡ wider old r) → WidensFront old all new left
+way-joined all left words old new h join = (h.0, h.2, join h.0 h.1)
+
+-- ---- the range of the front and of some of the rest
+
+-- a range of numbers of which some come twice
+one-more : (xs more ys : List ℤ) (n : ℤ) → Contains (xs ++ ys) n → Contains ((xs ++ more) ++ ys) n
+one-more xs more ys n has = elim (Contains-append_cases xs ys n has) [
+  | inl first ↦ Contains-append_left (xs ++ more) ys n (Contains-append_left xs more n first)
+  | inr later ↦ Contains-append_right (xs ++ more) ys n later
+]
+
+one-fewer : (xs more ys : List ℤ) (n : ℤ) → All (Contains ys) more → Contains ((xs ++ more) ++ ys) n
+    → Contains (xs ++ ys) n
+one-fewer xs more ys n inside has = elim (Contains-append_cases (xs ++ more) ys n has) [
+  | inl first ↦ elim (Contains-append_cases xs more n first) [
+    | inl own ↦ Contains-append_left xs ys n own
+    | inr twice ↦ Contains-append_right xs ys n (All-contains (Contains ys) more n inside twice)
+  ]
+  | inr later ↦ Contains-append_right xs ys n later
+]
+
+none-fewer : (xs more ys : List ℤ) → (xs ++ more) ++ ys ≡ [] → xs ++ ys ≡ []
+none-fewer [] [] ys e = e
+none-fewer [] (n ∷ more) ys e = absurd (cc e)
+none-fewer (n ∷ xs) more ys e = absurd (cc e)
+
+range-fewer : (xs more ys : List ℤ) (r : Option (ℤ × ℤ)) → All (Contains ys) more → IsRange ((xs ++ more) ++ ys) r
+    → IsRange (xs ++ ys) r
+range-fewer xs more ys None inside is = none-fewer xs more ys is
+range-fewer xs more ys (Some r) inside is = (
+  one-fewer xs more ys r.0 inside is.0,
+  one-fewer xs more ys r.1 inside is.1,
+  All-weaker (Contains (xs ++ ys)) (Within r.0 r.1)
+      (λ n has. All-contains (Within r.0 r.1) ((xs ++ more) ++ ys) n is.2 (one-more xs more ys n has)) (xs ++ ys)
+      (All-contains_itself (xs ++ ys)),
+)
 
 -- the range of the front joins another, and is widened by the rest
 pub front-widened : (all rest numbers : List ℤ) (old few joined end : Option (ℤ × ℤ)) → numbers ≡ all
     → RangesFront all few rest → joined ≡ wider old few → Widens joined rest end → Widens old numbers end
 front-widened all rest numbers old few joined end same f j w before is =
-    let both = IsRange-two before f.front old few is f.range_is in
-    let wide = w (before ++ f.front) (subst (λ (r : Option (ℤ × ℤ)). IsRange (before ++ f.front) r) (sym j) both) in
+    let first = before ++ f.front in
+    let both = IsRange-two before (f.front ++ f.more) old few is f.range_is in
+    let long = subst (λ (r : Option (ℤ × ℤ)). IsRange (before ++ (f.front ++ f.more)) r) (sym j) both in
+    let wide = w (first ++ f.more)
+    (subst (λ (ns : List ℤ). IsRange ns joined) (sym (append_assoc before f.front f.more)) long) in
     subst (λ (ns : List ℤ). IsRange ns end)
-    (append_assoc before f.front rest ∙ ap (λ ns. before ++ ns) (sym f.joined ∙ sym same)) wide
+    (append_assoc before f.front rest ∙ ap (λ ns. before ++ ns) (sym f.joined ∙ sym same))
+    (range-fewer first f.more rest end f.inside wide)

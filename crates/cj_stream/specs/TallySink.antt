@@ -1,6 +1,6 @@
 -- What contracts see of a tally, what an item makes of it, and which tally some items have.
-use Rattle.std.specs.Prelude.{◌≡◌, ℕ, ◌+◌, ◌<◌, ◌≤◌, List, [], ◌++◌, Option, Some, None, ℤ, get_or, map, option_map}
-use Rattle.std.specs.Prelude.{codes, pos, replicate}
+use Rattle.std.specs.Prelude.{◌≡◌, ℕ, ◌+◌, ◌-◌, ◌^◌, ◌<◌, ◌≤◌, List, [], ◌∷◌, ◌++◌, All, Contains, Option, Some, None, ℤ}
+use Rattle.std.specs.Prelude.{codes, get_or, map, option_map, pos, replicate}
 use Rattle.std.specs.List.{filter, last_or}
 use Rattle.std.specs.Str.{chars}
 use Rattle.cj_spans.specs.Tree.{Tree}
@@ -49,20 +49,28 @@ RisesBy size old ns new = (n : ℕ) → n < size → get_or new n 0 ≡ capped (
 abbrev pub Widens : Option (ℤ × ℤ) → List ℤ → Option (ℤ × ℤ) → Type 0
 Widens old ns new = (before : List ℤ) → IsRange before old → IsRange (before ++ ns) new
 
--- words have the ends of a range
-abbrev pub AreWordsOf : ℕ × ℕ → ℤ × ℤ → Type 0
-AreWordsOf words range = (a b : ℕ) × IsWordOf words.0 a × IsWordOf words.1 b × (range ≡ (pos a, pos b))
+-- words have the ends of a range; those of no range are the greatest word and 0
+abbrev pub AreWordsOf : ℕ × ℕ → Option (ℤ × ℤ) → Type 0
+AreWordsOf words None = (words.0 ≡ 2 ^ 64 - 1) × (words.1 ≡ 0)
+AreWordsOf words (Some range) = (a b : ℕ) × IsWordOf words.0 a × IsWordOf words.1 b × (range ≡ (pos a, pos b))
 
--- the range is that of the numbers before those that are left
+-- words of a range become those of the range with one number more
+abbrev pub TakesNumber : ℕ × ℕ → ℤ → ℕ × ℕ → Type 0
+TakesNumber old n new = (r : Option (ℤ × ℤ)) → AreWordsOf old r → (s : ℤ × ℤ) × AreWordsOf new (Some s)
+    × Widens r (n ∷ []) (Some s)
+
+-- words of a range become those of the range with some of the numbers that are left
+abbrev pub TakesSome : ℕ × ℕ → List ℤ → ℕ × ℕ → Type 0
+TakesSome old left new = (r : Option (ℤ × ℤ)) → AreWordsOf old r → (s : Option (ℤ × ℤ)) × AreWordsOf new s
+    × (more : List ℤ) × All (Contains left) more × Widens r more s
+
+-- the range is that of the numbers before those that are left, and of some of these
 pub record RangesFront (all : List ℤ) (range : Option (ℤ × ℤ)) (left : List ℤ) : Type 0 where
   pub front : List ℤ
+  pub more : List ℤ
   pub joined : all ≡ front ++ left
-  pub range_is : IsRange front range
-
--- words that have the ends of a range are widened on the way to the numbers `rest`
-abbrev pub WidensWords : ℕ × ℕ → List ℤ → ℕ × ℕ → List ℤ → Type 0
-WidensWords old left new rest = (all : List ℤ) (r : ℤ × ℤ) → AreWordsOf old r → RangesFront all (Some r) left
-    → (s : ℤ × ℤ) × AreWordsOf new s × RangesFront all (Some s) rest
+  pub inside : All (Contains left) more
+  pub range_is : IsRange (front ++ more) range
 
 -- numbers of the transform are those that a header of this tree shows
 abbrev pub Shows : List ℕ → Tree → Option (List Number) → Type 0

@@ -1,5 +1,6 @@
 //! What a feature adds to a tally.
-ghost use Rattle.std.specs.Prelude.{◌≡◌, ◌∷◌, [], ◌<◌, ℕ, ℤ, get_or, map, None, option_map, pos, Some, IsTrue, codes};
+ghost use Rattle.std.specs.Prelude.{◌≡◌, ◌∷◌, [], ◌<◌, ◌⊎◌, ℕ, ℤ, List, Option, get_or, map, None, option_map, pos};
+ghost use Rattle.std.specs.Prelude.{Some, IsTrue, codes};
 ghost use Rattle.std.specs.List.{flat_map};
 ghost use Rattle.std.specs.Str.{chars};
 ghost use Rattle.cj_decimal.specs.Word.{IsWordOf};
@@ -12,7 +13,7 @@ ghost use Rattle.cj_feature.specs.Walks.{object_geometries, vertices_left};
 ghost use Rattle.cj_stream.specs.Criteria.{objects_of};
 ghost use Rattle.cj_stream.specs.Parts.{wider as wider_range, WidensFront};
 ghost use Rattle.cj_stream.specs.Tallied.{class_of as lod_class, type_numbers, lod_classes, numbers_on, own_classes};
-ghost use Rattle.cj_stream.specs.TallySink.{AreWordsOf, RisesBy, Widens, WidensWords};
+ghost use Rattle.cj_stream.specs.TallySink.{AreWordsOf, RisesBy, TakesNumber, TakesSome, Widens};
 
 use super::LOD_CLASSES;
 use super::joining::join_ranges;
@@ -177,121 +178,183 @@ fn widen_by(ranges: [(i64, i64); 3], vertices: Vertices) -> [(i64, i64); 3]
     [on_x, on_y, on_z]
 }
 
-/// Returns the ranges on the axes, widened by the vertices that are left.
+/// Widens the ranges on the axes by the vertices that are left.
 #[inline(never)]
-fn widen_rest(ranges: [Option<(i64, i64)>; 3], rest: Vertices) -> [Option<(i64, i64)>; 3]
-    ensures { (axis : ℕ) → axis < 3 → Widens (get_or ranges axis None)
-        (map (number_on axis) (vertices_left rest.entry)) (get_or result axis None) }
+fn widen_rest(ranges: &mut [Option<(i64, i64)>; 3], rest: Vertices)
+    ensures { (axis : ℕ) → axis < 3 → Widens (get_or ranges.old axis None)
+        (map (number_on axis) (vertices_left rest.entry)) (get_or ranges.new axis None) }
 {
     let mut vertices = rest;
     match vertices.next() {
         Some(vertex) => {
             let [x, y, z] = vertex;
-            let [on_x, on_y, on_z] = ranges;
+            let [on_x, on_y, on_z] = *ranges;
             let first = [begun(on_x, x), begun(on_y, y), begun(on_z, z)];
             let [on_x, on_y, on_z] = widen_by(first, vertices);
-            [Some(on_x), Some(on_y), Some(on_z)]
+            *ranges = [Some(on_x), Some(on_y), Some(on_z)];
         }
-        None => ranges,
+        None => {}
     }
 }
+
+/// The words of no number. Each word is below the first and not below the second.
+const NO_WORDS: (u64, u64) = (u64::MAX, 0);
 
 /// Returns a range of words with one word more. Words have the order of their numbers.
 #[inline(always)]
 fn widened_words(range: (u64, u64), word: u64) -> (u64, u64)
-    ensures { (r : ℤ × ℤ) (n : ℕ) → AreWordsOf range r → IsWordOf word n
-        → (s : ℤ × ℤ) × AreWordsOf result s × Widens (Some r) (pos n ∷ []) (Some s) }
+    ensures { (n : ℕ) → IsWordOf word n → TakesNumber range (pos n) result }
 {
     let (least, greatest) = range;
     (least.min(word), greatest.max(word))
 }
 
-/// Returns the range of the numbers that these words have.
-fn range_of_words(words: (u64, u64)) -> (i64, i64)
-    requires { (r : ℤ × ℤ) × AreWordsOf words r }
-    ensures { (r : ℤ × ℤ) → AreWordsOf words r → result ≡ r }
+/// Returns the range of the numbers that these words have. None for those of no number.
+fn range_of_words(words: (u64, u64)) -> Option<(i64, i64)>
+    requires { (r : Option (ℤ × ℤ)) × AreWordsOf words r }
+    ensures { (r : Option (ℤ × ℤ)) → AreWordsOf words r → result ≡ r }
 {
-    (word_value(words.0) as i64, word_value(words.1) as i64)
-}
-
-/// Returns ranges of words, widened by the vertices at the front whose numbers all have few digits.
-/// It goes past these vertices.
-///
-/// It is never inlined, so that its loop has the registers.
-#[inline(never)]
-fn widen_words(words: [(u64, u64); 3], vertices: &mut Vertices) -> [(u64, u64); 3]
-    ensures { (axis : ℕ) → axis < 3 → WidensWords (get_or words axis (0, 0))
-        (map (number_on axis) (vertices_left vertices.old)) (get_or result axis (0, 0))
-        (map (number_on axis) (vertices_left vertices.new)) }
-{
-    let [mut on_x, mut on_y, mut on_z] = words;
-    let mut left = *vertices;
-    while let Some(vertex) = left.next_words() {
-        let [x, y, z] = vertex;
-        on_x = widened_words(on_x, x);
-        on_y = widened_words(on_y, y);
-        on_z = widened_words(on_z, z);
+    if words.0 == u64::MAX {
+        return None;
     }
-    *vertices = left;
-    [on_x, on_y, on_z]
+    Some((word_value(words.0) as i64, word_value(words.1) as i64))
 }
 
-/// Returns whether a range has the ends of another.
+/// Returns whether a range has the numbers of these words. It may be false for the words of no
+/// number.
+///
+/// No word has a number below 0. So most least numbers need not be computed.
 #[inline(always)]
-fn has_range(range: Option<(i64, i64)>, other: (i64, i64)) -> bool
-    ensures { IsTrue result → wider_range range (Some other) ≡ range }
+fn has_words(range: Option<(i64, i64)>, words: (u64, u64)) -> bool
+    requires { (r : Option (ℤ × ℤ)) × AreWordsOf words r }
+    ensures { IsTrue result → (r : Option (ℤ × ℤ)) → AreWordsOf words r → wider_range range r ≡ range }
 {
     match range {
-        Some((least, greatest)) => least <= other.0 && other.1 <= greatest,
+        Some((least, greatest)) => {
+            word_value(words.1) as i64 <= greatest
+                && (least <= 0 || (words.0 != u64::MAX && least <= word_value(words.0) as i64))
+        }
         None => false,
     }
 }
 
-/// Joins a range to another for each axis. Most features are inside the earlier ones, and then it
-/// writes nothing.
-#[inline(always)]
-fn join_to(ranges: &mut [Option<(i64, i64)>; 3], x: (i64, i64), y: (i64, i64), z: (i64, i64))
-    ensures on_x { get_or ranges.new 0 None ≡ wider_range (get_or ranges.old 0 None) (Some x) }
-    ensures on_y { get_or ranges.new 1 None ≡ wider_range (get_or ranges.old 1 None) (Some y) }
-    ensures on_z { get_or ranges.new 2 None ≡ wider_range (get_or ranges.old 2 None) (Some z) }
+/// Joins the range of these words to another for each axis.
+#[inline(never)]
+fn join_words(ranges: &mut [Option<(i64, i64)>; 3], x: (u64, u64), y: (u64, u64), z: (u64, u64))
+    requires on_x { (r : Option (ℤ × ℤ)) × AreWordsOf x r }
+    requires on_y { (r : Option (ℤ × ℤ)) × AreWordsOf y r }
+    requires on_z { (r : Option (ℤ × ℤ)) × AreWordsOf z r }
+    ensures on_x { (r : Option (ℤ × ℤ)) → AreWordsOf x r
+        → get_or ranges.new 0 None ≡ wider_range (get_or ranges.old 0 None) r }
+    ensures on_y { (r : Option (ℤ × ℤ)) → AreWordsOf y r
+        → get_or ranges.new 1 None ≡ wider_range (get_or ranges.old 1 None) r }
+    ensures on_z { (r : Option (ℤ × ℤ)) → AreWordsOf z r
+        → get_or ranges.new 2 None ≡ wider_range (get_or ranges.old 2 None) r }
 {
-    if !(has_range(ranges[0], x) && has_range(ranges[1], y) && has_range(ranges[2], z)) {
-        *ranges = join_ranges(*ranges, [Some(x), Some(y), Some(z)]);
+    let words = [range_of_words(x), range_of_words(y), range_of_words(z)];
+    *ranges = join_ranges(*ranges, words);
+}
+
+/// Does what [`join_words`] does. Most features are inside the earlier ones, and then it writes
+/// nothing.
+#[inline(always)]
+fn join_to(ranges: &mut [Option<(i64, i64)>; 3], x: (u64, u64), y: (u64, u64), z: (u64, u64))
+    requires on_x { (r : Option (ℤ × ℤ)) × AreWordsOf x r }
+    requires on_y { (r : Option (ℤ × ℤ)) × AreWordsOf y r }
+    requires on_z { (r : Option (ℤ × ℤ)) × AreWordsOf z r }
+    ensures on_x { (r : Option (ℤ × ℤ)) → AreWordsOf x r
+        → get_or ranges.new 0 None ≡ wider_range (get_or ranges.old 0 None) r }
+    ensures on_y { (r : Option (ℤ × ℤ)) → AreWordsOf y r
+        → get_or ranges.new 1 None ≡ wider_range (get_or ranges.old 1 None) r }
+    ensures on_z { (r : Option (ℤ × ℤ)) → AreWordsOf z r
+        → get_or ranges.new 2 None ≡ wider_range (get_or ranges.old 2 None) r }
+{
+    if !(has_words(ranges[0], x) && has_words(ranges[1], y) && has_words(ranges[2], z)) {
+        join_words(ranges, x, y, z);
     }
 }
 
-/// Widens the ranges on the axes by those vertices, and goes past them. It computes each end once,
-/// and not a number for each vertex.
+/// Widens words by the next vertex's number on an axis, and returns true. It returns false at the
+/// end, and if that number has a minus, more than eight digits, or another spelling.
 #[inline(always)]
-fn widen_front(ranges: &mut [Option<(i64, i64)>; 3], vertices: &mut Vertices)
-    ensures { (axis : ℕ) → axis < 3
-        → WidensFront (get_or ranges.old axis None) (map (number_on axis) (vertices_left vertices.old))
-        (get_or ranges.new axis None) (map (number_on axis) (vertices_left vertices.new)) }
+fn widen_on(words: &mut (u64, u64), vertices: &Vertices, axis: u32) -> bool
+    requires { axis < 3 }
+    ensures taken { IsTrue result → (v : List (Option ℤ)) × (vs : List (List (Option ℤ)))
+        × (vertices_left vertices.now ≡ v ∷ vs) × TakesNumber words.old (number_on axis v) words.new }
+    ensures kept { IsTrue result ⊎ (words.new ≡ words.old) }
 {
-    if let Some(first) = vertices.next_words() {
-        let [x, y, z] = first;
-        let [on_x, on_y, on_z] = widen_words([(x, x), (y, y), (z, z)], vertices);
-        join_to(
-            ranges,
-            range_of_words(on_x),
-            range_of_words(on_y),
-            range_of_words(on_z),
-        );
+    match vertices.next_word_on(axis) {
+        Some(word) => {
+            *words = widened_words(*words, word);
+            true
+        }
+        None => false,
     }
+}
+
+/// Widens the words on the axes by the next vertex, goes past it, and returns true. If a number
+/// cannot be read ([`widen_on`]), it returns false and stays. It may have widened the words by
+/// those before.
+///
+/// Each number is read when the one before it is in the words. So no vertex takes registers, and
+/// the loop over this has enough. A number may be taken twice, since that changes no range.
+#[inline(always)]
+fn widen_next(
+    on_x: &mut (u64, u64),
+    on_y: &mut (u64, u64),
+    on_z: &mut (u64, u64),
+    vertices: &mut Vertices,
+) -> bool
+    ensures gone { IsTrue result → (v : List (Option ℤ)) × (vertices_left vertices.old ≡ v ∷ vertices_left vertices.new)
+        × TakesNumber on_x.old (number_on 0 v) on_x.new × TakesNumber on_y.old (number_on 1 v) on_y.new
+        × TakesNumber on_z.old (number_on 2 v) on_z.new }
+    ensures stays { IsTrue result ⊎ ((vertices.new ≡ vertices.old)
+        × TakesSome on_x.old (map (number_on 0) (vertices_left vertices.old)) on_x.new
+        × TakesSome on_y.old (map (number_on 1) (vertices_left vertices.old)) on_y.new
+        × TakesSome on_z.old (map (number_on 2) (vertices_left vertices.old)) on_z.new) }
+{
+    if widen_on(on_x, vertices, 0) && widen_on(on_y, vertices, 1) && widen_on(on_z, vertices, 2) {
+        vertices.go_past();
+        return true;
+    }
+    false
+}
+
+/// Widens the ranges on the axes by the vertices at the front whose numbers all have few digits.
+/// Returns the vertices after these. It computes the ends of a range, and not a number for each
+/// vertex.
+#[inline(always)]
+fn widen_front<'a>(ranges: &mut [Option<(i64, i64)>; 3], vertices: Vertices<'a>) -> Vertices<'a>
+    ensures { (axis : ℕ) → axis < 3
+        → WidensFront (get_or ranges.old axis None) (map (number_on axis) (vertices_left vertices.entry))
+        (get_or ranges.new axis None) (map (number_on axis) (vertices_left result)) }
+{
+    let mut on_x = NO_WORDS;
+    let mut on_y = NO_WORDS;
+    let mut on_z = NO_WORDS;
+    let mut left = vertices;
+    let mut going = true;
+    while going {
+        going = widen_next(&mut on_x, &mut on_y, &mut on_z, &mut left);
+    }
+    join_to(ranges, on_x, on_y, on_z);
+    left
 }
 
 /// Widens the ranges on the axes by the vertices of a feature.
 ///
 /// It looks at digits alone while it can. From the first vertex on that has a minus, more than
 /// eight digits, or another spelling, it computes each number.
+///
+/// It is never inlined, so that its loop has the registers.
+#[inline(never)]
 pub fn widen_all(ranges: &mut [Option<(i64, i64)>; 3], feature: &Feature)
     ensures { (axis : ℕ) → axis < 3
         → Widens (get_or ranges.old axis None) (numbers_on axis (feature_tree feature.now))
         (get_or ranges.new axis None) }
 {
-    let mut vertices = feature.vertices();
-    widen_front(ranges, &mut vertices);
-    if !vertices.is_at_end() {
-        *ranges = widen_rest(*ranges, vertices);
+    let rest = widen_front(ranges, feature.vertices());
+    if !rest.is_at_end() {
+        widen_rest(ranges, rest);
     }
 }

@@ -1,10 +1,59 @@
-use Rattle.std.proofs.Common.{◌≡◌, ℕ, ◌<◌, List, Option, None, Some, map, get_or, refl, suc, zero, arith}
-use Rattle.std.specs.Prelude.{ℤ}
+use Rattle.std.proofs.Common.{◌≡◌, ◌∷◌, ℕ, ◌<◌, Bool, List, Option, None, ap, map, get_or, inl, inr, subst, suc, zero, arith}
+use Rattle.std.specs.Prelude.{ℤ, IsTrue, ◌⊎◌}
 use Rattle.cj_feature.specs.Typed.{number_on}
 use Rattle.cj_feature.specs.Walks.{vertices_left}
-use Rattle.cj_stream.specs.Parts.{wider, WidensFront}
-use Rattle.cj_stream.proofs.Ranges.{words-passed, words-range}
+use Rattle.cj_stream.specs.Parts.{WidensFront}
+use Rattle.cj_stream.specs.TallySink.{TakesNumber, TakesSome}
+use Rattle.cj_stream.proofs.Ranges.{OnWay, axis-next, way-joined, way-shorter, way-step}
 use Rattle.cj_stream.proofs.tally.adding.widen_front.Goals as goal
+
+-- what a step makes of the words on an axis, and of the way
+gone-on : (b : Bool) (axis : ℕ) (whole left : List (List (Option ℤ))) (old new : ℕ × ℕ)
+    → (IsTrue b → (v : List (Option ℤ)) × (whole ≡ v ∷ left) × TakesNumber old (number_on axis v) new) → IsTrue b
+    → (n : ℤ) × (map (number_on axis) whole ≡ n ∷ map (number_on axis) left) × TakesNumber old n new
+gone-on b axis whole left old new gone holds =
+    let g = gone holds in (number_on axis g.0, axis-next axis whole left g.0 g.1, g.2)
+
+pub loop-going-preserved : goal.loop-going-preserved
+loop-going-preserved c =
+    let s = c.loop-going.invariant in
+    let on = c.loop-going-test.true in
+    let gone = c.widen_next-going.ensures.gone in
+    let all = λ (axis : ℕ). map (number_on axis) (vertices_left c.args.vertices) in
+    let whole = vertices_left c.loop-going.left in
+    let left = vertices_left c.widen_next-going.new.vertices in
+    let stays : IsTrue c.widen_next-going.result ⊎ ((left ≡ whole)
+    × TakesSome c.loop-going.on_x (map (number_on 0) whole) c.widen_next-going.new.on_x
+    × TakesSome c.loop-going.on_y (map (number_on 1) whole) c.widen_next-going.new.on_y
+    × TakesSome c.loop-going.on_z (map (number_on 2) whole) c.widen_next-going.new.on_z) =
+    elim c.widen_next-going.ensures.stays [
+      | inl holds ↦ inl holds
+      | inr k ↦ inr (ap vertices_left k.0, k.1, k.2, k.3)
+    ] in
+    record {
+      on_x = way-step _ _ _ _ _ _
+          (gone-on _ 0 whole left _ _ (λ holds. let g = gone holds in (g.0, g.1, g.2)))
+          (elim stays [ inl holds ↦ inl holds | inr k ↦ inr (ap (map (number_on 0)) k.0, k.1) ])
+          (subst (λ b. OnWay b (all 0) c.loop-going.on_x (map (number_on 0) whole)) on s.on_x);
+      on_y = way-step _ _ _ _ _ _
+          (gone-on _ 1 whole left _ _ (λ holds. let g = gone holds in (g.0, g.1, g.3)))
+          (elim stays [ inl holds ↦ inl holds | inr k ↦ inr (ap (map (number_on 1)) k.0, k.2) ])
+          (subst (λ b. OnWay b (all 1) c.loop-going.on_y (map (number_on 1) whole)) on s.on_y);
+      on_z = way-step _ _ _ _ _ _
+          (gone-on _ 2 whole left _ _ (λ holds. let g = gone holds in (g.0, g.1, g.4)))
+          (elim stays [ inl holds ↦ inl holds | inr k ↦ inr (ap (map (number_on 2)) k.0, k.3) ])
+          (subst (λ b. OnWay b (all 2) c.loop-going.on_z (map (number_on 2) whole)) on s.on_z);
+    }
+
+pub loop-going-smaller : goal.loop-going-smaller
+loop-going-smaller c =
+    way-shorter c.widen_next-going.result c.loop-going.going (vertices_left c.loop-going.left)
+    (vertices_left c.widen_next-going.new.vertices) c.loop-going-test.true
+    (λ holds. let g = c.widen_next-going.ensures.gone holds in (g.0, g.1))
+    (elim c.widen_next-going.ensures.stays [
+      | inl holds ↦ inl holds
+      | inr k ↦ inr (ap vertices_left k.0)
+    ])
 
 on_axis : (old new : List (Option (ℤ × ℤ))) (all left : ℕ → List ℤ)
     → WidensFront (get_or old 0 None) (all 0) (get_or new 0 None) (left 0)
@@ -16,36 +65,13 @@ on_axis old new all left x y z (suc zero) b = y
 on_axis old new all left x y z (suc (suc zero)) b = z
 on_axis old new all left x y z (suc (suc (suc n))) b = absurd (omega arith)
 
-pub range_of_words-requires : goal.range_of_words-requires
-range_of_words-requires c =
-    let step = c.in-Some.ensures.words in
-    let p = words-passed 0 _ _ _ _ _ _ step.1 (step.2 0 (omega arith)) (c.widen_words.ensures 0 (omega arith)) in
-    (p.0, p.1)
-
-pub range_of_words-requires-in-Some : goal.range_of_words-requires-in-Some
-range_of_words-requires-in-Some c =
-    let step = c.in-Some.ensures.words in
-    let p = words-passed 1 _ _ _ _ _ _ step.1 (step.2 1 (omega arith)) (c.widen_words.ensures 1 (omega arith)) in
-    (p.0, p.1)
-
-pub range_of_words-requires-in-Some-2 : goal.range_of_words-requires-in-Some-2
-range_of_words-requires-in-Some-2 c =
-    let step = c.in-Some.ensures.words in
-    let p = words-passed 2 _ _ _ _ _ _ step.1 (step.2 2 (omega arith)) (c.widen_words.ensures 2 (omega arith)) in
-    (p.0, p.1)
-
-pub returns-in-Some : goal.returns-in-Some
-returns-in-Some c =
-    let step = c.in-Some.ensures.words in
-    let x = words-passed 0 _ _ _ _ _ _ step.1 (step.2 0 (omega arith)) (c.widen_words.ensures 0 (omega arith)) in
-    let y = words-passed 1 _ _ _ _ _ _ step.1 (step.2 1 (omega arith)) (c.widen_words.ensures 1 (omega arith)) in
-    let z = words-passed 2 _ _ _ _ _ _ step.1 (step.2 2 (omega arith)) (c.widen_words.ensures 2 (omega arith)) in
-    on_axis c.args.ranges.now c.join_to.new.ranges (λ axis. map (number_on axis) (vertices_left c.args.vertices.now))
-    (λ axis. map (number_on axis) (vertices_left c.widen_words.new.vertices))
-    (Some _, words-range _ _ _ _ x c.range_of_words.ensures, c.join_to.ensures.on_x)
-    (Some _, words-range _ _ _ _ y c.range_of_words-in-Some.ensures, c.join_to.ensures.on_y)
-    (Some _, words-range _ _ _ _ z c.range_of_words-in-Some-2.ensures, c.join_to.ensures.on_z)
-
-alone : (r : Option (ℤ × ℤ)) → r ≡ wider r None
-alone None = refl
-alone (Some r) = refl
+pub returns : goal.returns
+returns c =
+    let s = c.loop-going.invariant in
+    let off = c.loop-going-test.false in
+    let all = λ (axis : ℕ). map (number_on axis) (vertices_left c.args.vertices) in
+    let left = λ (axis : ℕ). map (number_on axis) (vertices_left c.loop-going.left) in
+    on_axis c.args.ranges.now c.join_to.new.ranges all left
+    (way-joined _ _ _ _ _ (subst (λ b. OnWay b (all 0) c.loop-going.on_x (left 0)) off s.on_x) c.join_to.ensures.on_x)
+    (way-joined _ _ _ _ _ (subst (λ b. OnWay b (all 1) c.loop-going.on_y (left 1)) off s.on_y) c.join_to.ensures.on_y)
+    (way-joined _ _ _ _ _ (subst (λ b. OnWay b (all 2) c.loop-going.on_z (left 2)) off s.on_z) c.join_to.ensures.on_z)

@@ -31,7 +31,7 @@ returns-in-Some c =
     let z : to_z w64 (of_z w64 (get_or c.in-Some.vertex 2 (pos 0))) ≡ get_or c.in-Some.vertex 2 (pos 0) =
     search rules in
     let left = vertices_left c.next.new.self in
-    on_axis c.args.ranges (λ axis. map (number_on axis) (vertices_left c.args.rest)) _ _ _
+    on_axis c.args.ranges.now (λ axis. map (number_on axis) (vertices_left c.args.rest)) _ _ _
     (first-widened _ _ (map (number_on 0) left) _ c.begun.result _ (numbers-first 0 _ _ _ v x c.in-Some.ensures.steps)
     c.begun.ensures (c.widen_by.ensures 0 (omega arith)))
     (first-widened _ _ (map (number_on 1) left) _ c.begun-in-Some.result _
@@ -45,5 +45,5 @@ pub returns-in-None : goal.returns-in-None
 returns-in-None c axis low =
     let none : map (number_on axis) (vertices_left c.args.rest) ≡ [] =
     ap (map (number_on axis)) c.in-None.ensures.steps.0 in
-    subst (λ (ns : List ℤ). Widens (get_or c.args.ranges axis None) ns (get_or c.args.ranges axis None)) (sym none)
-    (Widens-no (get_or c.args.ranges axis None))
+    let range = get_or c.args.ranges.now axis None in
+    subst (λ (ns : List ℤ). Widens range ns range) (sym none) (Widens-no range)
