@@ -224,7 +224,7 @@ struct RangeRow {
 }
 
 /// In the second feature the vertices are at the start of the line.
-const RANGES: [RangeRow; 14] = [
+const RANGES: [RangeRow; 22] = [
     RangeRow {
         name: "no vertex",
         first: "[]",
@@ -308,6 +308,54 @@ const RANGES: [RangeRow; 14] = [
         first: "[[1e1,2.0,3]]",
         second: "[[4,50E-1,6],[1E+2,0,-0]]",
         ranges: "4 to 100\n0 to 5\n0 to 6\n",
+    },
+    RangeRow {
+        name: "0 alone",
+        first: "[]",
+        second: "[[0,0,0]]",
+        ranges: "0 to 0\n0 to 0\n0 to 0\n",
+    },
+    RangeRow {
+        name: "a minus on x of the first vertex",
+        first: "[[-1,2,3],[4,5,6]]",
+        second: "[]",
+        ranges: "-1 to 4\n2 to 5\n3 to 6\n",
+    },
+    RangeRow {
+        name: "a minus on y of the only vertex",
+        first: "[[1,-2,3]]",
+        second: "[]",
+        ranges: "1 to 1\n-2 to -2\n3 to 3\n",
+    },
+    RangeRow {
+        name: "a minus on z of the only vertex",
+        first: "[[1,2,-3]]",
+        second: "[]",
+        ranges: "1 to 1\n2 to 2\n-3 to -3\n",
+    },
+    RangeRow {
+        name: "a minus on z of the last vertex, more on x and less on y",
+        first: "[[5,5,5],[6,4,-7]]",
+        second: "[]",
+        ranges: "5 to 6\n4 to 5\n-7 to 5\n",
+    },
+    RangeRow {
+        name: "nine digits in the second vertex",
+        first: "[[1,2,3],[4,123456789,6]]",
+        second: "[[0,7,8]]",
+        ranges: "0 to 4\n2 to 123456789\n3 to 8\n",
+    },
+    RangeRow {
+        name: "less than 0 before, more on z",
+        first: "[[-5,-5,-5],[9,9,9]]",
+        second: "[[0,9,10]]",
+        ranges: "-5 to 9\n-5 to 9\n-5 to 10\n",
+    },
+    RangeRow {
+        name: "1 before, then 0",
+        first: "[[1,1,1]]",
+        second: "[[1,0,1]]",
+        ranges: "1 to 1\n0 to 1\n1 to 1\n",
     },
 ];
 
