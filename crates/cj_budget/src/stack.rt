@@ -115,8 +115,8 @@ impl Stack {
         self.items.push_reserved(item);
     }
 
-    /// Notes one item more in the peak, as a push and a pop do. So an item that is soon removed need
-    /// not be put here.
+    /// Notes one item more in the peak, as a push and a pop do. So an item that is soon removed
+    /// need not be put here.
     #[inline(always)]
     pub fn note_item(&mut self)
         requires fits { length self.old.elements < self.old.limit }

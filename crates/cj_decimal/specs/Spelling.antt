@@ -92,8 +92,8 @@ pub record Spells (s : List ℕ) (n : Written) : Type 0 where
 abbrev pub IsNumber : List ℕ → Type 0
 IsNumber s = (n : Written) × Spells s n
 
--- if the first byte is from `-` to `?`, the bytes are a number of JSON. That is so for each value of JSON: those that are
--- no numbers begin with a quote, a letter, `[` or `{`
+-- if the first byte is from `-` to `?`, the bytes are a number of JSON. That is so for each value of JSON, since all
+-- others begin with a quote, a letter, `[` or `{`
 abbrev pub IsNumberIfBegun : List ℕ → Type 0
 IsNumberIfBegun s = minus_sign ≤ get_or s 0 0 → get_or s 0 0 < digit_0 + 16 → IsNumber s
 

@@ -216,7 +216,12 @@ flat_closed b ts us ks ks1 k i l e a x y f h g t0 s0 s =
     let n : length ks1.elements ≡ length ks.elements = ap length elements in
     let p = x.below_peak in
     standing_closed b t0 s0 ts us (with_top ks k) ks1 i s l e g
-    (record { limit = limit; peak = omega arith; room = λ r. subst IsTrue (sym (ap (λ z. z.reserved) f)) r; within = y })
+    (record {
+      limit = limit;
+      peak = omega arith;
+      room = λ r. subst IsTrue (sym (ap (λ z. z.reserved) f)) r;
+      within = y;
+    })
     (λ q. subst (λ z. read After 93 (idle After (k ∷ ks.elements) ts.elements i q)
     ≡ Some (idle After z us.elements (suc i) q)) (sym elements)
     (array_closes ks.elements k ts.elements us.elements i a h q))
@@ -258,8 +263,9 @@ outer_stays ks ts us vs k t a l f e = record {
 }
 
 -- an array opens with the bracket at the place i and is not put on the stack, and a call then leads to the mode n at j
-module _ (b : List ℕ) (ts us vs : BoundedList Token) (ks : BoundedList ℕ) (m n : Mode) (i j : ℕ) (s : Stands b ts ks m i)
-    (v : BeginsValue m) (l : i < length b) (h : byte b i ≡ 91) (f : length ks.elements < ks.limit)
+module _ (b : List ℕ) (ts us vs : BoundedList Token) (ks : BoundedList ℕ) (m n : Mode) (i j : ℕ)
+    (s : Stands b ts ks m i) (v : BeginsValue m) (l : i < length b) (h : byte b i ≡ 91)
+    (f : length ks.elements < ks.limit)
     (e : Becomes ts (ts.elements ++ token_at i 0 0 ∷ []) us) where
   abbrev top : BoundedList ℕ
   top = with_top ks (length ts.elements)
@@ -308,5 +314,5 @@ pub too_deep : (b : List ℕ) (ts : BoundedList Token) (ks : BoundedList ℕ) (m
     → (s0 : BoundedList ℕ) → Standing b t0 s0 ts ks m i → GoesOn b t0 s0 (Err (TooDeep i)) ts ks
 too_deep b ts ks m i s v l h e t0 s0 z =
     let w = stands_within b ts ks m i s in
-    standing_refused Array FirstItem 91 opens_array b ts ts ks ks m i (TooDeep i) (array_refused ts ks i w.0 w.1 e) v l h
-    t0 s0 z
+    standing_refused Array FirstItem 91 opens_array b ts ts ks ks m i (TooDeep i) (array_refused ts ks i w.0 w.1 e) v l
+    h t0 s0 z

@@ -13,6 +13,7 @@ pub returns : goal.returns
 returns c =
     let b = c.args.line.now in
     let n = c.read_block-numbers in
-    reads_on b c.args.tokens.now n.new.tokens c.read_number-2.new.tokens c.args.from n.result.next c.read_number-2.result
-    (subst (λ f. ReadsNumbers b c.args.tokens.now c.args.from n.new.tokens (record { next = n.result.next; ended = f }))
-    c.if-numbers.false n.ensures) c.read_number-2.ensures
+    reads_on b c.args.tokens.now n.new.tokens c.read_number-2.new.tokens c.args.from n.result.next
+    c.read_number-2.result
+    (subst (λ f. ReadsNumbers b c.args.tokens.now c.args.from n.new.tokens
+    (record { next = n.result.next; ended = f })) c.if-numbers.false n.ensures) c.read_number-2.ensures

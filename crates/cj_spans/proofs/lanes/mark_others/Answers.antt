@@ -15,4 +15,7 @@ returns c =
     let e : i + s ≡ c.args.place = omega arith in
     let a = c.mark_block-2.ensures in
     let order : i + s ≤ i + 32 = omega arith in
-    record { stop = i + 32; marked = subst (λ n. AreMarkedTo b n (i + 32) (m / 2 ^ s)) e (later b i (i + 32) m s a order) }
+    record {
+      stop = i + 32;
+      marked = subst (λ n. AreMarkedTo b n (i + 32) (m / 2 ^ s)) e (later b i (i + 32) m s a order);
+    }
