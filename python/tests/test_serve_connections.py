@@ -79,6 +79,25 @@ class Reading(Served):
             self.assertLess(found.count(b"HTTP/1.1 200 "), 30)
             self.assertEqual(server.ask("/").status, 200)
 
+    def test_a_body_that_stops_is_ended(self):
+        """Also after a part of the answer was written, while the next bytes of the body were awaited."""
+        head = b"POST /filter HTTP/1.1\r\nHost: localhost\r\nContent-Length: 99999999\r\n\r\n"
+        for size in (0, 8 << 10):
+            with Serving("--idle-seconds", "2", "--jobs", "1") as server, self.connect(server) as connection:
+                connection.settimeout(12)
+                sent = HEADER + feature("b") * size
+                connection.sendall(head + sent)
+                found, piece, begin = b"", b" ", time.monotonic()
+                try:
+                    while piece:
+                        piece = connection.recv(LARGE)
+                        found += piece
+                except ConnectionError:
+                    pass
+                self.assertLess(time.monotonic() - begin, 10, size)
+                self.assertTrue(found.startswith(b"HTTP/1.1 200 " if size else b"HTTP/1.1 408 "), found[:200])
+                self.assertNotIn(b"\r\n0\r\n", found)
+
     def test_a_client_that_reads_slowly_is_served(self):
         """What it takes is seen, also if the system holds much for it."""
         path = self.folder / "slow.city.jsonl"

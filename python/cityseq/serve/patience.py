@@ -38,18 +38,27 @@ class Patience:
         self._transport, self._unsent = transport, 0
         self._task: Any = asyncio.current_task()
         self._begin = self._loop.time()
-        self._since: Optional[float] = None  # when it began to wait for the client
+        self._waits = 0  # at once: a body is read while an answer is written
+        self._since = self._begin  # when the first of them began, or another ended
         self.problem: Optional[Problem] = None
         self._handle = self._loop.call_later(min(limits.idle, limits.seconds), self._look)
 
     @contextmanager
     def waiting(self) -> Iterator[None]:
-        """Notes that the task waits for the client."""
-        self._since, self._unsent = self._loop.time(), unsent(self._transport)
+        """Notes that the request waits for the client. It may wait for more than one thing."""
+        if not self._waits:
+            self._note()
+        self._waits += 1
         try:
             yield
         finally:
-            self._since = None
+            self._waits -= 1
+            if self._waits:
+                self._note()
+
+    def _note(self) -> None:
+        """Notes that the client is silent from now on."""
+        self._since, self._unsent = self._loop.time(), unsent(self._transport)
 
     def close(self) -> None:
         """Ends the watch."""
@@ -66,12 +75,12 @@ class Patience:
         if now - self._begin >= limits.seconds:
             self.end(Problem(503, f"the request took longer than {limits.seconds:g} seconds"))
             return
-        if self._since is not None and now - self._since >= limits.idle:
+        if self._waits and now - self._since >= limits.idle:
             before, self._unsent = self._unsent, unsent(self._transport)
             if self._unsent >= before:
                 self.end(Problem(408, f"nothing came for {limits.idle:g} seconds"))
                 return
             self._since = now  # it takes what the system holds for it
-        silent = now if self._since is None else self._since
+        silent = self._since if self._waits else now
         due = min(silent + limits.idle, self._begin + limits.seconds)
         self._handle = self._loop.call_at(due, self._look)
