@@ -81,6 +81,20 @@ class Serving:
         finally:
             connection.close()
 
+    def exchange(self, path, body):
+        """The answer to a body. The client reads while it sends, as `/filter` asks of it."""
+        connection = self.connect()
+        connection.putrequest("POST", path)
+        connection.putheader("Content-Length", str(len(body)))
+        connection.endheaders()
+        sender = threading.Thread(target=connection.send, args=(body,), daemon=True)
+        sender.start()
+        try:
+            return Answer(connection.getresponse())
+        finally:
+            connection.close()
+            sender.join(5)
+
     def stop(self, number=signal.SIGTERM):
         """Ends the server, and returns its status."""
         if self.process.poll() is None:

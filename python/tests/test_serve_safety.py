@@ -23,6 +23,8 @@ from .test_web import NGINX, Handler
 
 import cityseq.serve
 
+MODULE = pathlib.Path("/usr/lib/nginx/modules/ngx_stream_module.so")
+
 if not MISSING:
     import aiohttp.web
     from cityseq.serve.cityjson import whole
@@ -228,14 +230,15 @@ class Safety(Served):
                 self.assertEqual((answer.status, answer.headers["Content-Type"]), (502, "application/problem+json"))
                 self.assertIn("out of date", answer.json()["detail"])
 
-    @unittest.skipIf(NGINX is None, "nginx is not there")
+    @unittest.skipIf(NGINX is None or not MODULE.exists(), "nginx, or its module for streams, is not there")
     def test_the_example_of_nginx(self):
-        """Two servers behind nginx, and a store of streams, on ports that are free."""
+        """Two servers behind nginx, and a store of streams, on ports that are free. A body for `/filter` is longer than
+        what all sockets on its way hold, so that its answer comes only if nginx passes bytes on both ways at once."""
         text = (pathlib.Path(ROOT) / "examples" / "serve" / "nginx.conf").read_text("utf-8")
-        names = {name: free_port() for name in ("8080", "8081", "8082", "8090")}
+        names = {name: free_port() for name in ("8080", "8081", "8082", "8083", "8090")}
         for name, port in names.items():
             self.assertIn(f"127.0.0.1:{name}", text)
-            text = text.replace(f"127.0.0.1:{name}", f"127.0.0.1:{port}")
+            text = re.sub(rf"(127\.0\.0\.1|\$host):{name}\b", rf"\1:{port}", text)
         if os.getuid() == 0:
             text = f"user root;\n{text}"  # else its processes may not read this folder
         place = self.folder / "nginx"
@@ -256,9 +259,13 @@ class Safety(Served):
                                      self.filtered("town", "--type", "Road"))
                 link = one.ask("/", Host="localhost:80").json()["links"][0]["href"]
                 self.assertTrue(link.startswith("http://localhost:80/"), link)
-                body = HEADER + feature("b") * 30_000
-                self.assertEqual(one.ask("/check", "POST", body).lines()[-1]["features"], 30_000)
-                self.assertEqual(one.ask("/filter", "POST", body).body, body)
+                body = HEADER + feature("b") * 150_000
+                self.assertEqual(one.ask("/check", "POST", body).lines()[-1]["features"], 150_000)
+                moved = one.ask("/filter?tree=true", "POST", HEADER)
+                self.assertEqual((moved.status, moved.headers["Location"]),
+                                 (307, f"http://127.0.0.1:{names['8083']}/filter?tree=true"))
+                one.port = names["8083"]
+                self.assertTrue(one.exchange("/filter", body).body == body)
                 time.sleep(0.2)
                 self.assertTrue(one.log and other.log)
         finally:

@@ -159,9 +159,9 @@ def _judging_paths(limits: Limits) -> Object:
             _responses("The verdict", lines, 408, 413, 415), [*_judging(limits), summary]),
         "/filter": _post(
             "filter", "The features of a stream that a query selects",
-            "The header and the kept lines, byte for byte. The result is the trailer"
-            " Cityseq-Result. An answer without its last chunk is not whole: the stream is"
-            " invalid.",
+            "The header and the kept lines, byte for byte. The answer begins before the body has"
+            " ended, so read while you send. The result is the trailer Cityseq-Result. An answer"
+            " without its last chunk is not whole: the stream is invalid.",
             {**_responses("The features", kept, 408, 413, 415), **refused},
             [*_judging(limits), *query]),
     }
