@@ -13,7 +13,7 @@ use Rattle.cj_spans.specs.declared.step.Inner.{Inner}
 use Rattle.cj_spans.specs.Json.{byte}
 use Rattle.cj_spans.specs.Scan.{KeepsLaw}
 use Rattle.cj_spans.specs.Machine.{state, between, start, ComesTo, Kept, BeginsValue, IsInnermost, InArray, RunAnswers}
-use Rattle.cj_spans.specs.Signs.{right_bracket}
+use Rattle.cj_spans.specs.Signs.{left_bracket, right_bracket}
 
 -- the machine has come to the mode m at the place i, and the lists are those that it has, from these on
 pub record Standing (b : List ℕ) (tokens0 : BoundedList Token) (stack0 : BoundedList ℕ) (tokens : BoundedList Token)
@@ -69,6 +69,13 @@ abbrev pub LeadsIn : Kind → List ℕ → BoundedList Token → Mode → ℕ �
 LeadsIn d b tokens m i tokens1 n j = (tokens0 : BoundedList Token) (stack0 stack : BoundedList ℕ)
     → IsInnermost d stack.elements tokens.elements → Standing b tokens0 stack0 tokens stack m i
     → IsInnermost d stack.elements tokens1.elements × Standing b tokens0 stack0 tokens1 stack n j
+
+-- an array begins at n, as a value of an array
+pub record ComesArray (b : List ℕ) (tokens : BoundedList Token) (stack : BoundedList ℕ) (n : Next) : Type 0 where
+  pub array : InArray stack.elements tokens.elements
+  pub begins : BeginsValue n.mode
+  pub within : n.place < length b
+  pub bracket : byte b n.place ≡ left_bracket
 
 -- the tokens so far stay where they are
 abbrev pub KeepsTokens : List Token → List Token → Type 0

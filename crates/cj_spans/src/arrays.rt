@@ -13,14 +13,14 @@ ghost use Rattle.cj_spans.specs.Preorder.{token_at};
 ghost use Rattle.cj_spans.specs.Machine.{state, between, read as read_of, Kept, Grown, InArray, BeginsValue};
 ghost use Rattle.cj_spans.specs.Machine.{StaysInArrayNext, FitsToken, IsNumberUpTo};
 ghost use Rattle.cj_spans.specs.Pass.{Standing, Stands, StandsIn, LeadsIn, GoesOn, GoesInto, IsInside};
-ghost use Rattle.cj_spans.specs.Pass.{KeepsTokens, EndsArray, ReadsNumbers};
+ghost use Rattle.cj_spans.specs.Pass.{ComesArray, KeepsTokens, EndsArray, ReadsNumbers};
 
 use crate::bytes::{is_digit, stands_at};
 use crate::fault::LineFault;
 use crate::lanes::mark_others;
 use crate::numbers::number_stop;
-use crate::step::{Inner, Mode, Move, Next, outside_arrays};
-use crate::token::{Token, keep_atom};
+use crate::step::{Inner, Mode, Move, Next, open, outside_arrays};
+use crate::token::{Kind, Token, keep_atom};
 use cj_budget::{Bounded, Stack};
 
 /// Returns whether the container whose token has this index is an open array.
@@ -316,7 +316,39 @@ fn read_rest(line: &[u8], from: Next, tokens: &mut Bounded<Token>, stack: &mut S
     outside_arrays(numbers.next)
 }
 
-/// Reads an array, or numbers of the innermost one.
+/// Opens the array at `from` if it begins with an array, and so on. Returns where the first array
+/// begins that does not, which is not opened.
+#[inline(always)]
+fn enter_arrays(
+    line: &[u8],
+    from: Next,
+    tokens: &mut Bounded<Token>,
+    stack: &mut Stack,
+) -> Result<Next, LineFault>
+    requires stands { Stands line.now tokens.old stack.old from.mode from.place }
+    requires comes { ComesArray line.now tokens.old stack.old from }
+    ensures answer { (ts : BoundedList TokenOf) (ks : BoundedList ℕ)
+        → Standing line.now ts ks tokens.old stack.old from.mode from.place
+        → GoesOn line.now ts ks result tokens.new stack.new }
+    ensures comes { IfOk result (ComesArray line.now tokens.new stack.new) }
+    ensures order { IfOk result (λ n. from.place ≤ n.place) }
+{
+    let mut next = from;
+    while stands_at(line, next.place + 1, b'[') {
+        match open(Kind::Array, Mode::FirstItem, next.place, tokens, stack) {
+            Ok(_) => {}
+            Err(fault) => return Err(fault),
+        }
+        next = Next {
+            mode: Mode::FirstItem,
+            place: next.place + 1,
+        };
+    }
+    Ok(next)
+}
+
+/// Reads an array, or numbers of the innermost one. Arrays that begin with an array come to the
+/// stack at once.
 #[inline(always)]
 fn read_part(
     line: &[u8],
@@ -338,10 +370,14 @@ fn read_part(
     if line[from.place] != b'[' {
         return Ok(read_rest(line, from, tokens, stack));
     }
+    let last = match enter_arrays(line, from, tokens, stack) {
+        Ok(last) => last,
+        Err(fault) => return Err(fault),
+    };
     if stack.len() == stack.limit() {
-        return Err(LineFault::TooDeep(from.place as u64));
+        return Err(LineFault::TooDeep(last.place as u64));
     }
-    Ok(read_array(line, from, tokens, stack))
+    Ok(read_array(line, last, tokens, stack))
 }
 
 /// Reads arrays and whole numbers from a place on where a value may begin in an array. It stops
