@@ -215,7 +215,7 @@ flat_closed b ts us ks ks1 k i l e a x y f h g t0 s0 s =
     let elements = ap (λ z. z.elements) f in
     let n : length ks1.elements ≡ length ks.elements = ap length elements in
     let p = x.below_peak in
-    standing_closed b t0 s0 ts us (with_top ks k) ks1 i s l e g
+    standing_closed b t0 s0 ts us (with_top ks k) ks1 After i s l e g
     (record {
       limit = limit;
       peak = omega arith;

@@ -58,13 +58,13 @@ module _ (b : List ℕ) (t0 : BoundedList Token) (s0 : BoundedList ℕ) where
       (λ p. (settles_at b m n i (i + 1) p v v ks1.elements ts1.elements refl e refl, omega arith, omega arith))
 
   -- behind the bracket that closes an array
-  pub standing_closed : (ts ts1 : BoundedList Token) (ks ks1 : BoundedList ℕ) (i : ℕ) → Standing b t0 s0 ts ks After i
-      → i < length b → byte b i ≡ 93 → Grown ts ts1 → Kept ks ks1
-      → ((p : ℕ) → read After 93 (idle After ks.elements ts.elements i p)
+  pub standing_closed : (ts ts1 : BoundedList Token) (ks ks1 : BoundedList ℕ) (m : Mode) (i : ℕ)
+      → Standing b t0 s0 ts ks m i → i < length b → byte b i ≡ 93 → Grown ts ts1 → Kept ks ks1
+      → ((p : ℕ) → read m 93 (idle m ks.elements ts.elements i p)
       ≡ Some (idle After ks1.elements ts1.elements (suc i) p)) → Standing b t0 s0 ts1 ks1 After (i + 1)
-  standing_closed ts ts1 ks ks1 i s l e g k h =
-      standing_moved ts ts1 ks ks1 After After i (To After) s l g k refl
-      (λ p. ap (λ c. read After c (idle After ks.elements ts.elements i p)) e ∙ h p)
+  standing_closed ts ts1 ks ks1 m i s l e g k h =
+      standing_moved ts ts1 ks ks1 m After i (To After) s l g k refl
+      (λ p. ap (λ c. read m c (idle m ks.elements ts.elements i p)) e ∙ h p)
 
   -- behind the comma of an array
   pub standing_comma : (ts : BoundedList Token) (ks : BoundedList ℕ) (i : ℕ) → Standing b t0 s0 ts ks After i

@@ -380,6 +380,12 @@ BeginsValue Ready = Unit {0}
 BeginsValue FirstItem = Unit {0}
 BeginsValue _ = ⊥
 
+-- the bracket of an array may come in the mode
+abbrev pub MayCloseArray : Mode → Type 0
+MayCloseArray FirstItem = Unit {0}
+MayCloseArray After = Unit {0}
+MayCloseArray _ = ⊥
+
 -- the innermost open container is of this kind
 pub record IsInnermost (d : Kind) (ks : List ℕ) (ts : List Token) : Type 0 where
   pub top : ℕ

@@ -1,12 +1,12 @@
 -- Where the pass over a line stands in the machine. Only private clauses cite it.
-use Rattle.std.specs.Prelude.{◌≡◌, ℕ, ◌+◌, ◌/◌, ◌<◌, ◌≤◌, List, length, max, slice_get, Some, false, Result, Ok, Err, IsTrue}
+use Rattle.std.specs.Prelude.{◌≡◌, ◌⊎◌, ℕ, ◌+◌, ◌/◌, ◌<◌, ◌≤◌, List, length, max, slice_get, Some, false, Result, Ok, Err, IsTrue}
 use Rattle.cj_budget.specs.Bounded.{BoundedList, IsWithin}
 use Rattle.cj_spans.specs.declared.fault.LineFault.{LineFault}
 use Rattle.cj_spans.specs.declared.token.Kind.{Kind}
 use Rattle.cj_spans.specs.declared.token.Kind.TheVariants.{Array}
 use Rattle.cj_spans.specs.declared.token.Token.{Token}
 use Rattle.cj_spans.specs.declared.step.Mode.{Mode}
-use Rattle.cj_spans.specs.declared.step.Mode.TheVariants.{After}
+use Rattle.cj_spans.specs.declared.step.Mode.TheVariants.{FirstItem, After}
 use Rattle.cj_spans.specs.declared.step.Next.{Next}
 use Rattle.cj_spans.specs.declared.arrays.Numbers.{Numbers}
 use Rattle.cj_spans.specs.declared.step.Inner.{Inner}
@@ -86,6 +86,10 @@ pub record EndsArray (b : List ℕ) (n : Next) : Type 0 where
   pub after : n.mode ≡ After
   pub within : n.place < length b
   pub bracket : byte b n.place ≡ right_bracket
+
+-- a value of an array has ended, or the bracket of an array without an item is there
+abbrev pub EndsItems : List ℕ → Next → Type 0
+EndsItems b n = (n.mode ≡ After) ⊎ ((n.mode ≡ FirstItem) × (byte b n.place ≡ right_bracket))
 
 -- a call that reads numbers of an array, where a value may begin, from f on: it leaves the stack, and stops at the
 -- bracket of the array or where a value may begin

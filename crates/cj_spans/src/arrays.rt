@@ -7,13 +7,15 @@ ghost use Rattle.std.specs.Prelude.{◌+◌, ◌⊎◌, IfOk, IsTrue, slice_get,
 ghost use Rattle.cj_budget.specs.Bounded.{Becomes, BoundedList, IsWithin};
 ghost use Rattle.cj_spans.specs.declared.token.Kind.TheVariants.{Array};
 ghost use Rattle.cj_spans.specs.declared.token.Token.{Token as TokenOf};
-ghost use Rattle.cj_spans.specs.declared.step.Mode.TheVariants.{After};
+ghost use Rattle.cj_spans.specs.declared.step.Mode.{Mode as ModeOf};
+ghost use Rattle.cj_spans.specs.declared.step.Mode.TheVariants.{FirstItem, After};
 ghost use Rattle.cj_spans.specs.Json.{byte as byte_of};
 ghost use Rattle.cj_spans.specs.Preorder.{token_at};
 ghost use Rattle.cj_spans.specs.Machine.{state, between, read as read_of, Kept, Grown, InArray, BeginsValue};
+ghost use Rattle.cj_spans.specs.Machine.{MayCloseArray};
 ghost use Rattle.cj_spans.specs.Machine.{StaysInArrayNext, FitsToken, IsNumberUpTo};
 ghost use Rattle.cj_spans.specs.Pass.{Standing, Stands, StandsIn, LeadsIn, GoesOn, GoesInto, IsInside};
-ghost use Rattle.cj_spans.specs.Pass.{ComesArray, KeepsTokens, EndsArray, ReadsNumbers};
+ghost use Rattle.cj_spans.specs.Pass.{ComesArray, KeepsTokens, EndsArray, EndsItems, ReadsNumbers};
 
 use crate::bytes::{is_digit, stands_at};
 use crate::fault::LineFault;
@@ -81,7 +83,8 @@ fn close_array(place: usize, tokens: &mut Bounded<Token>, stack: &mut Stack) -> 
     requires small { FitsToken place tokens.old }
     requires lists { IsWithin tokens.old × IsWithin stack.old }
     requires array { InArray stack.old.elements tokens.old.elements }
-    ensures closed { (p : ℕ) → read_of After 93 (state (between After) stack.old.elements tokens.old.elements place p)
+    ensures closed { (m : ModeOf) → MayCloseArray m → (p : ℕ)
+        → read_of m 93 (state (between m) stack.old.elements tokens.old.elements place p)
         ≡ Some (state (between After) stack.new.elements tokens.new.elements (suc place) p) }
     ensures tokens { Grown tokens.old tokens.new }
     ensures stack { Kept stack.old stack.new }
@@ -95,40 +98,38 @@ fn close_array(place: usize, tokens: &mut Bounded<Token>, stack: &mut Stack) -> 
     outer
 }
 
-/// Leaves the arrays that end from `from` on, where a value of an array has ended: past their
-/// brackets, and past the comma of the next array, if it is there.
+/// Leaves the arrays that end from `from` on, where a value of an array has ended or an array has no
+/// item: past their brackets, and past the comma of the next array, if it is there.
 #[inline(always)]
-fn leave_arrays(line: &[u8], from: usize, tokens: &mut Bounded<Token>, stack: &mut Stack) -> Inner
-    requires stands { Stands line.now tokens.old stack.old After from }
+fn leave_arrays(line: &[u8], from: Next, tokens: &mut Bounded<Token>, stack: &mut Stack) -> Inner
+    requires stands { Stands line.now tokens.old stack.old from.mode from.place }
     requires array { InArray stack.old.elements tokens.old.elements }
+    requires ends { EndsItems line.now from }
     ensures answer { (ts : BoundedList TokenOf) (ks : BoundedList ℕ)
-        → Standing line.now ts ks tokens.old stack.old After from
+        → Standing line.now ts ks tokens.old stack.old from.mode from.place
         → Standing line.now ts ks tokens.new stack.new result.next.mode result.next.place }
     ensures array { IsInside tokens.new stack.new result }
-    ensures order { from ≤ result.next.place }
-    ensures further { IsTrue result.in_array → from < result.next.place }
+    ensures order { from.place ≤ result.next.place }
+    ensures further { IsTrue result.in_array → from.place < result.next.place }
 {
-    let mut place = from;
-    while stands_at(line, place, b']') {
-        let outer = close_array(place, tokens, stack);
-        place += 1;
+    let mut next = from;
+    while stands_at(line, next.place, b']') {
+        let outer = close_array(next.place, tokens, stack);
+        next = Next {
+            mode: Mode::After,
+            place: next.place + 1,
+        };
         if !is_open_array(tokens, outer) {
-            return outside_arrays(Next {
-                mode: Mode::After,
-                place,
-            });
+            return outside_arrays(next);
         }
     }
-    if !stands_at(line, place, b',') {
-        return outside_arrays(Next {
-            mode: Mode::After,
-            place,
-        });
+    if !stands_at(line, next.place, b',') {
+        return outside_arrays(next);
     }
     Inner {
         next: Next {
             mode: Mode::Ready,
-            place: place + 1,
+            place: next.place + 1,
         },
         in_array: true,
     }
@@ -287,12 +288,27 @@ fn read_array(line: &[u8], from: Next, tokens: &mut Bounded<Token>, stack: &mut 
     if numbers.ended {
         close_token(index, numbers.next.place, tokens);
         stack.note_item();
-        return leave_arrays(line, numbers.next.place + 1, tokens, stack);
+        let after = Next {
+            mode: Mode::After,
+            place: numbers.next.place + 1,
+        };
+        return leave_arrays(line, after, tokens, stack);
     }
     stack.push_reserved(index as u32);
     Inner {
         next: numbers.next,
         in_array: true,
+    }
+}
+
+/// Returns whether an array without an item ends here.
+#[inline(always)]
+fn ends_empty(line: &[u8], from: Next) -> bool
+    ensures { IsTrue result → (from.mode ≡ FirstItem) × (byte_of line.now from.place ≡ 93) }
+{
+    match from.mode {
+        Mode::FirstItem => stands_at(line, from.place, b']'),
+        _ => false,
     }
 }
 
@@ -309,9 +325,12 @@ fn read_rest(line: &[u8], from: Next, tokens: &mut Bounded<Token>, stack: &mut S
     ensures order { from.place ≤ result.next.place }
     ensures further { IsTrue result.in_array → from.place < result.next.place }
 {
+    if ends_empty(line, from) {
+        return leave_arrays(line, from, tokens, stack);
+    }
     let numbers = read_numbers(line, from, tokens);
     if numbers.ended {
-        return leave_arrays(line, numbers.next.place, tokens, stack);
+        return leave_arrays(line, numbers.next, tokens, stack);
     }
     outside_arrays(numbers.next)
 }

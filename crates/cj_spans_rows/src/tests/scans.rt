@@ -519,6 +519,71 @@ fn numbers_in_blocks(rt: HostRuntime) {
     all_meet_at_depths(&rt, rt.alloc(), BLOCKS.as_slice());
 }
 
+const ARRAYS_IN_ARRAYS: [DepthRow; 12] = [
+    ("an array in each array", 4, b"[[[[]]]]", Ok((4, 4))),
+    ("empty arrays in arrays", 3, b"[[[]],[[]]]", Ok((5, 3))),
+    (
+        "numbers in arrays in arrays",
+        3,
+        b"[[[1,2]],[[3],4]]",
+        Ok((9, 3)),
+    ),
+    (
+        "empty arrays in an object",
+        3,
+        b"{\"a\":[[]],\"b\":[]}",
+        Ok((6, 3)),
+    ),
+    ("white space in empty arrays", 3, b"[[[ ],[ ]]]", Ok((4, 3))),
+    (
+        "one array too deep",
+        3,
+        b"[[[[1]]]]",
+        Err(ScanFault::TooDeep(3)),
+    ),
+    (
+        "one array too deep after a comma",
+        2,
+        b"[[1],[[2]]]",
+        Err(ScanFault::TooDeep(6)),
+    ),
+    (
+        "a comma in an empty array",
+        3,
+        b"[[[,]]]",
+        Err(ScanFault::Syntax(3)),
+    ),
+    (
+        "a comma before the bracket of an outer array",
+        3,
+        b"[[[1],]]",
+        Err(ScanFault::Syntax(6)),
+    ),
+    (
+        "a bracket too many after empty arrays",
+        3,
+        b"[[[]]]]",
+        Err(ScanFault::Syntax(6)),
+    ),
+    (
+        "the end after brackets",
+        3,
+        b"[[[",
+        Err(ScanFault::Syntax(3)),
+    ),
+    (
+        "the end after an empty array",
+        3,
+        b"[[[]",
+        Err(ScanFault::Syntax(4)),
+    ),
+];
+
+#[test]
+fn arrays_in_arrays(rt: HostRuntime) {
+    all_meet_at_depths(&rt, rt.alloc(), ARRAYS_IN_ARRAYS.as_slice());
+}
+
 const MEMBERS: [DepthRow; 7] = [
     ("two texts", 1, b"{\"a\":\"b\",\"c\":\"d\"}", Ok((5, 1))),
     (

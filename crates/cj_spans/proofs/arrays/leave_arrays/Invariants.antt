@@ -1,19 +1,20 @@
 use Rattle.std.proofs.Common.{ℕ, ◌-◌, ◌≤◌, length}
 use Rattle.cj_budget.specs.Bounded.{BoundedList}
 use Rattle.cj_spans.specs.declared.token.Token.{Token}
-use Rattle.cj_spans.specs.declared.step.Mode.TheVariants.{After}
 use Rattle.cj_spans.specs.Machine.{InArray}
-use Rattle.cj_spans.specs.Pass.{Standing, Stands}
+use Rattle.cj_spans.specs.Pass.{EndsItems, Standing, Stands}
 use Rattle.cj_spans.proofs.arrays.leave_arrays.Given as goal
 
 abbrev pub invariant-loop-tokens : goal.invariant-loop-tokens
 invariant-loop-tokens l = record {
-  stands : Stands l.line l.tokens l.stack After l.place;
-  answer : (ts : BoundedList Token) (ks : BoundedList ℕ) → Standing l.line ts ks l.fn.tokens l.fn.stack After l.fn.from
-      → Standing l.line ts ks l.tokens l.stack After l.place;
+  stands : Stands l.line l.tokens l.stack l.next.mode l.next.place;
+  answer : (ts : BoundedList Token) (ks : BoundedList ℕ)
+      → Standing l.line ts ks l.fn.tokens l.fn.stack l.fn.from.mode l.fn.from.place
+      → Standing l.line ts ks l.tokens l.stack l.next.mode l.next.place;
   array : InArray l.stack.elements l.tokens.elements;
-  order : l.fn.from ≤ l.place;
+  ends : EndsItems l.line l.next;
+  order : l.fn.from.place ≤ l.next.place;
 }
 
 abbrev pub decreases-loop-tokens : goal.decreases-loop-tokens
-decreases-loop-tokens l = length l.line - l.place
+decreases-loop-tokens l = length l.line - l.next.place
