@@ -8,7 +8,7 @@ use Rattle.std.proofs.lemmas.Bool.Decides.{nat_tests}
 use Rattle.std.specs.Int.{from_be_bytes, w64}
 use Rattle.cj_spans.specs.Decoding.{AreAlike, code_points_from}
 use Rattle.cj_spans.specs.Order.{compare, compare_texts, digits, word_of}
-use Rattle.cj_spans.proofs.Texts.{plain_code}
+use Rattle.cj_spans.proofs.Texts.{chars_past, plain_code, points_done}
 
 -- ---- the digits by cases
 
@@ -102,15 +102,25 @@ less_by_words (Some s) (Some t) h = less_by_digits (256 ^ 7) s t h
 
 -- ---- a word of plain bytes
 
+pub digits_end : (w : ℕ) (bs : List ℕ) (i : ℕ) → length bs ≤ i → digits w (code_points_from bs i) ≡ 0
+digits_end w bs i h = ap (digits w) (points_done bs i (chars_past bs i h))
+
+-- a plain byte is a code point by itself
+pub digits_plain : (w : ℕ) (bs : List ℕ) (i b : ℕ) → i < length bs → b ≡ get_or bs i 0 → b < 128 → nat_eq b 92 ≡ false
+    → digits w (code_points_from bs i) ≡ b * w + digits (w / 256) (code_points_from bs (i + 1))
+digits_plain w bs i b h e l n =
+    let low = subst (λ v. v < 128) e l in
+    ap (digits w) (plain_code bs i h low (ap (λ v. nat_eq v 92) (sym e) ∙ n))
+    ∙ digits_few w (get_or bs i 0) (code_points_from bs (i + 1)) (omega arith)
+    ∙ ap (λ v. v * w + digits (w / 256) (code_points_from bs (i + 1))) (sym e)
+
 plain_digit : (w : ℕ) (bs : List ℕ) (i k : ℕ) → i + 8 ≤ length bs → AreAlike bs i bs i 8 → k < 8
     → digits w (code_points_from bs (i + k)) ≡ get_or bs (i + k) 0 * w + digits (w / 256)
     (code_points_from bs (i + (k + 1)))
 plain_digit w bs i k h a l =
     let b = a k l in
-    let low = b.1 in
     let next : i + k + 1 ≡ i + (k + 1) = omega arith in
-    ap (digits w) (plain_code bs (i + k) (omega arith) b.1 b.2)
-    ∙ digits_few w (get_or bs (i + k) 0) (code_points_from bs (i + k + 1)) (omega arith)
+    digits_plain w bs (i + k) (get_or bs (i + k) 0) (omega arith) refl b.1 b.2
     ∙ ap (λ j. get_or bs (i + k) 0 * w + digits (w / 256) (code_points_from bs j)) next
 
 -- it is the sum of their weights

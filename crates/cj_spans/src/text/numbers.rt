@@ -1,10 +1,11 @@
 //! Numbers of texts: equal texts have equal numbers in any spelling.
-ghost use Rattle.std.specs.Prelude.{◌≡◌, ◌+◌, ◌^◌, ◌≤◌, length, Some};
+ghost use Rattle.std.specs.Prelude.{◌≡◌, ◌+◌, ◌^◌, ◌<◌, ◌≤◌, length, nat_eq, false, IsTrue, Some};
 ghost use Rattle.std.specs.Str.{chars};
 ghost use Rattle.cj_spans.specs.Decoding.{AreAlike, code_points_from, code_points_left};
 ghost use Rattle.cj_spans.specs.Tail.{tail_step, tail_on, tail_of};
 ghost use Rattle.cj_spans.specs.Mix.{mix_step, mix_on};
 ghost use Rattle.cj_spans.specs.Order.{digits};
+ghost use Rattle.cj_spans.specs.Signs.{backslash};
 
 use crate::lanes::{FEW_LANES, find_unlike_of_few};
 use crate::text::decode::{Characters, CodePoints};
@@ -17,6 +18,14 @@ const BASE: u64 = 256;
 
 /// The least code point that ends a word.
 const PAST_DIGITS: u32 = 255;
+
+/// Returns whether a byte is a character that stands for itself: ASCII, and no backslash.
+#[inline(always)]
+fn stands_for_itself(byte: u8) -> bool
+    ensures { IsTrue result → (byte < 128) × (nat_eq byte backslash ≡ false) }
+{
+    byte < 128 && byte != b'\\'
+}
 
 /// Returns the word of eight plain bytes.
 #[inline(always)]
@@ -37,21 +46,18 @@ fn word_of_plain(bytes: &[u8], place: usize) -> u64
     ])
 }
 
-/// Returns the first eight code points of a string's text as one number. The order of such numbers
-/// is the order of the texts, as far as they differ. It looks first whether the next eight bytes are
-/// plain, which are like themselves then.
-#[tactic(auto, using(crate::proofs::Words::digits_none, crate::proofs::Words::digits_few, crate::proofs::Words::digits_cut, crate::proofs::Words::word_fits))]
-pub(crate) fn word(points: CodePoints) -> u64
-    ensures { result ≡ digits (256 ^ 7) (code_points_left points.entry) }
+/// Returns the word that begins so, with the next code points, of which the first has this weight.
+///
+/// It is cold, since most texts are plain.
+#[tactic(auto, using(crate::proofs::Words::digits_none, crate::proofs::Words::digits_few, crate::proofs::Words::digits_cut))]
+#[cold]
+#[inline(never)]
+fn word_on(front: u64, first_weight: u64, points: CodePoints) -> u64
+    requires { front + digits first_weight (code_points_left points) < 2 ^ 64 }
+    ensures { result ≡ front + digits first_weight (code_points_left points.entry) }
 {
-    let (bytes, place) = (points.bytes, points.place);
-    if bytes.len().saturating_sub(place) >= FEW_LANES
-        && find_unlike_of_few(bytes, place, bytes, place).is_none()
-    {
-        return word_of_plain(bytes, place);
-    }
-    let mut word = 0;
-    let mut weight = FIRST_WEIGHT;
+    let mut word = front;
+    let mut weight = first_weight;
     for point in points {
         if weight == 0 {
             return word;
@@ -63,6 +69,42 @@ pub(crate) fn word(points: CodePoints) -> u64
         weight /= BASE;
     }
     word
+}
+
+/// Returns the word of a string's text, by its bytes up to the first one that is not plain.
+#[inline(always)]
+fn word_by_bytes(points: CodePoints) -> u64
+    ensures { result ≡ digits (256 ^ 7) (code_points_left points.entry) }
+{
+    let bytes = points.bytes;
+    let mut place = points.place;
+    let mut word = 0;
+    let mut weight = FIRST_WEIGHT;
+    while weight > 0 && place < bytes.len() {
+        let byte = bytes[place];
+        if !stands_for_itself(byte) {
+            return word_on(word, weight, CodePoints { bytes, place });
+        }
+        word += byte as u64 * weight;
+        weight /= BASE;
+        place += 1;
+    }
+    word
+}
+
+/// Returns the first eight code points of a string's text as one number. The order of such numbers
+/// is the order of the texts, as far as they differ. It looks first whether the next eight bytes are
+/// plain, which are like themselves then.
+pub(crate) fn word(points: CodePoints) -> u64
+    ensures { result ≡ digits (256 ^ 7) (code_points_left points.entry) }
+{
+    let (bytes, place) = (points.bytes, points.place);
+    if bytes.len().saturating_sub(place) >= FEW_LANES
+        && find_unlike_of_few(bytes, place, bytes, place).is_none()
+    {
+        return word_of_plain(bytes, place);
+    }
+    word_by_bytes(points)
 }
 
 /// Seven code points of a tail are below this. The next code point displaces the first of eight.

@@ -1,8 +1,8 @@
-use Rattle.std.proofs.Common.{◌≡◌, ◌+◌, ◌^◌}
+use Rattle.std.proofs.Common.{◌≡◌, ◌+◌}
 use Rattle.cj_spans.specs.Decoding.{code_points_left}
 use Rattle.cj_spans.specs.Order.{digits}
-use Rattle.cj_spans.proofs.text.numbers.word.Given as goal
+use Rattle.cj_spans.proofs.text.numbers.word_on.Given as goal
 
 abbrev pub invariant-loop-point : goal.invariant-loop-point
 invariant-loop-point l = l.word + digits l.weight (code_points_left l.point-iterator)
-    ≡ digits (256 ^ 7) (code_points_left l.fn.points)
+    ≡ l.fn.front + digits l.fn.first_weight (code_points_left l.fn.points)
