@@ -224,9 +224,12 @@ def absent_children(n):
     return feature(building() + "," + group + "," + half)
 
 
+MEETING = "meeting"  # the program of meeting.c, unless it is told
+
+
 def found(kind, count):
     """So many lines of the program of meeting.c."""
-    return subprocess.run([sys.argv[2], kind, str(count)], capture_output=True, text=True, check=True).stdout.splitlines()
+    return subprocess.run([MEETING, kind, str(count)], capture_output=True, text=True, check=True).stdout.splitlines()
 
 
 def names_of_few_marks(n):
@@ -484,20 +487,26 @@ def dearest(program, commands, stream, most, usual_seconds):
     return worst
 
 
+def stream_of(shape, length):
+    """A header and a line of this shape and length."""
+    line = SHAPES.get(shape) or TREES[shape]
+    return HEADER % (HEADERS[shape](length) if shape in HEADERS else "") + line(length)
+
+
 def main():
-    program, most = sys.argv[1], float(sys.argv[3])
+    global MEETING
+    program, MEETING, most = sys.argv[1], sys.argv[2], float(sys.argv[3])
     word = sys.argv[4] if len(sys.argv) > 4 else ""
     usual_seconds = {length: {} for length in LENGTHS}
     print(f"{'shape':<46}" + "".join(f"{length:>12,}{'of usual':>10}" for length in LENGTHS) + f"{'growth by a doubling':>24}")
-    for shape, line in {**SHAPES, **TREES}.items():
+    for shape in (*SHAPES, *TREES):
         if word not in shape and shape != "usual":
             continue
         commands = COMMANDS + TREE_COMMANDS if shape == "usual" else TREE_COMMANDS if shape in TREES else COMMANDS
         shown, last, growth = "", None, None
         for length in LENGTHS:
-            templates = HEADERS[shape](length) if shape in HEADERS else ""
             with tempfile.NamedTemporaryFile(delete=False) as stream:
-                stream.write((HEADER % templates + line(length)).encode())
+                stream.write(stream_of(shape, length).encode())
             worst = dearest(program, commands, stream.name, most, usual_seconds[length])
             os.unlink(stream.name)
             if worst is None:
