@@ -24,7 +24,7 @@ const PAST_DIGITS: u32 = 255;
 fn stands_for_itself(byte: u8) -> bool
     ensures { IsTrue result → (byte < 128) × (nat_eq byte backslash ≡ false) }
 {
-    byte < 128 && byte != b'\\'
+    (byte ^ b'\\').wrapping_sub(1) < 127
 }
 
 /// Returns the word of eight plain bytes.
@@ -152,13 +152,36 @@ fn mix_with(mix: u64, point: u32) -> u64
     mix.wrapping_mul(MULTIPLIER).wrapping_add(point as u64)
 }
 
-/// Returns all code points of a string's text, mixed to one number.
+/// Returns the number that begins so, after the next code points.
+///
+/// It is cold, since most texts are plain.
+#[cold]
+#[inline(never)]
+fn mix_from(front: u64, points: CodePoints) -> u64
+    ensures { result ≡ mix_on front (code_points_left points.entry) }
+{
+    let mut mix = front;
+    for point in points {
+        mix = mix_with(mix, point);
+    }
+    mix
+}
+
+/// Returns all code points of a string's text, mixed to one number, by its bytes up to the first
+/// one that is not plain.
 pub(crate) fn mix(points: CodePoints) -> u64
     ensures { result ≡ mix_on 0 (code_points_left points.entry) }
 {
+    let bytes = points.bytes;
+    let mut place = points.place;
     let mut mix = 0;
-    for point in points {
-        mix = mix_with(mix, point);
+    while place < bytes.len() {
+        let byte = bytes[place];
+        if !stands_for_itself(byte) {
+            return mix_from(mix, CodePoints { bytes, place });
+        }
+        mix = mix_with(mix, byte as u32);
+        place += 1;
     }
     mix
 }

@@ -1,7 +1,10 @@
-use Rattle.std.proofs.Common.{◌≡◌}
-use Rattle.cj_spans.specs.Decoding.{code_points_left}
+use Rattle.std.proofs.Common.{◌≡◌, ◌-◌, length}
+use Rattle.cj_spans.specs.Decoding.{code_points_from, code_points_left}
 use Rattle.cj_spans.specs.Mix.{mix_on}
 use Rattle.cj_spans.proofs.text.numbers.mix.Given as goal
 
-abbrev pub invariant-loop-point : goal.invariant-loop-point
-invariant-loop-point l = mix_on l.mix (code_points_left l.point-iterator) ≡ mix_on 0 (code_points_left l.fn.points)
+abbrev pub invariant-loop-place : goal.invariant-loop-place
+invariant-loop-place l = mix_on l.mix (code_points_from l.fn.points.bytes.now l.place) ≡ mix_on 0 (code_points_left l.fn.points)
+
+abbrev pub decreases-loop-place : goal.decreases-loop-place
+decreases-loop-place l = length l.fn.points.bytes.now - l.place
