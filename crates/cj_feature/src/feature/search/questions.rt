@@ -27,7 +27,7 @@ use cj_spans::{Kind, Members, Node};
 pub use gathering::Ahead;
 use gathering::{gather, hand_of, note_ahead};
 use order::{Pair, Question, first_on};
-use runs::{NO_RUN, Run, find_noted, find_unlisted, run_on};
+use runs::{NO_RUN, Run, count_unlisted, find_noted, find_unlisted, run_on};
 use wanted::{is_wanted, note_wanted};
 
 /// What was found for a question.
@@ -113,8 +113,15 @@ impl<const ROOM: usize, const KEPT: usize> Questions<ROOM, KEPT> {
     }
 
     /// Sets the flag of the question in a run on these texts. A city object of the first text
-    /// lists the second.
-    fn answer_item(&mut self, list: &str, objects: Node, pair: Pair, run: Run, later: Members)
+    /// lists the second. Returns whether there was one without a flag.
+    fn answer_item(
+        &mut self,
+        list: &str,
+        objects: Node,
+        pair: Pair,
+        run: Run,
+        later: Members,
+    ) -> bool
         requires answered { AreAnswered (chars list.now) objects (members_left later) self.old }
         requires listed { (from to : Tree) → same_text (tree pair.from.node) from ≡ true
             → same_text (tree pair.to.node) to ≡ true
@@ -122,13 +129,17 @@ impl<const ROOM: usize, const KEPT: usize> Questions<ROOM, KEPT> {
         ensures { AreAnswered (chars list.now) objects.entry (members_left later.entry) self.new }
     {
         let questions = &self.questions[..self.count];
-        if let Some(place) = find_unlisted(objects, questions, &self.listed, run, pair) {
-            set_flag(&mut self.listed, place);
+        match find_unlisted(objects, questions, &self.listed, run, pair) {
+            Some(place) => {
+                set_flag(&mut self.listed, place);
+                true
+            }
+            None => false,
         }
     }
 
     /// Sets the flags of the questions in a run on this name that the list of a city object of the
-    /// name answers.
+    /// name answers. Once all have flags, the rest of the list is not read.
     fn answer_items(
         &mut self,
         list: &str,
@@ -147,7 +158,11 @@ impl<const ROOM: usize, const KEPT: usize> Questions<ROOM, KEPT> {
         let Some(value) = object.get(list) else {
             return;
         };
+        let mut unlisted = count_unlisted(&self.listed, run);
         for item in value.items() {
+            if unlisted == 0 {
+                return;
+            }
             let mix = item.text_mix();
             if !is_wanted(&self.wanted, mix) {
                 continue;
@@ -156,7 +171,9 @@ impl<const ROOM: usize, const KEPT: usize> Questions<ROOM, KEPT> {
                 from: name,
                 to: Text::mixed(item, mix),
             };
-            self.answer_item(list, objects, pair, run, later);
+            if self.answer_item(list, objects, pair, run, later) {
+                unlisted -= 1;
+            }
         }
     }
 

@@ -150,7 +150,7 @@ pub fn note_ahead<const KEPT: usize>(
     ensures { result ≤ length questions.new }
 {
     let asked = ahead.link.list();
-    let (from, to) = (Noted::of(item), ahead.name);
+    let (from, to) = (noted_at_hand(objects, kept, item), ahead.name);
     let first = note(questions, 0, Question { from, to });
     let mut count = note_items(objects, questions, first, kept, ahead.items, to);
     for (name, object) in ahead.later {

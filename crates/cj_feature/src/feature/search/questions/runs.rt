@@ -36,13 +36,25 @@ pub fn run_on(objects: Node, questions: &[Question], from: Text, first: usize) -
     }
 }
 
-/// Returns how many questions come before a run, and the questions of the run.
-fn part_of(questions: &[Question], run: Run) -> (usize, &[Question])
-    ensures { result.0 + length result.1.now ≤ length questions.now }
+/// Returns how many questions, or their flags, come before a run, and those of the run.
+fn part_of<T>(all: &[T], run: Run) -> (usize, &[T])
+    ensures { result.0 + length result.1.now ≤ length all.now }
 {
-    let end = run.end.min(questions.len());
+    let end = run.end.min(all.len());
     let first = run.first.min(end);
-    (first, &questions[first..end])
+    (first, &all[first..end])
+}
+
+/// Returns how many questions of a run have no flag.
+pub fn count_unlisted(flags: &[bool], run: Run) -> usize {
+    let (_, part) = part_of(flags, run);
+    let mut count = 0;
+    for flag in part {
+        if !*flag {
+            count += 1;
+        }
+    }
+    count
 }
 
 /// Returns whether a flag is set.
