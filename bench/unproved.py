@@ -3,9 +3,11 @@
 
     bench/unproved.py FILE [TREE]
 
-It writes the program of TREE, or of this tree, to FILE in one to three minutes. Its counts on the
-streams of counts.py are those of the proved program within 1 %. On lines of many names they were
-7 % higher. It is for measurements alone: nothing has shown that it is safe.
+It writes the program of TREE, or of this tree, to FILE in one to three minutes. Compare its counts
+with those of another such build. On usual, tiny and huge lines they are those of the proved program
+within 1 %, and on lines of many names within 7 %. On texts they are 2.5 times as high, since
+`rt try` does not use the byte shuffles of the processor. It is for measurements alone: nothing has
+shown that it is safe.
 
 `rt try` makes one module of LLVM for the whole program, and puts checks and fills of memory into
 it. They are taken out here. Functions get the inline attributes of the sources, and the module is

@@ -19,7 +19,8 @@ const BASE: u64 = 256;
 /// The least code point that ends a word.
 const PAST_DIGITS: u32 = 255;
 
-/// Returns whether a byte is a character that stands for itself: ASCII, and no backslash.
+/// Returns whether a byte is a character that stands for itself: ASCII, and no backslash. One
+/// comparison is enough, since the backslash becomes 255 and other ASCII stays below 127.
 #[inline(always)]
 fn stands_for_itself(byte: u8) -> bool
     ensures { IsTrue result → (byte < 128) × (nat_eq byte backslash ≡ false) }
