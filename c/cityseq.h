@@ -258,7 +258,7 @@ size_t cityseq_stack(const struct cityseq_request *request) CITYSEQ_NOT_NULL(1);
  * that realloc moves counts twice. Let n be the line limit, or the length of the longer piece if that is less, but at least 1.
  * Let d be the depth limit. Then the bytes are the sum of these:
  * - 2 * n for a header and a later line, and 24 * ((n + d + 1) / 2), rounded down, for their tokens.
- * - 4 * (d - 64) if d is above 64.
+ * - 4 * d if d is above 64.
  * - For ids that are asked for: 3 * ids_length, 96 for each id, and 1,024. For LoDs the same.
  * It is 0 if a limit is out of range, and stops at SIZE_MAX. */
 size_t cityseq_memory(const struct cityseq_request *request, size_t header_length, size_t part_length) CITYSEQ_NOT_NULL(1);

@@ -231,7 +231,7 @@ static void try_numbers(void)
     request.asks_lods = true, request.lods = NULL;
     expect("no LoD", cityseq_memory(&request, 100, 90), 200 + 24 * 82 + 9 + 192 + 1024 + 1024);
     request.depth_limit = 65;
-    expect("a depth of 65", cityseq_memory(&request, 100, 90), 200 + 24 * 83 + 4 + 9 + 192 + 1024 + 1024);
+    expect("a depth of 65", cityseq_memory(&request, 100, 90), 200 + 24 * 83 + 260 + 9 + 192 + 1024 + 1024);
     request.depth_limit = 1025;
     expect("a wrong limit", cityseq_memory(&request, 100, 90), 0);
 }

@@ -822,6 +822,13 @@ row_each_edit_can_be_applied() {
     { cat "$scratch/written"; false; }
 }
 
+# ---- ported crates
+
+row_each_ported_crate_does_its_work() {
+  command -v python3 > "$scratch/noise" || return $skipped
+  tests/crates.py > "$scratch/written" || { cat "$scratch/written"; false; }
+}
+
 # ---- columns
 
 # Imports are on one line, as `rt check --fix-imports` writes them. So are texts of streams.

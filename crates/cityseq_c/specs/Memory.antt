@@ -1,13 +1,17 @@
 -- The memory that a call asks the allocator for.
-use Rattle.std.specs.Prelude.{ℕ, ◌+◌, ◌-◌, ◌*◌, ◌/◌, List, Bool, ◌&&◌, if◌then◌else◌, nat_le, length}
+use Rattle.std.specs.Prelude.{ℕ, ◌+◌, ◌*◌, ◌/◌, List, Bool, ◌&&◌, if◌then◌else◌, nat_le, length}
 use Rattle.cj_stream.specs.Tallied.{capped}
 use Rattle.cityseq_c.specs.Request.{items, needed_line}
 use Rattle.cityseq_c.specs.declared.request.Request.{Request}
 
--- what two lines of a length take, the header and a later one: their bytes, 12 for each of their tokens, and 4 for each
--- open container after the first 64
+-- what the open containers take: nothing up to 64, and else 4 for each
+abbrev pub containers_bytes : ℕ → ℕ
+containers_bytes depth = if nat_le depth 64 then 0 else 4 * depth
+
+-- what two lines of a length take, the header and a later one: their bytes, 12 for each of their tokens, and the open
+-- containers
 abbrev pub lines_bytes : ℕ → ℕ → ℕ
-lines_bytes line depth = 2 * line + 24 * ((line + depth + 1) / 2) + 4 * (depth - 64)
+lines_bytes line depth = 2 * line + 24 * ((line + depth + 1) / 2) + containers_bytes depth
 
 -- what the texts of a query take at most, if they are asked for: 3 for each byte, 96 for each text, and 1,024
 abbrev pub texts_bytes : Bool → List ℕ → ℕ

@@ -5,7 +5,7 @@
 ghost use Rattle.std.specs.Prelude.{◌≡◌, ◌==◌, ◌<◌, ◌≤◌, length};
 ghost use Rattle.std.specs.List.{count_by};
 ghost use Rattle.cj_stream.specs.Tallied.{capped};
-ghost use Rattle.cityseq_c.specs.Memory.{lines_bytes, memory_bytes, texts_bytes};
+ghost use Rattle.cityseq_c.specs.Memory.{containers_bytes, lines_bytes, memory_bytes, texts_bytes};
 ghost use Rattle.cityseq_c.specs.Request.{items, needed_line as line_needed};
 
 use crate::request::Request;
@@ -17,7 +17,7 @@ const TOKEN: usize = 12;
 /// The bytes for an open container.
 const CONTAINER: usize = 4;
 
-/// This many open containers take no memory of the allocator, also if there are more.
+/// Up to this many open containers take no memory of the allocator.
 const FEW_CONTAINERS: usize = 64;
 
 /// The most bytes for each byte of the texts of a query. They are kept in lists that may double.
@@ -37,6 +37,18 @@ pub fn needed_line(line_limit: u64, header: usize, part: usize) -> u64
     line_limit.min(header.max(part).max(1) as u64)
 }
 
+/// Returns how many bytes the open containers take under this limit.
+fn bytes_of_containers(depth: usize) -> usize
+    requires { depth ≤ 1024 }
+    ensures { result ≡ containers_bytes depth }
+{
+    if depth <= FEW_CONTAINERS {
+        0
+    } else {
+        CONTAINER * depth
+    }
+}
+
 /// Returns how many bytes the header and a later line take under these limits.
 fn bytes_of_lines(line: usize, depth: usize) -> usize
     requires line { line ≤ 1073741824 }
@@ -44,8 +56,7 @@ fn bytes_of_lines(line: usize, depth: usize) -> usize
     ensures { result ≡ lines_bytes line depth }
 {
     let tokens = (line + depth + 1) / 2;
-    let opened = CONTAINER * depth.saturating_sub(FEW_CONTAINERS);
-    2 * line + 2 * TOKEN * tokens + opened
+    2 * line + 2 * TOKEN * tokens + bytes_of_containers(depth)
 }
 
 /// Returns how many LFs there are in a text.

@@ -459,7 +459,7 @@ fn a_call_takes_so_much_memory(rt: HostRuntime) -> Result<(), Fail> {
         ..asked
     };
     check_memory(&rt, &USUAL, 200 + 24 * 82);
-    check_memory(&rt, &asked, 200 + 24 * 83 + 4 + 9 + 192 + 1_024);
+    check_memory(&rt, &asked, 200 + 24 * 83 + 260 + 9 + 192 + 1_024);
     check_memory(&rt, &wrong, 0);
     Ok(())
 }

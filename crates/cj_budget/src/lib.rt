@@ -21,7 +21,6 @@
 
 mod bounded;
 mod growth;
-mod items;
 mod limits;
 mod stack;
 

@@ -512,7 +512,7 @@ module _ (X : Type 0) (b : List ℕ) (old_stack empty_stack new_stack : BoundedL
       → r ≡ Err (TooDeep i) → IsFirstTooDeep b old_stack.limit i
   answers_first_too_deep r i a e =
       subst (λ n. IsFirstTooDeep b n i) d.limit
-      (first_too_deep b empty_stack.limit i (subst (λ z. RunAnswers b empty_stack z new new_stack) e a))
+      (first_too_deep b empty_stack.limit i (subst (λ z. RunAnswers b empty_stack z new new_stack) e a).0)
 
   pub answers_first_fault : (r : Result X LineFault) (i : ℕ) → RunAnswers b empty_stack r new new_stack
       → r ≡ Err (Syntax i) → IsFirstFault b i

@@ -306,7 +306,7 @@ array_refused ts ks i w x e = record {
   answer = λ m p. (refl, ap suc e);
   tokens = grown_same ts w;
   stack = kept_same ks x;
-  err = (refl, omega arith);
+  err = (refl, refl);
 }
 
 pub too_deep : (b : List ℕ) (ts : BoundedList Token) (ks : BoundedList ℕ) (m : Mode) (i : ℕ) → Stands b ts ks m i

@@ -6,6 +6,7 @@ pub mod Judgements
 pub mod Links
 pub mod Lists
 pub mod Runs
+pub mod Peaks
 pub mod Places
 pub mod Follows
 pub mod Letters

@@ -135,6 +135,6 @@ module _ (d : Kind) (n : Mode) (c : ℕ) (h : Opens d n c) (b : List ℕ) (ts ts
   standing_refused f r w l e t0 s0 s = (
     standing_fault (Unit {0}) b t0 s0 ts ts1 ks ks1 m i f s l
         (λ p. subst (λ o. Answers o m i p ks.limit (Err f) ks1.elements ts1.elements)
-        (sym (bracket_at (idle m ks.elements ts.elements i p) w e)) (r.answer m p)),
+        (sym (bracket_at (idle m ks.elements ts.elements i p) w e)) (r.answer m p)) r.err.1,
     standing_law b t0 s0 ts ts1 ks ks1 m i s r.tokens r.stack r.err.0 r.err.1,
   )

@@ -256,9 +256,10 @@ followed b tokens0 stack0 tokens tokens1 tokens2 stack stack1 m i v n s l g k h 
 pub standing_law : (b : List ℕ) (tokens0 : BoundedList Token) (stack0 : BoundedList ℕ)
     (tokens tokens1 : BoundedList Token) (stack stack1 : BoundedList ℕ) (m : Mode) (i : ℕ)
     → Standing b tokens0 stack0 tokens stack m i
-    → Grown tokens tokens1 → Kept stack stack1 → tokens1 ≡ tokens → length stack.elements ≤ length stack1.elements
+    → Grown tokens tokens1 → Kept stack stack1 → tokens1 ≡ tokens → stack1 ≡ stack
     → KeepsLaw b tokens0 tokens1 stack0 stack1
-standing_law b tokens0 stack0 tokens tokens1 stack stack1 m i s g k e l =
+standing_law b tokens0 stack0 tokens tokens1 stack stack1 m i s g k e x =
+    let l : length stack1.elements ≡ length stack.elements = ap (λ z. length z.elements) x in
     let c = count_of m stack.elements tokens.elements i s.deepest
     (standing_lawful b tokens0 stack0 tokens stack m i s) in
     let q = s.place in
@@ -300,7 +301,7 @@ pub ended_law : (b : List ℕ) (tokens0 : BoundedList Token) (stack0 : BoundedLi
     → KeepsLaw b tokens0 tokens stack0 stack
 ended_law b tokens0 stack0 tokens stack m i s =
     standing_law b tokens0 stack0 tokens tokens stack stack m i s (grown_same tokens s.kept.within)
-    (kept_same stack s.stack_within) refl (omega arith)
+    (kept_same stack s.stack_within) refl refl
 
 pub stepped_law : (b : List ℕ) (tokens0 : BoundedList Token) (stack0 : BoundedList ℕ)
     (tokens tokens1 : BoundedList Token) (stack : BoundedList ℕ) (m : Mode) (i : ℕ) (v : Move)
@@ -334,9 +335,9 @@ pub standing_fault : (X : Type 0) (b : List ℕ) (tokens0 : BoundedList Token) (
     → Standing b tokens0 stack0 tokens stack m i → i < length b
     → ((p : ℕ) → Answers (read m (byte b i) (idle m stack.elements tokens.elements i p)) m i p stack.limit
     (Err f) stack1.elements tokens1.elements)
-    → RunAnswers {X = X} b stack0 (Err f) tokens1 stack1
-standing_fault X b tokens0 stack0 tokens tokens1 stack stack1 m i (NotUtf8 j) s l h = h 0
-standing_fault X b tokens0 stack0 tokens tokens1 stack stack1 m i (Syntax j) s l h =
+    → stack1 ≡ stack → RunAnswers {X = X} b stack0 (Err f) tokens1 stack1
+standing_fault X b tokens0 stack0 tokens tokens1 stack stack1 m i (NotUtf8 j) s l h x = h 0
+standing_fault X b tokens0 stack0 tokens tokens1 stack stack1 m i (Syntax j) s l h x =
     let t = idle m stack.elements tokens.elements i s.deepest in
     let e = settled s.settles.last t s.settles.settles in
     let d = e.deepest in
@@ -346,17 +347,21 @@ standing_fault X b tokens0 stack0 tokens tokens1 stack stack1 m i (Syntax j) s l
     let r = shallow_at s.deepest stack.peak stack.limit stack0.peak stack0.limit s.stack_peak s.stack_within.below_limit
     s.stack_limit in
     let ji = a.0 in
-    record {
-      sticks = record {
-        last = s.settles.last;
-        reached = s.settles.reached;
-        at = e.place ∙ sym a.0;
-        within = omega arith;
-        stuck = inl (omega arith, q);
-      };
-      shallow = omega arith;
-    }
-standing_fault X b tokens0 stack0 tokens tokens1 stack stack1 m i (TooDeep j) s l h =
+    let same : stack1.peak ≡ stack.peak = ap (λ z. z.peak) x in let c = s.stack_peak in
+    (
+      record {
+        sticks = record {
+          last = s.settles.last;
+          reached = s.settles.reached;
+          at = e.place ∙ sym a.0;
+          within = omega arith;
+          stuck = inl (omega arith, q);
+        };
+        shallow = omega arith;
+      },
+      omega arith,
+    )
+standing_fault X b tokens0 stack0 tokens tokens1 stack stack1 m i (TooDeep j) s l h x =
     let t = idle m stack.elements tokens.elements i s.deepest in
     let e = settled s.settles.last t s.settles.settles in
     let d = e.deepest in
@@ -366,16 +371,20 @@ standing_fault X b tokens0 stack0 tokens tokens1 stack stack1 m i (TooDeep j) s 
     let r = shallow_at s.deepest stack.peak stack.limit stack0.peak stack0.limit s.stack_peak s.stack_within.below_limit
     s.stack_limit in
     let ji = a.0 in
+    let same : stack1.peak ≡ stack.peak = ap (λ z. z.peak) x in let c = s.stack_peak in
     let P : ℕ → Type 0 = λ n. IsSomeAnd (read m (byte b i) t) (λ u. length u.stack ≡ suc n) in
     let Q : Option State → Type 0 = λ o. IsSomeAnd o (λ u. length u.stack ≡ suc stack0.limit) in
-    record {
-      last = s.settles.last;
-      reached = s.settles.reached;
-      at = e.place ∙ sym a.0;
-      within = omega arith;
-      shallow = omega arith;
-      deep = subst Q (sym q) (subst P s.stack_limit a.1);
-    }
+    (
+      record {
+        last = s.settles.last;
+        reached = s.settles.reached;
+        at = e.place ∙ sym a.0;
+        within = omega arith;
+        shallow = omega arith;
+        deep = subst Q (sym q) (subst P s.stack_limit a.1);
+      },
+      omega arith,
+    )
 
 pub stepped_fault : (X : Type 0) (b : List ℕ) (tokens0 : BoundedList Token) (stack0 : BoundedList ℕ)
     (tokens tokens1 : BoundedList Token) (stack : BoundedList ℕ) (m : Mode) (i : ℕ) (v : Move) (f : LineFault)
@@ -389,35 +398,42 @@ stepped_fault X b tokens0 stack0 tokens tokens1 stack m i v (Syntax j) s h =
     let a = h s.deepest in
     let r = shallow_at s.deepest stack.peak stack.limit stack0.peak stack0.limit s.stack_peak s.stack_within.below_limit
     s.stack_limit in
-    record { sticks = sticks_both s.reached a.sticks; shallow = subst (λ n. n ≤ stack0.limit) (sym a.flat) r }
+    (
+      record { sticks = sticks_both s.reached a.sticks; shallow = subst (λ n. n ≤ stack0.limit) (sym a.flat) r },
+      subst (λ n. stack.peak ≡ max stack0.peak n) (sym a.flat) s.stack_peak,
+    )
 
 -- ---- the end of the line
 
 pub ended_fault : (b : List ℕ) (tokens0 : BoundedList Token) (stack0 : BoundedList ℕ) (tokens : BoundedList Token)
     (stack : BoundedList ℕ) (m : Mode) (i : ℕ) → Standing b tokens0 stack0 tokens stack m i → length b ≤ i
-    → ((m ≡ After) × (stack.elements ≡ []) → ⊥) → SticksAt b stack0.limit i
+    → ((m ≡ After) × (stack.elements ≡ []) → ⊥)
+    → (k : SticksAt b stack0.limit i) × (stack.peak ≡ max stack0.peak k.sticks.last.deepest)
 ended_fault b tokens0 stack0 tokens stack m i s l n =
     let t = idle m stack.elements tokens.elements i s.deepest in
     let e = settled s.settles.last t s.settles.settles in
-    let d = e.deepest in
+    let d = e.deepest in let c = s.stack_peak in
     let w = s.place in
     let r = shallow_at s.deepest stack.peak stack.limit stack0.peak stack0.limit s.stack_peak s.stack_within.below_limit
     s.stack_limit in
-    record {
-      sticks = record {
-        last = s.settles.last;
-        reached = s.settles.reached;
-        at = e.place;
-        within = w;
-        stuck = inr (
-          omega arith,
-          λ ts p h.
-              let q = some_same t (idle After [] ts (length b) p) (sym s.settles.settles ∙ h) in
-              n (same_mode m After (ap (λ u. u.phase) q), ap (λ u. u.stack) q),
-        );
-      };
-      shallow = omega arith;
-    }
+    (
+      record {
+        sticks = record {
+          last = s.settles.last;
+          reached = s.settles.reached;
+          at = e.place;
+          within = w;
+          stuck = inr (
+            omega arith,
+            λ ts p h.
+                let q = some_same t (idle After [] ts (length b) p) (sym s.settles.settles ∙ h) in
+                n (same_mode m After (ap (λ u. u.phase) q), ap (λ u. u.stack) q),
+          );
+        };
+        shallow = omega arith;
+      },
+      omega arith,
+    )
 
 -- a test that failed
 pub not_so : (r : Bool) (P : Type 0) → (IsTrue r → P) × (P → IsTrue r) → r ≡ false → P → ⊥

@@ -149,7 +149,7 @@ sticks_syntax b i a =
     ]
 
 -- no state that the machine comes to on its way has more containers open
-not_deeper : (b : List ℕ) (s : State) (d i n : ℕ) → Reaches b start s → s.deepest ≤ d → i ≤ s.place → Front b 0 i n
+pub not_deeper : (b : List ℕ) (s : State) (d i n : ℕ) → Reaches b start s → s.deepest ≤ d → i ≤ s.place → Front b 0 i n
     → d < n → ⊥
 not_deeper b s d i n r h l f g =
     let v = live_at b i n f in
@@ -315,11 +315,11 @@ module _ (X : Type 0) (b : List ℕ) (old : BoundedList ℕ) (tokens : BoundedLi
 
   pub run_deep : (r : Result X LineFault) (i : ℕ) → RunAnswers b old r tokens new → r ≡ Err (TooDeep i)
       → DeepAt b old.limit i
-  run_deep r i a e = sinks_deep b old.limit i (subst (λ z. RunAnswers b old z tokens new) e a)
+  run_deep r i a e = sinks_deep b old.limit i (subst (λ z. RunAnswers b old z tokens new) e a).0
 
   pub run_syntax : (r : Result X LineFault) (i : ℕ) → RunAnswers b old r tokens new → r ≡ Err (Syntax i) → SyntaxAt b i
       × NowhereDeep b old.limit
-  run_syntax r i a e = let s : SticksAt b old.limit i = subst (λ z. RunAnswers b old z tokens new) e a in
+  run_syntax r i a e = let s : SticksAt b old.limit i = (subst (λ z. RunAnswers b old z tokens new) e a).0 in
       (sticks_syntax b i s.sticks, sticks_nowhere b old.limit i s)
 
   pub run_utf8 : (r : Result X LineFault) (i : ℕ) → RunAnswers b old r tokens new → r ≡ Err (NotUtf8 i) → ⊥
@@ -329,9 +329,9 @@ module _ (X : Type 0) (b : List ℕ) (old : BoundedList ℕ) (tokens : BoundedLi
       → r ≡ Err (TooDeep i)
   finds_deep (Ok v) i a d = absurd (accepts_nowhere b tokens old new a i d)
   finds_deep (Err (NotUtf8 j)) i a d = absurd a
-  finds_deep (Err (Syntax j)) i a d = absurd (sticks_nowhere b old.limit j a i d)
+  finds_deep (Err (Syntax j)) i a d = absurd (sticks_nowhere b old.limit j a.0 i d)
   finds_deep (Err (TooDeep j)) i a d =
-      ap (λ n. Err (TooDeep n)) (one_deep b old.limit j i (sinks_deep b old.limit j a) d)
+      ap (λ n. Err (TooDeep n)) (one_deep b old.limit j i (sinks_deep b old.limit j a.0) d)
 
   pub finds_syntax : (r : Result X LineFault) (i : ℕ) → RunAnswers b old r tokens new → NowhereDeep b old.limit
       → SyntaxAt b i → r ≡ Err (Syntax i)
@@ -340,15 +340,15 @@ module _ (X : Type 0) (b : List ℕ) (old : BoundedList ℕ) (tokens : BoundedLi
       a.settles.settles in
       absurd (json_no_syntax z.tree z.json s)
   finds_syntax (Err (NotUtf8 j)) i a n s = absurd a
-  finds_syntax (Err (Syntax j)) i a n s = ap (λ k. Err (Syntax k)) (one_syntax b j i (sticks_syntax b j a.sticks) s)
-  finds_syntax (Err (TooDeep j)) i a n s = absurd (n j (sinks_deep b old.limit j a))
+  finds_syntax (Err (Syntax j)) i a n s = ap (λ k. Err (Syntax k)) (one_syntax b j i (sticks_syntax b j a.0.sticks) s)
+  finds_syntax (Err (TooDeep j)) i a n s = absurd (n j (sinks_deep b old.limit j a.0))
 
   pub finds_tree : (r : Result X LineFault) (t : Tree) → RunAnswers b old r tokens new → Json b t → nest t ≤ old.limit
       → IsOk r
   finds_tree (Ok v) t a j h = search rules
   finds_tree (Err (NotUtf8 i)) t a j h = absurd a
-  finds_tree (Err (Syntax i)) t a j h = absurd (json_no_syntax t j (sticks_syntax b i a.sticks))
-  finds_tree (Err (TooDeep i)) t a j h = absurd (json_nowhere b old.limit t j h i (sinks_deep b old.limit i a))
+  finds_tree (Err (Syntax i)) t a j h = absurd (json_no_syntax t j (sticks_syntax b i a.0.sticks))
+  finds_tree (Err (TooDeep i)) t a j h = absurd (json_nowhere b old.limit t j h i (sinks_deep b old.limit i a.0))
 
 -- the same under the limit that the stack had before it was emptied
 module _ (X : Type 0) (b : List ℕ) (old empty new : BoundedList Token) (old_stack empty_stack new_stack : BoundedList ℕ)

@@ -372,7 +372,7 @@ pub record ReadsByte (f : State → Option State) (i : ℕ) (result : Result Mov
       new_stack.elements new_tokens.elements
   pub tokens : Grown old_tokens new_tokens
   pub stack : Kept old_stack new_stack
-  pub err : OnErr result ((new_tokens ≡ old_tokens) × (length old_stack.elements ≤ length new_stack.elements))
+  pub err : OnErr result ((new_tokens ≡ old_tokens) × (new_stack ≡ old_stack))
 
 -- a value may begin in the mode
 abbrev pub BeginsValue : Mode → Type 0
@@ -498,6 +498,8 @@ pub record Accepts (b : List ℕ) (tokens : BoundedList Token) (old new : Bounde
 abbrev pub RunAnswers : {X : Type 0} → List ℕ → BoundedList ℕ → Result X LineFault → BoundedList Token → BoundedList ℕ
     → Type 0
 RunAnswers b old (Ok v) tokens new = Accepts b tokens old new
-RunAnswers b old (Err (Syntax i)) tokens new = SticksAt b old.limit i
-RunAnswers b old (Err (TooDeep i)) tokens new = SinksAt b old.limit i
+RunAnswers b old (Err (Syntax i)) tokens new = (s : SticksAt b old.limit i)
+    × (new.peak ≡ max old.peak s.sticks.last.deepest)
+RunAnswers b old (Err (TooDeep i)) tokens new = (s : SinksAt b old.limit i)
+    × (new.peak ≡ max old.peak s.last.deepest)
 RunAnswers b old (Err (NotUtf8 i)) tokens new = ⊥

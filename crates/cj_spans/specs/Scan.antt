@@ -4,6 +4,7 @@ use Rattle.cj_budget.specs.Bounded.{BoundedList, IsWithin, Becomes}
 use Rattle.cj_spans.specs.declared.token.Token.{Token}
 use Rattle.cj_spans.specs.Tree.{Tree, size, nest}
 use Rattle.cj_spans.specs.Json.{Json}
+use Rattle.cj_spans.specs.Front.{Front}
 use Rattle.cj_spans.specs.Preorder.{preorder, spans_of}
 use Rattle.cj_spans.specs.Forest.{forest}
 use Rattle.cj_spans.specs.Sound.{link_of, AreLinked}
@@ -27,6 +28,19 @@ pub record IsScanOf (line : List ℕ) (t : Tree) (old_tokens new_tokens : Bounde
   pub closed : new_stack.elements ≡ []
   pub token_peak : new_tokens.peak ≡ max old_tokens.peak (size t)
   pub stack_peak : new_stack.peak ≡ max old_stack.peak (nest t)
+
+-- n is the greatest number of containers that are open behind some of the first i bytes
+pub record IsDeepest (line : List ℕ) (i n : ℕ) : Type 0 where
+  pub place : ℕ
+  pub within : place ≤ i
+  pub front : Front line 0 place n
+  pub most : (k m : ℕ) → k ≤ i → Front line 0 k m → m ≤ n
+
+-- the peak is the greater of the old one and that number
+pub record HasPeakAt (line : List ℕ) (i : ℕ) (old new : BoundedList ℕ) : Type 0 where
+  pub deepest : ℕ
+  pub counted : IsDeepest line i deepest
+  pub peak : new.peak ≡ max old.peak deepest
 
 -- at every exit: twice the tokens are within the bytes, the open containers and one; and what the lists keep
 pub record KeepsLaw (line : List ℕ) (old_tokens new_tokens : BoundedList Token) (old_stack new_stack : BoundedList ℕ) :

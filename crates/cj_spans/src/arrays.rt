@@ -287,7 +287,7 @@ fn read_array(line: &[u8], from: Next, tokens: &mut Bounded<Token>, stack: &mut 
     let numbers = read_numbers(line, first, tokens);
     if numbers.ended {
         close_token(index, numbers.next.place, tokens);
-        stack.note_item();
+        stack.push_and_pop();
         let after = Next {
             mode: Mode::After,
             place: numbers.next.place + 1,

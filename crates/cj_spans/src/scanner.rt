@@ -27,7 +27,7 @@ ghost use Rattle.cj_spans.specs.Json.{Json};
 ghost use Rattle.cj_spans.specs.Front.{SyntaxAt, DeepAt, NowhereDeep};
 ghost use Rattle.cj_spans.specs.Begins.{IsFirstFault, IsFirstTooDeep};
 ghost use Rattle.cj_spans.specs.Marks.{AreUnmarked};
-ghost use Rattle.cj_spans.specs.Scan.{IsScanOf, AreSized, KeepsLaw, IsEmptied};
+ghost use Rattle.cj_spans.specs.Scan.{IsScanOf, AreSized, HasPeakAt, KeepsLaw, IsEmptied};
 ghost use Rattle.cj_spans.specs.Judgement.{Judgement, IsAnswerOf, IsReservedAnswerOf};
 ghost use Rattle.cj_spans.specs.Json.{byte as byte_of};
 ghost use Rattle.cj_spans.specs.declared.token.Token.{Token as TokenOf};
@@ -301,6 +301,13 @@ pub fn scan_reserved(
     ensures judgement { Judgement line.now stack.old.limit }
     ensures judged { (j : Judgement line.now stack.old.limit) → IsUtf8 line.now → IsReservedAnswerOf j result }
 
+    // A line that is not UTF-8 is not read. At another fault the peak of open containers is that of
+    // the bytes before it.
+    ensures unread { (i : ℕ) → IsErrOf result (LineFault.NotUtf8 i)
+        → (stack.new.elements ≡ []) × (stack.new.peak ≡ stack.old.peak) }
+    ensures peak { (i : ℕ) → IsErrOf result (LineFault.Syntax i) ⊎ IsErrOf result (LineFault.TooDeep i)
+        → HasPeakAt line.now i stack.old stack.new }
+
     // With any result, the lists keep the law of the bound, and their reserved memory.
     ensures law { KeepsLaw line.now tokens.old tokens.new stack.old stack.new }
 {
@@ -394,6 +401,13 @@ pub fn scan(line: &[u8], tokens: &mut Bounded<Token>, stack: &mut Stack) -> Resu
     // that judgement's.
     ensures judgement { Judgement line.now stack.old.limit }
     ensures judged { (j : Judgement line.now stack.old.limit) → IsUtf8 line.now → IsAnswerOf j result }
+
+    // Without memory, and if it is not UTF-8, the line is not read. At another fault the peak of
+    // open containers is that of the bytes before it.
+    ensures unread { (i : ℕ) → IsErrOf result ScanFault.Memory ⊎ IsErrOf result (ScanFault.NotUtf8 i)
+        → (stack.new.elements ≡ []) × (stack.new.peak ≡ stack.old.peak) }
+    ensures peak { (i : ℕ) → IsErrOf result (ScanFault.Syntax i) ⊎ IsErrOf result (ScanFault.TooDeep i)
+        → HasPeakAt line.now i stack.old stack.new }
 
     // With any result, the lists keep the law of the bound.
     ensures law { KeepsLaw line.now tokens.old tokens.new stack.old stack.new }

@@ -298,8 +298,7 @@ fn read_name_byte(
         mode place p stack.old.limit result stack.new.elements tokens.new.elements }
     ensures tokens { Grown tokens.old tokens.new }
     ensures stack { Kept stack.old stack.new }
-    ensures err { OnErr result ((tokens.new ≡ tokens.old)
-        × (length stack.old.elements ≤ length stack.new.elements)) }
+    ensures err { OnErr result ((tokens.new ≡ tokens.old) × (stack.new ≡ stack.old)) }
 {
     match mode {
         Mode::FirstName => {
@@ -332,8 +331,7 @@ pub fn read_byte(
         mode place p stack.old.limit result stack.new.elements tokens.new.elements }
     ensures tokens { Grown tokens.old tokens.new }
     ensures stack { Kept stack.old stack.new }
-    ensures err { OnErr result ((tokens.new ≡ tokens.old)
-        × (length stack.old.elements ≤ length stack.new.elements)) }
+    ensures err { OnErr result ((tokens.new ≡ tokens.old) × (stack.new ≡ stack.old)) }
 {
     if is_white_space(byte) {
         return Ok(Move::Stay);

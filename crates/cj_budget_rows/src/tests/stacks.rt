@@ -23,6 +23,12 @@ fn push_reserved(rt: &impl Abort, stack: &mut Stack, item: u32) {
     stack.push_reserved(item);
 }
 
+/// Pushes and pops an item with the form that does not store it.
+fn push_and_pop(rt: &impl Abort, stack: &mut Stack) {
+    assert!(rt; stack.is_reserved() && stack.len() < stack.limit());
+    stack.push_and_pop();
+}
+
 /// Pops an item, and compares it.
 fn check_pop(rt: &impl Abort, stack: &mut Stack, wanted: Option<u32>) {
     assert_eq!(rt; stack.pop(), wanted);
@@ -138,4 +144,28 @@ fn a_stack_that_is_reserved(rt: HostRuntime) {
     pop_all(&rt, &mut stack, 1_024);
     stack.clear();
     check_reserved(&rt, &stack, true);
+}
+
+#[test]
+fn an_item_that_is_not_stored(rt: HostRuntime) {
+    let mut stack = Stack::new(rt.alloc(), 2);
+    push_and_pop(&rt, &mut stack);
+    check_lengths(&rt, &stack, 0, 1);
+    push(&rt, &mut stack, 4);
+    push_and_pop(&rt, &mut stack);
+    push_and_pop(&rt, &mut stack);
+    check_lengths(&rt, &stack, 1, 2);
+    check_top(&rt, &stack, Some(4));
+}
+
+#[test]
+fn a_stack_that_has_grown_is_reserved(rt: HostRuntime) {
+    let mut stack = Stack::new(rt.alloc(), 200);
+    for item in 0..70u32 {
+        push(&rt, &mut stack, item);
+    }
+    check_reserve(&rt, &mut stack, Ok(()));
+    check_reserved(&rt, &stack, true);
+    check_lengths(&rt, &stack, 70, 70);
+    pop_all(&rt, &mut stack, 70);
 }

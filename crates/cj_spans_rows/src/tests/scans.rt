@@ -853,6 +853,37 @@ fn lists_are_emptied_first(rt: HostRuntime) {
     have_limits(&rt, &tokens, &stack, (100, 8));
 }
 
+/// A line with a fault, and the peak of open containers in the bytes before it.
+type FaultRow = (&'static [u8], ScanFault, usize);
+
+const FAULTS: [FaultRow; 9] = [
+    (b"\xFF", ScanFault::NotUtf8(0), 0),
+    (b"[[1,2],\xFF", ScanFault::NotUtf8(7), 0),
+    (b"]", ScanFault::Syntax(0), 0),
+    (b"[", ScanFault::Syntax(1), 1),
+    (b"[1,]", ScanFault::Syntax(3), 1),
+    (b"[[1,2],3}", ScanFault::Syntax(8), 2),
+    (b"[[1],{\"a\":[}", ScanFault::Syntax(11), 3),
+    (b"[[[]]", ScanFault::Syntax(5), 3),
+    (b"[[[[0]]]]", ScanFault::TooDeep(3), 3),
+];
+
+/// Scans the line of a row under a depth limit of 3, and compares the fault and the peak.
+fn has_peak(rt: &impl Abort, alloc: Global, row: FaultRow) {
+    let (line, fault, peak) = row;
+    let mut tokens: Bounded<Token> = Bounded::new(alloc, 100);
+    let mut stack = Stack::new(alloc, 3);
+    answers(rt, line, &mut tokens, &mut stack, Err(fault));
+    is_count(rt, stack.peak(), peak);
+}
+
+#[test]
+fn peaks_at_faults(rt: HostRuntime) {
+    for row in FAULTS {
+        has_peak(&rt, rt.alloc(), row);
+    }
+}
+
 /// Checks lists that are empty, since they were refused memory.
 fn are_empty(rt: &impl Abort, tokens: &Bounded<Token>, stack: &Stack) {
     assert!(rt; tokens.is_empty() && stack.is_empty() && tokens.peak() == 0);

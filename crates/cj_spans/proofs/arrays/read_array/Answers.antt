@@ -64,9 +64,9 @@ leave_arrays-requires-clause-stands c =
     → c.close_token.new.tokens.elements
     ≡ slice_set n.new.tokens.elements k (token_at t.start (suc j) (length n.new.tokens.elements)))
     c.len-index.ensures.value c.close_token.ensures.closed in
-    stands_on b ts c.close_token.new.tokens ks c.note_item.new.self m After i (j + 1) r.stands
-    (λ t0 s0 z. flat_closed b n.new.tokens c.close_token.new.tokens ks c.note_item.new.self (length ts.elements) j
-    end.within end.bracket a w.1 c.note_item.ensures.within c.note_item.ensures.noted closed
+    stands_on b ts c.close_token.new.tokens ks c.push_and_pop.new.self m After i (j + 1) r.stands
+    (λ t0 s0 z. flat_closed b n.new.tokens c.close_token.new.tokens ks c.push_and_pop.new.self (length ts.elements) j
+    end.within end.bracket a w.1 c.push_and_pop.ensures.within c.push_and_pop.ensures.peak closed
     c.close_token.ensures.tokens t0 s0
     (subst (λ x. Standing b t0 s0 n.new.tokens (with_top ks (length ts.elements)) x j) end.after
     (flat_read b ts us n.new.tokens ks m o i j r.stands r.begins r.within r.bracket r.shallow c.open_array.ensures
@@ -83,7 +83,7 @@ leave_arrays-requires-clause-array c =
     → c.close_token.new.tokens.elements
     ≡ slice_set n.new.tokens.elements k (token_at t.start (suc n.result.next.place) (length n.new.tokens.elements)))
     c.len-index.ensures.value c.close_token.ensures.closed in
-    subst (λ z. InArray z c.close_token.new.tokens.elements) (sym (ap (λ z. z.elements) c.note_item.ensures.noted))
+    subst (λ z. InArray z c.close_token.new.tokens.elements) (sym (ap (λ z. z.elements) c.push_and_pop.ensures.peak))
     (outer_stays ks.elements ts.elements n.new.tokens.elements c.close_token.new.tokens.elements (length ts.elements) _
     r.array (omega arith) (kept_all _ _ _ (kept_more _ _ _ c.open_array.ensures.elements) n.ensures.kept)
     (closed a.token (top_there ks.elements (length ts.elements) n.new.tokens.elements a)))
@@ -104,8 +104,8 @@ returns-then-numbers-clause-answer c = λ t0 s0 z.
     ≡ slice_set n.new.tokens.elements k (token_at t.start (suc j) (length n.new.tokens.elements)))
     c.len-index.ensures.value c.close_token.ensures.closed in
     c.leave_arrays.ensures.answer t0 s0
-    (flat_closed b n.new.tokens c.close_token.new.tokens ks c.note_item.new.self (length ts.elements) j
-    end.within end.bracket a w.1 c.note_item.ensures.within c.note_item.ensures.noted closed
+    (flat_closed b n.new.tokens c.close_token.new.tokens ks c.push_and_pop.new.self (length ts.elements) j
+    end.within end.bracket a w.1 c.push_and_pop.ensures.within c.push_and_pop.ensures.peak closed
     c.close_token.ensures.tokens t0 s0
     (subst (λ x. Standing b t0 s0 n.new.tokens (with_top ks (length ts.elements)) x j) end.after
     (flat_read b ts us n.new.tokens ks m o i j r.stands r.begins r.within r.bracket r.shallow c.open_array.ensures

@@ -25,7 +25,7 @@ pub returns-in-Err-clause-answer : goal.returns-in-Err-clause-answer
 returns-in-Err-clause-answer c =
     standing_fault (Unit {0}) c.args.line.now c.args.tokens.now c.args.stack.now c.loop-place.tokens
     c.read_byte.new.tokens c.loop-place.stack c.read_byte.new.stack c.loop-place.mode c.loop-place.place
-    c.in-Err.fault c.loop-place.invariant c.loop-place-test.true c.in-Err.ensures.answer
+    c.in-Err.fault c.loop-place.invariant c.loop-place-test.true c.in-Err.ensures.answer c.in-Err.ensures.err.1
 
 pub returns-in-Err-clause-law : goal.returns-in-Err-clause-law
 returns-in-Err-clause-law c =

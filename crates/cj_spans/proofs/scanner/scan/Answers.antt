@@ -1,4 +1,4 @@
-use Rattle.std.proofs.Common.{Err, sym, subst, inl}
+use Rattle.std.proofs.Common.{Err, sym, subst, inl, inr, arith}
 use Rattle.std.proofs.lemmas.Result.{err_from_is_err_and}
 use Rattle.cj_spans.specs.declared.fault.LineFault.TheVariants.{NotUtf8, Syntax, TooDeep}
 use Rattle.cj_spans.specs.Begins.{IsFirstTooDeep}
@@ -6,6 +6,7 @@ use Rattle.cj_spans.specs.Front.{DeepAt, NowhereDeep}
 use Rattle.cj_spans.specs.Judgement.{Judgement, IsReservedAnswerOf}
 use Rattle.cj_spans.proofs.Granted.{fault_back, fault_on, fault_judged, ok_no_fault}
 use Rattle.cj_spans.proofs.Judgements.{judgement}
+use Rattle.cj_spans.proofs.Peaks.{peak_from}
 use Rattle.cj_spans.proofs.scanner.scan.Goals as goal
 
 pub returns-in_err-make_room-clause-judgement : goal.returns-in_err-make_room-clause-judgement
@@ -78,3 +79,15 @@ returns-in_err-scan_reserved-clause-judged c = λ j u.
 pub returns-clause-finds_not_utf8 : goal.returns-clause-finds_not_utf8
 returns-clause-finds_not_utf8 c =
     λ i v. absurd (ok_no_fault _ (NotUtf8 i) ((c.in_ok-scan_reserved.ensures.not_utf8 i).1 v))
+
+pub returns-in_err-scan_reserved-clause-peak : goal.returns-in_err-scan_reserved-clause-peak
+returns-in_err-scan_reserved-clause-peak c = λ i h.
+    let p = err_from_is_err_and c.from_residual-in_err-scan_reserved.result
+    c.from_residual-in_err-scan_reserved.ensures.1 in
+    let is = rw p.2 at p.1 in
+    let risen = c.in_ok-make_room.ensures.emptied.1.peak in
+    peak_from c.args.line.now i c.args.stack.now c.make_room.new.stack c.scan_reserved.new.stack (omega arith)
+    (c.in_err-scan_reserved.ensures.peak i (elim h [
+      | inl e ↦ inl (fault_back _ _ is (Syntax i) e)
+      | inr e ↦ inr (fault_back _ _ is (TooDeep i) e)
+    ]))

@@ -2,6 +2,7 @@ use Rattle.std.proofs.Common.{refl}
 use Rattle.cj_spans.proofs.Verdicts.{cleared, run_utf8, run_unmarked, answers_tree, answers_deep, answers_syntax, answers_finds_deep, answers_finds_syntax, answers_finds_tree, utf8_whole, utf8_fault}
 use Rattle.cj_spans.proofs.Judgements.{judgement, answer_of}
 use Rattle.cj_spans.proofs.Endings.{answers_first_too_deep, answers_first_fault}
+use Rattle.cj_spans.proofs.Peaks.{answers_peak}
 use Rattle.cj_spans.proofs.Sizes.{sized_on}
 use Rattle.cj_spans.proofs.scanner.scan_reserved.Goals as goal
 
@@ -106,3 +107,13 @@ returns-in-Err-clause-finds_syntax c = λ u. absurd (utf8_whole c.args.line.now 
 
 pub returns-in-Err-clause-judged : goal.returns-in-Err-clause-judged
 returns-in-Err-clause-judged c = λ j u. absurd (utf8_whole c.args.line.now c.in-Err.place c.in-Err.ensures.err u)
+
+pub returns-in-Ok-clause-unread : goal.returns-in-Ok-clause-unread
+returns-in-Ok-clause-unread c = λ i e.
+    absurd (run_utf8 (Unit {0}) c.args.line.now c.clear-2.new.self c.run.new.tokens c.run.new.stack c.run.result i
+    c.run.ensures.answer e)
+
+pub returns-in-Ok-clause-peak : goal.returns-in-Ok-clause-peak
+returns-in-Ok-clause-peak c = λ i e.
+    answers_peak (Unit {0}) c.args.line.now c.args.stack.now c.clear-2.new.self c.run.new.stack c.run.new.tokens
+    (cleared _ _ c.clear-2.ensures.cleared) c.run.result i c.run.ensures.answer e
