@@ -1,5 +1,5 @@
 -- The most containers that are open in what a pass over a line has read.
-use Rattle.std.proofs.Common.{◌≡◌, ◌⊎◌, inl, inr, ℕ, ◌<◌, ◌≤◌, List, length, max, Result, Err, refl, sym, subst, arith}
+use Rattle.std.proofs.Common.{◌≡◌, ◌⊎◌, inl, inr, ℕ, ◌≤◌, List, length, Result, Err, subst, arith}
 use Rattle.std.proofs.lemmas.Bool.{cases_lt}
 use Rattle.cj_budget.specs.Bounded.{BoundedList}
 use Rattle.cj_spans.specs.declared.fault.LineFault.{LineFault}
