@@ -250,6 +250,23 @@ class Beside(InFolder):
             [each["id"] for each in objects], [text or "x" for text in made_up.HOSTILE]
         )
 
+    def test_cells_of_other_countries_are_no_formulas(self):
+        """`;` or a tab may separate cells, also within quotes."""
+        texts = [
+            start + sign + "1+1" + end
+            for sign in "=+-@\uff1d"
+            for start in ("", "x;", ";;", 'x;"', 'x;""', 'x,;"', "x\t", "a,b;", '"', '";')
+            for end in ("", ";y", '";=2', ',";";')
+        ]
+        rows, _ = self.written([made_up.report(3, feature=text) for text in texts])
+        self.assertEqual(len(rows), len(texts) + 1)
+        for separator in ",;\t":
+            with open(self.folder / "page.reports.csv", encoding="utf-8-sig", newline="") as table:
+                cells = [cell for row in csv.reader(table, delimiter=separator) for cell in row]
+            self.assertGreater(len(cells), len(texts))
+            for cell in cells:
+                self.assertFalse(cell.startswith(("=", "+", "-", "@", "\t", "\r", "\uff1d")), cell)
+
     def test_names(self):
         for name, wanted in (
             ("a/delivery.html", "a/delivery"),

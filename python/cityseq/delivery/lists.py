@@ -5,6 +5,7 @@ import csv
 import io
 import json
 import os
+import re
 from typing import Any, List, Tuple
 
 from ..objects import report_object
@@ -13,7 +14,11 @@ from ..reports import Report
 from ..shown import shown
 
 COLUMNS = ("file", "line", "byte", "code", "reason", "feature", "hint", "excerpt", "fix")
-FORMULAS = ("=", "+", "-", "@", "\t", "\r")  # a spreadsheet may compute such a cell
+SIGNS = "=+-@\uff1d\uff0b\uff0d\uff20"  # a spreadsheet may compute a cell that begins with one
+FORMULAS = (*SIGNS, "\t", "\r")
+# In many countries `;` separates the cells. It does so within quotes too, as `,` does not begin a
+# cell there. A quote that follows it begins a quoted cell.
+LATER_CELL = re.compile(rf'([;\t]"*)(?=[{re.escape(SIGNS)}])')
 LONGEST = 1_000  # characters of an id in a cell; JSON has all
 TOGETHER = 1 << 16  # characters of one write
 MARK = "\ufeff"  # marks UTF-8 for spreadsheets
@@ -27,8 +32,9 @@ def names_of_lists(page: str) -> Tuple[str, str]:
 
 
 def cell(text: str) -> str:
-    """Returns a text as a cell, on one line. No spreadsheet takes it for a formula."""
-    told = shown(text if len(text) <= LONGEST else f"{text[:LONGEST]}\u2026")
+    """Returns a text as a cell, on one line. No spreadsheet takes it for a formula, or a part of it
+    if another sign separates cells there."""
+    told = LATER_CELL.sub(r"\1'", shown(text if len(text) <= LONGEST else f"{text[:LONGEST]}\u2026"))
     return f"'{told}" if text.startswith(FORMULAS) or told.startswith(FORMULAS) else told
 
 
