@@ -6,6 +6,7 @@ import json
 import os
 import re
 import unittest
+from unittest import mock
 
 from . import made_up, support
 from .support import InFolder
@@ -141,6 +142,26 @@ class Page(unittest.TestCase):
         )
         self.assertIn("The first 2,000 of 5,000 files are listed", text)
         self.assertLess(len(text.encode()), 2_000_000)
+
+    def test_files_that_need_a_look_come_first(self):
+        files = [made_up.file(f"{number}.city.jsonl") for number in range(9)]
+        files.insert(3, made_up.file("broken", 1, 1))
+        files += [made_up.file("missing", 3, fault="No such file"), made_up.file("late", 1, 1)]
+        with mock.patch.object(page, "MOST_FILES", 5):
+            text = page.html(made_up.delivery(made_up.usual(2).reports, files))
+        rows = re.findall('<tr class="row"><th scope="row"><bdi>([^<]*)</bdi>', text)
+        self.assertEqual(rows, ["missing", "broken", "late", "0.city.jsonl", "1.city.jsonl"])
+        self.assertIn("Files that were not judged come first", text)
+
+    def test_the_verdict_has_a_colour(self):
+        for statuses, wanted in (
+            ((0,), "valid"), ((1,), "invalid"), ((3,), "fault"), ((0, 0), "valid"),
+            ((0, 3), "fault"), ((0, 1), "invalid"), ((5, 1, 0), "invalid"),
+        ):
+            files = [made_up.file(f"{n}", status, status % 2) for n, status in enumerate(statuses)]
+            made = made_up.delivery([], files)
+            self.assertEqual(page.worst(made), wanted, statuses)
+        self.assertIn('<p class="verdict invalid">', page.html(made))
 
     def test_headings_go_down_by_one(self):
         levels = [

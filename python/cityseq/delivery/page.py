@@ -22,6 +22,7 @@ MOST_DETAILED = 300  # files with details. All others have only a row
 MOST_FILES = 2_000  # rows of files
 NEAR = 24  # characters of an excerpt on each side, in the table
 END = "\u00b6"  # represents the end of a line
+ORDER = ("fault", "invalid", "valid")  # of the rows of files
 WORDS = {"valid": "valid", "invalid": "invalid", "fault": "not judged"}
 
 
@@ -93,6 +94,17 @@ def verdict_of(delivery: Delivery) -> str:
         return f"The file {parts[0].partition(' ')[2]}."
     rest = " and ".join([", ".join(parts[:-1])] * (len(parts) > 1) + parts[-1:])
     return f"Of {count:,} files {rest}."
+
+
+def worst(delivery: Delivery) -> str:
+    """Returns the verdict that the top of the page has the colour of."""
+    found = delivery.verdicts
+    return next((each for each in ("invalid", "fault") if found[each]), "valid")
+
+
+def by_verdict(files: Sequence[File]) -> List[File]:
+    """Returns files in the order of their rows: first those that a reader must look at."""
+    return sorted(files, key=lambda file: ORDER.index(file.verdict))
 
 
 def row_of(report: Report, numbers: Dict[str, int]) -> List[Any]:
@@ -181,6 +193,7 @@ def html(delivery: Delivery) -> str:
     contents = delivery.contents
     given = {
         "delivery": delivery, "contents": contents, "verdict": verdict_of(delivery),
+        "worst": worst(delivery), "files": by_verdict(delivery.files),
         "maps": _maps(delivery), "script": markup(script), "style": markup(style),
         "script_sum": markup(_sum(script)), "style_sum": markup(_sum(style)),
         "lengths": markup(histogram(contents.lengths, "lengths")) if contents.lengths else "",
