@@ -7,6 +7,7 @@ import subprocess
 import unittest
 from collections import Counter
 from decimal import Decimal, DecimalException
+from unittest import mock
 
 from .support import HEADER, PLAIN, InFolder, feature, lines_by_chance, stream_by_chance
 from .test_told import example
@@ -279,10 +280,10 @@ class Repeated(InFolder):
                 self.assertEqual(each.id, name if short else name[: repeated.LONGEST] + "\u2026")
 
     def test_more_than_memory_holds_at_once(self):
-        before, repeated.AT_ONCE = repeated.AT_ONCE, 50
-        self.addCleanup(setattr, repeated, "AT_ONCE", before)
         ids = [f"i{number % 700}" for number in range(1_000)]
-        found = cityseq.report(self.file(HEADER + b"".join(map(named, ids)))).repeated
+        path = self.file(HEADER + b"".join(map(named, ids)))
+        with mock.patch.multiple(repeated, AT_ONCE=50, BLOCK=90):
+            found = cityseq.report(path).repeated
         self.assertEqual(
             (found.ids, found.features, len(found.first)), (300, 600, repeated.MOST_IDS)
         )
@@ -291,19 +292,56 @@ class Repeated(InFolder):
             [("i0", [2, 702]), ("i1", [3, 703])],
         )
 
+    def added(self, ids, count, at_once):
+        """What is found among the ids of numbers, which come in pieces."""
+        with repeated.Ids() as made, mock.patch.object(repeated, "AT_ONCE", at_once):
+            for begin in range(0, count, 1_000):
+                numbers = range(begin, min(begin + 1_000, count))
+                lines = survey.np.array(numbers, "u8") + 2
+                made.add(0, lines, [ids(number) for number in numbers])
+            with Reads(made) as reads:
+                return made.repeated(["f"]), reads.bytes
+
+    def test_each_record_is_read_once(self):
+        """Time is linear: with many shares no more is read than with one."""
+        for at_once in (1 << 19, 500, 1):
+            with mock.patch.object(repeated, "BLOCK", 1_500):
+                found, size = self.added(lambda number: b"%d" % (number % 4_990), 5_000, at_once)
+            self.assertEqual((found.ids, found.features), (10, 20))
+            self.assertEqual(size, 5_000 * repeated.RECORD.itemsize)
+
     def test_half_a_digest_is_not_enough(self):
-        with repeated.Ids() as ids:
-            ids.add(0, survey.np.array([2, 3, 4], "u8"), [b"a", b"b", b"a"])
-            ids._records.seek(0)
-            records = survey.np.frombuffer(ids._records.read(), repeated.RECORD).copy()
-            records["high"] = 7
-            ids._records.seek(0)
-            ids._records.write(records.tobytes())
-            found = ids.repeated(["f"])
+        def same_half(ids):
+            return b"".join(bytes(8) + each.ljust(8) for each in ids)
+
+        with mock.patch.object(repeated, "_digests", same_half):
+            found, _ = self.added(lambda number: [b"a", b"b", b"a"][number], 3, 1)
         self.assertEqual((found.ids, found.features), (1, 2))
         self.assertEqual(
             [(each.id, each.places) for each in found.first], [("a", [("f", 2), ("f", 4)])]
         )
+
+
+class Reads:
+    """Counts the bytes of records that are read."""
+
+    def __init__(self, ids):
+        self._file, self.bytes = ids._records, 0
+        ids._records = self
+
+    def __enter__(self):
+        return self
+
+    def __exit__(self, *_):
+        self._file.close()
+
+    def read(self, count):
+        text = self._file.read(count)
+        self.bytes += len(text)
+        return text
+
+    def __getattr__(self, name):
+        return getattr(self._file, name)
 
 
 @unittest.skipIf(MISSING, MISSING)

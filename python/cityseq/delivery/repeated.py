@@ -1,8 +1,9 @@
-"""Finds the ids that several features of a delivery have, in bounded memory.
+"""Finds the ids that several features of a delivery have, in bounded memory and linear time.
 
-Each id goes to a temporary file, and a record with its digest to another one. At the end the
-records are sorted by their digests, as many at once as memory allows. Digests have 128 bits. No two
-ids with the same digest are known."""
+Each id goes to a temporary file, and a record with its digest to another one. Records are written
+in blocks, in which those whose digests begin alike lie together. So at the end a share of all
+digests is a piece of each block, and each record is read once. Digests have 128 bits. No two ids
+with the same digest are known."""
 from __future__ import annotations
 
 import tempfile
@@ -18,7 +19,9 @@ np: Any = needed("numpy")
 RECORD = np.dtype([("high", "u8"), ("low", "u8"), ("line", "u8"), ("at", "u8"), ("file", "u4"),
                    ("length", "u4")])
 DIGEST = 16  # bytes
-AT_ONCE = 1 << 19  # records of one sort or read
+BITS = 10  # of a digest, by which the records of a block are sorted
+BLOCK = 1 << 18  # records
+AT_ONCE = 1 << 19  # records of a share
 LONGEST = 256  # bytes of an id that are kept
 MOST_IDS = 100  # ids that are listed
 MOST_PLACES = 10  # places of each id
@@ -27,8 +30,17 @@ Places = List[Tuple[int, int]]  # number of the file, and line
 Group = Tuple[int, Any]  # how many features have the id, and the records of the first ones
 
 
-def _digest(id: bytes) -> bytes:
-    return blake2b(id, digest_size=DIGEST).digest()
+def _digests(ids: List[bytes]) -> bytes:
+    return b"".join([blake2b(id, digest_size=DIGEST).digest() for id in ids])
+
+
+def _in_order(records: Any) -> Any:
+    """Returns records sorted by their digests. Those of one id keep their order."""
+    found = records[np.argsort(records["high"], kind="stable")]
+    high, low = found["high"], found["low"]
+    if ((high[1:] == high[:-1]) & (low[1:] != low[:-1])).any():  # half of a digest hardly repeats
+        return records[np.lexsort((records["low"], records["high"]))]
+    return found
 
 
 class Ids:
@@ -41,6 +53,9 @@ class Ids:
         except OSError as fault:
             raise write_fault(fault, tempfile.gettempdir()) from fault
         self._at, self._count = 0, 0
+        self._waiting: List[Any] = []  # records that are in no block yet
+        self._waits = 0
+        self._blocks: List[Any] = []  # the place of each kind of record in a block, and its end
 
     def __enter__(self) -> "Ids":
         return self
@@ -55,7 +70,7 @@ class Ids:
         Raises:
             WriteFault: The temporary folder is full.
         """
-        digests = np.frombuffer(b"".join(map(_digest, ids)), "u8").reshape(-1, 2)
+        digests = np.frombuffer(_digests(ids), "u8").reshape(-1, 2)
         texts = [id[:LONGEST] for id in ids]
         records = np.empty(len(ids), RECORD)
         records["high"], records["low"] = digests[:, 0], digests[:, 1]
@@ -63,13 +78,27 @@ class Ids:
         ends = np.cumsum(records["length"], dtype="u8") + np.uint64(self._at)
         records["at"] = ends - records["length"]
         records["line"], records["file"] = lines, file
+        self._waiting.append(records)
+        self._waits += len(ids)
         try:
             self._texts.write(b"".join(texts))
-            self._records.write(records.tobytes())
+            if self._waits >= BLOCK:
+                self._write()
         except OSError as fault:
             raise write_fault(fault, tempfile.gettempdir()) from fault
-        self._count += len(ids)
         self._at = int(ends[-1]) if len(ids) else self._at
+
+    def _write(self) -> None:
+        """Writes the waiting records as a block."""
+        if not self._waits:
+            return
+        records = np.concatenate(self._waiting)
+        self._waiting, self._waits = [], 0
+        kinds = (records["high"] >> np.uint64(64 - BITS)).astype("u2")
+        ends = np.cumsum(np.bincount(kinds, minlength=1 << BITS))
+        self._blocks.append(np.concatenate(([0], ends)) + self._count)
+        self._records.write(records[np.argsort(kinds, kind="stable")].tobytes())
+        self._count += len(records)
 
     def repeated(self, names: List[str]) -> Repeated:
         """Returns the ids that appear twice or more. `names` has the names of the files by number.
@@ -78,7 +107,7 @@ class Ids:
             WriteFault: The temporary folder is full.
         """
         try:
-            self._records.flush()
+            self._write()
             groups = list(self._groups())
             ids, features = sum(each[0] for each in groups), sum(each[1] for each in groups)
             firsts = [group for _, _, first in groups for group in first]
@@ -91,10 +120,13 @@ class Ids:
     def _groups(self) -> Iterator[Tuple[int, int, List[Group]]]:
         """Yields for each share of the digests: how many ids appear twice or more, how many
         features have them, and the first ones."""
-        shares = 1 + self._count // AT_ONCE
-        for share in range(shares):
-            records = np.concatenate(list(self._share(share, shares)) or [np.empty(0, RECORD)])
-            records = records[np.lexsort((records["low"], records["high"]))]
+        bits = 0  # each share has the kinds whose first bits are alike
+        while self._count >> bits > AT_ONCE and bits < BITS:
+            bits += 1
+        for share in range(1 << bits):
+            kinds = share << BITS - bits, (share + 1) << BITS - bits
+            records = np.concatenate([np.empty(0, RECORD), *self._share(*kinds)])
+            records = _in_order(records)
             high, low = records["high"], records["low"]
             differs = (high[1:] != high[:-1]) | (low[1:] != low[:-1])
             begins = np.flatnonzero(np.append(True, differs)[: len(records)])
@@ -108,15 +140,12 @@ class Ids:
             ]
             yield len(twice), int(counts[twice].sum()), first
 
-    def _share(self, share: int, shares: int) -> Iterator[Any]:
-        """Yields the records of one share of the digests, in the order of files and lines."""
-        self._records.seek(0)
-        while True:
-            piece = self._records.read(AT_ONCE * RECORD.itemsize)
-            if not piece:
-                return
-            records = np.frombuffer(piece, RECORD)
-            yield records[records["high"] % np.uint64(shares) == share]
+    def _share(self, first: int, end: int) -> Iterator[Any]:
+        """Yields the records from one kind to another, in the order of files and lines."""
+        for block in self._blocks:
+            begin, after = int(block[first]), int(block[end])
+            self._records.seek(begin * RECORD.itemsize)
+            yield np.frombuffer(self._records.read((after - begin) * RECORD.itemsize), RECORD)
 
     def _told(self, group: Group, names: List[str]) -> RepeatedId:
         count, records = group
