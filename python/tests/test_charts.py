@@ -55,6 +55,30 @@ class Drawings(unittest.TestCase):
             self.elements(svg)
             self.assertNotRegex(svg, "nan|inf")
 
+    def test_strays_are_drawn_apart(self):
+        made = made_up.area()
+        self.assertEqual(charts.map_of(made, "a").overview, "")
+        made.places, made.apart = [(0.0, 0.0, 10.0, 10.0)], 1
+        made.strays = [facts.Named("f", 3, "<b>", (5.0, 5.0))]
+        found = charts.map_of(made, "a")
+        self.elements(found.overview)
+        self.assertIn("1 features far from the others", found.overview)
+        self.assertIn(">1</text>", found.overview)
+        self.assertIn("899 features, each by its extent", found.told)
+
+    def test_a_coarse_map_counts_all_features(self):
+        for cells in (False, True):
+            made = made_up.area(cells)
+            found = charts.coarse(made)
+            self.assertEqual(sum(found.cells.values()), made.features)
+            self.assertLessEqual(len(found.cells), charts.COARSE**2)
+            svg = charts.map_of(found, "a").svg
+            self.elements(svg)
+            self.assertLess(len(svg), 12_000)
+        for far in (0.0, 1e-300, 1e149):
+            self.assertEqual(sum(charts.coarse(facts.Area(
+                None, features=1, extents=[(far, -far, far, -far)])).cells.values()), 1)
+
     def test_invalid_features_alone_make_a_map(self):
         self.assertIn("0 features", charts.map_of(facts.Area(None, spots=[(1.0, 2.0)]), "a").told)
 
@@ -90,12 +114,13 @@ class Grids(unittest.TestCase):
                 grid.add(*(areas.np.array(axis) for axis in zip(*some)))
                 if chance.random() < 0.5:
                     grid.cells()
-            size, cells = grid.cells()
+            size, cells, far = grid.cells()
             wanted = {}
             for x, y in centres:
                 cell = int(x // size), int(y // size)
                 wanted[cell] = wanted.get(cell, 0) + 1
-            self.assertEqual(cells, wanted)
+            self.assertEqual({**cells, **far}, wanted)
+            self.assertLessEqual(sum(far.values()), max(1, len(centres) // areas.NEARLY_ALL))
             for axis in (0, 1):
                 self.assertLessEqual(
                     max(cell[axis] for cell in cells) - min(cell[axis] for cell in cells),
@@ -118,6 +143,44 @@ class Grids(unittest.TestCase):
         place.add(edges, edges, edges, edges)
         place.mark([(areas.np.nan, 0.0), (1.0, 2.0), (1e300, 0.0)])
         self.assertEqual((place.area().features, place.area().spots), (1, [(1.0, 2.0)]))
+
+    def test_a_stray_feature_is_apart_and_has_a_name(self):
+        """The others keep the map to themselves, whether they are few or many."""
+        chance = areas.np.random.default_rng(5)
+        for count in (20, 1_000, 150_000):
+            for far in ((0.0, 0.0), (85_000.0, 1e12), (-1e9, 450_000.0)):
+                place = areas.Place(None)
+                x = chance.uniform(84_000, 86_000, count)
+                y = chance.uniform(447_000, 449_000, count)
+                x[count // 3], y[count // 3] = far
+                place.add(x, x + 10, y, y + 10, lambda number, middle: facts.Named(
+                    "f", number + 2, f"i{number}", middle))
+                area = place.area()
+                view = charts.view_of(area)
+                self.assertLess(view.width, 2_400)
+                self.assertEqual((area.apart, area.features), (1, count))
+                self.assertEqual(
+                    area.strays,
+                    [facts.Named("f", count // 3 + 2, f"i{count // 3}", (far[0] + 5, far[1] + 5))],
+                )
+                if count > areas.FEW:
+                    self.assertGreater(len(area.cells), 500)
+
+    def test_a_town_of_its_own_is_not_apart(self):
+        for x in (
+            [0, 1, 1_000, 1_001], [0, 1_000], [0], [5, 5, 5, 5], list(range(100)),
+            [0] * 90 + [1_000_000] * 10, [*range(50), *range(10_000, 10_050)],
+        ):
+            place, x = areas.Place(None), areas.np.array(x, "f8")
+            place.add(x, x, x, x)
+            self.assertEqual(place.area().apart, 0, x)
+
+    def test_strays_beyond_those_that_are_named(self):
+        x = areas.np.concatenate((areas.np.linspace(0, 100, 5_000), 1e6 + areas.np.arange(60.0)))
+        place = areas.Place(None)
+        place.add(x, x + 1, x, x + 1, lambda number, middle: facts.Named("f", number, "a", middle))
+        area = place.area()
+        self.assertEqual((area.apart, len(area.strays)), (60, areas.MOST_STRAYS))
 
     def test_a_box_around_boxes(self):
         self.assertEqual(areas.joined(["0.5,1,2,3", "-1,1.25,2,2.000"]), "-1,1,2,3")

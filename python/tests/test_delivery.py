@@ -196,8 +196,20 @@ class Facts(InFolder):
         made = cityseq.report(paths, self.folder / "page.html")
         self.assertEqual([area.features for area in made.areas], [8, 7, 6, 5, 4, 3, 2, 1])
         text = (self.folder / "page.html").read_text("utf-8")
-        self.assertEqual(text.count('role="img" viewBox'), 4)  # three maps, and the histogram
-        self.assertIn("5 other coordinate systems of this delivery have no map here", text)
+        self.assertEqual(text.count('role="img" viewBox'), 9)  # eight maps, and the histogram
+        self.assertNotIn("no map here", text)
+
+    def test_a_stray_feature_is_named(self):
+        ids = ["a", "b", "c", "d\u00e9", "e"]
+        lines = [named(name, 10 * number) for number, name in enumerate(ids)]
+        lines[3] = named(ids[3], 10**9)
+        path = self.file(HEADER + b"".join(lines))
+        area, = cityseq.report(path, self.folder / "page.html").areas
+        self.assertEqual((area.features, area.apart), (5, 1))
+        self.assertEqual(
+            [(each.file, each.line, each.id) for each in area.strays], [(str(path), 5, "d\u00e9")]
+        )
+        self.assertIn("d\u00e9</code>", (self.folder / "page.html").read_text("utf-8"))
 
     def test_extreme_transforms(self):
         for scale, shift in (

@@ -11,7 +11,7 @@ from unittest import mock
 from . import made_up, support
 from .support import InFolder
 
-from cityseq.delivery import extras
+from cityseq.delivery import extras, facts
 from cityseq.delivery.told import delivery_object
 
 try:
@@ -162,6 +162,25 @@ class Page(unittest.TestCase):
             made = made_up.delivery([], files)
             self.assertEqual(page.worst(made), wanted, statuses)
         self.assertIn('<p class="verdict invalid">', page.html(made))
+
+    def test_a_stray_feature_is_named(self):
+        made = made_up.usual(0)
+        made.areas[0].places, made.areas[0].apart = [(0.0, 0.0, 9.0, 9.0)], 2
+        made.areas[0].strays = [facts.Named("a<b>.jsonl", 77, "</p>stray", (4.5, 4.5))]
+        text = page.html(made)
+        self.assertEqual(Elements(text).open, [])
+        self.assertIn("2 features lie far from the others", text)
+        wanted = "<code>&lt;/p&gt;stray</code></bdi>: <bdi>a&lt;b&gt;.jsonl</bdi>, line 77,"
+        self.assertIn(wanted, text)
+        self.assertEqual(text.count('role="img" viewBox'), 3)  # map, overview, histogram
+
+    def test_each_coordinate_system_has_a_map(self):
+        made = made_up.usual(0)
+        made.areas *= 12
+        text = page.html(made)
+        self.assertEqual(text.count('role="img" viewBox'), 13)
+        self.assertLess(len(text.encode()), 1_000_000)
+        self.assertNotIn("no map here", text)
 
     def test_headings_go_down_by_one(self):
         levels = [

@@ -3,10 +3,10 @@ are counted by the cells of a grid, whose cells grow with it."""
 from __future__ import annotations
 
 import math
-from typing import Any, Dict, List, Optional, Tuple
+from typing import Any, Callable, Dict, List, Optional, Tuple
 
 from .extras import needed
-from .facts import Area, Point, Rectangle
+from .facts import Area, Named, Point, Rectangle
 
 np: Any = needed("numpy")
 
@@ -18,6 +18,36 @@ MOST_SPOTS = 2_000  # the most invalid features that are marked
 FINE = 40  # a cell is at least 2^-40 of the greatest coordinate
 LEAST = -1_000  # and at least 2 to this
 FARTHEST = 1e150  # a feature farther from the origin is on no map
+NEARLY_ALL = 50  # at most one of so many features is drawn apart
+FAR = 4  # times the distance of nearly all others from their middle
+MOST_STRAYS = 10  # features to each side that are named
+BULK = (0.01, 0.99)  # the share of the features that gives cells their size
+
+
+def _median(values: Any, counts: Any) -> float:
+    """Returns the median of values that occur so often."""
+    order = np.argsort(values)
+    reached = np.cumsum(counts[order])
+    return float(values[order][np.searchsorted(reached, reached[-1] / 2)])
+
+
+def far_from_others(x: Any, y: Any, counts: Any, least: float) -> Any:
+    """Returns which places are far from nearly all others, as an array of flags.
+
+    Args:
+        x, y: The places.
+        counts: How many features each has.
+        least: A length that is not far, such as that of a feature.
+    """
+    whole = int(counts.sum())
+    if whole < 3:
+        return np.zeros(len(x), bool)
+    distances = np.maximum(np.abs(x - _median(x, counts)), np.abs(y - _median(y, counts)))
+    order = np.argsort(distances)
+    nearly_all = whole - max(1, whole // NEARLY_ALL)
+    usual = distances[order][np.searchsorted(np.cumsum(counts[order]), nearly_all)]
+    reach = FAR * max(float(usual), least)
+    return distances > reach if reach > 0 else np.zeros(len(x), bool)
 
 
 def _level(least: float) -> int:
@@ -48,7 +78,7 @@ class Grid:
             return
         x, y = (np.concatenate(axis) for axis in zip(*self._waiting))
         self._waiting, self._size = [], 0
-        spread = max(float(np.ptp(x)), float(np.ptp(y))) / 1_024
+        spread = max(float(np.diff(np.quantile(axis, BULK))[0]) for axis in (x, y)) / 1_024
         greatest = max(float(np.abs(x).max()), float(np.abs(y).max())) / 2.0**FINE
         self._coarsen(max(self._level, _level(max(spread, greatest))))
         size = 2.0**self._level
@@ -80,13 +110,50 @@ class Grid:
         self._level = level
         self._merge(columns, rows, counts)
 
-    def cells(self) -> Tuple[float, Dict[Tuple[int, int], int]]:
-        """Returns the size of a cell, and the count of each. They fit a map."""
+    def cells(self) -> Tuple[float, Dict[Tuple[int, int], int], Dict[Tuple[int, int], int]]:
+        """Returns the size of a cell and the count of each, first of those that fit a map, and then
+        of those that are far from them."""
         self._sort()
-        while len(self._counts) and max(np.ptp(self._columns), np.ptp(self._rows)) >= GRID:
+        columns, rows, is_far = self._columns, self._rows, self._is_far()
+        while not is_far.all() and max(np.ptp(each[~is_far]) for each in (columns, rows)) >= GRID:
             self._coarsen(self._level + 1)
-        found = zip(self._columns.tolist(), self._rows.tolist(), self._counts.tolist())
-        return 2.0**self._level, {(column, row): count for column, row, count in found}
+            columns, rows, is_far = self._columns, self._rows, self._is_far()
+        found = zip(columns.tolist(), rows.tolist(), self._counts.tolist(), is_far.tolist())
+        near: Dict[Tuple[int, int], int] = {}
+        far: Dict[Tuple[int, int], int] = {}
+        for column, row, count, is_one in found:
+            (far if is_one else near)[column, row] = count
+        return 2.0**self._level, near, far
+
+    def _is_far(self) -> Any:
+        return far_from_others(self._columns, self._rows, self._counts, 1.0)
+
+
+class Rim:
+    """The features that lie farthest to each side."""
+
+    def __init__(self) -> None:
+        self._sides: List[List[Tuple[float, Named]]] = [[], [], [], []]
+
+    def add(self, x: Any, y: Any, named: Callable[[int], Named]) -> None:
+        """Takes the middles of features. `named` names one of them by its number."""
+        for side, values in zip(self._sides, (x, -x, y, -y)):
+            least = side[-1][0] if len(side) == MOST_STRAYS else -math.inf
+            count = min(MOST_STRAYS, len(values))
+            for number in np.argpartition(values, -count)[-count:].tolist():
+                if values[number] > least:
+                    side.append((float(values[number]), named(number)))
+            side.sort(key=lambda each: -each[0])
+            del side[MOST_STRAYS:]
+
+    def within(self, places: List[Rectangle]) -> List[Named]:
+        """Returns those whose middle lies in one of some places."""
+        found = dict.fromkeys(each for side in self._sides for _, each in side)
+        return [each for each in found if any(_lies_in(each.middle, place) for place in places)]
+
+
+def _lies_in(point: Point, place: Rectangle) -> bool:
+    return place[0] <= point[0] <= place[2] and place[1] <= point[1] <= place[3]
 
 
 class Place:
@@ -96,21 +163,29 @@ class Place:
         self.reference_system = reference_system
         self.files, self.features = 0, 0
         self.boxes: List[Optional[str]] = []
-        self._grid = Grid()
+        self._grid, self._rim = Grid(), Rim()
         self._extents: List[Rectangle] = []
         self._spots: List[Point] = []
 
-    def add(self, xmin: Any, xmax: Any, ymin: Any, ymax: Any) -> None:
-        """Takes the extents of features, in world coordinates, as arrays."""
+    def add(
+        self, xmin: Any, xmax: Any, ymin: Any, ymax: Any,
+        named: Optional[Callable[[int, Point], Named]] = None,
+    ) -> None:
+        """Takes the extents of features, in world coordinates, as arrays. `named` names one of them
+        by its number, with its middle; without it none has a name."""
         with np.errstate(all="ignore"):
             x, y = xmin / 2 + xmax / 2, ymin / 2 + ymax / 2
             near = (np.abs(x) < FARTHEST) & (np.abs(y) < FARTHEST)  # no infinite number is
+        numbers = np.flatnonzero(near)
         if not near.all():
             xmin, xmax, ymin, ymax, x, y = (each[near] for each in (xmin, xmax, ymin, ymax, x, y))
         if not len(x):
             return
         self.features += len(x)
         self._grid.add(x, y)
+        if named is not None:
+            name = named
+            self._rim.add(x, y, lambda n: name(int(numbers[n]), (float(x[n]), float(y[n]))))
         if self.features <= FEW:
             self._extents += zip(*(each.tolist() for each in (xmin, ymin, xmax, ymax)))
         else:
@@ -128,11 +203,32 @@ class Place:
 
     def area(self) -> Area:
         """Returns what was gathered."""
-        size, cells = self._grid.cells()
+        size, cells, far = self._grid.cells()
+        extents, places, apart = self._extents, rectangles(size, far), sum(far.values())
+        if extents:
+            extents, places = _split(extents)
+            apart = len(places)
         return Area(
             self.reference_system, self.files, self.features, joined(self.boxes), size, cells,
-            self._extents, self._spots,
+            extents, self._spots, apart, places, self._rim.within(places),
         )
+
+
+def rectangles(size: float, cells: Dict[Tuple[int, int], int]) -> List[Rectangle]:
+    """Returns cells as rectangles."""
+    return [(column * size, row * size, (column + 1) * size, (row + 1) * size)
+            for column, row in cells]
+
+
+def _split(extents: List[Rectangle]) -> Tuple[List[Rectangle], List[Rectangle]]:
+    """Returns the extents that lie near each other, and those that are far from them."""
+    xmin, ymin, xmax, ymax = np.array(extents).T
+    with np.errstate(all="ignore"):
+        usual = float(np.median(np.maximum(xmax - xmin, ymax - ymin)))
+    x, y = xmin / 2 + xmax / 2, ymin / 2 + ymax / 2
+    is_far = far_from_others(x, y, np.ones(len(extents), "i8"), usual)
+    return ([each for each, is_one in zip(extents, is_far) if not is_one],
+            [each for each, is_one in zip(extents, is_far) if is_one])
 
 
 def joined(boxes: List[Optional[str]]) -> Optional[str]:

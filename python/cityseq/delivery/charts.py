@@ -2,9 +2,10 @@
 from __future__ import annotations
 
 import math
-from dataclasses import dataclass
-from typing import Any, Dict, Iterable, List, Tuple
+from dataclasses import dataclass, replace
+from typing import Any, Dict, Iterable, List, Sequence, Tuple
 
+from .areas import rectangles
 from .drawing import RIGHT, ROLES, SMALL, WIDTH, drawn, figure
 from .extras import needed
 from .facts import Area, Point, Rectangle
@@ -17,6 +18,8 @@ MARGIN = 0.04  # of a map, around what lies in it
 LEAST = 1.6  # pixels of the smallest extent that is drawn
 ARM = 3.5  # pixels of each arm of a cross
 SHADES = 7
+STRAY = 7.0  # pixels of the mark of a feature that is drawn apart
+COARSE = 12  # the most columns and rows of a map of which there is little room
 MOST_BARS = 9  # the most bars with numbers above them
 
 
@@ -54,35 +57,53 @@ class Map:
         told: What it shows, in words.
         shades: The number of each shade of a cell, with its least and greatest number of features.
         hidden: How many invalid features lie outside of the map.
+        overview: Another drawing, if features are drawn apart: where they are, and where the map.
     """
 
     svg: str
     told: str
     shades: List[Tuple[int, int, int]]
     hidden: int
+    overview: str = ""
 
 
 def rectangles_of(area: Area) -> List[Rectangle]:
     """Returns the extents of an area, or its cells if there are too many features."""
-    if area.extents:
-        return area.extents
-    size = area.size
-    return [
-        (column * size, row * size, (column + 1) * size, (row + 1) * size)
-        for column, row in area.cells
-    ]
+    return area.extents or rectangles(area.size, area.cells)
+
+
+def coarse(area: Area) -> Area:
+    """Returns an area with all features in few cells."""
+    found = rectangles_of(area)
+    counts = [1] * len(found) if area.extents else list(area.cells.values())
+    xmin, ymin, xmax, ymax = _around(found) if found else (0.0, 0.0, 0.0, 0.0)
+    greatest = max(abs(edge) for edge in (xmin, ymin, xmax, ymax))
+    side = max(xmax - xmin, ymax - ymin, greatest * 1e-9, 1e-300) / (COARSE - 1)
+    size, cells = 2.0 ** math.ceil(math.log2(side)), {}  # type: Tuple[float, Dict[Any, int]]
+    for (left, low, right, high), count in zip(found, counts):
+        cell = int((left / 2 + right / 2) // size), int((low / 2 + high / 2) // size)
+        cells[cell] = cells.get(cell, 0) + count
+    return replace(area, size=size, cells=cells, extents=[])
+
+
+def _around(found: Sequence[Rectangle]) -> Rectangle:
+    xmin, ymin, xmax, ymax = zip(*found)
+    return min(xmin), min(ymin), max(xmax), max(ymax)
 
 
 def view_of(area: Area) -> View:
     """Returns the part of the world with all features of an area, and invalid ones near them."""
     found = rectangles_of(area) or [(x, y, x, y) for x, y in area.spots]
-    xmin, ymin = min(each[0] for each in found), min(each[1] for each in found)
-    xmax, ymax = max(each[2] for each in found), max(each[3] for each in found)
+    xmin, ymin, xmax, ymax = _around(found)
     reach = max(xmax - xmin, ymax - ymin) / 4
     near = [(x, y) for x, y in area.spots
             if xmin - reach <= x <= xmax + reach and ymin - reach <= y <= ymax + reach]
-    xmin, xmax = min([xmin, *(x for x, _ in near)]), max([xmax, *(x for x, _ in near)])
-    ymin, ymax = min([ymin, *(y for _, y in near)]), max([ymax, *(y for _, y in near)])
+    return _view([(xmin, ymin, xmax, ymax), *((x, y, x, y) for x, y in near)])
+
+
+def _view(found: Sequence[Rectangle]) -> View:
+    """Returns the part of the world with all these rectangles."""
+    xmin, ymin, xmax, ymax = _around(found)
     least = max(1e-9, max(abs(edge) for edge in (xmin, xmax, ymin, ymax)) * 1e-12)
     wide, high = max(xmax - xmin, least), max(ymax - ymin, least)
     width = max(wide, high / STEEPEST) * (1 + 2 * MARGIN)
@@ -90,9 +111,8 @@ def view_of(area: Area) -> View:
     return View((xmin + xmax - width) / 2, (ymin + ymax - width * ratio) / 2, width, ratio)
 
 
-def map_of(area: Area, name: str) -> Map:
-    """Draws the features of an area: the extent of each, or their number by cells."""
-    view = view_of(area)
+def _blank(view: View) -> Tuple[Any, Any]:
+    """Returns a figure of a part of the world, and its axes, with nothing drawn yet."""
     made, axes = figure(view.ratio / view.pixel, LEFT, BOTTOM)
     axes.set_xlim(0, 1)
     axes.set_ylim(0, view.ratio)
@@ -100,6 +120,13 @@ def map_of(area: Area, name: str) -> Map:
     _number(axes.yaxis, view.y, view.width, view.ratio, 5)
     axes.grid(color=ROLES["rule"], linewidth=0.5)
     axes.set_axisbelow(True)
+    return made, axes
+
+
+def map_of(area: Area, name: str) -> Map:
+    """Draws the features of an area: the extent of each, or their number by cells."""
+    view = view_of(area)
+    made, axes = _blank(view)
     shades = [] if area.extents else _draw_cells(axes, area, view)
     if area.extents:
         least = LEAST * view.pixel / 2
@@ -107,15 +134,33 @@ def map_of(area: Area, name: str) -> Map:
     seen = [spot for spot in area.spots if view.has(spot)]
     _cross(axes, [view.of(spot) for spot in seen], ARM * view.pixel)
     told = _told(area, view, len(seen))
-    return Map(drawn(made, name, "Map", told), told, shades, len(area.spots) - len(seen))
+    overview = _overview(area, f"{name}-apart") if area.places else ""
+    return Map(drawn(made, name, "Map", told), told, shades, len(area.spots) - len(seen), overview)
+
+
+def _overview(area: Area, name: str) -> str:
+    """Draws where the features of a map are, and those that are far from them."""
+    near = _around(rectangles_of(area))
+    view = _view([near, *area.places])
+    made, axes = _blank(view)
+    _fill(axes, [_box_of(near, view, LEAST * view.pixel)], "extent")
+    strays = [_box_of(each, view, STRAY / 2 * view.pixel) for each in area.places]
+    _fill(axes, strays, "stray")
+    for number, stray in enumerate(area.strays, 1):
+        x, y = view.of(stray.middle)
+        side = (-1, "right") if x > 0.9 else (1, "left")
+        axes.text(x + side[0] * STRAY * view.pixel, y, str(number), ha=side[1], va="center",
+                  fontsize=SMALL, color=ROLES["ink"])
+    told = f"{area.apart:,} features far from the others, which lie in the box of the map"
+    return drawn(made, name, "Overview", told)
 
 
 def _told(area: Area, view: View, marked: int) -> str:
     what = "each by its extent" if area.extents else f"in cells of {area.size:.6g} units"
     right, top = view.x + view.width, view.y + view.width * view.ratio
     return (
-        f"{area.features:,} features, {what}, and {marked:,} crosses where invalid features are;"
-        f" x from {view.x:.9g} to {right:.9g}, y from {view.y:.9g} to {top:.9g}"
+        f"{area.features - area.apart:,} features, {what}, and {marked:,} crosses where invalid"
+        f" features are; x from {view.x:.9g} to {right:.9g}, y from {view.y:.9g} to {top:.9g}"
     )
 
 

@@ -20,7 +20,7 @@ SETTINGS = {"svg.fonttype": "none", "axes.unicode_minus": False, "path.simplify"
 # Colours that name what they colour: the rules of the page have each name as a class.
 ROLES = {
     "ground": "#000101", "ink": "#010101", "rule": "#020202", "extent": "#030303",
-    "spot": "#040404", "bar": "#050505",
+    "spot": "#040404", "bar": "#050505", "stray": "#070707",
     **{f"shade-{n}": f"#0600{n:02x}" for n in range(1, 8)},
 }
 _NAMES = {colour: name for name, colour in ROLES.items()}

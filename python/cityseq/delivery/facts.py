@@ -156,6 +156,16 @@ class Repeated:
     first: List[RepeatedId] = field(default_factory=list)
 
 
+@dataclass(frozen=True)
+class Named:
+    """A feature by its file, line and id, with the middle of its extent."""
+
+    file: str
+    line: int
+    id: str
+    middle: Point
+
+
 @dataclass
 class Area:
     """The features in one coordinate system.
@@ -170,6 +180,9 @@ class Area:
         cells: How many features have their centre in each cell, by column and row.
         extents: The extent of each feature, if they are few.
         spots: The places of invalid features, if their vertices can be read.
+        apart: How many features lie far from nearly all others. They are in no cell and extent.
+        places: Where these lie: their extents, or cells.
+        strays: The names of the first of them.
     """
 
     reference_system: Optional[str]
@@ -180,6 +193,9 @@ class Area:
     cells: Dict[Tuple[int, int], int] = field(default_factory=dict)
     extents: List[Rectangle] = field(default_factory=list)
     spots: List[Point] = field(default_factory=list)
+    apart: int = 0
+    places: List[Rectangle] = field(default_factory=list)
+    strays: List[Named] = field(default_factory=list)
 
 
 @dataclass

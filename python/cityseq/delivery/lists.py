@@ -14,7 +14,7 @@ from ..reports import Report
 from ..shown import shown
 
 COLUMNS = ("file", "line", "byte", "code", "reason", "feature", "hint", "excerpt", "fix")
-SIGNS = "=+-@\uff1d\uff0b\uff0d\uff20"  # a spreadsheet may compute a cell that begins with one
+SIGNS = "=+-@\uff1d\uff0b\uff0d\uff20"  # a spreadsheet may compute a cell that begins with them
 FORMULAS = (*SIGNS, "\t", "\r")
 # In many countries `;` separates the cells. It does so within quotes too, as `,` does not begin a
 # cell there. A quote that follows it begins a quoted cell.
@@ -34,7 +34,8 @@ def names_of_lists(page: str) -> Tuple[str, str]:
 def cell(text: str) -> str:
     """Returns a text as a cell, on one line. No spreadsheet takes it for a formula, or a part of it
     if another sign separates cells there."""
-    told = LATER_CELL.sub(r"\1'", shown(text if len(text) <= LONGEST else f"{text[:LONGEST]}\u2026"))
+    short = text if len(text) <= LONGEST else f"{text[:LONGEST]}\u2026"
+    told = LATER_CELL.sub(r"\1'", shown(short))
     return f"'{told}" if text.startswith(FORMULAS) or told.startswith(FORMULAS) else told
 
 

@@ -10,14 +10,15 @@ from typing import Any, Dict, Iterator, List, Optional, Sequence, Tuple
 from ..reports import Report, explain
 from ..shown import shown
 from ..world import plain
-from .charts import Map, histogram, map_of, size_of_power
+from .charts import Map, coarse, histogram, map_of, size_of_power
 from .extras import needed
 from .facts import Delivery, File
 
 MOST_BYTES = 1_900_000  # of the page, with as many rows of reports as fit
 MOST_SIGNS = 200  # characters of a text of a stream
 STATIC_ROWS = 25  # rows of reports without the script
-MOST_MAPS = 3
+MOST_MAPS = 40
+MAP_BYTES = 600_000  # of maps in full. All others have few cells
 MOST_DETAILED = 300  # files with details. All others have only a row
 MOST_FILES = 2_000  # rows of files
 NEAR = 24  # characters of an excerpt on each side, in the table
@@ -167,8 +168,18 @@ def _code(text: str) -> Any:
 
 
 def _maps(delivery: Delivery) -> List[Tuple[Any, Map]]:
-    drawn = [area for area in delivery.areas if area.features or area.spots][:MOST_MAPS]
-    return [(area, map_of(area, f"map-{n}")) for n, area in enumerate(drawn)]
+    """Returns the areas that have a place, and a map of each."""
+    found: List[Tuple[Any, Map]] = []
+    room = MAP_BYTES
+    for area in [area for area in delivery.areas if area.features or area.spots][:MOST_MAPS]:
+        name = f"map-{len(found)}"
+        drawn = map_of(area, name)
+        if len(drawn.svg) > room:
+            area = coarse(area)
+            drawn = map_of(area, name)
+        room -= len(drawn.svg)
+        found.append((area, drawn))
+    return found
 
 
 def _extents(file: File) -> Iterator[Tuple[str, str, str]]:

@@ -30,6 +30,13 @@ Places = List[Tuple[int, int]]  # number of the file, and line
 Group = Tuple[int, Any]  # how many features have the id, and the records of the first ones
 
 
+def text_of(id: bytes) -> str:
+    """Returns the text of an id, or its beginning if it is long."""
+    if len(id) < LONGEST:
+        return id.decode("utf-8", "surrogatepass")
+    return id[:LONGEST].decode("utf-8", "ignore") + "\u2026"
+
+
 def _digests(ids: List[bytes]) -> bytes:
     return b"".join([blake2b(id, digest_size=DIGEST).digest() for id in ids])
 
@@ -151,10 +158,6 @@ class Ids:
         count, records = group
         first = records[0]
         self._texts.seek(int(first["at"]))
-        kept = self._texts.read(int(first["length"]))
-        if len(kept) < LONGEST:
-            text = kept.decode("utf-8", "surrogatepass")
-        else:
-            text = kept.decode("utf-8", "ignore") + "\u2026"
+        text = text_of(self._texts.read(int(first["length"])))
         places = [(names[int(each["file"])], int(each["line"])) for each in records]
         return RepeatedId(text, count, places)

@@ -22,9 +22,9 @@ from ..tally import Range
 from ..world import box_of, extent_of, read_json
 from .areas import Place
 from .extras import needed
-from .facts import Area, Contents, File, Point, Reasons, Repeated
+from .facts import Area, Contents, File, Named, Point, Reasons, Repeated
 from .lists import Lists
-from .repeated import Ids
+from .repeated import Ids, text_of
 
 if TYPE_CHECKING:
     from .making import How
@@ -136,14 +136,15 @@ class Entry:
         with np.errstate(all="ignore"):
             return vertices * float(self.scale[axis]) + float(self.translate[axis])
 
-    def add(self, records: Any) -> None:
-        """Takes the records of features."""
+    def add(self, records: Any, named: Callable[[int, Point], Named]) -> None:
+        """Takes the records of features. `named` names one of them by its number."""
         self.features += len(records)
         self.longest = max(self.longest, int(records["length"].max(initial=0)))
         self.types += _bits(records["types"])
         self.lods += _bits(records["lods"])
         self.lengths += np.bincount(np.frexp(records["length"].astype("f8"))[1], minlength=64)
-        some = records[records["x"] != 0]
+        numbers = np.flatnonzero(records["x"])
+        some = records[numbers]
         if not len(some):
             return
         x, y, z = (_wider(before, some, axis) for before, axis in zip(self.ranges, AXES))
@@ -152,7 +153,8 @@ class Entry:
             np.sort([self.world(n, some[f"{AXES[n]}{edge}"]) for edge in ("min", "max")], axis=0)
             for n in (0, 1)
         )
-        self.place.add(*across, *along)
+        self.place.add(across[0], across[1], along[0], along[1],
+                       lambda n, middle: named(int(numbers[n]), middle))
 
     def contents(self) -> Contents:
         """Returns the contents of the features."""
@@ -231,12 +233,15 @@ class Survey:
         before = np.repeat(
             np.array([lines for _, lines in waiting], "u8"), [len(each.ids) for each, _ in waiting]
         )
-        entry.add(found)
-        self._ids.add(entry.number, found["line"] + before, [
+        lines, ids = found["line"] + before, [
             spelling if b"\\" not in spelling
             else unescaped(spelling).encode("utf-8", "surrogatepass")
             for records, _ in waiting for spelling in records.ids
-        ])
+        ]
+        self._ids.add(entry.number, lines, ids)
+        name = self.files[entry.number].name
+        entry.add(found, lambda number, middle: Named(
+            name, int(lines[number]), text_of(ids[number]), middle))
 
     def mark(self, entry: Entry, middles: List[Point]) -> None:
         """Takes the middles of invalid features, as vertices of the file."""

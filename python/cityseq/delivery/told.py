@@ -87,6 +87,11 @@ def _area(area: Area) -> Object:
         "files": area.files,
         "features": area.features,
         "bbox": _box(area.box),
+        "apart": area.apart,
+        "strays": [
+            {"file": each.file, "line": each.line, "id": each.id, "middle": list(each.middle)}
+            for each in area.strays
+        ],
     }
 
 
