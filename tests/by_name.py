@@ -8,9 +8,12 @@ SUFFIXES = (".sh", ".py")  # of two scripts with one name, the first counts
 
 
 def scripts(folder):
-    """Returns the path of each script by its name. It can be executed, or it is NAME/run.sh."""
+    """Returns the path of each script by its name. It can be executed, or it is NAME/run.sh. Those
+    of a folder `faults` are named faults/NAME."""
     found = {}
-    for name in sorted(os.listdir(folder)):
+    faults = os.path.join(folder, "faults")
+    inner = [os.path.join("faults", each) for each in os.listdir(faults)] if os.path.isdir(faults) else []
+    for name in sorted([*os.listdir(folder), *inner]):
         path = os.path.join(folder, name)
         if os.path.isfile(os.path.join(path, "run.sh")):
             found[name] = os.path.join(path, "run.sh")

@@ -7,13 +7,14 @@ from typing import Any, Callable, Dict, List, Optional, Tuple
 
 from aiohttp import web
 
+from .boxes import Extent, pieces
 from .calls import Calls
 from .links import Link, segment
 from .logs import SENT
 from .pages import Block, Found, Page
 from .patience import Patience
 from .resources import path_of
-from .systems import Extent, System
+from .systems import System
 
 WHOLE = 1 << 20  # bytes: a shorter answer has its length in its head
 PIECE = 1 << 16  # bytes that are written at once
@@ -42,19 +43,32 @@ class Sequence:
         return b""
 
 
-def _ring(extent: Extent) -> List[List[List[float]]]:
-    west, south, east, north = extent
+def _ring(box: Extent) -> List[List[List[float]]]:
+    west, south, east, north = box
     return [[[west, south], [east, south], [east, north], [west, north], [west, south]]]
+
+
+def geometry_of(extent: Optional[Extent], system: System, asked: Optional[str]
+                ) -> Optional[Dict[str, Any]]:
+    """Returns the geometry of an extent in a system. It has two parts if it lies over the
+    antimeridian (RFC 7946), and is None if it has no place there."""
+    told = None if extent is None else system.told(extent, asked)
+    if told is None:
+        return None
+    parts = [told] if system.is_own(asked) else pieces(told)
+    rings = [_ring(system.turned(part, asked)) for part in parts]
+    if len(rings) == 1:
+        return {"type": "Polygon", "coordinates": rings[0]}
+    return {"type": "MultiPolygon", "coordinates": rings}
 
 
 def geojson_feature(found: Found, system: System, asked: Optional[str]) -> Dict[str, Any]:
     """Returns a feature as GeoJSON: its extent, and the counts and names of its contents."""
-    extent = None if found.extent is None else system.told(found.extent, asked)
     low, high = found.heights or (None, None)
     return {
         "type": "Feature",
         "id": found.id,
-        "geometry": None if extent is None else {"type": "Polygon", "coordinates": _ring(extent)},
+        "geometry": geometry_of(found.extent, system, asked),
         "properties": {
             "types": ",".join(found.types),
             "lods": ",".join(found.lods),

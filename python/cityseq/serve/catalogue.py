@@ -7,18 +7,22 @@ import re
 from contextlib import contextmanager
 from dataclasses import dataclass, field
 from decimal import Decimal
+from hashlib import sha256
 from queue import Empty, LifoQueue
-from typing import Any, Dict, Iterator, List, Optional, Tuple
+from typing import Any, Dict, Iterator, List, Optional
 
 from ..extents import World
 from ..faults import RequestError
 from ..fetching import IndexedStream
 from ..lookup import Index
+from .boxes import Extent
 from .problems import Problem
 from .settings import Settings
 from .systems import System
 
 ENDINGS = re.compile(r"(?:\.city)?(?:\.jsonl|\.json)?(?:\.gz|\.zst)?\Z")
+PLACES = ("number", "path", "told_path", "first_fid")  # where a stream is, and not what it is
+MARK = 16  # characters
 NO_SIGN_OF_A_NAME = re.compile(r"[^A-Za-z0-9._-]+")
 
 
@@ -92,12 +96,21 @@ class Collection:
     world: World = field(compare=False)
 
     @property
-    def extent(self) -> Optional[Tuple[float, float, float, float]]:
+    def extent(self) -> Optional[Extent]:
         """The least x and y and the greatest x and y of all features, if there are any."""
-        stream = self.stream
-        if None in (stream.xmin, stream.ymin, stream.xmax, stream.ymax):
-            return None
-        return stream.xmin, stream.ymin, stream.xmax, stream.ymax  # type: ignore[return-value]
+        return _extent_of(self.stream)
+
+    @property
+    def mark(self) -> str:
+        """A short text that is another one if the index has another stream under this name."""
+        told = [value for name, value in vars(self.stream).items() if name not in PLACES]
+        return sha256(repr(told).encode("utf-8", "surrogatepass")).hexdigest()[:MARK]
+
+
+def _extent_of(stream: IndexedStream) -> Optional[Extent]:
+    if None in (stream.xmin, stream.ymin, stream.xmax, stream.ymax):
+        return None
+    return stream.xmin, stream.ymin, stream.xmax, stream.ymax  # type: ignore[return-value]
 
 
 def name_of(path: str) -> str:
@@ -141,7 +154,8 @@ class Catalogue:
             number += 1
             name = f"{first}-{number}"
         self._collections[name] = Collection(
-            name, pool, stream, base, System(stream.reference_system), _world_of(stream)
+            name, pool, stream, base, System(stream.reference_system, _extent_of(stream)),
+            _world_of(stream),
         )
 
     def __iter__(self) -> Iterator[Collection]:

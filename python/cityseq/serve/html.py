@@ -7,9 +7,9 @@ from typing import Any, Dict, List, Optional, Sequence, Tuple
 from .. import __version__
 from ..shown import shown
 from .answers import item_path
+from .boxes import around
 from .pages import Found
 from .problems import Problem
-from .systems import Extent
 
 FOLDER = os.path.dirname(os.path.abspath(__file__))
 TYPES = {".css": "text/css", ".js": "text/javascript", ".svg": "image/svg+xml"}
@@ -33,7 +33,7 @@ def boxes(features: Sequence[Found]) -> List[Tuple[Found, Dict[str, str]]]:
     placed = [(found, found.extent) for found in features if found.extent is not None]
     if not placed:
         return []
-    whole = _round([extent for _, extent in placed])
+    whole = around(extent for _, extent in placed)
     spans = max(whole[2] - whole[0], 1e-9), max(whole[3] - whole[1], 1e-9)
     scale = min((WIDTH - 2 * MARGIN) / spans[0], (HEIGHT - 2 * MARGIN) / spans[1])
     left, top = (WIDTH - spans[0] * scale) / 2, (HEIGHT - spans[1] * scale) / 2
@@ -44,11 +44,6 @@ def boxes(features: Sequence[Found]) -> List[Tuple[Found, Dict[str, str]]]:
         names = ("x", "y", "width", "height")
         found.append((feature, {name: f"{value:.1f}" for name, value in zip(names, at + sides)}))
     return found
-
-
-def _round(extents: Sequence[Extent]) -> Extent:
-    west, south, east, north = zip(*extents)
-    return min(west), min(south), max(east), max(north)
 
 
 class Pages:

@@ -2,7 +2,6 @@
 from __future__ import annotations
 
 from decimal import ROUND_CEILING, ROUND_FLOOR, Decimal
-from functools import lru_cache, partial
 from typing import Any, Callable, Dict, List, NamedTuple, Optional, Tuple
 
 from aiohttp import web
@@ -11,6 +10,7 @@ from ..faults import RequestError
 from ..query import Work
 from ..world import plain
 from .answers import FeatureCollection, Sequence, dumped, geojson_feature, item_path, send_page
+from .boxes import Extent
 from .calls import Calls
 from .catalogue import Collection
 from .cityjson import whole
@@ -21,61 +21,59 @@ from .problems import Problem
 from .queries import Query
 from .resources import ITEMS, path_of
 from .settings import Limits
-from .systems import Extent, may_be_degrees, overlap
+from .systems import may_be_degrees
 
 LISTS = ("ids", "type", "lod")
 SELECTS = ("bbox", "bbox-crs", "datetime", *LISTS)
-PARAMETERS = (*SELECTS, "crs", "limit", "after", "f")
+PARAMETERS = (*SELECTS, "crs", "limit", "after", "mark", "f")
 OF_ONE = ("f", "crs")
 ITEM = (GEOJSON, CITY_JSON, CITY_JSON_SEQ, HTML)
 USUAL_LIMIT = 10
 MOST_ON_A_PAGE = 1_000  # features as HTML
+A_BOX = "0,0,0,0"  # of a query that selects nothing
 STEP = Decimal("1e-9")  # a transformed box is rounded outward to a multiple of this
 
 
-class Reach(NamedTuple):
-    """A box that is asked for.
+class Selected(NamedTuple):
+    """What a box selects.
 
     Attributes:
         text: The box around it in the coordinates of the stream. None if no box is asked for.
         reaches: If that is a larger box, returns whether an extent reaches into the one asked for.
+        is_none: Whether it selects nothing.
     """
 
-    text: Optional[str]
+    text: Optional[str] = None
     reaches: Optional[Callable[[Extent], bool]] = None
+    is_none: bool = False
 
 
-def _reach_of(query: Query, collection: Collection) -> Reach:
-    """Returns the box that is asked for.
+def _selected(query: Query, collection: Collection) -> Selected:
+    """Returns what the box of a request selects.
 
     A box that cannot be longitudes and latitudes is taken as a box of the stream, unless
     `bbox-crs` is there. The axes of a box in `bbox-crs` have the order of that system.
+
+    Raises:
+        Problem: The box is empty, or its system is not known.
     """
     box, uri = query.box(), query.text("bbox-crs")
     system = collection.system
-    if box is None or (uri is None and not may_be_degrees(box)):
-        asked = system.storage if uri is None else system.asked(uri, "bbox-crs")
-    else:
-        asked = system.asked(uri, "bbox-crs")
+    is_own = uri is None and (box is None or not may_be_degrees(box))
+    asked = system.storage if is_own else system.asked(uri, "bbox-crs")
     if box is None:
-        return Reach(None)
-    if asked == system.storage:
-        return Reach(",".join(map(plain, box if uri is None else system.turned(box))))
-    west, south, east, north = map(float, box)
-    edges = west, south, east, north
+        return Selected()
+    west, south, east, north = box if uri is None else system.turned(box, asked)
+    if south > north:
+        raise Problem(400, "the box is empty: south of it is north of its north")
+    reach = system.reach((float(west), float(south), float(east), float(north)), asked)
+    if system.is_own(asked) and reach.reaches is None:
+        return Selected(",".join(map(plain, (west, south, east, north))))
+    if reach.box is None:
+        return Selected(A_BOX, is_none=True)
     ways = (ROUND_FLOOR, ROUND_FLOOR, ROUND_CEILING, ROUND_CEILING)
-    moved = zip(system.stored(edges, asked), ways)
-    text = ",".join(plain(Decimal(edge).quantize(STEP, way)) for edge, way in moved)
-    inner = lru_cache(maxsize=1)(partial(system.inner, edges, asked))
-
-    def reaches(extent: Extent) -> bool:
-        within = inner()  # to move an extent takes time
-        if within is not None and overlap(extent, within):
-            return True
-        told = system.told(extent, asked)
-        return told is None or overlap(told, edges)
-
-    return Reach(text, reaches)
+    edges = (Decimal(edge).quantize(STEP, way) for edge, way in zip(reach.box, ways))
+    return Selected(",".join(map(plain, edges)), reach.reaches)
 
 
 def _work(collection: Collection, box: Optional[str], query: Query) -> Work:
@@ -94,7 +92,8 @@ def _system(query: Query, collection: Collection, chosen: Format) -> Optional[st
     if chosen == GEOJSON:
         return collection.system.asked(uri, "crs")
     storage = collection.system.storage
-    if uri is not None and (storage is None or collection.system.asked(uri, "crs") != storage):
+    system = collection.system
+    if uri is not None and (storage is None or not system.is_own(system.asked(uri, "crs"))):
         raise Problem(400, f"crs: as {chosen.title} features have the coordinates of the stream")
     return storage
 
@@ -103,7 +102,7 @@ def _crs_of(query: Query, system: Optional[str], collection: Collection, form: F
             ) -> Optional[str]:
     """Returns the parameter `crs` for a link from an answer in a system to a format. Only GeoJSON
     has other coordinates than the stream."""
-    is_possible = form == GEOJSON or system == collection.system.storage
+    is_possible = form == GEOJSON or collection.system.is_own(system)
     return query.text("crs") if is_possible else None
 
 
@@ -125,7 +124,8 @@ class Items:
         self.limit = query.limit(most, usual)
         self.after = query.number("after", 0, 1 << 53, 0)
         query.check_time()
-        self._reach = _reach_of(query, collection)
+        self._selected = _selected(query, collection)
+        self._check_mark(query.text("mark"))
         self.selects: Dict[str, Any] = {
             name: query.texts(name) if name in LISTS else query.text(name)
             for name in SELECTS if name in query
@@ -137,14 +137,27 @@ class Items:
         Raises:
             RequestError: A text of the query cannot be asked for.
         """
-        work = _work(self.collection, self._reach.text, self._query)
-        return Page(self.collection, work, self.after, self.limit, self._reach.reaches)
+        selected, collection = self._selected, self.collection
+        work = _work(collection, selected.text, self._query)
+        after = collection.stream.features if selected.is_none else self.after
+        return Page(collection, work, after, self.limit, selected.reaches)
+
+    def _check_mark(self, mark: Optional[str]) -> None:
+        """Checks that a page follows one of the same stream.
+
+        Raises:
+            Problem: The stream is another one now.
+        """
+        if mark is not None and mark != self.collection.mark:
+            raise Problem(410, "the stream was indexed anew after the page before this one: begin"
+                               " again with the first page")
 
     def parameters(self, after: Optional[int], form: Format) -> Dict[str, Any]:
         """Returns the parameters of the page that begins after a feature."""
         crs = _crs_of(self._query, self.system, self.collection, form)
+        mark = self.collection.mark if after else None
         return {**self.selects, "crs": crs, "limit": self.limit, "after": after or None,
-                "f": form.name}
+                "mark": mark, "f": form.name}
 
     def following(self, links: Links, after: int) -> Link:
         """Returns the link to the next page."""

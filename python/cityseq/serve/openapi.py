@@ -17,6 +17,8 @@ Object = Dict[str, Any]
 STRING: Object = {"type": "string"}
 OBJECT: Object = {"type": "object"}
 NUMBERS: Object = {"type": "array", "items": {"type": "number"}, "minItems": 4, "maxItems": 4}
+BOX: Object = {"type": "array", "items": {"type": "number"},
+               "oneOf": [{"minItems": count, "maxItems": count} for count in (4, 6)]}
 TEXTS: Object = {"type": "array", "items": STRING}
 FLAG: Object = {"type": "boolean", "default": False}
 URI: Object = {"type": "string", "format": "uri"}
@@ -50,7 +52,9 @@ def _parameters(limits: Limits) -> Object:
             "bbox", "Features whose extent reaches into this box: minx,miny,maxx,maxy. The system"
             " is that of bbox-crs, with its axes in their order. It is CRS84 if that is left out."
             " Then a box that cannot be longitudes and latitudes is in the system of the stream,"
-            " with x first.", NUMBERS),
+            " with x first. In degrees a box whose west is greater than its east lies over the"
+            " antimeridian. Of six numbers the third and the sixth are heights, and are left out.",
+            BOX),
         "bbox-crs": _parameter("bbox-crs", "The system of bbox.", URI),
         "crs": _parameter("crs", "The system of geometries in GeoJSON, CRS84 if left out.", URI),
         "datetime": _parameter(
@@ -61,6 +65,9 @@ def _parameters(limits: Limits) -> Object:
         "after": _parameter(
             "after", "Features behind the one of this number in the stream. Links to next pages"
             " have it.", {"type": "integer", "minimum": 0, "default": 0}),
+        "mark": _parameter(
+            "mark", "Links to next pages have it. If the stream is another one by then, the status"
+            " is 410.", STRING),
     }
 
 
@@ -94,7 +101,8 @@ def _collection_id(names: Sequence[str]) -> Object:
 def _feature_paths(names: Sequence[str]) -> Object:
     collection = _collection_id(names)
     items = [{"$ref": f"#/components/parameters/{name}"} for name in (
-        "limit", "bbox", "bbox-crs", "crs", "datetime", "ids", "type", "lod", "after")]
+        "limit", "bbox", "bbox-crs", "crs", "datetime", "ids", "type", "lod", "after",
+        "mark")]
     feature = _parameter("featureId", "The id of a feature.", STRING, "path")
     crs = {"$ref": "#/components/parameters/crs"}
     return {
@@ -105,7 +113,8 @@ def _feature_paths(names: Sequence[str]) -> Object:
         "/collections/{collectionId}": _get(
             "describeCollection", "A collection", PAGES, [collection], 404),
         "/collections/{collectionId}/items": _get(
-            "getFeatures", "Features of a collection", ITEMS, [collection, *items], 404, 502),
+            "getFeatures", "Features of a collection", ITEMS, [collection, *items], 404, 410,
+            502),
         "/collections/{collectionId}/items/{featureId}": _get(
             "getFeature", "A feature", ITEM, [collection, feature, crs], 404, 502),
     }
@@ -139,7 +148,8 @@ def _judging(limits: Limits) -> List[Object]:
 
 def _judging_paths(limits: Limits) -> Object:
     lines = {LINES: {"schema": STRING}}
-    summary = _parameter("summary", "Count how often each reason comes, instead of reports.", FLAG)
+    summary = _parameter("summary", "Count how often each reason comes, in a line after the"
+                         " result. There are only reports if max_reports is there too.", FLAG)
     query = [
         _parameter("exclude", "Keep the features that the query does not select.", FLAG),
         _parameter("id", "Keep features with one of these ids.", TEXTS),

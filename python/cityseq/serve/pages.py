@@ -16,8 +16,8 @@ from ..fetching import Row, header_of, lines_of, placed
 from ..listing import fault_of
 from ..query import Work
 from ..records import unescaped
+from .boxes import Extent
 from .catalogue import Collection
-from .systems import Extent
 
 
 TOGETHER = 1 << 18  # bytes of lines that are judged together

@@ -11,6 +11,7 @@ from ..words import whole_number
 from .problems import Problem
 
 NUMBER = re.compile(r"[-+]?(?:\d+\.?\d*|\.\d+)(?:[eE][-+]?\d+)?\Z", re.ASCII)
+NUMBERS = "bbox has four numbers, minx,miny,maxx,maxy, or six with heights"
 LONGEST_NUMBER = 100
 LONGEST_WHOLE = 15  # digits
 CLOCK = r"(?:[01]\d|2[0-3]):[0-5]\d"
@@ -96,16 +97,19 @@ class Query:
         return min(self.number("limit", 1, 10**LONGEST_WHOLE, usual), most)
 
     def box(self) -> Optional[Box]:
-        """Returns the box that is asked for, or None."""
+        """Returns the first and second edges of the box that is asked for, or None. Heights of a
+        box of six numbers are left out. Which edge is the west one depends on the system."""
         text = self.text("bbox")
         if text is None:
             return None
         edges = text.split(",")
-        if len(edges) != 4:
-            raise Problem(400, f"bbox has four numbers, minx,miny,maxx,maxy: {text}")
+        if len(edges) not in (4, 6):
+            raise Problem(400, f"{NUMBERS}: {text}")
         numbers = [_number(edge.strip(), text) for edge in edges]
-        if numbers[0] > numbers[2] or numbers[1] > numbers[3]:
-            raise Problem(400, f"bbox is minx,miny,maxx,maxy, and the box is empty: {text}")
+        if len(numbers) == 6:
+            if numbers[2] > numbers[5]:
+                raise Problem(400, f"the box is empty: its third number is above its sixth: {text}")
+            del numbers[5], numbers[2]
         return numbers[0], numbers[1], numbers[2], numbers[3]
 
     def check_time(self) -> None:
@@ -133,7 +137,7 @@ def _is_time(text: str) -> bool:
 
 def _number(text: str, whole: str) -> Decimal:
     if len(text) > LONGEST_NUMBER or not NUMBER.match(text):
-        raise Problem(400, f"bbox has four numbers, minx,miny,maxx,maxy: {whole}")
+        raise Problem(400, f"{NUMBERS}: {whole}")
     try:
         number = Decimal(text)
     except InvalidOperation:  # its exponent has too many digits

@@ -3,10 +3,11 @@ from __future__ import annotations
 
 from typing import Any, Dict, List, Optional
 
+from .boxes import Extent
 from .catalogue import Catalogue, Collection
 from .formats import CITY_JSON_SEQ, GEOJSON, HTML, JSON, OPENAPI, Format
 from .links import Links, segment
-from .systems import CRS84, Extent
+from .systems import CRS84
 
 Object = Dict[str, Any]
 TITLE = "City models by cityseq"

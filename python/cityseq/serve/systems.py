@@ -1,122 +1,99 @@
-"""Coordinate reference systems: their URIs, and boxes and extents from one to another."""
+"""Coordinate reference systems of a collection: their URIs, and boxes and extents from one to
+another."""
 from __future__ import annotations
 
 import re
 from functools import lru_cache
-from importlib import import_module
-from typing import Any, List, Optional, Sequence, Tuple
+from typing import Any, List, NamedTuple, Optional, Sequence
 
 from ..geopackage import SYSTEM
+from .boxes import Extent, around, meet, pieces
+from .moving import Reach, Way, can_change
 from .problems import Problem
 
 CRS84 = "http://www.opengis.net/def/crs/OGC/1.3/CRS84"
 EPSG = "http://www.opengis.net/def/crs/EPSG/0/{}"
+WGS84 = EPSG.format(4326)
 URI = re.compile(r"https?://www\.opengis\.net/def/crs/([A-Za-z]+)/([0-9.]+)/([A-Za-z0-9]+)/?\Z")
-ALONG = 21  # points along each edge of a box that is moved to another system
-RIM = 0.001  # of a side: how much smaller a box within another is, as edges become curves
 NO_PYPROJ = (
     "the server cannot change coordinates, for want of pyproj: ask for those of the stream by"
     " {} and the URI of storageCrs"
 )
-Extent = Tuple[float, float, float, float]
 
 
-def uri_of(name: Optional[str]) -> Optional[str]:
-    """Returns the URI of the system that a stream names. None if the name has none."""
-    found = SYSTEM.match(name or "")
-    return EPSG.format(int(found.group(1))) if found else None
+class Facts(NamedTuple):
+    """What pyproj knows of a system.
 
+    Attributes:
+        horizontal: The EPSG code of its horizontal part. None if it has no vertical part.
+        is_north_first: Whether its axes are those of a map the other way round: the first goes
+            north, and the second east.
+        is_in_degrees: Whether its coordinates are longitudes and latitudes.
+    """
 
-@lru_cache(maxsize=1)
-def can_change() -> bool:
-    """Returns whether pyproj is there."""
-    try:
-        import_module("pyproj")
-    except ImportError:
-        return False
-    return True
-
-
-@lru_cache(maxsize=256)
-def _transformer(source: str, target: str) -> Any:
-    """Returns an object that transforms coordinates, east or longitude first."""
-    from pyproj import Transformer
-
-    names = ["OGC:CRS84" if uri == CRS84 else f"EPSG:{uri.rsplit('/', 1)[1]}"
-             for uri in (source, target)]
-    return Transformer.from_crs(names[0], names[1], always_xy=True)
+    horizontal: Optional[int] = None
+    is_north_first: bool = False
+    is_in_degrees: bool = False
 
 
 @lru_cache(maxsize=256)
-def _is_north_first(uri: str) -> bool:
-    """Returns whether the axes of a system are those of a map the other way round, by its
-    definition: the first goes north, and the second east."""
+def _facts(code: int) -> Facts:
+    """Returns the facts of a system by its EPSG code."""
     from pyproj import CRS
     from pyproj.exceptions import ProjError
 
     try:
-        axes = CRS.from_epsg(int(uri.rsplit("/", 1)[1])).axis_info
+        system = CRS.from_epsg(code)
     except ProjError:
-        return False
-    return [axis.direction for axis in axes[:2]] == ["north", "east"]
+        return Facts()
+    axes = system.axis_info[:2]
+    return Facts(
+        system.sub_crs_list[0].to_epsg() if system.is_compound else None,
+        [axis.direction for axis in axes] == ["north", "east"],
+        system.is_geographic and all(axis.unit_name == "degree" for axis in axes),
+    )
 
 
-def _changed(box: Sequence[float], source: str, target: str) -> Extent:
-    """Returns the box around a box in another system.
-
-    Raises:
-        Problem: It has no place there.
-    """
-    from pyproj.exceptions import ProjError
-
-    try:
-        transformer = _transformer(source, target)
-        moved = transformer.transform_bounds(*box, densify_pts=ALONG, errcheck=True)
-    except ProjError:
-        raise Problem(400, f"the box has no place in {target}") from None
-    if not all(abs(edge) < 1e18 for edge in moved):
-        raise Problem(400, f"the box has no place in {target}")
-    return tuple(moved)  # type: ignore[return-value]
-
-
-def _within(box: Extent, source: str, target: str) -> Optional[Extent]:
-    """Returns a box in another system that lies within a box. None if none is found."""
-    west, south, east, north = box
-    transformer = _transformer(source, target)
-
-    def edge(axis: int, begin: Tuple[float, float], end: Tuple[float, float]) -> Sequence[float]:
-        points = [[first + (last - first) * step / ALONG for step in range(ALONG + 1)]
-                  for first, last in zip(begin, end)]
-        found: Sequence[float] = transformer.transform(*points)[axis]
-        return found
-
-    left, right = max(edge(0, (west, south), (west, north))), min(edge(0, (east, south), box[2:]))
-    low, high = max(edge(1, (west, south), (east, south))), min(edge(1, (west, north), box[2:]))
-    aside, up = (right - left) * RIM, (high - low) * RIM
-    inner = left + aside, low + up, right - aside, high - up
-    is_found = all(abs(value) < 1e18 for value in inner) and aside > 0 and up > 0
-    return inner if is_found else None
-
-
-def overlap(one: Sequence[float], other: Sequence[float]) -> bool:
-    """Returns whether two boxes have a point in common."""
-    return (one[0] <= other[2] and one[2] >= other[0]
-            and one[1] <= other[3] and one[3] >= other[1])
+def code_of(name: Optional[str]) -> Optional[int]:
+    """Returns the EPSG code of the system that a stream names. None if the name has none."""
+    found = SYSTEM.match(name or "")
+    return int(found.group(1)) if found else None
 
 
 class System:
-    """The systems of a collection: that of its stream, and longitude and latitude."""
+    """The systems of a collection: that of its stream, its horizontal part, and longitude and
+    latitude."""
 
-    def __init__(self, name: Optional[str]) -> None:
-        """Takes the system that the stream names, if it names one."""
-        self.name, self.storage = name, uri_of(name)
-        self.can_change = self.storage is not None and can_change()
+    def __init__(self, name: Optional[str], extent: Optional[Extent] = None) -> None:
+        """Takes the system that the stream names, if it names one, and the extent of all
+        features."""
+        code = code_of(name)
+        self.name = name
+        self.storage = None if code is None else EPSG.format(code)
+        self.can_change = code is not None and can_change()
+        self._facts = Facts() if code is None or not self.can_change else _facts(code)
+        self._code = code if self._facts.horizontal is None else self._facts.horizontal
+        self._extent = extent
+        self._known_way: Optional[Way] = None
+
+    @property
+    def _way(self) -> Way:
+        """The way to degrees. It takes time to find, so it is found when it is needed."""
+        if self._known_way is None:
+            assert self._code is not None
+            self._known_way = Way(self._code, self._extent)
+        return self._known_way
+
+    @property
+    def _own(self) -> List[str]:
+        """The systems that have the coordinates of the stream."""
+        codes = [] if self._facts.horizontal is None else [EPSG.format(self._facts.horizontal)]
+        return codes if self.storage is None else [*codes, self.storage]
 
     def listed(self) -> List[str]:
         """Returns the URIs of the systems that a client may ask for."""
-        if self.storage is None:
-            return []
-        return [CRS84, self.storage] if self.can_change else [self.storage]
+        degrees = [CRS84, WGS84] if self.can_change else []
+        return list(dict.fromkeys([*degrees, *self._own]))
 
     def asked(self, uri: Optional[str], parameter: str) -> Optional[str]:
         """Returns the system that a parameter asks for. None if that of the stream has no URI.
@@ -129,51 +106,49 @@ class System:
                 return None
             raise Problem(400, f"{parameter}: the stream names no system of coordinates")
         wanted = CRS84 if uri is None else _usual(uri)
-        if wanted not in (CRS84, self.storage):
-            raise Problem(400, f"{parameter} is one of {', '.join(self.listed())}: {uri}")
-        if wanted == CRS84 and not self.can_change:
+        if wanted in (CRS84, WGS84) and not self.can_change and wanted != self.storage:
             raise Problem(400, NO_PYPROJ.format(parameter))
+        if wanted not in self.listed():
+            raise Problem(400, f"{parameter} is one of {', '.join(self.listed())}: {uri}")
         return wanted
+
+    def is_own(self, system: Optional[str]) -> bool:
+        """Returns whether a system has the coordinates of the stream."""
+        return system is None or system in self._own
 
     @property
     def is_north_first(self) -> bool:
         """Whether the system of the stream names north before east. Streams have east first.
         Without pyproj that is not known, and False."""
-        return self.can_change and self.storage is not None and _is_north_first(self.storage)
+        return self._facts.is_north_first
 
-    def turned(self, box: Sequence[Any]) -> Any:
-        """Returns a box with the axes of the stream in the order of its system, or the other way
+    def turned(self, box: Sequence[Any], system: Optional[str]) -> Any:
+        """Returns a box with east first in the order of the axes of a system, or the other way
         round."""
+        is_turned = self.is_north_first if self.is_own(system) else system == WGS84
         west, south, east, north = box
-        return (south, west, north, east) if self.is_north_first else (west, south, east, north)
+        return (south, west, north, east) if is_turned else (west, south, east, north)
 
-    def stored(self, box: Sequence[float], system: Optional[str]) -> Sequence[float]:
-        """Returns the box around a box in the system of the stream.
+    def reach(self, box: Sequence[float], system: Optional[str]) -> Reach:
+        """Returns which features a box selects. Its axes have east first.
 
         Raises:
-            Problem: It has no place there.
+            Problem: It is empty.
         """
-        if system is None or system == self.storage or self.storage is None:
-            return box
-        return _changed(box, system, self.storage)
-
-    def inner(self, box: Extent, system: Optional[str]) -> Optional[Extent]:
-        """Returns a box in the system of the stream that lies within a box in another one. None if
-        none is found."""
-        if system is None or self.storage is None:
-            return None
-        return _within(box, system, self.storage)
+        if not self.is_own(system):
+            return self._way.reach(box)
+        west, south, east, north = box
+        if west <= east:
+            return Reach((west, south, east, north))
+        if not self._facts.is_in_degrees:
+            raise Problem(400, "the box is empty: west of it is east of its east")
+        parts = pieces(box)
+        return Reach(around(parts), lambda extent: any(meet(extent, part) for part in parts))
 
     def told(self, extent: Extent, system: Optional[str]) -> Optional[Extent]:
-        """Returns an extent of the stream in a system. None if it has no place there."""
-        if system is None or self.storage is None:
-            return extent
-        if system == self.storage:
-            return self.turned(extent)  # type: ignore[no-any-return]
-        try:
-            return _changed(extent, self.storage, system)
-        except Problem:
-            return None
+        """Returns an extent of the stream in a system, with east first. Its west is greater than
+        its east if it lies over the antimeridian. None if it has no place there."""
+        return extent if self.is_own(system) else self._way.degrees(extent)
 
 
 def _usual(uri: str) -> str:
