@@ -30,9 +30,10 @@ DROP = """
 const input = document.createElement("input");
 input.type = "file";
 input.id = "dropped";
+input.multiple = true;
 input.addEventListener("change", () => {
   const data = new DataTransfer();
-  data.items.add(input.files[0]);
+  for (const file of input.files) data.items.add(file);
   const event = new DragEvent("drop", { dataTransfer: data, bubbles: true, cancelable: true });
   document.getElementById("drop").dispatchEvent(event);
 });
@@ -128,11 +129,11 @@ def verdict(driver):
     return driver.find_element(By.ID, "verdict").text
 
 
-def drop(browser, path):
-    """Drops a file on the page."""
+def drop(browser, *paths):
+    """Drops files on the page."""
     driver = browser.driver
     driver.execute_script(DROP)
-    driver.find_element(By.ID, "dropped").send_keys(str(path))
+    driver.find_element(By.ID, "dropped").send_keys("\n".join(map(str, paths)))
 
 
 def try_page(browser, url, folder, megabytes, check):
@@ -173,6 +174,35 @@ def try_page(browser, url, folder, megabytes, check):
     check("by keyboard", said and said.startswith("Not valid"), said)
     focused = driver.switch_to.active_element.get_attribute("id")
     check("the verdict has the focus", focused == "verdict", focused)
+
+
+def try_many(browser, url, folder, check):
+    """Drops a file with more invalid lines than are told, and then two files at once."""
+    driver = browser.driver
+    many = folder / "many.city.jsonl"
+    header, *lines = (EXAMPLES / "town.city.jsonl").read_bytes().splitlines(keepends=True)
+    many.write_bytes(header + b"{}\n" * 11_000 + b"[\n" * 3_000 + lines[0])
+    driver.get(url + "?f=html")
+    drop(browser, many)
+    said = wait(browser, verdict)
+    check("many invalid lines", said and "14,000 invalid lines" in said, said)
+    table = driver.find_element(By.CSS_SELECTOR, "#report table").text
+    check("all are counted", "11,000" in table and "3,000" in table, table)
+    button = driver.find_element(By.CSS_SELECTOR, "#report a.button")
+    check("the button has the number", "first 10,000 of 14,000 reports" in button.text, button.text)
+    saved = driver.execute_async_script(
+        "fetch(arguments[0].href).then((it) => it.text()).then(arguments[1])", button)
+    check("so many are saved", saved.count("\n") == 10_000, saved.count("\n"))
+    driver.get(url + "?f=html")
+    drop(browser, EXAMPLES / "delivery.city.jsonl", EXAMPLES / "town.city.jsonl")
+    said = wait(browser, verdict)
+    check("two files", said and said.startswith("2 files") and "1 valid, 1 not valid" in said, said)
+    found = [each.text for each in driver.find_elements(By.CSS_SELECTOR, "#report .verdict")]
+    is_right = len(found) == 2 and found[0].startswith("Not valid\ndelivery.city.jsonl") and (
+        found[1].startswith("Valid\ntown.city.jsonl"))
+    check("a verdict on each", is_right, found)
+    buttons = [each.text for each in driver.find_elements(By.CSS_SELECTOR, "#report a.button")]
+    check("all reports of one", buttons == ["Download 5 reports"], buttons)
 
 
 def look(browser, url, pictures, check):
@@ -221,6 +251,9 @@ def main():
             look(browser, url, given.pictures, check)
             browser.resize(400)
             try_page(browser, url, folder, given.megabytes, check)
+            try_many(browser, url, folder, check)
+            if given.pictures is not None:
+                browser.driver.save_screenshot(str(given.pictures / "two-files.png"))
             if given.pictures is not None:
                 browser.driver.get(url + "?f=html")
                 drop(browser, EXAMPLES / "delivery.city.jsonl")

@@ -55,6 +55,16 @@ class Verdicts(Served):
         told = self.server.ask("/check?keep_going=true&max_reports=7", "POST", text).lines()
         self.assertEqual((len(told), told[-1]["refused"]), (8, 3_000))
 
+    def test_counts_of_reasons_are_of_all_reports(self):
+        """Also where only some of them are answered."""
+        lines = [b"{}\n", b"[\n", feature("a", last=9)] * 900 + [b"{}\n"] * 500
+        told = self.server.ask("/check?keep_going&summary&max_reports=7", "POST", HEADER + b"".join(lines)).lines()
+        self.assertEqual([each["kind"] for each in told], ["report"] * 7 + ["result", "reasons"])
+        self.assertEqual(told[7]["refused"], 3_200)
+        self.assertEqual({each["code"]: each["lines"] for each in told[8]["reasons"]}, {4: 900, 10: 1_400, 25: 900})
+        told = self.server.ask("/check?keep_going&summary", "POST", HEADER + b"".join(lines)).lines()
+        self.assertEqual([each["kind"] for each in told], ["result", "reasons"])
+
     def test_streams_by_chance_in_pieces_by_chance(self):
         for seed in range(250):
             text, chance = support.stream_by_chance(seed), random.Random(-seed)

@@ -59,6 +59,8 @@ def asked_of(command: str, query: Query, limits: Limits) -> Asked:
         )
     else:
         wanted.summary = query.flag("summary")
+        if wanted.summary and "max_reports" not in query:
+            wanted.max_reports = 0
     return wanted
 
 
@@ -69,7 +71,7 @@ def _fed(wanted: Asked, query: Query, packed: Optional[bool], limits: Limits) ->
     if wanted.command == "filter":
         common.update(exclude=wanted.exclude, ids=query.texts("id"), types=query.texts("type"),
                       lods=query.texts("lod"), box=wanted.bbox)
-    most = 0 if wanted.summary else wanted.max_reports or 0
+    most = wanted.max_reports or 0
     unpacking = Unpacking(packed, limits.body)
     return Fed(asked(wanted.command, **common), unpacking, most, wanted.summary)
 
@@ -207,13 +209,14 @@ class Judgement:
                     each.exception()  # no task waits for it
 
     def told(self) -> Tuple[List[Dict[str, Any]], Dict[str, Any]]:
-        """Returns the objects of the reports, and the object of the result. With `summary` the
-        first are one object: how often each reason occurred."""
+        """Returns the objects of the reports, and the object of the result."""
         result: Result = self._fed.result()
         told = result_object(result, self.wanted, __version__, self._body.size, None)
-        if self.wanted.summary:
-            return [reasons_object(self._fed.codes)], told
         return [report_object(report) for report in self._fed.reports], told
+
+    def counts(self) -> List[Dict[str, Any]]:
+        """Returns, with `summary`, the object that tells how often each reason occurred."""
+        return [reasons_object(self._fed.codes)] if self.wanted.summary else []
 
 
 def _lines(objects: List[Dict[str, Any]]) -> bytes:
@@ -221,7 +224,8 @@ def _lines(objects: List[Dict[str, Any]]) -> bytes:
 
 
 async def check(request: web.Request, calls: Calls, limits: Limits) -> web.StreamResponse:
-    """Answers `POST /check`: a line for each report, and one for the result."""
+    """Answers `POST /check`: a line for each report, one for the result, and with `summary` one for
+    the counts of all reasons."""
     query = Query(request.raw_path.partition("?")[2], CHECK)
     judgement = Judgement(request, calls, limits, asked_of("check", query, limits), query)
     await _go_on(request)
@@ -229,8 +233,8 @@ async def check(request: web.Request, calls: Calls, limits: Limits) -> web.Strea
         while not judgement.is_over:
             await judgement.outputs()
     reports, result = judgement.told()
-    objects = [result, *reports] if judgement.wanted.summary else [*reports, result]
-    return web.Response(body=_lines(objects), content_type=LINES)
+    body = _lines([*reports, result, *judgement.counts()])
+    return web.Response(body=body, content_type=LINES)
 
 
 class Trailed(web.StreamResponse):

@@ -1,6 +1,6 @@
 "use strict";
-// Sends a file to the server that the page came from, and shows what comes of it. All texts of the
-// answer are set as texts: none of them is read as HTML.
+// Sends files to the server that the page came from, one after another, and shows what comes of
+// them. All texts of the answers are set as texts: none of them is read as HTML.
 
 const form = document.getElementById("form");
 const drop = document.getElementById("drop");
@@ -12,10 +12,13 @@ const progress = document.getElementById("progress");
 const sent = document.getElementById("sent");
 const verdict = document.getElementById("verdict");
 const report = document.getElementById("report");
-const SHOWN = 200; // reports on the page; the download has all that the server told
-let file = null;
-let request = null;
-let downloadUrl = null;
+const SHOWN = 200; // reports of a file on the page; the download has all that the server told
+const TOLD = 10000; // reports that the server is asked for
+let files = [];
+let request = null; // the one that is open
+let isRunning = false;
+let isStopped = false;
+let downloadUrls = [];
 
 /** Makes an element with a text and children. */
 function make(name, options = {}, ...children) {
@@ -39,15 +42,22 @@ function count(number, one, many) {
 }
 
 function choose(chosen) {
-  file = chosen || null;
+  files = [...chosen];
+  const size = files.reduce((sum, file) => sum + file.size, 0);
+  const name = files.length === 1 ? files[0].name : count(files.length, "file", "files");
   document.getElementById("name").textContent =
-    file ? `${file.name}, ${bytes(file.size)}` : "or drop one anywhere on this page";
-  start.disabled = file === null || request !== null;
+    files.length ? `${name}, ${bytes(size)}` : "or drop them anywhere on this page";
+  start.disabled = files.length === 0 || isRunning;
 }
 
-function show(kind, title, ...lines) {
-  verdict.className = `verdict ${kind}`;
-  verdict.replaceChildren(make("strong", { text: title }), ...lines.map((text) => make("p", { text })));
+/** The box that has a verdict: its kind, its title and some lines. */
+function fill(box, { kind, title, lines }) {
+  box.className = `verdict ${kind}`;
+  box.replaceChildren(make("strong", { text: title }), ...lines.map((text) => make("p", { text })));
+}
+
+function show(told) {
+  fill(verdict, told);
   verdict.focus();
 }
 
@@ -55,24 +65,19 @@ function clear() {
   verdict.className = "verdict";
   verdict.replaceChildren();
   report.replaceChildren();
-  if (downloadUrl) URL.revokeObjectURL(downloadUrl);
-  downloadUrl = null;
+  downloadUrls.forEach((url) => URL.revokeObjectURL(url));
+  downloadUrls = [];
 }
 
-/** How often each reason comes among the reports. */
-function summary(reports) {
-  const counts = new Map();
-  for (const each of reports) {
-    const key = `${each.code} ${each.text}`;
-    counts.set(key, (counts.get(key) || 0) + 1);
-  }
+/** How often each reason comes, of all lines. */
+function summary(reasons) {
   const head = make("tr", {}, make("th", { text: "Reason" }), make("th", { text: "Lines" }));
-  const rows = [...counts].sort((a, b) => b[1] - a[1]).map(([reason, lines]) => {
-    const cell = make("td", { text: lines.toLocaleString("en") });
+  const rows = [...reasons].sort((a, b) => b.lines - a.lines).map((each) => {
+    const cell = make("td", { text: each.lines.toLocaleString("en") });
     cell.dataset.name = "Lines";
-    return make("tr", {}, make("th", { text: reason }), cell);
+    return make("tr", {}, make("th", { text: `${each.code} ${each.text}` }), cell);
   });
-  return make("table", {}, make("caption", { text: "Reasons among the reports" }),
+  return make("table", {}, make("caption", { text: "Invalid lines by their reasons" }),
     make("thead", {}, head), make("tbody", {}, ...rows));
 }
 
@@ -93,93 +98,138 @@ function reported(each) {
   return item;
 }
 
-function download(text) {
-  downloadUrl = URL.createObjectURL(new Blob([text], { type: "application/x-ndjson" }));
-  const link = make("a", { text: "Download all reports", kind: "button" });
-  link.href = downloadUrl;
-  link.download = `${file.name}.reports.jsonl`;
+/** A link that saves the reports that the server told, of all that there are. */
+function download(name, reports, whole) {
+  const lines = reports.map((each) => `${JSON.stringify(each)}\n`);
+  const url = URL.createObjectURL(new Blob(lines, { type: "application/x-ndjson" }));
+  downloadUrls.push(url);
+  const all = count(whole, "report", "reports");
+  const text = reports.length < whole
+    ? `Download the first ${reports.length.toLocaleString("en")} of ${all}` : `Download ${all}`;
+  const link = make("a", { text, kind: "button" });
+  link.href = url;
+  link.download = `${name}.reports.jsonl`;
   return make("p", {}, link);
 }
 
-/** Shows the answer of the server: a line for each report, then the result. */
-function answered(text) {
-  const lines = text.split("\n").filter(Boolean).map((line) => JSON.parse(line));
-  const result = lines.find((each) => each.kind === "result");
-  const reports = lines.filter((each) => each.kind === "report");
+/** What the page says of the answer for a file, which has a line for each object. */
+function answered(file, text) {
+  const objects = text.split("\n").filter(Boolean).map((line) => JSON.parse(line));
+  const reports = objects.filter((each) => each.kind === "report");
+  const result = objects.find((each) => each.kind === "result");
+  const { reasons } = objects.find((each) => each.kind === "reasons");
   const counts = `${count(result.lines, "line", "lines")}, ${count(result.features, "valid feature", "valid features")}`;
   if (result.verdict === "valid") {
-    show("valid", "Valid", `${file.name}: ${counts}`);
-    return;
+    return { kind: "valid", title: "Valid", lines: [`${file.name}: ${counts}`], parts: [] };
   }
   const ends = result.ended_at === null ? count(result.refused, "invalid line", "invalid lines")
     : `the run ended at line ${result.ended_at.toLocaleString("en")}`;
-  show("invalid", "Not valid", `${file.name}: ${counts}, ${ends}`, ...result.hints);
+  const told = { kind: "invalid", title: "Not valid", lines: [`${file.name}: ${counts}, ${ends}`, ...result.hints], parts: [] };
   if (reports.length) {
-    const shown = reports.slice(0, SHOWN);
-    const list = make("ol", { kind: "reports" }, ...shown.map(reported));
-    const more = Math.max(result.refused, reports.length) - shown.length;
-    report.replaceChildren(summary(reports), download(text), make("h3", { text: "Invalid lines" }), list);
-    if (more > 0) report.append(make("p", { text: `${count(more, "more line is", "more lines are")} invalid.` }));
+    const whole = reasons.reduce((sum, each) => sum + each.lines, 0);
+    const list = reports.slice(0, SHOWN).map(reported);
+    told.parts = [summary(reasons), download(file.name, reports, whole),
+      make("h3", { text: "Invalid lines" }), make("ol", { kind: "reports" }, ...list)];
+    const more = whole - list.length;
+    if (more > 0) told.parts.push(make("p", { text: `${count(more, "more line is", "more lines are")} invalid.` }));
   }
+  return told;
 }
 
-/** Shows why there is no verdict. */
-function failed(status, text) {
-  let detail = "The server did not answer.";
+/** Why there is no verdict on a file. */
+function unchecked(file, why) {
+  return { kind: "fault", title: "Not checked", lines: [`${file.name}: ${why}`], parts: [] };
+}
+
+function failed(file, status, text) {
+  let detail = "the server did not answer";
   try {
     detail = JSON.parse(text).detail;
   } catch (_) {
-    if (status) detail = `The server answered ${status}.`;
+    if (status) detail = `the server answered ${status}`;
   }
-  show("fault", "Not checked", detail);
+  return unchecked(file, detail);
 }
 
-function ended() {
-  request = null;
-  running.hidden = true;
-  stop.hidden = true;
-  start.disabled = file === null;
+/** Shows how much of a file is sent. */
+function advance(name, event) {
+  const share = event.total ? event.loaded / event.total : 1;
+  progress.value = share;
+  const told = share < 1 ? `${bytes(event.loaded)} of ${bytes(event.total)}, ${Math.floor(share * 100)} %`
+    : "all is sent, and the server judges the rest";
+  sent.textContent = `${name}: ${told}.`;
 }
 
-function send() {
-  clear();
+/** Sends a file. What comes of it is there when the server has answered. */
+function check(file, name) {
   const most = Number(form.dataset.most);
   if (file.size > most) {
-    show("fault", "Not checked", `The file has ${bytes(file.size)}, and the server takes ${bytes(most)}.`);
-    return;
+    return Promise.resolve(unchecked(file, `it has ${bytes(file.size)}, and the server takes ${bytes(most)}`));
   }
   const tree = document.getElementById("tree").checked;
-  request = new XMLHttpRequest();
-  request.open("POST", `${form.dataset.check}?keep_going=true${tree ? "&tree=true" : ""}`);
-  request.setRequestHeader("Content-Type", "application/octet-stream");
-  request.upload.onprogress = (event) => {
-    const share = event.total ? event.loaded / event.total : 1;
-    progress.value = share;
-    sent.textContent = share < 1 ? `${bytes(event.loaded)} of ${bytes(event.total)}, ${Math.floor(share * 100)} %`
-      : "All is sent. The server judges the rest.";
-  };
-  request.onload = () => {
-    const { status, responseText } = request;
-    ended();
-    if (status === 200) answered(responseText);
-    else failed(status, responseText);
-  };
-  request.onerror = () => { ended(); failed(0, ""); };
-  request.onabort = () => { ended(); show("fault", "Stopped"); };
-  progress.value = 0;
-  sent.textContent = "";
-  running.hidden = false;
-  stop.hidden = false;
-  start.disabled = true;
-  request.send(file);
+  return new Promise((done) => {
+    request = new XMLHttpRequest();
+    request.open("POST", `${form.dataset.check}?keep_going=true&summary=true&max_reports=${TOLD}${tree ? "&tree=true" : ""}`);
+    request.setRequestHeader("Content-Type", "application/octet-stream");
+    request.upload.onprogress = (event) => advance(name, event);
+    request.onload = () => {
+      const { status, responseText } = request;
+      done(status === 200 ? answered(file, responseText) : failed(file, status, responseText));
+    };
+    request.onerror = () => done(failed(file, 0, ""));
+    request.onabort = () => done({ ...unchecked(file, "it was not sent to its end"), title: "Stopped" });
+    progress.value = 0;
+    sent.textContent = `${name}: it is read.`;
+    request.send(file);
+  });
 }
 
-input.addEventListener("change", () => choose(input.files[0]));
+/** One file of several, with its verdict and its reports. */
+function section(told) {
+  const box = make("div");
+  fill(box, told);
+  return make("section", {}, box, ...told.parts);
+}
+
+/** The verdict on several files. */
+function verdictOf(results) {
+  const worst = ["invalid", "fault", "valid"].find((kind) => results.some((each) => each.kind === kind));
+  const words = { valid: "valid", invalid: "not valid", fault: "not checked" };
+  const counts = Object.entries(words).map(([kind, word]) => [results.filter((each) => each.kind === kind).length, word])
+    .filter(([number]) => number).map(([number, word]) => `${number.toLocaleString("en")} ${word}`);
+  return { kind: worst, title: count(results.length, "file", "files"), lines: [counts.join(", ")] };
+}
+
+/** Checks files one after another. */
+async function run(wanted) {
+  clear();
+  isRunning = true;
+  isStopped = false;
+  running.hidden = stop.hidden = false;
+  start.disabled = true;
+  const results = [];
+  for (const [number, file] of wanted.entries()) {
+    const name = wanted.length === 1 ? file.name : `${number + 1} of ${wanted.length}, ${file.name}`;
+    const told = isStopped ? unchecked(file, "it was not sent") : await check(file, name);
+    results.push(told);
+    report.append(...(wanted.length === 1 ? told.parts : [section(told)]));
+  }
+  request = null;
+  isRunning = false;
+  running.hidden = stop.hidden = true;
+  start.disabled = files.length === 0;
+  show(wanted.length === 1 ? results[0] : verdictOf(results));
+}
+
+input.addEventListener("change", () => choose(input.files));
 form.addEventListener("submit", (event) => {
   event.preventDefault();
-  if (file !== null && request === null) send();
+  if (files.length && !isRunning) run(files);
 });
-stop.addEventListener("click", () => { if (request !== null) request.abort(); });
+stop.addEventListener("click", () => {
+  isStopped = true;
+  if (request !== null) request.abort();
+});
 for (const name of ["dragenter", "dragover"]) {
   window.addEventListener(name, (event) => {
     event.preventDefault();
@@ -192,9 +242,9 @@ window.addEventListener("dragleave", (event) => {
 window.addEventListener("drop", (event) => {
   event.preventDefault();
   drop.classList.remove("over");
-  const [dropped] = event.dataTransfer.files;
-  if (dropped && request === null) {
+  const { files: dropped } = event.dataTransfer;
+  if (dropped.length && !isRunning) {
     choose(dropped);
-    send();
+    run(files);
   }
 });
