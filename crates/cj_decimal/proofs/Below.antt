@@ -8,7 +8,7 @@ use Rattle.std.specs.Prelude.{Option, None, Some, IfSome, IsSome, Ok, pos}
 use Rattle.cj_decimal.specs.Class.{Class, whole_answer}
 use Rattle.cj_decimal.specs.Reading.{IsShort}
 use Rattle.cj_decimal.specs.Spelling.{IsInt, digits_value}
-use Rattle.cj_decimal.specs.Word.{word_of, AllBelow, IsWordOf, TellsBelow, weighed}
+use Rattle.cj_decimal.specs.Word.{word_of, AllBelow, IsCountWord, IsWordOf, TellsBelow, weighed}
 use Rattle.cj_decimal.proofs.Wholes.{answer_digits}
 use Rattle.cj_decimal.proofs.Eights.{eight, horner, int_short, spelled_value}
 
@@ -211,13 +211,22 @@ unfolding weighed
 all_below n word h = λ s l z w. let v = value_weighed s l in let b = weighed_below 10 (omega arith) refl refl s z in
     let p : 10 ^ length s ≡ 100000000 = ap (λ k. 10 ^ k) l in omega (arith, v, b, p)
 
-pub told : (n a b c d e f g word : ℕ) → n < 100000000 → a ≡ n / 10 → b ≡ a / 10 → c ≡ b / 10 → d ≡ c / 10 → e ≡ d / 10
-    → f ≡ e / 10 → g ≡ f / 10
+-- a word that has the digits of a number tells of eight digits whether they spell less
+pub told : (word n : ℕ) → IsWordOf word n → TellsBelow word n
+told word n h = λ s l z w.
+    let is = h.3 in
+    let above : weighed 256 s + 1 ≤ weighed 256 h.0 = omega (arith, is, w) in
+    let o = order 1 (omega arith) s h.0 (l ∙ sym h.1) z h.2 above in
+    let m = h.4 ∙ value_weighed h.0 h.1 in let v = value_weighed s l in omega (arith, o, m, v)
+
+-- the digits of a number, one after another, are its word
+pub spelled : (n a b c d e f g word : ℕ) → n < 100000000 → a ≡ n / 10 → b ≡ a / 10 → c ≡ b / 10 → d ≡ c / 10
+    → e ≡ d / 10 → f ≡ e / 10 → g ≡ f / 10
     → word ≡ n % 10 + a % 10 * 256 + b % 10 * 65536 + c % 10 * 16777216
     + (d % 10 + e % 10 * 256 + f % 10 * 65536 + g * 16777216) * 4294967296
-    → TellsBelow word n
+    → IsWordOf word n
 unfolding weighed
-told n a b c d e f g word small ia ib ic id ie if ig is = λ s l z w.
+spelled n a b c d e f g word small ia ib ic id ie if ig is =
     let t = g ∷ f % 10 ∷ e % 10 ∷ d % 10 ∷ c % 10 ∷ b % 10 ∷ a % 10 ∷ n % 10 ∷ [] in
     let first : g < 10 = omega arith in
     let digits : AllBelow 10 t = (
@@ -231,7 +240,22 @@ told n a b c d e f g word small ia ib ic id ie if ig is = λ s l z w.
       ),
     ) in
     let as_word : word ≡ weighed 256 t = omega (arith, is) in
-    let value : weighed 10 t ≡ n = omega arith in
-    let above = subst (λ x. weighed 256 s < x) as_word w in
-    let o = order 1 (omega arith) s t l z digits (omega (arith, above)) in
-    subst (λ x. x < n) (sym (value_weighed s l)) (subst (λ x. weighed 10 s < x) value (omega (arith, o)))
+    let value : weighed 10 t ≡ n = omega arith in (
+      t,
+      refl,
+      digits,
+      as_word,
+      sym value ∙ sym (value_weighed t refl),
+    )
+
+-- the word of digits that spell less than a count is below that of the count
+pub word_below : (w m word n : ℕ) → IsWordOf w m → IsCountWord word n → m < n → w < word
+word_below w m word n is count less =
+    elim (cases_lt n 100000000) [
+      | inl few ↦ elim (cases_lt w word) [
+        | inl below ↦ below
+        | inr above ↦
+            let o = words_in_order word w n m (count.few few) is above in absurd (omega (arith, o, less))
+      ]
+      | inr more ↦ let room = word_room w m is in let greatest = count.more more in omega (arith, room, greatest)
+    ]

@@ -29,7 +29,7 @@ value_below n (b ∷ s) h =
     turned : (x p : ℕ) → 10 * x * p ≡ x * (p * 10)
     turned x p = ap (λ z. z * p) (mul_comm 10 x) ∙ mul_assoc x 10 p ∙ ap (λ z. x * z) (mul_comm 10 p)
 
-few_short : (s : List ℕ) → IsFewDigits s → IsShort s (digits_value s)
+pub few_short : (s : List ℕ) → IsFewDigits s → IsShort s (digits_value s)
 unfolding begins_digit
 few_short s few =
     let all = int_digits s few.0 in

@@ -1,5 +1,5 @@
 -- Bytes as one number, and what is read by it.
-use Rattle.std.specs.Prelude.{◌≡◌, ℕ, ◌+◌, ◌*◌, ◌<◌, List, [], ◌∷◌, length, map, ◌^◌}
+use Rattle.std.specs.Prelude.{◌≡◌, ℕ, ◌+◌, ◌-◌, ◌*◌, ◌<◌, ◌≤◌, List, [], ◌∷◌, length, map, ◌^◌}
 use Rattle.cj_decimal.specs.Signs.{digit_0}
 use Rattle.cj_decimal.specs.Spelling.{digits_value}
 
@@ -27,3 +27,8 @@ TellsBelow word n = (s : List ℕ) → length s ≡ 8 → AllBelow 10 s → weig
 abbrev pub IsWordOf : ℕ → ℕ → Type 0
 IsWordOf word n = (s : List ℕ) × (length s ≡ 8) × AllBelow 10 s × (word ≡ weighed 256 s)
     × (n ≡ digits_value (map (λ d. d + digit_0) s))
+
+-- the word of a count: that of its eight digits, or the greatest word where it has more
+pub record IsCountWord (word n : ℕ) : Type 0 where
+  pub few : n < 10 ^ 8 → IsWordOf word n
+  pub more : 10 ^ 8 ≤ n → word ≡ 2 ^ 64 - 1

@@ -14,7 +14,7 @@ ghost use Rattle.cj_decimal.specs.Number.{number, signed, same_parts, SameValue,
 ghost use Rattle.cj_decimal.specs.Number.{IsWhole, IsFixed};
 ghost use Rattle.cj_decimal.specs.Digits.{StandsFor};
 ghost use Rattle.cj_decimal.specs.Reading.{Saturates};
-ghost use Rattle.cj_decimal.specs.Word.{IsWordOf, TellsBelow};
+ghost use Rattle.cj_decimal.specs.Word.{IsCountWord, IsWordOf, TellsBelow};
 
 use crate::fixed::Fixed18;
 use crate::powers::wide_ten_to;
@@ -238,6 +238,9 @@ impl Decimal {
         ensures few { IsTrue result → IsFewDigits (slice_range line.now start stop) }
         ensures below { IsTrue result → (n : ℕ) → TellsBelow word n → (m : ℕ) × (m < n) × (m < 10 ^ 18)
             × ((c : Class (slice_range line.now start stop)) → whole_answer c ≡ Ok (Some (pos m))) }
+        ensures all { IsFewDigits (slice_range line.now start stop) → stop ≤ start + 8 → 8 ≤ stop
+            → (n m : ℕ) → IsCountWord word n → m < n
+            → ((c : Class (slice_range line.now start stop)) → whole_answer c ≡ Ok (Some (pos m))) → IsTrue result }
     {
         is_below(line, start, stop, word)
     }

@@ -4,7 +4,7 @@ ghost use Rattle.std.specs.Prelude.{◌≡◌, ℕ, ◌+◌, ◌-◌, ◌*◌, �
 ghost use Rattle.std.specs.Prelude.{IsSome, IsTrue, ◌↔◌};
 ghost use Rattle.cj_decimal.specs.Reading.{IsShort};
 ghost use Rattle.cj_decimal.specs.Spelling.{IsInt, IsNumberIfBegun, digits_value};
-ghost use Rattle.cj_decimal.specs.Word.{word_of, AllBelow, IsWordOf, TellsBelow};
+ghost use Rattle.cj_decimal.specs.Word.{word_of, AllBelow, IsCountWord, IsWordOf, TellsBelow};
 
 /// The number of bytes in a word.
 const BYTES: usize = 8;
@@ -137,9 +137,10 @@ const NINE_DIGITS: u64 = 100_000_000;
 /// Returns the digits of a count in the bytes of a word, the first in the greatest byte. Words of
 /// eight digits have the order of their numbers, so no value need be computed to compare two.
 ///
-/// A count of more digits is above all of them.
+/// The word of a count of more digits is the greatest one, above all of them.
 pub fn digits_word(count: u64) -> u64
-    ensures { TellsBelow result count }
+    ensures word { IsCountWord result count }
+    ensures below { TellsBelow result count }
 {
     if count < 10 {
         return count;
@@ -168,6 +169,8 @@ pub fn is_below(line: &[u8], start: usize, stop: usize, word: u64) -> bool
     ensures near { IsTrue result → stop ≤ start + 8 }
     ensures short { IsTrue result → (n : ℕ) → TellsBelow word n
         → (m : ℕ) × (m < n) × IsShort (slice_range line.now start stop) m }
+    ensures all { IsInt (slice_range line.now start stop) → stop ≤ start + 8 → 8 ≤ stop → (n : ℕ) → IsCountWord word n
+        → digits_value (slice_range line.now start stop) < n → IsTrue result }
 {
     match read_digits_word(line, start, stop) {
         Some(digits) => digits < word,

@@ -3,7 +3,7 @@
 mod vectors;
 
 use cj_decimal::laws::worked_rows;
-use cj_decimal::{Affine, Decimal, DecimalFault, Fixed18};
+use cj_decimal::{Affine, Decimal, DecimalFault, Fixed18, digits_word, word_value};
 use std::alloc::{AllocError, Global};
 use std::fmt::Display;
 use std::process::Abort;
@@ -197,6 +197,79 @@ fn few_digits_are_read(rt: HostRuntime) -> Result<(), Fail> {
     for line in FEW.lines() {
         let answer = few_of(rt.alloc(), first_field(line))?;
         check_text(&rt, &answer, line, line);
+    }
+    Ok(())
+}
+
+/// Checks the word of a count of at most eight digits, and the count that it spells.
+fn check_word(rt: &impl Abort, count: u64, wanted: u64) {
+    let word = digits_word(count);
+    assert_eq!(rt; word, wanted, "{count}");
+    if count < 100_000_000 {
+        assert_eq!(rt; word_value(word), count, "{count}");
+    }
+}
+
+#[test]
+fn counts_have_words(rt: HostRuntime) {
+    let rows: [(u64, u64); 9] = [
+        (0, 0),
+        (7, 0x7),
+        (10, 0x100),
+        (482, 0x4_0802),
+        (10_482, 0x1_0004_0802),
+        (12_345_678, 0x102_0304_0506_0708),
+        (99_999_999, 0x909_0909_0909_0909),
+        (100_000_000, 0xffff_ffff_ffff_ffff),
+        (18_446_744_073_709_551_615, 0xffff_ffff_ffff_ffff),
+    ];
+    for (count, word) in rows.iter() {
+        check_word(&rt, *count, *word);
+    }
+}
+
+/// Each line has digits of a number, a count, and whether the number is below the count, by hand.
+/// Only a number of at most eight digits is.
+const BELOW: &str = "\
+0|0|false\n\
+0|1|true\n\
+7|7|false\n\
+7|8|true\n\
+9|10|true\n\
+10|9|false\n\
+482|483|true\n\
+482|482|false\n\
+99999999|99999999|false\n\
+99999999|100000000|true\n\
+99999999|18446744073709551615|true\n\
+123456789|1234567890|false\n\
+-0|1|false\n\
+1.0|2|false\n\
+1e1|11|false";
+
+/// Returns whether the number from `start` on is below a count. None if it is no number in range.
+fn is_below(line: &[u8], start: usize, count: u64) -> Option<bool> {
+    let stop = line.len();
+    if start >= stop || Decimal::read(&line[start..stop]).is_err() {
+        return None;
+    }
+    Some(Decimal::is_few_below_in(line, start, stop, digits_word(count)))
+}
+
+/// Checks a line of that table. Eight bytes come before the number.
+fn check_below(rt: &impl Abort, alloc: Global, row: &str) -> Result<(), Fail> {
+    let mut fields = row.split('|');
+    let line = format!(in alloc; "        {}", next_field(&mut fields))?;
+    let count: u64 = next_field(&mut fields).parse()?;
+    let below = is_below(line.as_bytes(), 8, count).expect(rt, "a number");
+    check_answer(rt, below, next_field(&mut fields) == "true", row);
+    Ok(())
+}
+
+#[test]
+fn few_digits_are_below_counts(rt: HostRuntime) -> Result<(), Fail> {
+    for row in BELOW.lines() {
+        check_below(&rt, rt.alloc(), row)?;
     }
     Ok(())
 }

@@ -1,8 +1,11 @@
-use Rattle.std.proofs.Common.{Some, arith}
+use Rattle.std.proofs.Common.{◌≡◌, Some, sym, ◌∙◌, arith}
 use Rattle.std.specs.Prelude.{slice_range}
+use Rattle.cj_decimal.specs.Spelling.{digits_value}
 use Rattle.cj_decimal.proofs.Below.{all_below}
+use Rattle.cj_decimal.proofs.Classes.{class}
 use Rattle.cj_decimal.proofs.Eights.{length_slice}
-use Rattle.cj_decimal.proofs.Wholes.{answer_of_few, int_alone_read}
+use Rattle.cj_decimal.proofs.Few.{few_short}
+use Rattle.cj_decimal.proofs.Wholes.{answer_digits, answer_of_few, int_alone_read}
 use Rattle.cj_decimal.proofs.decimal.Decimal.is_few_below_in.Goals as goal
 
 pub returns-clause-few : goal.returns-clause-few
@@ -18,3 +21,10 @@ returns-clause-below c = λ holds n tells.
     let r = c.is_below.ensures.short holds n tells in
     let short = r.2 in
     (r.0, r.1, short.small, answer_of_few (slice_range c.args.line.now c.args.start c.args.stop) (Some r.0) short)
+
+pub returns-clause-all : goal.returns-clause-all
+returns-clause-all c = λ few near room n m count less answer.
+    let s = slice_range c.args.line.now c.args.start c.args.stop in
+    let same = sym (answer (class s)) ∙ answer_digits s (digits_value s) (class s) (few_short s few) in
+    let value : m ≡ digits_value s = cc in
+    c.is_below.ensures.all few.0 near room n count (omega (arith, less, value))
