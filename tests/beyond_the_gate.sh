@@ -6,6 +6,7 @@
 # - A run of an engine, with each of its four requests for memory refused.
 # - The program with each vector, whole and with every cut.
 # - The program, with each of its reads and writes failing.
+# - The first command of README, from nothing.
 # - With --edits, all edits of all crates.
 #
 # The last line is 'N passed, M failed'.
@@ -31,6 +32,7 @@ try tests/refused_calls.sh
 try tests/four_requests.sh
 try python3 vectors/try.py cityseq crates/cityseq/out/cityseq
 try python3 tests/failing_calls.py
+try tests/first_command.sh
 [ "${1-}" != --edits ] || try tests/wrong_bodies.sh
 echo "$passed passed, $failed failed"
 [ "$failed" = 0 ]

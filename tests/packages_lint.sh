@@ -200,6 +200,7 @@ rm -f "$scratch"/few/{dpkg-buildpackage,dh,objdump,rt}
 row 'make alone shows its targets' help_names_all_targets
 for folder in tests bench; do row "$folder/run lists all" lists_scripts $folder; done
 row 'bench/run runs by name' runs_scripts
+row 'the first command of README' tests/first_command.sh "$program"
 have pkg-config 'an installation' && row 'a folder with a space' installs_and_removes
 row 'no rights to install' fails_with 'set PREFIX' make -s install PREFIX=/proc/cityseq
 for target in install deb wheel dist; do
