@@ -194,11 +194,11 @@ last-piece rules q n WriteFault piece told few = few
 last-piece rules q n Memory piece told few = few
 
 -- before these last bytes no line was the end
-pub stops-after : (f : Reading) (run : Run) (front last : List ℕ) → Reads f front → f.rules ≡ run.rules
-    → run.read ≡ front ++ last → IsLastRead run.outcome.ended last
-    → f.lines ≤ run.outcome.lines → (run.outcome.ended ≡ Memory → LacksRoom run)
+pub stops-after : {at_start : Type 0} (f : Reading) (run : Run) (front last : List ℕ) → Reads f front
+    → f.rules ≡ run.rules → run.read ≡ front ++ last → IsLastRead run.outcome.ended last
+    → f.lines ≤ run.outcome.lines → (run.outcome.ended ≡ Memory → LacksRoom run at_start)
     → IsBelow (exact_peaks run.rules.limits (first_lines run.outcome.lines run.read)) run.outcome.peaks
-    → HeldBegun run run.outcome.ended → StopsInTime run
+    → HeldBegun run run.outcome.ended → StopsInTime run at_start
 stops-after f run front last reads same cut short onward memory least begun = record {
   front = front;
   last = last;
@@ -227,8 +227,22 @@ least-going e r reads scanned =
     let k = least-read e r [] reads (held-scanned (limits_of e) (closed r) e.scanning scanned) in
     rw (append-nil r) at k
 
+-- a run that was refused memory after a read alone
+pub Stops-read : (run : Run) (at_start : Type 0) → StopsInTime run ⊥ → StopsInTime run at_start
+Stops-read run at_start stops = record {
+  front = stops.front;
+  last = stops.last;
+  cut = stops.cut;
+  short = stops.short;
+  good = stops.good;
+  done = stops.done;
+  memory = λ h. elim (stops.memory h) [ inl unread ↦ absurd unread.0 | inr lacks ↦ inr lacks ];
+  least = stops.least;
+  begun = stops.begun;
+}
+
 -- memory was refused before the first read
-pub Stops-memory : (rules : Rules)
+pub Stops-memory : (rules : Rules) (at_start : Type 0) → at_start
     → StopsInTime (record {
       rules = rules;
       read = [];
@@ -239,15 +253,15 @@ pub Stops-memory : (rules : Rules)
         peaks = record { bytes = 0; tokens = 0; depth = 0 };
         ended = Memory;
       };
-    })
-Stops-memory rules = record {
+    }) at_start
+Stops-memory rules at_start start = record {
   front = [];
   last = [];
   cut = refl;
   short = omega arith;
   good = nothing (ltb rules.limits.line 0);
   done = omega arith;
-  memory = λ h. inl (refl, refl);
+  memory = λ h. inl (start, refl, refl);
   least = record { bytes = omega arith; tokens = omega arith; depth = omega arith };
   begun = tt;
 }

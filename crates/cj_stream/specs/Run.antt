@@ -95,11 +95,11 @@ IsLastRead WriteFault last = length last ≤ 8192
 IsLastRead Memory last = length last ≤ 8192
 IsLastRead other last = last ≡ []
 
--- why memory was refused to a run: nothing was read yet, nor held; or the first line is valid, LF ended it, and no line
--- was dealt with
-abbrev pub LacksRoom : Run → Type 0
-LacksRoom run =
-    ((run.read ≡ []) × (run.outcome.peaks ≡ record { bytes = 0; tokens = 0; depth = 0 }))
+-- why memory was refused to a run: its reader was not read, as `at_start` says, and nothing was held; or the first line
+-- is valid, LF ended it, and no line was dealt with
+abbrev pub LacksRoom : Run → Type 0 → Type 0
+LacksRoom run at_start =
+    (at_start × (run.read ≡ []) × (run.outcome.peaks ≡ record { bytes = 0; tokens = 0; depth = 0 }))
     ⊎ LacksMemory run.rules run.read run.outcome.lines
 
 -- of the begun line, which was not judged, the bytes were held too, by the end: after a read fault, and where the reads
@@ -113,15 +113,16 @@ HeldBegun run cut_short = (exact_peaks run.rules.limits run.read).bytes ≤ run.
 
 -- A run stops in time. Before its last read nothing that can be judged of what it had read was refused; and all whole
 -- lines were dealt with, so no write had failed, and no memory was refused. After a read fault, and where the reads ran
--- out, this is so of all that it read. No less was held at most than the lines that were dealt with need.
-pub record StopsInTime (run : Run) : Type 0 where
+-- out, this is so of all that it read. Memory is refused before a read, or by a valid first line; `at_start` says that
+-- the reader is as before. No less was held at most than the lines that were dealt with need.
+pub record StopsInTime (run : Run) (at_start : Type 0) : Type 0 where
   pub front : List ℕ
   pub last : List ℕ
   pub cut : run.read ≡ front ++ last
   pub short : IsLastRead run.outcome.ended last
   pub good : refusal_in run.rules (judged run.rules.limits front) ≡ None
   pub done : length (lines (whole front)) ≤ run.outcome.lines
-  pub memory : run.outcome.ended ≡ Memory → LacksRoom run
+  pub memory : run.outcome.ended ≡ Memory → LacksRoom run at_start
   pub least : IsBelow (exact_peaks run.rules.limits (first_lines run.outcome.lines run.read)) run.outcome.peaks
   pub begun : HeldBegun run run.outcome.ended
 

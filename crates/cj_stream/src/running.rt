@@ -109,7 +109,7 @@ fn drive<R: Read, S: LineSink, N: ReportSink>(
         × RunsNoting N.notes
         (record { rules = rules_of engine.old; read = r; outcome = outcome_of engine.new result })
         reports.old reports.new
-        × StopsInTime (record { rules = rules_of engine.old; read = r; outcome = outcome_of engine.new result }) }
+        × StopsInTime (record { rules = rules_of engine.old; read = r; outcome = outcome_of engine.new result }) ⊥ }
     ensures cause { result ≡ End.WriteFault → HasRisen (S.law.failures sink.old) (S.law.failures sink.new) }
     ensures none { reads ≡ 0 → (source_reader source.new ≡ source_reader source.old) × (sink.new ≡ sink.old)
         × (result ≡ End.ReadLimit) × (reports.new ≡ reports.old) }
@@ -152,7 +152,8 @@ pub fn run<R: Read, S: LineSink, N: ReportSink>(
         (IsAtEnd (R.remaining reader.new)) sink.old sink.new
         × RunsNoting N.notes (record { rules = rules_for limits query.now options; read = r; outcome = result })
         reports.old reports.new
-        × StopsInTime (record { rules = rules_for limits query.now options; read = r; outcome = result }) }
+        × StopsInTime (record { rules = rules_for limits query.now options; read = r; outcome = result })
+        (reader.new ≡ reader.old) }
     ensures cause { result.ended ≡ End.WriteFault → HasRisen (S.law.failures sink.old) (S.law.failures sink.new) }
     ensures enough { IfSome (R.remaining reader.old) (λ bytes. length bytes < 2 ^ 40 → result.ended ≢ End.ReadLimit) }
     ensures memory { result.ended ≡ End.Memory → (result.lines ≡ 0) × (sink.new ≡ sink.old)
@@ -189,7 +190,8 @@ pub fn run_within<R: Read, S: LineSink, N: ReportSink>(
         (IsAtEnd (R.remaining reader.new)) sink.old sink.new
         × RunsNoting N.notes (record { rules = rules_for limits query.now options; read = r; outcome = result })
         reports.old reports.new
-        × StopsInTime (record { rules = rules_for limits query.now options; read = r; outcome = result }) }
+        × StopsInTime (record { rules = rules_for limits query.now options; read = r; outcome = result })
+        (reader.new ≡ reader.old) }
     ensures cause { result.ended ≡ End.WriteFault → HasRisen (S.law.failures sink.old) (S.law.failures sink.new) }
     ensures enough { IfSome (R.remaining reader.old) (λ bytes. length bytes < reads → result.ended ≢ End.ReadLimit) }
     ensures none { reads ≡ 0 → (reader.new ≡ reader.old) × (sink.new ≡ sink.old) × (reports.new ≡ reports.old)

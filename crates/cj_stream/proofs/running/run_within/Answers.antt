@@ -1,7 +1,7 @@
 use Rattle.std.proofs.Common.{◌≡◌, ◌∙◌, [], inl, inr, refl, ap, sym}
 use Rattle.cj_stream.specs.Source.{source_reader}
 use Rattle.cj_stream.proofs.NoteLemmas.{Noting-memory, noted-none}
-use Rattle.cj_stream.proofs.RunLemmas.{Consumes-none, Runs-memory, Stops-memory, memory-sink, memory-no_fault, unread-memory, enough-memory, enough-reads, none-counted}
+use Rattle.cj_stream.proofs.RunLemmas.{Consumes-none, Runs-memory, Stops-memory, Stops-read, memory-sink, memory-no_fault, unread-memory, enough-memory, enough-reads, none-counted}
 use Rattle.cj_stream.proofs.running.run_within.Goals as goal
 
 -- The source holds the same loan to the end, so what is left in it is what the lender finds.
@@ -11,7 +11,7 @@ returns g c =
     c.reader-1.given.1 (sym c.new-source.ensures.same_reference ∙ sym c.drive-ended.ensures.same_reference) in
     let runs = rw (c.new-source.ensures.reader, ← back, c.in-Ok.ensures.empty.1) at c.drive-ended.ensures.runs in
     rw c.of.ensures (record {
-      runs = runs;
+      runs = (runs.0, runs.1, runs.2, runs.3, runs.4, Stops-read _ _ runs.5);
       cause = c.drive-ended.ensures.cause;
       enough = enough-reads _ _ _ runs.0 _ runs.1 runs.2;
       none = λ nothing.
@@ -41,7 +41,7 @@ returns-in-Err g c = record {
     unread-memory _ _ (ap (λ o. o.ended) c.without_memory.ensures),
     rw c.without_memory.ensures (Runs-memory g.S.LineSink.law _ _ c.args.sink.now),
     rw c.without_memory.ensures (Noting-memory g.N.ReportSink.notes _ c.args.reports.now),
-    rw c.without_memory.ensures (Stops-memory _),
+    rw c.without_memory.ensures (Stops-memory _ _ refl),
   );
   cause = λ fault. absurd (memory-no_fault (sym (ap (λ o. o.ended) c.without_memory.ensures) ∙ fault));
   enough = enough-memory _ _ _ (ap (λ o. o.ended) c.without_memory.ensures);
