@@ -182,9 +182,9 @@ def filter(
 
     Args:
         source: The stream, as `check` takes it.
-        output: A path, `-` for standard output, or a binary file. A path is written as `NAME.part`.
-            It is renamed when the whole stream was read and is valid. With `keep_going` a valid
-            header is enough.
+        output: A path, `-` for standard output, or a binary file. A path is written to a new file
+            next to it, which is renamed when the whole stream was read and is valid. With
+            `keep_going` a valid header is enough.
         ids: Keeps a feature whose id is one of these.
         types: Keeps a feature that has a city object of one of these types.
         lods: Keeps a feature that has a geometry of one of these LoDs.
@@ -192,7 +192,7 @@ def filter(
             minx,miny,maxx,maxy, in world coordinates.
         exclude: Keeps the features that the query does not select.
         keep_going: Whether to leave out invalid lines, and to go on.
-        keep_partial: Whether `NAME.part` stays if the stream is invalid.
+        keep_partial: Whether what was kept is left as `NAME.part` if the stream is invalid.
 
     Returns:
         The verdict, the counts and the reports. `features` counts what was kept.
@@ -339,8 +339,9 @@ def index(
 ) -> List[Result]:
     """Writes an index of streams. `Index` uses it to cut the streams without reading them whole.
 
-    The index is a GeoPackage, which docs/geopackage.md describes. It is written as `NAME.part`, and
-    renamed when it is whole. The options that are not listed here are those of `check`.
+    The index is a GeoPackage, which docs/geopackage.md describes. It is written to a new file next
+    to it, which is renamed when it is whole. The options that are not listed here are those of
+    `check`.
 
     Args:
         paths: The paths of the streams, or the only one. They are regular files, which may be
@@ -354,9 +355,10 @@ def index(
     Raises:
         InvalidStream: A stream is invalid. With `keep_going` only an invalid header is.
         ReadFault: A stream cannot be opened or read, or it changes.
-        WriteFault: The index cannot be opened or written.
+        WriteFault: The index cannot be opened or written, or another program has an older one open.
         MemoryFault: Memory is short.
-        RequestError: An argument has a value that it may not have, or the output is a stream.
+        RequestError: An argument has a value that it may not have, or the output is a stream or
+            another file that is no index.
         LibraryMissing: The library is not there, or it is another version.
     """
     from .indexing import checked, index as indexed  # few runs need it

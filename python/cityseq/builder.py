@@ -15,9 +15,10 @@ from ._library import LOD_CLASSES, library
 from .extents import World, wider
 from .faults import WriteFault, write_fault
 from .geopackage import TREE, UNDEFINED, geometry_start, polygon, system_of
-from .outputs import PART, hand_mode_on, part_of
+from .outputs import Part, target_of
 from .query import Work
 from .records import Records, stored, stored_as_spelled
+from .replacing import replaceable
 from .reports import Report
 from .rtree import Tree, cell_of, key_of
 from .running import Result
@@ -114,7 +115,7 @@ def telling_of(name: str) -> Iterator[None]:
 
 
 class Builder:
-    """Writes an index to `NAME.part`, and renames it when it is whole."""
+    """Writes an index to `.NAME.*.part`, and renames it when it is whole."""
 
     def __init__(self, path: str) -> None:
         """Takes the name of the index. It opens no file.
@@ -125,12 +126,11 @@ class Builder:
         self.name, self._fid = path, 0
         self._systems: Set[int] = set()  # of coordinates
         self._opened: Optional[sqlite3.Connection] = None
-        self._is_begun = False
-        part = part_of(path)
-        if part is None:
+        target = target_of(path)
+        if target is None:
             what = "Is a directory" if os.path.isdir(path) else "an index is a regular file"
             raise WriteFault(f"write fault: {what}", None, path)
-        self._path = part
+        self._part = Part(target)
 
     @property
     def _base(self) -> sqlite3.Connection:
@@ -141,16 +141,16 @@ class Builder:
         """Begins the file. An interrupt may come at once, so who calls it must call `discard`.
 
         Raises:
-            WriteFault: It cannot be opened or written.
+            RequestError: A file has the name of the index, and is none.
+            WriteFault: It cannot be opened or written, or another program has an older index open.
         """
-        self._is_begun = True  # before the file exists
+        with replaceable(self.name):
+            pass  # to know it before all streams are read
         try:
-            with open(self._path, "wb"):
-                hand_mode_on(self.name, self._path)
+            os.close(self._part.make())
         except OSError as fault:
-            self._is_begun = False
             raise write_fault(fault, self.name) from fault
-        self._opened = sqlite3.connect(self._path, isolation_level=None)
+        self._opened = sqlite3.connect(self._part.path, isolation_level=None)
         with telling_of(self.name):
             for setting in (
                 "journal_mode = OFF",
@@ -261,15 +261,16 @@ class Builder:
             geopackage.describe(base, system)
             options = (work.tree, work.keep_going, work.line_limit, work.depth)
             base.execute(
-                "INSERT INTO cityseq_index VALUES (?,?,?,?,?,?)",
-                (geopackage.VERSION, program, *options),
+                "INSERT INTO cityseq_index VALUES (?,?,?,?,?,?,0,?)",
+                (geopackage.VERSION, program, *options, count),
             )
             base.execute("COMMIT")
             base.close()
-        try:
-            os.replace(self._path, self._path[: -len(PART)])
-        except OSError as fault:
-            raise write_fault(fault, self.name) from fault
+        with replaceable(self.name):
+            try:
+                self._part.replace()
+            except OSError as fault:
+                raise write_fault(fault, self.name) from fault
 
     def _one_system(self) -> int:
         """Returns the system of all streams, or -1 if they differ. All polygons have it then."""
@@ -287,15 +288,15 @@ class Builder:
         if self._opened is not None:
             with suppress(sqlite3.Error):
                 self._opened.close()
-        if self._is_begun:
-            with suppress(OSError):
-                os.unlink(self._path)
+        self._part.discard()
 
 
 def _path_columns(path: str, index: str) -> Tuple[str, Optional[bytes]]:
     """Returns the path of a stream for an index. A path below the folder of the index is relative
-    to it, so that both can be moved together."""
-    folder, whole = os.path.dirname(os.path.realpath(index)), os.path.abspath(path)
+    to it, so that both can be moved together. Links of folders are followed, since a folder above a
+    linked one is that of its target."""
+    folder, (above, name) = os.path.dirname(os.path.realpath(index)), os.path.split(path)
+    whole = os.path.join(os.path.realpath(above or os.curdir), name)
     inside = os.path.relpath(whole, folder)
     told = whole if inside.split(os.sep)[0] == os.pardir else inside
     text, exact = stored(told)

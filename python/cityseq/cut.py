@@ -3,12 +3,12 @@ from __future__ import annotations
 
 import io
 from contextlib import closing
-from dataclasses import replace
-from typing import TYPE_CHECKING, Any, Callable, Iterable, Iterator, Optional, Tuple
+from dataclasses import dataclass, replace
+from typing import TYPE_CHECKING, Any, Callable, Iterable, Iterator, List, Optional, Tuple
 
 from .faults import OutOfDate, RequestError, Status, write_fault
 from .fetching import OTHER_LINES, IndexedStream, Row, header_of, lines_of, placed
-from .outputs import Target, Writer
+from .outputs import Batch, Target, Writer
 from .query import Work
 from .running import Result, Stream, threaded
 from .sources import PIECE, is_path
@@ -39,31 +39,77 @@ class _Lines(io.RawIOBase):
         return piece
 
 
-def _texts(selections: Selections, base: Optional[str]) -> Iterator[bytes]:
-    """Yields the header, and then the selected lines of each stream."""
-    is_first, end = True, b"\n"
-    for stream, rows in selections:
-        with placed(stream, base) as place:
-            header = header_of(stream, place)
-            if is_first:
-                yield header
-            is_first = False
-            for part, _ in lines_of(stream, place, rows):
-                # the last line of the stream before may have no LF
-                yield part if end == b"\n" else b"\n" + part
-                end = part[-1:]
+@dataclass(frozen=True)
+class _Cut:
+    """A cut by an index.
 
+    Attributes:
+        index: The index.
+        work: The query.
+        jobs: How many threads judge. None is one for each processor.
+    """
 
-def _judged(
-    name: str, texts: Iterator[bytes], work: Work, writer: Writer, jobs: Optional[int]
-) -> Result:
-    """Judges the lines again, and writes those that are kept."""
-    with closing(texts):  # type: ignore[type-var]
-        source: Any = _Lines(name, texts)
-        (result,) = threaded([Stream(source, work, output=writer)], jobs)
-    if result.end is not None and result.end.line > 1 and result.fault is None:
-        raise OutOfDate.because(OTHER_LINES, name)
-    return result.raised_if_invalid(False)
+    index: "Index"
+    work: Work
+    jobs: Optional[int]
+
+    def written(self, name: str, selections: Selections, writer: Writer) -> Result:
+        """Judges the selected lines again, and writes those that are kept."""
+        with closing(self._texts(selections)) as texts:  # type: ignore[type-var]
+            source: Any = _Lines(name, texts)
+            (result,) = threaded([Stream(source, self.work, output=writer)], self.jobs)
+        if result.end is not None and result.end.line > 1 and result.fault is None:
+            raise OutOfDate.because(OTHER_LINES, name)
+        return result.raised_if_invalid(False)
+
+    def written_whole(self, name: str, selections: Selections, output: Target) -> Result:
+        """Does the same for a target that is not a path. It gets the output only when that is
+        whole."""
+        import tempfile  # a cut to a path does not need it
+
+        target = Writer(output)
+        try:
+            with tempfile.SpooledTemporaryFile(HELD) as spool:
+                result = self.written(name, selections, Writer(spool))
+                spool.seek(0)
+                for piece in iter(lambda: spool.read(PIECE), b""):
+                    target.write(piece)
+        except OSError as fault:
+            if hasattr(fault, "words"):
+                raise
+            raise write_fault(fault, target.name) from fault
+        target.close(True)
+        return result
+
+    def _texts(self, selections: Selections) -> Iterator[bytes]:
+        """Yields the header, and then the selected lines of each stream.
+
+        The last line of a stream may have no LF. It gets one before the next kept line, and no
+        other line may bring it. So lines up to that one are judged here, and left out.
+        """
+        is_first, lacks_end = True, False
+        for stream, rows in selections:
+            with placed(stream, self.index.base) as place:
+                header = header_of(stream, place)
+                if is_first:
+                    yield header
+                is_first = False
+                for part, numbers in lines_of(stream, place, rows):
+                    if lacks_end:
+                        if not self._keeps_some(stream, header, part, numbers):
+                            continue
+                        yield b"\n"
+                    yield part
+                    lacks_end = not part.endswith(b"\n")
+
+    def _keeps_some(
+        self, stream: IndexedStream, header: bytes, part: bytes, numbers: List[int]
+    ) -> bool:
+        """Whether the query keeps one of some lines."""
+        from .lookup import kept  # a cut has loaded it
+
+        found = list(kept(self.work, stream, header, part, numbers))
+        return bool(found)
 
 
 def _counted(result: Result, streams: Iterable[IndexedStream]) -> Result:
@@ -78,35 +124,6 @@ def _counted(result: Result, streams: Iterable[IndexedStream]) -> Result:
     )
 
 
-def _written(
-    name: str,
-    selections: Selections,
-    index: "Index",
-    work: Work,
-    output: Target,
-    jobs: Optional[int],
-) -> Result:
-    """Writes one output. A target that is not a path gets the output only when it is whole."""
-    texts = _texts(selections, index.base)
-    if is_path(output):
-        return _judged(name, texts, work, Writer(output), jobs)
-    import tempfile  # a cut to a path does not need it
-
-    target = Writer(output)
-    try:
-        with tempfile.SpooledTemporaryFile(HELD) as spool:
-            result = _judged(name, texts, work, Writer(spool), jobs)
-            spool.seek(0)
-            for piece in iter(lambda: spool.read(PIECE), b""):
-                target.write(piece)
-    except OSError as fault:
-        if hasattr(fault, "words"):
-            raise
-        raise write_fault(fault, target.name) from fault
-    target.close(True)
-    return result
-
-
 def cut(index: "Index", work: Work, output: Target, jobs: Optional[int]) -> Result:
     """Writes what a query keeps of all streams of an index. They have one header and one output.
 
@@ -119,9 +136,10 @@ def cut(index: "Index", work: Work, output: Target, jobs: Optional[int]) -> Resu
             "each stream has its own header, and so its own output: name a folder by --output-dir"
         )
     index.check()
-    name = streams[0].path
-    result = _written(name, index.selections(work), index, work, output, jobs)
-    return _counted(result, streams)
+    made, name, selections = _Cut(index, work, jobs), streams[0].path, index.selections(work)
+    if is_path(output):
+        return _counted(made.written(name, selections, Writer(output)), streams)
+    return _counted(made.written_whole(name, selections, output), streams)
 
 
 def cut_each(
@@ -129,14 +147,19 @@ def cut_each(
     work: Work,
     output_of: Callable[[IndexedStream], str],
     jobs: Optional[int],
-) -> Iterator[Result]:
-    """Writes what a query keeps of each stream to an output of its own, in order.
+) -> List[Result]:
+    """Writes what a query keeps of each stream to an output of its own. The outputs get their names
+    when all are whole.
 
     Raises:
-        CityseqError: As `Index.filter` does.
+        CityseqError: As `Index.filter` does. No output is there then.
     """
     index.check()
-    for stream, rows in index.selections(work):
-        one: Any = [(stream, rows)]
-        result = _written(stream.path, one, index, work, output_of(stream), jobs)
-        yield _counted(result, [stream])
+    made, results = _Cut(index, work, jobs), []
+    with Batch() as batch:
+        for stream, rows in index.selections(work):
+            writer = Writer(output_of(stream), batch=batch)
+            result = made.written(stream.path, [(stream, rows)], writer)
+            results.append(_counted(result, [stream]))
+        batch.replace()
+    return results

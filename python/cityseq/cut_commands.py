@@ -2,6 +2,8 @@
 from __future__ import annotations
 
 import os
+from contextlib import contextmanager, suppress
+from dataclasses import replace
 from typing import Iterator, List
 
 from . import __version__
@@ -83,25 +85,61 @@ def _cut(wanted: Asked, index: Index) -> int:
         for stream in index.streams:
             if stream.packing is not None:
                 say(f"{shown(stream.path)}: it is packed, so the cut reads it from its beginning")
+    how = replace(  # as the lines were judged
+        wanted,
+        tree=index.tree,
+        keep_going=index.keep_going,
+        line_limit=index.line_limit,
+        depth=index.depth,
+    )
     worst = 0
     with Bar(None, False) as bar:
-        teller = teller_of(wanted, bar, len(index.streams) > 1)
+        teller = teller_of(how, bar, len(index.streams) > 1)
         for result in _results(wanted, index, work, outputs):
             worst = max(worst, result.status)
-            told = result_object(result, wanted, __version__, size_of(result.file), None)
+            told = result_object(result, how, __version__, size_of(result.file), None)
             teller.result(result, lambda told=told: told)  # type: ignore[misc]
+    if not wanted.quiet and not wanted.json:
+        _say_left_out(index)
     return worst
 
 
-def _results(wanted: Asked, index: Index, work: Work, outputs: List[str]) -> Iterator[Result]:
+def _say_left_out(index: Index) -> None:
+    """Says which streams have invalid lines, which the index and the output lack."""
+    for stream in index.streams:
+        if stream.refused:
+            lines = "line was" if stream.refused == 1 else "lines were"
+            say(
+                f"{shown(stream.path)}: {stream.refused:,} invalid {lines} left out:"
+                f" index --show {shown(index.path)}"
+            )
+
+
+@contextmanager
+def _folder(path: str) -> Iterator[None]:
+    """Makes a folder. Removes it if the `with` block fails and leaves nothing in it."""
+    missing, above = [], os.path.realpath(path)
+    while not os.path.lexists(above):
+        missing.append(above)
+        above = os.path.dirname(above)
+    try:
+        make_folder(path)
+        yield
+    except BaseException:
+        with suppress(OSError):
+            for each in missing:
+                os.rmdir(each)
+        raise
+
+
+def _results(wanted: Asked, index: Index, work: Work, outputs: List[str]) -> List[Result]:
     if wanted.output_dir is None:
-        yield cut(index, work, outputs[0], wanted.jobs)
-        return
+        return [cut(index, work, outputs[0], wanted.jobs)]
     index.check()  # before anything is made
-    make_folder(wanted.output_dir)
     targets = dict(zip((stream.number for stream in index.streams), outputs))
 
     def output_of(stream: IndexedStream) -> str:
         return targets[stream.number]
 
-    yield from cut_each(index, work, output_of, wanted.jobs)
+    with _folder(wanted.output_dir):
+        return cut_each(index, work, output_of, wanted.jobs)

@@ -245,5 +245,5 @@ def index(
 
     written(builder, lambda: _run_each(client, named, work, made), work, found.append)
     for result in found:
-        result.raised_if_invalid(keep_going and result.end is None)
+        result.raised_if_invalid(keep_going)
     return found

@@ -2,14 +2,19 @@
 from __future__ import annotations
 
 import hashlib
+import json
 import os
+import stat
 from contextlib import contextmanager
 from dataclasses import dataclass
 from typing import Any, Iterable, Iterator, List, NamedTuple, Optional, Tuple
 
-from .faults import OutOfDate, read_fault
+from ._library import LINE_LIMITS
+from .database import INDEX_CHANGED
+from .faults import OutOfDate, ReadFault, read_fault
+from .packed import Unpacker
 from .places import Placed
-from .sources import READ_FAULTS, Reader, opened, state_of
+from .sources import CHANGED, READ_FAULTS, Reader, opened, state_of
 
 NEAR = 1 << 16  # bytes: lines that are nearer than this are read together
 MOST = 4 << 20  # bytes that are read together, unless one line has more
@@ -68,6 +73,30 @@ class IndexedStream:
             return
         raise OutOfDate.because(f"the stream is {told}", self.path)
 
+    @property
+    def is_flat(self) -> bool:
+        """Whether a query may have a box: x and y of the transform are fixed numbers."""
+        from decimal import Decimal, InvalidOperation  # few runs need it
+
+        from .extents import World
+
+        try:
+            told = (json.loads(text) for text in (self.scale, self.translate))
+            scale, translate = (list(map(Decimal, texts)) for texts in told)
+        except InvalidOperation:  # a number with a greater exponent than Python takes
+            return False
+        return World(scale, translate).is_flat
+
+
+def _confirm(stream: IndexedStream, descriptor: int) -> None:
+    """Checks after the last read that a file has not changed since the first one.
+
+    Raises:
+        ReadFault: It has.
+    """
+    if state_of(descriptor) != (stream.size, stream.mtime_ns):
+        raise ReadFault(f"read fault: {CHANGED}", None, stream.path)
+
 
 class FilePlace:
     """A plain file."""
@@ -85,17 +114,23 @@ class FilePlace:
             raise read_fault(fault, self._stream.path)
         return bytes(room[:count])
 
+    def confirm(self) -> None:
+        """Raises `ReadFault` if the file has changed since it was opened."""
+        _confirm(self._stream, self._file.fileno())
+
 
 class PackedPlace:
     """A packed file. It is read from its beginning, so places may only rise, or fall by one."""
 
     def __init__(self, stream: IndexedStream, reader: Reader) -> None:
-        self._reader, self._held, self._begin = reader, bytearray(), 0
+        self._stream, self._reader = stream, reader
+        self._held, self._begin, self._end = bytearray(), 0, 0
         stream.compare(*state_of(reader.file.fileno()))
 
     def read(self, begin: int, end: int) -> bytes:
         """Returns the bytes from one place of the unpacked text to another, or as many as there
         are."""
+        self._end = max(self._end, end)
         while self._begin + len(self._held) < end:
             if self._begin + len(self._held) <= begin:
                 self._begin += len(self._held)
@@ -110,6 +145,21 @@ class PackedPlace:
             del self._held[: begin - self._begin]
             self._begin = begin
         return bytes(self._held[: end - begin])
+
+    def confirm(self) -> None:
+        """Reads on to the next checksum of the archive, which shows whether the text is right. The
+        header has a checksum in the index.
+
+        Raises:
+            ReadFault: It is not, or the file has changed since it was opened.
+        """
+        file = self._reader.file
+        if isinstance(file, Unpacker) and self._end > self._stream.header_length:
+            try:
+                file.finish_member()
+            except READ_FAULTS as fault:
+                raise read_fault(fault, self._stream.path) from fault
+        _confirm(self._stream, file.fileno())
 
 
 @contextmanager
@@ -126,6 +176,7 @@ def placed(stream: IndexedStream, base: Optional[str]) -> Iterator[Any]:
         with WebPlace(stream, base) as place:
             yield place
         return
+    check_file(stream)  # a pipe would wait for a writer when it is opened
     with opened(stream.path) as reader:
         kind: Any = FilePlace if stream.packing is None else PackedPlace
         try:
@@ -133,6 +184,7 @@ def placed(stream: IndexedStream, base: Optional[str]) -> Iterator[Any]:
         except READ_FAULTS as fault:
             raise read_fault(fault, stream.path) from fault
         yield of_file
+        of_file.confirm()
 
 
 def header_of(stream: IndexedStream, place: Any) -> bytes:
@@ -144,20 +196,30 @@ def header_of(stream: IndexedStream, place: Any) -> bytes:
 
 
 def check_file(stream: IndexedStream) -> None:
-    """Raises `OutOfDate` if the file of a stream has another size or time than the index has."""
+    """Checks that the file of a stream is a regular file of the size and time that the index has.
+
+    Raises:
+        OutOfDate: It has another size or time.
+        ReadFault: It is missing, or no regular file.
+    """
     try:
         state = os.stat(stream.path)
     except OSError as fault:
         raise read_fault(fault, stream.path) from fault
+    if not stat.S_ISREG(state.st_mode):
+        raise ReadFault("read fault: it is no regular file", None, stream.path)
     stream.compare(state.st_size, state.st_mtime_ns)
 
 
 def _groups(stream: IndexedStream, rows: Iterable[Row]) -> Iterator[List[Row]]:
-    """Yields the rows of lines that are read together."""
+    """Yields the rows of lines that are read together. Each line begins after the one before."""
     group: List[Row] = []
+    end = 0  # of the line before
     for row in rows:
-        if any(type(each) is not int or each < 0 for each in row) or row.begin == 0:
-            raise OutOfDate.because("it was changed", stream.path)
+        is_row = all(type(each) is int and each >= 0 for each in row)
+        if not is_row or row.begin <= end or row.length > LINE_LIMITS[1]:
+            raise OutOfDate.because(INDEX_CHANGED, stream.path)
+        end = row.begin + row.length
         if group and (
             row.begin - (group[-1].begin + group[-1].length) > NEAR
             or row.begin + row.length - group[0].begin > MOST
@@ -170,12 +232,14 @@ def _groups(stream: IndexedStream, rows: Iterable[Row]) -> Iterator[List[Row]]:
 
 
 def _line(stream: IndexedStream, text: bytes, begin: int, length: int) -> bytes:
-    """Returns a line with its LF, if it has one. It must begin after an LF of the text."""
+    """Returns a line with its LF, if it has one. It must begin after an LF of the text, and must be
+    one line that is not blank."""
     end = begin + length
     if len(text) < end:
         raise OutOfDate.because(SHORTER, stream.path)
     line = text[begin : end + 1]
-    if text[begin - 1 : begin] != b"\n" or (len(text) > end and line[-1:] != b"\n"):
+    is_one = line.find(b"\n") == (length if len(text) > end else -1)
+    if text[begin - 1 : begin] != b"\n" or not is_one or not line or line.isspace():
         raise OutOfDate.because(OTHER_LINES, stream.path)
     return line
 

@@ -67,8 +67,24 @@ CREATE TABLE reports (
   byte INTEGER NOT NULL, code INTEGER NOT NULL, text TEXT NOT NULL, id TEXT, excerpt TEXT);
 CREATE TABLE cityseq_index (
   version INTEGER NOT NULL, program TEXT NOT NULL, tree INTEGER NOT NULL,
-  keep_going INTEGER NOT NULL, line_limit INTEGER NOT NULL, depth INTEGER NOT NULL);
+  keep_going INTEGER NOT NULL, line_limit INTEGER NOT NULL, depth INTEGER NOT NULL,
+  changed INTEGER NOT NULL, places INTEGER NOT NULL);
 """
+
+# They note that another program has changed what cuts rely on.
+GUARD = """
+CREATE TRIGGER {name} AFTER {event} ON {table}
+BEGIN
+  UPDATE cityseq_index SET changed = 1 WHERE changed = 0;
+END
+"""
+GUARDED = ("features", "streams")
+EVENTS = {
+    f"cityseq_{table}_{event.lower()}": (event, table)
+    for table in GUARDED
+    for event in ("INSERT", "UPDATE", "DELETE")
+}
+GUARDS = tuple(EVENTS)
 
 # The triggers of the extension `gpkg_rtree_index`: other programs may change the layer.
 TRIGGERS = """
@@ -177,3 +193,5 @@ def describe(base: sqlite3.Connection, system: int) -> None:
     for each in TRIGGERS.format(tree=TREE, table=TABLE, geom=COLUMN, box=box).split("\nEND;\n"):
         if each.strip():
             base.execute(f"{each}\nEND")
+    for guard, (event, table) in EVENTS.items():
+        base.execute(GUARD.format(name=guard, event=event, table=table))

@@ -3,7 +3,8 @@ from __future__ import annotations
 
 from typing import TYPE_CHECKING, Any, Dict, Iterator, List, Optional, Sequence
 
-from .faults import ReadFault
+from .database import INDEX_CHANGED
+from .faults import OutOfDate, ReadFault
 from .fetching import IndexedStream, check_file
 from .shown import quoted, shown
 
@@ -24,6 +25,11 @@ def _extent(streams: Sequence[IndexedStream]) -> Extent:
         return None
     least_x, least_y, most_x, most_y = zip(*boxes)
     return [min(least_x), min(least_y), max(most_x), max(most_y)]
+
+
+def _fault(index: "Index") -> Optional[str]:
+    """Returns why the index cannot be used at all, or None."""
+    return OutOfDate.because(INDEX_CHANGED, index.path).words if index.is_changed else None
 
 
 def _state(index: "Index", stream: IndexedStream) -> Optional[str]:
@@ -50,6 +56,9 @@ def lines(index: "Index") -> Iterator[str]:
     extent = _extent(streams)
     if extent is not None:
         yield _boxed(extent).lstrip()
+    why = _fault(index)
+    if why is not None:
+        yield why
     for stream in streams:
         counts = f"lines {stream.lines} features {stream.features} rejected {stream.refused}"
         yield f"stream {shown(stream.path)} {counts}{_boxed(_extent([stream]))}"
@@ -58,6 +67,9 @@ def lines(index: "Index") -> Iterator[str]:
         why = _state(index, stream)
         if why is not None:
             yield f"    {why}"
+        for line, byte, code, text, name in index.reports(stream):
+            of = "" if name is None else f", feature {quoted(name)}"
+            yield f"    left out: line {line}, byte {byte}: {code} {shown(text)}{of}"
     for repeated in index.repeated_ids():
         yield f"repeated id {quoted(repeated.id)} in {len(repeated.places)} features"
         yield from (f"    {shown(path)} line {line}" for path, line in repeated.places)
@@ -74,6 +86,7 @@ def shown_object(index: "Index", program: str) -> Dict[str, Any]:
             "cityseq": program,
             "features": sum(stream.features for stream in index.streams),
             "bbox": _extent(index.streams),
+            "fault": _fault(index),
             "streams": [
                 {
                     "file": stream.path,
@@ -86,6 +99,10 @@ def shown_object(index: "Index", program: str) -> Dict[str, Any]:
                     "reference_system": stream.reference_system,
                     "bbox": _extent([stream]),
                     "fault": _state(index, stream),
+                    "reports": [
+                        dict(zip(("line", "byte", "code", "text", "id"), report))
+                        for report in index.reports(stream)
+                    ],
                 }
                 for stream in index.streams
             ],

@@ -244,5 +244,5 @@ def index(
     )
     written(builder, lambda: by_threads(streams, jobs), work, made.append)
     for result in made:
-        result.raised_if_invalid(work.keep_going and result.end is None)
+        result.raised_if_invalid(work.keep_going)
     return made

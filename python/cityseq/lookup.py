@@ -2,29 +2,30 @@
 from __future__ import annotations
 
 import os
-import sqlite3
 from contextlib import contextmanager
 from dataclasses import dataclass
-from itertools import groupby
-from typing import Any, Iterator, List, Optional, Tuple, Union
+from itertools import chain, groupby
+from typing import Any, Dict, Iterator, List, Optional, Tuple, Union
 
 from . import geopackage
 from ._library import LOD_CLASSES, CallStatus, library
+from .database import INDEX_CHANGED, Database
 from .extents import box_of
-from .faults import OutOfDate, ReadFault, RequestError, read_fault
+from .faults import OutOfDate, ReadFault, RequestError
 from .fetching import IndexedStream, Row, check_file, header_of, lines_of, placed
+from .index_rows import OPTIONS, REPORTS, STREAMS, checked
 from .listing import Feature, fault_of, feature_of
 from .outputs import Target
 from .query import Box, Texts, Work, asked
 from .records import id_of, stored
 from .running import Result
 
-MAGIC = b"SQLite format 3\0"
-STREAM_COLUMNS = (
-    "fid, path, path_exact, packing, size, mtime_ns, header_length, header_sha256, scale,"
-    " translate, reference_system, lines, features, refused, first_fid, xmin, xmax, ymin, ymax,"
-    " zmin, zmax"
-)
+COLUMNS = {
+    "cityseq_index": ("version", *OPTIONS, "changed", "places"),
+    "features": ("fid", "stream", "line", "begin", "length", "id", "id_exact", "types", "lods"),
+    "streams": tuple(STREAMS),
+    "reports": tuple(REPORTS),
+}
 IN_BOX = (
     f"fid IN (SELECT id FROM {geopackage.TREE}"
     " WHERE minx <= ? AND maxx >= ? AND miny <= ? AND maxy >= ?)"
@@ -48,31 +49,6 @@ class RepeatedId:
 
     id: str
     places: Tuple[Tuple[str, int], ...]
-
-
-def _opened(path: str) -> sqlite3.Connection:
-    """Opens a database for reading. Raises `ReadFault` if there is none."""
-    try:
-        with open(path, "rb") as file:
-            is_database = file.read(len(MAGIC)) == MAGIC
-    except OSError as fault:
-        raise read_fault(fault, path) from fault
-    if not is_database:
-        raise ReadFault("read fault: it is no index of cityseq", None, path)
-    whole = os.fsencode(os.path.abspath(path))
-    name = f"file:{''.join(f'%{byte:02x}' for byte in whole)}?mode=ro"
-    base = sqlite3.connect(name, uri=True, isolation_level=None, check_same_thread=False)
-    base.execute("PRAGMA trusted_schema = OFF")  # the file may come from anywhere
-    return base
-
-
-@contextmanager
-def _reading(path: str) -> Iterator[None]:
-    """Turns an error of SQLite into a read fault."""
-    try:
-        yield
-    except sqlite3.Error as fault:
-        raise read_fault(fault, path) from fault
 
 
 class Index:
@@ -100,10 +76,12 @@ class Index:
 
             checked_base(base)
         self.path, self.base = os.fsdecode(path), base
-        self._base = _opened(self.path)
+        self._base = Database(self.path)
         try:
+            self._check_version()
             self.tree, self.keep_going, self.line_limit, self.depth = self._options()
             self.streams = list(self._streams())
+            self._check_streams()
         except BaseException:
             self._base.close()
             raise
@@ -118,30 +96,58 @@ class Index:
         """Closes the file."""
         self._base.close()
 
+    def _fault(self, words: str) -> ReadFault:
+        return ReadFault(f"read fault: {words}", None, self.path)
+
+    def _check_version(self) -> None:
+        """Checks the version, the tables and their columns."""
+        with self._base.reading():
+            rows = self._base.execute("SELECT version FROM cityseq_index LIMIT 2").fetchall()
+        version = rows[0][0] if len(rows) == 1 else None
+        if version != geopackage.VERSION:
+            words = f"it is an index of version {version!r:.20}, and not of version"
+            raise self._fault(f"{words} {geopackage.VERSION}: build it again")
+        self._base.check_tables()
+        for table, columns in COLUMNS.items():
+            missing = sorted(set(columns) - self._base.columns(table))
+            if missing:
+                raise self._fault(f"its table {table} has no {missing[0]}: build it again")
+
     def _options(self) -> Tuple[bool, bool, int, int]:
-        with _reading(self.path):
-            found = self._base.execute(
-                "SELECT name FROM sqlite_master WHERE name = 'cityseq_index'"
-            ).fetchone()
-            if found is None:
-                raise ReadFault("read fault: it is no index of cityseq", None, self.path)
-            row: Any = self._base.execute("SELECT version FROM cityseq_index").fetchone()
-            version = None if row is None else row[0]
-            if version != geopackage.VERSION:
-                words = f"read fault: it is an index of version {version}, and not of version"
-                raise ReadFault(f"{words} {geopackage.VERSION}: build it again", None, self.path)
-            row = self._base.execute(
-                "SELECT tree, keep_going, line_limit, depth FROM cityseq_index"
-            ).fetchone()
-            return bool(row[0]), bool(row[1]), row[2], row[3]
+        with self._base.reading():
+            select = f"SELECT {', '.join(OPTIONS)} FROM cityseq_index"
+            row = self._base.execute(select).fetchone()
+        tree, keep_going, limit, depth = checked("cityseq_index", OPTIONS, row, self.path)
+        return bool(tree), bool(keep_going), limit, depth
 
     def _streams(self) -> Iterator[IndexedStream]:
         folder = os.path.dirname(os.path.realpath(self.path))
-        with _reading(self.path):
-            rows = self._base.execute(f"SELECT {STREAM_COLUMNS} FROM streams ORDER BY fid")
-            for number, text, exact, *others in rows:
+        with self._base.reading():
+            rows = self._base.execute(f"SELECT {', '.join(STREAMS)} FROM streams ORDER BY fid")
+            for row in rows:
+                number, text, exact, *others = checked("streams", STREAMS, row, self.path)
                 told = text if exact is None else os.fsdecode(exact)
                 yield IndexedStream(number, os.path.join(folder, told), told, *others)
+
+    def _check_streams(self) -> None:
+        """Checks that the index has streams, that their features follow one another, and that no
+        two have one URL."""
+        first = 1
+        for stream in self.streams:
+            if stream.first_fid != first:
+                raise OutOfDate.because(INDEX_CHANGED, self.path)
+            first += stream.features
+        if not self.streams:
+            raise self._fault("it has no streams")
+        if self.base is not None:
+            from .web import url_of  # few runs need it
+
+            urls: Dict[str, str] = {}
+            for stream in self.streams:
+                other = urls.setdefault(url_of(self.base, stream.told_path), stream.path)
+                if other != stream.path:
+                    words = f"it has the same URL as {other}: give each stream a name of its own"
+                    raise RequestError(words, None, stream.path)
 
     # ---- which lines
 
@@ -205,7 +211,8 @@ class Index:
                 parts = [f"instr(',' || {column} || ',', ?)"] * len(each)
                 conditions.append(f"({' OR '.join(parts)})")
                 given += [f",{name}," for name in each]
-        with _reading(self.path):
+        self._check_index(work)
+        with self._base.reading():
             if work.ids is not None:
                 self._want(work.ids)
                 conditions.append(WITH_ID)
@@ -214,6 +221,18 @@ class Index:
             # `yield from` would close the cursor with the generator, perhaps after the database
             for row in self._base.execute(f"{select}{which} ORDER BY fid{end}", given):
                 yield row
+        if self._base.is_changed():
+            raise OutOfDate.because(INDEX_CHANGED, self.path)
+
+    def _check_index(self, work: Optional[Work] = None) -> None:
+        """Checks that no other program has changed the index.
+
+        Raises:
+            OutOfDate: One has.
+        """
+        self._base.check(sum(stream.features for stream in self.streams))
+        if work is not None and work.box is not None:
+            self._base.check_tree()
 
     def _want(self, ids: bytes) -> None:
         """Writes the ids of a query to a temporary table."""
@@ -233,15 +252,19 @@ class Index:
                 ahead = next(grouped, None)
             else:
                 yield stream, iter(())
+        if ahead is not None:  # rows of no stream, or not in the order of the streams
+            raise OutOfDate.because(INDEX_CHANGED, self.path)
 
     def check(self) -> None:
-        """Checks that the files of all streams have the size and the time that the index has.
+        """Checks that no other program has changed the index, and that the files of all streams
+        have the size and the time that the index has.
 
         Raises:
-            OutOfDate: One has not.
+            OutOfDate: The index was changed, or a file has another size or time.
             ReadFault: One is missing.
             RequestError: One is packed, so a web server has no ranges of it.
         """
+        self._check_index()
         for stream in self.streams:
             if self.base is None:
                 check_file(stream)
@@ -280,12 +303,17 @@ class Index:
     def _features(self, work: Work) -> Any:
         for stream, rows in self.selections(work):
             first = next(rows, None)
-            if first is None:
+            # no row has a place then, and the header is invalid for a query with a box
+            has_no_box = work.box is not None and not stream.is_flat
+            if first is None and not has_no_box:
                 continue
             with placed(stream, self.base) as place:
                 header = header_of(stream, place)
-                for part, numbers in lines_of(stream, place, _joined(first, rows)):
-                    yield from _kept(work, stream, header, part, numbers)
+                if has_no_box:
+                    yield from kept(work, stream, header, b"", [])
+                if first is not None:
+                    for part, numbers in lines_of(stream, place, chain([first], rows)):
+                        yield from kept(work, stream, header, part, numbers)
 
     def filter(
         self,
@@ -322,7 +350,7 @@ class Index:
     def repeated_ids(self) -> Iterator[RepeatedId]:
         """Yields each id that more than one feature has, in the order of the ids."""
         paths = {stream.number: stream.path for stream in self.streams}
-        with _reading(self.path):
+        with self._base.reading():
             found = self._base.execute(
                 "SELECT id, id_exact FROM features GROUP BY id, id_exact HAVING count(*) > 1"
             )
@@ -331,10 +359,32 @@ class Index:
                     "SELECT stream, line FROM features WHERE id = ? AND id_exact IS ?"
                     " ORDER BY fid",
                     (text, exact),
-                )
-                yield RepeatedId(
-                    id_of(text, exact), tuple((paths[number], line) for number, line in places)
-                )
+                ).fetchall()
+                try:
+                    told = tuple((paths[number], int(line)) for number, line in places)
+                    yield RepeatedId(id_of(text, exact), told)
+                except (AttributeError, KeyError, TypeError, ValueError):
+                    raise OutOfDate.because(INDEX_CHANGED, self.path) from None
+
+    def reports(self, stream: IndexedStream) -> Iterator[Tuple[int, int, int, str, Optional[str]]]:
+        """Yields the invalid lines of a stream, which were left out: line, byte, code, text of the
+        reason, and id of the feature if it is known."""
+        columns = [name for name in REPORTS if name != "stream"]
+        tests = {name: REPORTS[name] for name in columns}
+        select = f"SELECT {', '.join(columns)} FROM reports WHERE stream = ? ORDER BY fid"
+        with self._base.reading():
+            for row in self._base.execute(select, (stream.number,)):
+                line, byte, code, text, name = checked("reports", tests, row, self.path)
+                yield line, byte, code, text, name
+
+    @property
+    def is_changed(self) -> bool:
+        """Whether another program has changed the index, as far as that is quickly known."""
+        try:
+            self._check_index()
+        except OutOfDate:
+            return True
+        return False
 
     def show(self) -> str:
         """Returns lines of text: what the index covers, and the ids that appear more than once."""
@@ -354,12 +404,7 @@ def _classes(lods: Optional[bytes]) -> Optional[bytes]:
     return "\n".join(sorted(names)).encode("ascii")
 
 
-def _joined(first: Row, others: Iterator[Row]) -> Iterator[Row]:
-    yield first
-    yield from others
-
-
-def _kept(
+def kept(
     work: Work, stream: IndexedStream, header: bytes, part: bytes, numbers: List[int]
 ) -> Iterator[IndexedFeature]:
     """Yields the features of some lines that the engine keeps."""

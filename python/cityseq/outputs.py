@@ -1,5 +1,5 @@
-"""Outputs of kept lines. A file is written as `NAME.part`, and renamed when it is whole. So no
-incomplete file looks like a whole one."""
+"""Outputs of kept lines. A file is written as `.NAME.*.part`, and renamed when it is whole. So no
+incomplete file looks like a whole one, and two runs with the same output do not mix."""
 from __future__ import annotations
 
 import io
@@ -7,7 +7,7 @@ import os
 import stat
 import sys
 from contextlib import suppress
-from typing import IO, Any, Optional, Union
+from typing import IO, Any, List, Optional, Tuple, Union
 
 from .faults import RequestError, write_fault
 from .packed import Packer, Packing, packing_by_name, require
@@ -16,24 +16,152 @@ from .sources import is_path, name_of
 Target = Union[str, bytes, "os.PathLike[Any]", IO[bytes]]
 
 PART = ".part"  # the end of a file's name until it is whole
+LONGEST = 255  # bytes of a file's name
+NEW = os.O_RDWR | os.O_CREAT | os.O_EXCL | getattr(os, "O_CLOEXEC", 0)
+USUAL_MODE = 0o666  # of a new file, before the system's mask
+OWN_MODE = 0o600  # what its owner may do while the file is written
 
 
-def part_of(path: str) -> Optional[str]:
-    """Returns where the output for a path is written first: next to the file that a link leads to.
-    Returns None for a device or a pipe, which is written directly."""
+def target_of(path: str) -> Optional[str]:
+    """Returns the file that an output replaces. If the path is a link, that is the file that it
+    leads to. Returns None for a device or a pipe, which is written directly."""
     try:
         if not stat.S_ISREG(os.stat(path).st_mode):
             return None
     except OSError:
         pass  # there is nothing yet
-    return os.path.realpath(path) + PART
+    return os.path.realpath(path)
+
+
+def part_of(path: str) -> Optional[str]:
+    """Returns where an output that is not whole is left if it must be kept. Returns None for a
+    device or a pipe."""
+    target = target_of(path)
+    return None if target is None else target + PART
+
+
+def _new_name(target: str) -> str:
+    """Returns a path next to a file that no other file should have."""
+    folder, name = os.path.split(target)
+    end = f".{os.urandom(4).hex()}{PART}"
+    while len(os.fsencode(f".{name}{end}")) > LONGEST:
+        name = name[:-1]
+    return os.path.join(folder, f".{name}{end}")
+
+
+def _mode_of(path: str) -> Optional[int]:
+    """Returns the mode of a file, or None if there is none."""
+    try:
+        return stat.S_IMODE(os.stat(path).st_mode)
+    except OSError:
+        return None
+
+
+class Part:
+    """A new file next to the one that it replaces when it is whole."""
+
+    def __init__(self, target: str) -> None:
+        """Takes the path of the file to replace. It makes no file."""
+        self._target = target
+        self._path: Optional[str] = None
+        self._mode: Optional[int] = None
+
+    @property
+    def path(self) -> str:
+        """The path of the new file, after `make`."""
+        assert self._path is not None
+        return self._path
+
+    def make(self) -> int:
+        """Makes the file, and returns a descriptor of it. An interrupt may come at once, so who
+        calls it must call `discard`.
+
+        Raises:
+            OSError: It cannot be made.
+        """
+        self._mode = _mode_of(self._target)
+        mode = USUAL_MODE if self._mode is None else self._mode | OWN_MODE
+        while True:
+            self._path = _new_name(self._target)  # before the file exists
+            try:
+                return os.open(self._path, NEW, mode)
+            except FileExistsError:
+                continue
+            except OSError:
+                self._path = None
+                raise
+
+    def replace(self) -> None:
+        """Gives the file the name and the mode of the one that it replaces.
+
+        Raises:
+            OSError: That is not possible.
+        """
+        self._rename(self._target)
+
+    def keep(self) -> None:
+        """Gives the file the name `NAME.part`, if it was made.
+
+        Raises:
+            OSError: That is not possible.
+        """
+        if self._path is not None:
+            self._rename(self._target + PART)
+
+    def _rename(self, name: str) -> None:
+        if self._mode is not None:
+            with suppress(OSError):
+                os.chmod(self.path, self._mode)
+        os.replace(self.path, name)
+        self._path = None
+
+    def discard(self) -> None:
+        """Removes the file if it has no other name yet."""
+        if self._path is not None:
+            with suppress(OSError):
+                os.unlink(self._path)
+        self._path = None
+
+
+class Batch:
+    """Whole outputs that get their names together. Leaving a `with` block removes the others."""
+
+    def __init__(self) -> None:
+        self._parts: List[Tuple[str, Part]] = []
+
+    def __enter__(self) -> "Batch":
+        return self
+
+    def __exit__(self, *_: Any) -> None:
+        for _name, part in self._parts:
+            part.discard()
+
+    def add(self, name: str, part: Part) -> None:
+        """Takes a whole output, and the name that a fault gives it."""
+        self._parts.append((name, part))
+
+    def replace(self) -> None:
+        """Gives each output its name.
+
+        Raises:
+            WriteFault: One cannot have it. The outputs before it have theirs.
+        """
+        for name, part in self._parts:
+            try:
+                part.replace()
+            except OSError as fault:
+                raise write_fault(fault, name) from fault
 
 
 class Writer:
     """Writes to a target: a path, `-` for standard output, or a binary file. A path is opened at
     the first call of `write` or `close`. So the file exists even if nothing is kept."""
 
-    def __init__(self, target: Target, keep_partial: bool = False) -> None:
+    def __init__(
+        self, target: Target, keep_partial: bool = False, batch: Optional[Batch] = None
+    ) -> None:
+        """Takes the target. With `keep_partial` a path that is not whole is left as `NAME.part`. If
+        there is a batch, it gives a whole path its name."""
         if isinstance(target, io.TextIOBase) or not (
             isinstance(target, (str, bytes, os.PathLike)) or hasattr(target, "write")
         ):
@@ -42,9 +170,9 @@ class Writer:
             target = os.fsdecode(target)
         self.name = name_of(target)
         self._path = os.fsdecode(target) if is_path(target) else None  # type: ignore[arg-type]
-        self._part: Optional[str] = None  # where the path is written until it is whole
+        self._part: Optional[Part] = None  # where the path is written until it is whole
         self._file: Any = target if hasattr(target, "write") else None
-        self._keep_partial = keep_partial
+        self._keep_partial, self._batch = keep_partial, batch
         if self.packing is not None:
             try:
                 require(self.packing)
@@ -89,7 +217,10 @@ class Writer:
                 if self._path is not None:
                     file.close()
             if whole and self._part is not None:
-                os.replace(self._part, self._part[: -len(PART)])
+                if self._batch is None:
+                    self._part.replace()
+                else:
+                    self._batch.add(self.name, self._part)
                 self._part = None
         except (OSError, ValueError) as fault:
             raise write_fault(fault, self.name) from fault
@@ -102,8 +233,12 @@ class Writer:
         with suppress(OSError, ValueError):
             if self._path is not None and self._file is not None:
                 self._file.close()
-            if self._part is not None and not self._keep_partial:
-                os.unlink(self._part)
+        if self._part is not None:
+            if self._keep_partial:
+                with suppress(OSError):
+                    self._part.keep()
+            else:
+                self._part.discard()
         self._part = None
 
     def _opened(self) -> Any:
@@ -113,20 +248,14 @@ class Writer:
             self._file = sys.stdout.buffer
         elif self._file is None:
             assert self._path is not None
-            part = part_of(self._path)
-            self._part = part  # before the file exists, since an interrupt may come at once
-            try:
-                file = open(part or self._path, "wb")
-            except OSError:
-                self._part = None
-                raise
+            file = self._made(self._path)
             self._file = file if self.packing is None else Packer(file, self.packing)
-            if part is not None:
-                hand_mode_on(self._path, part)
         return self._file
 
-
-def hand_mode_on(before: str, behind: str) -> None:
-    """Gives a file the mode of the file that it will replace, if there is one."""
-    with suppress(OSError):
-        os.chmod(behind, stat.S_IMODE(os.stat(before).st_mode))
+    def _made(self, path: str) -> Any:
+        """Opens the file that a path is written to until it is whole."""
+        target = target_of(path)
+        if target is None:
+            return open(path, "wb")
+        self._part = Part(target)
+        return os.fdopen(self._part.make(), "wb")

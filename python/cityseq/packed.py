@@ -142,22 +142,34 @@ class Unpacker(io.RawIOBase):
         text, self._text = self._text[:most], self._text[most:]
         return text
 
+    def finish_member(self) -> None:
+        """Reads to the end of the member that the last text came from. Its checksum is there.
+        Raises `OSError` or `EOFError` if the archive is broken."""
+        try:
+            while self._member is not None:
+                self._more(READ)
+        except self._kind.faults as fault:
+            raise OSError(f"the archive is broken: {fault}") from fault
+
     def _next(self, most: int) -> bytes:
         while self._member is not None or self._begin():
-            text = self._kind.more(self._member, self._packed, most)
-            is_whole = self._member.eof
-            self._packed = (
-                self._member.unused_data
-                if is_whole
-                else getattr(self._member, "unconsumed_tail", b"")
-            )
-            if is_whole:
-                self._member = None
-            elif not text and not self._packed and not self._fill():
-                raise EOFError("the archive is cut short")
+            text = self._more(most)
             if text:
                 return text
         return b""
+
+    def _more(self, most: int) -> bytes:
+        """Returns some more text of a member, or none if more of the file must be read."""
+        text = self._kind.more(self._member, self._packed, most)
+        is_whole = self._member.eof
+        self._packed = (
+            self._member.unused_data if is_whole else getattr(self._member, "unconsumed_tail", b"")
+        )
+        if is_whole:
+            self._member = None
+        elif not text and not self._packed and not self._fill():
+            raise EOFError("the archive is cut short")
+        return text
 
     def _fill(self) -> bool:
         """Reads some more. Returns False at the end of the file."""

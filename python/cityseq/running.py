@@ -109,10 +109,10 @@ class Result:
         return self
 
     def raised_if_invalid(self, keep_going: bool) -> "Result":
-        """Returns the same. Raises `InvalidStream` too if the stream is invalid, unless the run
-        goes on after invalid lines."""
+        """Returns the same. Raises `InvalidStream` too if the stream is invalid. A run that goes on
+        after invalid lines raises it only for an invalid header."""
         self.raised()
-        if self.status == Status.INVALID and not keep_going:
+        if self.status == Status.INVALID and (self.end is not None or not keep_going):
             raise InvalidStream(str(self.end), self, self.file)
         return self
 

@@ -168,6 +168,11 @@ class InFolder(unittest.TestCase):
         return path
 
 
+def unfinished(folder):
+    """The names of files in a folder that are not whole."""
+    return [name for name in os.listdir(folder) if name.endswith(".part")]
+
+
 def heed_interrupts():
     """Heeds SIGINT in a process that is about to begin. A shell has it ignored by what runs behind
     `&`, and by all that this starts."""

@@ -452,7 +452,7 @@ class BadInput(InFolder):
             cityseq.index(paths, output or self.index, **options)
         self.assertIn(words, str(caught.exception))
         self.assertEqual(self.index.read_bytes() if self.index.exists() else None, before)
-        self.assertEqual([name for name in os.listdir(self.folder) if name.endswith(".part")], [])
+        self.assertEqual(support.unfinished(self.folder), [])
 
     def test_invalid_streams(self):
         for _ in range(2):
@@ -533,8 +533,10 @@ class BadInput(InFolder):
                 env={**os.environ, "PYTHONPATH": f"{ROOT}/python"},
                 preexec_fn=support.heed_interrupts,
             )
-            part = self.folder / "it.gpkg.part"
-            while child.poll() is None and not (part.exists() and part.stat().st_size > 100_000):
+            while child.poll() is None and not any(
+                (self.folder / name).stat().st_size > 100_000
+                for name in support.unfinished(self.folder)
+            ):
                 time.sleep(0.005)
             child.send_signal(number)
             output, found = child.communicate(timeout=30)
@@ -550,7 +552,7 @@ class BadInput(InFolder):
         self.assertEqual(sorted(os.listdir(self.folder)), before)
 
         def interrupted(*_):
-            self.assertTrue(os.path.exists(f"{path}.part"))
+            self.assertEqual(len(support.unfinished(self.folder)), 1)
             raise KeyboardInterrupt
 
         with mock.patch.object(builder.geopackage, "create", interrupted):
@@ -558,16 +560,14 @@ class BadInput(InFolder):
                 cityseq.index(good, path)
         self.assertEqual(sorted(os.listdir(self.folder)), before)
 
-    def test_a_part_of_another_user(self):
-        """It is not removed if it cannot be written."""
+    def test_a_part_of_another_run(self):
+        """It is neither read nor written, and no link of that name is followed."""
         path, good = str(self.folder / "new.gpkg"), self.file(HEADER + feature("a"), "good.jsonl")
-        self.file(b"theirs", "new.gpkg.part")
-        refused = mock.Mock(side_effect=PermissionError(13, "Permission denied"))
-        with mock.patch.object(builder, "open", refused, create=True):
-            with self.assertRaises(cityseq.WriteFault):
-                cityseq.index(good, path)
-        with open(f"{path}.part", "rb") as part:
-            self.assertEqual(part.read(), b"theirs")
+        theirs = self.file(b"theirs", "theirs")
+        os.symlink(theirs, f"{path}.part")
+        cityseq.index(good, path)
+        self.assertEqual((theirs.read_bytes(), os.path.islink(f"{path}.part")), (b"theirs", True))
+        self.assertFalse(os.path.islink(path))
 
     def test_what_is_no_index(self):
         no_database, database, empty = (

@@ -13,7 +13,7 @@ from .support import HEADER, PLAIN, InFolder, command, feature
 from .test_sources import BROKEN, GOOD
 
 import cityseq
-from cityseq.outputs import Writer
+from cityseq.outputs import Batch, Writer
 
 
 class Wholes(InFolder):
@@ -58,10 +58,11 @@ class Wholes(InFolder):
         self.assertEqual(
             (result.status, self.found()), (1, [HEADER + feature("a") + feature("c"), None])
         )
-        result = cityseq.filter(
-            PLAIN, self.folder / "none", keep_going=True
-        )  # without a header nothing is read to the end
-        self.assertEqual((result.status, os.listdir(self.folder)), (1, ["out.jsonl"]))
+        # without a header nothing is read to the end
+        with self.assertRaises(cityseq.InvalidStream) as caught:
+            cityseq.filter(PLAIN, self.folder / "none", keep_going=True)
+        self.assertEqual(str(caught.exception), "<bytes>: line 1, byte 0: 10 member missing")
+        self.assertEqual(os.listdir(self.folder), ["out.jsonl"])
 
     def test_a_fault_leaves_nothing(self):
         with self.assertRaises(cityseq.ReadFault):
@@ -111,15 +112,95 @@ class Wholes(InFolder):
             ran.stdin.write(HEADER + PLAIN * 200_000)
             ran.stdin.flush()
             for _ in range(200):
-                if self.part.exists():
+                if support.unfinished(self.folder):
                     break
                 time.sleep(0.05)
-            self.assertTrue(self.part.exists())
+            self.assertEqual(len(support.unfinished(self.folder)), 1)
             ran.send_signal(signalled)
             _, said = ran.communicate(timeout=60)
             self.assertEqual(
-                (ran.returncode, said.count(b"\n"), self.found()), (status, 1, [None, None])
+                (ran.returncode, said.count(b"\n"), os.listdir(self.folder)), (status, 1, [])
             )
+
+
+class Parts(InFolder):
+    """Where an output is written until it is whole."""
+
+    def setUp(self):
+        super().setUp()
+        self.output = self.folder / "out.jsonl"
+
+    def begun(self, text, **options):
+        """A writer of the output that has written something."""
+        writer = Writer(self.output, **options)
+        writer.write(text)
+        return writer
+
+    def test_two_runs_at_once(self):
+        one, other = self.begun(b"1"), self.begun(b"2")
+        self.assertEqual(len(support.unfinished(self.folder)), 2)
+        other.write(b"2")
+        other.close(True)
+        one.write(b"1")
+        self.assertEqual(self.output.read_bytes(), b"22")
+        one.close(True)
+        self.assertEqual((self.output.read_bytes(), os.listdir(self.folder)), (b"11", ["out.jsonl"]))
+
+    def test_two_runs_that_keep_what_is_not_whole(self):
+        one, other = self.begun(b"1", keep_partial=True), self.begun(b"2", keep_partial=True)
+        other.discard()
+        one.close(False)
+        self.assertEqual(os.listdir(self.folder), ["out.jsonl.part"])
+        self.assertEqual((self.folder / "out.jsonl.part").read_bytes(), b"1")
+
+    def test_links_of_that_name_are_not_followed(self):
+        victim, part = self.folder / "victim", self.folder / "out.jsonl.part"
+        victim.write_bytes(b"precious")
+        for keeps in (False, True):
+            part.symlink_to(victim)
+            cityseq.filter(GOOD, self.output, keep_partial=keeps)
+            self.assertEqual((victim.read_bytes(), self.output.read_bytes()), (b"precious", GOOD))
+            self.assertFalse(self.output.is_symlink())
+            self.assertTrue(part.is_symlink())
+            with self.assertRaises(cityseq.InvalidStream):
+                cityseq.filter(BROKEN, self.output, keep_partial=keeps)
+            self.assertEqual((victim.read_bytes(), part.is_symlink()), (b"precious", not keeps))
+            part.unlink()
+
+    def test_the_mode_is_that_of_open_or_of_the_older_file(self):
+        usual = self.folder / "usual"
+        with open(usual, "wb"):
+            pass
+        cityseq.filter(GOOD, self.output)
+        self.assertEqual(os.stat(self.output).st_mode, os.stat(usual).st_mode)
+        for mode in (0o600, 0o640, 0o444, 0):
+            os.chmod(self.output, mode)
+            writer = self.begun(b"x")
+            (part,) = support.unfinished(self.folder)
+            self.assertEqual(os.stat(self.folder / part).st_mode & 0o077 & ~mode, 0)
+            writer.close(True)
+            self.assertEqual(os.stat(self.output).st_mode & 0o777, mode)
+
+    def test_a_long_name(self):
+        self.output = self.folder / ("\u00e9" * 127)  # 254 bytes
+        self.begun(b"x").close(True)
+        self.assertEqual(os.listdir(self.folder), ["\u00e9" * 127])
+
+    def test_outputs_that_get_their_names_together(self):
+        names = ("a", "b")
+        with Batch() as batch:
+            for name in names:
+                writer = Writer(self.folder / name, batch=batch)
+                writer.write(name.encode())
+                writer.close(True)
+                writer.discard()
+            self.assertEqual(len(support.unfinished(self.folder)), 2)
+            batch.replace()
+        self.assertEqual([(self.folder / name).read_bytes() for name in names], [b"a", b"b"])
+        with Batch() as batch:
+            writer = Writer(self.folder / "c", batch=batch)
+            writer.close(True)
+        self.assertEqual(sorted(os.listdir(self.folder)), ["a", "b"])
 
 
 class Sames(InFolder):

@@ -171,7 +171,7 @@ class Command(InFolder):
                 preexec_fn=support.heed_interrupts,
             )
             for _ in range(400):
-                if self.page.with_name("delivery.html.part").exists():
+                if len(support.unfinished(self.page.parent)) == 3:
                     break
                 time.sleep(0.01)
             run.send_signal(number)

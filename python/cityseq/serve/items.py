@@ -252,6 +252,7 @@ def find(collection: Collection, name: str) -> Tuple[bytes, Block]:
         block = page.block()
         if block is None:
             raise Problem(404, f"no feature has the id {name}")
+        page.block()  # the end of a page shows whether the stream has changed
         return page.header, block
     finally:
         page.close()
