@@ -1,7 +1,7 @@
 -- What `clap` is told of the command line: the program's commands, and the options of each.
 use Rattle.std.specs.Prelude.{◌≡◌, ℕ, List, [], ◌∷◌, Option, Some, true, false, codes, decimal}
-use Rattle.clap.specs.Words.{App, Rule, Text, app_of, new_app, new_rule, rule_of, rows_of, found_of, subcommand_of}
-use Rattle.clap.specs.Words.{with_rule, with_subcommand}
+use Rattle.clap.specs.Words.{App, Rule, Text, app_of, fault_of, found_of, new_app, new_rule, rows_of, rule_of}
+use Rattle.clap.specs.Words.{subcommand_of, with_rule, with_subcommand}
 use Rattle.clap.specs.declared.builder.action.ArgAction.TheVariants.{SetTrue}
 use Rattle.clap.specs.declared.builder.arg.Arg.{Arg}
 use Rattle.clap.specs.declared.builder.command.Command.{Command}
@@ -74,6 +74,7 @@ pub record IsCommand (c : Command) (a : App) : Type 0 where
   pub app : app_of c ≡ a
   pub local : (fields_of c).has_globals ≡ false
 
--- the words name this command, and give it these options
-abbrev pub IsCalled : List Text → Text → ArgMatches → Type 0
-IsCalled words name options = subcommand_of program_app words ≡ Some (name, rows_of (found_of options))
+-- the words have no fault, name this command, and give it these options
+pub record IsCalled (words : List Text) (name : Text) (options : ArgMatches) : Type 0 where
+  pub faultless : fault_of program_app words ≡ []
+  pub named : subcommand_of program_app words ≡ Some (name, rows_of (found_of options))

@@ -1,9 +1,12 @@
 -- What small command lines name and give, and what is wrong with others.
-use Rattle.std.specs.Prelude.{◌≡◌, List, [], ◌∷◌, Option, Some, codes, option_map}
+use Rattle.std.specs.Prelude.{◌≡◌, ℕ, List, [], ◌∷◌, Option, Some, codes, option_map}
 use Rattle.clap.specs.Words.{Text, fault_of, first_of, subcommand_of}
 use Rattle.clap.specs.declared.error.kind.ErrorKind.TheVariants.{DisplayHelp, DisplayHelpOnMissingArgumentOrSubcommand}
 use Rattle.clap.specs.declared.error.kind.ErrorKind.TheVariants.{UnknownArgument, ValueValidation}
 use Rattle.cityseq_command.specs.Commands.{program_app}
+use Rattle.cityseq_command.specs.Words.{AsksFor, IsNumber, MayDecline, number_in}
+use Rattle.cityseq_command.specs.declared.ask.Ask.{Ask}
+use Rattle.cityseq_command.specs.declared.asking.NoAsk.TheVariants.{NoCommand}
 
 -- the command that the words name, and the text that it has of this option
 abbrev pub found_in : List Text → Text → Option (Text × Option Text)
@@ -26,6 +29,19 @@ GivenRow =
     × (found_in words (codes "id") ≡ Some (codes "filter", Some (codes "b")))
     × (found_in words (codes "exclude") ≡ Some (codes "filter", Some (codes "true")))
 
+-- these words of a command have no fault, and give an option this text, which spells this number
+pub record Spells (words : List Text) (option text : Text) (number : ℕ) : Type 0 where
+  pub faultless : fault_of program_app (codes "cityseq" ∷ codes "check" ∷ words) ≡ []
+  pub found : found_in (codes "check" ∷ words) option ≡ Some (codes "check", Some text)
+  pub is : IsNumber text
+  pub spelled : number_in text ≡ number
+
+-- limits with zeros or a plus before their digits
+abbrev pub SpelledRow : Type 0
+SpelledRow =
+    Spells (codes "--depth" ∷ codes "007" ∷ []) (codes "depth") (codes "007") 7
+    × Spells (codes "--line-limit=+209" ∷ []) (codes "line-limit") (codes "+209") 209
+
 -- a file that is named, an option that a command does not take, a limit that is out of its range, no word at all, and
 -- help
 abbrev pub FaultRow : Type 0
@@ -36,3 +52,13 @@ FaultRow =
     × (fault_of program_app (codes "cityseq" ∷ []) ≡ DisplayHelpOnMissingArgumentOrSubcommand ∷ [])
     × (fault_of program_app (codes "cityseq" ∷ codes "--help" ∷ []) ≡ DisplayHelp ∷ [])
     × (fault_of program_app (codes "cityseq" ∷ codes "check" ∷ []) ≡ [])
+
+-- so a file that is named is judged by nothing; and that no command is named is told of no words that have a fault: no
+-- word at all, help, the version, and a command that is misspelt
+abbrev pub UnaskedRow : Type 0
+UnaskedRow =
+    ((ask : Ask) → ¬ AsksFor (codes "cityseq" ∷ codes "check" ∷ codes "town.city.jsonl" ∷ []) ask)
+    × ¬ MayDecline (codes "cityseq" ∷ []) NoCommand
+    × ¬ MayDecline (codes "cityseq" ∷ codes "--help" ∷ []) NoCommand
+    × ¬ MayDecline (codes "cityseq" ∷ codes "-V" ∷ []) NoCommand
+    × ¬ MayDecline (codes "cityseq" ∷ codes "chekc" ∷ []) NoCommand

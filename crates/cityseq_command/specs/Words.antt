@@ -1,6 +1,6 @@
 -- What the words of a command line say, as `clap` found it.
-use Rattle.std.specs.Prelude.{◌≡◌, ◌≢◌, ℕ, ◌<◌, ◌^◌, List, Bool, true, false, Some, None, Ok, codes, decimal}
-use Rattle.std.specs.Prelude.{option_map}
+use Rattle.std.specs.Prelude.{◌≡◌, ◌≢◌, ℕ, ◌<◌, ◌^◌, List, [], Bool, true, false, Some, None, Ok, codes, option_map}
+use Rattle.std.specs.Str.Parse.{IsNumeral, digits_value, without_leading_plus}
 use Rattle.clap.specs.Words.{HasKind, Text, fault_of, found_of, first_value, one_text, subcommand_of}
 use Rattle.clap.specs.declared.parser.matches.ArgMatches.{ArgMatches}
 use Rattle.cj_budget.specs.Limits.{LimitPair, InLine, InDepth}
@@ -25,10 +25,18 @@ texts_in m = record {
   box = first_value (found_of m) (codes "bbox");
 }
 
--- an option that takes a number has this one: the usual one where it has no text, and else what its digits say
-pub record HasNumber (m : ArgMatches) (option : List ℕ) (usual number : ℕ) : Type 0 where
+-- the number that decimal digits spell, as std reads them: a plus may come first, and zeros before other digits
+abbrev pub number_in : Text → ℕ
+number_in text = digits_value 10 (without_leading_plus text)
+
+-- a text spells a number of 64 bits so
+abbrev pub IsNumber : Text → Type 0
+IsNumber text = IsNumeral 10 (without_leading_plus text) × (number_in text < 2 ^ 64)
+
+-- an option that takes a number has this one: the usual one where it has no text, and else the one that its text spells
+pub record HasNumber (m : ArgMatches) (option : Text) (usual number : ℕ) : Type 0 where
   pub none : one_text (found_of m) option ≡ None → number ≡ usual
-  pub some : (n : ℕ) → n < 2 ^ 64 → one_text (found_of m) option ≡ Some (decimal n) → number ≡ n
+  pub some : (text : Text) → one_text (found_of m) option ≡ Some text → IsNumber text → number ≡ number_in text
 
 -- the limits that a command was given
 pub record HasLimits (m : ArgMatches) (limits : LimitPair) : Type 0 where
@@ -83,7 +91,8 @@ CannotAsk name m fault = (name ≡ codes "filter") × DeclinesTexts (texts_in m)
 abbrev pub IsNoCommand : List ℕ → Type 0
 IsNoCommand name = (name ≢ codes "check") × (name ≢ codes "filter") × (name ≢ codes "info")
 
--- the words ask for this, the program's name first: they name a command and give it options that ask for it
+-- the words ask for this, the program's name first: they have no fault, and name a command and give it options that ask
+-- for it
 abbrev pub AsksFor : List Text → Ask → Type 0
 AsksFor words ask = (name : List ℕ) × (options : ArgMatches) × IsCalled words name options × AsksBy name options ask
 
@@ -96,11 +105,12 @@ DeclinesOptions name m (Limits fault) = DeclinesLimits m fault
 DeclinesOptions name m (Query fault) = CannotAsk name m fault
 
 -- what these words ask for cannot be done: by the rules of `clap` they have a fault or ask for help, or memory was
--- refused to it; they name no command of the program; or a command that they name declines its limits or its query
+-- refused to it; or they have no fault, and name no command of the program, or one that declines its limits or its
+-- query
 abbrev pub MayDecline : List Text → NoAsk → Type 0
 MayDecline words (Words error) = HasKind (fault_of program_app words) error
-MayDecline words NoCommand = (name : List ℕ) → option_map (λ p. p.0) (subcommand_of program_app words) ≡ Some name
-    → IsNoCommand name
+MayDecline words NoCommand = (fault_of program_app words ≡ [])
+    × ((name : List ℕ) → option_map (λ p. p.0) (subcommand_of program_app words) ≡ Some name → IsNoCommand name)
 MayDecline words (Limits fault) = (name : List ℕ) × (options : ArgMatches) × IsCalled words name options
     × DeclinesOptions name options (Limits fault)
 MayDecline words (Query fault) = (name : List ℕ) × (options : ArgMatches) × IsCalled words name options

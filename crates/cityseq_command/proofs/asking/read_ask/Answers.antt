@@ -27,7 +27,8 @@ called m name rows e h = pair _ _ name rows (out-ArgMatches m).subcommand e h
 
 -- the words of a command that is none of the program's name none of them
 other-command : (words : List Text) (name : List ℕ) (rows : List Row)
-    → subcommand_of program_app words ≡ Some (name, rows) → IsNoCommand name → MayDecline words NoCommand
+    → subcommand_of program_app words ≡ Some (name, rows) → IsNoCommand name → (other : List ℕ)
+    → option_map (λ (p : List ℕ × List Row). p.0) (subcommand_of program_app words) ≡ Some other → IsNoCommand other
 other-command words name rows is none other named =
     let same : Some name ≡ Some other = sym (ap (option_map (λ (p : List ℕ × List Row). p.0)) is) ∙ named in
     let e : name ≡ other = cc in
@@ -37,7 +38,8 @@ other-command words name rows is none other named =
 may-decline : (words : List Text) (name : List ℕ) (options : ArgMatches) → IsCalled words name options → (why : NoAsk)
     → DeclinesOptions name options why → MayDecline words why
 may-decline words name options is (Words error) declines = absurd declines
-may-decline words name options is NoCommand declines = other-command words name (rows_of (found_of options)) is declines
+may-decline words name options is NoCommand declines =
+    (is.faultless, other-command words name (rows_of (found_of options)) is.named declines)
 may-decline words name options is (Limits fault) declines = (name, options, is, declines)
 may-decline words name options is (Query fault) declines = (name, options, is, declines)
 
@@ -45,8 +47,11 @@ pub returns-in-Some-clause-ok : goal.returns-in-Some-clause-ok
 returns-in-Some-clause-ok c =
     let name = c.in-Some.name.now in
     let options = c.in-Some.options.now in
-    let is : IsCalled (map string_bytes c.args.words.now) name options = sym c.in-Ok.ensures.ok
-    ∙ called c.in-Ok.matches name (rows_of (found_of options)) c.in-Some.ensures.name c.in-Some.ensures.rows in
+    let is : IsCalled (map string_bytes c.args.words.now) name options = record {
+      faultless = c.in-Ok.ensures.kinds;
+      named = sym c.in-Ok.ensures.ok
+          ∙ called c.in-Ok.matches name (rows_of (found_of options)) c.in-Some.ensures.name c.in-Some.ensures.rows;
+    } in
     IfOk-weaker c.ask_of.result _ _ (λ ask asks. (name, options, is, asks)) c.ask_of.ensures.ok
 
 pub returns-in-Some-clause-err : goal.returns-in-Some-clause-err
@@ -54,7 +59,10 @@ returns-in-Some-clause-err c =
     let name = c.in-Some.name.now in
     let options = c.in-Some.options.now in
     let words = map string_bytes c.args.words.now in
-    let is : IsCalled words name options = sym c.in-Ok.ensures.ok
-    ∙ called c.in-Ok.matches name (rows_of (found_of options)) c.in-Some.ensures.name c.in-Some.ensures.rows in
+    let is : IsCalled words name options = record {
+      faultless = c.in-Ok.ensures.kinds;
+      named = sym c.in-Ok.ensures.ok
+          ∙ called c.in-Ok.matches name (rows_of (found_of options)) c.in-Some.ensures.name c.in-Some.ensures.rows;
+    } in
     IfErr-weaker c.ask_of.result _ _ (λ why declines. may-decline words name options is why declines)
     c.ask_of.ensures.err
