@@ -10,7 +10,7 @@
 use cityseq_command::command::command;
 use cj_stream::Output;
 use std::alloc::{AllocError, Global};
-use std::io::Read;
+use std::io::{Read, Write};
 
 /// What the program wrote to standard output and to standard error, and its status.
 #[derive(Drop)]
@@ -30,22 +30,33 @@ fn words(alloc: Global, parts: &[&str]) -> Result<Vec<String>, AllocError> {
     Ok(words)
 }
 
-/// Runs the command that these words after the program's name ask for. It has no contract, since a
-/// test compares values when it runs.
+/// Runs the command that these words after the program's name ask for, and returns the status. It
+/// has no contract, since a test compares values when it runs.
+pub fn commanded_to<R: Read, W: Write, E: Write>(
+    alloc: Global,
+    arguments: &[&str],
+    reader: &mut R,
+    out: &mut W,
+    err: &mut E,
+) -> Result<u8, AllocError> {
+    let arguments = words(alloc, arguments)?;
+    Ok(command(
+        alloc,
+        &arguments,
+        reader,
+        &mut Output::new(out),
+        &mut Output::new(err),
+    ))
+}
+
+/// Does the same, and returns what was written too.
 pub fn commanded<R: Read>(
     alloc: Global,
     arguments: &[&str],
     reader: &mut R,
 ) -> Result<Written, AllocError> {
-    let arguments = words(alloc, arguments)?;
     let mut out = Vec::new(alloc);
     let mut err = Vec::new(alloc);
-    let status = command(
-        alloc,
-        &arguments,
-        reader,
-        &mut Output::new(&mut out),
-        &mut Output::new(&mut err),
-    );
+    let status = commanded_to(alloc, arguments, reader, &mut out, &mut err)?;
     Ok(Written { status, out, err })
 }

@@ -79,6 +79,17 @@ fn each_command_refuses_a_stream(rt: HostRuntime) -> Result<(), Fail> {
     check_command(&rt, rt.alloc(), &["info"], &late, 1, b"", told)
 }
 
+/// Zeros or a plus may stand before the digits.
+#[test]
+fn limits_are_read_as_numbers(rt: HostRuntime) -> Result<(), Fail> {
+    let told = b"line 2, byte 137: 5 nested too deep\n";
+    check_told(&rt, rt.alloc(), &["check", "--depth", "007"], told)?;
+    check_told(&rt, rt.alloc(), &["info", "--depth=+7"], told)?;
+    let told = b"line 2, byte 209: 2 line too long\n";
+    check_told(&rt, rt.alloc(), &["check", "--line-limit=+209"], told)?;
+    check_told(&rt, rt.alloc(), &["info", "--line-limit=000209"], told)
+}
+
 /// Checks that nothing is read or written, that the status is 2, and that standard error begins
 /// with this.
 fn check_wrong_words(
