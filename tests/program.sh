@@ -332,6 +332,16 @@ row_the_greatest_limits() {
   lines "$header" "$feature" | answered 0 ''
 }
 
+# A limit may begin with zeros, or with a plus.
+row_limits_with_zeros_and_a_plus() {
+  lines "$header" "$feature" | run filter --depth 003 --line-limit=+${#header}
+  lines "$header" "$feature" | answered 0 '' || return 1
+  lines "$header" "$feature" | run filter --depth=+02
+  answered 1 'line 1, byte 56: 5 nested too deep' < /dev/null || return 1
+  lines "$header" "$feature" | run filter --line-limit 00$((${#header} - 1))
+  answered 1 "line 1, byte $((${#header} - 1)): 2 line too long" < /dev/null
+}
+
 row_three_open_and_no_more() {
   lines "$header" "$feature" | run filter --depth 3
   lines "$header" "$feature" | answered 0 ''
@@ -460,6 +470,25 @@ row_a_report_comes_at_once() {
   [ ! -s "$scratch/rest" ] && lines "$header" "$feature" | answered 1 'line 2, byte 0: 12 wrong kind'
 }
 
+# The program gathers 16 KiB before it writes. It does not wait for the end of the input. What it
+# writes here fits into a pipe that nobody reads yet.
+row_kept_lines_come_before_the_input_ends() {
+  local first second
+  mkfifo "$scratch/in" "$scratch/out"
+  timeout 60 "$program" filter < "$scratch/in" > "$scratch/out" 2> "$scratch/said" &
+  exec 3> "$scratch/in" 4< "$scratch/out"
+  { lines "$header"; yes "$feature" | head -n 300; } >&3 2> "$scratch/noise"
+  IFS= read -r -t 20 first <&4
+  IFS= read -r -t 20 second <&4
+  exec 3>&-
+  { lines "$first" "$second"; cat <&4; } > "$scratch/written"
+  wait $!
+  echo $? > "$scratch/status"
+  exec 4<&-
+  [ "$first$second" = "$header$feature" ] || { differs 'two lines before the input ends' "$first$second"; return 1; }
+  { lines "$header"; yes "$feature" | head -n 300; } 2>> "$scratch/noise" | answered 0 ''
+}
+
 # ---- an input that stays open
 
 # Runs the program with these words on an input that stays open after the bytes of standard input.
@@ -579,13 +608,26 @@ row_the_version() {
   lines 'cityseq 0.2.0' | answered 0 ''
 }
 
-# The help itself is shown in the guide.
-row_help_is_asked_for() {
-  run help < /dev/null
-  mv "$scratch/written" "$scratch/help"
-  run --help < /dev/null
-  answered 0 '' < "$scratch/help"
+row_the_version_by_a_letter() {
+  run -V < /dev/null
+  lines 'cityseq 0.2.0' | answered 0 ''
 }
+
+# Whether these words all ask for one help. The guide shows it.
+same_help() {
+  local words
+  run $1 < /dev/null
+  mv "$scratch/written" "$scratch/help"
+  for words in "${@:2}"; do
+    run $words < /dev/null
+    answered 0 '' < "$scratch/help" || return 1
+  done
+}
+
+row_help() { same_help --help help -h; }
+row_help_of_check() { same_help 'check --help' 'help check' 'check -h'; }
+row_help_of_filter() { same_help 'filter --help' 'help filter' 'filter -h'; }
+row_help_of_info() { same_help 'info --help' 'help info' 'info -h'; }
 
 # Whether these words are refused with this text, or in silence where it is empty, and nothing is read.
 refuses() {
