@@ -183,6 +183,8 @@ def try_many(browser, url, folder, check):
     header, *lines = (EXAMPLES / "town.city.jsonl").read_bytes().splitlines(keepends=True)
     many.write_bytes(header + b"{}\n" * 11_000 + b"[\n" * 3_000 + lines[0])
     driver.get(url + "?f=html")
+    driver.execute_script("const made = URL.createObjectURL; URL.createObjectURL = (blob) => {"
+                          "window.saved = blob; return made.call(URL, blob); };")
     drop(browser, many)
     said = wait(browser, verdict)
     check("many invalid lines", said and "14,000 invalid lines" in said, said)
@@ -190,8 +192,7 @@ def try_many(browser, url, folder, check):
     check("all are counted", "11,000" in table and "3,000" in table, table)
     button = driver.find_element(By.CSS_SELECTOR, "#report a.button")
     check("the button has the number", "first 10,000 of 14,000 reports" in button.text, button.text)
-    saved = driver.execute_async_script(
-        "fetch(arguments[0].href).then((it) => it.text()).then(arguments[1])", button)
+    saved = driver.execute_async_script("window.saved.text().then(arguments[0])")
     check("so many are saved", saved.count("\n") == 10_000, saved.count("\n"))
     driver.get(url + "?f=html")
     drop(browser, EXAMPLES / "delivery.city.jsonl", EXAMPLES / "town.city.jsonl")
