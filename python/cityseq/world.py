@@ -18,15 +18,25 @@ UNITS, GREATEST = (
 NESTED = 1_100  # more arrays and objects than a header may have open at once
 
 
+def exact_number(spelling: str) -> Decimal:
+    """Returns the value of a number of JSON. No decimal has the exponent of some spellings: of 0,
+    and of numbers that are too great or too small for every rule. These others become NaN."""
+    try:
+        return Decimal(spelling)
+    except decimal.InvalidOperation:
+        digits = spelling.lower().partition("e")[0]
+        return Decimal("NaN") if digits.strip("-0.") else Decimal()
+
+
 def read_json(text: str) -> Any:
     """Reads JSON with exact numbers. A valid header may be deeper than Python reads by itself."""
     try:
-        return json.loads(text, parse_float=Decimal, parse_int=Decimal)
+        return json.loads(text, parse_float=exact_number, parse_int=exact_number)
     except RecursionError:
         limit = sys.getrecursionlimit()
         sys.setrecursionlimit(limit + NESTED)
         try:
-            return json.loads(text, parse_float=Decimal, parse_int=Decimal)
+            return json.loads(text, parse_float=exact_number, parse_int=exact_number)
         finally:
             sys.setrecursionlimit(limit)
 

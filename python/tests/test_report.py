@@ -72,6 +72,15 @@ class Command(InFolder):
         ) as schema:
             jsonschema.validate(told, json.load(schema))
 
+    def test_numbers_that_no_decimal_has(self):
+        told = HEADER.replace(b"[10,", b"[0e99999999999999999999,")
+        told = told[:-2] + b',"metadata":{"x":1e99999999999999999999}}\n'
+        path = self.file(told + feature("a"), "far.jsonl")
+        output, said, status = command("report", "--json", path)
+        self.assertEqual((said, status), ("", 0))
+        (file,) = json.loads(output)["files"]
+        self.assertEqual((file["translate"], file["bbox"]), ([0, 20, 0], [0, 20, 1, 21]))
+
     def test_requests_that_are_refused(self):
         for words, wanted in (
             (["--output", self.page], "name each FILE"),
