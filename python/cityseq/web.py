@@ -4,17 +4,21 @@ from __future__ import annotations
 import http.client
 import os
 import re
-from typing import Any, Dict, Optional, Type
-from urllib.parse import SplitResult, quote, urljoin, urlsplit, urlunsplit
+from typing import Any, List, Optional
+from urllib.parse import quote, urljoin, urlsplit, urlunsplit
 
+from . import __version__
+from .client import FAULTS, LEAST_RATE, Watch, ask, cause_of, without_credentials
 from .faults import OutOfDate, ReadFault, RequestError, read_fault
 from .fetching import SHORTER, IndexedStream
 
-PATIENCE = 30.0  # seconds that a server has to answer, and between two pieces of an answer
 REDIRECTIONS = 5
 MOVED = (301, 302, 303, 307, 308)
-CONTENT_RANGE = re.compile(r"bytes (\d+)-(\d+)/(\d+)\Z")
-FAULTS = (OSError, http.client.HTTPException, ValueError)
+CONTENT_RANGE = re.compile(r"bytes (\d{1,19})-(\d{1,19})/(\d{1,19}|\*)\Z")
+WEB_NEAR = 1 << 19  # bytes: a request takes longer than to read these
+AHEAD = 1 << 16  # bytes that are read with the header
+PIECE = 1 << 14  # bytes of a body that are read at once
+OTHER_RANGE = "the server answers with another range than was asked for"
 
 
 def checked_base(base: str) -> str:
@@ -30,120 +34,145 @@ def checked_base(base: str) -> str:
 
 
 def url_of(base: str, path: str) -> str:
-    """Returns the URL of a stream: its path after the base. An absolute path is reduced to its
-    name."""
-    name = os.path.basename(path) if os.path.isabs(path) else path
-    parts = urlsplit(base)
+    """Returns the URL of a stream, without credentials: its path after the base. A path that is
+    absolute or leads out of the index's folder is reduced to its name."""
+    is_below = not os.path.isabs(path) and path.split(os.sep)[0] != os.pardir
+    name = path if is_below else os.path.basename(path)
+    parts = urlsplit(without_credentials(base)[0])
     whole = f"{parts.path.rstrip('/')}/{quote(os.fsencode(name))}"
     return urlunsplit((parts.scheme, parts.netloc, whole, parts.query, ""))
 
 
+def _origin(url: str) -> Any:
+    parts = urlsplit(url)
+    return parts.scheme, parts.hostname, parts.port
+
+
 class WebPlace:
-    """A stream on a web server. Leaving a `with` block closes it."""
+    """A stream on a web server."""
+
+    near = WEB_NEAR
 
     def __init__(self, stream: IndexedStream, base: str) -> None:
         self._stream, self._url = stream, url_of(base, stream.told_path)
-        self._connection: Any = None
+        self._origin, self._credentials = _origin(self._url), without_credentials(base)[1]
         self._state: Optional[str] = None  # from the answer with the first range
+        self._head = b""  # the beginning of the stream
 
     def __enter__(self) -> "WebPlace":
         return self
 
     def __exit__(self, *_: Any) -> None:
-        self._close()
+        pass
 
     def read(self, begin: int, end: int) -> bytes:
         """Returns the bytes from one place to another, or as many as there are.
 
         Raises:
             OutOfDate: The stream on the server is not the one of the index.
-            ReadFault: The server does not answer, or answers with something else.
+            ReadFault: The server does not answer in time, or answers with something else.
         """
         end = min(end, self._stream.size)
         if begin >= end:
             return b""
-        try:
-            return self._checked(self._get(begin, end), begin, end)
-        except ReadFault:
-            self._close()
-            raise
-        except FAULTS as fault:
-            self._close()
-            raise read_fault(fault, self._url) from fault
+        if end <= len(self._head):
+            return self._head[begin:end]
+        if begin > 0:
+            return self._asked(begin, end)
+        self._head = self._asked(0, min(max(end, AHEAD), self._stream.size))
+        return self._head[:end]
 
-    def _close(self) -> None:
-        if self._connection is not None:
-            self._connection.close()
-            self._connection = None
+    def _asked(self, begin: int, end: int) -> bytes:
+        """Returns the bytes of a range that the server sends."""
+        with Watch() as watch:
+            try:
+                answer = self._answer(begin, end, watch)
+                try:
+                    return self._checked(answer, begin, end, watch)
+                finally:
+                    self._leave(answer, end - begin - watch.count)
+            except RequestError as fault:
+                raise self._fault(fault.words) from fault
+            except FAULTS as fault:
+                if watch.is_late:
+                    words = f"the answer comes too slowly, below {LEAST_RATE:,} bytes a second"
+                    raise self._fault(words) from fault
+                if isinstance(fault, ReadFault):
+                    raise
+                if isinstance(fault.__context__, http.client.IncompleteRead):
+                    raise self._fault("the connection broke") from fault
+                raise read_fault(cause_of(fault), self._told) from fault
+
+    @property
+    def _told(self) -> str:
+        """The URL in messages: a query may have a key in it."""
+        parts = urlsplit(self._url)
+        return urlunsplit((parts.scheme, parts.netloc, parts.path, "", ""))
 
     def _fault(self, words: str) -> ReadFault:
-        return ReadFault(f"read fault: {words}", None, self._url)
+        return ReadFault(f"read fault: {words}", None, self._told)
 
-    def _get(self, begin: int, end: int) -> http.client.HTTPResponse:
+    def _answer(self, begin: int, end: int, watch: Watch) -> Any:
         """Returns the answer of the server, after its redirections."""
         for _ in range(REDIRECTIONS + 1):
-            answer = self._ask({"Range": f"bytes={begin}-{end - 1}", "Accept-Encoding": "identity"})
-            target = answer.getheader("Location")
+            headers = {
+                "Range": f"bytes={begin}-{end - 1}",
+                "Accept-Encoding": "identity",
+                "User-Agent": f"cityseq/{__version__}",
+            }
+            if self._credentials is not None and _origin(self._url) == self._origin:
+                headers["Authorization"] = self._credentials
+            answer = ask(self._url, headers, watch)
+            target = answer.headers.get("Location")
             if answer.status not in MOVED or target is None:
                 return answer
-            self._close()
+            answer.close()
             try:
-                self._url = checked_base(urljoin(self._url, target))
-            except RequestError:
+                whole = checked_base(urljoin(self._url, target))
+            except (RequestError, ValueError):
                 raise self._fault("the server leads to what is no URL of http") from None
+            self._url = without_credentials(whole)[0]
         raise self._fault(f"the server leads elsewhere more than {REDIRECTIONS} times")
 
-    def _ask(self, headers: Dict[str, str]) -> http.client.HTTPResponse:
-        """Returns the answer to one request. The server may have closed an open connection in the
-        meantime. Then the request is made again."""
-        parts = urlsplit(self._url)
-        target = urlunsplit(("", "", parts.path or "/", parts.query, ""))
-        was_open = self._connection is not None
-        while True:
-            if self._connection is None:
-                self._connection = _connection(parts)
-            try:
-                self._connection.request("GET", target, headers=headers)
-                answer: http.client.HTTPResponse = self._connection.getresponse()
-                return answer
-            except (ConnectionError, http.client.RemoteDisconnected):
-                self._close()
-                if not was_open:
-                    raise
-                was_open = False
+    @staticmethod
+    def _leave(answer: Any, left: int) -> None:
+        """Keeps the connection for the next request, if the answer has ended."""
+        if left == 0 and answer.headers.get("Content-Length") == str(answer.tell()):
+            answer.release_conn()
+        else:
+            answer.close()
 
-    def _checked(self, answer: http.client.HTTPResponse, begin: int, end: int) -> bytes:
+    def _checked(self, answer: Any, begin: int, end: int, watch: Watch) -> bytes:
         """Returns the body of an answer, if it is the range that was asked for."""
         stream = self._stream
         if answer.status == 200:
             raise self._fault("the server has no ranges: name one that has, or cut from a file")
         if answer.status == 416:
-            raise OutOfDate.because(SHORTER, self._url)
+            raise OutOfDate.because(SHORTER, self._told)
         if answer.status != 206:
-            raise self._fault(f"the server answers {answer.status} {answer.reason}".rstrip())
-        found = CONTENT_RANGE.match(answer.getheader("Content-Range") or "")
-        if found is None or answer.getheader("Content-Encoding") not in (None, "identity"):
-            raise self._fault("the server answers with another range than was asked for")
-        first, last, size = map(int, found.groups())
-        if size != stream.size:
-            told = "longer" if size > stream.size else "shorter"
-            raise OutOfDate.because(f"the stream is {told}", self._url)
-        if (first, last) != (begin, end - 1):
-            raise self._fault("the server answers with another range than was asked for")
-        state = answer.getheader("ETag") or answer.getheader("Last-Modified") or ""
+            raise self._fault(f"the server answers {answer.status} {answer.reason or ''}".rstrip())
+        found = CONTENT_RANGE.match(answer.headers.get("Content-Range") or "")
+        coding = answer.headers.get("Content-Encoding") or "identity"
+        if found is None or coding.lower() != "identity":
+            raise self._fault(OTHER_RANGE)
+        first, last, size = found.groups()
+        if size != "*" and int(size) != stream.size:
+            told = "longer" if int(size) > stream.size else "shorter"
+            raise OutOfDate.because(f"the stream is {told}", self._told)
+        if (int(first), int(last)) != (begin, end - 1):
+            raise self._fault(OTHER_RANGE)
+        state = answer.headers.get("ETag") or answer.headers.get("Last-Modified") or ""
         if self._state not in (None, state):
             raise self._fault("the stream changed while it was read")
         self._state = state
-        body = answer.read(end - begin)
-        if len(body) < end - begin:
-            raise self._fault("the connection broke")
-        if not answer.isclosed():  # the server sends more than it announced
-            self._close()
-        return body
+        return self._body(answer, end - begin, watch)
 
-
-def _connection(parts: SplitResult) -> http.client.HTTPConnection:
-    kind: Type[http.client.HTTPConnection] = (
-        http.client.HTTPSConnection if parts.scheme == "https" else http.client.HTTPConnection
-    )
-    return kind(parts.hostname or "", parts.port, timeout=PATIENCE)
+    def _body(self, answer: Any, size: int, watch: Watch) -> bytes:
+        pieces: List[bytes] = []
+        while watch.count < size:
+            piece = answer.read(min(PIECE, size - watch.count))
+            if not piece:
+                raise self._fault("the connection broke")
+            watch.count += len(piece)
+            pieces.append(piece)
+        return b"".join(pieces)

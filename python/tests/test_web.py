@@ -4,16 +4,19 @@ import os
 import re
 import shutil
 import subprocess
+import sys
 import threading
 import time
 import unittest
 from contextlib import contextmanager
 from http.server import BaseHTTPRequestHandler, ThreadingHTTPServer
-from urllib.parse import unquote
+from unittest import mock
+from urllib.parse import unquote, urlsplit
 
 from .support import HEADER, InFolder, command, feature
 
 import cityseq
+from cityseq import client
 
 NGINX = shutil.which("nginx") or shutil.which("nginx", path="/usr/sbin")
 
@@ -33,6 +36,17 @@ class Handler(BaseHTTPRequestHandler):
     def log_message(self, *_):
         pass
 
+    def setup(self):
+        super().setup()
+        self.server.connections += 1
+
+    def _drip(self, piece):
+        """Sends a piece over and over, until the client is gone."""
+        self.close_connection = True
+        while True:
+            self.wfile.write(piece)
+            time.sleep(0.01)
+
     def _send(self, status, headers, body=b"", cut=None):
         self.send_response(status)
         for name, value in headers.items():
@@ -45,13 +59,23 @@ class Handler(BaseHTTPRequestHandler):
         server, mode = self.server, self.server.mode
         begin, last = map(int, re.fullmatch(r"bytes=(\d+)-(\d+)", self.headers["Range"]).groups())
         server.ranges.append((begin, last + 1))
+        server.seen.append((self.path, dict(self.headers)))
+        if mode == "drips its head":
+            self._drip(b"H")
+        if mode == "continues":
+            self._drip(b"HTTP/1.1 100 Continue\r\n\r\n")
+        if mode == "elsewhere":
+            return self._send(302, {"Location": server.elsewhere + self.path})
+        if mode == "asks who":
+            return self._send(401, {"WWW-Authenticate": 'Basic realm="x"'})
         if self.path.startswith("/moved/"):
             return self._send(302, {"Location": self.path[len("/moved") :]})
         if mode == "around":
             return self._send(302, {"Location": self.path})
         if mode == "away":
             return self._send(302, {"Location": "file:///etc/passwd"})
-        path = os.path.join(server.folder, unquote(self.path.split("?")[0]).lstrip("/"))
+        # to a proxy the whole URL is the path
+        path = os.path.join(server.folder, unquote(urlsplit(self.path).path).lstrip("/"))
         if mode == "missing" or not os.path.isfile(path):
             return self._send(404, {})
         with open(path, "rb") as file:
@@ -59,12 +83,18 @@ class Handler(BaseHTTPRequestHandler):
         if mode == "no ranges":
             return self._send(200, {}, text)
         if mode == "slow" and begin:
-            time.sleep(1)
+            time.sleep(0.5)
         if last >= len(text):
             return self._send(416, {"Content-Range": f"bytes */{len(text)}"})
         tag = f'"{len(server.ranges)}"' if mode == "changes" else '"a"'
         shift = 1 if mode == "another range" and begin else 0
         told = {"Content-Range": f"bytes {begin + shift}-{last + shift}/{len(text)}", "ETag": tag}
+        if mode == "drips its body":
+            self.send_response(206)
+            for name, value in {**told, "Content-Length": str(last + 1 - begin)}.items():
+                self.send_header(name, value)
+            self.end_headers()
+            self._drip(b"{")
         if mode == "packs":
             told["Content-Encoding"] = "gzip"
         self.close_connection = mode == "closes" or (mode in ("breaks", "resets") and begin > 0)
@@ -75,15 +105,15 @@ class Handler(BaseHTTPRequestHandler):
         )
 
 
-class Web(InFolder):
+class Served(InFolder):
     """An index and a server of its stream, which has two groups of lines far from each other."""
 
     def setUp(self):
         super().setUp()
-        # 200 KB between the first roads and the last one
+        # 700 KB between the first roads and the last ones
         lines = [
-            feature(f"b{i}", "Road" if i % 10 == 0 and (i < 100 or i > 890) else "Building")
-            for i in range(1_000)
+            feature(f"b{i}", "Road" if i % 10 == 0 and (i < 100 or i > 2_890) else "Building")
+            for i in range(3_000)
         ]
         self.text = HEADER + b"".join(lines)
         (self.folder / "served").mkdir()
@@ -97,6 +127,7 @@ class Web(InFolder):
     def served(self, mode=None):
         server = Server(("127.0.0.1", 0), Handler)
         server.mode, server.folder, server.ranges = mode, str(self.folder), []
+        server.connections, server.seen = 0, []
         thread = threading.Thread(target=server.serve_forever, args=(0.01,))
         thread.start()
         try:
@@ -112,22 +143,26 @@ class Web(InFolder):
             index.filter(output, **(query or {"types": "Road"}))
         return output.getvalue()
 
+
+class Web(Served):
+    """What a cut reads and writes, and what it says of servers that answer otherwise."""
+
     def test_it_reads_the_ranges_that_it_needs(self):
         with self.served() as (server, base):
             self.assertEqual(self.cut(base), self.wanted.getvalue())
-        first, *others = server.ranges
-        self.assertEqual((first, len(others)), ((0, len(HEADER)), 2))
-        self.assertLess(sum(end - begin for begin, end in others), len(self.text) // 3)
+        first, *others = server.ranges  # the first has the header, and what is near it
+        self.assertEqual((first, len(others)), ((0, 1 << 16), 1))
+        self.assertLess(sum(end - begin for begin, end in others), len(self.text) // 10)
 
     def test_all_ways_to_the_same(self):
         for mode in (None, "closes"):
             with self.served(mode) as (_, base):
                 for each in (base, base + "/", base + "/moved", base + "/?key=1"):
                     self.assertEqual(self.cut(each), self.wanted.getvalue())
-                self.assertEqual(self.cut(base, ids="b999")[len(HEADER) :], feature("b999"))
+                self.assertEqual(self.cut(base, ids="b2999")[len(HEADER) :], feature("b2999"))
                 with cityseq.Index(self.index, base=base) as index:
-                    with index.select(ids=["b3", "b999"]) as features:
-                        self.assertEqual([each.line for each in features], [5, 1_001])
+                    with index.select(ids=["b3", "b2999"]) as features:
+                        self.assertEqual([each.line for each in features], [5, 3_001])
 
     def test_the_command(self):
         with self.served() as (_, base):
@@ -188,14 +223,10 @@ class Web(InFolder):
         self.assertIn("Connection refused", str(caught.exception))
 
     def test_a_server_that_does_not_answer(self):
-        from cityseq import web
-
-        before, web.PATIENCE = web.PATIENCE, 0.2
-        self.addCleanup(setattr, web, "PATIENCE", before)
-        with self.served("slow") as (_, base):
+        with self.served("slow") as (_, base), mock.patch.object(client, "PATIENCE", 0.1):
             with self.assertRaises(cityseq.ReadFault) as caught:
                 self.cut(base)
-        self.assertIn("timed out", str(caught.exception))
+        self.assertRegex(str(caught.exception), "timed out|too slowly")
 
     def test_a_base_that_is_no_url(self):
         for base in (
@@ -218,6 +249,86 @@ class Web(InFolder):
             with self.assertRaises(cityseq.RequestError) as caught:
                 self.cut(base)
         self.assertIn("serve it unpacked", str(caught.exception))
+
+
+class Client(Served):
+    """What the client sends, and how it ends."""
+
+    def test_connections_are_kept(self):
+        with self.served() as (server, base):
+            for _ in range(3):
+                self.assertEqual(self.cut(base), self.wanted.getvalue())
+        self.assertEqual((len(server.ranges), server.connections), (6, 1))
+
+    def test_servers_that_never_end(self):
+        """Each byte comes in time. A thread that watches closes the connection."""
+        for mode in ("drips its head", "drips its body", "continues"):
+            with self.served(mode) as (_, base), mock.patch.object(client, "PATIENCE", 0.1):
+                begin = time.monotonic()
+                with self.subTest(mode=mode), self.assertRaises(cityseq.ReadFault) as caught:
+                    self.cut(base)
+                self.assertIn("too slowly, below 4,096 bytes a second", str(caught.exception))
+                self.assertLess(time.monotonic() - begin, 5)
+        self.assertNotIn("watch", [thread.name for thread in threading.enumerate()])
+
+    def test_lines_that_lie_close_are_one_request(self):
+        with self.served() as (server, base):
+            # 120 KB between each two, and the first 240 KB after the header
+            found = self.cut(base, ids=["b1000", "b1500", "b2000"])
+        self.assertEqual(found.count(b"\n"), 4)
+        self.assertEqual(len(server.ranges), 2)
+
+    def test_only_streams_with_candidates_are_asked(self):
+        others = [self.file(HEADER + feature(f"o{n}"), f"served/{n}.jsonl") for n in range(5)]
+        cityseq.index([*others, self.path], self.index)
+        with self.served() as (server, base):
+            self.assertEqual(self.cut(base, ids="o3"), HEADER + feature("o3"))
+            self.assertEqual([path for path, _ in server.seen], ["/served/3.jsonl"])
+            self.assertEqual(self.cut(base, ids="none"), HEADER)
+            self.assertEqual([path for path, _ in server.seen[1:]], ["/served/0.jsonl"])
+
+    def test_credentials(self):
+        with self.served() as (server, base), self.served("elsewhere") as (first, other):
+            first.elsewhere = base
+            signed = base.replace("//", "//me:s%40cret@")
+            self.assertEqual(self.cut(signed), self.wanted.getvalue())
+            told = {headers.get("Authorization") for _, headers in server.seen}
+            self.assertEqual(told, {"Basic bWU6c0BjcmV0"})  # me:s@cret
+            server.seen.clear()
+            self.assertEqual(self.cut(other.replace("//", "//me:s%40cret@")), self.wanted.getvalue())
+            told = {headers.get("Authorization") for _, headers in server.seen}
+            self.assertEqual(told, {None})  # another server does not get them
+        with self.served("asks who") as (_, base):
+            signed = base.replace("//", "//me:s%40cret@") + "/?key=s%40cret"
+            words = ("filter", "--index", str(self.index), "--base", signed)
+            output, said, status = command(*words)
+            self.assertEqual((output, status), (b"", 3))
+            self.assertIn("the server answers 401", said)
+            self.assertNotIn("cret", said)
+
+    def test_a_proxy(self):
+        with self.served() as (server, proxy), self.served() as (other, base):
+            signed = proxy.replace("//", "//me:it@")
+            with mock.patch.dict(os.environ, {"http_proxy": signed, "no_proxy": ""}):
+                self.assertEqual(self.cut("http://example.org"), self.wanted.getvalue())
+            with mock.patch.dict(os.environ, {"http_proxy": signed, "no_proxy": "127.0.0.1"}):
+                self.assertEqual(self.cut(base), self.wanted.getvalue())
+            self.assertEqual((len(server.ranges), len(other.ranges)), (2, 2))
+            path, headers = server.seen[0]
+            self.assertEqual(path, "http://example.org/served/a%20b.city.jsonl")
+            self.assertEqual(headers["Proxy-Authorization"], "Basic bWU6aXQ=")  # me:it
+            with mock.patch.dict(os.environ, {"http_proxy": "socks5://x", "no_proxy": ""}):
+                with self.assertRaises(cityseq.ReadFault) as caught:
+                    self.cut(base)
+            self.assertIn("no URL of http", str(caught.exception))
+
+    def test_no_urllib3(self):
+        without = {"urllib3": None, "cityseq.client": None, "cityseq.web": None}
+        with mock.patch.dict(sys.modules, without):
+            del sys.modules["cityseq.client"], sys.modules["cityseq.web"]
+            with self.assertRaises(cityseq.CityseqError) as caught:
+                cityseq.Index(self.index, base="http://example.org")
+        self.assertIn("python3-urllib3", str(caught.exception))
 
 
 @unittest.skipIf(NGINX is None, "nginx is not there")
