@@ -128,11 +128,12 @@ def written(count, path):
     """Writes an index of made-up records, and returns the seconds that this took, by the clock and
     of the processor."""
     import cityseq
-    from cityseq.builder import Builder
+    from cityseq.builder import Builder, File
     from cityseq.query import asked
     from cityseq.running import Result
 
     builder, made, begun, processor = Builder(path), 0.0, time.monotonic(), time.process_time()
+    builder.open()
     entry, parts = builder.begin(1, HEADER), parts_of_records(count, HEADER)
     while True:
         before = time.process_time()
@@ -142,7 +143,7 @@ def written(count, path):
             break
         builder.add(entry, part, lines)
     result = Result("", cityseq.Status.VALID, count + 1, count, 0, 0, 0, 0)
-    builder.end(entry, str(OUT / "records.jsonl"), (0, 0), None, result)
+    builder.end(entry, File(str(OUT / "records.jsonl"), None, (0, 0), ""), result)
     builder.finish(asked("check"), cityseq.__version__)
     return time.monotonic() - begun - made, time.process_time() - processor - made
 

@@ -8,31 +8,39 @@ import sqlite3
 from contextlib import contextmanager, suppress
 from dataclasses import dataclass, field
 from functools import lru_cache
-from typing import Any, Callable, Dict, Iterator, List, Optional, Set, Tuple
+from itertools import compress, repeat
+from typing import Any, Callable, Dict, Iterable, Iterator, List, NamedTuple, Optional, Set, Tuple
 
 from . import geopackage
 from ._library import LOD_CLASSES, library
+from .bulk import insert
 from .extents import World, wider
 from .faults import WriteFault, write_fault
-from .geopackage import TREE, UNDEFINED, geometry_start, polygon, system_of
+from .geopackage import (
+    FID_BITS,
+    MOST_FEATURES,
+    TREE,
+    UNDEFINED,
+    geometry_start,
+    polygons,
+    readable,
+    system_of,
+)
 from .outputs import Part, target_of
 from .query import Work
-from .records import Records, stored, stored_as_spelled
+from .records import Records, stored, stored_as_columns
 from .replacing import replaceable
 from .reports import Report
-from .rtree import Tree, cell_of, key_of
+from .rtree import Tree, cells_of, keys_of
 from .running import Result
 from .sources import State
 from .tally import Range
 from .world import read_json
 
 CACHE = 8 << 20  # bytes of the database that are in memory, and bytes for a sort
-COLUMNS = 14  # of a feature
 Ranges = Tuple[Range, Range, Range]
-Row = Tuple[Any, ...]
-Box = Tuple[float, float, float, float]  # the least and greatest x, then y
-Heights = Tuple[Optional[float], Optional[float]]
-NO_HEIGHTS: Heights = (None, None)
+Edges = List[List[int]]  # the least and the greatest x, then y and z, of each feature
+Box = Tuple[List[float], List[float], List[float], List[float]]  # the same on the map, without z
 
 
 @lru_cache(maxsize=4_096)
@@ -45,6 +53,22 @@ def names_of_types(bits: int) -> str:
 def names_of_lods(bits: int) -> str:
     """Returns the classes of a set of LoDs, with commas between them."""
     return ",".join(name for n, name in enumerate(LOD_CLASSES) if bits >> n & 1)
+
+
+class File(NamedTuple):
+    """The file of a stream.
+
+    Attributes:
+        path: Its path.
+        packing: How it is packed, by the word that the index uses.
+        state: Its size and time.
+        content: Its hash.
+    """
+
+    path: str
+    packing: Optional[str]
+    state: State
+    content: str
 
 
 @dataclass
@@ -72,26 +96,25 @@ class Entry:
         self.world = World(self.transform["scale"], self.transform["translate"])
         self.reference, self.system = system_of(told.get("metadata"))
 
-    def widen(self, records: Records) -> None:
+    def widen(self, edges: Edges) -> None:
         """Takes the vertices of some more features."""
-        vertices = [raw[9:] for raw, _ in records if raw[9]]
-        if vertices:
-            _, *x, _, least_y, most_y, _, least_z, most_z = zip(*vertices)
-            axes = (*x,), (least_y, most_y), (least_z, most_z)
-            ranges = ((min(least), max(most)) for least, most in axes)
-            self.ranges = tuple(map(wider, self.ranges, ranges))  # type: ignore[assignment]
+        if edges[0]:
+            x, y, z = (
+                wider(before, (min(least), max(greatest)))
+                for before, least, greatest in zip(self.ranges, edges[::2], edges[1::2])
+            )
+            self.ranges = x, y, z
 
-    def placed(self, vertices: Tuple[int, ...]) -> Tuple[Optional[Box], Heights]:
-        """Returns the extent of a feature on the map, and its heights, by the ranges of its
-        record."""
-        some, x_least, x_most, _, y_least, y_most, _, z_least, z_most = vertices
-        if not some:
-            return None, NO_HEIGHTS
-        world = self.world
-        heights = NO_HEIGHTS if world.z is None else world.z.interval(z_least, z_most)
-        if world.x is None or world.y is None:
-            return None, heights
-        return (*world.x.interval(x_least, x_most), *world.y.interval(y_least, y_most)), heights
+    def box(self, edges: Edges) -> Optional[Box]:
+        """Returns the extents of features on the map. None if the stream has no place there."""
+        x, y = self.world.x, self.world.y
+        if x is None or y is None:
+            return None
+        return (*x.intervals(*edges[:2]), *y.intervals(*edges[2:4]))
+
+    def heights(self, edges: Edges) -> Optional[Tuple[List[float], List[float]]]:
+        """Returns the least and the greatest heights of features. None if there are none."""
+        return None if self.world.z is None else self.world.z.intervals(*edges[4:])
 
     def extent(self) -> Tuple[Optional[float], ...]:
         """Returns the least and greatest x, y and z of the stream, or None for each."""
@@ -114,6 +137,12 @@ def telling_of(name: str) -> Iterator[None]:
         raise write_fault(fault, name) from fault
 
 
+def _filled(values: Optional[Iterable[Any]], some: Iterable[int]) -> Iterator[Any]:
+    """Yields the next value for each feature that has one, and None for others."""
+    given = iter(() if values is None else values)
+    return (next(given, None) if each else None for each in some)
+
+
 class Builder:
     """Writes an index to `.NAME.*.part`, and renames it when it is whole."""
 
@@ -126,6 +155,7 @@ class Builder:
         self.name, self._fid = path, 0
         self._systems: Set[int] = set()  # of coordinates
         self._opened: Optional[sqlite3.Connection] = None
+        self.digests: Any = None  # makes the hashes of the streams
         target = target_of(path)
         if target is None:
             what = "Is a directory" if os.path.isdir(path) else "an index is a regular file"
@@ -164,6 +194,7 @@ class Builder:
             self._base.execute("BEGIN")
             geopackage.create(self._base)
             self._base.execute("CREATE TEMP TABLE cells (key INTEGER, cell BLOB)")
+            self._base.execute("CREATE TEMP TABLE id_keys (key INTEGER)")
 
     def begin(self, number: int, header: bytes) -> Entry:
         """Begins the next stream, whose header is valid."""
@@ -175,33 +206,49 @@ class Builder:
         Raises:
             WriteFault: They cannot be written.
         """
-        cells: List[Tuple[int, bytes]] = []
-        marks = ",".join("?" * COLUMNS)
-        entry.widen(records)
+        numbers = range(self._fid + 1, self._fid + 1 + len(records.ids))
+        if numbers.stop > MOST_FEATURES:
+            raise WriteFault(f"write fault: more than {MOST_FEATURES:,} features", None, self.name)
+        self._fid += len(numbers)
+        line, begin, length, _, _, objects, geometries, types, lods, *edges = records.columns()
+        names, exact, hashes = stored_as_columns(records.ids)
         with telling_of(self.name):
-            self._base.executemany(
-                f"INSERT INTO features VALUES ({marks})", self._rows(entry, records, lines, cells)
+            geometry, *heights = self._place(entry, numbers, edges)
+            insert(
+                self._base,
+                "features",
+                numbers,
+                geometry,
+                repeat(entry.number),
+                [number + lines for number in line],
+                [place + records.begin for place in begin],
+                length,
+                names,
+                exact,
+                objects,
+                geometries,
+                map(names_of_types, types),
+                map(names_of_lods, lods),
+                *heights,
             )
-            self._base.executemany("INSERT INTO temp.cells VALUES (?,?)", cells)
+            keys = [id_hash << FID_BITS | fid for id_hash, fid in zip(hashes, numbers)]
+            insert(self._base, "temp.id_keys", keys)
 
-    def _rows(
-        self, entry: Entry, records: Records, lines: int, cells: List[Tuple[int, bytes]]
-    ) -> Iterator[Row]:
-        """Yields the row of each feature, and adds its cell to those of the spatial index."""
-        start = geometry_start(entry.system)
-        for raw, spelling in records:
-            line, begin, length, _, _, objects, geometries, types, lods = raw[:9]
-            self._fid += 1
-            box, heights = entry.placed(raw[9:])
-            geometry = None
-            if box is not None:
-                geometry = polygon(start, *box)
-                cells.append((key_of(box[0], box[2]), cell_of(self._fid, *box)))
-            place = line + lines, begin + records.begin, length
-            names = names_of_types(types), names_of_lods(lods)
-            name = stored_as_spelled(spelling)
-            counts = objects, geometries
-            yield (self._fid, geometry, entry.number, *place, *name, *counts, *names, *heights)
+    def _place(
+        self, entry: Entry, numbers: Iterable[int], vertices: List[List[int]]
+    ) -> List[Iterable[Any]]:
+        """Returns the polygon, and the least and the greatest height, of each feature, or None.
+        Adds their cells to those of the spatial index."""
+        some = vertices[0]
+        edges = [list(compress(vertices[place], some)) for place in (1, 2, 4, 5, 7, 8)]
+        entry.widen(edges)
+        box, heights = entry.box(edges), entry.heights(edges)
+        found: List[Optional[Iterable[Any]]] = [None, *(heights or (None, None))]
+        if box is not None:
+            found[0] = polygons(geometry_start(entry.system), *box)
+            cells = cells_of(compress(numbers, some), *box)
+            insert(self._base, "temp.cells", keys_of(box[0], box[2]), cells)
+        return [_filled(column, some) for column in found]
 
     def report(self, number: int, report: Report) -> None:
         """Writes that a line of a stream is invalid and left out.
@@ -214,9 +261,7 @@ class Builder:
         with telling_of(self.name):
             self._base.execute("INSERT INTO reports VALUES (NULL,?,?,?,?,?,?,?)", row)
 
-    def end(
-        self, entry: Entry, path: str, state: State, packing: Optional[str], result: Result
-    ) -> None:
+    def end(self, entry: Entry, file: File, result: Result) -> None:
         """Writes the row of a stream, after all of it was read.
 
         Raises:
@@ -229,13 +274,14 @@ class Builder:
         )
         row = (
             entry.number,
-            *_path_columns(path, self.name),
-            packing,
-            *state,
+            *_path_columns(file.path, self.name),
+            file.packing,
+            *file.state,
+            file.content,
             len(entry.header),
             hashlib.sha256(entry.header).hexdigest(),
             *texts,
-            entry.reference,
+            None if entry.reference is None else readable(entry.reference),
             result.lines,
             result.features,
             result.refused,
@@ -254,10 +300,10 @@ class Builder:
         base = self._base
         with telling_of(self.name):
             system = self._one_system()
-            base.execute("CREATE INDEX features_id ON features (id, id_exact)")
+            base.execute("INSERT INTO feature_ids SELECT key FROM temp.id_keys ORDER BY key")
             (count,) = base.execute("SELECT count(*) FROM temp.cells").fetchone()
             ordered = base.execute("SELECT cell FROM temp.cells ORDER BY key")
-            Tree(base, TREE).write((cell for cell, in ordered), count)
+            Tree(base, TREE).write((cell for cell, in ordered), count, self._fid)
             geopackage.describe(base, system)
             options = (work.tree, work.keep_going, work.line_limit, work.depth)
             base.execute(
@@ -292,12 +338,14 @@ class Builder:
 
 
 def _path_columns(path: str, index: str) -> Tuple[str, Optional[bytes]]:
-    """Returns the path of a stream for an index. A path below the folder of the index is relative
-    to it, so that both can be moved together. Links of folders are followed, since a folder above a
-    linked one is that of its target."""
+    """Returns the path of a stream for an index. A path below the folder of the index, or below the
+    folder that this one is in, is relative to it, so that both can be moved together. Links of
+    folders are followed, since a folder above a linked one is that of its target."""
     folder, (above, name) = os.path.dirname(os.path.realpath(index)), os.path.split(path)
     whole = os.path.join(os.path.realpath(above or os.curdir), name)
-    inside = os.path.relpath(whole, folder)
-    told = whole if inside.split(os.sep)[0] == os.pardir else inside
+    around = os.path.dirname(folder)
+    near = folder if around == os.path.dirname(around) else around  # not the root
+    is_near = os.path.commonpath([whole, near]) == near
+    told = os.path.relpath(whole, folder) if is_near else whole
     text, exact = stored(told)
     return text, None if exact is None else os.fsencode(told)

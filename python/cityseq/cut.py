@@ -4,6 +4,7 @@ from __future__ import annotations
 import io
 from contextlib import closing
 from dataclasses import dataclass, replace
+from itertools import chain
 from typing import TYPE_CHECKING, Any, Callable, Iterable, Iterator, List, Optional, Tuple
 
 from .faults import OutOfDate, RequestError, Status, write_fault
@@ -37,6 +38,20 @@ class _Lines(io.RawIOBase):
         piece = self._rest if most < 0 else self._rest[:most]
         self._rest = self._rest[len(piece) :]
         return piece
+
+
+def _needed(selections: Selections) -> Selections:
+    """Yields the selections that have rows, or the first if none has."""
+    spare: Optional[IndexedStream] = None
+    is_empty = True
+    for stream, rows in selections:
+        for first in rows:
+            is_empty = False
+            yield stream, chain([first], rows)
+            break
+        spare = spare or stream
+    if is_empty and spare is not None:
+        yield spare, iter(())
 
 
 @dataclass(frozen=True)
@@ -82,14 +97,16 @@ class _Cut:
         return result
 
     def _texts(self, selections: Selections) -> Iterator[bytes]:
-        """Yields the header, and then the selected lines of each stream.
+        """Yields the header, and then the selected lines of each stream. On a web server it reads
+        only streams that have such lines, and for the header one stream if none has.
 
         The last line of a stream may have no LF. It gets one before the next kept line, and no
         other line may bring it. So lines up to that one are judged here, and left out.
         """
         is_first, lacks_end = True, False
-        for stream, rows in selections:
-            with placed(stream, self.index.base) as place:
+        base = self.index.base
+        for stream, rows in selections if base is None else _needed(selections):
+            with placed(stream, base) as place:
                 header = header_of(stream, place)
                 if is_first:
                     yield header

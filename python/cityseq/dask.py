@@ -18,6 +18,7 @@ from typing import Any, Callable, Iterable, Iterator, List, Optional, Tuple
 
 from ._library import USUAL_DEPTH, USUAL_LINE
 from .builder import Builder
+from .digests import digest_of
 from .faults import CityseqError, RequestError
 from .indexing import Indexed, checked, written
 from .packed import packing_by_name
@@ -83,13 +84,25 @@ class _IndexedRanges(Indexed):
         self._seen, self._each = seen, size
 
     def tasks(self) -> Tasks:
-        """Yields a call for each part."""
+        """Yields a call for each part. A worker hashes the file."""
+        self.hash()
         return _ranges_of(self, self.file, self._each, self._seen, find_range)
 
     def state(self) -> State:
         """Returns the size and the time of change that the file had at the beginning."""
         assert self._seen.state is not None
         return self._seen.state
+
+
+class _Digests:
+    """Lets workers make the hashes of files."""
+
+    def __init__(self, client: Any) -> None:
+        self._client = client
+
+    def submit(self, path: str) -> Any:
+        """Begins to make the hash of a file. The result is that of `digest_of`."""
+        return self._client.submit(digest_of, path, pure=False, retries=RETRIES)
 
 
 def _seen(client: Any, paths: Iterable[str], work: Work) -> Iterator[Tuple[str, Seen]]:
@@ -243,7 +256,9 @@ def index(
             numbers[path], seen, part_size, path, work, builder, part_size, on_report
         )
 
-    written(builder, lambda: _run_each(client, named, work, made), work, found.append)
+    written(
+        builder, lambda: _run_each(client, named, work, made), work, found.append, _Digests(client)
+    )
     for result in found:
         result.raised_if_invalid(keep_going)
     return found

@@ -20,7 +20,7 @@ INDEX_CHANGED = "the index was changed"
 CANNOT_OPEN, NO_DATABASE = "unable to open database file", "file is not a database"
 READ_ONLY, MALFORMED = "readonly database", "malformed"
 R_TREE = re.compile(r"CREATE\s+VIRTUAL\s+TABLE\b.*\bUSING\s+rtree\s*\(", re.IGNORECASE | re.DOTALL)
-TABLES = ("cityseq_index", "features", "streams", "reports")
+TABLES = ("cityseq_index", "features", "feature_ids", "streams", "reports")
 
 
 def connected(path: str, how: str, wait: float = 5.0) -> sqlite3.Connection:

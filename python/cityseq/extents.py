@@ -1,9 +1,10 @@
 """Extents in world coordinates as floats, rounded outward: no vertex lies outside of its extent."""
 from __future__ import annotations
 
+import math
 import struct
 from math import gcd
-from typing import TYPE_CHECKING, List, Optional, Tuple
+from typing import TYPE_CHECKING, Callable, Iterable, List, Optional, Sequence, Tuple
 
 from .tally import Range
 
@@ -11,6 +12,7 @@ if TYPE_CHECKING:
     from decimal import Decimal
 
 Interval = Tuple[float, float]
+DIGITS = 53  # of a float, as bits
 PLACES = 18  # a fixed number is a multiple of 10^-18 and below 10^18 in size
 _DOUBLE, _BITS = struct.Struct("<d"), struct.Struct("<q")
 
@@ -24,6 +26,12 @@ def _below(value: float) -> float:
     return lower
 
 
+# Python 3.8 has no `nextafter`
+_next: Callable[[float, float], float] = getattr(
+    math, "nextafter", lambda value, to: _below(value) if to < 0 else -_below(-value)
+)
+
+
 def floor_of(count: int, unit: int) -> float:
     """Returns the greatest float that is at most `count / unit`, which is below 2^1000 in size."""
     value = count / unit  # Python rounds the quotient of two whole numbers to the nearest float
@@ -34,6 +42,48 @@ def floor_of(count: int, unit: int) -> float:
 def ceiling_of(count: int, unit: int) -> float:
     """Returns the least float that is at least `count / unit`."""
     return -floor_of(-count, unit)
+
+
+def _shift(counts: Sequence[int], unit: int) -> Optional[int]:
+    """Returns by how many bits these counts of 1 / unit are shifted, so that each has as many bits
+    before the point as a float has. None if they differ in that, or are not positive."""
+    least, greatest = min(counts, default=0), max(counts, default=0)
+    if least <= 0:
+        return None
+    about = DIGITS - least.bit_length() + unit.bit_length()
+    for shift in (about, about - 1):
+        ends = [(count << shift) // unit for count in (least, greatest)] if shift >= 0 else [0]
+        if all(end.bit_length() == DIGITS for end in ends):
+            return shift
+    return None
+
+
+def floors_of(counts: Sequence[int], unit: int) -> List[float]:
+    """Returns `floor_of` of each count."""
+    shift = _shift(counts, unit)
+    if shift is not None:
+        step = 2.0**-shift
+        return [(count << shift) // unit * step for count in counts]
+    return [
+        value
+        if (ratio := (value := count / unit).as_integer_ratio())[0] * unit <= count * ratio[1]
+        else _next(value, -math.inf)
+        for count in counts
+    ]
+
+
+def ceilings_of(counts: Sequence[int], unit: int) -> List[float]:
+    """Returns `ceiling_of` of each count."""
+    shift = _shift(counts, unit)
+    if shift is not None:
+        step = -(2.0**-shift)
+        return [(-count << shift) // unit * step for count in counts]
+    return [
+        value
+        if (ratio := (value := count / unit).as_integer_ratio())[0] * unit >= count * ratio[1]
+        else _next(value, math.inf)
+        for count in counts
+    ]
 
 
 def units_of(number: "Decimal") -> Optional[int]:
@@ -61,19 +111,22 @@ class Axis:
 
     def interval(self, least: int, greatest: int) -> Interval:
         """Returns the world coordinates of two vertices, rounded outward."""
-        unit = self._unit
         low, high = least * self._scale + self._shift, greatest * self._scale + self._shift
         if self._scale < 0:
             low, high = high, low
-        # as `floor_of` and `ceiling_of`, without calls: there are very many features
-        left, right = low / unit, high / unit
-        numerator, denominator = left.as_integer_ratio()
-        if numerator * unit > low * denominator:
-            left = _below(left)
-        numerator, denominator = right.as_integer_ratio()
-        if numerator * unit < high * denominator:
-            right = -_below(-right)
-        return left, right
+        return floor_of(low, self._unit), ceiling_of(high, self._unit)
+
+    def intervals(
+        self, least: Iterable[int], greatest: Iterable[int]
+    ) -> Tuple[List[float], List[float]]:
+        """Returns the least and the greatest world coordinates of many pairs of vertices, rounded
+        outward."""
+        scale, shift = self._scale, self._shift
+        low = [vertex * scale + shift for vertex in least]
+        high = [vertex * scale + shift for vertex in greatest]
+        if scale < 0:
+            low, high = high, low
+        return floors_of(low, self._unit), ceilings_of(high, self._unit)
 
 
 class World:

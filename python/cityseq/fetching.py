@@ -31,6 +31,13 @@ class Row(NamedTuple):
     length: int
 
 
+class AllLines(Iterator[Row]):
+    """No rows: all lines of a stream are read, one after another."""
+
+    def __next__(self) -> Row:
+        raise StopIteration
+
+
 @dataclass(frozen=True)
 class IndexedStream:
     """A stream as an index has it. docs/geopackage.md describes the columns.
@@ -47,6 +54,7 @@ class IndexedStream:
     packing: Optional[str]
     size: int
     mtime_ns: int
+    content: str
     header_length: int
     header_sha256: str
     scale: str
@@ -101,6 +109,8 @@ def _confirm(stream: IndexedStream, descriptor: int) -> None:
 class FilePlace:
     """A plain file."""
 
+    near = NEAR
+
     def __init__(self, stream: IndexedStream, reader: Reader) -> None:
         self._stream, self._file = stream, reader.file
         stream.compare(*state_of(reader.file.fileno()))
@@ -121,6 +131,8 @@ class FilePlace:
 
 class PackedPlace:
     """A packed file. It is read from its beginning, so places may only rise, or fall by one."""
+
+    near = NEAR
 
     def __init__(self, stream: IndexedStream, reader: Reader) -> None:
         self._stream, self._reader = stream, reader
@@ -211,8 +223,9 @@ def check_file(stream: IndexedStream) -> None:
     stream.compare(state.st_size, state.st_mtime_ns)
 
 
-def _groups(stream: IndexedStream, rows: Iterable[Row]) -> Iterator[List[Row]]:
-    """Yields the rows of lines that are read together. Each line begins after the one before."""
+def _groups(stream: IndexedStream, rows: Iterable[Row], near: int) -> Iterator[List[Row]]:
+    """Yields the rows of lines that are read together: between two are at most `near` bytes. Each
+    line begins after the one before."""
     group: List[Row] = []
     end = 0  # of the line before
     for row in rows:
@@ -221,7 +234,7 @@ def _groups(stream: IndexedStream, rows: Iterable[Row]) -> Iterator[List[Row]]:
             raise OutOfDate.because(INDEX_CHANGED, stream.path)
         end = row.begin + row.length
         if group and (
-            row.begin - (group[-1].begin + group[-1].length) > NEAR
+            row.begin - (group[-1].begin + group[-1].length) > near
             or row.begin + row.length - group[0].begin > MOST
         ):
             yield group
@@ -244,17 +257,39 @@ def _line(stream: IndexedStream, text: bytes, begin: int, length: int) -> bytes:
     return line
 
 
+def _all_lines(stream: IndexedStream, place: Any) -> Iterator[Tuple[bytes, List[int]]]:
+    """Yields the lines after the header of a stream, some together, with 0 as the number of each.
+    """
+    begin, rest = stream.header_length, b""
+    text = place.read(begin, begin + MOST)
+    while text:
+        begin += len(text)
+        end = text.rfind(b"\n") + 1
+        if end:
+            yield rest + text[:end], [0] * text.count(b"\n")
+        rest = text[end:] if end else rest + text
+        text = place.read(begin, begin + MOST)
+    if rest:
+        yield rest, [0]
+    if stream.packing is None and begin != stream.size:
+        raise OutOfDate.because(SHORTER, stream.path)
+
+
 def lines_of(
     stream: IndexedStream, place: Any, rows: Iterable[Row]
 ) -> Iterator[Tuple[bytes, List[int]]]:
     """Yields lines of a stream, some together, and their numbers. Lines that are near each other
-    are read together with what is between them.
+    are read together with what is between them. `AllLines` as rows are all lines, and
+    then each number is 0.
 
     Raises:
         OutOfDate: The stream does not have the lines of the index.
         ReadFault: A read failed.
     """
-    for group in _groups(stream, rows):
+    if isinstance(rows, AllLines):
+        yield from _all_lines(stream, place)
+        return
+    for group in _groups(stream, rows, place.near):
         first, last = group[0].begin - 1, group[-1].begin + group[-1].length + 1
         text = place.read(first, last)
         lines = [_line(stream, text, row.begin - first, row.length) for row in group]

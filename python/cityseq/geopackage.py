@@ -6,14 +6,19 @@ were judged. docs/geopackage.md describes every column.
 """
 from __future__ import annotations
 
+import json
 import re
 import sqlite3
 import struct
-from typing import Any, Optional, Tuple
+from contextlib import suppress
+from itertools import repeat
+from typing import Any, Iterator, Optional, Sequence, Tuple
 
-VERSION = 1  # of the tables: it changes if a column is removed, renamed or changes its meaning
+VERSION = 2  # of the tables: it changes if a column is removed, renamed or changes its meaning
 APPLICATION = 0x47504B47  # "GPKG"
 GEOPACKAGE = 10_300  # GeoPackage 1.3
+FID_BITS = 32  # of a key in `feature_ids`: the number of the feature, below the hash of its id
+MOST_FEATURES = (1 << FID_BITS) - 1
 UNDEFINED = -1  # the coordinate system is not known
 TABLE, COLUMN = "features", "geom"
 TREE = f"rtree_{TABLE}_{COLUMN}"
@@ -55,9 +60,11 @@ CREATE TABLE features (
   begin INTEGER NOT NULL, length INTEGER NOT NULL, id TEXT NOT NULL, id_exact BLOB,
   objects INTEGER NOT NULL, geometries INTEGER NOT NULL, types TEXT NOT NULL, lods TEXT NOT NULL,
   zmin REAL, zmax REAL);
+CREATE TABLE feature_ids (key INTEGER PRIMARY KEY NOT NULL);
 CREATE TABLE streams (
   fid INTEGER PRIMARY KEY NOT NULL, path TEXT NOT NULL, path_exact BLOB, packing TEXT,
-  size INTEGER NOT NULL, mtime_ns INTEGER NOT NULL, header_length INTEGER NOT NULL,
+  size INTEGER NOT NULL, mtime_ns INTEGER NOT NULL, content TEXT NOT NULL,
+  header_length INTEGER NOT NULL,
   header_sha256 TEXT NOT NULL, scale TEXT NOT NULL, translate TEXT NOT NULL,
   reference_system TEXT, lines INTEGER NOT NULL, features INTEGER NOT NULL,
   refused INTEGER NOT NULL, first_fid INTEGER NOT NULL, xmin REAL, xmax REAL, ymin REAL, ymax REAL,
@@ -78,7 +85,7 @@ BEGIN
   UPDATE cityseq_index SET changed = 1 WHERE changed = 0;
 END
 """
-GUARDED = ("features", "streams")
+GUARDED = ("features", "feature_ids", "streams")
 EVENTS = {
     f"cityseq_{table}_{event.lower()}": (event, table)
     for table in GUARDED
@@ -124,7 +131,6 @@ CONTENTS = (
     ("streams", "The streams that were indexed"),
     ("reports", "The invalid lines, which are left out"),
 )
-_RING = struct.Struct("<10d")
 
 
 def system_of(metadata: Any) -> Tuple[Optional[str], int]:
@@ -136,14 +142,32 @@ def system_of(metadata: Any) -> Tuple[Optional[str], int]:
     return name, int(found.group(1)) or UNDEFINED if found else UNDEFINED
 
 
+def readable(text: str) -> str:
+    """Returns a text that all programs can read. A text with NUL or a lone surrogate is escaped as
+    in JSON."""
+    if "\0" not in text:
+        with suppress(UnicodeEncodeError):
+            text.encode("utf-8")
+            return text
+    return json.dumps(text)[1:-1]
+
+
 def geometry_start(system: int) -> bytes:
     """Returns the beginning of each polygon: a GeoPackage header without envelope, then WKB."""
     return struct.pack("<2sBBiBIII", b"GP", 0, 1, system, 1, 3, 1, 5)
 
 
-def polygon(start: bytes, xmin: float, xmax: float, ymin: float, ymax: float) -> bytes:
-    """Returns an extent as a polygon of one ring."""
-    return start + _RING.pack(xmin, ymin, xmax, ymin, xmax, ymax, xmin, ymax, xmin, ymin)
+def polygons(
+    start: bytes,
+    xmin: Sequence[float],
+    xmax: Sequence[float],
+    ymin: Sequence[float],
+    ymax: Sequence[float],
+) -> Iterator[bytes]:
+    """Yields extents as polygons of one ring."""
+    pack = struct.Struct(f"<{len(start)}s10d").pack
+    corners = xmin, ymin, xmax, ymin, xmax, ymax, xmin, ymax, xmin, ymin
+    return map(pack, repeat(start), *corners)
 
 
 def create(base: sqlite3.Connection) -> None:
@@ -185,7 +209,10 @@ def describe(base: sqlite3.Connection, system: int) -> None:
         "INSERT INTO gpkg_extensions VALUES (?,?,?,?,?)",
         (
             (TABLE, COLUMN, "gpkg_rtree_index", extension, "write-only"),
-            ("cityseq_index", None, "cityseq_index", "docs/geopackage.md of cityseq", "read-write"),
+            *(
+                (table, None, "cityseq_index", "docs/geopackage.md of cityseq", "read-write")
+                for table in ("cityseq_index", "feature_ids")
+            ),
         ),
     )
     edges = ("ST_MinX", "ST_MaxX", "ST_MinY", "ST_MaxY")

@@ -24,15 +24,31 @@ from .words import Asked
 
 
 def run(wanted: Asked) -> int:
-    """Writes or shows an index, and returns the status."""
-    return _show(wanted) if wanted.show is not None else _build(wanted)
+    """Writes, refreshes or shows an index, and returns the status."""
+    if wanted.show is None and wanted.refresh is None:
+        return _build(wanted)
+    named = wanted.files or wanted.files_from is not None or wanted.output != "-"
+    if named or None not in (wanted.show, wanted.refresh):
+        option = "--show" if wanted.refresh is None else "--refresh"
+        raise RequestError(f"{option} takes the name of an index alone")
+    return _show(wanted) if wanted.refresh is None else _refresh(wanted)
 
 
 def _show(wanted: Asked) -> int:
-    if wanted.files or wanted.files_from is not None or wanted.output != "-":
-        raise RequestError("--show takes the name of an index alone")
     with Index(wanted.show) as index:
         put(json.dumps(shown_object(index, __version__)) if wanted.json else index.show())
+    return 0
+
+
+def _refresh(wanted: Asked) -> int:
+    """Writes the new times of streams with the same content into an index."""
+    from .refreshing import refresh  # few runs need it
+
+    if wanted.json:
+        raise RequestError("--refresh writes no JSON: leave --json out")
+    streams, new = refresh(wanted.refresh or "", wanted.jobs)
+    if not wanted.quiet:
+        put(f"streams {streams} refreshed {new}")
     return 0
 
 

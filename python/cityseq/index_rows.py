@@ -10,7 +10,7 @@ from .faults import ReadFault
 
 LONGEST = 4_096  # bytes of a path that a system can open
 DECIMAL = re.compile(r"-?\d+(?:\.\d+)?(?:[eE][+-]?\d+)?")
-SHA256 = re.compile(r"[0-9a-f]{64}")
+SHA256, CONTENT = re.compile(r"[0-9a-f]{64}"), re.compile(r"[0-9a-f]{32}")
 Test = Callable[[Any], bool]
 
 
@@ -74,6 +74,7 @@ STREAMS: Dict[str, Test] = {
     "packing": _or_null(lambda value: value in ("gzip", "zstd")),
     "size": _is_count,
     "mtime_ns": lambda value: type(value) is int,
+    "content": lambda value: isinstance(value, str) and bool(CONTENT.fullmatch(value)),
     "header_length": _is_within((1, LINE_LIMITS[1] + 1)),
     "header_sha256": lambda value: isinstance(value, str) and bool(SHA256.fullmatch(value)),
     "scale": _are_decimals,

@@ -6,17 +6,28 @@ from contextlib import closing
 from functools import partial
 from typing import Any, Callable, Iterable, Iterator, List, Optional, Sequence
 
-from .builder import Builder, Entry
-from .faults import RequestError, WriteFault
+from .builder import Builder, Entry, File
+from .digests import Digest, Digests
+from .faults import CityseqError, MemoryFault, ReadFault, RequestError, WriteFault, read_fault
 from .packed import Packing, packing_of
 from .parts import Answer, Cutter
 from .places import SMALL, Placed, Places, given, placed
 from .query import Work
 from .records import Found, find_read
 from .reports import Report
-from .running import AHEAD, Judged, Result, Results, Stream, in_turn, results, usual_jobs
+from .running import (
+    AHEAD,
+    Judged,
+    Result,
+    Results,
+    Stream,
+    Tasks,
+    in_turn,
+    results,
+    usual_jobs,
+)
 from .same import refuse_same
-from .sources import Reader, State, is_path
+from .sources import CHANGED, Reader, State, is_path
 from .threads import Crew
 
 Tell = Optional[Callable[[Report], None]]
@@ -105,6 +116,16 @@ class Indexed(Recorded):
         self._number, self._path, self._builder, self._then = number, path, builder, self._tell
         self._tell = self._report
         self._entry: Optional[Entry] = None
+        self._digest: Any = None  # of the file, when it is asked for
+
+    def tasks(self) -> Tasks:
+        """Yields a call for each part, in order, that judges it. Another thread hashes the file."""
+        self.hash()
+        return super().tasks()
+
+    def hash(self) -> None:
+        """Begins to make the hash of the file."""
+        self._digest = self._builder.digests.submit(self._path)
 
     def _report(self, report: Report) -> None:
         self._then(report)
@@ -132,7 +153,7 @@ class Indexed(Recorded):
         if result.fault is None and result.end is None:
             try:
                 self._end(result)
-            except WriteFault as fault:
+            except CityseqError as fault:
                 result.status, result.fault, result.fault_file = (
                     fault.status,
                     fault.words,
@@ -143,7 +164,20 @@ class Indexed(Recorded):
 
     def _end(self, result: Result) -> None:
         packing = None if self._unpacker is None else _packing_of(self._path)
-        self._builder.end(self.entry(), self._path, self.state(), packing, result)
+        file = File(self._path, packing, self.state(), self._hash())
+        self._builder.end(self.entry(), file, result)
+
+    def _hash(self) -> str:
+        """Returns the hash of the file. Raises `ReadFault` if the file has changed."""
+        try:
+            digest: Digest = self._digest.result()
+        except OSError as fault:
+            raise read_fault(fault, self._path) from fault
+        except MemoryError as fault:
+            raise MemoryFault("out of memory", None, self._path) from fault
+        if not digest.before == digest.after == self.state():
+            raise ReadFault(f"read fault: {CHANGED}", None, self._path)
+        return digest.content
 
     def state(self) -> State:
         """Returns the size and the time of change that the file had at the beginning."""
@@ -208,14 +242,17 @@ def written(
     run: Callable[[], Results],
     work: Work,
     take: Callable[[Result], None] = lambda result: None,
+    digests: Any = None,
 ) -> bool:
     """Writes an index of streams, and passes the result of each to `take`. Returns whether the
-    index is whole, and removes it if it is not. Stops after the first stream that ended early."""
+    index is whole, and removes it if it is not. Stops after the first stream that ended early.
+    `digests` makes the hashes of the files, by default a thread of this process."""
     from . import __version__
 
     try:
         builder.open()
-        with closing(run()) as found:
+        with Digests() as own, closing(run()) as found:
+            builder.digests = own if digests is None else digests
             for result in found:
                 take(result)
                 if result.fault is not None or result.end is not None:

@@ -8,32 +8,25 @@ from itertools import chain, groupby
 from typing import Any, Dict, Iterator, List, Optional, Tuple, Union
 
 from . import geopackage
-from ._library import LOD_CLASSES, CallStatus, library
+from ._library import CallStatus, library
 from .database import INDEX_CHANGED, Database
-from .extents import box_of
 from .faults import OutOfDate, ReadFault, RequestError
-from .fetching import IndexedStream, Row, check_file, header_of, lines_of, placed
+from .fetching import AllLines, IndexedStream, Row, check_file, header_of, lines_of, placed
 from .index_rows import OPTIONS, REPORTS, STREAMS, checked
 from .listing import Feature, fault_of, feature_of
 from .outputs import Target
+from .queries import ALIKE, SAME_ID, has_more, reads_all, terms_of, values_of_id, want
 from .query import Box, Texts, Work, asked
-from .records import id_of, stored
+from .records import id_of
 from .running import Result
 
 COLUMNS = {
     "cityseq_index": ("version", *OPTIONS, "changed", "places"),
     "features": ("fid", "stream", "line", "begin", "length", "id", "id_exact", "types", "lods"),
+    "feature_ids": ("key",),
     "streams": tuple(STREAMS),
     "reports": tuple(REPORTS),
 }
-IN_BOX = (
-    f"fid IN (SELECT id FROM {geopackage.TREE}"
-    " WHERE minx <= ? AND maxx >= ? AND miny <= ? AND maxy >= ?)"
-)
-WITH_ID = (
-    "fid IN (SELECT features.fid FROM temp.wanted CROSS JOIN features"
-    " ON features.id = wanted.id AND features.id_exact IS wanted.exact)"
-)
 
 
 @dataclass(frozen=True)
@@ -196,26 +189,36 @@ class Index:
         found = self._found(work, ["fid > ? AND fid <= ?"], within, f" LIMIT {most}")
         return [(fid - first, Row(*row)) for fid, *row in found]
 
+    def has_more(self, work: Work, stream: IndexedStream, after: int, most: int) -> bool:
+        """Returns whether `candidates` would find more than `most` features. It stops there, and
+        makes no rows, so it takes a fraction of the time."""
+        first = stream.first_fid - 1
+        fids = range(first + min(after, stream.features) + 1, first + stream.features + 1)
+        self._check_index(work)
+        with self._base.reading():
+            return has_more(self._base, work, fids, most)
+
+    def _reads_all(self, work: Work) -> bool:
+        """Whether to read the whole streams takes less time than to read the lines that a query may
+        keep. This is an estimate. Lines that were left out, and web servers, forbid it."""
+        if self.base is not None or any(stream.refused for stream in self.streams):
+            return False
+        features = sum(stream.features for stream in self.streams)
+        size = sum(stream.size for stream in self.streams)
+        with self._base.reading():
+            return features > 0 and reads_all(self._base, work, features, size)
+
     def _found(
         self, work: Work, conditions: List[str], given: List[Any], end: str = ""
     ) -> Iterator[Any]:
         """Yields the rows of the features that meet the conditions and that a query may keep."""
-        if work.box is not None:
-            box = box_of(work.box.decode("utf-8"))
-            if box is not None:
-                conditions.append(IN_BOX)
-                given += [box[0][1], box[0][0], box[1][1], box[1][0]]
-        for column, names in (("types", work.types), ("lods", _classes(work.lods))):
-            if names is not None:
-                each = names.decode("utf-8").split("\n")
-                parts = [f"instr(',' || {column} || ',', ?)"] * len(each)
-                conditions.append(f"({' OR '.join(parts)})")
-                given += [f",{name}," for name in each]
+        of_work, values = terms_of(work)
+        conditions += of_work
+        given += values
         self._check_index(work)
         with self._base.reading():
             if work.ids is not None:
-                self._want(work.ids)
-                conditions.append(WITH_ID)
+                want(self._base, work.ids)
             which = f" WHERE {' AND '.join(conditions)}" if conditions else ""
             select = "SELECT fid, stream, line, begin, length FROM features"
             # `yield from` would close the cursor with the generator, perhaps after the database
@@ -234,16 +237,15 @@ class Index:
         if work is not None and work.box is not None:
             self._base.check_tree()
 
-    def _want(self, ids: bytes) -> None:
-        """Writes the ids of a query to a temporary table."""
-        self._base.execute("DROP TABLE IF EXISTS temp.wanted")
-        self._base.execute("CREATE TEMP TABLE wanted (id TEXT, exact BLOB)")
-        texts = (stored(text.decode("utf-8")) for text in ids.split(b"\n"))
-        self._base.executemany("INSERT INTO temp.wanted VALUES (?,?)", texts)
-
     def selections(self, work: Work) -> Iterator[Tuple[IndexedStream, Iterator[Row]]]:
-        """Yields each stream with the rows that a query may keep of it. The caller reads the rows
-        before it asks for the next stream."""
+        """Yields each stream with the rows that a query may keep of it, or with `AllLines` if to
+        read all takes less time. The caller reads the rows before it asks for the next stream."""
+        if self._reads_all(work):
+            yield from ((stream, AllLines()) for stream in self.streams)
+        else:
+            yield from self._selected(work)
+
+    def _selected(self, work: Work) -> Iterator[Tuple[IndexedStream, Iterator[Row]]]:
         grouped = groupby(self.rows(work), lambda row: row.stream)
         ahead = next(grouped, None)
         for stream in self.streams:
@@ -301,7 +303,7 @@ class Index:
             features.close()
 
     def _features(self, work: Work) -> Any:
-        for stream, rows in self.selections(work):
+        for stream, rows in self._selected(work):
             first = next(rows, None)
             # no row has a place then, and the header is invalid for a query with a box
             has_no_box = work.box is not None and not stream.is_flat
@@ -352,13 +354,12 @@ class Index:
         paths = {stream.number: stream.path for stream in self.streams}
         with self._base.reading():
             found = self._base.execute(
-                "SELECT id, id_exact FROM features GROUP BY id, id_exact HAVING count(*) > 1"
+                f"SELECT id, id_exact FROM features WHERE fid IN ({ALIKE})"
+                " GROUP BY id, id_exact HAVING count(*) > 1"
             )
             for text, exact in found:
                 places = self._base.execute(
-                    "SELECT stream, line FROM features WHERE id = ? AND id_exact IS ?"
-                    " ORDER BY fid",
-                    (text, exact),
+                    f"SELECT stream, line FROM {SAME_ID} ORDER BY fid", values_of_id(text, exact)
                 ).fetchall()
                 try:
                     told = tuple((paths[number], int(line)) for number, line in places)
@@ -391,17 +392,6 @@ class Index:
         from .index_lines import lines  # few runs need it
 
         return "\n".join(lines(self))
-
-
-def _classes(lods: Optional[bytes]) -> Optional[bytes]:
-    """Returns the classes of the LoDs of a query, one a line."""
-    if lods is None:
-        return None
-    names = {
-        text[:1] if text[:1] in LOD_CLASSES else LOD_CLASSES[-1]
-        for text in lods.decode("utf-8").split("\n")
-    }
-    return "\n".join(sorted(names)).encode("ascii")
 
 
 def kept(

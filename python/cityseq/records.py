@@ -4,8 +4,9 @@ from __future__ import annotations
 import json
 import struct
 from dataclasses import dataclass, field
-from itertools import islice
-from typing import Iterator, List, Optional, Tuple
+from itertools import islice, repeat, starmap
+from typing import Iterable, List, Optional, Sequence, Tuple
+from zlib import crc32
 
 from ._library import CallStatus, RawAnswer, RawReports, Text, library
 from .faults import CityseqError
@@ -15,6 +16,7 @@ from .query import Work
 from .reports import describe
 
 RECORD = struct.Struct("=9Q" + "Qqq" * 3)  # `struct cityseq_feature`
+MEMBERS = RECORD.size // 8  # each of 8 bytes, below 2^63
 SHORTEST = 64  # bytes: every feature is longer
 USUAL = 8_192  # features of a part that fit at first
 LONGEST = 1_024  # bytes of an id that is stored unchanged
@@ -36,8 +38,9 @@ class Records:
     raw: bytes
     ids: List[bytes]
 
-    def __iter__(self) -> Iterator[Tuple[Tuple[int, ...], bytes]]:
-        return zip(RECORD.iter_unpack(self.raw), self.ids)
+    def columns(self) -> List[List[int]]:
+        """Returns the values of each member of the records."""
+        return columns_of(self.raw)
 
 
 @dataclass
@@ -45,6 +48,12 @@ class Found(Answer):
     """The answer for a part, with its records."""
 
     records: Records = field(default_factory=lambda: Records(0, b"", []))
+
+
+def columns_of(raw: bytes) -> List[List[int]]:
+    """Returns the values of each member of records."""
+    numbers = memoryview(raw).cast("q")
+    return [numbers[member::MEMBERS].tolist() for member in range(MEMBERS)]
 
 
 def stored(text: str) -> Id:
@@ -85,6 +94,23 @@ def stored_as_spelled(spelling: bytes) -> Id:
     return stored(unescaped(spelling))
 
 
+def hash_of(text: str, exact: Optional[bytes]) -> int:
+    """Returns the hash of the id that is stored in these two columns: the upper 31 bits of the
+    CRC-32 of its UTF-8."""
+    return crc32(text.encode("utf-8") if exact is None else exact) >> 1
+
+
+def stored_as_columns(
+    spellings: List[bytes],
+) -> Tuple[Sequence[str], Iterable[Optional[bytes]], List[int]]:
+    """Returns ids, from the JSON strings that spell them, as two columns and the hash of each."""
+    if b"\\" not in b"".join(spellings) and max(map(len, spellings)) <= LONGEST:
+        texts = b"\n".join(spellings).decode("utf-8").split("\n")  # no valid string has an LF
+        return texts, repeat(None), [crc32(spelling) >> 1 for spelling in spellings]
+    both = list(map(stored_as_spelled, spellings))
+    return [text for text, _ in both], [exact for _, exact in both], list(starmap(hash_of, both))
+
+
 def _called(
     work: Work, header: bytes, part: Text, reports_room: int
 ) -> Tuple[RawAnswer, RawReports, bytes]:
@@ -100,9 +126,11 @@ def _called(
 
 
 def _ids(part: Text, raw: bytes) -> List[bytes]:
+    numbers = memoryview(raw).cast("q")
+    places = (numbers[member::MEMBERS].tolist() for member in (1, 3, 4))
     return [
-        bytes(part[one[1] + one[3] + 1 : one[1] + one[3] + one[4] - 1])
-        for one in RECORD.iter_unpack(raw)
+        bytes(part[line + begin + 1 : line + begin + length - 1])
+        for line, begin, length in zip(*places)
     ]
 
 

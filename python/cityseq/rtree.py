@@ -10,50 +10,81 @@ from __future__ import annotations
 
 import sqlite3
 import struct
-from itertools import islice
-from typing import Iterable, Iterator, List, Tuple
+from array import array
+from functools import lru_cache
+from itertools import compress, islice, repeat
+from typing import Callable, Iterable, Iterator, List, Sequence, Tuple
+
+from .bulk import insert
 
 ROOT = 1
 CELL = struct.Struct(">q4f")
-BOX = struct.Struct(">8x4f")
-NUMBER = struct.Struct(">q16x")
 # A 32-bit float differs by less than this from the number that is rounded to it.
 INWARD, OUTWARD = 1 - 2.0**-23, 1 + 2.0**-23
-_FLOATS, _WORDS = struct.Struct("<2f"), struct.Struct("<2I")
-# The bits of a byte, with a zero between each two.
-_SPREAD = [sum((byte >> bit & 1) << 2 * bit for bit in range(8)) for byte in range(256)]
+KEY = 8  # bytes
+# Each half of a byte as a byte, with a zero between each two bits.
+_SPREAD = bytes(sum((half >> bit & 1) << 2 * bit for bit in range(4)) for half in range(16))
+_UPPER, _LOWER = bytes(_SPREAD[byte >> 4] for byte in range(256)), _SPREAD * 16
 
 
-def cell_of(number: int, xmin: float, xmax: float, ymin: float, ymax: float) -> bytes:
-    """Returns the cell of a feature, with its extent rounded outward."""
-    return CELL.pack(
-        number,
-        xmin * (INWARD if xmin > 0 else OUTWARD),
-        xmax * (OUTWARD if xmax > 0 else INWARD),
-        ymin * (INWARD if ymin > 0 else OUTWARD),
-        ymax * (OUTWARD if ymax > 0 else INWARD),
-    )
+def _down(numbers: Iterable[float]) -> List[float]:
+    """Returns numbers that are no greater as 32-bit floats."""
+    return [number * (INWARD if number > 0 else OUTWARD) for number in numbers]
 
 
-def key_of(x: float, y: float) -> int:
-    """Returns where a point is on a Morton curve. Near points are mostly near on it.
+def _up(numbers: Iterable[float]) -> List[float]:
+    """Returns numbers that are no less as 32-bit floats."""
+    return [number * (OUTWARD if number > 0 else INWARD) for number in numbers]
 
-    First all bits of negative numbers are inverted, and the sign bit of others. Then 32-bit floats
-    have the order of their bits. The upper 24 bits of both are interleaved.
+
+def cells_of(
+    numbers: Iterable[int],
+    xmin: Iterable[float],
+    xmax: Iterable[float],
+    ymin: Iterable[float],
+    ymax: Iterable[float],
+) -> Iterator[bytes]:
+    """Yields the cell of each feature, with its extent rounded outward."""
+    return map(CELL.pack, numbers, _down(xmin), _up(xmax), _down(ymin), _up(ymax))
+
+
+def _spread(numbers: Sequence[float]) -> int:
+    """Returns numbers as 32-bit floats in keys, one after another. Of each the upper 24 bits have a
+    zero between each two.
+
+    First all bits of negative numbers are inverted, and the sign bit of others. Then floats have
+    the order of their bits.
     """
-    a, b = _WORDS.unpack(_FLOATS.pack(x, y))
-    a ^= 0xFFFFFFFF if a >> 31 else 0x80000000
-    b ^= 0xFFFFFFFF if b >> 31 else 0x80000000
-    even = _SPREAD[a >> 8 & 255] | _SPREAD[a >> 16 & 255] << 16 | _SPREAD[a >> 24] << 32
-    odd = _SPREAD[b >> 8 & 255] | _SPREAD[b >> 16 & 255] << 16 | _SPREAD[b >> 24] << 32
-    key: int = even | odd << 1
-    return key
+    count = len(numbers)
+    words = struct.unpack(f">{count}I", struct.pack(f">{count}f", *numbers))
+    ordered = struct.pack(
+        f">{count}I", *(word ^ (0xFFFFFFFF if word >> 31 else 0x80000000) for word in words)
+    )
+    keys = bytearray(KEY * count)
+    for place in range(3):
+        column = ordered[place::4]
+        keys[2 + 2 * place :: KEY] = column.translate(_UPPER)
+        keys[3 + 2 * place :: KEY] = column.translate(_LOWER)
+    return int.from_bytes(keys, "big")
+
+
+def keys_of(x: Sequence[float], y: Sequence[float]) -> Tuple[int, ...]:
+    """Returns where points are on a Morton curve. Near points are mostly near on it."""
+    keys = (_spread(x) | _spread(y) << 1).to_bytes(KEY * len(x), "big")
+    found: Tuple[int, ...] = struct.unpack(f">{len(x)}Q", keys)
+    return found
+
+
+@lru_cache(maxsize=64)
+def _boxes(count: int) -> struct.Struct:
+    """Returns what reads the extents of so many cells."""
+    return struct.Struct(">" + "8x4f" * count)
 
 
 def _around(cells: bytes) -> Tuple[float, float, float, float]:
     """Returns the extent of all cells together."""
-    xmin, xmax, ymin, ymax = zip(*BOX.iter_unpack(cells))
-    return min(xmin), max(xmax), min(ymin), max(ymax)
+    edges = _boxes(len(cells) // CELL.size).unpack(cells)
+    return min(edges[::4]), max(edges[1::4]), min(edges[2::4]), max(edges[3::4])
 
 
 class Tree:
@@ -85,36 +116,51 @@ class Tree:
             above += CELL.pack(self._last, *_around(group))
             yield self._last, group
 
-    def _write(self, level: Iterable[Tuple[int, bytes]], children: str) -> None:
-        """Writes the nodes of a level, and the node of each of their children."""
+    def _write(
+        self, level: Iterable[Tuple[int, bytes]], noted: Callable[[int, bytes], None]
+    ) -> None:
+        """Writes the nodes of a level, and passes the number and the cells of each to `noted`."""
         for number, group in level:
-            self._base.execute(
-                f"INSERT INTO {self._name}_node VALUES (?,?)", (number, self._node(0, group))
-            )
-            self._base.executemany(
-                f"INSERT INTO {children} VALUES (?,?)",
-                [(child, number) for child, in NUMBER.iter_unpack(group)],
-            )
+            data = self._node(0, group)
+            self._base.execute(f"INSERT INTO {self._name}_node VALUES (?,?)", (number, data))
+            noted(number, group)
 
-    def write(self, cells: Iterator[bytes], count: int) -> None:
-        """Writes the index of `count` cells, which come in the order of the curve."""
-        base, name = self._base, self._name
-        base.execute("CREATE TEMP TABLE leaves (feature INTEGER, node INTEGER)")
-        depth, children = 0, "temp.leaves"
+    def _note_parents(self, number: int, group: bytes) -> None:
+        """Writes the node of each node in a group of cells."""
+        insert(self._base, f"{self._name}_parent", numbers_of(group), repeat(number))
+
+    def write(self, cells: Iterator[bytes], count: int, last: int) -> None:
+        """Writes the index of `count` cells, which come in the order of the curve. No number of
+        theirs is greater than `last`."""
+        leaves = array("I", bytes(4 * (last + 1)))  # the node of each cell, by its number
+
+        def note_leaves(number: int, group: bytes) -> None:
+            for cell in numbers_of(group):
+                leaves[cell] = number
+
+        depth, noted = 0, note_leaves
         while count > self._most:
             above = bytearray()
-            self._write(self._level(cells, count, above), children)
+            self._write(self._level(cells, count, above), noted)
             cells, count = iter(_cells(above)), len(above) // CELL.size
-            depth, children = depth + 1, f"{name}_parent"
+            depth, noted = depth + 1, self._note_parents
         root = b"".join(cells)
         data = self._node(depth, root)
-        base.execute(f"UPDATE {name}_node SET data = ? WHERE nodeno = {ROOT}", (data,))
-        base.executemany(
-            f"INSERT INTO {children} VALUES (?,{ROOT})",
-            [(child,) for child, in NUMBER.iter_unpack(root)],
-        )
-        base.execute(f"INSERT INTO {name}_rowid SELECT * FROM temp.leaves ORDER BY feature")
-        base.execute("DROP TABLE temp.leaves")
+        self._base.execute(f"UPDATE {self._name}_node SET data = ? WHERE nodeno = {ROOT}", (data,))
+        noted(ROOT, root)
+        placed = compress(range(last + 1), leaves)
+        insert(self._base, f"{self._name}_rowid", placed, filter(None, leaves))
+
+
+def numbers_of(cells: bytes) -> Sequence[int]:
+    """Returns the numbers of cells."""
+    found: Sequence[int] = _numbers(len(cells) // CELL.size).unpack(cells)
+    return found
+
+
+@lru_cache(maxsize=64)
+def _numbers(count: int) -> struct.Struct:
+    return struct.Struct(">" + "q16x" * count)
 
 
 def _cells(joined: bytearray) -> List[bytes]:

@@ -53,6 +53,7 @@ class Asked:
     index: Optional[str] = None
     base: Optional[str] = None
     show: Optional[str] = None
+    refresh: Optional[str] = None
     title: Optional[str] = None
     format: Optional[str] = None
     host: str = HOST
@@ -290,6 +291,8 @@ INDEX_SAYS = tuple(option for option in SAYS if option.name != "sha256")
 INDEX_OPTIONS = (
     Option("output", "Write the index to this file once all streams were read", "OUTPUT"),
     Option("show", "Say what an index covers, and which ids it has more than once", "INDEX"),
+    Option("refresh", "Write the new times of streams into an index, if their content is the same",
+           "INDEX"),
 )
 PAGE = (
     Option(
@@ -383,11 +386,13 @@ Examples:
   {0} index --output region.gpkg region.city.jsonl more.city.jsonl
   {0} filter --index region.gpkg --bbox 84000,447000,85000,448000 > tile.city.jsonl
   {0} index --show region.gpkg
+  {0} index --refresh region.gpkg
 
 Judges each FILE as check does. OUTPUT is a GeoPackage with the extent of each feature, which maps
 show, and with the place of its line. No index is left where a stream is not valid. With
 --keep-going each line that is not valid is left out, and listed in the table reports. An index is
-of the files as they are: build it again where one changes. See '{0} --help' for the exit status."""
+of the files as they are: build it again where one changes. After a copy that gave them new times,
+--refresh reads each and writes its time. See '{0} --help' for the exit status."""
 REPORT_AFTER = """\
 Examples:
   {0} report --output delivery.html north.city.jsonl.gz south.city.jsonl.gz

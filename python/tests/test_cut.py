@@ -8,11 +8,13 @@ import sqlite3
 import unittest
 from contextlib import closing
 from fractions import Fraction
+from unittest import mock
 
 from .support import HEADER, PLAIN, ROOT, InFolder, command, feature
 from .test_index import with_id
 
 import cityseq
+from cityseq import fetching, queries
 
 TOWN, SAMPLE, DELIVERY = (
     f"{ROOT}/examples/{name}.city.jsonl" for name in ("town", "sample", "delivery")
@@ -239,6 +241,54 @@ class Cuts(InFolder):
                     output = io.BytesIO()
                     index.filter(output, jobs=jobs, **query)
                     self.assertEqual(output.getvalue(), wanted[0])
+
+    def test_whole_streams_are_read_where_that_takes_less_time(self):
+        one = HEADER + b"".join(
+            feature(f"b{i}", "Road" if i % 97 else "Bridge", x=i) for i in range(6_000)
+        )
+        other = HEADER + b"\n" + feature("c") + feature("d", "Road")[:-1]
+        read = mock.Mock(side_effect=fetching._all_lines)
+        with self.indexed(self.file(one, "one"), self.file(other, "other")) as index:
+            with mock.patch.object(queries, "SMALL", 0), mock.patch.object(
+                fetching, "_all_lines", read
+            ), mock.patch.object(fetching, "MOST", 5_000):
+                for is_whole, query in (
+                    (True, {}),
+                    (True, {"types": "Road"}),
+                    (True, {"types": "Road", "lods": "2.2", "box": (0, 0, 100, 100)}),
+                    (True, {"ids": [f"b{i}" for i in range(1_000)]}),
+                    (False, {"types": "Bridge"}),
+                    (False, {"types": "Road", "box": (0, 0, 10, 10)}),
+                    (False, {"ids": [f"b{i}" for i in range(100)]}),
+                    (False, {"types": "Road", "ids": ["b7"]}),
+                ):
+                    with self.subTest(query=query):
+                        read.reset_mock()
+                        whole = one + other[len(HEADER) :]
+                        self.assertEqual(cut(index, **query)[0], filtered(whole, **query)[0])
+                        self.assertEqual(read.called, is_whole)
+
+    def test_how_many_a_query_selects(self):
+        text = HEADER + b"".join(
+            feature(f"b{i}", "Road" if i % 2 else "Bridge", x=2_000 * i) for i in range(400)
+        )
+        with self.indexed(self.file(HEADER + feature("b1")), self.file(text, "it")) as index:
+            stream = index.streams[1]
+            for query in (
+                {},
+                {"box": "10,20,100,21"},
+                {"box": "10,20,100,21", "types": "Road"},
+                {"types": "Road", "lods": "2"},
+                {"ids": ["b1", "b200", "x"]},
+                {"ids": ["b1", "b5", "b200"], "box": "10,20,100,21"},
+            ):
+                work = index.work(**query)
+                for after in (0, 40):
+                    count = len(index.candidates(work, stream, after, 1_000))
+                    with self.subTest(query=query, after=after):
+                        self.assertGreater(count, 0)
+                        self.assertTrue(index.has_more(work, stream, after, count - 1))
+                        self.assertFalse(index.has_more(work, stream, after, count))
 
     def test_texts_with_escapes(self):
         text = HEADER + feature("a", lod="\\u0032.2") + feature("\\u0061", lod="\\u00322")

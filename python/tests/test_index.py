@@ -1,5 +1,6 @@
 """Indexes: what is in the file, against what Python reads in streams, and what bad input gets."""
 import hashlib
+import io
 import json
 import os
 import random
@@ -7,10 +8,12 @@ import resource
 import shutil
 import signal
 import sqlite3
+import struct
 import subprocess
 import sys
 import time
 import unittest
+import zlib
 from contextlib import closing
 from fractions import Fraction
 from unittest import mock
@@ -216,6 +219,45 @@ class Files(InFolder):
             self.assertEqual(systems(*others), [-1, -1, "FFFFFFFF"])
         self.assertEqual(query(self.index, "PRAGMA foreign_key_check"), [])
 
+    def test_numbers_that_no_decimal_has(self):
+        """Valid numbers, of which Python's decimals have no exponent."""
+        for numbers, shift in (
+            (("1e99999999999999999999", "-0.5e-99999999999999999999"), "10"),
+            (("0", "0"), "0e99999999999999999999"),
+            (("0", "0"), "-0.00E-99999999999999999999"),
+        ):
+            metadata = ',"metadata":{"x":[%s,%s]}}\n' % numbers
+            header = HEADER[:-2] + metadata.encode()
+            header = header.replace(b'"translate":[10', f'"translate":[{shift}'.encode())
+            path = self.file(header + feature("a"))
+            cityseq.index(path, self.index)
+            left = 0 if "99" in shift else 10
+            self.assertEqual(
+                query(self.index, "SELECT xmin, xmax, ymin, ymax FROM streams"),
+                [(left, left + 1, 20, 21)],
+            )
+            info = cityseq.info(path)
+            self.assertEqual((info.translate[0], info.box), (left, f"{left},20,{left + 1},21"))
+            output = io.BytesIO()
+            with cityseq.Index(self.index) as index:
+                index.filter(output, box=(left, 20, left + 1, 21))
+            self.assertEqual(output.getvalue(), path.read_bytes())
+            for words in (("info", "--json"), ("info",)):
+                self.assertEqual(command(*words, str(path))[1:], ("", 0))
+
+    def test_reference_systems_that_are_no_text(self):
+        for spelling, wanted in (
+            ("\\ud800", "\\ud800"),
+            ("a\\u0000b", "a\\u0000b"),
+            ("x\\ud83c\\udfe0", "x\U0001f3e0"),
+        ):
+            header = HEADER[:-2] + b',"metadata":{"referenceSystem":"%s"}}\n' % spelling.encode()
+            self.built(header + feature("a"))
+            found = query(self.index, "SELECT reference_system FROM streams")
+            self.assertEqual(found, [(wanted,)])
+            output, said, status = command("index", "--json", "--show", self.index)
+            self.assertEqual((json.loads(output)["features"], said, status), (1, "", 0))
+
     def test_hostile_ids(self):
         names = HOSTILE + ["\u0000"]
         self.built(HEADER + b"".join(map(with_id, names)))
@@ -375,11 +417,123 @@ class Files(InFolder):
             self.assertIn("\\udcff\\u000a.city.jsonl lines 2", index.show())
 
 
+class Refreshed(InFolder):
+    """Streams whose time has changed, and that of an index."""
+
+    def setUp(self):
+        super().setUp()
+        self.index = self.folder / "it.gpkg"
+        self.texts = [HEADER + feature(name) for name in "ab"]
+        self.paths = [self.file(text, f"{n}.jsonl") for n, text in enumerate(self.texts)]
+        cityseq.index(self.paths, self.index)
+
+    def copied(self, path, text, shift=1_000_000_000):
+        """Writes a file anew, with another time."""
+        time_before = path.stat().st_mtime_ns
+        path.write_bytes(text)
+        os.utime(path, ns=(0, time_before + shift))
+
+    def cut(self):
+        output = io.BytesIO()
+        with cityseq.Index(self.index) as index:
+            index.filter(output)
+        return output.getvalue()
+
+    def test_the_same_content_gets_its_new_time(self):
+        wanted, before = self.cut(), dump(self.index)
+        refresh = ("index", "--refresh", str(self.index))
+        self.assertEqual(command(*refresh), (b"streams 2 refreshed 0\n", "", 0))
+        self.copied(self.paths[0], self.texts[0], -1_000_000_000)
+        self.copied(self.paths[1], self.texts[1])
+        with self.assertRaises(cityseq.OutOfDate):
+            self.cut()
+        self.assertEqual(command(*refresh), (b"streams 2 refreshed 2\n", "", 0))
+        self.assertEqual(self.cut(), wanted)
+        times = [(path.stat().st_mtime_ns,) for path in self.paths]
+        self.assertEqual(query(self.index, "SELECT mtime_ns FROM streams"), times)
+        for one, other in zip(before, dump(self.index)):
+            if one != before[1]:
+                self.assertEqual(one, other)
+
+    def test_other_content_writes_nothing(self):
+        self.copied(self.paths[0], self.texts[0])
+        for text, words in (
+            (self.texts[1].replace(b"1000", b"1001"), "other content"),
+            (self.texts[1] + b"\n", "longer"),
+            (self.texts[1][:-1], "shorter"),
+        ):
+            self.copied(self.paths[1], text)
+            before = self.index.read_bytes()
+            output, said, status = command("index", "--refresh", str(self.index))
+            told = f"{self.paths[1]}: index is out of date: the stream"
+            self.assertEqual((output, status), (b"", 3))
+            self.assertTrue(said.startswith(told) and words in said, said)
+            self.assertEqual(self.index.read_bytes(), before)
+        self.paths[1].unlink()
+        output, said, status = command("index", "--refresh", str(self.index))
+        self.assertEqual((output, status), (b"", 3))
+        self.assertIn("No such file", said)
+
+    def test_the_hash(self):
+        """The BLAKE2b of the CRC-32s of all blocks."""
+        path = self.file(HEADER + b"\n" * 300_000 + feature("c"), "c.jsonl")
+        cityseq.index(path, self.index)
+        text = path.read_bytes()
+        blocks = [text[:262_144], text[262_144:]]
+        sums = b"".join(struct.pack("<I", zlib.crc32(block)) for block in blocks)
+        wanted = hashlib.blake2b(sums, digest_size=16).hexdigest()
+        self.assertEqual(query(self.index, "SELECT content FROM streams"), [(wanted,)])
+
+    def test_a_stream_that_changes_while_it_is_hashed(self):
+        from cityseq import digests, indexing
+
+        before = self.index.read_bytes()
+        wrong = digests.Digest("", (1, 2), (1, 3))
+        told = mock.Mock(**{"submit.return_value.result.return_value": wrong})
+        with mock.patch.object(indexing, "Digests") as made:
+            made.return_value.__enter__.return_value = told
+            with self.assertRaises(cityseq.ReadFault) as caught:
+                cityseq.index(self.paths, self.index)
+        self.assertIn("changed while it was read", str(caught.exception))
+        self.assertEqual(self.index.read_bytes(), before)
+
+    def test_words(self):
+        for words in (
+            ("--refresh", str(self.index), str(self.paths[0])),
+            ("--refresh", str(self.index), "--show", str(self.index)),
+            ("--refresh", str(self.index), "--output", "x"),
+            ("--refresh", str(self.index), "--json"),
+        ):
+            output, said, status = command("index", *words, cwd=self.folder)
+            self.assertEqual((output, status, said.count("\n")), (b"", 2, 1))
+            self.assertIn("--refresh", said)
+
+    def test_folders_that_move_together(self):
+        for name in ("one", "one/data", "one/idx", "far"):
+            (self.folder / name).mkdir()
+        near = self.file(self.texts[0], "one/data/a.jsonl")
+        far = self.file(self.texts[1], "far/b.jsonl")
+        cityseq.index([near, far], self.folder / "one/idx/it.gpkg")
+        with cityseq.Index(self.folder / "one/idx/it.gpkg") as index:
+            told = [stream.told_path for stream in index.streams]
+        self.assertEqual(told, ["../data/a.jsonl", str(far.resolve())])
+        os.rename(self.folder / "one", self.folder / "two")
+        output = io.BytesIO()
+        with cityseq.Index(self.folder / "two/idx/it.gpkg") as index:
+            index.filter(output)
+        self.assertEqual(output.getvalue(), self.texts[0] + feature("b"))
+
+    def test_an_index_below_the_root(self):
+        """Then all paths would be near."""
+        self.assertEqual(builder._path_columns("/b/s.jsonl", "/a/it.gpkg"), ("/b/s.jsonl", None))
+        self.assertEqual(builder._path_columns("/a/s.jsonl", "/a/it.gpkg"), ("s.jsonl", None))
+
+
 class Trees(unittest.TestCase):
     """The spatial index, which is written at once, as SQLite itself checks it."""
 
     def test_any_number_of_features(self):
-        from cityseq.rtree import Tree, cell_of, key_of
+        from cityseq.rtree import Tree, cells_of, keys_of
 
         chance = random.Random(1)
         for count in (0, 1, 50, 51, 52, 103, 51 * 51, 51 * 51 + 1, 9_000):
@@ -392,8 +546,10 @@ class Trees(unittest.TestCase):
                     for _ in "xy"
                 )
                 boxes.append((number, x, x + abs(x) * chance.random(), y, y + chance.random()))
-            ordered = sorted(boxes, key=lambda box: key_of(box[1], box[3]))
-            Tree(base, "t").write((cell_of(*box) for box in ordered), count)
+            numbers, *edges = [list(column) for column in zip(*boxes)] or [[]] * 5
+            keys = keys_of(edges[0], edges[2])
+            ordered = [cell for _, cell in sorted(zip(keys, cells_of(numbers, *edges)))]
+            Tree(base, "t").write(iter(ordered), count, count + 5)
             with self.subTest(count=count):
                 self.assertEqual(base.execute("SELECT rtreecheck('t')").fetchall(), [("ok",)])
                 self.assertEqual(base.execute("SELECT count(*) FROM t").fetchone(), (count,))
@@ -407,6 +563,27 @@ class Trees(unittest.TestCase):
                 base.execute("INSERT INTO t VALUES (?, 1, 2, 3, 4)", (count + 1,))
                 base.execute("DELETE FROM t WHERE id = 1")
                 self.assertEqual(base.execute("SELECT rtreecheck('t')").fetchall(), [("ok",)])
+
+    def test_keys(self):
+        """The bits of both numbers as 32-bit floats, in the order of the floats, in turn."""
+        from cityseq.rtree import keys_of
+
+        def ordered(number):
+            (bits,) = struct.unpack(">I", struct.pack(">f", number))
+            return (bits ^ 0xFFFFFFFF if bits >> 31 else bits | 0x80000000) >> 8
+
+        chance = random.Random(4)
+        numbers = [0.0, -0.0, 1e-45, -1.0] + [
+            chance.choice((-1, 1)) * chance.random() * 10 ** chance.randrange(-40, 37)
+            for _ in range(200)
+        ]
+        others = numbers[::-1]
+        wanted = [
+            int("".join(b + a for a, b in zip(f"{ordered(x):024b}", f"{ordered(y):024b}")), 2)
+            for x, y in zip(numbers, others)
+        ]
+        self.assertEqual(list(keys_of(numbers, others)), wanted)
+        self.assertEqual(list(keys_of([], [])), [])
 
     def test_rounding_is_outward(self):
         from cityseq.extents import ceiling_of, floor_of
@@ -437,6 +614,20 @@ class Trees(unittest.TestCase):
             self.assertEqual(
                 found, (floor_of(min(exact), 10**18), ceiling_of(max(exact), 10**18))
             )
+
+    def test_columns_are_rounded_as_each_number_is(self):
+        from cityseq.extents import ceiling_of, ceilings_of, floor_of, floors_of
+
+        chance = random.Random(5)
+        for _ in range(3_000):
+            unit = chance.choice((1_000, 10 ** chance.randrange(19), chance.randrange(1, 10**18)))
+            least = chance.choice((-1, 1)) * chance.randrange(10 ** chance.randrange(1, 40))
+            # near each other, around a power of two, or far from each other
+            least = chance.choice((least, least, unit << chance.randrange(60)))
+            width = chance.choice((1, 3, abs(least) + 1))
+            counts = [least + chance.randrange(-width, width) for _ in range(chance.randrange(4))]
+            self.assertEqual(floors_of(counts, unit), [floor_of(each, unit) for each in counts])
+            self.assertEqual(ceilings_of(counts, unit), [ceiling_of(each, unit) for each in counts])
 
 
 class BadInput(InFolder):
@@ -594,12 +785,12 @@ class BadInput(InFolder):
     def test_another_version(self):
         cityseq.index(TOWN, self.index)
         with closing(sqlite3.connect(self.index)) as base:
-            base.execute("UPDATE cityseq_index SET version = 2")
+            base.execute("UPDATE cityseq_index SET version = 1")
             base.commit()
         with self.assertRaises(cityseq.ReadFault) as caught:
             cityseq.Index(self.index)
         self.assertIn(
-            "it is an index of version 2, and not of version 1: build it again",
+            "it is an index of version 1, and not of version 2: build it again",
             str(caught.exception),
         )
 

@@ -1,0 +1,136 @@
+"""Queries of an index in SQL: which features a query may keep, and about how many."""
+from __future__ import annotations
+
+from typing import Any, List, Optional, Tuple
+
+from ._library import LOD_CLASSES
+from .bulk import insert
+from .extents import box_of
+from .geopackage import FID_BITS, MOST_FEATURES, TREE
+from .query import Work
+from .records import hash_of, stored
+
+LINE = 2_048  # bytes of a stream that are judged in the time that it takes to find and read a line
+SMALL = 16 << 20  # bytes of streams that are not worth an estimate
+SAMPLE = 500  # features that show how many of all a query selects
+BOX = "minx <= ? AND maxx >= ? AND miny <= ? AND maxy >= ?"
+IN_BOX = f"fid IN (SELECT id FROM {TREE} WHERE {BOX})"
+# The features that have an id, by its hash.
+_SAME_ID = (
+    f"feature_ids CROSS JOIN features ON fid = feature_ids.key & {MOST_FEATURES}"
+    f" WHERE feature_ids.key BETWEEN %s AND %s + {MOST_FEATURES}"
+    " AND features.id = %s AND features.id_exact IS %s"
+)
+SAME_ID = _SAME_ID % ("?", "?", "?", "?")
+WANTED = _SAME_ID % ("wanted.key", "wanted.key", "wanted.id", "wanted.exact")
+WITH_ID = f"fid IN (SELECT features.fid FROM temp.wanted CROSS JOIN {WANTED})"
+# The features whose id has the same hash as that of another feature.
+ALIKE = (
+    f"SELECT key & {MOST_FEATURES} FROM (SELECT key, lag(key) OVER near AS before,"
+    " lead(key) OVER near AS after FROM feature_ids WINDOW near AS (ORDER BY key))"
+    f" WHERE key >> {FID_BITS} IN (before >> {FID_BITS}, after >> {FID_BITS})"
+)
+Terms = Tuple[List[str], List[Any]]  # conditions, and the values in them
+
+
+def terms_of(work: Work) -> Terms:
+    """Returns the conditions that all features meet that a query may keep. For ids the caller calls
+    `want`."""
+    conditions, values = _of_names(work)
+    edges = _edges(work)
+    if edges is not None:
+        conditions.append(IN_BOX)
+        values += edges
+    if work.ids is not None:
+        conditions.append(WITH_ID)
+    return conditions, values
+
+
+def _edges(work: Work) -> Optional[List[float]]:
+    """Returns the box of a query for `BOX`, rounded outward. None if there is none."""
+    box = None if work.box is None else box_of(work.box.decode("utf-8"))
+    return None if box is None else [box[0][1], box[0][0], box[1][1], box[1][0]]
+
+
+def _of_names(work: Work) -> Terms:
+    """Returns the conditions for the types and LoDs of a query."""
+    conditions: List[str] = []
+    values: List[Any] = []
+    for column, names in (("types", work.types), ("lods", _classes(work.lods))):
+        if names is not None:
+            each = names.decode("utf-8").split("\n")
+            parts = [f"instr(',' || {column} || ',', ?)"] * len(each)
+            conditions.append(f"({' OR '.join(parts)})")
+            values += [f",{name}," for name in each]
+    return conditions, values
+
+
+def _classes(lods: Optional[bytes]) -> Optional[bytes]:
+    """Returns the classes of the LoDs of a query, one a line."""
+    if lods is None:
+        return None
+    names = {
+        text[:1] if text[:1] in LOD_CLASSES else LOD_CLASSES[-1]
+        for text in lods.decode("utf-8").split("\n")
+    }
+    return "\n".join(sorted(names)).encode("ascii")
+
+
+def values_of_id(text: str, exact: Optional[bytes]) -> Tuple[Any, ...]:
+    """Returns the values in `SAME_ID` for the id that is stored in two columns."""
+    key = hash_of(text, exact) << FID_BITS
+    return key, key, text, exact
+
+
+def want(base: Any, ids: bytes) -> None:
+    """Writes the ids of a query to a temporary table."""
+    base.execute("DROP TABLE IF EXISTS temp.wanted")
+    base.execute("CREATE TEMP TABLE wanted (key INTEGER, id TEXT, exact BLOB)")
+    texts = [stored(text.decode("utf-8")) for text in ids.split(b"\n")]
+    keys = [hash_of(*text) << FID_BITS for text in texts]
+    insert(base, "temp.wanted", keys, *zip(*texts))
+
+
+def has_more(base: Any, work: Work, fids: range, most: int) -> bool:
+    """Returns whether a query may keep more than `most` of the features with these numbers."""
+    conditions, values = _of_names(work)
+    edges = _edges(work)
+    source, number = "features", "fid"
+    if edges is not None:
+        is_told = work.ids is None and not conditions  # the tree tells enough
+        source, number = TREE, "id"
+        if not is_told:
+            source, number = f"{TREE} CROSS JOIN features ON fid = {TREE}.id", "fid"
+        conditions.append(BOX)
+        values += edges
+    if work.ids is not None:
+        want(base, work.ids)
+        conditions.append(WITH_ID)
+    conditions.append(f"{number} BETWEEN ? AND ?")
+    values += [fids.start, fids.stop - 1]
+    which = f"SELECT 1 FROM {source} WHERE {' AND '.join(conditions)} LIMIT {most + 1}"
+    (count,) = base.execute(f"SELECT count(*) FROM ({which})", values).fetchone()
+    return bool(count > most)
+
+
+def reads_all(base: Any, work: Work, features: int, size: int) -> bool:
+    """Whether to read streams of so many features and bytes takes less time than to read the lines
+    that a query may keep, by an estimate. False for small streams."""
+    most = size * features // (size + LINE * features)  # lines that take as much time
+    if size < SMALL or work.ids is not None and work.ids.count(b"\n") < most:
+        return False
+    conditions, values = _of_names(work)
+    if conditions:
+        step = features // SAMPLE + 1
+        sample = range(1 + step // 2, features + 1, step)
+        which = f"fid IN ({','.join(map(str, sample))}) AND {' AND '.join(conditions)}"
+        select = f"SELECT count(*) FROM features WHERE {which}"
+        (count,) = base.execute(select, values).fetchone()
+        if count * features < most * len(sample):
+            return False
+    edges = _edges(work)
+    if edges is not None:
+        which = f"SELECT 1 FROM {TREE} WHERE {BOX} LIMIT {most}"
+        (count,) = base.execute(f"SELECT count(*) FROM ({which})", edges).fetchone()
+        return bool(count == most)
+    return True
