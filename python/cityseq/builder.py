@@ -8,12 +8,12 @@ import sqlite3
 from contextlib import contextmanager, suppress
 from dataclasses import dataclass, field
 from functools import lru_cache
-from itertools import compress, repeat
+from itertools import compress
 from typing import Any, Callable, Dict, Iterable, Iterator, List, NamedTuple, Optional, Set, Tuple
 
 from . import geopackage
 from ._library import LOD_CLASSES, library
-from .bulk import insert
+from .bulk import Same, insert, same_if_equal
 from .extents import World, wider
 from .faults import WriteFault, write_fault
 from .geopackage import (
@@ -219,16 +219,16 @@ class Builder:
                 "features",
                 numbers,
                 geometry,
-                repeat(entry.number),
+                Same(entry.number),
                 [number + lines for number in line],
                 [place + records.begin for place in begin],
                 length,
                 names,
                 exact,
-                objects,
-                geometries,
-                map(names_of_types, types),
-                map(names_of_lods, lods),
+                same_if_equal(objects),
+                same_if_equal(geometries),
+                same_if_equal(list(map(names_of_types, types))),
+                same_if_equal(list(map(names_of_lods, lods))),
                 *heights,
             )
             keys = [id_hash << FID_BITS | fid for id_hash, fid in zip(hashes, numbers)]

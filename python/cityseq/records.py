@@ -4,11 +4,12 @@ from __future__ import annotations
 import json
 import struct
 from dataclasses import dataclass, field
-from itertools import islice, repeat, starmap
-from typing import Iterable, List, Optional, Sequence, Tuple
+from itertools import islice, starmap
+from typing import List, Optional, Sequence, Tuple
 from zlib import crc32
 
 from ._library import CallStatus, RawAnswer, RawReports, Text, library
+from .bulk import Column, Same
 from .faults import CityseqError
 from .parts import ROOM, Answer, held
 from .places import Read, Room, judge_by
@@ -102,11 +103,11 @@ def hash_of(text: str, exact: Optional[bytes]) -> int:
 
 def stored_as_columns(
     spellings: List[bytes],
-) -> Tuple[Sequence[str], Iterable[Optional[bytes]], List[int]]:
+) -> Tuple[Sequence[str], Column, List[int]]:
     """Returns ids, from the JSON strings that spell them, as two columns and the hash of each."""
     if b"\\" not in b"".join(spellings) and max(map(len, spellings)) <= LONGEST:
         texts = b"\n".join(spellings).decode("utf-8").split("\n")  # no valid string has an LF
-        return texts, repeat(None), [crc32(spelling) >> 1 for spelling in spellings]
+        return texts, Same(None), [crc32(spelling) >> 1 for spelling in spellings]
     both = list(map(stored_as_spelled, spellings))
     return [text for text, _ in both], [exact for _, exact in both], list(starmap(hash_of, both))
 

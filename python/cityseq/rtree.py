@@ -12,10 +12,10 @@ import sqlite3
 import struct
 from array import array
 from functools import lru_cache
-from itertools import compress, islice, repeat
+from itertools import compress, islice
 from typing import Callable, Iterable, Iterator, List, Sequence, Tuple
 
-from .bulk import insert
+from .bulk import Same, insert
 
 ROOT = 1
 CELL = struct.Struct(">q4f")
@@ -127,7 +127,7 @@ class Tree:
 
     def _note_parents(self, number: int, group: bytes) -> None:
         """Writes the node of each node in a group of cells."""
-        insert(self._base, f"{self._name}_parent", numbers_of(group), repeat(number))
+        insert(self._base, f"{self._name}_parent", numbers_of(group), Same(number))
 
     def write(self, cells: Iterator[bytes], count: int, last: int) -> None:
         """Writes the index of `count` cells, which come in the order of the curve. No number of
