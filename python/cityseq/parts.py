@@ -142,11 +142,13 @@ class Cutter:
 @dataclass
 class Answer:
     """The answer for a header and a part, or for the parts that are joined so far. Lines and
-    reports are counted in these. If `parts` is 0, nothing has been joined."""
+    reports are counted in these. If `parts` is 0, nothing has been joined. The codes are those of
+    the reports of a part. To read them takes less time than to read the reports."""
 
     told: RawAnswer = field(default_factory=RawAnswer)  # by the library
     end: Optional[Report] = None
     reports: Iterable[Report] = ()
+    codes: Iterable[int] = ()
     output: Text = b""
     is_packed: bool = False  # the output
     tally: Optional[Tally] = None
@@ -250,6 +252,7 @@ def _judge(work: Work, file: str, header: bytes, part: Text, first: bool) -> Ans
         reports=describe(islice(raws, answer.refused), header, told, file)
         if answer.refused
         else (),
+        codes=(raw.code for raw in islice(raws, answer.refused)),
         output=output if first else memoryview(output)[min(len(header), len(output)) :],
         tally=tally,
         size=len(part),

@@ -22,6 +22,18 @@ if not MISSING:
 
 
 @unittest.skipIf(MISSING, MISSING)
+class Counts(unittest.TestCase):
+    def test_what_is_only_counted_is_not_described(self):
+        """To describe 200,000 lines takes more than a minute."""
+        fed = Fed(asked("check", keep_going=True), Unpacking(None, 1 << 20), 0, True)
+        with mock.patch("cityseq.reports.excerpt_of", side_effect=AssertionError):
+            fed.feed([HEADER + b"{}\n" * 300 + b"[\n"])
+            for task in [*fed.parts(9), *fed.end()]:
+                fed.take(task())
+        self.assertEqual((dict(fed.codes), fed.result().refused), ({10: 300, 4: 1}, 301))
+
+
+@unittest.skipIf(MISSING, MISSING)
 class Verdicts(Served):
     def wanted(self, path, *words):
         output, _, _ = command("check", "--json", *words, str(path))

@@ -35,8 +35,14 @@ def move_of(code):
     """The way from degrees to a system and back, as pyproj has it."""
     system = CRS.from_epsg(code)
     flat = system.sub_crs_list[0] if system.is_compound else system
-    return [Transformer.from_crs(*pair, always_xy=True).transform
-            for pair in (("OGC:CRS84", flat), (flat, "OGC:CRS84"))]
+    there, back = (Transformer.from_crs(*pair, always_xy=True).transform
+                   for pair in (("OGC:CRS84", flat), (flat, "OGC:CRS84")))
+    return there, lambda x, y: turned_back(*back(x, y))
+
+
+def turned_back(x, y):
+    """A point from -180 to 180 degrees: a stream of degrees may have others."""
+    return x if abs(x) <= 180 else (x + 180) % 360 - 180, y
 
 
 def features_of(code, spread, count, chance):
@@ -194,6 +200,19 @@ class Moved(unittest.TestCase):
             self.assertEqual(pieces(box), wanted)
         self.assertEqual(meet_on_earth((170, 0, -170, 9), (-175, 5, 175, 12)),
                          [(170, 5, 175, 9), (-175, 5, -170, 9)])
+
+    def test_degrees_beyond_180(self):
+        """A stream of degrees may count them from 0 to 360."""
+        for extents in ([(179.0, -17, 179.5, -16), (180.5, -17, 181, -16)],
+                        [(1.0, -17, 2, -16), (265.0, -17, 266, -16), (359, -17, 359.5, -16)],
+                        [(-190.0, -17, -189, -16), (-170, -17, -169, -16)]):
+            edges = list(zip(*extents))
+            way = Way(4326, (min(edges[0]), -17, max(edges[2]), -16))
+            for number, (west, _, east, _) in enumerate(extents):
+                for box in ((west, -20, east, 0), (-180, -90, 180, 90)):
+                    box = turned_back(*box[:2]) + turned_back(*box[2:])
+                    self.assertIn(number, selected(way, box, extents), (box, extents))
+            self.assertEqual(selected(way, (100, -90, 110, 90), extents), set())
 
     def test_what_has_no_place(self):
         self.assertIsNone(Way(4978, (1, 2, 3, 4)).degrees((1, 2, 3, 4)))  # geocentric

@@ -87,6 +87,12 @@ def is_right(server, path, box, corners, extents):
     return not lost and not beyond
 
 
+def lies_in(point, box, room=1e-9):
+    """Whether a point of degrees lies in a box. The numbers of a stream are rounded."""
+    return all(low - room <= value <= high + room
+               for value, low, high in zip(point, box[:2], box[2:]))
+
+
 def parts_in(box):
     """A box of degrees, cut at the antimeridian."""
     west, south, east, north = box
@@ -106,9 +112,11 @@ def try_one(server, name, code, extents, count, chance):
         yield False
         return
     told = {key: list(parts_of(geometry)) for key, geometry in whole.items()}
-    yield all(any(west - 1e-9 <= x <= east + 1e-9 and south - 1e-9 <= y <= north + 1e-9
-                  for west, south, east, north in told[key])
-              for key, points in corners.items() for x, y in points)
+    outside = [(key, point, told[key]) for key, points in corners.items() for point in points
+               if not any(lies_in(point, part) for part in told[key])]
+    if outside:
+        print(f"{name}: a corner lies outside: {outside[0]}")
+    yield not outside
     own = [parts[0] for parts in told.values() if len(parts) == 1]
     spread = SPREADS[name.split("-")[1]]
     for box in [*boxes_near(code, spread, count, chance), *own[:10]]:

@@ -156,7 +156,10 @@ def reached(ring: Ring, there: Ring, boxes: Sequence[Sequence[float]]) -> List[E
     """Returns a box around each step along a ring that may reach into one of the boxes, which are
     in the other system: `there` has the same points in it."""
     points, others = list(zip(*ring)), list(zip(*there))
-    inside = [any(meet(point * 2, box) for box in boxes) for point in others]
+    inside = [
+        abs(point[0]) < FARTHEST and any(meet_on_earth(point * 2, box) for box in boxes)
+        for point in others
+    ]
     return [
         around((points[number] * 2, points[number + 1] * 2))
         for number in range(len(points) - 1) if inside[number] or inside[number + 1]

@@ -163,8 +163,10 @@ class Fed(Stream):
         """Joins the answer of the next part, and returns its output."""
         if self.ended:
             return b""
-        if len(self.reports) >= self._most_reports and not self._counts_codes:
-            answer.reports = ()  # to describe them takes time, and there may be millions
+        if len(self.reports) >= self._most_reports:  # there may be millions more
+            if self._counts_codes:
+                self.codes.update(answer.codes)
+            answer.reports = ()
         self.add(answer)
         return answer.output
 

@@ -9,8 +9,9 @@ from threading import Lock
 from typing import Any, Callable, List, NamedTuple, Optional, Sequence, Tuple
 
 from .boxes import (
-    FARTHEST, FEW, FINE, MANY, STEPS, Extent, Ring, Values, around, around_on_earth, around_ring,
-    is_straight, meet, meet_on_earth, moved, pieces, reached, ring_of, wider, within_ring,
+    FARTHEST, FEW, FINE, MANY, STEPS, TURN, Extent, Ring, Values, around, around_on_earth,
+    around_ring, is_straight, meet, meet_on_earth, moved, pieces, reached, ring_of, wider,
+    within_ring,
 )
 
 DEGREES = "OGC:CRS84"
@@ -50,6 +51,39 @@ def can_change() -> bool:
     return True
 
 
+class Facts(NamedTuple):
+    """What pyproj knows of a system.
+
+    Attributes:
+        horizontal: The EPSG code of its horizontal part. None if it has no vertical part.
+        is_north_first: Whether its axes are those of a map the other way round: the first goes
+            north, and the second east.
+        is_in_degrees: Whether its coordinates are longitudes and latitudes.
+    """
+
+    horizontal: Optional[int] = None
+    is_north_first: bool = False
+    is_in_degrees: bool = False
+
+
+@lru_cache(maxsize=256)
+def facts_of(code: int) -> Facts:
+    """Returns the facts of a system by its EPSG code."""
+    from pyproj import CRS
+    from pyproj.exceptions import ProjError
+
+    try:
+        system = CRS.from_epsg(code)
+    except ProjError:
+        return Facts()
+    axes = system.axis_info[:2]
+    return Facts(
+        system.sub_crs_list[0].to_epsg() if system.is_compound else None,
+        [axis.direction for axis in axes] == ["north", "east"],
+        system.is_geographic and all(axis.unit_name == "degree" for axis in axes),
+    )
+
+
 @lru_cache(maxsize=256)
 def _operations(code: int) -> List[Any]:
     """Returns the operations of PROJ from an EPSG code to degrees. The first one takes, near each
@@ -83,6 +117,8 @@ class Way:
     def __init__(self, code: int, extent: Optional[Extent]) -> None:
         """Takes the EPSG code of the stream's coordinates, and the extent of all features."""
         self._extent, (self._best, *self._others) = extent, _operations(code) or [None]
+        # a stream of degrees may have places beyond 180 degrees
+        self._turns = (-TURN, 0.0, TURN) if facts_of(code).is_in_degrees else (0.0,)
         self._poles = [(latitude, self._back([0.0], [latitude])) for latitude in POLES]
         self._own = None if extent is None else self.degrees(extent)
 
@@ -132,8 +168,13 @@ class Way:
 
         if None in both:
             return Reach(self._extent, reaches)
-        outer = [each.outer for each in both if each is not None]
-        return Reach(meet(self._extent, around([*outer, *self._edges_in(cuts)])), reaches)
+        outer = [
+            (west + turn, south, east + turn, north) for turn in self._turns
+            for west, south, east, north in (each.outer for each in both if each is not None)
+            if west + turn <= self._extent[2] and east + turn >= self._extent[0]
+        ]
+        found = [*outer, *self._edges_in(cuts)]
+        return Reach(meet(self._extent, around(found)) if found else None, reaches)
 
     def _edges_in(self, cuts: Sequence[Extent]) -> List[Extent]:
         """Returns boxes around the parts of the extent's edges that lie in boxes of degrees. They

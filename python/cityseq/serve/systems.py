@@ -3,12 +3,11 @@ another."""
 from __future__ import annotations
 
 import re
-from functools import lru_cache
-from typing import Any, List, NamedTuple, Optional, Sequence
+from typing import Any, List, Optional, Sequence
 
 from ..geopackage import SYSTEM
 from .boxes import Extent, around, meet, pieces
-from .moving import Reach, Way, can_change
+from .moving import Facts, Reach, Way, can_change, facts_of
 from .problems import Problem
 
 CRS84 = "http://www.opengis.net/def/crs/OGC/1.3/CRS84"
@@ -19,39 +18,6 @@ NO_PYPROJ = (
     "the server cannot change coordinates, for want of pyproj: ask for those of the stream by"
     " {} and the URI of storageCrs"
 )
-
-
-class Facts(NamedTuple):
-    """What pyproj knows of a system.
-
-    Attributes:
-        horizontal: The EPSG code of its horizontal part. None if it has no vertical part.
-        is_north_first: Whether its axes are those of a map the other way round: the first goes
-            north, and the second east.
-        is_in_degrees: Whether its coordinates are longitudes and latitudes.
-    """
-
-    horizontal: Optional[int] = None
-    is_north_first: bool = False
-    is_in_degrees: bool = False
-
-
-@lru_cache(maxsize=256)
-def _facts(code: int) -> Facts:
-    """Returns the facts of a system by its EPSG code."""
-    from pyproj import CRS
-    from pyproj.exceptions import ProjError
-
-    try:
-        system = CRS.from_epsg(code)
-    except ProjError:
-        return Facts()
-    axes = system.axis_info[:2]
-    return Facts(
-        system.sub_crs_list[0].to_epsg() if system.is_compound else None,
-        [axis.direction for axis in axes] == ["north", "east"],
-        system.is_geographic and all(axis.unit_name == "degree" for axis in axes),
-    )
 
 
 def code_of(name: Optional[str]) -> Optional[int]:
@@ -71,7 +37,7 @@ class System:
         self.name = name
         self.storage = None if code is None else EPSG.format(code)
         self.can_change = code is not None and can_change()
-        self._facts = Facts() if code is None or not self.can_change else _facts(code)
+        self._facts = Facts() if code is None or not self.can_change else facts_of(code)
         self._code = code if self._facts.horizontal is None else self._facts.horizontal
         self._extent = extent
         self._known_way: Optional[Way] = None
