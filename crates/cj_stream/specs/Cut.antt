@@ -3,7 +3,7 @@ use Rattle.std.specs.Prelude.{◌≡◌, ◌⊎◌, ℕ, ◌+◌, ◌≤◌, Lis
 use Rattle.std.specs.Io.KnownBytes.{Appends}
 use Rattle.cj_stream.specs.declared.pieces.PiecesOutcome.{PiecesOutcome}
 use Rattle.cj_stream.specs.declared.ending.End.{End}
-use Rattle.cj_stream.specs.declared.ending.End.TheVariants.{Complete, Refused, WriteFault, Memory}
+use Rattle.cj_stream.specs.declared.ending.End.TheVariants.{Complete, Refused, ReadFault, ReadLimit, WriteFault, Memory}
 use Rattle.cj_stream.specs.Lines.{closed, lines, whole}
 use Rattle.cj_stream.specs.Item.{Item}
 use Rattle.cj_stream.specs.Verdict.{Rules, refusal_in, judged, kept, ending, output, stretch}
@@ -51,9 +51,10 @@ PutsPieces law cut Complete s t = (ending cut.rules (all_of cut) ≡ Complete)
     × Took law.takes s (kept cut.rules (all_of cut)) t
 PutsPieces law cut (Refused number place reason) s t =
     (ending cut.rules (all_of cut) ≡ Refused number place reason) × Took law.takes s (kept cut.rules (all_of cut)) t
+PutsPieces law cut ReadFault s t = ⊥
+PutsPieces law cut ReadLimit s t = ⊥
 PutsPieces law cut WriteFault s t = PutsFront law.takes (LeavesNext law.leaves) cut s t
 PutsPieces law cut Memory s t = PutsFront law.takes (λ others a b. b ≡ a) cut s t
-PutsPieces law cut other s t = ⊥
 
 -- the known bytes grow by these, and perhaps by more
 pub record AppendsMore (old new : Option (List ℕ)) (bs : List ℕ) : Type 0 where
@@ -76,17 +77,19 @@ Copies cut Complete old new = (ending cut.rules (all_of cut) ≡ Complete)
     × Appends old new (output cut.rules (all_of cut))
 Copies cut (Refused number place reason) old new =
     (ending cut.rules (all_of cut) ≡ Refused number place reason) × Appends old new (output cut.rules (all_of cut))
+Copies cut ReadFault old new = ⊥
+Copies cut ReadLimit old new = ⊥
 Copies cut WriteFault old new = AppendsFront cut old new
 Copies cut Memory old new = AppendsFront cut old new
-Copies cut other old new = ⊥
 
 -- an end that no reader makes
 abbrev pub IsUnread : End → Type 0
 IsUnread Complete = Unit {0}
 IsUnread (Refused number place reason) = Unit {0}
+IsUnread ReadFault = ⊥
+IsUnread ReadLimit = ⊥
 IsUnread WriteFault = Unit {0}
 IsUnread Memory = Unit {0}
-IsUnread other = ⊥
 
 -- the piece at which it ended, after n, where these bytes came before the pieces: none after a complete end; after a
 -- refusal the next one, if there is one, ended the refused line or made it too long
@@ -95,9 +98,10 @@ EndsAt rules before pieces n Complete = n ≡ length pieces
 EndsAt rules before pieces n (Refused number place reason) =
     (n ≡ length pieces) ⊎ (refusal_in rules (judged rules.limits (before ++ joined (take (n + 1) pieces)))
     ≡ Some (Refused number place reason))
+EndsAt rules before pieces n ReadFault = ⊥
+EndsAt rules before pieces n ReadLimit = ⊥
 EndsAt rules before pieces n WriteFault = Unit {0}
 EndsAt rules before pieces n Memory = Unit {0}
-EndsAt rules before pieces n other = ⊥
 
 -- An engine that stood for the bytes before, and had not ended, was given these pieces and then the end, until it
 -- ended. So many of the pieces were wholly taken, of which nothing that could be judged was refused, and it counts

@@ -3,7 +3,7 @@ use Rattle.std.specs.Prelude.{◌≡◌, ℕ, List, [], ◌++◌}
 use Rattle.std.specs.Io.KnownBytes.{Appends}
 use Rattle.cj_budget.specs.declared.limits.Peaks.{Peaks}
 use Rattle.cj_stream.specs.declared.ending.End.{End}
-use Rattle.cj_stream.specs.declared.ending.End.TheVariants.{Complete, WriteFault, Memory}
+use Rattle.cj_stream.specs.declared.ending.End.TheVariants.{Complete, Refused, ReadFault, ReadLimit, WriteFault, Memory}
 use Rattle.cj_stream.specs.declared.report_sink.Report.{Report}
 use Rattle.cj_stream.specs.Bound.{IsBounded, IsExact}
 use Rattle.cj_stream.specs.Cut.{IsUnread}
@@ -14,9 +14,12 @@ use Rattle.cj_stream.specs.Verdict.{Rules, output, reported, ending}
 
 -- no growth was refused, and no write failed
 abbrev pub IsUnhindered : End → Type 0
+IsUnhindered Complete = Unit {0}
+IsUnhindered (Refused number place reason) = Unit {0}
+IsUnhindered ReadFault = Unit {0}
+IsUnhindered ReadLimit = Unit {0}
 IsUnhindered WriteFault = ⊥
 IsUnhindered Memory = ⊥
-IsUnhindered other = Unit {0}
 
 -- what became of a stream: the rules, its text, the prefix of it that was given, the end, and what was held at most
 pub record Fate (E : Type 0) : Type 0 where
