@@ -131,6 +131,27 @@ const TOGETHER: &str = r#"
         a part beside a main one of the second level | "b":{"type":"BuildingPart","parents":["c"],"children":["c"]},"p":{"type":"BuildingPart","parents":["d"]},"c":{"type":"Building","children":["b"],"parents":["b"]},"d":{"type":"Building","children":["p"]} | none
         "#;
 
+/// City objects of a feature that has vertices.
+const WITH_VERTICES: &str = r#"{"type":"CityJSONFeature","id":"b","CityObjects":{_},"vertices":[[0,0,0],[9,0,0],[9,9,0]]}"#;
+
+/// Features whose city objects have geometries and attributes, with the rule.
+const FILLED_APART: &str = r#"
+        one apart without geometries | "b":{"type":"Building"},"c":^{"type":"Building","geometry":[]} | 31 not reached from the main object
+        one apart with a geometry | "b":{"type":"Building"},"c":^{"type":"Building","geometry":[{"type":"MultiSurface","lod":"2","boundaries":[[[0,1,2]]]}]} | 31 not reached from the main object
+        one apart without attributes | "b":{"type":"Building"},"c":^{"type":"Building","attributes":{}} | 31 not reached from the main object
+        one apart with an attribute | "b":{"type":"Building"},"c":^{"type":"Building","attributes":{"height":9}} | 31 not reached from the main object
+        a part apart with both | "b":{"type":"Building"},"p":^{"type":"BuildingPart","geometry":[],"attributes":{},"parents":["c"]},"c":{"type":"Building","children":["p"]} | 31 not reached from the main object
+        "#;
+
+/// Their rows without the rule.
+const FILLED_TOGETHER: &str = r#"
+        one apart without geometries | "b":{"type":"Building"},"c":{"type":"Building","geometry":[]} | none
+        one apart with a geometry | "b":{"type":"Building"},"c":{"type":"Building","geometry":[{"type":"MultiSurface","lod":"2","boundaries":[[[0,1,2]]]}]} | none
+        one apart without attributes | "b":{"type":"Building"},"c":{"type":"Building","attributes":{}} | none
+        one apart with an attribute | "b":{"type":"Building"},"c":{"type":"Building","attributes":{"height":9}} | none
+        a part apart with both | "b":{"type":"Building"},"p":{"type":"BuildingPart","geometry":[],"attributes":{},"parents":["c"]},"c":{"type":"Building","children":["p"]} | none
+        "#;
+
 /// Features whose findings are the same with the rule and without it.
 const SAME: &str = r#"
         the main one alone | "b":{"type":"Building"} | none
@@ -148,7 +169,12 @@ const SAME: &str = r#"
         one apart of no parent in the feature | "b":{"type":"Building"},"c":^{"type":"BuildingPart","parents":["g"]} | 23 no parent in the feature
         "#;
 
-const FEATURES: [Table; 2] = [
+const FEATURES: [Table; 3] = [
+    Table {
+        name: "city objects apart with geometries and attributes, without the rule",
+        pattern: WITH_VERTICES,
+        rows: FILLED_TOGETHER,
+    },
     Table {
         name: "city objects apart, without the rule",
         pattern: OBJECTS,
@@ -161,7 +187,12 @@ const FEATURES: [Table; 2] = [
     },
 ];
 
-const TREES: [Table; 4] = [
+const TREES: [Table; 5] = [
+    Table {
+        name: "city objects apart with geometries and attributes",
+        pattern: WITH_VERTICES,
+        rows: FILLED_APART,
+    },
     Table {
         name: "city objects apart",
         pattern: OBJECTS,
