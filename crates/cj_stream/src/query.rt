@@ -116,7 +116,8 @@ impl Query {
     }
 
     /// Sorts the ids that were added, so that each is found in fewer steps. Call it after the last
-    /// of many ids. The query selects the same as before. It allocates nothing.
+    /// of many ids. The query selects the same as before. It allocates nothing. The clauses promise
+    /// no order: at most the steps of a search depend on it.
     #[tactic(auto, unfolding(crate::specs::Query::criteria))]
     pub fn sort_ids(&mut self)
         ensures asks { criteria self.new ≡ criteria self.old }

@@ -271,11 +271,11 @@ pub fn check_index_below(node: Node, outside: Reason, bound: Bound, found: &mut 
     }
 }
 
-/// Returns how many items at the front of an array are indices below a bound. None of them has a
-/// finding.
+/// Returns a number of items at the front of an array that are all indices below a bound. None of
+/// them has a finding. It is at most the number of all such items there.
 ///
 /// It reads only numbers of at most eight digits, one item after another, and does not look where
-/// each ends.
+/// each ends. It stops at the first item that it does not accept.
 #[inline(always)]
 pub fn count_indices(node: Node, bound: Bound) -> u32
     ensures lone { AreLone result (items_of (tree node.entry)) }
@@ -294,7 +294,8 @@ pub fn count_indices(node: Node, bound: Bound) -> u32
     front
 }
 
-/// Returns how many items at the front of an array are whole numbers, read in the same way.
+/// Returns a number of items at the front of an array that are all whole numbers, read in the same
+/// way. It too is at most the number of all such items there.
 #[inline(always)]
 pub fn count_wholes(node: Node) -> u32
     ensures lone { AreLone result (items_of (tree node.entry)) }
