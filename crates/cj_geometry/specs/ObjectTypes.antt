@@ -4,7 +4,6 @@ use Rattle.std.specs.Str.{chars, bytes_eq}
 use Rattle.cj_spans.specs.Tree.{Tree}
 use Rattle.cj_spans.specs.Parts.{has_text}
 use Rattle.cj_geometry.specs.declared.object_type.ObjectType.{ObjectType}
-use Rattle.cj_geometry.specs.declared.object_type.TheConstants.ObjectType.{COUNT}
 use Rattle.cj_geometry.specs.declared.object_type.ObjectType.TheVariants.{Bridge, Building, CityFurniture}
 use Rattle.cj_geometry.specs.declared.object_type.ObjectType.TheVariants.{CityObjectGroup, GenericCityObject, LandUse}
 use Rattle.cj_geometry.specs.declared.object_type.ObjectType.TheVariants.{OtherConstruction, PlantCover, Railway, Road}
@@ -19,9 +18,9 @@ use Rattle.cj_geometry.specs.declared.object_type.ObjectType.TheVariants.{Buildi
 use Rattle.cj_geometry.specs.declared.object_type.ObjectType.TheVariants.{TunnelFurniture, TunnelHollowSpace}
 use Rattle.cj_geometry.specs.declared.object_type.ObjectType.TheVariants.{TunnelInstallation, TunnelPart}
 
--- how many types there are
+-- how many types there are: the rows of the table below
 abbrev pub type_count : ℕ
-type_count = COUNT
+type_count = 33
 
 -- a name, whether a type of this name is of the second level, and its number
 pub record ObjectRow : Type 0 where

@@ -1,10 +1,10 @@
 //! The types of city objects (CityJSON 2.0, section 2).
-ghost use Rattle.std.specs.Prelude.{◌≡◌, ◌<◌, true, Some, map, option_map};
+ghost use Rattle.std.specs.Prelude.{◌≡◌, ◌<◌, true, Some, length, map, option_map};
 ghost use Rattle.std.specs.Str.{chars};
 ghost use Rattle.cj_spans.specs.Tree.{Tree};
 ghost use Rattle.cj_spans.specs.Parts.{has_text};
 ghost use Rattle.cj_spans.specs.View.{tree};
-ghost use Rattle.cj_geometry.specs.ObjectTypes.{object_types, row_of, row_named, row_at};
+ghost use Rattle.cj_geometry.specs.ObjectTypes.{object_types, type_count, row_of, row_named, row_at};
 
 use cj_spans::Node;
 
@@ -46,6 +46,13 @@ pub enum ObjectType {
     TunnelInstallation,
     TunnelPart,
 }
+
+/// The number of types is that of the rows of the table, in promises and in the program.
+#[tactic(auto, unfolding(crate::specs::ObjectTypes::object_types))]
+pub fn types_are_counted()
+    ensures table { type_count ≡ length object_types }
+    ensures program { ObjectType.COUNT ≡ type_count }
+{}
 
 impl ObjectType {
     /// The number of types.

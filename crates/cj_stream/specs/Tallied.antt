@@ -10,7 +10,6 @@ use Rattle.cj_geometry.specs.ObjectTypes.{ObjectRow, type_count}
 use Rattle.cj_feature.specs.Feature.{templates_of}
 use Rattle.cj_feature.specs.Typed.{type_row, number_on}
 use Rattle.cj_feature.specs.Walks.{object_geometries}
-use Rattle.cj_stream.specs.declared.tally.TheConstants.{LOD_CLASSES}
 use Rattle.cj_stream.specs.Criteria.{objects_of, vertices_of}
 use Rattle.cj_stream.specs.Item.{Item}
 
@@ -39,7 +38,7 @@ type_numbers t = map (λ m. row_number (type_row m.1)) (objects_of t)
 
 -- how many classes there are
 abbrev pub class_count : ℕ
-class_count = LOD_CLASSES
+class_count = 6
 
 -- the class of a first character: 0 to 4 for `0` to `4`; 5, other, for any other one and for none
 abbrev pub class_by : Option ℕ → ℕ

@@ -4,6 +4,7 @@ ghost use Rattle.cj_geometry.specs.ObjectTypes.{row_at};
 ghost use Rattle.cj_stream.specs.Item.{header_item, feature_item};
 ghost use Rattle.cj_stream.specs.Parts.{JoinsTallies};
 ghost use Rattle.cj_stream.specs.Sink.{HasRisen, never_fails};
+ghost use Rattle.cj_stream.specs.Tallied.{class_count};
 ghost use Rattle.cj_stream.specs.TallySink.{no_tally};
 
 mod adding;
@@ -21,6 +22,11 @@ use std::marker::Model;
 
 /// The number of LoD classes: 0 to 4, and other.
 pub const LOD_CLASSES: usize = 6;
+
+/// The number of LoD classes is the same in promises and in the program.
+pub fn classes_are_counted()
+    ensures { LOD_CLASSES ≡ class_count }
+{}
 
 /// Tallies the kept features of a stream. It counts features, city objects by type, and geometries
 /// by LoD class. It has the least and greatest vertex coordinate on each axis, and the numbers of
