@@ -35,6 +35,7 @@ pub fn check_there(object: Node, member: Option<Node>, found: &mut Least)
 /// Checks that the object has this member, and that it is a string. The caller has looked it up.
 #[inline(always)]
 pub fn check_text_there(object: Node, member: Option<Node>, found: &mut Least)
+    requires { (name : List ℕ) × (option_map tree member ≡ member_of name (tree object)) }
     ensures { (name : List ℕ) → option_map tree member.entry ≡ member_of name (tree object.entry)
         → found.new ≡ least found.old (needs name (of_kind is_text nothing) (tree object.entry)) }
 {

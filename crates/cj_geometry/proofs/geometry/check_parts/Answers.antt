@@ -7,6 +7,9 @@ use Rattle.cj_geometry.specs.Geometry.{shape, semantics_if}
 use Rattle.cj_spans.proofs.Findings.{least-three}
 use Rattle.cj_geometry.proofs.geometry.check_parts.Goals as goal
 
+pub check_text_there-requires : goal.check_text_there-requires
+check_text_there-requires c = (chars (codes "lod"), c.at_if.ensures.tree ∙ c.requires.lod)
+
 pub returns : goal.returns
 returns c =
     let n = tree c.args.geometry.object in
