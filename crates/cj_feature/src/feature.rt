@@ -3,7 +3,8 @@ ghost use Rattle.std.specs.Prelude.{◌≡◌, ◌<◌, ℕ, List, [], false, So
 ghost use Rattle.std.specs.Str.{chars};
 ghost use Rattle.cj_spans.specs.Parts.{member_of, text_of};
 ghost use Rattle.cj_spans.specs.View.{document, document_line, document_source, tree, tree_in, line_of};
-ghost use Rattle.cj_geometry.specs.Given.{given};
+ghost use Rattle.std.specs.Option.{ForSome};
+ghost use Rattle.cj_geometry.specs.Given.{given, given_line};
 ghost use Rattle.cj_feature.specs.Feature.{feature, templates_of};
 ghost use Rattle.cj_geometry.specs.TreeSet.{tree_if-set, given-set};
 
@@ -39,6 +40,7 @@ pub struct Feature<'a> {
     ghost has_objects: { member_of (chars (codes "CityObjects")) (document doc) ≡ Some (tree_in (document_source doc) objects) } by { tree_if-set _ _ },
     ghost has_vertices: { member_of (chars (codes "vertices")) (document doc) ≡ Some (tree_in (document_source doc) vertices) } by { tree_if-set _ _ },
     ghost has_templates: { given templates ≡ templates_of (document header) } by { given-set _ _ },
+    ghost placed: { ForSome (given_line templates) (λ line. line ≡ document_line header) },
 }
 
 impl<'a> Feature<'a> {
@@ -48,13 +50,13 @@ impl<'a> Feature<'a> {
     ghost use Rattle.cj_feature.specs.Members.{items_if};
     ghost use Rattle.cj_feature.specs.Relations.{IsIn};
     ghost use Rattle.cj_feature.specs.Typed.{members_if, vertex_of, number_on};
-    ghost use Rattle.cj_feature.specs.View.{feature_tree, feature_line, feature_header};
+    ghost use Rattle.cj_feature.specs.View.{feature_tree, feature_line, feature_header, feature_header_line};
     ghost use Rattle.cj_feature.specs.Walks.{objects_left, objects_line, geometries_left, geometries_line};
     ghost use Rattle.cj_feature.specs.Walks.{object_geometries, vertices_left, coordinates_left};
 
     /// Returns the feature of a document that has no findings with this header. `objects` and
     /// `vertices` are the numbers of its members, and `templates` are those of the header.
-    #[tactic(auto, unfolding(crate::specs::View::feature_tree, crate::specs::View::feature_line, crate::specs::View::feature_header))]
+    #[tactic(auto, unfolding(crate::specs::View::feature_tree, crate::specs::View::feature_line, crate::specs::View::feature_header, crate::specs::View::feature_header_line))]
     fn of(
         doc: Doc<'a>,
         header: Doc<'a>,
@@ -68,9 +70,11 @@ impl<'a> Feature<'a> {
         requires vertices { option_map (tree_in (document_source doc)) vertices
             ≡ member_of (chars (codes "vertices")) (document doc) }
         requires templates { given templates ≡ templates_of (document header) }
+        requires line { ForSome (given_line templates) (λ line. line ≡ document_line header) }
         ensures tree { feature_tree result ≡ document doc.entry }
         ensures line { feature_line result ≡ document_line doc.entry }
         ensures header { feature_header result ≡ document header.entry }
+        ensures header_line { feature_header_line result ≡ document_line header.entry }
     {
         match objects {
             Some(objects) => match vertices {
@@ -180,9 +184,10 @@ impl<'a> Feature<'a> {
     }
 
     /// Returns the header's templates, which instances name.
-    #[tactic(auto, unfolding(crate::specs::View::feature_header))]
+    #[tactic(auto, unfolding(crate::specs::View::feature_header, crate::specs::View::feature_header_line))]
     pub fn templates(&self) -> Templates<'a>
-        ensures { given result ≡ templates_of (feature_header self.now) }
+        ensures given { given result ≡ templates_of (feature_header self.now) }
+        ensures line { ForSome (given_line result) (λ line. line ≡ feature_header_line self.now) }
     {
         self.templates
     }

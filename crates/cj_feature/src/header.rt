@@ -3,7 +3,7 @@ ghost use Rattle.std.specs.Prelude.{◌≡◌, [], Some, None, map, codes};
 ghost use Rattle.std.specs.Option.{ForSome};
 ghost use Rattle.std.specs.Str.{chars};
 ghost use Rattle.cj_spans.specs.View.{document, document_line};
-ghost use Rattle.cj_geometry.specs.Given.{given};
+ghost use Rattle.cj_geometry.specs.Given.{given, given_line};
 ghost use Rattle.cj_feature.specs.Feature.{templates_of};
 ghost use Rattle.cj_feature.specs.Header.{header};
 ghost use Rattle.cj_feature.specs.Shown.{ArePartsOf, AreKept};
@@ -110,7 +110,8 @@ impl<'a> Header<'a> {
     /// Returns the templates, by a walk over their list.
     #[inline(never)]
     fn listed_templates(&self) -> Templates<'a>
-        ensures { given result ≡ templates_of (document self.now.doc) }
+        ensures given { given result ≡ templates_of (document self.now.doc) }
+        ensures line { ForSome (given_line result) (λ line. line ≡ document_line self.now.doc) }
     {
         match template_list(self.doc.root()) {
             Some(list) => Templates::list(list),
@@ -123,7 +124,8 @@ impl<'a> Header<'a> {
     #[tactic(auto, using(crate::proofs::Listed::no_list))]
     fn stepped_templates(&self, parts: &'a HeaderParts) -> Templates<'a>
         requires { ArePartsOf (document self.now.doc) parts.now }
-        ensures { given result ≡ templates_of (document self.now.doc) }
+        ensures given { given result ≡ templates_of (document self.now.doc) }
+        ensures line { ForSome (given_line result) (λ line. line ≡ document_line self.now.doc) }
     {
         let Some(steps) = &parts.templates else {
             return Templates::empty();
@@ -138,7 +140,8 @@ impl<'a> Header<'a> {
     /// it searches for none.
     #[tactic(auto, unfolding(crate::specs::HeaderView::header_tree, crate::specs::HeaderView::header_line))]
     pub fn templates(&'a self) -> Templates<'a>
-        ensures { given result ≡ templates_of (header_tree self.now) }
+        ensures given { given result ≡ templates_of (header_tree self.now) }
+        ensures line { ForSome (given_line result) (λ line. line ≡ header_line self.now) }
     {
         match self.kept {
             Some(parts) => self.stepped_templates(parts),
@@ -147,9 +150,10 @@ impl<'a> Header<'a> {
     }
 
     /// Returns the document of the header.
-    #[tactic(auto, unfolding(crate::specs::HeaderView::header_tree))]
+    #[tactic(auto, unfolding(crate::specs::HeaderView::header_tree, crate::specs::HeaderView::header_line))]
     pub(crate) fn doc(&self) -> Doc<'a>
-        ensures { document result ≡ header_tree self.now }
+        ensures tree { document result ≡ header_tree self.now }
+        ensures line { document_line result ≡ header_line self.now }
     {
         self.doc
     }

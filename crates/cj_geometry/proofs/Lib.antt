@@ -9,6 +9,7 @@ pub mod Lone
 pub mod ObjectTypes
 pub mod OfKind
 pub mod Ordered
+pub mod Places
 pub mod Repeats
 pub mod Rooms
 pub mod Sequences

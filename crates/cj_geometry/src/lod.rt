@@ -1,9 +1,9 @@
 //! The level of detail of a geometry (CityJSON 2.0, section 3.1).
-ghost use Rattle.std.specs.Prelude.{◌≡◌, codes, option_map, slice_get};
+ghost use Rattle.std.specs.Prelude.{◌≡◌, Some, if◌then◌else◌, codes, option_map, slice_get, IfSome};
 ghost use Rattle.std.specs.Str.{chars};
 ghost use Rattle.cj_spans.specs.Parts.{member_of};
-ghost use Rattle.cj_spans.specs.View.{tree, items_left};
-ghost use Rattle.cj_geometry.specs.Given.{given};
+ghost use Rattle.cj_spans.specs.View.{tree, items_left, items_source, line_of, source_of};
+ghost use Rattle.cj_geometry.specs.Given.{given, given_line, given_source};
 ghost use Rattle.cj_geometry.specs.Lod.{chosen, template_lod, is_instance, lod};
 ghost use Rattle.cj_geometry.specs.Rule.{whole_of};
 
@@ -14,7 +14,8 @@ use cj_spans::{Items, Node};
 
 /// Returns the item with this number, from 0, of the rest of a walk.
 pub(crate) fn item_at<'a>(items: Items<'a>, number: u64) -> Option<Node<'a>>
-    ensures { option_map tree result ≡ slice_get (items_left items.entry) number }
+    ensures item { option_map tree result ≡ slice_get (items_left items.entry) number }
+    ensures source { IfSome result (λ n. source_of n ≡ items_source items.entry) }
 {
     let mut left = number;
     for item in items {
@@ -28,7 +29,8 @@ pub(crate) fn item_at<'a>(items: Items<'a>, number: u64) -> Option<Node<'a>>
 
 /// Returns the template that this index chooses, if there is one.
 fn choose<'a>(index: Node, templates: Templates<'a>) -> Option<Node<'a>>
-    ensures { option_map tree result ≡ chosen (given templates.entry) (tree index.entry) }
+    ensures item { option_map tree result ≡ chosen (given templates.entry) (tree index.entry) }
+    ensures source { IfSome result (λ n. given_source templates.entry ≡ Some (source_of n)) }
 {
     match templates.nodes() {
         Some(list) => match read_whole(index) {
@@ -53,7 +55,8 @@ pub(crate) fn is_an_instance(node: Node) -> bool
 /// Returns the level of detail of an instance's template.
 #[inline(never)]
 fn lod_of_template<'a>(node: Node, templates: Templates<'a>) -> Option<Node<'a>>
-    ensures { option_map tree result ≡ template_lod (given templates.entry) (tree node.entry) }
+    ensures lod { option_map tree result ≡ template_lod (given templates.entry) (tree node.entry) }
+    ensures source { IfSome result (λ n. given_source templates.entry ≡ Some (source_of n)) }
 {
     match node.get("template") {
         Some(index) => match choose(index, templates) {
@@ -68,7 +71,11 @@ fn lod_of_template<'a>(node: Node, templates: Templates<'a>) -> Option<Node<'a>>
 /// template. None if there is none. [`crate::Lods`] finds those of many instances faster.
 #[inline(always)]
 pub fn lod_of<'a>(node: Node<'a>, templates: Templates<'a>) -> Option<Node<'a>>
-    ensures { option_map tree result ≡ lod (given templates.entry) (tree node.entry) }
+    ensures lod { option_map tree result ≡ lod (given templates.entry) (tree node.entry) }
+    ensures line { IfSome result (λ n. Some (line_of n)
+        ≡ (if is_instance (tree node.entry) then given_line templates.entry else Some (line_of node.entry))) }
+    ensures source { IfSome result (λ n. Some (source_of n)
+        ≡ (if is_instance (tree node.entry) then given_source templates.entry else Some (source_of node.entry))) }
 {
     if is_an_instance(node) {
         lod_of_template(node, templates)

@@ -3,15 +3,15 @@
 //! An instance names its template by a number. The steps of the list find it ([`Steps`]), or finer
 //! steps after many searches. A template may have many members before its level of detail, so the
 //! last results are kept.
-ghost use Rattle.std.specs.Prelude.{◌≡◌, ◌<◌, ℕ, Some, IfSome, codes, option_and_then, option_map, slice_get};
-ghost use Rattle.std.specs.Prelude.{slice_set};
+ghost use Rattle.std.specs.Prelude.{◌≡◌, ◌<◌, ℕ, Some, IfSome, codes, if◌then◌else◌, option_and_then, option_map};
+ghost use Rattle.std.specs.Prelude.{slice_get, slice_set};
 ghost use Rattle.std.specs.Option.{ForSome};
 ghost use Rattle.std.specs.Str.{chars};
 ghost use Rattle.cj_spans.specs.Parts.{items_of, member_of};
-ghost use Rattle.cj_spans.specs.View.{tree};
+ghost use Rattle.cj_spans.specs.View.{tree, line_of, source_of};
 ghost use Rattle.cj_geometry.specs.Geometry.{list_of, parts_of};
-ghost use Rattle.cj_geometry.specs.Given.{given};
-ghost use Rattle.cj_geometry.specs.TemplateLods.{AreAnswersIn};
+ghost use Rattle.cj_geometry.specs.Given.{given, given_source};
+ghost use Rattle.cj_geometry.specs.TemplateLods.{AreAnswersIn, kept_at};
 ghost use Rattle.cj_geometry.specs.ListSteps.{AreStepsOf, AreFinerStepsOf};
 ghost use Rattle.cj_geometry.specs.TreeSet.{options-set};
 
@@ -77,15 +77,19 @@ pub struct Lods<'a> {
     ghost stepped: { AreStepsOf (parts_of (list_of (given templates))) steps },
     ghost stepped_finer: { ForSome finer (AreFinerStepsOf (parts_of (list_of (given templates)))) },
     ghost answered: { AreAnswersIn (parts_of (list_of (given templates))) answers } by { options-set _ _ },
+    ghost placed: { (slot : ℕ) → ForSome (kept_at answers slot) (λ n. given_source templates ≡ Some (source_of n)) },
 }
 
 impl<'a> Lods<'a> {
-    ghost use Rattle.cj_geometry.specs.Lod.{chosen, template_lod, lod};
-    ghost use Rattle.cj_geometry.specs.Lods.{given_to};
+    ghost use Rattle.cj_geometry.specs.Lod.{chosen, is_instance, template_lod, lod};
+    ghost use Rattle.cj_geometry.specs.Lods.{given_to, line_given_to, source_given_to};
+    ghost use Rattle.cj_geometry.specs.Given.{given_line};
 
     /// Returns a new one for geometries that may name these templates.
     pub fn beside(templates: Templates<'a>) -> Lods<'a>
-        ensures { given_to result ≡ given templates.entry }
+        ensures given { given_to result ≡ given templates.entry }
+        ensures line { line_given_to result ≡ given_line templates.entry }
+        ensures source { source_given_to result ≡ given_source templates.entry }
     {
         Lods {
             templates,
@@ -101,7 +105,13 @@ impl<'a> Lods<'a> {
     /// instances fast, for any length of the list of templates.
     pub fn lod_of(&mut self, node: Node<'a>) -> Option<Node<'a>>
         ensures lod { option_map tree result ≡ lod (given_to self.old) (tree node.entry) }
+        ensures line { IfSome result (λ n. Some (line_of n)
+            ≡ (if is_instance (tree node.entry) then line_given_to self.old else Some (line_of node.entry))) }
+        ensures source { IfSome result (λ n. Some (source_of n)
+            ≡ (if is_instance (tree node.entry) then source_given_to self.old else Some (source_of node.entry))) }
         ensures same { given_to self.new ≡ given_to self.old }
+        ensures same_line { line_given_to self.new ≡ line_given_to self.old }
+        ensures same_source { source_given_to self.new ≡ source_given_to self.old }
     {
         if is_an_instance(node) {
             self.lod_of_template(node)
@@ -114,7 +124,8 @@ impl<'a> Lods<'a> {
     #[inline(never)]
     fn lod_of_template(&mut self, node: Node<'a>) -> Option<Node<'a>>
         ensures lod { option_map tree result ≡ template_lod (given_to self.old) (tree node.entry) }
-        ensures same { given_to self.new ≡ given_to self.old }
+        ensures source { IfSome result (λ n. source_given_to self.old ≡ Some (source_of n)) }
+        ensures same { self.new.templates ≡ self.old.templates }
     {
         match node.get("template") {
             Some(index) => self.lod_chosen(index),
@@ -126,7 +137,8 @@ impl<'a> Lods<'a> {
     fn lod_chosen(&mut self, index: Node) -> Option<Node<'a>>
         ensures lod { option_map tree result
             ≡ option_and_then (member_of (chars (codes "lod"))) (chosen (given_to self.old) (tree index.entry)) }
-        ensures same { given_to self.new ≡ given_to self.old }
+        ensures source { IfSome result (λ n. source_given_to self.old ≡ Some (source_of n)) }
+        ensures same { self.new.templates ≡ self.old.templates }
     {
         match self.templates.nodes() {
             Some(list) => match read_whole(index) {
@@ -139,10 +151,12 @@ impl<'a> Lods<'a> {
 
     /// Returns the level of detail of the template with this number in the list, from 0.
     fn lod_at(&mut self, list: Node<'a>, number: u64) -> Option<Node<'a>>
-        requires { Some (tree list) ≡ list_of (given_to self.old) }
+        requires list { Some (tree list) ≡ list_of (given_to self.old) }
+        requires source { source_given_to self.old ≡ Some (source_of list) }
         ensures lod { option_map tree result
             ≡ option_and_then (member_of (chars (codes "lod"))) (slice_get (items_of (tree list.entry)) number) }
-        ensures same { given_to self.new ≡ given_to self.old }
+        ensures source { IfSome result (λ n. source_given_to self.old ≡ Some (source_of n)) }
+        ensures same { self.new.templates ≡ self.old.templates }
     {
         if let Some(answer) = answer_for(&self.answers, number) {
             return answer.lod;
@@ -155,10 +169,12 @@ impl<'a> Lods<'a> {
     /// Does the same, by a search of the list.
     #[inline(never)]
     fn lod_found(&mut self, list: Node<'a>, number: u64) -> Option<Node<'a>>
-        requires { Some (tree list) ≡ list_of (given_to self.old) }
+        requires list { Some (tree list) ≡ list_of (given_to self.old) }
+        requires source { source_given_to self.old ≡ Some (source_of list) }
         ensures lod { option_map tree result
             ≡ option_and_then (member_of (chars (codes "lod"))) (slice_get (items_of (tree list.entry)) number) }
-        ensures same { given_to self.new ≡ given_to self.old }
+        ensures source { IfSome result (λ n. source_given_to self.old ≡ Some (source_of n)) }
+        ensures same { self.new.templates ≡ self.old.templates }
     {
         self.count_search(list);
         match self.template(list, number) {
@@ -170,7 +186,7 @@ impl<'a> Lods<'a> {
     /// Counts a search. After many searches it makes finer steps for those that follow.
     fn count_search(&mut self, list: Node)
         requires { Some (tree list) ≡ list_of (given_to self.old) }
-        ensures { given_to self.new ≡ given_to self.old }
+        ensures { self.new.templates ≡ self.old.templates }
     {
         if self.searches < MANY {
             self.searches += 1;
@@ -183,7 +199,8 @@ impl<'a> Lods<'a> {
     /// Returns the template with this number.
     fn template(&self, list: Node<'a>, number: u64) -> Option<Node<'a>>
         requires { Some (tree list) ≡ list_of (given_to self.now) }
-        ensures { option_map tree result ≡ slice_get (items_of (tree list.entry)) number }
+        ensures item { option_map tree result ≡ slice_get (items_of (tree list.entry)) number }
+        ensures source { IfSome result (λ n. source_of n ≡ source_of list.entry) }
     {
         match &self.finer {
             Some(finer) => finer.item(list, number),
@@ -197,7 +214,8 @@ impl<'a> Lods<'a> {
         requires list { Some (tree list) ≡ list_of (given_to self.old) }
         requires right { option_map tree answer.lod
             ≡ option_and_then (member_of (chars (codes "lod"))) (slice_get (items_of (tree list)) answer.number) }
-        ensures same { given_to self.new ≡ given_to self.old }
+        requires source { IfSome answer.lod (λ n. source_given_to self.old ≡ Some (source_of n)) }
+        ensures same { self.new.templates ≡ self.old.templates }
     {
         let slot = self.oldest % ANSWERS;
         self.answers = with_answer(self.answers, slot, answer);

@@ -3,9 +3,9 @@
 //! A list can only be walked. So one walk records, at 64 even steps, how many values and names come
 //! before the step. That is a fact about the list alone, and finds its items in any copy of its
 //! line. Then an item is at most a 64th of the list away.
-ghost use Rattle.std.specs.Prelude.{◌≡◌, ◌<◌, ◌*◌, ◌/◌, [], length, option_map, slice_get};
+ghost use Rattle.std.specs.Prelude.{◌≡◌, ◌<◌, ◌*◌, ◌/◌, [], length, option_map, slice_get, IfSome};
 ghost use Rattle.cj_spans.specs.Parts.{items_of};
-ghost use Rattle.cj_spans.specs.View.{tree};
+ghost use Rattle.cj_spans.specs.View.{tree, source_of};
 ghost use Rattle.cj_geometry.specs.ListSteps.{AreSizesAt, AreStepsOf, AreFinerStepsOf};
 
 use crate::lod::item_at;
@@ -61,7 +61,8 @@ fn item_behind<'a>(list: Node<'a>, step: u64, sizes: &[u32], number: u64) -> Opt
     requires sizes { AreSizesAt step (items_of (tree list)) sizes.now }
     requires within { number < length (items_of (tree list)) }
     requires place { number / step < length sizes.now }
-    ensures { option_map tree result ≡ slice_get (items_of (tree list.entry)) number }
+    ensures item { option_map tree result ≡ slice_get (items_of (tree list.entry)) number }
+    ensures source { IfSome result (λ n. source_of n ≡ source_of list.entry) }
 {
     let size = sizes[(number / step) as usize];
     item_at(list.items_behind(size), number % step)
@@ -99,7 +100,8 @@ impl Steps {
     #[tactic(auto, using(crate::proofs::ListSteps::step_of))]
     pub(crate) fn item<'a>(&self, list: Node<'a>, number: u64) -> Option<Node<'a>>
         requires { AreStepsOf (items_of (tree list)) self.now }
-        ensures { option_map tree result ≡ slice_get (items_of (tree list.entry)) number }
+        ensures item { option_map tree result ≡ slice_get (items_of (tree list.entry)) number }
+        ensures source { IfSome result (λ n. source_of n ≡ source_of list.entry) }
     {
         if number >= self.count {
             return None;
@@ -126,7 +128,8 @@ impl FinerSteps {
     #[tactic(auto, using(crate::proofs::ListSteps::finer_step_of))]
     pub(crate) fn item<'a>(&self, list: Node<'a>, number: u64) -> Option<Node<'a>>
         requires { AreFinerStepsOf (items_of (tree list)) self.now }
-        ensures { option_map tree result ≡ slice_get (items_of (tree list.entry)) number }
+        ensures item { option_map tree result ≡ slice_get (items_of (tree list.entry)) number }
+        ensures source { IfSome result (λ n. source_of n ≡ source_of list.entry) }
     {
         if number >= self.count {
             return None;

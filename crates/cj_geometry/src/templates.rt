@@ -1,7 +1,7 @@
 //! The templates that a geometry may name (CityJSON 2.0, section 3).
-ghost use Rattle.std.specs.Prelude.{◌≡◌, length};
+ghost use Rattle.std.specs.Prelude.{◌≡◌, Some, None, length};
 ghost use Rattle.cj_spans.specs.Parts.{items_of};
-ghost use Rattle.cj_spans.specs.View.{tree};
+ghost use Rattle.cj_spans.specs.View.{tree, line_of, source_of};
 ghost use Rattle.cj_geometry.specs.ListSteps.{AreStepsOf};
 
 use crate::rule::count_items;
@@ -44,12 +44,14 @@ impl<'a> Templates<'a> {
     ghost use Rattle.cj_spans.specs.declared.token.Kind.TheVariants.{Array};
     ghost use Rattle.cj_spans.specs.Parts.{kind_of};
     ghost use Rattle.cj_geometry.specs.Geometry.{listed, empty, itself, list_of, parts_of, template_count, is_itself};
-    ghost use Rattle.cj_geometry.specs.Given.{given};
+    ghost use Rattle.cj_geometry.specs.Given.{given, given_line, given_source};
 
     /// Returns the templates of the header's list, which is an array.
     pub fn list(node: Node<'a>) -> Templates<'a>
         requires { kind_of (tree node) ≡ Array }
-        ensures { given result ≡ listed (tree node.entry) }
+        ensures given { given result ≡ listed (tree node.entry) }
+        ensures line { given_line result ≡ Some (line_of node.entry) }
+        ensures source { given_source result ≡ Some (source_of node.entry) }
     {
         Templates {
             choice: Choice::Listed(List {
@@ -64,7 +66,9 @@ impl<'a> Templates<'a> {
     pub fn stepped(node: Node<'a>, steps: &'a Steps) -> Templates<'a>
         requires list { kind_of (tree node) ≡ Array }
         requires steps { AreStepsOf (items_of (tree node)) steps.now }
-        ensures { given result ≡ listed (tree node.entry) }
+        ensures given { given result ≡ listed (tree node.entry) }
+        ensures line { given_line result ≡ Some (line_of node.entry) }
+        ensures source { given_source result ≡ Some (source_of node.entry) }
     {
         Templates {
             choice: Choice::Stepped(SteppedList { node, steps }),
@@ -73,7 +77,9 @@ impl<'a> Templates<'a> {
 
     /// Returns no templates.
     pub fn empty() -> Templates<'a>
-        ensures { given result ≡ empty }
+        ensures given { given result ≡ empty }
+        ensures line { given_line result ≡ None }
+        ensures source { given_source result ≡ None }
     {
         Templates {
             choice: Choice::Empty,
@@ -82,7 +88,9 @@ impl<'a> Templates<'a> {
 
     /// Returns the mark that the geometry is a template itself.
     pub fn template() -> Templates<'a>
-        ensures { given result ≡ itself }
+        ensures given { given result ≡ itself }
+        ensures line { given_line result ≡ None }
+        ensures source { given_source result ≡ None }
     {
         Templates {
             choice: Choice::Itself,
@@ -98,7 +106,9 @@ impl<'a> Templates<'a> {
 
     /// Returns the list, if there is one.
     pub(crate) fn nodes(self) -> Option<Node<'a>>
-        ensures { option_map tree result ≡ list_of (given self.entry) }
+        ensures list { option_map tree result ≡ list_of (given self.entry) }
+        ensures line { option_map line_of result ≡ given_line self.entry }
+        ensures source { option_map source_of result ≡ given_source self.entry }
     {
         match self.choice {
             Choice::Listed(list) => Some(list.node),

@@ -273,9 +273,11 @@ impl<'a> Node<'a> {
     /// Returns the items of an array after its first ones, without a walk over these. `size` is the
     /// number of values and names in the first ones ([`Node::size`]).
     pub fn items_behind(self, size: u32) -> Items<'a>
-        ensures { (k : ℕ) → k ≤ length (items_of (tree self.entry))
+        ensures items { (k : ℕ) → k ≤ length (items_of (tree self.entry))
             → total_size (take k (items_of (tree self.entry))) ≡ size
             → items_left result ≡ drop k (items_of (tree self.entry)) }
+        ensures line { items_line result ≡ line_of self.entry }
+        ensures source { items_source result ≡ source_of self.entry }
     {
         let stop = items_end(self.kind(), self.source.after(self.index));
         Items {

@@ -11,11 +11,11 @@ ghost use Rattle.cj_geometry.specs.Geometry.{count_if, count_of};
 ghost use Rattle.cj_geometry.specs.Given.{given};
 ghost use Rattle.cj_geometry.specs.Rule.{of_kind, needs, whole_number, of_length};
 ghost use Rattle.cj_feature.specs.Feature.{vertex_list, feature_rules, feature};
-ghost use Rattle.cj_feature.specs.HeaderView.{header_tree};
+ghost use Rattle.cj_feature.specs.HeaderView.{header_tree, header_line};
 ghost use Rattle.cj_feature.specs.Links.{links};
 ghost use Rattle.cj_feature.specs.Reached.{AreMarks};
 ghost use Rattle.cj_feature.specs.RootMembers.{AreMembers};
-ghost use Rattle.cj_feature.specs.View.{feature_tree, feature_line, feature_header};
+ghost use Rattle.cj_feature.specs.View.{feature_tree, feature_line, feature_header, feature_header_line};
 
 use crate::feature::Feature;
 use crate::feature::ids::check_id_member;
@@ -190,6 +190,7 @@ pub fn check_feature<'a>(
     ensures tree { IfOk result (λ f. feature_tree f ≡ document doc.entry) }
     ensures line { IfOk result (λ f. feature_line f ≡ document_line doc.entry) }
     ensures header { IfOk result (λ f. feature_header f ≡ header_tree header.now) }
+    ensures header_line { IfOk result (λ f. feature_header_line f ≡ header_line header.now) }
 {
     let root = doc.root();
     let members = members_of(root);

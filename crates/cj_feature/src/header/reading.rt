@@ -1,5 +1,5 @@
 //! What a valid header contains, read once.
-ghost use Rattle.std.specs.Prelude.{◌≡◌, ◌<◌, ◌∷◌, [], Some, MatchOption, is_some, map, true, length};
+ghost use Rattle.std.specs.Prelude.{◌≡◌, ◌<◌, ◌∷◌, [], Some, IfSome, MatchOption, is_some, map, true, length};
 ghost use Rattle.std.specs.List.{flat_map};
 ghost use Rattle.std.specs.Option.{ForSome};
 ghost use Rattle.std.specs.Str.{chars};
@@ -7,7 +7,7 @@ ghost use Rattle.cj_spans.specs.declared.reason.Reason.TheVariants.{NotThree};
 ghost use Rattle.cj_spans.specs.declared.token.Kind.TheVariants.{Array};
 ghost use Rattle.cj_spans.specs.Tree.{Tree};
 ghost use Rattle.cj_spans.specs.Parts.{kind_of, items_of, member_of};
-ghost use Rattle.cj_spans.specs.View.{tree, items_left};
+ghost use Rattle.cj_spans.specs.View.{tree, items_left, line_of};
 ghost use Rattle.cj_geometry.specs.Geometry.{listed, empty, list_of, parts_of};
 ghost use Rattle.cj_geometry.specs.ListSteps.{AreStepsOf};
 ghost use Rattle.cj_geometry.specs.Rule.{number, needs, of_length};
@@ -106,8 +106,9 @@ fn map_axes(scale: [Decimal; 3], translate: [Decimal; 3]) -> [Affine; 2]
 
 /// Returns the list of templates of a header, if it has one.
 pub fn template_list(root: Node) -> Option<Node>
-    ensures { MatchOption result (templates_of (tree root.entry) ≡ empty)
+    ensures list { MatchOption result (templates_of (tree root.entry) ≡ empty)
         (λ list. (templates_of (tree root.entry) ≡ listed (tree list)) × (kind_of (tree list) ≡ Array)) }
+    ensures line { IfSome result (λ list. line_of list ≡ line_of root.entry) }
 {
     let Some(templates) = root.get("geometry-templates") else {
         return None;

@@ -18,7 +18,8 @@ pub loop-item-init : goal.loop-item-init
 loop-item-init c =
     let v = c.args.vertices.count in
     let front = c.count_indices-front in
-    let behind = c.items_behind-item-items.ensures front.result front.ensures.lone.within front.ensures.lone.sizes in
+    let lone = front.ensures.lone in
+    let behind = c.items_behind-item-items.ensures.items front.result lone.within lone.sizes in
     let left = ap items_left c.into_iter-item-iterator.ensures.into_iter_gives ∙ behind in
     ap (λ ts. least c.args.found.now (flat_map (shape v 0) ts)) left
     ∙ ap (least c.args.found.now)

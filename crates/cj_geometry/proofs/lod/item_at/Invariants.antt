@@ -1,6 +1,8 @@
 use Rattle.std.proofs.Common.{◌≡◌, slice_get}
-use Rattle.cj_spans.specs.View.{items_left}
+use Rattle.cj_spans.specs.View.{items_left, items_source}
 use Rattle.cj_geometry.proofs.lod.item_at.Given as goal
 
 abbrev pub invariant-loop-item : goal.invariant-loop-item
-invariant-loop-item l = slice_get (items_left l.item-iterator) l.left ≡ slice_get (items_left l.items) l.number
+invariant-loop-item l =
+    (slice_get (items_left l.item-iterator) l.left ≡ slice_get (items_left l.items) l.number)
+    × (items_source l.item-iterator ≡ items_source l.items)

@@ -16,7 +16,7 @@ loop-item-init c =
     let front = c.count_entries-front in
     let lone = front.ensures.lone in
     let left = ap items_left c.into_iter-item-iterator.ensures.into_iter_gives
-    ∙ c.items_behind-item-items.ensures front.result lone.within lone.sizes in
+    ∙ c.items_behind-item-items.ensures.items front.result lone.within lone.sizes in
     let rest = ap length left ∙ length-drop front.result items in
     record {
       found = ap (λ ts. least c.args.found.now (flat_map rule ts)) left

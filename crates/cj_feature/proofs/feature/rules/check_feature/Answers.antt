@@ -13,7 +13,7 @@ returns-in-Some-clause-verdict c =
     let findings = feature (header_tree c.args.header.now) (document c.args.doc) c.args.tree in
     let found = c.check_root.new.found in
     let checked : found ≡ least c.new-found.result findings =
-    rw (c.root-root.ensures.tree, c.templates-templates.ensures) at c.check_root.ensures in
+    rw (c.root-root.ensures.tree, c.templates-templates.ensures.given) at c.check_root.ensures in
     let P : Option Finding → Type 0 = IsLeast findings in
     subst P (sym c.in-Some.ensures.held) (only-findings findings c.new-found.result found c.new-found.ensures checked)
 
@@ -22,11 +22,11 @@ of-requires-clause-valid c =
     let findings = feature (header_tree c.args.header.now) (document c.args.doc) c.args.tree in
     let found = c.check_root.new.found in
     let checked : found ≡ least c.new-found.result findings =
-    rw (c.root-root.ensures.tree, c.templates-templates.ensures) at c.check_root.ensures in
+    rw (c.root-root.ensures.tree, c.templates-templates.ensures.given) at c.check_root.ensures in
     let P : Option Finding → Type 0 = IsLeast findings in
     let none : findings ≡ [] =
     subst P (sym c.in-None.ensures.held)
     (only-findings findings c.new-found.result found c.new-found.ensures checked) in
-    let header : document c.doc.result ≡ header_tree c.args.header.now = c.doc.ensures in
+    let header : document c.doc.result ≡ header_tree c.args.header.now = c.doc.ensures.tree in
     subst (λ h. feature h (document c.args.doc) false ≡ []) (sym header)
     (valid-without (templates_of (header_tree c.args.header.now)) (document c.args.doc) c.args.tree none)

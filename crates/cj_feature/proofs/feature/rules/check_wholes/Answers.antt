@@ -12,7 +12,8 @@ pub loop-item-init : goal.loop-item-init
 loop-item-init c =
     let front = c.count_wholes-front in
     let ts = items_of (tree c.args.node) in
-    let behind = c.items_behind-item-items.ensures front.result front.ensures.lone.within front.ensures.lone.sizes in
+    let lone = front.ensures.lone in
+    let behind = c.items_behind-item-items.ensures.items front.result lone.within lone.sizes in
     let left = ap items_left c.into_iter-item-iterator.ensures.into_iter_gives ∙ behind in
     let count = ap length left ∙ length-drop front.result ts in
     let within = front.ensures.lone.within in (

@@ -1,9 +1,12 @@
-use Rattle.std.proofs.Common.{sym, ap, ◌∙◌, slice_get, codes, option_and_then}
+use Rattle.std.proofs.Common.{◌≡◌, Option, Some, sym, ap, ◌∙◌, subst, slice_get, codes, option_and_then}
+use Rattle.std.specs.Option.{ForSome}
 use Rattle.std.specs.Str.{chars}
+use Rattle.cj_spans.specs.declared.node.Node.{Node}
 use Rattle.cj_spans.specs.Parts.{member_of}
+use Rattle.cj_spans.specs.View.{source_of}
 use Rattle.cj_geometry.specs.Geometry.{list_of, parts_of}
-use Rattle.cj_geometry.specs.Given.{given}
-use Rattle.cj_geometry.proofs.TemplateLods.{answer-right}
+use Rattle.cj_geometry.specs.Given.{given, given_source}
+use Rattle.cj_geometry.proofs.TemplateLods.{answer-right, if_some, kept-found}
 use Rattle.cj_geometry.proofs.lods.Lods.lod_at.Goals as goal
 
 pub returns-in-Some-clause-lod : goal.returns-in-Some-clause-lod
@@ -14,4 +17,13 @@ returns-in-Some-clause-lod c =
     answer-right trees self.answers kept.0 c.in-Some.answer self.answered kept.1
     ∙ ap (λ n. option_and_then (member_of (chars (codes "lod"))) (slice_get trees n)) c.in-Some.ensures.number
     ∙ ap (λ ts. option_and_then (member_of (chars (codes "lod"))) (slice_get ts c.args.number))
-    (sym (ap parts_of c.requires))
+    (sym (ap parts_of c.requires.list))
+
+pub returns-in-Some-clause-source : goal.returns-in-Some-clause-source
+returns-in-Some-clause-source c =
+    let self = c.args.self.now in
+    let P : Node → Type 0 = λ n. given_source self.templates ≡ Some (source_of n) in
+    let kept = c.in-Some.ensures.kept in
+    let Q : Option Node → Type 0 = λ o. ForSome o P in
+    if_some P c.in-Some.answer.lod
+    (subst Q (kept-found self.answers kept.0 c.in-Some.answer kept.1) (self.placed kept.0))

@@ -1,10 +1,14 @@
-use Rattle.std.proofs.Common.{sym, ap, ◌∙◌, subst, ◌%◌, slice_get, codes, option_and_then}
+use Rattle.std.proofs.Common.{◌≡◌, ℕ, List, Option, Some, sym, ap, ◌∙◌, subst, ◌%◌, slice_get, codes, option_and_then}
+use Rattle.std.specs.Option.{ForSome}
 use Rattle.std.specs.Str.{chars}
+use Rattle.cj_spans.specs.declared.node.Node.{Node}
 use Rattle.cj_spans.specs.Parts.{member_of}
+use Rattle.cj_spans.specs.View.{source_of}
+use Rattle.cj_geometry.specs.declared.lods.TemplateLod.{TemplateLod}
 use Rattle.cj_geometry.specs.Geometry.{list_of, parts_of}
-use Rattle.cj_geometry.specs.Given.{given}
-use Rattle.cj_geometry.specs.TemplateLods.{AreAnswersIn}
-use Rattle.cj_geometry.proofs.TemplateLods.{answer-kept}
+use Rattle.cj_geometry.specs.Given.{given, given_source}
+use Rattle.cj_geometry.specs.TemplateLods.{AreAnswersIn, kept_at}
+use Rattle.cj_geometry.proofs.TemplateLods.{answer-kept, for_some, kept-set}
 use Rattle.cj_geometry.proofs.lods.Lods.note.Goals as goal
 
 pub invariant_of-self-clause-answered : goal.invariant_of-self-clause-answered
@@ -16,3 +20,12 @@ invariant_of-self-clause-answered c =
     (ap parts_of c.requires.list) in
     let kept = answer-kept trees self.answers (self.oldest % 64) c.args.answer self.answered right in
     subst (AreAnswersIn trees) (sym c.with_answer-self.ensures) kept
+
+pub invariant_of-self-clause-placed : goal.invariant_of-self-clause-placed
+invariant_of-self-clause-placed c =
+    let self = c.args.self.now in
+    let P : Node → Type 0 = λ n. given_source self.templates ≡ Some (source_of n) in
+    let Q : List (Option TemplateLod) → Type 0 = λ os. (slot : ℕ) → ForSome (kept_at os slot) P in
+    subst Q (sym c.with_answer-self.ensures)
+    (kept-set P self.answers (self.oldest % 64) c.args.answer self.placed
+    (for_some P c.args.answer.lod c.requires.source))

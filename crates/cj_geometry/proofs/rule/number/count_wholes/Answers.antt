@@ -27,13 +27,13 @@ lone c = lone-more c.loop-item.front (items_of (tree c.args.node)) (tree c.in-So
 pub loop-item-smaller : goal.loop-item-smaller
 loop-item-smaller c = let l = lone c in
     left-falls c.loop-item.front (items_of (tree c.args.node)) _ _ c.loop-item.invariant.left
-    (c.items_behind-items.ensures (c.loop-item.front + 1) l.within l.sizes) l.within
+    (c.items_behind-items.ensures.items (c.loop-item.front + 1) l.within l.sizes) l.within
 
 pub loop-item-preserved : goal.loop-item-preserved
 loop-item-preserved c =
     let l = lone c in
     record {
-      left = c.items_behind-items.ensures (c.loop-item.front + 1) l.within l.sizes;
+      left = c.items_behind-items.ensures.items (c.loop-item.front + 1) l.within l.sizes;
       lone = l;
       none = none-more c.loop-item.front (items_of (tree c.args.node)) (tree c.in-Some.item)
           (items_left c.next.new.self) (next c) whole_number (whole-none (tree c.in-Some.item) (read c).0 (read c).1)

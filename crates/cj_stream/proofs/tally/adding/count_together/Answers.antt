@@ -11,7 +11,7 @@ use Rattle.cj_stream.proofs.tally.adding.count_together.Goals as goal
 
 pub loop-geometry-init : goal.loop-geometry-init
 loop-geometry-init c = record {
-  templates = c.beside-lods.ensures ∙ c.templates.ensures;
+  templates = c.beside-lods.ensures.given ∙ c.templates.ensures.given;
   counts = rw (c.into_iter-geometry-iterator.ensures.into_iter_gives, c.geometries-geometry-items.ensures.geometries)
       (Counting-start _ _ _ c.told-counts c.fits-counts);
 }

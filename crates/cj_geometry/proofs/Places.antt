@@ -1,0 +1,20 @@
+-- The line of templates, from the line with its tokens.
+use Rattle.std.proofs.Common.{◌≡◌, ℕ, List, Option, Some, None, option_map, sym, ap}
+use Rattle.std.specs.Option.{IfSome}
+use Rattle.cj_spans.specs.declared.node.Node.{Node}
+use Rattle.cj_spans.specs.declared.node.Source.{Source}
+use Rattle.cj_spans.specs.View.{line_of, source_of}
+use Rattle.cj_geometry.specs.declared.templates.Templates.{Templates}
+use Rattle.cj_geometry.specs.Given.{given_line, given_source, node_by}
+
+line-in : (o : Option Node) (n : Node) → option_map source_of o ≡ Some (source_of n)
+    → option_map line_of o ≡ Some (line_of n)
+unfolding line_of source_of
+line-in None n h = cc
+line-in (Some m) n h = let same : m.source ≡ n.source = cc in ap (λ (s : Source). Some s.line.now) same
+
+-- a node that stands where the templates do is of their line
+pub line_by : (t : Templates) (o : Option Node) → IfSome o (λ n. given_source t ≡ Some (source_of n))
+    → IfSome o (λ n. Some (line_of n) ≡ given_line t)
+line_by t None h = tt
+line_by t (Some n) h = sym (line-in (node_by t.choice) n h)
