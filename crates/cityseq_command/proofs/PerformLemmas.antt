@@ -131,15 +131,15 @@ pub lines-refused : (rules : Rules) (r : List ℕ) (n features refused : ℕ)
 lines-refused rules r n features refused all counts lines = counts.refused ∙ ap (λ rs. length rs) (all lines)
 
 -- a run does what is asked, where this is what it answers; told is its outcome, or one with another end
-pub Does-run : {N : Type 0} (notes : N → Report → N → Type 0) (ask : Ask) (r : List ℕ) (at_end : Type 0)
+pub Does-run : {N : Type 0} (notes : N → Report → N → Type 0) (ask : Ask) (r : List ℕ) (at_start at_end : Type 0)
     (outcome told : Outcome) (a b : Channel) (n m : N) → told ≡ ended_by outcome told.ended
     → Account (run_of ask r outcome) at_end → IsReadWithin (2 ^ 40) r outcome.ended
-    → RunsNoting notes (run_of ask r outcome) n m → StopsInTime (run_of ask r outcome)
+    → RunsNoting notes (run_of ask r outcome) n m → StopsInTime (run_of ask r outcome) at_start
     → RunsNoting Collects (run_of ask r outcome) [] (reported_first (rules_of_ask ask) outcome.lines r)
     → Answers ask (went r at_end outcome (reported_first (rules_of_ask ask) outcome.lines r)) told.ended a b
     → (told.ended ≡ WriteFault → HasRisen a.failures b.failures)
-    → Does notes (asked ask r at_end) told (outputs a n) (outputs b m)
-Does-run notes ask r at_end outcome told a b n m rest account within noted stops collected answers cause =
+    → Does notes (asked ask r at_start at_end) told (outputs a n) (outputs b m)
+Does-run notes ask r at_start at_end outcome told a b n m rest account within noted stops collected answers cause =
     let all = reported_first (rules_of_ask ask) outcome.lines r in
     let took = subst (λ rs. Took notes n rs m) (sym noted.reports.told) noted.reports.noted in
     record {

@@ -87,14 +87,16 @@ TakesOptions (Info limits options) = (options.keep_going ≡ false) × (options.
 abbrev pub run_of : Ask → List ℕ → Outcome → Run
 run_of ask r outcome = record { rules = rules_of_ask ask; read = r; outcome = outcome }
 
--- what is asked, the bytes that were read for it, and what says that these are all there was
+-- what is asked, the bytes that were read for it, what says that the reader is as before, and what says that these
+-- bytes are all there was
 pub record Asked : Type 1 where
   pub ask : Ask
   pub read : List ℕ
+  pub at_start : Type 0
   pub at_end : Type 0
 
-abbrev pub asked : Ask → List ℕ → Type 0 → Asked
-asked ask r at_end = record { ask = ask; read = r; at_end = at_end }
+abbrev pub asked : Ask → List ℕ → Type 0 → Type 0 → Asked
+asked ask r at_start at_end = record { ask = ask; read = r; at_start = at_start; at_end = at_end }
 
 -- how a run went: the bytes that it read, what says that these are all there was, its outcome, and its reports
 pub record Went : Type 1 where
@@ -141,7 +143,7 @@ pub record Does {N : Type 0} (notes : N → Report → N → Type 0) (of : Asked
   pub refused : List Report
   pub rest : told ≡ ended_by outcome told.ended
   pub account : Account (run_of of.ask of.read outcome) of.at_end
-  pub stops : StopsInTime (run_of of.ask of.read outcome)
+  pub stops : StopsInTime (run_of of.ask of.read outcome) of.at_start
   pub within : IsReadWithin (2 ^ 40) of.read outcome.ended
   pub reported : AreReported notes (run_of of.ask of.read outcome) refused old.reports new.reports
   pub answers : Answers of.ask (went of.read of.at_end outcome refused) told.ended old.channel new.channel
@@ -158,7 +160,7 @@ pub record Performs (of : Asked) (answer : ℕ) (old new : Channels) : Type 0 wh
   pub told : End
   pub shown : Shown
   pub account : Account (run_of of.ask of.read outcome) of.at_end
-  pub stops : StopsInTime (run_of of.ask of.read outcome)
+  pub stops : StopsInTime (run_of of.ask of.read outcome) of.at_start
   pub within : IsReadWithin (2 ^ 40) of.read outcome.ended
   pub enough : length of.read < 2 ^ 40 → told ≢ ReadLimit
   pub reported : RunsNoting Collects (run_of of.ask of.read outcome) [] refused

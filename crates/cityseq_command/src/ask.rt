@@ -49,7 +49,8 @@ fn check<R: Read, W: Write + Drop, N: ReportSink>(
     reports: &mut N,
 ) -> Outcome
     ensures { (r : List ℕ) × Consumes (R.remaining reader.old) (R.remaining reader.new) r
-        × Does N.notes (asked (Ask.Check limits options) r (IsAtEnd (R.remaining reader.new))) result
+        × Does N.notes
+        (asked (Ask.Check limits options) r (reader.new ≡ reader.old) (IsAtEnd (R.remaining reader.new))) result
         (outputs (channel W.contents out.old) reports.old) (outputs (channel W.contents out.new) reports.new) }
 {
     let query = Query::all(alloc);
@@ -85,7 +86,8 @@ fn info<R: Read, W: Write + Drop, N: ReportSink>(
 ) -> Outcome
     requires { TakesOptions (Ask.Info limits options) }
     ensures { (r : List ℕ) × Consumes (R.remaining reader.old) (R.remaining reader.new) r
-        × Does N.notes (asked (Ask.Info limits options) r (IsAtEnd (R.remaining reader.new))) result
+        × Does N.notes
+        (asked (Ask.Info limits options) r (reader.new ≡ reader.old) (IsAtEnd (R.remaining reader.new))) result
         (outputs (channel W.contents out.old) reports.old) (outputs (channel W.contents out.new) reports.new) }
 {
     let query = Query::all(alloc);
@@ -116,7 +118,7 @@ pub fn perform<R: Read, W: Write + Drop, E: Write + Drop>(
 ) -> u8
     requires { TakesOptions ask.now }
     ensures { (r : List ℕ) × Consumes (R.remaining reader.old) (R.remaining reader.new) r
-        × Performs (asked ask.now r (IsAtEnd (R.remaining reader.new))) result
+        × Performs (asked ask.now r (reader.new ≡ reader.old) (IsAtEnd (R.remaining reader.new))) result
         (record { out = channel W.contents out.old; err = channel E.contents err.old })
         (record { out = channel W.contents out.new; err = channel E.contents err.new }) }
 {

@@ -28,7 +28,7 @@ pub fn command<R: Read, W: Write + Drop, E: Write + Drop>(
 ) -> u8
     ensures { ((ask : Ask) × AsksFor (map string_bytes words.now) ask × (r : List ℕ)
         × Consumes (R.remaining reader.old) (R.remaining reader.new) r
-        × Performs (asked ask r (IsAtEnd (R.remaining reader.new))) result
+        × Performs (asked ask r (reader.new ≡ reader.old) (IsAtEnd (R.remaining reader.new))) result
         (record { out = channel W.contents out.old; err = channel E.contents err.old })
         (record { out = channel W.contents out.new; err = channel E.contents err.new }))
         ⊎ ((reader.new ≡ reader.old) × (why : NoAsk) × MayDecline (map string_bytes words.now) why

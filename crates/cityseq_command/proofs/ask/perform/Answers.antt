@@ -19,7 +19,8 @@ use Rattle.cityseq_command.proofs.ask.perform.Goals.{in-Check, in-Filter, in-Inf
 abbrev Did : (g : Over) → goal.After-status_after g → List ℕ → Type 0
 Did g c r =
     Does (WritesReport g.E.Write.contents)
-    (asked c.args.ask.now r (IsAtEnd (g.R.Read.remaining c.match-ask.reader))) c.match-ask.outcome
+    (asked c.args.ask.now r (c.match-ask.reader ≡ c.args.reader.now)
+    (IsAtEnd (g.R.Read.remaining c.match-ask.reader))) c.match-ask.outcome
     (outputs (channel g.W.Write.contents c.args.out.now) c.new-reports.result)
     (outputs (channel g.W.Write.contents c.match-ask.out) c.match-ask.reports)
 
@@ -42,7 +43,7 @@ did g c = elim c.match-ask.branch [
       rw (w.reader-is, w.out-is, w.reports-is, w.outcome-is, w.in-Filter.is) (
         e.0,
         e.1,
-        Does-run (WritesReport g.E.Write.contents) ask e.0 (IsAtEnd left) run.outcome run.outcome
+        Does-run (WritesReport g.E.Write.contents) ask e.0 _ (IsAtEnd left) run.outcome run.outcome
             (channel g.W.Write.contents old) (channel g.W.Write.contents new) c.new-reports.result
             w.run-outcome.new.reports refl e.3.account e.2 e.4 e.5 (law.runs run left e.3.account none) (
               refl,
@@ -56,7 +57,8 @@ did g c = elim c.match-ask.branch [
 
 -- The sink of reports holds the same loan to the end, so what it left is what the end is told on.
 performs : (g : Over) (c : goal.After-status_after g) (r : List ℕ) → Did g c r
-    → Performs (asked c.args.ask.now r (IsAtEnd (g.R.Read.remaining c.match-ask.reader))) c.status_after.result
+    → Performs (asked c.args.ask.now r (c.match-ask.reader ≡ c.args.reader.now)
+    (IsAtEnd (g.R.Read.remaining c.match-ask.reader))) c.status_after.result
     (record { out = channel g.W.Write.contents c.args.out.now; err = channel g.E.Write.contents c.args.err.now })
     (record {
       out = channel g.W.Write.contents c.flush.new.self;
