@@ -138,7 +138,8 @@ class Streams(InFolder):
     def test_a_header_that_takes_no_box(self):
         crooked = HEADER.replace(b"[10,20,0]", b"[1e-300,20,0]") + feature("a")
         flat = HEADER.replace(b"[0.001,0.001,0.001]", b"[0.001,0.001,1e-300]") + feature("b")
-        for text, is_flat in ((crooked, False), (crooked[:-len(feature("a"))], False), (flat, True)):
+        empty = crooked[: -len(feature("a"))]
+        for text, is_flat in ((crooked, False), (empty, False), (flat, True)):
             path = self.file(text)
             cityseq.index(path, self.index)
             with cityseq.Index(self.index) as index:
@@ -337,7 +338,8 @@ class Indexes(InFolder):
     def test_ogrinfo_deletes_a_row(self):
         for statement in ("DELETE FROM features WHERE fid = 5", "DELETE FROM streams"):
             self.built()
-            ran = subprocess.run([OGRINFO, "-q", self.index, "-sql", statement], capture_output=True)
+            words = [OGRINFO, "-q", self.index, "-sql", statement]
+            ran = subprocess.run(words, capture_output=True)
             self.assertEqual(ran.returncode, 0)
             output, said, status = command("filter", "--index", str(self.index), "--output-dir",
                                            str(self.folder / "out"))
@@ -363,8 +365,8 @@ class LeftOut(InFolder):
         )
         self.assertEqual(command("filter", "--quiet", "--index", self.index), whole)
         shown = command("index", "--show", self.index)[0].decode()
-        self.assertIn('    left out: line 3, byte 144: 25 vertex index out of range, feature "p2"\n',
-                      shown)
+        line = '    left out: line 3, byte 144: 25 vertex index out of range, feature "p2"\n'
+        self.assertIn(line, shown)
         self.assertEqual(shown.count("left out"), 5)
 
     def test_the_options_are_those_of_the_index(self):

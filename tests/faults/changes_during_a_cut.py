@@ -1,18 +1,19 @@
 #!/usr/bin/env python3
 """Changes streams and indexes in place while a cut reads them.
 
-    tests/run faults/changes_during_a_cut [--megabytes N] [--rounds N]
+    PYTHON=/usr/bin/python3 tests/run faults/changes_during_a_cut [--megabytes N] [--rounds N]
 
+PYTHON needs what the server needs.
 A cut has to end with status 3 and leave no output, or with status 0 and all lines of one state. A
 request to the server must not be answered in full with lines of both states. The last line is
 'N passed, M failed', and the status is 0 if none failed.
 """
 import argparse
 import contextlib
+import http.client
 import os
 import pathlib
 import random
-import re
 import sqlite3
 import sys
 import tempfile
@@ -23,6 +24,7 @@ import urllib.request
 
 from stream import Counts, begun, parts, ran, write
 
+FAULTS = ("the answer breaks off", "status 502")
 OLD, NEW = b'"x":"x', b'"x":"y'  # of an attribute, so that the lines stay valid
 
 
@@ -65,13 +67,27 @@ def cut_while_it_changes(counts, folder, chance, output):
                f"status {run.returncode} {said.strip()}")
 
 
+def answered(url):
+    """Returns the text of an answer, and what became of it."""
+    try:
+        with urllib.request.urlopen(url) as answer:
+            return answer.read(), "a whole answer"
+    except urllib.error.HTTPError as fault:
+        return b"", f"status {fault.code}"
+    except (http.client.HTTPException, ConnectionError):
+        return b"", "the answer breaks off"
+
+
 def serve_while_it_changes(counts, folder, rounds):
     """Requests to a server of a stream that changes."""
     path, index = folder / "s.city.jsonl", folder / "s.gpkg"
     swap(path, NEW, OLD)
     ran("index", "--quiet", "--output", index, path)
     server = begun("serve", "--port", "0", index)
-    url = server.stderr.readline().decode().split()[0]
+    line = server.stderr.readline().decode()
+    if not line.startswith("http"):
+        sys.exit(f"the server did not start: {line}")
+    url = line.split()[0]
     threading.Thread(target=server.stderr.read, daemon=True).start()
     threading.Thread(target=server.stdout.read, daemon=True).start()
     try:
@@ -79,17 +95,12 @@ def serve_while_it_changes(counts, folder, rounds):
             swap(path, NEW, OLD)
             ran("index", "--quiet", "--output", index, path)
             time.sleep(1.5)  # the server takes the new index
-            timer = threading.Timer(0.02 * number, swap, (path, OLD, NEW))
+            timer = threading.Timer(0.05 * number, swap, (path, OLD, NEW))
             timer.start()
-            try:
-                with urllib.request.urlopen(f"{url}collections/s/items?f=city-json-seq") as answer:
-                    text, told = answer.read(), "a whole answer"
-            except (urllib.error.HTTPError, OSError, EOFError, ValueError) as fault:
-                text, told = b"", re.sub(r"\s+", " ", str(fault))[:60]
-            except Exception as fault:  # http.client.IncompleteRead: the answer broke off
-                text, told = b"", type(fault).__name__
+            text, told = answered(f"{url}collections/s/items?f=city-json-seq")
             timer.join()
-            counts.row(f"a request, changed after {20 * number} ms", is_of_one_state(text), told)
+            is_right = told == "a whole answer" and is_of_one_state(text) or told in FAULTS
+            counts.row(f"a request, changed after {50 * number} ms", is_right, told)
     finally:
         server.terminate()
         server.wait()
