@@ -1,5 +1,6 @@
 """What changes while a cut reads it, or was changed since the index was built."""
 import gzip
+import importlib.util
 import io
 import json
 import os
@@ -8,6 +9,7 @@ import sqlite3
 import subprocess
 import unittest
 from contextlib import closing
+from unittest import mock
 
 from .support import HEADER, InFolder, command, feature
 from .test_cut import DELIVERY, cut, filtered
@@ -99,6 +101,39 @@ class Streams(InFolder):
             os.utime(path, ns=(0, 0))
             with self.assertRaisesRegex(cityseq.ReadFault, "changed while it was read"):
                 list(features)
+
+    @unittest.skipIf(importlib.util.find_spec("aiohttp") is None, "aiohttp is not there")
+    def test_a_change_while_a_server_answers(self):
+        from cityseq.serve.catalogue import Catalogue
+        from cityseq.serve.items import find
+        from cityseq.serve.pages import Page
+        from cityseq.serve.settings import Settings
+
+        path = self.file(self.text)
+        cityseq.index(path, self.index)
+        catalogue = Catalogue(Settings((str(self.index),)))
+        (collection,) = catalogue
+        with collection.pool.index() as index:
+            page = Page(collection, index.work(), 0, 5)
+        self.assertEqual(len(page.block().raws), 5)
+        self.write_in_place(path)
+        with self.assertRaisesRegex(cityseq.ReadFault, "changed while it was read"):
+            page.block()
+        catalogue.close()
+        cityseq.index(path, self.index)
+        whole = Page.block
+
+        def block(page):
+            found = whole(page)
+            self.write_in_place(path)
+            return found
+
+        catalogue = Catalogue(Settings((str(self.index),)))
+        (collection,) = catalogue
+        with mock.patch.object(Page, "block", block):
+            with self.assertRaisesRegex(cityseq.ReadFault, "changed while it was read"):
+                find(collection, "b5")
+        catalogue.close()
 
     def test_a_packed_stream_that_rotted(self):
         # some MB, since the end of a shorter file is read with its beginning
