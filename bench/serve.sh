@@ -1,10 +1,10 @@
 #!/usr/bin/env bash
 # Measures the server, each case in one run:
 #
-#   tile    wrk with 64 connections asks for a box of 100 features, of PROCESSES processes; then for
-#           the same bytes as a file of nginx: requests a second, their 50th and 99th percentile, and
-#           the memory of the server. A server gives the answer to a request again for a second
-#   boxes   the same of boxes by chance, of which none is asked for again within a second
+#   tile    wrk with 64 connections asks for a box of 100 features, of PROCESSES processes of
+#           gunicorn; then for the same bytes as a file of nginx: requests a second, their 50th and
+#           99th percentile, and the memory of the server
+#   boxes   the same of boxes by chance
 #   one     one connection: the time of such an answer beyond that of the cut by `Index.filter`
 #   check   POST /check of the whole stream by curl, as a ratio to `cityseq check` of the file
 #   memory  64 clients send the stream slowly: the memory beyond that of the idle server
@@ -12,7 +12,7 @@
 #   bench/serve.sh [CASE..]      (all)
 #
 # MEGABYTES is the size of the stream (1000), TIME how many seconds wrk runs (60), PROCESSES how many
-# there are (4), and ROUNDS how often `one` and `check` are tried (5). It needs wrk, nginx and curl,
+# there are (4), and ROUNDS how often `one` and `check` are tried (5). It needs wrk, nginx, gunicorn and curl,
 # the library python/cityseq/libcityseq.so and the built program, which PROGRAM may name. PYTHON may
 # name python3.
 set -euo pipefail
@@ -84,8 +84,21 @@ def memory(pid, field="VmHWM"):
 def served(*words):
     """The server, with its port and its process."""
     port = free_port()
-    server = subprocess.Popen([sys.executable, "-m", "cityseq", "serve", "--quiet", "--port", str(port), *words],
-                              stderr=subprocess.PIPE)
+    with running(port, [sys.executable, "-m", "cityseq", "serve", "--quiet", "--port", str(port), *words]) as found:
+        yield found
+
+
+def many():
+    """As many processes of gunicorn as are asked for, with their port and the first process."""
+    port = free_port()
+    return running(port, ["gunicorn", "--bind", f"127.0.0.1:{port}", "--workers", str(processes), "--worker-class",
+                          "aiohttp.GunicornWebWorker", f"cityseq.serve:runner({str(index)!r}, quiet=True, jobs=1)"])
+
+
+@contextlib.contextmanager
+def running(port, words):
+    """A program that listens at a port, with the port and its process."""
+    server = subprocess.Popen(words, stderr=subprocess.PIPE)
     server.stderr.readline()
     for _ in range(100):
         with contextlib.suppress(OSError), socket.create_connection(("127.0.0.1", port)):
@@ -162,7 +175,7 @@ def got(port, path):
 
 def tile():
     which = box()
-    with served("--processes", str(processes), str(index)) as (port, pid):
+    with many() as (port, pid):
         text = got(port, path_of(which))
         (folder / "tile.city.jsonl").write_bytes(text)
         print(f"tile: {text.count(b'CityJSONFeature')} features, {len(text)} bytes")
@@ -176,7 +189,7 @@ def tile():
 
 
 def boxes():
-    """Boxes by chance, so that no answer is given again."""
+    """Boxes by chance."""
     rows = max(os.path.getsize(stream) // 2_000 // 1_000 - 12, 1)
     left, low = corner()
     script = folder / "boxes.lua"
@@ -187,7 +200,7 @@ request = function()
                                          x, y, x + 99.5, y + 99.5))
 end
 """)
-    with served("--processes", str(processes), str(index)) as (port, pid):
+    with many() as (port, pid):
         rate, *latency = wrk(f"http://127.0.0.1:{port}", "-s", str(script))
         print(f"boxes: {processes} processes: {rate:.0f} requests/s, 50 % {latency[0]}, 99 % {latency[1]},"
               f" {memory(pid):.0f} MB in all")
@@ -203,7 +216,7 @@ def one():
                 opened.filter(io.BytesIO(), box=which, jobs=1)
                 cut.append(time.perf_counter() - begin)
                 begin = time.perf_counter()
-                connection.request("GET", f"{path_of(which)}&limit={1_000 + number}")  # none is given again
+                connection.request("GET", f"{path_of(which)}&limit={1_000 + number}")
                 connection.getresponse().read()
                 ask.append(time.perf_counter() - begin)
     print(f"one: cut {median(cut) * 1e3:.2f} ms, answer {median(ask) * 1e3:.2f} ms,"

@@ -11,9 +11,10 @@ def scripts(folder):
     """Returns the path of each script by its name. It can be executed, or it is NAME/run.sh. Those
     of a folder `faults` are named faults/NAME."""
     found = {}
-    faults = os.path.join(folder, "faults")
-    inner = [os.path.join("faults", each) for each in os.listdir(faults)] if os.path.isdir(faults) else []
-    for name in sorted([*os.listdir(folder), *inner]):
+    names = os.listdir(folder)
+    if "faults" in names:
+        names += [f"faults/{name}" for name in os.listdir(os.path.join(folder, "faults"))]
+    for name in sorted(names):
         path = os.path.join(folder, name)
         if os.path.isfile(os.path.join(path, "run.sh")):
             found[name] = os.path.join(path, "run.sh")

@@ -30,7 +30,7 @@ _cityseq_run() {
       mapfile -t COMPREPLY < <(compgen -f -- "$current")
       return
       ;;
-    --line-limit | --depth | --jobs | --part-size | --max-reports | --format | --id | --lod | --bbox | --base | --title | --host | --port | --url | --cors | --processes | --max-requests | --max-body | --max-features | --max-seconds | --idle-seconds | --stop-seconds)
+    --line-limit | --depth | --jobs | --part-size | --max-reports | --format | --id | --lod | --bbox | --base | --title | --host | --port | --url | --cors | --max-requests | --max-bodies | --max-body | --max-features | --max-seconds | --idle-seconds | --min-rate | --stop-seconds)
       return
       ;;
   esac
@@ -68,9 +68,9 @@ _cityseq_run() {
       ;;
     serve)
       options='
-        --host --port --url --cors --base --jobs --processes --max-requests --max-body
-        --max-features --max-seconds --idle-seconds --stop-seconds --line-limit --depth --quiet
-        -h --help'
+        --host --port --url --cors --base --jobs --max-requests --max-bodies --max-body
+        --max-features --max-seconds --idle-seconds --min-rate --stop-seconds --line-limit
+        --depth --quiet -h --help'
       files=yes
       ;;
     explain)

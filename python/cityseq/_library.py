@@ -333,6 +333,14 @@ def keep_room(jobs: Optional[int] = None) -> None:
         setting(_ARENA_MAX, 1)
 
 
+def give_back() -> None:
+    """Makes glibc give memory that is free back to the system."""
+    try:
+        ctypes.CDLL(None).malloc_trim(0)
+    except (OSError, AttributeError, TypeError):
+        pass
+
+
 def sort_texts(texts: bytearray, size: int) -> bool:
     """Sorts texts of this size by their bytes. Returns False if the C library has no call for
     that."""

@@ -14,8 +14,8 @@ MOST_JOBS, MOST_BYTES = 4_096, 1 << 40
 MOST_SECONDS = 1_000_000
 # the usual values of a server
 HOST, PORT = "127.0.0.1", 8080
-REQUESTS, FEATURES, BODY = 100, 100_000, 16 << 30
-SECONDS, IDLE, STOP = 3_600, 30, 10
+REQUESTS, BODIES, FEATURES, BODY = 100, 32, 100_000, 16 << 30
+SECONDS, IDLE, STOP, RATE = 3_600, 30, 10, 1_000
 ALIKE = 0.7  # how similar a word must be to be suggested
 
 
@@ -60,11 +60,12 @@ class Asked:
     port: int = PORT
     url: Optional[str] = None
     cors: Optional[str] = None
-    processes: int = 1
     max_requests: int = REQUESTS
+    max_bodies: int = BODIES
     max_body: int = BODY
     max_seconds: int = SECONDS
     idle_seconds: int = IDLE
+    min_rate: int = RATE
     stop_seconds: int = STOP
     max_features: int = FEATURES
 
@@ -316,10 +317,10 @@ SERVES = (
     Option("base", "Read the streams from a web server, below this URL", "URL"),
     Option("jobs", "Judge and cut by so many threads [default: the number of processors]", "N",
            whole_number(1, MOST_JOBS)),
-    Option("processes", "Serve by so many processes, which share the port", "N",
-           whole_number(1, 1_000), "1"),
-    Option("max-requests", "Answer so many requests at once", "N", whole_number(1, 100_000),
-           str(REQUESTS)),
+    Option("max-requests", "Answer so many requests without a body at once", "N",
+           whole_number(1, 100_000), str(REQUESTS)),
+    Option("max-bodies", "Take so many bodies at once", "N", whole_number(1, 100_000),
+           str(BODIES)),
     Option("max-body", "Refuse a body that is longer, also after it is unpacked", "BYTES",
            whole_number(1, MOST_BYTES), str(BODY)),
     Option("max-features", "Answer at most so many features at once", "N",
@@ -328,6 +329,8 @@ SERVES = (
            whole_number(1, MOST_SECONDS), str(SECONDS)),
     Option("idle-seconds", "End a request whose client is silent for longer", "SECONDS",
            whole_number(1, MOST_SECONDS), str(IDLE)),
+    Option("min-rate", "End a request whose client sends or takes fewer bytes a second", "BYTES",
+           whole_number(1, MOST_BYTES), str(RATE)),
     Option("stop-seconds", "Give open answers so long to end when the server is stopped", "SECONDS",
            whole_number(0, MOST_SECONDS), str(STOP)),
     *LIMITS,
@@ -407,7 +410,7 @@ Examples:
   {0} serve region.gpkg
   {0} serve --host 0.0.0.0 --url https://city.example.org/ region.gpkg
   curl --data-binary @delivery.city.jsonl.gz http://127.0.0.1:8080/check
-  ogrinfo -al OAPIF:http://127.0.0.1:8080/
+  ogrinfo -al -oo PAGE_SIZE=1000 OAPIF:http://127.0.0.1:8080/
 
 Serves the streams of each INDEX as OGC API - Features, and a page to check files on. What is sent
 is judged as it comes, and it is not stored. Without INDEX there is the page alone. A line for each
@@ -467,6 +470,11 @@ COMMANDS = {
             "<CODE>",
         ),
     )
+}
+# options of commands that are gone, and what to use now
+GONE = {
+    ("serve", "--processes"): "gunicorn runs many processes\n\n  gunicorn --workers 4"
+    " --worker-class aiohttp.GunicornWebWorker 'cityseq.serve:runner(\"region.gpkg\")'",
 }
 ABOUT = "Checks, filters and summarises CityJSONSeq 2.0 streams, read once and in bounded memory"
 HELP = "Print this message or the help of the given subcommand(s)"
@@ -555,6 +563,8 @@ class Reader:
 
     def _read_option(self, name: str, equals: str, value: str) -> None:
         option = self._options.get(name)
+        if option is None and (self._command.name, name) in GONE:
+            raise _mistake(f"there is no {name}: {GONE[self._command.name, name]}")
         if option is None:
             raise self._unexpected(name)
         if option.value is None:

@@ -1,10 +1,12 @@
 """A server that tests ask, in a process of its own."""
+import asyncio
 import http.client
 import json
 import os
 import pathlib
 import shutil
 import signal
+import socket
 import subprocess
 import sys
 import tempfile
@@ -36,37 +38,41 @@ class Answer:
         return [json.loads(line) for line in self.body.splitlines()]
 
 
-class Serving:
-    """The command `serve`, over some indexes."""
+def rest_of(connection):
+    """What comes until a connection ends."""
+    found = [b" "]
+    try:
+        while found[-1]:
+            found.append(connection.recv(1 << 16))
+    except ConnectionError:
+        pass
+    return b"".join(found[1:])
 
-    def __init__(self, *words, first_path=""):
-        """Starts it with these words. A folder that is given is where Python looks first for modules."""
-        port = () if "--port" in words else ("--port", "0")
-        environment = {**os.environ, "PYTHONPATH": os.pathsep.join(filter(None, (str(first_path), os.path.join(ROOT, "python"))))}
-        self.process = subprocess.Popen(
-            [sys.executable, "-W", "ignore", "-m", "cityseq", "serve", *port, *map(str, words)],
-            stdout=subprocess.PIPE, stderr=subprocess.PIPE, env=environment)
-        first = self.process.stderr.readline().decode()
-        if not first.startswith("http://"):
-            self.process.kill()
-            raise AssertionError(f"the server did not start: {first}")
-        self.url = first.split(" ")[0]
-        self.host, _, port = self.url.split("/")[2].rpartition(":")
-        self.port = int(port)
-        self.log, self.said = [], [first]
-        self._readers = [self._read(self.process.stdout, self.log), self._read(self.process.stderr, self.said)]
 
-    @staticmethod
-    def _read(source, lines):
-        reader = threading.Thread(target=lambda: lines.extend(line.decode() for line in source), daemon=True)
-        reader.start()
-        return reader
+class Client:
+    """A server that listens at `host` and `port`."""
 
     def __enter__(self):
         return self
 
     def __exit__(self, *_):
         self.stop()
+
+    def socket(self, small=False):
+        """A connection. A small one has a small buffer for what comes."""
+        found = socket.socket()
+        if small:
+            found.setsockopt(socket.SOL_SOCKET, socket.SO_RCVBUF, 1 << 15)
+        found.settimeout(30)
+        found.connect((self.host, self.port))
+        return found
+
+    def raw(self, *pieces):
+        """What comes back for some bytes until the connection ends."""
+        with self.socket() as connection:
+            for piece in pieces:
+                connection.sendall(piece)
+            return rest_of(connection)
 
     def connect(self):
         return http.client.HTTPConnection(self.host, self.port, timeout=120)
@@ -95,6 +101,33 @@ class Serving:
             connection.close()
             sender.join(5)
 
+
+class Serving(Client):
+    """The command `serve`, over some indexes."""
+
+    def __init__(self, *words, first_path=""):
+        """Starts it with these words. A folder that is given is where Python looks first for modules."""
+        port = () if "--port" in words else ("--port", "0")
+        environment = {**os.environ, "PYTHONPATH": os.pathsep.join(filter(None, (str(first_path), os.path.join(ROOT, "python"))))}
+        self.process = subprocess.Popen(
+            [sys.executable, "-W", "ignore", "-m", "cityseq", "serve", *port, *map(str, words)],
+            stdout=subprocess.PIPE, stderr=subprocess.PIPE, env=environment)
+        first = self.process.stderr.readline().decode()
+        if not first.startswith("http://"):
+            self.process.kill()
+            raise AssertionError(f"the server did not start: {first}")
+        self.url = first.split(" ")[0]
+        self.host, _, port = self.url.split("/")[2].rpartition(":")
+        self.port = int(port)
+        self.log, self.said = [], [first]
+        self._readers = [self._read(self.process.stdout, self.log), self._read(self.process.stderr, self.said)]
+
+    @staticmethod
+    def _read(source, lines):
+        reader = threading.Thread(target=lambda: lines.extend(line.decode() for line in source), daemon=True)
+        reader.start()
+        return reader
+
     def stop(self, number=signal.SIGTERM):
         """Ends the server, and returns its status."""
         if self.process.poll() is None:
@@ -105,6 +138,47 @@ class Serving:
         self.process.stdout.close()
         self.process.stderr.close()
         return status
+
+
+class Within(Client):
+    """A server in a thread of this process, over some indexes and with any limits."""
+
+    host = "127.0.0.1"
+
+    def __init__(self, *indexes, **limits):
+        from cityseq.serve.application import Server
+        from cityseq.serve.process import Process
+        from cityseq.serve.settings import Limits, Settings
+
+        async def begin():
+            process = Process(Server(Settings(tuple(map(str, indexes)), jobs=1, limits=Limits(**limits))), True)
+            self._listening = await process.listen(self.host, 0)
+            return process
+
+        self._loop = asyncio.new_event_loop()
+        self._thread = threading.Thread(target=self._loop.run_forever)
+        self._thread.start()
+        self.process = self._wait(begin())
+        self.port = self.process.sockets[0].getsockname()[1]
+        self.url = f"http://{self.host}:{self.port}/"
+
+    def _wait(self, coroutine):
+        return asyncio.run_coroutine_threadsafe(coroutine, self._loop).result(30)
+
+    async def _end(self):
+        self._listening.close()
+        await self.process.close()
+        tasks = asyncio.all_tasks() - {asyncio.current_task()}
+        for each in tasks:
+            each.cancel()
+        await asyncio.gather(*tasks, return_exceptions=True)
+
+    def stop(self):
+        """Ends the server."""
+        self._wait(self._end())
+        self._loop.call_soon_threadsafe(self._loop.stop)
+        self._thread.join()
+        self._loop.close()
 
 
 def hostile_stream():

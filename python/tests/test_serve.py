@@ -10,6 +10,7 @@ import subprocess
 import threading
 import time
 import unittest
+from decimal import Decimal
 from urllib.parse import quote
 
 from .serving import EXAMPLES, HOSTILE, MISSING, RD, Served, Serving
@@ -267,10 +268,7 @@ class Cuts(Served):
             (west, east), (south, north), _ = found.extent
             ring = told["geometry"]["coordinates"][0]
             self.assertEqual((told["id"], told["properties"]["line"]), (found.id, found.line))
-            self.assertLessEqual(ring[0][0], west)
-            self.assertLess(west - type(west)(ring[0][0]), 1e-9)
-            self.assertLessEqual((south, north), (ring[2][1], ring[2][1]))
-            self.assertGreaterEqual(ring[2][0], east)
+            self.assertEqual([Decimal(repr(edge)) for edge in (*ring[0], *ring[2])], [west, south, east, north])
 
     def test_one_feature(self):
         text = self.filtered("town", "--id", "house-1")
@@ -302,7 +300,6 @@ class Cuts(Served):
         with Serving(self.folder / "later.gpkg") as later:
             self.assertEqual(later.ask("/collections/later/items").status, 200)
             path.write_bytes(HEADER + feature("b"))
-            time.sleep(1.1)  # an answer is given again for a second
             answer = later.ask("/collections/later/items")
             self.assertEqual((answer.status, answer.headers["Content-Type"]), (502, "application/problem+json"))
             self.assertIn("out of date", answer.json()["detail"])

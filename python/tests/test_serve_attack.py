@@ -7,13 +7,11 @@ import unittest
 from .serving import MISSING
 from .support import ROOT
 
-CONNECTIONS = 500  # that send nothing; the script by itself opens 10,000
-
 
 @unittest.skipIf(MISSING, MISSING)
 class Attack(unittest.TestCase):
     def test_bad_requests(self):
-        words = [sys.executable, os.path.join(ROOT, "tests", "serve_attack.py"), "--connections", str(CONNECTIONS), sys.executable]
+        words = [sys.executable, os.path.join(ROOT, "tests", "serve_attack.py"), sys.executable]
         ran = subprocess.run(words, stdout=subprocess.PIPE, stderr=subprocess.STDOUT, timeout=300)
         self.assertRegex(ran.stdout.decode(), r"\d{3} passed, 0 failed\n\Z")
         self.assertEqual(ran.returncode, 0)

@@ -4,17 +4,19 @@ import io
 import json
 import os
 import random
-import re
 import socket
 import tempfile
+import threading
 import unittest
+from contextlib import suppress
 from unittest import mock
 
 from . import support
-from .serving import EXAMPLES, MISSING, Served
+from .serving import EXAMPLES, MISSING, Served, rest_of
 from .support import HEADER, command, feature
 
 import cityseq
+from cityseq.packed import Gzip
 from cityseq.query import asked
 
 if not MISSING:
@@ -125,6 +127,37 @@ class Verdicts(Served):
         self.assertGreater(count, 100)
         self.assertEqual(fed.result().lines, 300_001)
 
+    def test_a_packed_byte_is_copied_few_times(self):
+        """A member copies what follows its end, and a piece may have very many short members."""
+        given = []
+
+        class Counted(Gzip):
+            @staticmethod
+            def more(member, packed, most):
+                given.append(len(packed))
+                return Gzip.more(member, packed, most)
+
+        text = os.urandom(1 << 18)
+        for packed, most in ((gzip.compress(b"") * 20_000, 32), (gzip.compress(text) + bytes(1 << 18), 4)):
+            given.clear()
+            with mock.patch("cityseq.serve.judging.Gzip", Counted):
+                unpacking = Unpacking(True, 1 << 30)
+            found = b"".join(piece for begin in range(0, len(packed), 1 << 17) for piece in unpacking.feed(packed[begin : begin + (1 << 17)]))
+            self.assertEqual((found, unpacking.end()), (b"" if most == 32 else text, b""))
+            self.assertLess(sum(given), most * len(packed))
+
+    def test_members_in_pieces_by_chance(self):
+        chance = random.Random(16)
+        for _ in range(60):
+            texts = [chance.randbytes(chance.choice((0, 1, 9, 700, 5_000))) for _ in range(chance.randrange(1, 9))]
+            packed = b"".join(gzip.compress(each) + bytes(chance.choice((0, 0, 3, 900))) for each in texts)
+            unpacking, found = Unpacking(None, 1 << 30), b""
+            while packed:
+                size = chance.choice((1, 2, 30, 600, 9_000))
+                found += b"".join(unpacking.feed(packed[:size]))
+                packed = packed[size:]
+            self.assertEqual(found + unpacking.end(), b"".join(texts))
+
     def test_filter_writes_what_the_command_writes(self):
         for name, query, words in (("town", "type=Road", ("--type", "Road")), ("sample", "lod=2.2&exclude", ("--lod", "2.2", "--exclude")),
                                    ("town", "bbox=1001,2001,1005,2005", ("--bbox", "1001,2001,1005,2005"))):
@@ -132,29 +165,6 @@ class Verdicts(Served):
             answer = self.server.ask(f"/filter?{query}", "POST", text)
             self.assertEqual((answer.status, answer.headers["Content-Type"]), (200, "application/city+json-seq"))
             self.assertEqual(answer.body, self.filtered(name, *words))
-
-    def raw(self, path, text):
-        with socket.create_connection((self.server.host, self.server.port), 30) as connection:
-            connection.sendall(b"POST %b HTTP/1.1\r\nHost: localhost\r\nConnection: close\r\nContent-Length: %d\r\n\r\n"
-                               % (path.encode(), len(text)) + text)
-            found = b""
-            try:
-                while True:
-                    piece = connection.recv(1 << 16)
-                    if not piece:
-                        break
-                    found += piece
-            except ConnectionError:
-                pass
-        return found
-
-    def test_the_verdict_is_a_trailer(self):
-        text = (EXAMPLES / "delivery.city.jsonl").read_bytes()
-        answer = self.raw("/filter?keep_going=true", text)
-        self.assertIn(b"\r\nTrailer: Cityseq-Result\r\n", answer)
-        trailer = re.search(rb"\r\n0\r\nCityseq-Result: ([^\r\n]*)\r\n\r\n\Z", answer)
-        told = json.loads(trailer.group(1))
-        self.assertEqual((told["kind"], told["verdict"], told["features"], told["refused"]), ("result", "invalid", 3, 5))
 
     def test_the_verdict_is_the_last_line(self):
         text = (EXAMPLES / "delivery.city.jsonl").read_bytes()
@@ -166,11 +176,27 @@ class Verdicts(Served):
         output, _, _ = command("filter", "--keep-going", str(EXAMPLES / "delivery.city.jsonl"))
         self.assertEqual(kept, output)
 
+    def test_the_verdict_is_a_line_of_its_own(self):
+        """Also if the last line of the stream has no LF."""
+        for text in (HEADER[:-1], HEADER + feature("a")[:-1], HEADER + feature("a")):
+            answer = self.server.ask("/filter?verdict=last", "POST", text)
+            self.assertEqual(answer.body.splitlines()[:-1], text.splitlines())
+            self.assertEqual((answer.lines()[-1]["kind"], answer.lines()[-1]["verdict"]), ("result", "valid"))
+            self.assertEqual(self.server.ask("/filter", "POST", text).body, text)
+
     def test_an_invalid_stream_is_broken_off(self):
         text = HEADER + feature("b") * 40_000 + b"{}\n" + feature("b") * 4_000
-        answer = self.raw("/filter", text)
+        head = b"POST /filter HTTP/1.1\r\nHost: localhost\r\nConnection: close\r\nContent-Length: %d\r\n\r\n" % len(text)
+        with self.server.socket() as connection:
+            threading.Thread(target=self.sent, args=(connection, head + text)).start()
+            answer = rest_of(connection)
         self.assertTrue(answer.startswith(b"HTTP/1.1 200"))
         self.assertNotRegex(answer, rb"\r\n0\r\n")
+
+    @staticmethod
+    def sent(connection, text):
+        with suppress(OSError):
+            connection.sendall(text)
 
     def test_an_invalid_stream_that_is_short_is_answered(self):
         answer = self.server.ask("/filter", "POST", HEADER + feature("b") + b"{}\n")

@@ -17,12 +17,13 @@ from contextlib import contextmanager
 from http.server import ThreadingHTTPServer
 from unittest import mock
 
-from .serving import MISSING, RD, Served, Serving
+from .serving import MISSING, RD, Client, Served, Serving
 from .support import HEADER, ROOT, command, feature
 from .test_web import NGINX, Handler
 
 import cityseq.serve
 
+GUNICORN = shutil.which("gunicorn")
 MODULE = pathlib.Path("/usr/lib/nginx/modules/ngx_stream_module.so")
 
 if not MISSING:
@@ -33,7 +34,6 @@ if not MISSING:
     from cityseq.serve.logs import _quoted
     from cityseq.serve.problems import Problem
     from cityseq.serve.queries import Query
-    from cityseq.serve.replies import Replies, Reply
     from cityseq.serve.settings import Limits, Settings
     from cityseq.serve.systems import System
 
@@ -135,41 +135,9 @@ class Safety(Served):
         body = HEADER + feature("b") * 9_000
         for path, method, sent in (("/conformance?f=json", "GET", None), ("/conformance?f=html", "HEAD", None), ("/none?sized", "GET", None),
                                    ("/filter?keep_going", "POST", body), ("/check?summary", "POST", body)):
-            for _ in range(2):  # the second may be given again
-                answer = self.server.ask(path, method, sent)
-                ending = f'"{method} {path} HTTP/1.1" {answer.status} {len(answer.body)} '
-                self.assertTrue(soon(lambda: any(ending in line for line in self.server.log)), (ending, self.server.log[-1]))
-
-    def test_answers_that_are_given_again(self):
-        """The same request has the same answer, on the same connection and on others, in any pieces."""
-        path = "/collections/sample/items?f=city-json-seq&limit=9&ids=given-again"
-        request = f"GET {path} HTTP/1.1\r\nHost: localhost\r\nUser-Agent: again\r\n\r\n".encode()
-
-        def read(file):
-            head = b"".join(iter(file.readline, b"\r\n"))
-            return head, file.read(int(re.search(rb"Content-Length: (\d+)", head).group(1)))
-
-        answers = []
-        for pieces in ([request] * 3, [request + request], [request[:30], request[30:]], [request[:-1], b"\n" + request]):
-            with socket.create_connection((self.server.host, self.server.port), 30) as connection, connection.makefile("rb") as file:
-                for piece in pieces:
-                    connection.sendall(piece)
-                    time.sleep(0.02)
-                for _ in range(b"".join(pieces).count(request)):
-                    answers.append(read(file))
-        self.assertEqual(len(answers), 8)
-        self.assertEqual({body for _, body in answers}, {self.server.ask(path).body})
-        self.assertEqual({re.sub(rb"Date: .*", b"", head) for head, _ in answers}, {re.sub(rb"Date: .*", b"", answers[0][0])})
-        time.sleep(0.3)
-        self.assertEqual(sum("given-again" in line and '"again"' in line for line in self.server.log), 8)
-
-    def test_replies_are_bounded(self):
-        replies = Replies()
-        for number in range(40):
-            replies.keep(b"%d" % number, Reply(bytes(1 << 20), "", 0.001 * number))
-        found = [number for number in range(40) if replies.find(b"%d" % number, 0.1)]
-        self.assertEqual(found, list(range(25, 40)))
-        self.assertIsNone(replies.find(b"39", 1.04))
+            answer = self.server.ask(path, method, sent)
+            ending = f'"{method} {path} HTTP/1.1" {answer.status} {len(answer.body)} '
+            self.assertTrue(soon(lambda: any(ending in line for line in self.server.log)), (ending, self.server.log[-1]))
 
     def test_a_stop_ends_open_answers(self):
         with Serving("--stop-seconds", "1", self.folder / "all.gpkg") as ending:
@@ -196,21 +164,43 @@ class Safety(Served):
                 self.assertIn(b'"verdict": "valid"', answer)
             self.assertEqual(ending.stop(), 0)
 
-    def test_many_processes(self):
-        with Serving("--processes", "3", self.folder / "all.gpkg") as many:
-            children = pathlib.Path(f"/proc/{many.process.pid}/task/{many.process.pid}/children")
-            for _ in range(2):
-                for _ in range(20):
-                    self.assertEqual(many.ask("/collections/town/items").status, 200)
-                self.assertTrue(soon(lambda: len(children.read_text().split()) == 3))
-                told = len(many.said)
-                os.kill(int(children.read_text().split()[0]), signal.SIGKILL)
-                self.assertTrue(soon(lambda: len(many.said) > told))
-            self.assertTrue(any("another one is started" in line for line in many.said))
-            self.assertTrue(soon(lambda: len(children.read_text().split()) == 3))
-            pids = list(map(int, children.read_text().split()))
-            self.assertEqual(many.stop(), 0)
-            self.assertFalse([pid for pid in pids if os.path.exists(f"/proc/{pid}")])
+    @unittest.skipIf(GUNICORN is None, "gunicorn is not there")
+    def test_processes_of_gunicorn(self):
+        """Two processes answer, and one that ends is replaced. A body is unpacked within its limit."""
+        port = free_port()
+        words = [GUNICORN, "--bind", f"127.0.0.1:{port}", "--workers", "2", "--worker-class", "aiohttp.GunicornWebWorker",
+                 f"cityseq.serve:runner({str(self.folder / 'all.gpkg')!r}, jobs=1)"]
+        many = Client()
+        many.host, many.port = "127.0.0.1", port
+        with subprocess.Popen(words, env={**os.environ, "PYTHONPATH": os.path.join(ROOT, "python")}, stdout=subprocess.PIPE,
+                              stderr=subprocess.DEVNULL) as process:
+            try:
+                children = pathlib.Path(f"/proc/{process.pid}/task/{process.pid}/children")
+                self.assertTrue(soon(lambda: accepts(many)))
+                for _ in range(2):
+                    for _ in range(10):
+                        self.assertEqual(many.ask("/collections/town/items").status, 200)
+                    body = gzip.compress(HEADER + feature("a"))
+                    self.assertEqual(many.ask("/check", "POST", body, Content_Encoding="gzip").lines()[-1]["features"], 1)
+                    os.kill(int(children.read_text().split()[0]), signal.SIGKILL)
+                    self.assertTrue(soon(lambda: len(children.read_text().split()) == 2))
+                    self.assertTrue(soon(lambda: accepts(many)))
+            finally:
+                process.terminate()
+                log, _ = process.communicate(timeout=30)
+            self.assertEqual(process.returncode, 0)
+            self.assertRegex(log.decode(), r'"GET /collections/town/items HTTP/1\.1" 200 ')
+
+    def test_what_gunicorn_runs_is_checked_at_once(self):
+        for indexes, options, fault in (((self.folder / "none.gpkg",), {}, cityseq.ReadFault), ((), {"url": "ftp://x"}, cityseq.RequestError)):
+            with self.assertRaises(fault):
+                cityseq.serve.runner(*indexes, **options)
+
+    def test_processes_are_the_work_of_gunicorn(self):
+        _, said, status = command("serve", "--processes", "4")
+        self.assertEqual(status, 2)
+        self.assertIn("there is no --processes: gunicorn runs many processes", said)
+        self.assertIn("aiohttp.GunicornWebWorker", said)
 
     def test_streams_on_a_web_server(self):
         with web_server(self.folder) as (url, state):
@@ -218,13 +208,11 @@ class Safety(Served):
                 path = "/collections/town/items?f=city-json-seq&type=Road"
                 self.assertEqual(far.ask(path).body, self.filtered("town", "--type", "Road"))
                 state.mode = "missing"
-                time.sleep(1.1)  # an answer is given again for a second
                 self.assertEqual(far.ask(path).status, 502)
                 state.mode = ""
                 text = (self.folder / "town.city.jsonl").read_bytes()
                 changed = self.folder / "town.city.jsonl"
                 changed.write_bytes(text + b"\n")
-                time.sleep(1.1)
                 answer = far.ask(path)
                 changed.write_bytes(text)
                 self.assertEqual((answer.status, answer.headers["Content-Type"]), (502, "application/problem+json"))
@@ -257,6 +245,12 @@ class Safety(Served):
                 for _ in range(20):
                     self.assertEqual(one.ask("/collections/town/items?f=city-json-seq&type=Road").body,
                                      self.filtered("town", "--type", "Road"))
+                self.assertLess(sum("town/items" in line for line in one.log + other.log), 10)  # the others are given again
+                chunks = b"POST /check HTTP/1.1\r\nHost: localhost\r\nTransfer-Encoding: chunked\r\n\r\n7\r\n{\"a\":1}XX0\r\n\r\n"
+                self.assertTrue(one.raw(chunks).startswith(b"HTTP/1.1 400 "))
+                spaces = b"GET  /conformance  HTTP/1.1\r\nHost: localhost\r\nConnection: close\r\n\r\n"
+                self.assertTrue(one.raw(spaces).startswith(b"HTTP/1.1 200 "))
+                self.assertTrue(soon(lambda: any('"GET /conformance HTTP/1.1" 200 ' in line for line in one.log + other.log)))
                 link = one.ask("/", Host="localhost:80").json()["links"][0]["href"]
                 self.assertTrue(link.startswith("http://localhost:80/"), link)
                 body = HEADER + feature("b") * 150_000

@@ -103,6 +103,7 @@ class Links(Served):
             there = {html.unescape(href) for href in re.findall(r'<a [^>]*href="([^"]*)"', page)}
             for link in told.get("links", []):
                 wanted = re.sub("f=geojson", "f=html", link["href"]) if link["rel"] == "next" else link["href"]
+                wanted = wanted.replace("limit=1000&", "limit=50&")  # a page has fewer
                 self.assertIn(wanted, there, path)
         page = html.unescape(self.server.ask("/collections?f=html").body.decode())
         for link in self.server.ask("/collections/town").json()["links"]:

@@ -7,10 +7,15 @@
     from aiohttp import web
     import cityseq.serve
     web.run_app(cityseq.serve.app("region.gpkg", url="https://example.org/"))
+
+`runner` makes it for many processes of gunicorn:
+
+    gunicorn --workers 4 --worker-class aiohttp.GunicornWebWorker \\
+      'cityseq.serve:runner("region.gpkg")'
 """
 from __future__ import annotations
 
-from typing import TYPE_CHECKING, Any, Optional
+from typing import TYPE_CHECKING, Any, Awaitable, Callable, Optional
 
 from ..faults import RequestError
 
@@ -18,8 +23,9 @@ if TYPE_CHECKING:
     from aiohttp import web
 
     from ..words import Asked
+    from .settings import Settings
 
-__all__ = ["app"]
+__all__ = ["app", "runner"]
 NEEDS = (("aiohttp", "aiohttp"), ("jinja2", "Jinja2"))
 
 
@@ -59,15 +65,50 @@ def app(
         ReadFault: An index cannot be read.
         RequestError: An argument has a value that it may not have, or aiohttp is missing.
     """
+    settings = _settings(indexes, base, url, cors, jobs, limits)
+    from .application import Server, application
+
+    return application(Server(settings))
+
+
+def _settings(indexes: Any, base: Any = None, url: Any = None, cors: Any = None, jobs: Any = None,
+              limits: Any = None) -> "Settings":
     import os
 
     _require()
-    from .application import Server, application
     from .settings import Limits, Settings
 
-    paths = tuple(map(os.fsdecode, indexes))
-    settings = Settings(paths, base, url, (), cors, jobs, limits or Limits())
-    return application(Server(settings))
+    return Settings(tuple(map(os.fsdecode, indexes)), base, url, (), cors, jobs,
+                    limits or Limits())
+
+
+def runner(
+    *indexes: Any, quiet: bool = False, **options: Any
+) -> "Callable[[], Awaitable[web.AppRunner]]":
+    """Returns a function that makes the server of a process, as the worker of aiohttp for gunicorn
+    calls it. It logs requests to standard output.
+
+    Args:
+        *indexes: The paths of the indexes.
+        quiet: Whether no requests are logged.
+        **options: As those of `app`: `base`, `url`, `cors`, `jobs` and `limits`.
+
+    Raises:
+        ReadFault: An index cannot be read.
+        RequestError: An argument has a value that it may not have, or aiohttp is missing.
+    """
+    settings = _settings(indexes, **options)
+    from .catalogue import Catalogue
+
+    Catalogue(settings).close()  # a process opens the indexes for itself
+
+    async def make() -> "web.AppRunner":
+        from .application import Server
+        from .process import runner_of
+
+        return runner_of(Server(settings), quiet)
+
+    return make
 
 
 def run(wanted: "Asked") -> int:

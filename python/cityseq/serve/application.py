@@ -5,22 +5,23 @@ import asyncio
 import re
 import socket
 import struct
-from typing import Any, Awaitable, Callable, Dict, Optional, Set, Tuple
+from contextlib import contextmanager, suppress
+from typing import Any, Awaitable, Callable, Dict, Iterator, Optional, Tuple
+from urllib.parse import urlsplit
 
 from aiohttp import web
 
 from ..console import say
 from ..faults import CityseqError
 from . import bodies, items, openapi, resources
-from .answers import dumped
+from .answers import dumped, send
+from .bounds import Pace, Places
 from .calls import Calls
 from .catalogue import Catalogue
-from .connection import Connection
-from .formats import HTML, OPENAPI, Format, choose
+from .formats import HTML, OPENAPI, PROBLEM, Format, choose
 from .html import Pages
 from .links import Links, base_of, host_of, is_known
-from .patience import Patience
-from .problems import Problem, logged, problem_of
+from .problems import Problem, forget, logged, problem_of
 from .queries import Query, unescaped
 from .settings import Settings
 
@@ -37,8 +38,8 @@ HEADERS = {
     "Server": "cityseq",
 }
 LOOK = 1.0  # seconds between two looks whether an index was built again
-MOST_HOSTS = 100  # host names that are remembered
 MOST_HEADERS = 128  # of a request
+HUNG_UP = 499  # the status in the log where a client hangs up before the answer has begun
 VERSIONS = ((1, 0), (1, 1))
 TOKEN = re.compile(r"[!#$%&'*+.^_`|~0-9A-Za-z-]+\Z")
 ALLOWED = {
@@ -60,9 +61,14 @@ class Server:
         self.settings, self.limits = settings, settings.limits
         self.catalogue = Catalogue(settings)
         self.calls, self.pages = Calls(settings.jobs), Pages()
-        self._open = 0  # requests without an answer
+        self._requests = Places(self.limits.requests, "requests")
+        self._bodies = Places(self.limits.bodies, "bodies")
         self._looked = 0.0  # when it last looked for changed indexes
-        self._hosts: Set[str] = set()  # those that were found to be this server
+
+    @property
+    def busy(self) -> int:
+        """How many requests have no whole answer yet."""
+        return self._requests.taken + self._bodies.taken
 
     async def close(self, _: web.Application) -> None:
         """Ends the threads, and closes the indexes."""
@@ -75,17 +81,25 @@ class Server:
     async def guard(self, request: web.Request, handler: Handler) -> web.StreamResponse:
         """Answers a request within the limits. A fault becomes a problem. Once the answer has
         begun, a fault ends the connection."""
-        patience = request["patience"] = Patience(self.limits, request.transport)
-        self._open += 1
-        try:
-            self._check(request)
-            await self._look()
-            return await (self.preflight if request.method == "OPTIONS" else handler)(request)
-        except BaseException as fault:
-            return self._failed(request, fault, patience)
-        finally:
-            self._open -= 1
-            patience.close()
+        request["reading"], request["writing"] = Pace(self.limits), Pace(self.limits)
+        places = self._bodies if request.method == "POST" else self._requests
+        with _by_itself(request):
+            try:
+                self._check(request)
+                with places.one():
+                    await self._look()
+                    answer = self.preflight if request.method == "OPTIONS" else handler
+                    return await send(request, self.calls, await answer(request))
+            except BaseException as fault:
+                response = self._failed(request, fault)
+                forget(fault)
+            if request.pop("begun", None) is None:
+                try:
+                    return await send(request, self.calls, response)
+                except (ConnectionError, Problem) as fault:
+                    forget(fault)
+            _break_off(request)
+            return response
 
     def _check(self, request: web.Request) -> None:
         """Refuses requests that no resource answers.
@@ -102,52 +116,47 @@ class Server:
         if request.headers.get("Expect", bodies.GO_ON).strip().lower() != bodies.GO_ON:
             raise Problem(417, "a request may expect 100-continue, and nothing else")
         host = host_of(request)
-        if host not in self._hosts and not self._is_known(host):
+        if not is_known(host, self.settings):
             raise Problem(421, f"this server is not {host}: its names are set by --url")
         origin = request.headers.get("Origin")
         if request.method == "POST" and origin is not None and not self._is_own(request, origin):
             raise Problem(403, f"pages of {origin} may not send bodies to this server")
-        if self._open > self.limits.requests:
-            raise Problem(503, f"the server answers {self.limits.requests} requests already",
-                          {"Retry-After": "1"})
-
-    def _is_known(self, host: str) -> bool:
-        if not is_known(host, self.settings):
-            return False
-        if len(self._hosts) < MOST_HOSTS:
-            self._hosts.add(host)
-        return True
 
     def _is_own(self, request: web.Request, origin: str) -> bool:
         scheme, _, rest = base_of(request, self.settings).partition("://")
         own = f"{scheme}://{rest.partition('/')[0]}"
         return self.settings.cors in ("*", origin) or origin == own
 
-    def _failed(self, request: web.Request, fault: BaseException, patience: Patience
-                ) -> web.StreamResponse:
-        """Returns the answer to a request that failed. Breaks off an answer that has begun."""
+    def _failed(self, request: web.Request, fault: BaseException) -> web.StreamResponse:
+        """Returns the answer to a request that failed, or the one that has begun."""
         if isinstance(fault, web.HTTPException):
             fault = _problem_of_route(fault)
         elif isinstance(fault, web.RequestPayloadError):
             fault = Problem(400, "the body of the request cannot be read")
-        elif patience.problem is not None:
-            fault = patience.problem
-        elif not isinstance(fault, (Exception, MemoryError)):
+        elif not isinstance(fault, Exception):
             raise fault
         told = None if isinstance(fault, ConnectionError) else logged(fault)
         if told is not None:
             say(told)
         begun: Optional[web.StreamResponse] = request.get("begun")
         if begun is not None:
-            _break_off(request)
             return begun
-        problem = problem_of(fault)
-        if problem.status == 505 and isinstance(request.protocol, Connection):
-            request.protocol.tell(problem)  # as HTTP/1.1
-        response = problem.response()
+        if isinstance(fault, ConnectionError):
+            return web.Response(status=HUNG_UP)
+        response = self._told(problem_of(fault), request)
         if not request.content.at_eof():
             response.force_close()
         return response
+
+    def _told(self, problem: Problem, request: web.Request) -> web.Response:
+        """Returns a problem as the client accepts it: as a page for a browser, or as JSON."""
+        with suppress(Problem):
+            if choose((PROBLEM, HTML), None, _accept(request)) == HTML:
+                # the host that was asked for may be unknown, so links have none
+                links = Links(urlsplit(self.settings.url or "").path.rstrip("/"))
+                page = self.pages.render("problem.html", told=problem.told(), links=links)
+                return problem.response(page)
+        return problem.response()
 
     async def prepare(self, request: web.BaseRequest, response: web.StreamResponse) -> None:
         """Adds the headers that each answer has."""
@@ -158,7 +167,7 @@ class Server:
             response.headers["Cross-Origin-Resource-Policy"] = "cross-origin"
             response.headers["Access-Control-Expose-Headers"] = "Content-Crs, Link"
             response.headers.add("Vary", "Origin")
-        response.headers.add("Vary", "Accept")
+        response.headers.add("Vary", "Accept, Accept-Encoding")
 
     async def _look(self) -> None:
         """Opens an index that was built again. If it cannot be read, keeps the one before."""
@@ -279,6 +288,23 @@ class Server:
         if self.settings.cors is None:
             raise Problem(405, "there is nothing to ask", {"Allow": "GET, HEAD, POST"})
         return web.Response(status=204, headers=ALLOWED)
+
+
+@contextmanager
+def _by_itself(request: web.Request) -> Iterator[None]:
+    """Leaves later requests of the connection in the system while one is answered. Bodies do the
+    same at their end. A write waits until the system has all bytes."""
+    transport = request.transport
+    if transport is None:
+        yield
+        return
+    transport.set_write_buffer_limits(0)
+    if request.content.at_eof():
+        transport.pause_reading()
+    try:
+        yield
+    finally:
+        transport.resume_reading()
 
 
 def _break_off(request: web.Request) -> None:

@@ -19,18 +19,16 @@ from ..places import SMALL
 from ..query import asked
 from ..running import Result, Task
 from ..words import Asked
-from .answers import write
+from .answers import begin, write
+from .bounds import Pace
 from .calls import Calls
 from .judging import Fed, Unpacking, too_long
-from .logs import SENT
-from .patience import Patience
-from .problems import Problem
+from .problems import Problem, forget
 from .queries import Query
 from .settings import MOST_REPORTS, REPORTS, Limits
 
 LINES = "application/x-ndjson"
 SEQUENCE = "application/city+json-seq"
-TRAILER = "Cityseq-Result"
 GO_ON = "100-continue"
 JUDGED_BY = ("line_limit", "depth", "keep_going", "tree", "max_reports")
 CHECK = (*JUDGED_BY, "summary")
@@ -106,15 +104,20 @@ class Body:
     """The body of a request."""
 
     def __init__(self, request: web.Request, limits: Limits) -> None:
-        self._content, self._limits = request.content, limits
-        self._patience: Patience = request["patience"]
-        self.size = 0  # bytes that have come
+        self._content, self._transport = request.content, request.transport
+        self._pace: Pace = request["reading"]
+        self._most = limits.body
+
+    @property
+    def size(self) -> int:
+        """The bytes that have come."""
+        return self._pace.size
 
     async def pieces(self) -> List[bytes]:
         """Returns the next bytes, enough for a thread, and none at the end.
 
         Raises:
-            Problem: There are too many.
+            Problem: There are too many, or they come too slowly.
         """
         found: List[bytes] = []
         size = 0
@@ -122,14 +125,15 @@ class Body:
             piece = self._content.read_nowait()
             if not piece:
                 if self._content.at_eof():
+                    if self._transport is not None:
+                        self._transport.pause_reading()  # a later request waits in the system
                     break
-                with self._patience.waiting():
-                    piece = await self._content.readany()
+                piece = await self._pace.wait(self._content.readany())
             found.append(piece)
             size += len(piece)
-            self.size += len(piece)
-            if self.size > self._limits.body:
-                raise too_long(self._limits.body)
+            self._pace.size += len(piece)
+            if self._pace.size > self._most:
+                raise too_long(self._most)
         return [piece for piece in found if piece]
 
 
@@ -196,7 +200,7 @@ class Judgement:
 
     async def __aexit__(self, *_: Any) -> None:
         """Cancels the reads and calls that have not ended."""
-        self._calls.bodies -= 1
+        self._calls.end_body()
         ending: "List[asyncio.Future[Any]]" = [*self._judged]
         if self._next is not None:
             ending.append(self._next)
@@ -206,7 +210,8 @@ class Judgement:
             await asyncio.wait(ending)
             for each in ending:
                 if not each.cancelled():
-                    each.exception()  # no task waits for it
+                    forget(each.exception())  # no task waits for it
+        self._fed.drop()
 
     def told(self) -> Tuple[List[Dict[str, Any]], Dict[str, Any]]:
         """Returns the objects of the reports, and the object of the result."""
@@ -237,31 +242,9 @@ async def check(request: web.Request, calls: Calls, limits: Limits) -> web.Strea
     return web.Response(body=body, content_type=LINES)
 
 
-class Trailed(web.StreamResponse):
-    """An answer in chunks, with a trailer after the last. aiohttp writes no trailers, so this class
-    makes the chunks."""
-
-    _length_check = False
-
-    def __init__(self, media_type: str) -> None:
-        super().__init__(headers={
-            "Content-Type": media_type, "Transfer-Encoding": "chunked", "Trailer": TRAILER,
-        })
-
-    async def put(self, text: Text, patience: Patience) -> None:
-        """Writes some bytes as a chunk."""
-        if len(text):
-            begin = b"%x\r\n" % len(text)
-            await write(self, begin + bytes(text) + b"\r\n", patience)
-            self[SENT] -= len(begin) + 2
-
-    async def finish(self, trailer: str) -> None:
-        """Writes the end, with the trailer."""
-        await self.write_eof(f"0\r\n{TRAILER}: {trailer}\r\n\r\n".encode("ascii"))
-
-
 async def filter(request: web.Request, calls: Calls, limits: Limits) -> web.StreamResponse:
-    """Answers `POST /filter`: the header and the kept lines, and then the verdict."""
+    """Answers `POST /filter`: the header and the kept lines, and with `verdict=last` a line for
+    each report and one for the result."""
     query = Query(request.raw_path.partition("?")[2], FILTER)
     if query.text("verdict") not in (None, "last"):
         raise Problem(400, "verdict is last, or is left out")
@@ -270,12 +253,14 @@ async def filter(request: web.Request, calls: Calls, limits: Limits) -> web.Stre
     is_last = "verdict" in query
     judgement = Judgement(request, calls, limits, asked_of("filter", query, limits), query)
     await _go_on(request)
-    response = Trailed(LINES if is_last else SEQUENCE)
+    response = web.StreamResponse(headers={"Content-Type": LINES if is_last else SEQUENCE})
     kept: List[Text] = []
+    end = b"\n"  # of what was sent
     async with judgement:
         while not judgement.is_over:
-            kept += await judgement.outputs()
+            kept += [text for text in await judgement.outputs() if len(text)]
             if judgement.has_header or is_last:
+                end = bytes(kept[-1][-1:]) if kept else end
                 await _send(request, response, kept)
                 kept = []
             if judgement.has_ended and "begun" in request and not is_last:
@@ -284,17 +269,15 @@ async def filter(request: web.Request, calls: Calls, limits: Limits) -> web.Stre
     if "begun" not in request and not is_last:
         return _refused(reports, result)
     if is_last:
-        await _send(request, response, [_lines([*reports, result])])
-    await response.finish(json.dumps(result))
+        await _send(request, response, [b"" if end == b"\n" else b"\n", _lines([*reports, result])])
     return response
 
 
-async def _send(request: web.Request, response: Trailed, kept: List[Text]) -> None:
+async def _send(request: web.Request, response: web.StreamResponse, kept: List[Text]) -> None:
     if "begun" not in request:
-        request["begun"] = response
-        await response.prepare(request)
+        await begin(request, response)
     for text in kept:
-        await response.put(text, request["patience"])
+        await write(request, response, text)
 
 
 def _refused(reports: List[Dict[str, Any]], result: Dict[str, Any]) -> web.Response:

@@ -3,13 +3,15 @@ from __future__ import annotations
 
 import asyncio
 from functools import partial
-from typing import Any, Callable, TypeVar
+from typing import Any, Callable, Optional, TypeVar
 
+from .._library import give_back
 from ..faults import MemoryFault
 from ..running import usual_jobs
 from ..threads import Crew
 
 T = TypeVar("T")
+PAUSE = 1.0  # seconds after a body until free memory is given back
 
 
 class Calls:
@@ -20,6 +22,7 @@ class Calls:
         self.jobs: int = usual_jobs() if jobs is None else jobs
         self.bodies = 0  # those that are judged now
         self._crew = Crew(self.jobs)
+        self._ending: Optional[asyncio.TimerHandle] = None
 
     def start(self) -> None:
         """Starts the first thread.
@@ -32,7 +35,19 @@ class Calls:
 
     def close(self) -> None:
         """Waits until all threads have ended."""
+        if self._ending is not None:
+            self._ending.cancel()
         self._crew.__exit__()
+
+    def end_body(self) -> None:
+        """Notes that a body has ended. Soon after that its memory is given back."""
+        self.bodies -= 1
+        if self._ending is None:
+            self._ending = asyncio.get_running_loop().call_later(PAUSE, self._give_back)
+
+    def _give_back(self) -> None:
+        self._ending = None
+        self._crew.submit(give_back)
 
     async def call(self, function: Callable[..., T], *given: Any) -> T:
         """Makes a call in a thread, and returns or raises what it does. A task that is cancelled

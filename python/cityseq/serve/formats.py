@@ -6,15 +6,25 @@ from typing import Iterator, Optional, Sequence, Tuple
 
 from .problems import Problem
 
+LONGEST = 100  # characters of the name of a file
+
 
 @dataclass(frozen=True)
 class Format:
-    """A format: its value of `f`, its media type, and other media types for it."""
+    """A format: its value of `f`, its media type, other media types for it, and the ending of the
+    names of its files."""
 
     name: str
     media_type: str
     title: str
     others: Tuple[str, ...] = ()
+    ending: str = ""
+
+    def disposition(self, name: str) -> str:
+        """Returns the header `Content-Disposition` of an answer. A browser shows JSON, and stores
+        CityJSON as a file."""
+        kind = "inline" if self.media_type.endswith("geo+json") else "attachment"
+        return f'{kind}; filename="{name[:LONGEST]}{self.ending}"'
 
     def fits(self, asked: str) -> int:
         """Returns how well it fits a media type that a client accepts. 0 is not at all."""
@@ -27,19 +37,20 @@ class Format:
 
 JSON = Format("json", "application/json", "JSON")
 HTML = Format("html", "text/html", "HTML", ("application/xhtml+xml",))
-GEOJSON = Format("geojson", "application/geo+json", "GeoJSON", ("application/json",
-                                                               "application/vnd.geo+json"))
-CITY_JSON = Format("city-json", "application/city+json", "CityJSON")
+GEOJSON = Format("geojson", "application/geo+json", "GeoJSON",
+                 ("application/json", "application/vnd.geo+json"), ".geojson")
+CITY_JSON = Format("city-json", "application/city+json", "CityJSON", (), ".city.json")
 CITY_JSON_SEQ = Format("city-json-seq", "application/city+json-seq", "CityJSONSeq",
-                       ("application/json-seq",))
+                       ("application/json-seq",), ".city.jsonl")
 OPENAPI = Format("openapi", "application/vnd.oai.openapi+json;version=3.0", "OpenAPI 3.0",
                  ("application/vnd.oai.openapi+json", "application/json"))
+PROBLEM = Format("problem", "application/problem+json", "a problem", ("application/json",))
 ALIASES = {"json": (GEOJSON, OPENAPI), "cityjson": (CITY_JSON,), "cityjsonseq": (CITY_JSON_SEQ,)}
 
 
-def _accepted(header: str) -> Iterator[Tuple[str, float]]:
-    """Yields the media types of a header `Accept`, and the quality of each. One that is no number
-    from 0 to 1 is 0."""
+def accepted(header: str) -> Iterator[Tuple[str, float]]:
+    """Yields the media types of a header `Accept`, or the codings of `Accept-Encoding`, and the
+    quality of each. One that is no number from 0 to 1 is 0."""
     for item in header.split(","):
         media_type, *parameters = (part.strip().lower() for part in item.split(";"))
         share = 1.0
@@ -72,7 +83,7 @@ def choose(formats: Sequence[Format], asked: Optional[str], accept: str) -> Form
         if found is None:
             raise Problem(400, f"f is one of {names}: {asked}")
         return found
-    wanted = list(_accepted(accept))
+    wanted = list(accepted(accept))
     if not wanted:
         return formats[0]
 

@@ -12,7 +12,7 @@ from ..world import plain
 from .answers import FeatureCollection, Sequence, dumped, geojson_feature, item_path, send_page
 from .boxes import Extent
 from .calls import Calls
-from .catalogue import Collection
+from .catalogue import Collection, name_of
 from .cityjson import whole
 from .formats import CITY_JSON, CITY_JSON_SEQ, GEOJSON, HTML, Format, choose
 from .links import Link, Links, header_of
@@ -28,8 +28,8 @@ SELECTS = ("bbox", "bbox-crs", "datetime", *LISTS)
 PARAMETERS = (*SELECTS, "crs", "limit", "after", "mark", "f")
 OF_ONE = ("f", "crs")
 ITEM = (GEOJSON, CITY_JSON, CITY_JSON_SEQ, HTML)
-USUAL_LIMIT = 10
-MOST_ON_A_PAGE = 1_000  # features as HTML
+USUAL_LIMIT = 1_000
+ON_A_PAGE, MOST_ON_A_PAGE = 50, 1_000  # features as HTML: usually, and at most
 A_BOX = "0,0,0,0"  # of a query that selects nothing
 STEP = Decimal("1e-9")  # a transformed box is rounded outward to a multiple of this
 
@@ -120,8 +120,10 @@ class Items:
         self.system = _system(query, collection, self.chosen)
         self.has_limit = "limit" in query or self.chosen != CITY_JSON_SEQ
         usual = USUAL_LIMIT if self.has_limit else limits.features
-        most = min(limits.features, MOST_ON_A_PAGE) if self.chosen == HTML else limits.features
-        self.limit = query.limit(most, usual)
+        self.most = limits.features
+        if self.chosen == HTML:
+            self.most, usual = min(self.most, MOST_ON_A_PAGE), ON_A_PAGE
+        self.limit = query.limit(self.most, usual)
         self.after = query.number("after", 0, 1 << 53, 0)
         query.check_time()
         self._selected = _selected(query, collection)
@@ -187,13 +189,14 @@ class Items:
                                " limit and follow the links to the next pages")
         following = None if page.next is None else self.following(links, page.next)
         own = [] if self.chosen == GEOJSON else self.own_links(links)
-        return head_of(self.chosen, self.system, own, following)
+        return head_of(self.chosen, self.collection.id, self.system, own, following)
 
 
-def head_of(form: Format, system: Optional[str], links: List[Link], following: Optional[Link] = None
-            ) -> Dict[str, str]:
-    """Returns the headers of an answer. They have the links that its body cannot have."""
-    head = {"Content-Type": form.media_type}
+def head_of(form: Format, name: str, system: Optional[str], links: List[Link],
+            following: Optional[Link] = None) -> Dict[str, str]:
+    """Returns the headers of an answer. They have the name of a file for it, and the links that its
+    body cannot have."""
+    head = {"Content-Type": form.media_type, "Content-Disposition": form.disposition(name)}
     if system is not None:
         head["Content-Crs"] = f"<{system}>"
     told = header_of(links, following)
@@ -264,7 +267,8 @@ def item_answer(collection: Collection, query: Query, chosen: Format, links: Lin
     header, block = found
     system, feature = _system(query, collection, chosen), next(block.features())
     own = links_of_one(collection, query, chosen, links, feature.id)
-    head = head_of(chosen, system, [] if chosen == GEOJSON else own)
+    name = name_of(feature.id.replace("/", "-"))
+    head = head_of(chosen, name, system, [] if chosen == GEOJSON else own)
     if chosen == CITY_JSON_SEQ:
         return web.Response(body=header + block.lines(), headers=head)
     if chosen == CITY_JSON:

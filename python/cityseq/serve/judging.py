@@ -5,7 +5,7 @@ from __future__ import annotations
 from collections import Counter
 from functools import partial
 from itertools import islice
-from typing import Any, Iterable, Iterator, List, Optional
+from typing import Any, Iterable, Iterator, List, Optional, Tuple
 
 from .._library import Text
 from ..hints import HEAD
@@ -18,6 +18,7 @@ from ..running import Result, Stream, Task
 from .problems import Problem
 
 UNPACKED = 1 << 19  # bytes that are unpacked at once
+FEW, MANY = 1 << 9, 1 << 18  # packed bytes that a member gets at first, and at most
 BODY = "-"  # the name of a body in reports
 
 
@@ -29,6 +30,7 @@ class Unpacking:
         self._is_packed, self._limit = is_packed, limit
         self._kind = Gzip()
         self._member: Any = None
+        self._size, self._has_ended = FEW, False  # of the next part; whether a member has ended
         self._begin = b""  # the first bytes, as long as they are too few to show it
         self._length = 0
 
@@ -53,19 +55,34 @@ class Unpacking:
             yield text
 
     def _members(self, packed: bytes) -> Iterator[bytes]:
-        while packed:
+        """Yields the text of some packed bytes. A member copies the bytes that follow its end, so
+        it gets few of them until it has proved to be long."""
+        at = 0
+        while at < len(packed):
+            part = packed[at : at + self._size]
             if self._member is None:
-                self._member = self._kind.member()
-            try:
-                text = self._kind.more(self._member, packed, UNPACKED)
-            except self._kind.faults as fault:
-                raise Problem(400, f"the body is no archive of gzip: {fault}") from None
-            if self._member.eof:
-                packed, self._member = self._member.unused_data.lstrip(b"\0"), None
-            else:
-                packed = self._member.unconsumed_tail
+                part = part.lstrip(b"\0") if self._has_ended else part
+                at = min(at + self._size, len(packed)) - len(part)
+                self._member = self._kind.member() if part else None
+            text, left = self._more(part)
+            at += len(part) - left
             if text:
                 yield text
+
+    def _more(self, part: bytes) -> Tuple[bytes, int]:
+        """Returns some text of a member, and how many of its packed bytes are left."""
+        if self._member is None:
+            return b"", 0
+        try:
+            text = self._kind.more(self._member, part, UNPACKED)
+        except self._kind.faults as fault:
+            raise Problem(400, f"the body is no archive of gzip: {fault}") from None
+        if not self._member.eof:
+            self._size = min(2 * self._size, MANY)
+            return text, len(self._member.unconsumed_tail)
+        left = len(self._member.unused_data)
+        self._member, self._size, self._has_ended = None, FEW, True
+        return text, left
 
     def end(self) -> bytes:
         """Returns the rest.
@@ -99,7 +116,16 @@ class Fed(Stream):
     ) -> None:
         """Takes the work, the unpacking, and how many reports are kept. `counts_codes` is whether
         the reasons of all other reports are counted too."""
-        super().__init__(BODY, work, tell=self._keep)
+        reports: List[Report] = []
+        codes: "Counter[int]" = Counter()
+
+        def keep(report: Report) -> None:  # no method: the stream would hold itself
+            codes[report.code] += 1
+            if len(reports) < most_reports:
+                reports.append(report)
+
+        super().__init__(BODY, work, tell=keep)
+        self.reports, self.codes = reports, codes
         self._unpacking, self._most_reports = unpacking, most_reports
         self._counts_codes = counts_codes
         self._rest = bytearray()
@@ -109,13 +135,6 @@ class Fed(Stream):
         self._coming: Iterator[Task] = iter(())
         self.has_more = False
         self._too_long: Optional[bytearray] = None  # the beginning of a line that has no end yet
-        self.reports: List[Report] = []
-        self.codes: "Counter[int]" = Counter()
-
-    def _keep(self, report: Report) -> None:
-        self.codes[report.code] += 1
-        if len(self.reports) < self._most_reports:
-            self.reports.append(report)
 
     @property
     def has_header(self) -> bool:
@@ -125,6 +144,10 @@ class Fed(Stream):
     def feed(self, pieces: Iterable[bytes]) -> None:
         """Takes some more of the body, after all parts of the pieces before were made."""
         self._coming, self.has_more = self._cut(pieces), True
+
+    def drop(self) -> None:
+        """Drops the bytes that have come and were not judged."""
+        self._coming, self._rest, self._too_long = iter(()), bytearray(), None
 
     def parts(self, most: int) -> List[Task]:
         """Returns calls that judge the next parts, at most `most` of them. Few packed bytes may

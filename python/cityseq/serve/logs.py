@@ -7,7 +7,9 @@ import time as clock
 from typing import Any, Optional
 
 from aiohttp.abc import AbstractAccessLogger
+from aiohttp.http_exceptions import HttpProcessingError
 
+from ..console import say
 from ..shown import shown
 
 LONGEST = 2_000  # characters of a part of a line that a client sent
@@ -22,15 +24,33 @@ class _Output(logging.StreamHandler):  # type: ignore[type-arg]
         """Leaves the line out."""
 
 
-def logger(is_quiet: bool) -> logging.Logger:
-    """Returns the logger of requests. It writes to standard output, or nothing if it is quiet."""
-    found = logging.getLogger("cityseq.serve")
+class _Faults(logging.Handler):
+    """Says what fails in aiohttp, in one line. A request that cannot be read is only logged."""
+
+    def emit(self, record: logging.LogRecord) -> None:
+        """Says a fault, unless the client caused it."""
+        fault = record.exc_info[1] if record.exc_info else None
+        if not isinstance(fault, (ConnectionError, HttpProcessingError)):
+            say(shown(f"{record.getMessage()}: {fault}"))
+
+
+def _logger(name: str, level: int, handler: Optional[logging.Handler]) -> logging.Logger:
+    found = logging.getLogger(f"cityseq.serve.{name}")
     found.propagate = False
-    found.handlers = []
-    if not is_quiet and sys.stdout is not None:
-        found.addHandler(_Output(sys.stdout))
-    found.setLevel(logging.INFO)
+    found.handlers = [logging.NullHandler() if handler is None else handler]
+    found.setLevel(level)
     return found
+
+
+def request_logger(is_quiet: bool) -> logging.Logger:
+    """Returns the logger of requests. It writes to standard output, or nothing if it is quiet."""
+    has_output = not is_quiet and sys.stdout is not None
+    return _logger("requests", logging.INFO, _Output(sys.stdout) if has_output else None)
+
+
+def fault_logger() -> logging.Logger:
+    """Returns the logger of what fails in aiohttp. It writes to standard error."""
+    return _logger("faults", logging.ERROR, _Faults())
 
 
 def _quoted(text: Any) -> str:
@@ -58,20 +78,9 @@ class Combined(AbstractAccessLogger):
 
     def log(self, request: Any, response: Any, time: float) -> None:
         """Logs a request that was answered."""
-        if self.logger.handlers:
-            self.write(request.remote, self.told(request, response))
-
-    def told(self, request: Any, response: Any) -> str:
-        """Returns the text of a line after the client and the time."""
-        if not self.logger.handlers:
-            return ""
         version, headers = request.version, request.headers
         line = f"{request.method} {request.raw_path} HTTP/{version[0]}.{version[1]}"
-        size = body_size(request, response)
-        return (f"{_quoted(line)} {response.status} {size} {_quoted(headers.get('Referer'))}"
-                f" {_quoted(headers.get('User-Agent'))}")
-
-    def write(self, client: Any, told: str) -> None:
-        """Writes a line."""
-        if self.logger.handlers:
-            self.logger.info("%s - - [%s] %s", shown(str(client or "-")), _when(clock.time()), told)
+        self.logger.info(
+            "%s - - [%s] %s %d %d %s %s", shown(str(request.remote or "-")), _when(clock.time()),
+            _quoted(line), response.status, body_size(request, response),
+            _quoted(headers.get("Referer")), _quoted(headers.get("User-Agent")))

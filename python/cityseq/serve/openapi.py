@@ -8,7 +8,7 @@ from .._library import USUAL_DEPTH, USUAL_LINE
 from .bodies import LINES, SEQUENCE
 from .catalogue import Catalogue
 from .formats import CITY_JSON_SEQ, HTML, OPENAPI, Format
-from .items import ITEM, USUAL_LIMIT
+from .items import ITEM, ON_A_PAGE, USUAL_LIMIT
 from .problems import MEDIA_TYPE
 from .resources import DESCRIPTION, ITEMS, PAGES, TITLE
 from .settings import MOST_REPORTS, REPORTS, Limits
@@ -46,8 +46,9 @@ def _parameters(limits: Limits) -> Object:
     """Returns the parameters of items."""
     return {
         "limit": _parameter(
-            "limit", "At most so many features. As CityJSONSeq all are answered if it is left out.",
-            _whole(1, limits.features, USUAL_LIMIT)),
+            "limit", "At most so many features. As CityJSONSeq all are answered if it is left out,"
+            f" and as HTML {ON_A_PAGE}.",
+            _whole(1, limits.features, min(USUAL_LIMIT, limits.features))),
         "bbox": _parameter(
             "bbox", "Features whose extent reaches into this box: minx,miny,maxx,maxy. The system"
             " is that of bbox-crs, with its axes in their order. It is CRS84 if that is left out."
@@ -157,7 +158,7 @@ def _judging_paths(limits: Limits) -> Object:
         _parameter("lod", "Keep features with a geometry of one of these LoDs.", TEXTS),
         _parameter("bbox", "Keep features that reach into this box, in world coordinates of the"
                    " stream.", NUMBERS),
-        _parameter("verdict", "If it is last, the result is the last line.",
+        _parameter("verdict", "If it is last, reports and result follow the last line.",
                    {"type": "string", "enum": ["last"]}),
     ]
     kept = {SEQUENCE: {"schema": STRING}, **lines}
@@ -170,8 +171,8 @@ def _judging_paths(limits: Limits) -> Object:
         "/filter": _post(
             "filter", "The features of a stream that a query selects",
             "The header and the kept lines, byte for byte. The answer begins before the body has"
-            " ended, so read while you send. The result is the trailer Cityseq-Result. An answer"
-            " without its last chunk is not whole: the stream is invalid.",
+            " ended, so read while you send. An answer without its last chunk is not whole: the"
+            " stream is invalid.",
             {**_responses("The features", kept, 408, 413, 415), **refused},
             [*_judging(limits), *query]),
     }

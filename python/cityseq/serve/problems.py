@@ -1,6 +1,7 @@
 """The answer to a request that is not done: a problem (RFC 9457)."""
 from __future__ import annotations
 
+import errno
 import json
 from http import HTTPStatus
 from typing import Any, Dict, Optional
@@ -20,6 +21,7 @@ from ..shown import shown
 
 MEDIA_TYPE = "application/problem+json"
 LONGEST = 1_000  # characters of a detail: it may contain what a client sent
+NO_DESCRIPTOR = (errno.EMFILE, errno.ENFILE)
 
 
 class Problem(Exception):
@@ -47,8 +49,11 @@ class Problem(Exception):
             "code": title.title().replace(" ", "").replace("-", ""),
         }
 
-    def response(self) -> web.Response:
-        """Returns the answer."""
+    def response(self, page: Optional[str] = None) -> web.Response:
+        """Returns the answer: a page if one is given, and JSON otherwise."""
+        if page is not None:
+            return web.Response(status=self.status, text=page, headers=self.headers,
+                                content_type="text/html")
         body = json.dumps(self.told()).encode("ascii") + b"\n"
         headers = {**self.headers, "Content-Type": MEDIA_TYPE}
         return web.Response(status=self.status, body=body, headers=headers)
@@ -62,6 +67,8 @@ def problem_of(fault: BaseException) -> Problem:
         return Problem(400, fault.words)
     if isinstance(fault, OutOfDate):
         return Problem(502, fault.words)
+    if isinstance(fault, ReadFault) and fault.errno in NO_DESCRIPTOR:
+        return Problem(503, "the server has no descriptor left", {"Retry-After": "1"})
     if isinstance(fault, ReadFault):
         return Problem(502, "the stream or its index cannot be read")
     if isinstance(fault, (MemoryFault, MemoryError)):
@@ -76,3 +83,9 @@ def logged(fault: BaseException) -> Optional[str]:
     if isinstance(fault, CityseqError):
         return shown(str(fault))
     return shown(f"{type(fault).__name__}: {why(fault)}")
+
+
+def forget(fault: Optional[BaseException]) -> None:
+    """Drops the frames of a fault. They hold the stream of a body, which holds the fault."""
+    while fault is not None:
+        fault.__traceback__, fault = None, fault.__context__

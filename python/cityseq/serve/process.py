@@ -4,29 +4,25 @@ from __future__ import annotations
 import asyncio
 import signal
 import socket
-from contextlib import suppress
-from dataclasses import replace
-from functools import partial
-from typing import Any, List
+from typing import Any, Dict, Sequence
 
 from aiohttp import web
 
-from .._library import keep_room, library
+from .._library import library
 from ..console import say
 from ..faults import ReadFault, why
-from ..running import usual_jobs
+from ..shown import shown
 from ..words import Asked
 from .application import Server, application
-from .catalogue import Catalogue
-from .connection import Connection, Crowd, require_hooks
-from .logs import Combined, logger
+from .logs import Combined, fault_logger, request_logger
 from .settings import LOOPBACK, Limits, Settings
-from .workers import Workers
 
-BACKLOG = 1_024
+SIGNALS = (signal.SIGTERM, signal.SIGINT, signal.SIGHUP)
+BACKLOG = 128  # connections that are accepted at once
 READ = 1 << 18  # bytes of a body that wait in a connection
+UNSENT = 1 << 17  # bytes of an answer that wait in the system, so that a slow client is seen
 LINGER = 2.0  # seconds in which it drops what a client still sends
-FOREVER = 365 * 86_400.0  # seconds. The crowd ends silent connections
+LAST = 0.1  # seconds for a connection to end when the server has ended
 LOOK = 0.05  # seconds between two looks at open answers
 FILES = 512  # descriptors in addition to those of connections
 
@@ -38,9 +34,10 @@ def settings_of(wanted: Asked) -> Settings:
         RequestError: A URL is not valid.
     """
     limits = Limits(
-        requests=wanted.max_requests, connections=_connections(), body=wanted.max_body,
-        seconds=wanted.max_seconds, idle=wanted.idle_seconds, stop=wanted.stop_seconds,
-        features=wanted.max_features, line_limit=wanted.line_limit, depth=wanted.depth,
+        requests=wanted.max_requests, bodies=wanted.max_bodies, connections=_connections(),
+        body=wanted.max_body, seconds=wanted.max_seconds, idle=wanted.idle_seconds,
+        rate=wanted.min_rate, stop=wanted.stop_seconds, features=wanted.max_features,
+        line_limit=wanted.line_limit, depth=wanted.depth,
     )
     names = () if wanted.host in LOOPBACK else (wanted.host,)
     return Settings(tuple(wanted.files), wanted.base, wanted.url, names, wanted.cors, wanted.jobs,
@@ -52,111 +49,132 @@ def _connections() -> int:
     import resource
 
     soft, hard = resource.getrlimit(resource.RLIMIT_NOFILE)
-    wanted = Limits().connections + FILES
-    if soft != resource.RLIM_INFINITY and soft < wanted:
-        most = wanted if hard == resource.RLIM_INFINITY else min(wanted, hard)
-        with suppress(OSError, ValueError):
-            resource.setrlimit(resource.RLIMIT_NOFILE, (most, hard))
-            soft = most
-    if soft == resource.RLIM_INFINITY:
-        return Limits().connections
-    return max(min(Limits().connections, soft - FILES), 8)
+    most = Limits().connections
+    if soft != resource.RLIM_INFINITY and soft < most + FILES:
+        soft = most + FILES if hard == resource.RLIM_INFINITY else min(most + FILES, hard)
+        resource.setrlimit(resource.RLIMIT_NOFILE, (soft, hard))
+    return most if soft == resource.RLIM_INFINITY else max(min(most, soft - FILES), 8)
 
 
-def listening(host: str, port: int) -> List[socket.socket]:
-    """Returns the sockets that listen at all addresses of a host.
-
-    Raises:
-        ReadFault: The system refuses that.
-    """
-    found: List[socket.socket] = []
-    try:
-        places = socket.getaddrinfo(host, port, type=socket.SOCK_STREAM, flags=socket.AI_PASSIVE)
-        for family, kind, protocol, _, place in dict.fromkeys(places):
-            listener = socket.socket(family, kind, protocol)
-            found.append(listener)
-            listener.setsockopt(socket.SOL_SOCKET, socket.SO_REUSEADDR, 1)
-            if family == socket.AF_INET6:
-                listener.setsockopt(socket.IPPROTO_IPV6, socket.IPV6_V6ONLY, 1)
-            listener.bind(place)
-            listener.listen(BACKLOG)
-            listener.setblocking(False)
-    except (OSError, UnicodeError) as fault:
-        for listener in found:
-            listener.close()
-        raise ReadFault(f"cannot listen at {host}, port {port}: {why(fault)}") from fault
-    return found
+def runner_of(server: Server, is_quiet: bool) -> web.AppRunner:
+    """Returns what carries the application of a server."""
+    return web.AppRunner(
+        application(server), logger=fault_logger(), access_log=request_logger(is_quiet),
+        access_log_class=Combined, auto_decompress=False, read_bufsize=READ,
+        lingering_time=LINGER, keepalive_timeout=server.limits.idle,
+    )
 
 
-def url_of(listener: socket.socket) -> str:
-    """Returns the URL of a socket that listens."""
-    host, port = listener.getsockname()[:2]
-    return f"http://[{host}]:{port}/" if ":" in host else f"http://{host}:{port}/"
+class Refused(asyncio.Protocol):
+    """A connection that is one too many."""
+
+    def connection_made(self, transport: Any) -> None:
+        """Ends it."""
+        transport.abort()
 
 
 class Process:
-    """A running server."""
+    """A running server.
+
+    Attributes:
+        server: What answers the requests.
+        sockets: Where it listens.
+    """
 
     def __init__(self, server: Server, is_quiet: bool) -> None:
-        self._server, self._limits, self._is_quiet = server, server.limits, is_quiet
+        self.server, self._limits = server, server.limits
+        self.sockets: Sequence[Any] = ()
+        self._runner = runner_of(server, is_quiet)
         self._stop = asyncio.Event()
         self._loop = asyncio.get_running_loop()
+        self._loop.set_exception_handler(_tell)
 
-    async def run(self, listeners: List[socket.socket]) -> None:
-        """Serves until a signal asks for the end."""
-        log = logger(self._is_quiet)
-        runner = web.AppRunner(application(self._server), access_log=log,
-                               access_log_class=Combined)
-        await runner.setup()
-        crowd = Crowd(self._limits)
-        made: Any = partial(
-            Connection, crowd, runner.server, loop=self._loop, access_log=log,
-            access_log_class=Combined, auto_decompress=False, read_bufsize=READ,
-            lingering_time=LINGER, keepalive_timeout=FOREVER,
-        )
-        servers = [await self._loop.create_server(made, sock=each, backlog=BACKLOG)
-                   for each in listeners]
-        for number in (signal.SIGTERM, signal.SIGINT, signal.SIGHUP):
-            self._loop.add_signal_handler(number, self._told_to_stop, number)
+    async def run(self, host: str, port: int) -> None:
+        """Serves until a signal asks for the end.
+
+        Raises:
+            ReadFault: The system refuses to listen there.
+        """
         try:
+            listening = await self.listen(host, port)
+            for number in SIGNALS:
+                self._loop.add_signal_handler(number, self._told_to_stop, number)
+            self._greet(host)
             await self._stop.wait()
-            for each in servers:
-                each.close()
-            await self._finish(crowd)
+            listening.close()
+            await self._finish()
         finally:
-            crowd.close()
-            await runner.cleanup()
+            await self.close()
+
+    async def listen(self, host: str, port: int) -> asyncio.AbstractServer:
+        """Accepts connections from now on.
+
+        Raises:
+            ReadFault: The system refuses that.
+        """
+        await self._runner.setup()
+        try:
+            found = await self._loop.create_server(self._connection, host, port, backlog=BACKLOG)
+        except (OSError, UnicodeError) as fault:
+            raise ReadFault(f"cannot listen at {host}, port {port}: {why(fault)}") from fault
+        self.sockets = found.sockets
+        for each in self.sockets:
+            each.setsockopt(socket.IPPROTO_TCP, socket.TCP_NOTSENT_LOWAT, UNSENT)
+        return found
+
+    async def close(self) -> None:
+        """Ends all connections and threads."""
+        if self._runner.server is not None:
+            await self._runner.server.shutdown(LAST)
+        await self._runner.cleanup()
+
+    def _connection(self) -> asyncio.Protocol:
+        server: Any = self._runner.server
+        if len(server.connections) >= self._limits.connections:
+            return Refused()
+        connection: asyncio.Protocol = server()
+        return connection
+
+    def _greet(self, host: str) -> None:
+        """Writes where the server is."""
+        count = sum(1 for _ in self.server.catalogue)
+        what = f"{count} collection{'' if count == 1 else 's'}"
+        for each in self.sockets:
+            say(f"{url_of(each)} serves {what}, and checks files; Ctrl-C stops it")
+        if host not in LOOPBACK:
+            say("anybody who reaches this address may read the collections and have files checked:"
+                " there is no password, and no encryption")
 
     def _told_to_stop(self, number: int) -> None:
         if not self._stop.is_set():
             say(f"stopped by {signal.Signals(number).name}")
         self._stop.set()
 
-    async def _finish(self, crowd: Crowd) -> None:
+    async def _finish(self) -> None:
         """Waits for the open answers, up to the limit."""
         end = self._loop.time() + self._limits.stop
-        crowd.drop_silent()
-        while crowd.busy and self._loop.time() < end:
+        while self.server.busy and self._loop.time() < end:
             await asyncio.sleep(LOOK)
-            crowd.drop_silent()
-        if crowd.busy:
-            say(f"{crowd.busy} answers are broken off after {self._limits.stop:g} seconds")
+        if self.server.busy:
+            say(f"{self.server.busy} answers are broken off after {self._limits.stop:g} seconds")
 
 
-def _greet(listeners: List[socket.socket], collections: int, host: str) -> None:
-    """Writes where the server is."""
-    what = f"{collections} collection{'' if collections == 1 else 's'}"
-    for listener in listeners:
-        say(f"{url_of(listener)} serves {what}, and checks files; Ctrl-C stops it")
-    if host not in LOOPBACK:
-        say("anybody who reaches this address may read the collections and have files checked:"
-            " there is no password, and no encryption")
+def url_of(listener: Any) -> str:
+    """Returns the URL of a socket that listens."""
+    host, port = listener.getsockname()[:2]
+    return f"http://[{host}]:{port}/" if ":" in host else f"http://{host}:{port}/"
 
 
-async def _serve(settings: Settings, listeners: List[socket.socket], is_quiet: bool) -> None:
+def _tell(_: asyncio.AbstractEventLoop, context: Dict[str, Any]) -> None:
+    """Says what fails in the event loop, in one line."""
+    if not isinstance(context.get("exception"), ConnectionError):
+        say(shown(f"{context['message']}: {context.get('exception')}"))
+
+
+async def _serve(wanted: Asked, settings: Settings) -> None:
     server = Server(settings)
     server.calls.start()
-    await Process(server, is_quiet).run(listeners)
+    await Process(server, wanted.quiet).run(wanted.host, wanted.port)
 
 
 def run(wanted: Asked) -> int:
@@ -165,28 +183,7 @@ def run(wanted: Asked) -> int:
     Raises:
         CityseqError: An index cannot be read, or the system refuses to listen there.
     """
-    require_hooks()
-    settings, processes = settings_of(wanted), wanted.processes
-    if processes > 1 and settings.jobs is None:
-        settings = replace(settings, jobs=max(usual_jobs() // processes, 1))
+    settings = settings_of(wanted)
     library()
-    keep_room()
-    collections = _count(settings)
-    listeners = listening(wanted.host, wanted.port)
-    _greet(listeners, collections, wanted.host)
-
-    def serve() -> None:
-        asyncio.run(_serve(settings, listeners, wanted.quiet))
-
-    if processes > 1:
-        Workers(processes, serve, settings.limits.stop).run()
-    else:
-        serve()
+    asyncio.run(_serve(wanted, settings))
     return 0
-
-
-def _count(settings: Settings) -> int:
-    """Returns how many collections there are."""
-    catalogue = Catalogue(settings)
-    catalogue.close()
-    return sum(1 for _ in catalogue)

@@ -52,6 +52,8 @@ class Query:
             if name in self._raw:
                 raise Problem(400, f"the parameter {name} is given twice")
             self._raw[name] = value
+        if self._raw.get("f") == "html" and not self._raw.get("bbox", " "):
+            del self._raw["bbox"]  # the field of the form is empty
 
     def __contains__(self, name: str) -> bool:
         return name in self._raw

@@ -5,6 +5,7 @@ from typing import Any, Dict, List, Optional
 
 from .boxes import Extent
 from .catalogue import Catalogue, Collection
+from .digits import edges
 from .formats import CITY_JSON_SEQ, GEOJSON, HTML, JSON, OPENAPI, Format
 from .links import Links, segment
 from .systems import CRS84
@@ -63,7 +64,8 @@ def _shown_extent(collection: Collection) -> Optional[Object]:
     if extent is None or not collection.system.can_change:
         return None
     degrees = collection.system.told(extent, CRS84)
-    return None if degrees is None else {"spatial": {"bbox": [list(degrees)], "crs": CRS84}}
+    return None if degrees is None else {
+        "spatial": {"bbox": [edges(degrees, True)], "crs": CRS84}}
 
 
 def _described(collection: Collection) -> str:
@@ -104,7 +106,7 @@ def collection(links: Links, shown: Collection, chosen: Optional[Format] = None)
 
 def _storage_extent(shown: Collection) -> Optional[List[float]]:
     extent: Optional[Extent] = shown.extent
-    return None if extent is None else list(extent)
+    return None if extent is None else edges(extent, False)
 
 
 def collections(links: Links, catalogue: Catalogue, chosen: Format) -> Object:

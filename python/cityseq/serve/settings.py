@@ -7,7 +7,7 @@ from urllib.parse import urlsplit
 
 from .._library import USUAL_DEPTH, USUAL_LINE
 from ..faults import RequestError
-from ..words import BODY, FEATURES, IDLE, REQUESTS, SECONDS, STOP
+from ..words import BODIES, BODY, FEATURES, IDLE, RATE, REQUESTS, SECONDS, STOP
 
 CONNECTIONS = 1_000
 REPORTS, MOST_REPORTS = 1_000, 10_000  # in an answer: the default, and the most
@@ -19,12 +19,13 @@ class Limits:
     """The limits of a server.
 
     Attributes:
-        requests: Requests that it answers at once.
-        connections: Connections that are open. With one more it closes the one that is idle for
-            the longest time.
+        requests: Requests without a body that it answers at once.
+        bodies: Bodies that it takes at once.
+        connections: Connections that are open. One more is closed at once.
         body: Bytes of a body, as it comes and after it is unpacked.
         seconds: Seconds for a request in all.
-        idle: Seconds that it waits for the next byte of a client.
+        idle: Seconds that it waits for a client that sends and takes nothing.
+        rate: Bytes that a client must send or take in a second in which the server waits for it.
         stop: Seconds that open answers have to end when it stops.
         features: Features in an answer.
         line_limit: Bytes of a line that a request may ask for.
@@ -32,10 +33,12 @@ class Limits:
     """
 
     requests: int = REQUESTS
+    bodies: int = BODIES
     connections: int = CONNECTIONS
     body: int = BODY
     seconds: float = SECONDS
     idle: float = IDLE
+    rate: float = RATE
     stop: float = STOP
     features: int = FEATURES
     line_limit: int = USUAL_LINE
