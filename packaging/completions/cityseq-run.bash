@@ -26,7 +26,7 @@ _cityseq_run() {
       mapfile -t COMPREPLY < <(compgen -d -- "$current")
       return
       ;;
-    --files-from | --record | --ids-from | --index | --output | --show)
+    --files-from | --record | --ids-from | --index | --output | --show | --refresh)
       mapfile -t COMPREPLY < <(compgen -f -- "$current")
       return
       ;;
@@ -56,8 +56,8 @@ _cityseq_run() {
       ;;
     index)
       options='
-        --line-limit --depth --keep-going --tree --output --show --files-from --jobs --part-size
-        --json --max-reports --summary --progress --quiet -h --help'
+        --line-limit --depth --keep-going --tree --output --show --refresh --files-from --jobs
+        --part-size --json --max-reports --summary --progress --quiet -h --help'
       files=yes
       ;;
     report)

@@ -90,6 +90,7 @@ complete -c cityseq-run -n '__fish_seen_subcommand_from index' -l keep-going -d 
 complete -c cityseq-run -n '__fish_seen_subcommand_from index' -l tree -d 'Refuse a feature of which a city object is not reached from the main one'
 complete -c cityseq-run -n '__fish_seen_subcommand_from index' -l output -r -F -d 'Write the index to this file once all streams were read'
 complete -c cityseq-run -n '__fish_seen_subcommand_from index' -l show -r -F -d 'Say what an index covers'
+complete -c cityseq-run -n '__fish_seen_subcommand_from index' -l refresh -r -F -d 'Write the new times of streams into an index'
 complete -c cityseq-run -n '__fish_seen_subcommand_from index' -l files-from -r -F -d 'Read the names of files from this file'
 complete -c cityseq-run -n '__fish_seen_subcommand_from index' -l jobs -x -d 'Judge so many parts at once'
 complete -c cityseq-run -n '__fish_seen_subcommand_from index' -l part-size -x -d 'Judge parts of so many bytes'

@@ -120,7 +120,10 @@ class Index:
             for row in rows:
                 number, text, exact, *others = checked("streams", STREAMS, row, self.path)
                 told = text if exact is None else os.fsdecode(exact)
-                yield IndexedStream(number, os.path.join(folder, told), told, *others)
+                path = os.path.join(folder, told)
+                if told.startswith(f"{os.pardir}{os.sep}"):
+                    path = os.path.normpath(path)  # no part of the folder is a link
+                yield IndexedStream(number, path, told, *others)
 
     def _check_streams(self) -> None:
         """Checks that the index has streams, that their features follow one another, and that no
@@ -358,10 +361,11 @@ class Index:
                 " GROUP BY id, id_exact HAVING count(*) > 1"
             )
             for text, exact in found:
-                places = self._base.execute(
-                    f"SELECT stream, line FROM {SAME_ID} ORDER BY fid", values_of_id(text, exact)
-                ).fetchall()
                 try:
+                    places = self._base.execute(
+                        f"SELECT stream, line FROM {SAME_ID} ORDER BY fid",
+                        values_of_id(text, exact),
+                    ).fetchall()
                     told = tuple((paths[number], int(line)) for number, line in places)
                     yield RepeatedId(id_of(text, exact), told)
                 except (AttributeError, KeyError, TypeError, ValueError):

@@ -474,6 +474,17 @@ class Refreshed(InFolder):
         self.assertEqual((output, status), (b"", 3))
         self.assertIn("No such file", said)
 
+    def test_an_index_that_another_program_changed(self):
+        with closing(sqlite3.connect(self.index)) as base:
+            base.execute("DELETE FROM feature_ids WHERE key & 4294967295 = 1")
+            base.commit()
+        self.copied(self.paths[0], self.texts[0])
+        before = self.index.read_bytes()
+        output, said, status = command("index", "--refresh", str(self.index))
+        self.assertEqual((output, status), (b"", 3))
+        self.assertIn("the index was changed", said)
+        self.assertEqual(self.index.read_bytes(), before)
+
     def test_the_hash(self):
         """The BLAKE2b of the CRC-32s of all blocks."""
         path = self.file(HEADER + b"\n" * 300_000 + feature("c"), "c.jsonl")

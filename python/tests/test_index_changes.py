@@ -274,7 +274,7 @@ class Indexes(InFolder):
             "DELETE FROM features",
             f"INSERT INTO features {copy} types, lods, zmin, zmax FROM features LIMIT 1",
             "INSERT INTO streams SELECT 9, path, path_exact, packing, size, mtime_ns,"
-            " header_length, header_sha256, scale, translate, reference_system, lines, 0,"
+            " content, header_length, header_sha256, scale, translate, reference_system, lines, 0,"
             " refused, 124, xmin, xmax, ymin, ymax, zmin, zmax FROM streams LIMIT 1",
             "UPDATE streams SET reference_system = NULL",
             "UPDATE features SET stream = 2 WHERE fid = 2",

@@ -155,7 +155,7 @@ class Replaced(InFolder):
         for each in builders:
             entry = each.begin(1, HEADER)
             result = cityseq.check(self.path)
-            each.end(entry, str(self.path), (1, 1), None, result)
+            each.end(entry, builder.File(str(self.path), None, (1, 1), "0" * 32), result)
             each.finish(asked("check"), "0")
             each.discard()
             with cityseq.Index(self.index) as index:
@@ -322,7 +322,8 @@ class Hostile(InFolder):
                 with self.assertRaises(cityseq.OutOfDate):
                     with cityseq.Index(self.index) as index:
                         index.filter(io.BytesIO())
-        self.made("UPDATE features SET id = x'00ff', line = 'x'")
+        self.made("UPDATE features SET id = x'00ff', line = 'x'",
+                  "UPDATE feature_ids SET key = key & 4294967295")
         with self.assertRaises(cityseq.OutOfDate):
             with cityseq.Index(self.index) as index:
                 index.show()

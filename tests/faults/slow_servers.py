@@ -5,8 +5,8 @@
 
 Each server sends some bytes a second, so that no single read takes long: of the head, of the body,
 of redirections, or `100 Continue` without end, at once or one a second. Each cut must end within
-the time that SECURITY.md names, with status 3 and one line. The last server is slow, but faster than
-the least rate, and its cut must be right. It listens on loopback only. The last line is 'N passed,
+the time that SECURITY.md names, with status 3 and one line. The last server is slow, but faster
+than the least rate, and its cut must be right. It listens on loopback only. The last line is 'N passed,
 M failed', and the status is 1 where one failed.
 """
 import os
@@ -81,8 +81,8 @@ class Server(ThreadingHTTPServer):
 
 def feature(number):
     name = f"b{number}"
-    return (f'{{"type":"CityJSONFeature","id":"{name}","CityObjects":{{"{name}":{{"type":"Road"}}}},'
-            f'"vertices":[]}}\n').encode()
+    return (f'{{"type":"CityJSONFeature","id":"{name}","CityObjects":{{"{name}":'
+            f'{{"type":"Road"}}}},"vertices":[]}}\n').encode()
 
 
 def run(*words):
