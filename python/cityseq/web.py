@@ -101,7 +101,10 @@ class WebPlace:
                     raise
                 if isinstance(fault.__context__, http.client.IncompleteRead):
                     raise self._fault("the connection broke") from fault
-                raise read_fault(cause_of(fault), self._told) from fault
+                cause = cause_of(fault)
+                if not isinstance(cause, (OSError, ValueError)):
+                    raise self._fault("the server answers with what is not HTTP") from fault
+                raise read_fault(cause, self._told) from fault
 
     @property
     def _told(self) -> str:

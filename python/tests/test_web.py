@@ -64,6 +64,9 @@ class Handler(BaseHTTPRequestHandler):
             self._drip(b"H")
         if mode == "continues":
             self._drip(b"HTTP/1.1 100 Continue\r\n\r\n")
+        if mode == "no HTTP":
+            self.close_connection = True
+            return self.wfile.write(b"SSH-2.0-x\r\n")
         if mode == "elsewhere":
             return self._send(302, {"Location": server.elsewhere + self.path})
         if mode == "asks who":
@@ -198,6 +201,7 @@ class Web(Served):
         self.refused("changes", "the stream changed while it was read")
         self.refused("another range", "the server answers with another range")
         self.refused("packs", "the server answers with another range")
+        self.refused("no HTTP", "read fault: the server answers with what is not HTTP")
         self.refused("around", "the server leads elsewhere more than 5 times")
         self.refused("away", "the server leads to what is no URL of http")
         self.refused(None, "404", base="/no/folder")

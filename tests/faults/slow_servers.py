@@ -39,9 +39,10 @@ class Handler(BaseHTTPRequestHandler):
 
     def drip(self, piece, pause):
         self.close_connection = True
+        if hasattr(self, "_headers_buffer"):  # a head has begun
+            self.flush_headers()
         while True:
             self.wfile.write(piece)
-            self.wfile.flush()
             time.sleep(pause)
 
     def do_GET(self):
