@@ -168,7 +168,7 @@ class Safety(Served):
     def test_processes_of_gunicorn(self):
         """Two processes answer, and one that ends is replaced. A body is unpacked within its limit."""
         port = free_port()
-        words = [GUNICORN, "--bind", f"127.0.0.1:{port}", "--workers", "2", "--worker-class", "aiohttp.GunicornWebWorker",
+        words = [GUNICORN, "--bind", f"127.0.0.1:{port}", "--workers", "2", "--graceful-timeout", "2", "--worker-class", "aiohttp.GunicornWebWorker",
                  f"cityseq.serve:runner({str(self.folder / 'all.gpkg')!r}, jobs=1)"]
         many = Client()
         many.host, many.port = "127.0.0.1", port
@@ -187,7 +187,7 @@ class Safety(Served):
                     self.assertTrue(soon(lambda: accepts(many)))
             finally:
                 process.terminate()
-                log, _ = process.communicate(timeout=30)
+                log, _ = process.communicate(timeout=60)
             self.assertEqual(process.returncode, 0)
             self.assertRegex(log.decode(), r'"GET /collections/town/items HTTP/1\.1" 200 ')
 
