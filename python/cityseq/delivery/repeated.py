@@ -78,10 +78,14 @@ class Ids:
             WriteFault: The temporary folder is full.
         """
         digests = np.frombuffer(_digests(ids), "u8").reshape(-1, 2)
-        texts = [id[:LONGEST] for id in ids]
+        lengths = np.fromiter(map(len, ids), "u4", len(ids))
+        if lengths.max(initial=0) > LONGEST:
+            texts, lengths = [id[:LONGEST] for id in ids], np.minimum(lengths, LONGEST)
+        else:
+            texts = ids
         records = np.empty(len(ids), RECORD)
         records["high"], records["low"] = digests[:, 0], digests[:, 1]
-        records["length"] = np.fromiter(map(len, texts), "u4", len(ids))
+        records["length"] = lengths
         ends = np.cumsum(records["length"], dtype="u8") + np.uint64(self._at)
         records["at"] = ends - records["length"]
         records["line"], records["file"] = lines, file

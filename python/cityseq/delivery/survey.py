@@ -233,11 +233,9 @@ class Survey:
         before = np.repeat(
             np.array([lines for _, lines in waiting], "u8"), [len(each.ids) for each, _ in waiting]
         )
-        lines, ids = found["line"] + before, [
-            spelling if b"\\" not in spelling
-            else unescaped(spelling).encode("utf-8", "surrogatepass")
-            for records, _ in waiting for spelling in records.ids
-        ]
+        lines, ids = found["line"] + before, [id for records, _ in waiting for id in records.ids]
+        if b"\\" in b"".join(ids):
+            ids = [unescaped(id).encode("utf-8", "surrogatepass") for id in ids]
         self._ids.add(entry.number, lines, ids)
         name = self.files[entry.number].name
         entry.add(found, lambda number, middle: Named(
