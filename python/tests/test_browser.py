@@ -301,6 +301,29 @@ class InBrowser(unittest.TestCase):
             self.browser.call("Emulation.setScriptExecutionDisabled", value=False)
         self.assertEqual(len(self.run_in_page(ROWS)), page.STATIC_ROWS)
 
+    def test_a_long_id_hides_no_excerpt(self):
+        reports = [made_up.report(3), made_up.report(5, feature="x" * 5_000)]
+        self.load(made_up.delivery(reports))
+        places = self.run_in_page(
+            "Array.from(document.querySelectorAll('#reports td.excerpt mark'),"
+            " (mark) => mark.getBoundingClientRect().right)"
+        )
+        self.assertEqual(len(places), 2)
+        self.assertTrue(all(place < 1_280 for place in places), places)
+
+    def test_on_paper_a_heading_stays_with_its_map(self):
+        self.load(made_up.usual(3))
+        self.browser.call("Emulation.setEmulatedMedia", media="print")
+        try:
+            style = self.run_in_page(
+                "(() => { const area = document.querySelector('.area');"
+                " return [getComputedStyle(area).breakInside, area.querySelector('h3') !== null"
+                " && area.querySelector('svg.drawing') !== null]; })()"
+            )
+        finally:
+            self.browser.call("Emulation.setEmulatedMedia", media="")
+        self.assertEqual(style, ["avoid", True])
+
     def test_on_paper_it_is_a4_and_details_are_open(self):
         self.load(made_up.usual(3))
         self.run_in_page(OPENED)
