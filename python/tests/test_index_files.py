@@ -7,7 +7,7 @@ import subprocess
 import sys
 import time
 import unittest
-from contextlib import closing
+from contextlib import closing, suppress
 from unittest import mock
 
 from . import support
@@ -147,19 +147,20 @@ class Replaced(InFolder):
             self.assertEqual(len(index.streams), 1)
 
     def test_two_builders_at_once(self):
-        names = [str(self.index)] * 2
-        builders = [builder.Builder(name) for name in names]
-        for each in builders:
-            each.open()
-        self.assertEqual(len(support.unfinished(self.folder)), 2)
-        for each in builders:
-            entry = each.begin(1, HEADER)
-            result = cityseq.check(self.path)
-            each.end(entry, builder.File(str(self.path), None, (1, 1), "0" * 32), result)
-            each.finish(asked("check"), "0")
-            each.discard()
-            with cityseq.Index(self.index) as index:
-                self.assertEqual(len(index.streams), 1)
+        """The second one begins and ends while the first one reads."""
+        left, found = [self.path], []
+
+        def progress(_):
+            if left:
+                self.assertEqual(len(support.unfinished(self.folder)), 1)
+                cityseq.index(left.pop(), self.index, on_report=found.append)
+                with cityseq.Index(self.index) as index:
+                    found.append(cut(index)[3])
+
+        cityseq.index(SAMPLE, self.index, progress=progress)
+        with cityseq.Index(self.index) as index:
+            found.append(cut(index)[3])
+        self.assertEqual(found, [50, 120])
         self.assertEqual(sorted(os.listdir(self.folder)), ["it.gpkg", "stream.city.jsonl"])
 
     def test_a_linked_folder(self):

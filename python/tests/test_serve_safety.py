@@ -66,6 +66,7 @@ def web_server(folder):
     """A web server of the files of a folder, by ranges: its URL, and the server itself."""
     web = ThreadingHTTPServer(("127.0.0.1", 0), Handler)
     web.mode, web.folder, web.ranges = "", str(folder), []
+    web.connections, web.seen = 0, []
     web.handle_error = lambda *_: None  # a client may go away
     thread = threading.Thread(target=web.serve_forever, args=(0.01,))
     thread.start()
