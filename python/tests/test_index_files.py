@@ -7,7 +7,7 @@ import subprocess
 import sys
 import time
 import unittest
-from contextlib import closing, suppress
+from contextlib import closing
 from unittest import mock
 
 from . import support
