@@ -1,5 +1,5 @@
 -- The line of templates, from the line with its tokens.
-use Rattle.std.proofs.Common.{◌≡◌, ℕ, List, Option, Some, None, option_map, sym, ap}
+use Rattle.std.proofs.Common.{◌≡◌, Option, Some, None, option_map, sym, ap}
 use Rattle.std.specs.Option.{IfSome}
 use Rattle.cj_spans.specs.declared.node.Node.{Node}
 use Rattle.cj_spans.specs.declared.node.Source.{Source}

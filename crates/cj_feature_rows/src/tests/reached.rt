@@ -132,7 +132,8 @@ const TOGETHER: &str = r#"
         "#;
 
 /// City objects of a feature that has vertices.
-const WITH_VERTICES: &str = r#"{"type":"CityJSONFeature","id":"b","CityObjects":{_},"vertices":[[0,0,0],[9,0,0],[9,9,0]]}"#;
+const WITH_VERTICES: &str =
+    r#"{"type":"CityJSONFeature","id":"b","CityObjects":{_},"vertices":[[0,0,0],[9,0,0],[9,9,0]]}"#;
 
 /// Features whose city objects have geometries and attributes, with the rule.
 const FILLED_APART: &str = r#"

@@ -1,4 +1,3 @@
-use Rattle.std.proofs.Common.{sym, ◌∙◌}
 use Rattle.cj_geometry.proofs.TemplateLods.{kept-none}
 use Rattle.cj_geometry.proofs.lods.Lods.beside.Goals as goal
 
