@@ -137,12 +137,21 @@ class Items:
         """Returns the page. A thread calls it.
 
         Raises:
+            Problem: All features of a box are asked for, and they are too many.
             RequestError: A text of the query cannot be asked for.
         """
         selected, collection = self._selected, self.collection
         work = _work(collection, selected.text, self._query)
         after = collection.stream.features if selected.is_none else self.after
+        if not self.has_limit and work.lods is None and selected.reaches is None:
+            with collection.pool.index() as index:  # which takes less time than to make a page
+                if index.has_more(work, collection.stream, after, self.limit):
+                    raise self._too_many()
         return Page(collection, work, after, self.limit, selected.reaches)
+
+    def _too_many(self) -> Problem:
+        return Problem(400, f"there are more than {self.limit:,} features: ask for less, or set"
+                            " limit and follow the links to the next pages")
 
     def _check_mark(self, mark: Optional[str]) -> None:
         """Checks that a page follows one of the same stream.
@@ -185,8 +194,7 @@ class Items:
             Problem: All features are asked for, and they are too many.
         """
         if page.next is not None and not self.has_limit:
-            raise Problem(400, f"there are more than {self.limit:,} features: ask for less, or set"
-                               " limit and follow the links to the next pages")
+            raise self._too_many()
         following = None if page.next is None else self.following(links, page.next)
         own = [] if self.chosen == GEOJSON else self.own_links(links)
         return head_of(self.chosen, self.collection.id, self.system, own, following)
