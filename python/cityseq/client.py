@@ -164,7 +164,7 @@ def ask(url: str, headers: Any, watch: Watch) -> Any:
     while True:
         watch.is_new = False
         try:
-            return manager.urlopen(
+            answer = manager.urlopen(
                 "GET",
                 url,
                 headers=headers,
@@ -177,6 +177,11 @@ def ask(url: str, headers: Any, watch: Watch) -> Any:
         except urllib3.exceptions.ProtocolError:
             if watch.is_new or watch.is_late:
                 raise
+            continue
+        if watch.is_late:  # its head was cut short
+            answer.close()
+            raise TimeoutError("timed out")
+        return answer
 
 
 def cause_of(fault: BaseException) -> BaseException:

@@ -62,6 +62,9 @@ class Handler(BaseHTTPRequestHandler):
         server.seen.append((self.path, dict(self.headers)))
         if mode == "drips its head":
             self._drip(b"H")
+        if mode == "drips redirections":
+            self.wfile.write(f"HTTP/1.1 302 Found\r\nLocation: {self.path}\r\n".encode())
+            self._drip(b"X: y\r\n")
         if mode == "continues":
             self._drip(b"HTTP/1.1 100 Continue\r\n\r\n")
         if mode == "no HTTP":
@@ -266,13 +269,14 @@ class Client(Served):
 
     def test_servers_that_never_end(self):
         """Each byte comes in time. A thread that watches closes the connection."""
-        for mode in ("drips its head", "drips its body", "continues"):
-            with self.served(mode) as (_, base), mock.patch.object(client, "PATIENCE", 0.1):
+        for mode in ("drips its head", "drips its body", "continues", "drips redirections"):
+            with self.served(mode) as (server, base), mock.patch.object(client, "PATIENCE", 0.1):
                 begin = time.monotonic()
                 with self.subTest(mode=mode), self.assertRaises(cityseq.ReadFault) as caught:
                     self.cut(base)
                 self.assertIn("too slowly, below 4,096 bytes a second", str(caught.exception))
                 self.assertLess(time.monotonic() - begin, 5)
+                self.assertEqual(len(server.ranges), 1)
         self.assertNotIn("watch", [thread.name for thread in threading.enumerate()])
 
     def test_lines_that_lie_close_are_one_request(self):
