@@ -303,7 +303,8 @@ class Client(Served):
             told = {headers.get("Authorization") for _, headers in server.seen}
             self.assertEqual(told, {"Basic bWU6c0BjcmV0"})  # me:s@cret
             server.seen.clear()
-            self.assertEqual(self.cut(other.replace("//", "//me:s%40cret@")), self.wanted.getvalue())
+            signed = other.replace("//", "//me:s%40cret@")
+            self.assertEqual(self.cut(signed), self.wanted.getvalue())
             told = {headers.get("Authorization") for _, headers in server.seen}
             self.assertEqual(told, {None})  # another server does not get them
         with self.served("asks who") as (_, base):
