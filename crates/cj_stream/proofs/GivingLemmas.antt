@@ -114,6 +114,7 @@ module _ {S N : Type 0} (law : SinkLaw S) (notes : N → Report → N → Type 0
               peaks = refl;
               held = stands.held;
               bounded = let z = stands.bounded in rw (feeds.rules, given.under) at z;
+              least = let z = feeds.least q given.stands given.going in rw (text, given.under) at z;
               exact = λ h. absurd (told-not_complete rules after (lines_of f) x told h);
             };
             ends = Ends-fed rules after (lines_of f) (joined (take (k + 1) pieces) ≡ joined pieces) x told;
@@ -154,6 +155,7 @@ module _ {S N : Type 0} (law : SinkLaw S) (notes : N → Report → N → Type 0
             peaks = refl;
             held = stands.held;
             bounded = let z = stands.bounded in rw (finished.rules, given.under) at z;
+            least = let z = finished.least q given.stands given.going in rw (same, given.under) at z;
             exact = λ h. let z = finished.exact q given.stands given.going h in rw (all, given.under) at z;
           };
           ends = Ends-finished rules after (lines_of f) (joined (take (k + 1) pieces) ≡ joined pieces) x given_all

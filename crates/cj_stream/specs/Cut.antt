@@ -7,7 +7,7 @@ use Rattle.cj_stream.specs.declared.ending.End.TheVariants.{Complete, Refused, R
 use Rattle.cj_stream.specs.Lines.{closed, lines, whole}
 use Rattle.cj_stream.specs.Item.{Item}
 use Rattle.cj_stream.specs.Verdict.{Rules, refusal_in, judged, kept, ending, output, stretch}
-use Rattle.cj_stream.specs.Bound.{IsBounded, IsBelow, IsExact}
+use Rattle.cj_stream.specs.Bound.{IsBounded, IsBelow, IsExact, exact_peaks, first_lines}
 use Rattle.cj_stream.specs.Engine.{EngineState, Counts, Delivers, rules_of, lines_of, refused_of, held_by, peaks_of}
 use Rattle.cj_stream.specs.Reading.{LacksMemory}
 use Rattle.cj_stream.specs.Sink.{SinkLaw, Took, prefixes, TookFront, LeavesNext, AppendsPart}
@@ -107,7 +107,8 @@ EndsAt rules before pieces n Memory = Unit {0}
 -- ended. So many of the pieces were wholly taken, of which nothing that could be judged was refused, and it counts
 -- their bytes. Its other counts are of the lines that it dealt with, of all bytes that were given. Memory is refused
 -- with a valid first line alone. What it is said to have held at most is what its lists have held at most, within the
--- bound for the bytes that were given, and exact where the end is complete.
+-- bound for the bytes that were given, no less than the lines that it dealt with need, and exact where the end is
+-- complete.
 pub record Fed (rules : Rules) (before : List ℕ) (pieces : List (List ℕ)) (outcome : PiecesOutcome)
     (engine : EngineState) : Type 0 where
   pub under : rules_of engine ≡ rules
@@ -123,6 +124,9 @@ pub record Fed (rules : Rules) (before : List ℕ) (pieces : List (List ℕ)) (o
   pub peaks : outcome.peaks ≡ peaks_of engine
   pub held : IsBelow (held_by engine) outcome.peaks
   pub bounded : IsBounded rules.limits (before ++ joined (take (outcome.taken + 1) pieces)) outcome.peaks
+  pub least : IsBelow
+      (exact_peaks rules.limits (first_lines (lines_of engine) (before ++ joined (take (outcome.taken + 1) pieces))))
+      outcome.peaks
   pub exact : outcome.ended ≡ Complete → IsExact rules.limits (before ++ joined pieces) outcome.peaks
 
 -- pieces that were given after the first lines of a stream, so many, which were those of the bytes before; and how many
