@@ -360,6 +360,31 @@ static void queries(void)
     keeps("the empty id", "\n", 1, 0);
 }
 
+/* Whether these bytes are all x. */
+static int are_xs(const char *bytes, size_t length)
+{
+    for (size_t i = 0; i < length; i++)
+        if (bytes[i] != 'x')
+            return 0;
+    return 1;
+}
+
+/* A filter changes nothing after its output, whether all of it fits or not. */
+static void longer_room(void)
+{
+    struct cityseq_request r = CITYSEQ_USUAL;
+    char part[400], out[400];
+    size_t header = strlen(header_line), good = strlen(good_line), all = header + good, length;
+    memset(out, 'x', sizeof out);
+    struct cityseq_answer a = cityseq_filter(header_line, header, good_line, good, &r, out, all + 10, NULL, 0);
+    row("ten bytes too many", a.status == CITYSEQ_COMPLETE && a.written == all && are_xs(out + all, sizeof out - all));
+    length = (size_t)snprintf(part, sizeof part, "%s%s", good_line, good_line);
+    memset(out, 'x', sizeof out);
+    a = cityseq_filter(header_line, header, part, length, &r, out, all + 10, NULL, 0);
+    row("no room for the second line", a.status == CITYSEQ_NO_ROOM && a.written == all && a.lines == 2);
+    row("nothing of that line", are_xs(out + all, sizeof out - all));
+}
+
 static void little_room(void)
 {
     struct cityseq_request r = CITYSEQ_USUAL;
@@ -440,6 +465,53 @@ static void joins(void)
     row("a part with an invalid line", all.status == CITYSEQ_REFUSED && all.line == 3 && all.place == 1 && all.code == 4 &&
                                            all.lines == 2 && all.kept == 1 && all.written == header + good);
     row("nothing after that either", are_same(cityseq_answer_then(&all, &first, header), all));
+}
+
+/* Joins where the output of the next part has no room for its last line. */
+static void joins_without_room(void)
+{
+    struct cityseq_request r = CITYSEQ_USUAL;
+    char part[400], out[400];
+    size_t header = strlen(header_line), good = strlen(good_line), length;
+    r.keep_going = 1;
+    struct cityseq_answer first = cityseq_filter(header_line, header, good_line, good, &r, out, header + good, NULL, 0);
+    length = (size_t)snprintf(part, sizeof part, "%s{\n%s", good_line, good_line);
+    struct cityseq_answer next = cityseq_filter(header_line, header, part, length, &r, out, header + good + 9, NULL, 0);
+    row("a feature and a report", next.status == CITYSEQ_NO_ROOM && next.lines == 3 && next.kept == 1 && next.refused == 1);
+    struct cityseq_answer all = cityseq_answer_then(&first, &next, header);
+    row("a part that does not fit", all.status == CITYSEQ_NO_ROOM && !all.code && !all.line && !all.place);
+    row("its lines count", all.lines == 4 && all.kept == 2 && all.refused == 1 && all.written == header + 2 * good);
+    row("nothing after it", are_same(cityseq_answer_then(&all, &first, header), all));
+}
+
+static int has_peaks(struct cityseq_answer a, uint64_t bytes, uint64_t tokens, uint64_t depth)
+{
+    return a.peak_bytes == bytes && a.peak_tokens == tokens && a.peak_depth == depth;
+}
+
+/* The peaks of a stream that ends at an invalid line, or where the output does not fit. The header has 116 bytes, 21 values and
+ * names, and 3 open at once; the good feature 89, 13 and 3; the invalid one 26, 3 and 1. */
+static void peaks(void)
+{
+    static const char invalid[] = "{\"type\":\"CityJSONFeature\"}\n";
+    struct cityseq_request r = CITYSEQ_USUAL;
+    char out[400];
+    size_t header = strlen(header_line), good = strlen(good_line);
+    struct cityseq_answer first = ask(&r, header_line, good_line), alone = ask(&r, header_line, ""), next, full;
+    row("peaks of a feature", first.status == CITYSEQ_COMPLETE && has_peaks(first, 205, 34, 3));
+    row("peaks of a header", alone.status == CITYSEQ_COMPLETE && has_peaks(alone, 116, 21, 3));
+    next = ask(&r, "{\"a\":[]}\n", good_line);
+    row("peaks of an invalid header", next.status == CITYSEQ_REFUSED && next.line == 1 && has_peaks(next, 8, 3, 2));
+    next = ask(&r, header_line, invalid);
+    row("peaks at an invalid line", next.status == CITYSEQ_REFUSED && next.line == 2 && has_peaks(next, 142, 24, 3));
+    row("the same after a header", has_peaks(cityseq_answer_then(&alone, &next, header), 142, 24, 3));
+    row("the same after a feature", has_peaks(cityseq_answer_then(&first, &next, header), 205, 34, 3));
+    full = cityseq_filter(header_line, header, good_line, good, &r, out, header, NULL, 0);
+    row("peaks without room", full.status == CITYSEQ_NO_ROOM && full.lines == 1 && has_peaks(full, 205, 34, 3));
+    row("the same after a header alone", has_peaks(cityseq_answer_then(&alone, &full, header), 205, 34, 3));
+    next = ask(&r, header_line, "{\n");
+    row("peaks at a line that is no text", next.status == CITYSEQ_REFUSED && next.peak_bytes == 117);
+    row("what it may add", next.peak_tokens >= 21 && next.peak_tokens <= 22 && next.peak_depth == 3);
 }
 
 static int is_number(struct cityseq_decimal n, unsigned negative, uint64_t high, uint64_t low, int power)
@@ -631,8 +703,11 @@ int main(int count, char **words)
     wrong_requests();
     queries();
     little_room();
+    longer_room();
     nothing_judged();
     joins();
+    joins_without_room();
+    peaks();
     transforms();
     part_ends();
     line_begins();

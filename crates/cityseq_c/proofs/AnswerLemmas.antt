@@ -1,5 +1,5 @@
 -- What an answer tells of a text that was judged.
-use Rattle.std.proofs.Common.{◌≡◌, ℕ, List, Option, Some, None, refl, sym, ap, ◌∙◌, inl, inr}
+use Rattle.std.proofs.Common.{◌≡◌, ℕ, List, Option, Some, refl, sym, ap, ◌∙◌}
 use Rattle.cj_spans.specs.Reason.{code_of}
 use Rattle.cj_spans.specs.declared.reason.Reason.{Reason}
 use Rattle.cj_spans.specs.declared.reason.Reason.TheVariants.{NoHeader, LineTooLong, NotUtf8, Syntax, TooDeep, MissingMember, DuplicateName, WrongKind, NumberRange, WrongType, WrongVersion, NotEmpty, NotThree, NotWhole, UnknownObjectType, IdNotFound, ChildNotFound, LinkNotMutual, NoParent, UnknownGeometryType, VertexIndex, SemanticsCount, SemanticsIndex, TemplateIndex, BadInstance, TransformNotFixed, NotReached}
@@ -9,7 +9,6 @@ use Rattle.cj_stream.specs.Cut.{IsUnread}
 use Rattle.cj_stream.specs.Parts.{capped_end, moved_end}
 use Rattle.cj_stream.specs.Verdict.{Rules}
 use Rattle.cityseq_c.specs.Answer.{code_at, line_at, place_at, status_of}
-use Rattle.cityseq_c.specs.Called.{IsUnjudged}
 use Rattle.cityseq_c.specs.Joined.{ended_by, outcome_by, IsAnswerOf}
 use Rattle.cityseq_c.specs.Judged.{IsJudged}
 use Rattle.cityseq_c.specs.Words.{reason_with}

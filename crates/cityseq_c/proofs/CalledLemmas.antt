@@ -80,23 +80,25 @@ told-written (Err (Fault fault)) answer written is = is
 told-written (Err Memory) answer written is = is
 
 -- what else comes of a call that was judged counts for what it tells
-goes-told : (r : Request) (header part : List ℕ) (old new : List Told) (out : List ℕ) (written : ℕ) (answer : Answer)
-    (went : Result Outcome NotJudged) → answer ≡ answer_to went written
-    → Goes (call r header part old new) (λ rules o. Copied rules (header ++ part) out written o) went
-    → Goes (call r header part old new) (λ rules o. Copied rules (header ++ part) out answer.written o) went
-goes-told r header part old new out written answer (Ok o) is h =
-    (h.0, h.1, h.2, subst (λ n. Copied h.0 (header ++ part) out n o) (sym (ap (λ a. a.written) is)) h.3)
-goes-told r header part old new out written answer (Err why) is h = h
+module _ (r : Request) (header part : List ℕ) (old new : List Told) (before after : List ℕ) (written : ℕ)
+    (answer : Answer) where
+  abbrev GoesCopied : ℕ → Result Outcome NotJudged → Type 0
+  GoesCopied n went =
+      Goes (call r header part old new) (λ rules o. Copied rules (header ++ part) before after n o) went
 
-pub filters : (r : Request) (header part : List ℕ) (old new : List Told) (out : List ℕ) (written : ℕ) (answer : Answer)
-    (went : Result Outcome NotJudged) → answer ≡ answer_to went written
-    → Goes (call r header part old new) (λ rules o. Copied rules (header ++ part) out written o) went
-    → Filters (call r header part old new) out answer
-filters r header part old new out written answer went is h = record {
-  went = went;
-  goes = goes-told r header part old new out written answer went is h;
-  told = told-written went answer written is;
-}
+  goes-told : (went : Result Outcome NotJudged) → answer ≡ answer_to went written → GoesCopied written went
+      → GoesCopied answer.written went
+  goes-told (Ok o) is h =
+      (h.0, h.1, h.2, subst (λ n. Copied h.0 (header ++ part) before after n o) (sym (ap (λ a. a.written) is)) h.3)
+  goes-told (Err why) is h = h
+
+  pub filters : (went : Result Outcome NotJudged) → answer ≡ answer_to went written → GoesCopied written went
+      → Filters (call r header part old new) before after answer
+  filters went is h = record {
+    went = went;
+    goes = goes-told went is h;
+    told = told-written went answer written is;
+  }
 
 -- ---- a sink that never fails
 

@@ -1,5 +1,5 @@
 -- The first line of some bytes, as a search for LF finds it.
-use Rattle.std.proofs.Common.{◌≡◌, ℕ, ◌+◌, ◌<◌, List, [], ◌∷◌, Option, Some, None, true, false, length, take, drop, arith, refl, sym, ap, ◌∙◌, length-append, length-take}
+use Rattle.std.proofs.Common.{◌≡◌, ℕ, ◌+◌, ◌<◌, List, [], ◌∷◌, Some, None, false, length, take, drop, arith, refl, sym, ap, ◌∙◌, length-append, length-take}
 use Rattle.std.proofs.lemmas.List.{drop-drop, drop_all}
 use Rattle.memchr.specs.Find.{IsFirstByte, is_byte}
 use Rattle.cj_stream.specs.Lines.{Line, ended_line, lines, raw}

@@ -1,13 +1,13 @@
 -- What is wrong with a query is wrong with a request.
-use Rattle.std.proofs.Common.{◌≡◌, ℕ, List, Bool, true, false, cond, Option, None, Some, Result, Ok, Err, subst}
+use Rattle.std.proofs.Common.{◌≡◌, ℕ, List, Bool, true, false, cond, Option, None, Some, Result, Ok, Err, inl, inr, refl, subst}
 use Rattle.std.specs.Str.{is_utf8}
 use Rattle.cj_stream.specs.Adding.{flags_with, no_types}
 use Rattle.cj_stream.specs.BoxText.{box_text}
-use Rattle.cj_stream.specs.Criteria.{Box}
+use Rattle.cj_stream.specs.Criteria.{Box, Criteria}
 use Rattle.cj_stream.specs.declared.query.fault.QueryFault.{QueryFault}
 use Rattle.cj_stream.specs.declared.query.fault.QueryFault.TheVariants.{Memory as NoMemory, UnknownTypeName, BadBox as BadBoxText, BoxRange as BoxTextRange, EmptyBox as EmptyBoxText}
-use Rattle.cityseq_c.specs.Query.{DeclinesCall, DeclinesQuery}
-use Rattle.cityseq_c.specs.Request.{IsFit, box_asked, box_by, edges_by, fault_of, flags_by, ids_asked, items, lods_asked, or_fault, text_asked, texts_by, types_asked, types_by}
+use Rattle.cityseq_c.specs.Query.{DeclinesCall, DeclinesPart, DeclinesQuery, DeclinesTexts}
+use Rattle.cityseq_c.specs.Request.{AsksFor, IsFit, box_asked, box_by, edges_by, fault_of, flags_by, ids_asked, items, lods_asked, or_fault, text_asked, texts_by, types_asked, types_by}
 use Rattle.cityseq_c.specs.declared.request.Fault.{Fault as WrongFault}
 use Rattle.cityseq_c.specs.declared.request.Fault.TheVariants.{LineLimit, DepthLimit, NoLine, NotUtf8, UnknownType, BadBox, BoxRange, EmptyBox, TooLong}
 use Rattle.cityseq_c.specs.declared.request.NotJudged.{NotJudged}
@@ -99,4 +99,29 @@ module _ (r : Request) (header part : List ℕ) (fit : IsFit r header part) wher
   call-declined (Fault BadBox) is = (fit, is)
   call-declined (Fault BoxRange) is = (fit, is)
   call-declined (Fault EmptyBox) is = (fit, is)
-  call-declined Memory is = fit
+  call-declined Memory is = (fit, inr is)
+
+-- ---- a query that is declined
+
+pub ids-declined : (r : Request) (why : NotJudged) → DeclinesTexts (ids_asked r) why → DeclinesQuery r why
+ids-declined r (Fault fault) is = rw is refl
+ids-declined r Memory wants = inl wants
+
+module _ (r : Request) (ids : Option (List (List ℕ))) (first : ids_asked r ≡ Ok ids) where
+  pub types-declined : (why : NotJudged) → DeclinesPart (types_asked r) why → DeclinesQuery r why
+  types-declined (Fault fault) is = rw (first, is) refl
+  types-declined Memory never = absurd never
+
+  module _ (types : Option (List Bool)) (second : types_asked r ≡ Ok types) where
+    pub lods-declined : (why : NotJudged) → DeclinesTexts (lods_asked r) why → DeclinesQuery r why
+    lods-declined (Fault fault) is = rw (first, second, is) refl
+    lods-declined Memory wants = inr (rw first refl, rw second refl, wants)
+
+    pub edges-declined : (lods : Option (List (List ℕ))) → lods_asked r ≡ Ok lods → (why : NotJudged)
+        → DeclinesPart (box_asked r) why → DeclinesQuery r why
+    edges-declined lods third (Fault fault) is = rw (first, second, third, is) refl
+    edges-declined lods third Memory never = absurd never
+
+-- a request whose parts are criteria has no fault
+pub no-fault : (r : Request) (c : Criteria) → AsksFor r c → fault_of r ≡ None
+no-fault r c x = rw (x.ids, x.types, x.lods, x.box) refl

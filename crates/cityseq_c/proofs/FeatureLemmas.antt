@@ -3,7 +3,7 @@ use Rattle.std.proofs.Common.{◌≡◌, ℕ, List, ◌++◌, subst, sym}
 use Rattle.cj_stream.specs.Lines.{lines}
 use Rattle.cj_stream.specs.Sink.{Took}
 use Rattle.cj_stream.specs.Verdict.{Rules, kept}
-use Rattle.cityseq_c.specs.Features.{HoldsRecords, ListsItem, Place, listed_count, listed_loan, listed_place, listed_room, spots}
+use Rattle.cityseq_c.specs.Features.{HoldsRecords, ListsItem, listed_count, listed_loan, listed_place, listed_room, spots}
 use Rattle.cityseq_c.specs.Request.{AreCut}
 use Rattle.cityseq_c.specs.declared.features.listed.Listed.{Listed}
 use Rattle.cityseq_c.specs.declared.features.record_of.FeatureRecord.{FeatureRecord}

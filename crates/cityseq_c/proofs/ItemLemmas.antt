@@ -1,8 +1,8 @@
 -- A text that is split at its LFs gives its items.
-use Rattle.std.proofs.Common.{◌≡◌, ℕ, List, [], ◌∷◌, Option, Bor, true, lit<, length, refl, nat_eq, false, arith}
-use Rattle.std.proofs.lemmas.Bool.{eqb-true}
+use Rattle.std.proofs.Common.{◌≡◌, ℕ, ◌<◌, List, [], ◌∷◌, Option, Bor, true, lit<, length, refl, nat_eq, false, arith}
 use Rattle.std.specs.List.{slice_split}
 use Rattle.std.proofs.lemmas.Iterator.{YieldsList}
+use Rattle.std.proofs.lemmas.List.Splits.{length-slice_split}
 use Rattle.std.proofs.lemmas.Iterator.Consumers.{YieldsList-at}
 use Rattle.std.proofs.lemmas.Iterator.Splits.{YieldsList-from_str_split}
 use Rattle.std.specs.Str.Iter.{split_steps, split_text, split_has_more, split_pattern}
@@ -18,6 +18,10 @@ steps = split_steps FindsChar (λ a b. b ≡ a)
 pub items-some : (s : List ℕ) → nat_eq (length s) 0 ≡ false → items s ≡ slice_split (λ c. nat_eq c 10) s
 items-some [] some = absurd (cc some)
 items-some (b ∷ s) some = refl
+
+-- such a text has items
+pub some-items : (s : List ℕ) → nat_eq (length s) 0 ≡ false → 0 < length (items s)
+some-items s some = rw (items-some s some) (omega (arith, length-slice_split (λ c. nat_eq c 10) s))
 
 pub items-split : (text : List ℕ) {s t : Split ℕ} → nat_eq (length text) 0 ≡ false → split_text s ≡ text
     → split_has_more s ≡ true → split_pattern s ≡ 10 → t ≡ s

@@ -1,19 +1,19 @@
 -- A header and a part are one text, of which an engine was given the header, or all.
 use Rattle.std.proofs.Common.{◌≡◌, ℕ, zero, suc, ◌+◌, ◌⊎◌, inl, inr, ◌≤◌, List, [], ◌∷◌, ◌++◌, length, take, Option, Some, None, subst, sym, ap, refl, ◌∙◌, arith, append_assoc, add-one}
 use Rattle.std.specs.Prelude.{◌≢◌, slice_get}
-use Rattle.std.specs.List.{filter}
+use Rattle.std.specs.List.{filter, flat_map}
 use Rattle.std.proofs.lemmas.List.{append-nil, take-append-le}
 use Rattle.cj_budget.specs.Limits.{LimitPair}
 use Rattle.cj_budget.specs.declared.limits.Peaks.{Peaks}
 use Rattle.cj_stream.specs.declared.ending.End.{End}
 use Rattle.cj_stream.specs.declared.ending.End.TheVariants.{Complete, Refused, ReadFault, ReadLimit, WriteFault, Memory}
 use Rattle.cj_stream.specs.declared.running.Outcome.{Outcome}
-use Rattle.cj_stream.specs.Bound.{IsBounded, IsExact}
+use Rattle.cj_stream.specs.Bound.{IsBelow, IsBounded, IsExact, exact_peaks, first_lines}
 use Rattle.cj_stream.specs.Cut.{joined, PutsPieces, in_pieces}
 use Rattle.cj_stream.specs.Engine.{Counts, Delivers, Faults}
 use Rattle.cj_stream.specs.Headline.{IsUnhindered}
 use Rattle.cj_stream.specs.Item.{is_feature}
-use Rattle.cj_stream.specs.Lines.{Line, NoLf, ended_line, lines}
+use Rattle.cj_stream.specs.Lines.{Line, NoLf, ended_line, lines, raw}
 use Rattle.cj_stream.specs.Parts.{headed}
 use Rattle.cj_stream.specs.ReportSink.{Notes}
 use Rattle.cj_stream.specs.Run.{CountsAll, Ends}
@@ -67,6 +67,7 @@ module _ (header part : List ℕ) (cut : AreCut header part) where
 record OfFirst {S : Type 0} (law : SinkLaw S) (rules : Rules) (n features refusals : ℕ) (peaks : Peaks) (e : End)
     (s t : S) (a b : Noted) (q : List ℕ) : Type 0 where
   bounded : IsBounded rules.limits q peaks
+  least : IsBelow (exact_peaks rules.limits (first_lines n q)) peaks
   counts : Counts rules q n features refusals
   delivers : Delivers law (stretch rules q 0 n) s t (Some e)
   noted : Took NotesOne a (reported_first rules n q) b
@@ -144,6 +145,8 @@ module _ {S : Type 0} (law : SinkLaw S) (rules : Rules) (n f r : ℕ) (peaks : P
       let few = x.counts.few in
       record {
         bounded = bounded-more rules.limits h part peaks free x.bounded;
+        least = subst (λ (ls : List Line). IsBelow (exact_peaks rules.limits (flat_map raw ls)) peaks)
+            (sym (first-same rules h part free n few)) x.least;
         counts = counts-more rules h part free n few f r x.counts;
         delivers = delivers-more rules h part free n few law s t e x.delivers;
         noted = subst (λ z. Took NotesOne a z b)
@@ -194,6 +197,8 @@ module _ {S : Type 0} (law : SinkLaw S) (rules : Rules) (header part : List ℕ)
     (counts_all : IsUnhindered o.ended → CountsAll rules (joined (header ∷ part ∷ [])) o)
     (exact_all : o.ended ≡ Complete → IsExact rules.limits (joined (header ∷ part ∷ [])) o.peaks)
     (bounded : IsBounded rules.limits (joined (take (k + 1) (header ∷ part ∷ []))) o.peaks)
+    (least : IsBelow
+    (exact_peaks rules.limits (first_lines o.lines (joined (take (k + 1) (header ∷ part ∷ []))))) o.peaks)
     (counts : Counts rules (joined (take (k + 1) (header ∷ part ∷ []))) o.lines o.kept o.refused)
     (delivers : Delivers law (stretch rules (joined (take (k + 1) (header ∷ part ∷ []))) 0 o.lines) s t (Some o.ended))
     (notes : Notes NotesOne (stretch rules (joined (take (k + 1) (header ∷ part ∷ []))) 0 o.lines) a b)
@@ -206,6 +211,7 @@ module _ {S : Type 0} (law : SinkLaw S) (rules : Rules) (header part : List ℕ)
   of_first : OfFirst law rules o.lines o.kept o.refused o.peaks o.ended s t a b (header ++ part)
   of_first = first-text law rules o.lines o.kept o.refused o.peaks o.ended s t a b header part cut k (record {
     bounded = bounded;
+    least = least;
     counts = counts;
     delivers = delivers;
     noted = subst (λ z. Took NotesOne a z b) (sym notes.told) notes.noted;
@@ -240,6 +246,7 @@ module _ {S : Type 0} (law : SinkLaw S) (rules : Rules) (header part : List ℕ)
           reports = λ free. subst (λ z. Holds (header ++ part) z old new)
               (good_reported (header ++ part) o.lines (counted free).lines) held;
           first = held;
+          least = of_first.least;
         };
         took = λ free. subst (λ z. Took law.takes s (kept rules z) t) whole
             (put-all law rules (header ∷ part ∷ []) k s t o.ended puts free).1;

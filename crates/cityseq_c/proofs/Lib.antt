@@ -9,6 +9,7 @@ pub mod CuttingLemmas
 pub mod FaultLemmas
 pub mod FeatureLemmas
 pub mod FinderLemmas
+pub mod FirstLemmas
 pub mod FitLemmas
 pub mod ItemLemmas
 pub mod JudgedLemmas

@@ -1,12 +1,11 @@
 -- What is told of a text does not hang on a line limit that is above all its lines.
-use Rattle.std.proofs.Common.{◌≡◌, ℕ, zero, suc, ◌+◌, ◌-◌, ◌⊎◌, inl, inr, ◌<◌, ◌≤◌, List, [], ◌∷◌, ◌++◌, Bool, true, false, cond, ltb, length, map, take, Option, Some, None, Result, Ok, Err, subst, sym, ap, refl, ◌∙◌, append_assoc, arith, length-append}
-use Rattle.std.specs.Prelude.{is_some, max, min, slice_get, IfOk, IfErr}
+use Rattle.std.proofs.Common.{◌≡◌, ℕ, zero, suc, ◌+◌, ◌⊎◌, inl, inr, ◌<◌, ◌≤◌, List, [], ◌∷◌, ◌++◌, Bool, true, false, cond, ltb, length, map, take, Some, None, Result, Ok, Err, subst, sym, ap, refl, ◌∙◌, append_assoc, arith, length-append}
+use Rattle.std.specs.Prelude.{max, min, slice_get, IfOk, IfErr}
 use Rattle.std.specs.List.{filter, flat_map, list_all}
 use Rattle.std.proofs.Math.Nat.{min-eq_left}
 use Rattle.std.proofs.lemmas.Bool.{cases_lt}
 use Rattle.std.proofs.lemmas.Bool.Decides.{nat_tests}
 use Rattle.std.proofs.lemmas.List.{append-nil}
-use Rattle.cj_budget.specs.Limits.{LimitPair}
 use Rattle.cj_budget.specs.declared.limits.Peaks.{Peaks}
 use Rattle.cj_spans.specs.Judgement.{Judgement, spelled, broken, sunk}
 use Rattle.cj_spans.specs.Tree.{Tree}
@@ -14,22 +13,22 @@ use Rattle.cj_spans.proofs.Judgements.{judgement}
 use Rattle.cj_stream.specs.declared.ending.End.{End}
 use Rattle.cj_stream.specs.declared.ending.End.TheVariants.{Complete, Refused, ReadFault, ReadLimit, WriteFault, Memory as NoMemory}
 use Rattle.cj_stream.specs.declared.running.Outcome.{Outcome}
-use Rattle.cj_stream.specs.Bound.{contents, exact_peaks, greatest, held_length, is_legible, is_readable, is_text, of_first, tree_nest, tree_size, IsBounded, IsExact, IsBelow}
+use Rattle.cj_stream.specs.Bound.{exact_peaks, first_lines, greatest, held_length, is_legible, is_readable, is_text, of_first, tree_nest, tree_size, IsBounded, IsExact, IsBelow}
 use Rattle.cj_stream.specs.Engine.{Counts, Delivers, Faults}
-use Rattle.cj_stream.specs.Headline.{IsUnhindered}
 use Rattle.cj_stream.specs.Item.{is_feature}
 use Rattle.cj_stream.specs.Lines.{Line, ended_line, later_of, lines, raw}
 use Rattle.cj_stream.specs.Run.{CountsAll, Ends}
 use Rattle.cj_stream.specs.Sink.{Took, SinkLaw}
-use Rattle.cj_stream.specs.Verdict.{Rules, ending, ending_of, good, good_from, is_kept, item_after, kept, kept_first}
-use Rattle.cj_stream.specs.Verdict.{kept_from, refusal_from, refusal_in, reported, reported_first, reported_from}
+use Rattle.cj_stream.specs.Verdict.{Rules, ending, ending_of, good, good_from, is_kept, kept, kept_first}
+use Rattle.cj_stream.specs.Verdict.{kept_from, refusal_from, reported, reported_first, reported_from}
 use Rattle.cj_stream.specs.Verdict.{text_verdict, verdict, verdict_at, stretch, up_to, stream_of}
 use Rattle.cj_stream.proofs.IsLinesLemmas.{lines-are_lines}
 use Rattle.cj_stream.proofs.PartsLemmas.{lines-headed}
-use Rattle.cityseq_c.specs.Judged.{IsJudged, Judged, Tells, lent}
+use Rattle.cityseq_c.proofs.FirstLemmas.{lines-first}
+use Rattle.cityseq_c.specs.Judged.{IsJudged, Judged, lent}
 use Rattle.cityseq_c.specs.ReportSlice.{Holds}
 use Rattle.cityseq_c.specs.Query.{DeclinesCall}
-use Rattle.cityseq_c.specs.Request.{AreCut, IsAsked, IsFit, needed_limits}
+use Rattle.cityseq_c.specs.Request.{AreCut, IsAsked, IsFit, fault_of, needed_limits}
 use Rattle.cityseq_c.specs.declared.report_slice.Told.{Told}
 use Rattle.cityseq_c.specs.declared.request.NotJudged.{NotJudged}
 use Rattle.cityseq_c.specs.declared.request.NotJudged.TheVariants.{Memory}
@@ -183,6 +182,14 @@ module _ (rules : Rules) (m : ℕ) (low : m ≤ rules.limits.line) where
   later-all f g same [] h = refl
   later-all f g same (l ∷ ls) h = all-same f g same ls h.1
 
+  peaks-same : (s : List ℕ) → AreShort m (lines s) → exact_peaks narrow.limits s ≡ exact_peaks rules.limits s
+  peaks-same s short = rw (
+    later-same (held_length narrow.limits) (held_length rules.limits) held-same (lines s) short,
+    first-same (tree_size narrow.limits) (tree_size rules.limits) size-same (lines s) short,
+    later-same (tree_size narrow.limits) (tree_size rules.limits) size-same (lines s) short,
+    greatest-same (tree_nest narrow.limits) (tree_nest rules.limits) nest-same (lines s) short,
+  ) refl
+
   -- ---- a text
 
   module _ (s : List ℕ) (short : AreShort m (lines s)) where
@@ -204,14 +211,6 @@ module _ (rules : Rules) (m : ℕ) (low : m ≤ rules.limits.line) where
     reported_first-text : (n : ℕ) → reported_first narrow n s ≡ reported_first rules n s
     reported_first-text n = reported-same [] (take n (lines s)) (short-take m n (lines s) short)
 
-    peaks-text : exact_peaks narrow.limits s ≡ exact_peaks rules.limits s
-    peaks-text = rw (
-      later-same (held_length narrow.limits) (held_length rules.limits) held-same (lines s) short,
-      first-same (tree_size narrow.limits) (tree_size rules.limits) size-same (lines s) short,
-      later-same (tree_size narrow.limits) (tree_size rules.limits) size-same (lines s) short,
-      greatest-same (tree_nest narrow.limits) (tree_nest rules.limits) nest-same (lines s) short,
-    ) refl
-
     legible-text : is_legible narrow.limits s ≡ is_legible rules.limits s
     legible-text = later-all (is_readable narrow.limits) (is_readable rules.limits) readable-same (lines s) short
 
@@ -224,10 +223,17 @@ module _ (rules : Rules) (m : ℕ) (low : m ≤ rules.limits.line) where
 
     exact-text : (peaks : Peaks) → IsExact narrow.limits s peaks → IsExact rules.limits s peaks
     exact-text peaks x = record {
-      bytes = x.bytes ∙ ap (λ (p : Peaks). p.bytes) peaks-text;
-      least = subst (λ z. IsBelow z peaks) peaks-text x.least;
-      legible = λ all. x.legible (legible-text ∙ all) ∙ peaks-text;
+      bytes = x.bytes ∙ ap (λ (p : Peaks). p.bytes) (peaks-same s short);
+      least = subst (λ z. IsBelow z peaks) (peaks-same s short) x.least;
+      legible = λ all. x.legible (legible-text ∙ all) ∙ peaks-same s short;
     }
+
+    least-text : (n : ℕ) (peaks : Peaks) → IsBelow (exact_peaks narrow.limits (first_lines n s)) peaks
+        → IsBelow (exact_peaks rules.limits (first_lines n s)) peaks
+    least-text n peaks x =
+        let first : AreShort m (lines (first_lines n s)) = subst (λ ls. AreShort m ls) (sym (lines-first n s))
+        (short-take m n (lines s) short) in
+        subst (λ z. IsBelow z peaks) (peaks-same (first_lines n s) first) x
 
     counts-text : (n features refusals : ℕ) → Counts narrow s n features refusals → Counts rules s n features refusals
     counts-text n features refusals x = record {
@@ -296,6 +302,7 @@ module _ (rules : Rules) (m : ℕ) (low : m ≤ rules.limits.line) where
               counts = λ free. all-text o (t.counts free);
               reports = λ free. subst (λ z. Holds s z old new) reported-text (t.reports free);
               first = subst (λ z. Holds s z old new) (reported_first-text o.lines) t.first;
+              least = least-text o.lines o.peaks t.least;
             };
             took = λ free. subst (λ z. Took law.takes a z b) kept-text (x.took free);
             delivers = delivers-text 0 o.lines a b o.ended x.delivers;
@@ -342,8 +349,8 @@ module _ {S : Type 0} (law : SinkLaw S) (r : Request) (header part : List ℕ) (
   )
   asked-ok rules used (Err why) asked same judged = tt
 
-  -- and it is declined for want of memory alone
-  pub declined-memory : (went : Result Outcome NotJudged) → IfErr went (λ why. why ≡ Memory)
+  -- and it is declined for want of memory alone, where nothing is wrong with its query
+  pub declined-memory : fault_of r ≡ None → (went : Result Outcome NotJudged) → IfErr went (λ why. why ≡ Memory)
       → IfErr went (DeclinesCall r header part)
-  declined-memory (Ok o) is = tt
-  declined-memory (Err why) is = rw is fit
+  declined-memory none (Ok o) is = tt
+  declined-memory none (Err why) is = rw is (fit, inl none)

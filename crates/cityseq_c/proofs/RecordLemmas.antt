@@ -1,5 +1,5 @@
 -- What room for records has after some items.
-use Rattle.std.proofs.Common.{◌≡◌, ℕ, zero, suc, ◌+◌, ◌-◌, ◌<◌, ◌≤◌, List, [], ◌∷◌, ◌++◌, Bool, true, false, cond, ltb, Option, Some, None, length, min, take, drop, refl, sym, ap, ◌∙◌, subst, arith, append_assoc}
+use Rattle.std.proofs.Common.{◌≡◌, ℕ, zero, suc, ◌+◌, ◌-◌, ◌<◌, ◌≤◌, List, [], ◌∷◌, ◌++◌, Bool, true, false, ltb, Option, Some, None, length, min, take, drop, refl, sym, ap, ◌∙◌, subst, arith, append_assoc}
 use Rattle.std.specs.Prelude.{is_some, slice_set}
 use Rattle.std.specs.List.{AllZip}
 use Rattle.std.proofs.lemmas.Bool.{ltb-true, ltb-false}
@@ -8,7 +8,7 @@ use Rattle.cj_spans.specs.Tree.{Tree}
 use Rattle.cj_stream.specs.Item.{Item}
 use Rattle.cj_stream.specs.Lines.{Line}
 use Rattle.cj_stream.specs.Sink.{Took}
-use Rattle.cityseq_c.specs.Features.{AddsAt, AddsRecord, HoldsRecords, IsRecordOf, KeepsRoom, ListsBy, ListsItem, Place, Spot, StoresBy, listed_count, listed_loan, listed_place, listed_room, past, seek}
+use Rattle.cityseq_c.specs.Features.{AddsAt, HoldsRecords, IsRecordOf, KeepsRoom, ListsBy, ListsItem, Place, Spot, StoresBy, listed_count, listed_loan, listed_place, listed_room, seek}
 use Rattle.cityseq_c.specs.declared.features.record_of.FeatureRecord.{FeatureRecord}
 use Rattle.cityseq_c.specs.declared.features.listed.Listed.{Listed}
 use Rattle.cityseq_c.proofs.SpotLemmas.{found_from, spot_at}

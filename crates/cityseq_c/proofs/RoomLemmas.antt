@@ -1,7 +1,7 @@
 -- What is in room that is lent for an output.
-use Rattle.std.proofs.Common.{◌≡◌, ℕ, subst, ◌+◌, List, [], ◌∷◌, ◌++◌, Some, length, take, refl, sym, ap, ◌∙◌, arith, append_assoc}
+use Rattle.std.proofs.Common.{◌≡◌, ℕ, subst, ◌+◌, ◌-◌, ◌≤◌, List, [], ◌∷◌, ◌++◌, Some, drop, length, take, refl, sym, ap, ◌∙◌, arith, append_assoc}
 use Rattle.std.specs.List.{flat_map}
-use Rattle.std.proofs.lemmas.List.{append-nil, length-append}
+use Rattle.std.proofs.lemmas.List.{append-nil, drop-drop, length-append}
 use Rattle.cj_stream.specs.declared.ending.End.TheVariants.{WriteFault}
 use Rattle.cj_stream.specs.Engine.{Faults}
 use Rattle.cj_stream.specs.Headline.{IsUnhindered}
@@ -16,12 +16,20 @@ use Rattle.cityseq_c.specs.declared.report_slice.Told.{Told}
 use Rattle.cityseq_c.specs.Room.{room_bytes, room_loan, written_of, in_room, room_law}
 use Rattle.cityseq_c.specs.declared.room.Room.{Room}
 
+-- what is behind a place is behind a later one
+drop-later : (m n : ℕ) (xs ys : List ℕ) → m ≤ n → drop m xs ≡ drop m ys → drop n xs ≡ drop n ys
+drop-later m n xs ys le same =
+    let at : m + (n - m) ≡ n = omega (arith, le) in
+    subst (λ k. drop k xs ≡ drop k ys) at
+    (sym (drop-drop (n - m) m xs) ∙ (ap (λ z. drop (n - m) z) same ∙ drop-drop (n - m) m ys))
+
 -- items were written behind what was there
 pub record Written (a b : Room) (xs : List Item) : Type 0 where
   pub loan : room_loan b ≡ room_loan a
   pub size : length (room_bytes b) ≡ length (room_bytes a)
   pub count : written_of b ≡ written_of a + length (flat_map raw_item xs)
   pub bytes : in_room b ≡ in_room a ++ flat_map raw_item xs
+  pub rest : drop (written_of b) (room_bytes b) ≡ drop (written_of b) (room_bytes a)
 
 pub all-written : (a b : Room) (xs : List Item) → Took room_law.takes a xs b → Written a b xs
 all-written a b [] h = rw h (record {
@@ -29,6 +37,7 @@ all-written a b [] h = rw h (record {
   size = refl;
   count = omega arith;
   bytes = sym (append-nil (in_room a));
+  rest = refl;
 })
 all-written a b (x ∷ xs) h =
     let first = h.1 in
@@ -39,50 +48,52 @@ all-written a b (x ∷ xs) h =
       count = omega (arith, later.count, first.count, length-append (raw_item x) (flat_map raw_item xs));
       bytes = later.bytes ∙ (ap (λ z. z ++ flat_map raw_item xs) first.bytes
           ∙ append_assoc (in_room a) (raw_item x) (flat_map raw_item xs));
+      rest = later.rest
+          ∙ drop-later (written_of h.0) (written_of b) (room_bytes h.0) (room_bytes a) (omega (arith, later.count))
+          first.rest;
     }
 
--- what is in room that was empty
-in-empty : (a b : Room) (xs : List Item) → Took room_law.takes a xs b → written_of a ≡ 0
-    → (written_of b ≡ length (flat_map raw_item xs)) × (in_room b ≡ flat_map raw_item xs)
-in-empty a b xs took none =
-    let w = all-written a b xs took in
-    (omega (arith, w.count, none), w.bytes ∙ ap (λ n. take n (room_bytes a) ++ flat_map raw_item xs) none)
+module _ (rules : Rules) (text : List ℕ) (o : Outcome) (a b : Room) (reports new_reports : List Told)
+    (old new : List ℕ) (written : ℕ)
+    (j : Judged room_law (stream_of rules text) o (lent a reports) (lent b new_reports)) (none : written_of a ≡ 0)
+    (begins : room_bytes a ≡ old) (back : room_loan b ≡ room_loan a → new ≡ room_bytes b)
+    (count : written ≡ written_of b) where
+  -- what was written to room in which nothing was
+  first-written : (r : Room) (xs : List Item) → Took room_law.takes a xs r → new ≡ room_bytes r
+      → written ≡ written_of r → IsWritten (flat_map raw_item xs) old new written
+  first-written r xs took is many =
+      let w = all-written a r xs took in
+      rw (is, many, ← begins) (record {
+        size = w.size;
+        count = omega (arith, w.count, none);
+        there = w.bytes ∙ ap (λ n. take n (room_bytes a) ++ flat_map raw_item xs) none;
+        rest = w.rest;
+      })
 
-module _ (rules : Rules) (text : List ℕ) (o : Outcome) (a b : Room) (old new : List Told) (out : List ℕ) (written : ℕ)
-    (j : Judged room_law (stream_of rules text) o (lent a old) (lent b new)) (none : written_of a ≡ 0)
-    (back : room_loan b ≡ room_loan a
-    → out ≡ room_bytes b) (count : written ≡ written_of b) where
-  all-copied : IsUnhindered o.ended → IsWritten (output rules text) out written
+  all-copied : IsUnhindered o.ended → IsWritten (output rules text) old new written
   all-copied free =
       let took = j.took free in
-      let here = in-empty a b (kept rules text) took none in
-      record {
-        count = count ∙ here.0;
-        there = rw (back (all-written a b (kept rules text) took).loan, count) here.1;
-      }
+      first-written b (kept rules text) took (back (all-written a b (kept rules text) took).loan) count
 
-  when-full : o.ended ≡ WriteFault → IsFull rules text out written o.lines
+  when-full : o.ended ≡ WriteFault → IsFull rules text old new written o.lines
   when-full is =
       let d = j.delivers in
       let fault = subst (λ e. Faults room_law (up_to rules text o.lines) d.middle b (Some e)) is d.fault in
       let items : d.added ≡ kept_first rules o.lines text = sym d.kept in
-      let here = in-empty a d.middle d.added d.took none in
+      let all = all-written a d.middle d.added d.took in
       let stays = fault.3 in
-      let lent = back (stays.loan ∙ (all-written a d.middle d.added d.took).loan) in
-      let same : out ≡ room_bytes d.middle = lent ∙ stays.bytes in
-      let size : written ≡ written_of d.middle = count ∙ stays.count in
+      let same : new ≡ room_bytes d.middle = back (stays.loan ∙ all.loan) ∙ stays.bytes in
+      let many : written ≡ written_of d.middle = count ∙ stays.count in
       record {
-        first = record {
-          count = size ∙ (here.0 ∙ ap (λ xs. length (flat_map raw_item xs)) items);
-          there = rw (same, size) (here.1 ∙ ap (λ xs. flat_map raw_item xs) items);
-        };
+        first = subst (λ xs. IsWritten (flat_map raw_item xs) old new written) items
+            (first-written d.middle d.added d.took same many);
         next = fault.0;
         at = fault.1;
         kept = fault.2;
-        full = rw (same, size) stays.full;
+        full = omega (arith, stays.full, many, all.size, ap length begins);
       }
 
-  pub copied : Copied rules text out written o
+  pub copied : Copied rules text old new written o
   copied = record {
     all = all-copied;
     full = when-full;

@@ -1,10 +1,13 @@
 -- What a sink has tallied of a text.
-use Rattle.std.proofs.Common.{◌≡◌, ℕ, ◌+◌, List, [], ◌∷◌, ◌++◌, Option, None, Some, true, cond, map, get_or, refl, sym, subst, ap, ◌∙◌, arith}
-use Rattle.std.specs.Prelude.{◌≢◌, codes, is_some, option_map}
+use Rattle.std.proofs.Common.{◌≡◌, ℕ, ◌+◌, ◌^◌, ◌<◌, List, [], ◌∷◌, ◌++◌, Option, None, Some, true, cond, lit<, length, map, get_or, refl, sym, subst, ap, ◌∙◌, arith}
+use Rattle.std.specs.Prelude.{◌≢◌, codes, is_some, option_map, replicate}
+use Rattle.std.proofs.lemmas.Grind.{same_number_lists}
+use Rattle.std.proofs.lemmas.List.{get_or-replicate}
 use Rattle.std.specs.List.{filter, last_or}
 use Rattle.std.specs.Str.{chars}
 use Rattle.cj_decimal.specs.Number.{Number as Decimal}
 use Rattle.cj_feature.specs.Shown.{transform_values}
+use Rattle.cj_geometry.specs.ObjectTypes.{type_count}
 use Rattle.cj_stream.specs.CountSink.{is_header}
 use Rattle.cj_stream.specs.Item.{Item}
 use Rattle.cj_stream.specs.declared.ending.End.TheVariants.{Complete}
@@ -12,7 +15,7 @@ use Rattle.cj_stream.specs.declared.running.Outcome.{Outcome}
 use Rattle.cj_stream.specs.Headline.{IsUnhindered}
 use Rattle.cj_stream.specs.Run.{Puts}
 use Rattle.cj_stream.specs.Parts.{headed, wider, IsCut, JoinsTallies}
-use Rattle.cj_stream.specs.Tallied.{capped}
+use Rattle.cj_stream.specs.Tallied.{capped, class_count}
 use Rattle.cj_stream.specs.TallySink.{no_tally, last_shown, IsTallyOf, Tallies, TalliesRun, Tally as Tallied}
 use Rattle.cj_stream.specs.Lines.{ended_line, lines}
 use Rattle.cj_stream.specs.Verdict.{Rules, ending, item_after, kept, kept_from, stream_of}
@@ -20,7 +23,7 @@ use Rattle.cj_stream.specs.Sink.{never_fails}
 use Rattle.cj_stream.proofs.PartsLemmas.{front-good, header-valid, kept-first}
 use Rattle.cityseq_c.specs.Called.{IsTalliedOf}
 use Rattle.cityseq_c.specs.Judged.{Judged, lent}
-use Rattle.cityseq_c.specs.Tally.{AreShown, HasCounts, IsTally}
+use Rattle.cityseq_c.specs.Tally.{AreShown, HasCounts, IsTally, range_of, zeros}
 use Rattle.cityseq_c.specs.declared.report_slice.Told.{Told}
 use Rattle.cityseq_c.specs.declared.tally.Tally.{Tally}
 
@@ -103,3 +106,70 @@ module _ (rules : Rules) (h a b : List ℕ) (first second joined header : Tally)
           translate = subst (λ z. AreShown x.tallied.translate z.translate) (sym same) x.told.translate;
         };
       }
+
+-- ---- zeros
+
+-- counts that were added to zeros
+added-to-zeros : (size : ℕ) (before counts after : List ℕ) → before ≡ replicate size 0 → length counts ≡ size
+    → length after ≡ size → ((n : ℕ) → n < size → get_or counts n 0 < 2 ^ 64)
+    → ((n : ℕ) → n < size → get_or after n 0 ≡ capped (get_or before n 0 + get_or counts n 0)) → after ≡ counts
+added-to-zeros size before counts after none long same few adds =
+    same_number_lists after counts (same ∙ sym long) (λ k lt.
+    let within : k < size = omega (arith, lt, same) in
+    let zero : get_or before k 0 ≡ 0 = ap (λ z. get_or z k 0) none ∙ get_or-replicate size k 0 0 within in
+    omega (arith, adds k within, zero, few k within))
+
+-- a tally has as many counts as there are types and classes, and each is below 2^64
+pub record IsOfSize (t : Tallied) : Type 0 where
+  pub features : t.features < 2 ^ 64
+  pub types : length t.types ≡ type_count
+  pub lods : length t.lods ≡ class_count
+  pub few_types : (n : ℕ) → n < type_count → get_or t.types n 0 < 2 ^ 64
+  pub few_lods : (n : ℕ) → n < class_count → get_or t.lods n 0 < 2 ^ 64
+
+-- what zeros and a tally were joined as, by sinks that have the counts of each
+module _ (first second joined : Tally) (x s t u : Tallied) (none : first ≡ zeros) (of_x : IsTally x second)
+    (counts : (y : Tallied) → IsTally y first → HasCounts y s)
+    (more : (y : Tallied) → IsTally y second → HasCounts y t)
+    (joins : JoinsTallies s t u) (told : IsTally u joined) (size : IsOfSize t) (long : IsOfSize u) where
+  nothing : IsTally no_tally first
+  nothing = rw none (record {
+    features = refl;
+    types = refl;
+    lods = refl;
+    ranges = refl;
+    transformed = refl;
+    scale = refl;
+    translate = refl;
+  })
+
+  of_first : HasCounts no_tally s
+  of_first = counts no_tally nothing
+
+  of_next : HasCounts x t
+  of_next = more x of_x
+
+  same-features : joined.features ≡ second.features
+  same-features =
+      omega (arith, told.features, joins.features, of_first.features, of_next.features, of_x.features, size.features)
+
+  same-types : joined.types ≡ second.types
+  same-types =
+      told.types ∙ (added-to-zeros type_count s.types t.types u.types of_first.types size.types long.types
+      size.few_types joins.types ∙ (of_next.types ∙ sym of_x.types))
+
+  same-lods : joined.lods ≡ second.lods
+  same-lods =
+      told.lods ∙ (added-to-zeros class_count s.lods t.lods u.lods of_first.lods size.lods long.lods size.few_lods
+      (λ n lt. joins.lods n (omega (arith, lt))) ∙ (of_next.lods ∙ sym of_x.lods))
+
+  axis : (k : ℕ) → k < 3 → range_of (get_or u.ranges k None) ≡ range_of (get_or x.ranges k None)
+  axis k lt =
+      ap range_of (joins.ranges k lt ∙ (ap (λ z. wider z (get_or t.ranges k None))
+      (of_first.ranges k lt ∙ get_or-replicate 3 k None None lt) ∙ of_next.ranges k lt))
+
+  same-ranges : joined.ranges ≡ second.ranges
+  same-ranges = rw (told.ranges, of_x.ranges, axis 0 (lit< tt), axis 1 (lit< tt), axis 2 (lit< tt)) refl
+
+  pub zeros-then : with_transform joined second ≡ second
+  zeros-then = rw (same-features, same-types, same-lods, same-ranges) refl

@@ -1,6 +1,6 @@
 -- What the calls of C answer.
 use Rattle.std.specs.Prelude.{◌≡◌, ◌⊎◌, ℕ, ◌+◌, ◌<◌, ◌≤◌, ◌≢◌, List, ◌++◌, Some, Result, Ok, Err, true, length}
-use Rattle.std.specs.Prelude.{slice_get, take}
+use Rattle.std.specs.Prelude.{drop, slice_get, take}
 use Rattle.cj_stream.specs.declared.ending.End.TheVariants.{WriteFault}
 use Rattle.cj_stream.specs.declared.running.Outcome.{Outcome}
 use Rattle.cj_stream.specs.Headline.{IsUnhindered}
@@ -54,30 +54,32 @@ pub record Calls (c : Call) (also : Rules → Outcome → Type 0) (written : ℕ
 abbrev pub Checks : Call → Answer → Type 0
 Checks c answer = Calls c (λ rules outcome. Unit {0}) 0 answer
 
--- these bytes were written to room, and so many they are
-pub record IsWritten (bytes out : List ℕ) (written : ℕ) : Type 0 where
+-- these bytes were written to room, and so many they are; behind them it is as it was
+pub record IsWritten (bytes old new : List ℕ) (written : ℕ) : Type 0 where
+  pub size : length new ≡ length old
   pub count : written ≡ length bytes
-  pub there : take written out ≡ bytes
+  pub there : take written new ≡ bytes
+  pub rest : drop written new ≡ drop written old
 
 -- the output did not fit: that of the first n lines is there, and the next line, which is kept, has no room behind it
-pub record IsFull (rules : Rules) (text out : List ℕ) (written n : ℕ) : Type 0 where
-  pub first : IsWritten (output_first rules n text) out written
+pub record IsFull (rules : Rules) (text old new : List ℕ) (written n : ℕ) : Type 0 where
+  pub first : IsWritten (output_first rules n text) old new written
   pub next : Line
   pub at : slice_get (lines text) n ≡ Some next
   pub kept : is_kept (verdict rules (take n (lines text)) next.content) ≡ true
-  pub full : length out < written + length (raw next)
+  pub full : length old < written + length (raw next)
 
 -- what was written of a text: its output, or that of the lines that were dealt with where the next one did not fit;
 -- room for as many bytes as the text has is always enough
-pub record Copied (rules : Rules) (text out : List ℕ) (written : ℕ) (outcome : Outcome) : Type 0 where
-  pub all : IsUnhindered outcome.ended → IsWritten (output rules text) out written
-  pub full : outcome.ended ≡ WriteFault → IsFull rules text out written outcome.lines
-  pub enough : length text ≤ length out → outcome.ended ≢ WriteFault
+pub record Copied (rules : Rules) (text old new : List ℕ) (written : ℕ) (outcome : Outcome) : Type 0 where
+  pub all : IsUnhindered outcome.ended → IsWritten (output rules text) old new written
+  pub full : outcome.ended ≡ WriteFault → IsFull rules text old new written outcome.lines
+  pub enough : length text ≤ length old → outcome.ended ≢ WriteFault
 
--- a filter, with what was lent for the output as it is then
-abbrev pub Filters : Call → List ℕ → Answer → Type 0
-Filters c out answer =
-    Calls c (λ rules outcome. Copied rules (text_of c) out answer.written outcome) answer.written answer
+-- a filter, with the room for the output before and after
+abbrev pub Filters : Call → List ℕ → List ℕ → Answer → Type 0
+Filters c before after answer =
+    Calls c (λ rules outcome. Copied rules (text_of c) before after answer.written outcome) answer.written answer
 
 -- the tally is that of what is kept of a text
 pub record IsTalliedOf (rules : Rules) (text : List ℕ) (tally : Tally) : Type 0 where

@@ -1,5 +1,5 @@
 -- The records of the features that are kept: where each stands in a part, and what is in it.
-use Rattle.std.specs.Prelude.{◌≡◌, ℕ, zero, suc, ◌+◌, ◌*◌, ◌<◌, ◌^◌, List, [], ◌∷◌, ◌++◌, Bool, true, false, Option}
+use Rattle.std.specs.Prelude.{◌≡◌, ℕ, zero, suc, ◌+◌, ◌<◌, ◌^◌, List, [], ◌∷◌, ◌++◌, Bool, true, false, Option}
 use Rattle.std.specs.Prelude.{Some, None, ℤ, if◌then◌else◌, MatchOption, codes, drop, get_or, length, min, nat_lt}
 use Rattle.std.specs.Prelude.{slice_set, take}
 use Rattle.std.specs.List.{AllZip, filter, flat_map}

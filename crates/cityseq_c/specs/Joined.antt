@@ -1,9 +1,11 @@
 -- What is told of a stream by what is told of its parts.
-use Rattle.std.specs.Prelude.{◌≡◌, ℕ, List, Option, Some, None, option_map, nat_eq, if◌then◌else◌}
+use Rattle.std.specs.Prelude.{◌≡◌, ℕ, ◌+◌, ◌-◌, List, Option, Some, None, option_map, nat_eq, if◌then◌else◌}
 use Rattle.cj_stream.specs.declared.ending.End.{End}
 use Rattle.cj_stream.specs.declared.ending.End.TheVariants.{Complete, Refused, WriteFault}
 use Rattle.cj_stream.specs.declared.running.Outcome.{Outcome}
+use Rattle.cj_stream.specs.Parts.{both_outcomes, capped_outcome}
 use Rattle.cj_stream.specs.Run.{Account}
+use Rattle.cj_stream.specs.Tallied.{capped}
 use Rattle.cj_stream.specs.Verdict.{Rules}
 use Rattle.cityseq_c.specs.Answer.{answer_of}
 use Rattle.cityseq_c.specs.Judged.{IsJudged, run_over}
@@ -33,3 +35,10 @@ outcome_by a ended = record {
   peaks = record { bytes = a.peak_bytes; tokens = a.peak_tokens; depth = a.peak_depth };
   ended = ended;
 }
+
+-- the answer for two parts where the first is complete and the next came to this end: what is told of both runs as one,
+-- and the length of the output, in which the header of so many bytes counts once
+abbrev pub both_answers : Answer → Answer → End → ℕ → Answer
+both_answers first next ended header_length =
+    answer_of (capped_outcome (both_outcomes (outcome_by first Complete) (outcome_by next ended)))
+    (capped (first.written + (next.written - header_length)))

@@ -1,7 +1,8 @@
 -- How a header and a part, which are one text, were judged.
 use Rattle.std.specs.Prelude.{◌≡◌, ℕ, List, Some}
+use Rattle.cj_stream.specs.Bound.{IsBelow, exact_peaks, first_lines}
 use Rattle.cj_stream.specs.declared.ending.End.{End}
-use Rattle.cj_stream.specs.declared.ending.End.TheVariants.{Complete, Refused, ReadFault, ReadLimit, WriteFault, Memory}
+use Rattle.cj_stream.specs.declared.ending.End.TheVariants.{Complete, Refused, WriteFault}
 use Rattle.cj_stream.specs.declared.running.Outcome.{Outcome}
 use Rattle.cj_stream.specs.Engine.{Delivers}
 use Rattle.cj_stream.specs.Headline.{IsUnhindered}
@@ -24,7 +25,7 @@ run_over rules text outcome = record { rules = rules; read = text; outcome = out
 
 -- What is told of a text that was judged by rules. Its end, its counts and the reports in the room for them are those
 -- of the whole text, unless the sink failed. Whatever the end is, counts and reports are those of the first lines, as
--- many as were dealt with.
+-- many as were dealt with, and no less was held at most than these lines need.
 pub record Tells (rules : Rules) (text : List ℕ) (outcome : Outcome) (old new : List Told) : Type 0 where
   pub judged : IsJudged outcome.ended
   pub account : Account (run_over rules text outcome) (Unit {0})
@@ -32,6 +33,7 @@ pub record Tells (rules : Rules) (text : List ℕ) (outcome : Outcome) (old new 
   pub counts : IsUnhindered outcome.ended → CountsAll rules text outcome
   pub reports : IsUnhindered outcome.ended → Holds text (reported rules text) old new
   pub first : Holds text (reported_first rules outcome.lines text) old new
+  pub least : IsBelow (exact_peaks rules.limits (first_lines outcome.lines text)) outcome.peaks
 
 -- what is lent for the lines of a text: a sink for the kept ones, and room for reports
 pub record Lent (S : Type 0) : Type 0 where

@@ -1,7 +1,7 @@
 -- What reading the parts of a query answers.
-use Rattle.std.specs.Prelude.{◌≡◌, ℕ, List, Option, Some, Result, Ok, Err, option_map, IsOk}
+use Rattle.std.specs.Prelude.{◌≡◌, ◌⊎◌, ℕ, ◌<◌, List, Option, Some, None, Result, Ok, Err, length, option_map, IsOk}
 use Rattle.std.specs.Borrow.{Bor}
-use Rattle.cityseq_c.specs.Request.{fault_of, HasFault, IsFit}
+use Rattle.cityseq_c.specs.Request.{fault_of, ids_asked, lods_asked, types_asked, HasFault, IsFit}
 use Rattle.cityseq_c.specs.declared.request.Fault.{Fault as WrongFault}
 use Rattle.cityseq_c.specs.declared.request.NotJudged.{NotJudged}
 use Rattle.cityseq_c.specs.declared.request.NotJudged.TheVariants.{Fault, Memory}
@@ -13,17 +13,33 @@ Reads asked (Ok text) = asked ≡ Ok (option_map (λ (t : Bor (List ℕ)). t.now
 Reads asked (Err (Fault fault)) = asked ≡ Err fault
 Reads asked (Err Memory) = ⊥
 
--- a part is declined for what is wrong with it, or for want of memory, and then nothing is
+-- texts are asked for, and there are some
+abbrev pub AsksTexts : Result (Option (List (List ℕ))) WrongFault → Type 0
+AsksTexts (Ok (Some texts)) = 0 < length texts
+AsksTexts (Ok None) = ⊥
+AsksTexts (Err fault) = ⊥
+
+-- a part of texts is declined for what is wrong with it, or for want of memory for its texts
+abbrev pub DeclinesTexts : Result (Option (List (List ℕ))) WrongFault → NotJudged → Type 0
+DeclinesTexts asked (Fault fault) = asked ≡ Err fault
+DeclinesTexts asked Memory = AsksTexts asked
+
+-- another part is declined for what is wrong with it alone
 abbrev pub DeclinesPart : {A : Type 0} → Result A WrongFault → NotJudged → Type 0
 DeclinesPart asked (Fault fault) = asked ≡ Err fault
-DeclinesPart asked Memory = IsOk asked
+DeclinesPart asked Memory = ⊥
 
--- a query is declined for the first fault of its parts, or for want of memory
+-- memory is wanted for ids, or for LoDs, which come after ids and types with which nothing is wrong
+abbrev pub WantsMemory : Request → Type 0
+WantsMemory r = AsksTexts (ids_asked r) ⊎ (IsOk (ids_asked r) × IsOk (types_asked r) × AsksTexts (lods_asked r))
+
+-- a query is declined for the first fault of its parts, or for want of memory for texts that come before that
 abbrev pub DeclinesQuery : Request → NotJudged → Type 0
 DeclinesQuery r (Fault fault) = fault_of r ≡ Some fault
-DeclinesQuery r Memory = Unit {0}
+DeclinesQuery r Memory = WantsMemory r
 
--- a stream is not judged for this fault, or for want of memory for a query
+-- a stream is not judged for this fault; or for want of memory, where nothing is wrong, or for texts of the query that
+-- come before what is
 abbrev pub DeclinesCall : Request → List ℕ → List ℕ → NotJudged → Type 0
 DeclinesCall r header part (Fault fault) = HasFault r header part fault
-DeclinesCall r header part Memory = IsFit r header part
+DeclinesCall r header part Memory = IsFit r header part × ((fault_of r ≡ None) ⊎ WantsMemory r)

@@ -1,5 +1,5 @@
 -- What contracts see of bytes that are lent for an output.
-use Rattle.std.specs.Prelude.{◌≡◌, ℕ, ◌+◌, ◌<◌, List, ◌++◌, length, take}
+use Rattle.std.specs.Prelude.{◌≡◌, ℕ, ◌+◌, ◌<◌, List, ◌++◌, drop, length, take}
 use Rattle.cj_stream.specs.Item.{raw_item}
 use Rattle.cj_stream.specs.Sink.{SinkLaw, HasRisen}
 use Rattle.cityseq_c.specs.declared.room.Room.{Room}
@@ -21,12 +21,13 @@ room_failures r = r.failures
 abbrev pub in_room : Room → List ℕ
 in_room r = take r.written r.bytes.now
 
--- bytes were written behind the others
+-- bytes were written behind the others, and what is behind these is as it was
 pub record Grows (a : Room) (bs : List ℕ) (b : Room) : Type 0 where
   pub loan : room_loan b ≡ room_loan a
   pub size : length (room_bytes b) ≡ length (room_bytes a)
   pub count : written_of b ≡ written_of a + length bs
   pub bytes : in_room b ≡ in_room a ++ bs
+  pub rest : drop (written_of b) (room_bytes b) ≡ drop (written_of b) (room_bytes a)
   pub failures : room_failures b ≡ room_failures a
 
 -- bytes did not fit, and none of them was written

@@ -1,8 +1,10 @@
 -- A tally, as C has it.
 use Rattle.std.specs.Prelude.{◌≡◌, ℕ, ◌+◌, ◌*◌, ◌^◌, ◌<◌, List, [], ◌∷◌, Option, None, Some, ℤ, pos, get_or, int_lt}
-use Rattle.std.specs.Prelude.{is_some, nat_eq, unsigned_abs, if◌then◌else◌}
+use Rattle.std.specs.Prelude.{is_some, nat_eq, replicate, unsigned_abs, if◌then◌else◌}
 use Rattle.std.specs.List.{AllZip}
 use Rattle.cj_decimal.specs.Number.{Number}
+use Rattle.cj_geometry.specs.ObjectTypes.{type_count}
+use Rattle.cj_stream.specs.Tallied.{class_count}
 use Rattle.cj_stream.specs.TallySink.{Tally as Tallied}
 use Rattle.cityseq_c.specs.declared.tally.Range.{Range}
 use Rattle.cityseq_c.specs.declared.tally.Number.{Number as Told}
@@ -38,6 +40,18 @@ pub record IsDecimal (n : Number) (told : Told) : Type 0 where
 abbrev pub AreShown : Option (List Number) → List Told → Type 0
 AreShown (Some ns) told = AllZip IsDecimal ns told
 AreShown None told = told ≡ no_number ∷ no_number ∷ no_number ∷ []
+
+-- a tally of zeros
+abbrev pub zeros : Tally
+zeros = record {
+  features = 0;
+  types = replicate type_count 0;
+  lods = replicate class_count 0;
+  ranges = range_of None ∷ range_of None ∷ range_of None ∷ [];
+  transformed = 0;
+  scale = no_number ∷ no_number ∷ no_number ∷ [];
+  translate = no_number ∷ no_number ∷ no_number ∷ [];
+}
 
 -- C has the counts and the ranges of a tally, and the transform
 pub record IsTally (t : Tallied) (told : Tally) : Type 0 where

@@ -90,12 +90,12 @@ fn answer_of_outcome(outcome: Outcome, written: u64) -> Answer
 }
 
 impl Answer {
-    ghost use Rattle.std.specs.Prelude.{◌≢◌, ◌+◌, ◌-◌, ◌<◌, ◌^◌, ◌++◌, ℕ, List};
+    ghost use Rattle.std.specs.Prelude.{◌≢◌, ◌+◌, ◌-◌, ◌<◌, ◌^◌, ◌++◌, ℕ, List, Some};
     ghost use Rattle.cj_stream.specs.Parts.{headed, IsCut};
     ghost use Rattle.cj_stream.specs.Tallied.{capped};
     ghost use Rattle.cj_stream.specs.Verdict.{Rules};
     ghost use Rattle.cityseq_c.specs.Called.{IsUnjudged};
-    ghost use Rattle.cityseq_c.specs.Joined.{ended_by, outcome_by, IsAnswerOf};
+    ghost use Rattle.cityseq_c.specs.Joined.{both_answers, ended_by, outcome_by, IsAnswerOf};
 
     /// Returns the answer of a call, from its outcome or from why nothing was judged.
     pub fn of(judged: Result<Outcome, NotJudged>, written: usize) -> Answer
@@ -155,6 +155,8 @@ impl Answer {
         ensures ended { self.now.status ≢ 0 → result ≡ self.now }
         ensures unjudged { self.now.status ≡ 0 → IsUnjudged next.now
             → result ≡ record self.now { status = next.now.status; code = next.now.code } }
+        ensures judged { (ended : End) → self.now.status ≡ 0 → ended_by next.now ≡ Some ended
+            → result ≡ both_answers self.now next.now ended header_length }
         ensures account { (rules : Rules) (h a b : List ℕ) → IsCut h a → self.now.lines + next.now.lines < 2 ^ 64
             → IsAnswerOf rules (headed h a) self.now → IsAnswerOf rules (headed h b) next.now
             → IsAnswerOf rules (headed h (a ++ b)) result }

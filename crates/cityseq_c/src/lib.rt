@@ -22,18 +22,20 @@
 //! - [`row_laws`]: the definitions on worked examples.
 #![tactic(auto)]
 
-ghost use Rattle.std.specs.Prelude.{◌≡◌, ◌≢◌, ◌+◌, ◌-◌, ◌<◌, ◌^◌, ◌++◌, ℕ, List, take, length};
+ghost use Rattle.std.specs.Prelude.{◌≡◌, ◌≢◌, ◌+◌, ◌-◌, ◌<◌, ◌^◌, ◌++◌, ℕ, List, Some, take, length};
 ghost use Rattle.cj_stream.specs.Lines.{whole};
 ghost use Rattle.cj_stream.specs.Parts.{headed, IsCut};
 ghost use Rattle.cj_stream.specs.Tallied.{capped};
+ghost use Rattle.cj_stream.specs.TallySink.{Tally as Tallied};
 ghost use Rattle.cj_stream.specs.Verdict.{Rules, ending};
 ghost use Rattle.cj_stream.specs.declared.ending.End.{End};
 ghost use Rattle.cityseq_c.specs.Answer.{not_judged};
 ghost use Rattle.cityseq_c.specs.Called.{Checks, Filters, IsTalliedOf, IsUnjudged, Lists, TalliesPart, call};
 ghost use Rattle.cityseq_c.specs.Cutting.{part_end};
-ghost use Rattle.cityseq_c.specs.Joined.{IsAnswerOf};
+ghost use Rattle.cityseq_c.specs.Joined.{IsAnswerOf, both_answers, ended_by};
 ghost use Rattle.cityseq_c.specs.Memory.{memory_bytes};
 ghost use Rattle.cityseq_c.specs.Begins.{begin_of};
+ghost use Rattle.cityseq_c.specs.Tally.{IsTally, zeros};
 ghost use Rattle.cityseq_c.specs.Request.{AreCut, stack_bytes};
 ghost use Rattle.cityseq_c.specs.Words.{reason_words, type_words, IsCopied};
 
@@ -114,7 +116,8 @@ pub extern "C" fn cityseq_filter(
     output: &mut [u8],
     reports: &mut [Told],
 ) -> Answer
-    ensures filters { Filters (call request.now header.now part.now reports.old reports.new) output.new result }
+    ensures filters { Filters (call request.now header.now part.now reports.old reports.new) output.old
+        output.new result }
     ensures unjudged { IsUnjudged result → (result ≡ not_judged result.status result.code) × (reports.new ≡ reports.old)
         × (output.new ≡ output.old) }
 {
@@ -177,6 +180,8 @@ pub extern "C" fn cityseq_answer_then(first: &Answer, next: &Answer, header_leng
     ensures ended { first.now.status ≢ 0 → result ≡ first.now }
     ensures unjudged { first.now.status ≡ 0 → IsUnjudged next.now
         → result ≡ record first.now { status = next.now.status; code = next.now.code } }
+    ensures judged { (ended : End) → first.now.status ≡ 0 → ended_by next.now ≡ Some ended
+        → result ≡ both_answers first.now next.now ended header_length }
     ensures account { (rules : Rules) (h a b : List ℕ) → IsCut h a → first.now.lines + next.now.lines < 2 ^ 64
         → IsAnswerOf rules (headed h a) first.now → IsAnswerOf rules (headed h b) next.now
         → IsAnswerOf rules (headed h (a ++ b)) result }
@@ -187,12 +192,13 @@ pub extern "C" fn cityseq_answer_then(first: &Answer, next: &Answer, header_leng
 }
 
 /// Returns the tally for a header with the lines of two parts, from the tallies for the header with
-/// each. The first part is complete.
+/// each. The first part is complete. A tally of zeros joined with another is that other.
 #[unsafe(no_mangle)]
 pub extern "C" fn cityseq_tally_then(first: &Tally, next: &Tally) -> Tally
-    ensures { (rules : Rules) (h a b : List ℕ) → IsCut h a → ending rules (headed h a) ≡ End.Complete
+    ensures joined { (rules : Rules) (h a b : List ℕ) → IsCut h a → ending rules (headed h a) ≡ End.Complete
         → IsTalliedOf rules (headed h a) first.now → IsTalliedOf rules (headed h b) next.now
         → IsTalliedOf rules (headed h (a ++ b)) result }
+    ensures zeros { (tallied : Tallied) → IsTally tallied next.now → first.now ≡ zeros → result ≡ next.now }
 {
     first.then(next)
 }

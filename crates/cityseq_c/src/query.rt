@@ -1,8 +1,8 @@
 //! Makes the query of a request.
-ghost use Rattle.std.specs.Prelude.{◌≡◌, None, Some, Ok, Err, IfOk, IfErr, OnOk, MatchOption};
+ghost use Rattle.std.specs.Prelude.{◌≡◌, ◌<◌, None, Some, Ok, Err, IfOk, IfErr, OnOk, MatchOption, length};
 ghost use Rattle.cj_stream.specs.Adding.{flags_with, no_types};
 ghost use Rattle.cj_stream.specs.Query.{criteria};
-ghost use Rattle.cityseq_c.specs.Query.{Reads, DeclinesPart, DeclinesQuery};
+ghost use Rattle.cityseq_c.specs.Query.{Reads, DeclinesPart, DeclinesQuery, DeclinesTexts};
 ghost use Rattle.cityseq_c.specs.Request.{AsksFor, box_asked, box_fault as fault_of_box, ids_asked, items, lods_asked};
 ghost use Rattle.cityseq_c.specs.Request.{text_asked, types_asked};
 
@@ -34,7 +34,7 @@ fn text_of(asked: bool, text: &[u8]) -> Result<Option<&str>, NotJudged>
 /// `Memory` if no memory was granted.
 fn add_ids(query: &mut Query, ids: &str) -> Result<(), NotJudged>
     ensures ok { OnOk result (criteria query.new ≡ record (criteria query.old) { ids = Some (items ids.now) }) }
-    ensures memory { IfErr result (λ why. why ≡ NotJudged.Memory) }
+    ensures memory { IfErr result (λ why. (why ≡ NotJudged.Memory) × (0 < length (items ids.now))) }
 {
     query.start_ids();
     if ids.is_empty() {
@@ -56,7 +56,7 @@ fn add_ids(query: &mut Query, ids: &str) -> Result<(), NotJudged>
 /// `Memory` if no memory was granted.
 fn add_lods(query: &mut Query, lods: &str) -> Result<(), NotJudged>
     ensures ok { OnOk result (criteria query.new ≡ record (criteria query.old) { lods = Some (items lods.now) }) }
-    ensures memory { IfErr result (λ why. why ≡ NotJudged.Memory) }
+    ensures memory { IfErr result (λ why. (why ≡ NotJudged.Memory) × (0 < length (items lods.now))) }
 {
     query.start_lods();
     if lods.is_empty() {
@@ -114,7 +114,7 @@ fn set_ids(query: &mut Query, request: &Request<'_>) -> Result<(), NotJudged>
     requires { (criteria query.old).ids ≡ None }
     ensures ok { OnOk result ((ids_asked request.now ≡ Ok (criteria query.new).ids)
         × (criteria query.new ≡ record (criteria query.old) { ids = (criteria query.new).ids })) }
-    ensures declined { IfErr result (DeclinesPart (ids_asked request.now)) }
+    ensures declined { IfErr result (DeclinesTexts (ids_asked request.now)) }
 {
     match text_of(request.asks_ids, request.ids)? {
         Some(ids) => add_ids(query, ids),
@@ -148,7 +148,7 @@ fn set_lods(query: &mut Query, request: &Request<'_>) -> Result<(), NotJudged>
     requires { (criteria query.old).lods ≡ None }
     ensures ok { OnOk result ((lods_asked request.now ≡ Ok (criteria query.new).lods)
         × (criteria query.new ≡ record (criteria query.old) { lods = (criteria query.new).lods })) }
-    ensures declined { IfErr result (DeclinesPart (lods_asked request.now)) }
+    ensures declined { IfErr result (DeclinesTexts (lods_asked request.now)) }
 {
     match text_of(request.asks_lods, request.lods)? {
         Some(lods) => add_lods(query, lods),

@@ -114,7 +114,7 @@ impl Tally {
     ghost use Rattle.cj_stream.specs.declared.ending.End.{End};
     ghost use Rattle.cj_stream.specs.TallySink.{Tally as Tallied};
     ghost use Rattle.cityseq_c.specs.Called.{IsTalliedOf};
-    ghost use Rattle.cityseq_c.specs.Tally.{HasCounts};
+    ghost use Rattle.cityseq_c.specs.Tally.{HasCounts, zeros};
 
     /// Returns the tally of a sink as C has it.
     pub fn of(sink: &TallySink) -> Tally
@@ -150,11 +150,12 @@ impl Tally {
 
     /// Returns the tally for a header with the lines of two parts. This tally is for the header
     /// with the first part, which is complete. `next` is for the header with the second. Counts
-    /// stop at 2^64 - 1.
+    /// stop at 2^64 - 1. A tally of zeros joined with another is that other.
     pub fn then(&self, next: &Tally) -> Tally
-        ensures { (rules : Rules) (h a b : List ℕ) → IsCut h a → ending rules (headed h a) ≡ End.Complete
+        ensures joined { (rules : Rules) (h a b : List ℕ) → IsCut h a → ending rules (headed h a) ≡ End.Complete
             → IsTalliedOf rules (headed h a) self.now → IsTalliedOf rules (headed h b) next.now
             → IsTalliedOf rules (headed h (a ++ b)) result }
+        ensures zeros { (tallied : Tallied) → IsTally tallied next.now → self.now ≡ zeros → result ≡ next.now }
     {
         laws::parts_are_joined();
         let header = if self.transformed == 0 { next } else { self };

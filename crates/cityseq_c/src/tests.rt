@@ -139,6 +139,7 @@ fn an_invalid_line_is_told(rt: HostRuntime) -> Result<(), Fail> {
     let answer = checked(rt.alloc(), HEADER, BROKEN, &USUAL);
     check_ended(&rt, answer, (1, 25, 2, 144));
     check_counts(&rt, answer, (1, 0, 0, 0));
+    check_peaks(&rt, answer, (350, 65, 8));
     Ok(())
 }
 
@@ -188,6 +189,15 @@ fn a_feature_is_filtered(rt: HostRuntime) -> Result<(), Fail> {
     let answer = filtered(rt.alloc(), &mut output);
     check_counts(&rt, answer, (2, 1, 0, 352));
     check_output(&rt, &output);
+    Ok(())
+}
+
+#[test]
+fn bytes_after_the_output_stay(rt: HostRuntime) -> Result<(), Fail> {
+    let mut output = [9u8; 354];
+    let answer = filtered(rt.alloc(), &mut output);
+    check_counts(&rt, answer, (2, 1, 0, 352));
+    check_text(&rt, &output[352..], &[9, 9]);
     Ok(())
 }
 
@@ -357,6 +367,7 @@ fn two_parts_are_told_as_one(rt: HostRuntime) -> Result<(), Fail> {
     let broken = joined(&first, &next);
     check_ended(&rt, broken, (1, 25, 3, 144));
     check_counts(&rt, broken, (2, 1, 0, 352));
+    check_peaks(&rt, broken, (350, 65, 8));
     Ok(())
 }
 

@@ -10,18 +10,20 @@ returns-clause-filters c =
     let j = c.judge-judged.ensures in
     let header = c.args.header.now in
     let part = c.args.part.now in
-    let out = c.output-1.given.0 in
+    let before = c.args.output.now in
+    let after = c.output-1.given.0 in
     let written = c.written.result in
     let a = c.new-room.result in
     let b = c.judge-judged.new.sink in
+    let reports = c.args.reports.now in
     let new = c.judge-judged.new.reports in
-    filters c.args.request.now header part c.args.reports.now new out written c.of.result c.judge-judged.result
+    filters c.args.request.now header part reports new before after written c.of.result c.judge-judged.result
     c.of.ensures
-    (goes room_law c.args.request.now header part a b c.args.reports.now new
-    (λ rules o. Copied rules (header ++ part) out written o)
-    (λ rules o judged. copied rules (header ++ part) o a b c.args.reports.now new out written judged
-    c.new-room.ensures.written (λ loan. c.output-1.given.1.1 (sym c.new-room.ensures.loan ∙ sym loan))
-    c.written.ensures)
+    (goes room_law c.args.request.now header part a b reports new
+    (λ rules o. Copied rules (header ++ part) before after written o)
+    (λ rules o judged. copied rules (header ++ part) o a b reports new before after written judged
+    c.new-room.ensures.written c.new-room.ensures.bytes
+    (λ loan. c.output-1.given.1.1 (sym c.new-room.ensures.loan ∙ sym loan)) c.written.ensures)
     c.judge-judged.result j.ok j.declined j.unread)
 
 pub returns-clause-unjudged : goal.returns-clause-unjudged

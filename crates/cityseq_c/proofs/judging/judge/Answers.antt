@@ -1,11 +1,11 @@
-use Rattle.std.proofs.Common.{ap, ◌∙◌}
+use Rattle.std.proofs.Common.{ap, inl, ◌∙◌}
 use Rattle.std.proofs.lemmas.Result.{err_from_is_err_and}
 use Rattle.cj_stream.specs.Engine.{rules_of}
 use Rattle.cj_stream.specs.Query.{criteria, rules_for}
 use Rattle.cj_stream.specs.Verdict.{Rules}
 use Rattle.cityseq_c.specs.Request.{IsFit}
 use Rattle.cityseq_c.proofs.CalledLemmas.{known-ok}
-use Rattle.cityseq_c.proofs.FaultLemmas.{call-declined}
+use Rattle.cityseq_c.proofs.FaultLemmas.{call-declined, no-fault}
 use Rattle.cityseq_c.proofs.NarrowLemmas.{asked-ok, declined-memory}
 use Rattle.cityseq_c.proofs.judging.judge.Goals as goal
 
@@ -42,5 +42,12 @@ pub returns-clause-declined : goal.returns-clause-declined
 returns-clause-declined g c =
     declined-memory g.S.LineSink.law c.args.request.now c.args.header.now c.args.part.now c.args.sink.now
     c.judge_stream.new.sink
-    c.args.reports.now c.judge_stream.new.reports c.in_ok-limits.ensures.ok.0 c.judge_stream.result
+    c.args.reports.now c.judge_stream.new.reports c.in_ok-limits.ensures.ok.0
+    (no-fault c.args.request.now (criteria c.in_ok-query.query) c.in_ok-query.ensures.ok) c.judge_stream.result
     c.judge_stream.ensures.memory
+
+pub returns-in-Err-clause-declined : goal.returns-in-Err-clause-declined
+returns-in-Err-clause-declined g c = (
+  c.in_ok-limits.ensures.ok.0,
+  inl (no-fault c.args.request.now (criteria c.in_ok-query.query) c.in_ok-query.ensures.ok),
+)

@@ -1,6 +1,6 @@
-use Rattle.std.proofs.Common.{◌∙◌, sym}
+use Rattle.std.proofs.Common.{◌∙◌, refl, sym}
 use Rattle.std.proofs.lemmas.Iterator.Consumers.{YieldsList-end}
-use Rattle.cityseq_c.proofs.ItemLemmas.{items-split}
+use Rattle.cityseq_c.proofs.ItemLemmas.{items-split, some-items}
 use Rattle.cityseq_c.proofs.query.add_ids.Goals as goal
 
 pub returns-clause-ok : goal.returns-clause-ok
@@ -11,3 +11,7 @@ returns-clause-ok c =
     split.pattern c.into_iter-id-iterator.ensures.into_iter_gives in
     let all = YieldsList-end texts c.loop-id.yielded _ c.loop-id.yielded_by _ _ c.in-None.is c.next.ensures.steps in
     c.sort_ids.ensures.asks ∙ (rw all.0 at c.loop-id.invariant)
+
+pub returns-then-is_err-clause-memory : goal.returns-then-is_err-clause-memory
+returns-then-is_err-clause-memory c =
+    (refl, some-items c.args.ids.now (sym c.is_empty.ensures ∙ c.if-is_empty.false))

@@ -1,11 +1,13 @@
-use Rattle.std.proofs.Common.{◌≡◌, ◌-◌, None, subst, sym, ap, ◌∙◌}
+use Rattle.std.proofs.Common.{◌≡◌, ℕ, ◌+◌, ◌-◌, None, subst, sym, ap, ◌∙◌}
 use Rattle.cj_stream.specs.declared.ending.End.TheVariants.{Complete}
 use Rattle.cj_stream.specs.Cut.{IsUnread}
-use Rattle.cj_stream.specs.Parts.{headed, capped_end, moved_end}
+use Rattle.cj_stream.specs.declared.running.Outcome.{Outcome}
+use Rattle.cj_stream.specs.Parts.{headed, both_outcomes, capped_end, capped_outcome, moved_end}
 use Rattle.cj_stream.specs.Run.{Account}
+use Rattle.cj_stream.specs.Tallied.{capped}
 use Rattle.cj_stream.proofs.AccountLemmas.{Account-stays}
 use Rattle.cityseq_c.specs.Answer.{answer_of}
-use Rattle.cityseq_c.specs.Joined.{ended_by}
+use Rattle.cityseq_c.specs.Joined.{ended_by, outcome_by}
 use Rattle.cityseq_c.specs.Judged.{IsJudged, run_over}
 use Rattle.cityseq_c.proofs.AnswerLemmas.{complete-of, ended-of, judged-moved, judged-unread, not-complete, outcome-of, same-end}
 use Rattle.cityseq_c.proofs.answer.Answer.then.Goals as goal
@@ -41,3 +43,16 @@ returns-in-Some-clause-account c rules h a b cut few x y =
       told = c.answer_of_outcome.ensures
           ∙ ap (λ n. answer_of c.then.result n) (sym (ap (λ z. z.written) c.answer_of_outcome.ensures));
     }
+
+pub returns-in-Some-clause-judged : goal.returns-in-Some-clause-judged
+returns-in-Some-clause-judged c ended zero is =
+    let same : c.in-Some.ended ≡ ended =
+    same-end c.in-Some.ended ended (ended_by c.args.next.now) (sym c.ended.ensures ∙ c.in-Some.is) is in
+    let both = c.then.ensures.complete (ap (λ o. o.ended) c.outcome.ensures) in
+    let told = rw (both, c.outcome.ensures, c.outcome-in-Some.ensures) at c.answer_of_outcome.ensures in
+    let count : c.saturating_add.result ≡ capped (c.args.self.now.written
+    + (c.args.next.now.written - c.args.header_length)) = c.saturating_add.ensures
+    ∙ ap (λ (n : ℕ). capped (c.args.self.now.written + n)) c.saturating_sub.ensures in
+    let all : Outcome = capped_outcome (both_outcomes (outcome_by c.args.self.now Complete)
+    (outcome_by c.args.next.now c.in-Some.ended)) in
+    rw (← same) (told ∙ ap (λ (n : ℕ). answer_of all n) count)

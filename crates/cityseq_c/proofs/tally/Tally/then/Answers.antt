@@ -1,11 +1,11 @@
-use Rattle.std.proofs.Common.{◌≡◌, ap}
+use Rattle.std.proofs.Common.{◌≡◌, ap, arith, rules}
 use Rattle.std.specs.Prelude.{◌≢◌}
-use Rattle.cityseq_c.proofs.TallyLemmas.{tallied-then}
+use Rattle.cityseq_c.proofs.TallyLemmas.{IsOfSize, tallied-then, zeros-then}
 use Rattle.cityseq_c.proofs.tally.Tally.then.Goals as goal
 use Rattle.cityseq_c.proofs.tally.Tally.then.Goals.{then-self-eq0, else-self-eq0}
 
-pub returns : goal.returns
-returns c rules h a b cut done first second =
+pub returns-clause-joined : goal.returns-clause-joined
+returns-clause-joined c rules h a b cut done first second =
     tallied-then rules h a b c.args.self.now c.args.next.now c.of.result c.if-self-eq0.header.now c.sink.result
     c.sink-2.result c.then.result cut done own
     c.sink.ensures c.sink-2.ensures c.then.ensures c.of.ensures
@@ -17,3 +17,30 @@ returns c rules h a b cut done first second =
       | then-self-eq0 w ↦ absurd (some w.if-self-eq0.true)
       | else-self-eq0 w ↦ ap (λ h. h.now) w.header-is
     ]
+
+pub returns-clause-zeros : goal.returns-clause-zeros
+returns-clause-zeros c tallied told none =
+    let header : c.if-self-eq0.header.now ≡ c.args.next.now =
+    elim c.if-self-eq0.branch [
+      | then-self-eq0 w ↦ ap (λ h. h.now) w.header-is
+      | else-self-eq0 w ↦ absurd (w.if-self-eq0.false (ap (λ z. z.transformed) none))
+    ] in
+    let size : IsOfSize c.sink-2.result =
+    record {
+      features = omega arith;
+      types = search rules;
+      lods = search rules;
+      few_types = search rules;
+      few_lods = search rules;
+    } in
+    let long : IsOfSize c.then.result =
+    record {
+      features = omega arith;
+      types = search rules;
+      lods = search rules;
+      few_types = search rules;
+      few_lods = search rules;
+    } in
+    rw header
+    (zeros-then c.args.self.now c.args.next.now c.of.result tallied c.sink.result c.sink-2.result c.then.result none
+    told c.sink.ensures c.sink-2.ensures c.then.ensures c.of.ensures size long)
