@@ -78,6 +78,11 @@ def _read_range(
     return header, left, part
 
 
+def _sent(answer: Answer) -> Answer:
+    """Returns an answer that another process can take: its reports are lists."""
+    return replace(answer, reports=list(answer.reports), codes=list(answer.codes))
+
+
 def find_range(
     work: Work, path: str, begin: int, end: int, first: bool, state: Optional[State] = None
 ) -> Answer:
@@ -89,7 +94,7 @@ def find_range(
     if not part and not first:
         return Answer(RawAnswer(lines=1), size=end - begin)
     answer = find_read(work, path, header, partial(given, part), left, first)
-    return replace(answer, reports=list(answer.reports))
+    return _sent(answer)
 
 
 def judge_range(
@@ -104,7 +109,7 @@ def judge_range(
     if not part and not first:
         return Answer(RawAnswer(lines=1), size=end - begin)
     answer = judge(work, path, header, part, first)
-    return replace(answer, reports=list(answer.reports), output=bytes(answer.output))
+    return _sent(replace(answer, output=bytes(answer.output)))
 
 
 def judge_whole(work: Work, path: str) -> Answer:

@@ -118,7 +118,10 @@ class Filters(support.InFolder):
 
     def kept(self, text, **options):
         output = io.BytesIO()
-        result = cityseq.filter(text, output, keep_going=True, **options)
+        try:
+            result = cityseq.filter(text, output, keep_going=True, **options)
+        except cityseq.InvalidStream as fault:  # the header is invalid
+            result = fault.result
         return output.getvalue(), result.features, result.refused
 
     def test_streams_by_chance(self):
