@@ -5,6 +5,7 @@ import os
 import re
 import subprocess
 import sys
+import textwrap
 import unittest
 from unittest import mock
 
@@ -40,6 +41,16 @@ class Commands(InFolder):
         self.assertEqual(command("check", "-", given=GOOD), (b"valid lines=3 features=2\n", "", 0))
         self.assertEqual(command("check", "-", given=BROKEN)[1].splitlines(), [SAID, *rest])
         self.assertEqual(command("check", given=BROKEN), (b"", f"{SAID}\n", 1))
+
+    def test_the_documents_show_what_it_says(self):
+        for name in ("README.md", "docs/GUIDE.md"):
+            with open(os.path.join(support.ROOT, name), encoding="utf-8") as file:
+                text = file.read()
+            shown = re.findall(r"^    \$ cityseq-run (check .*)\n((?:    .*\n)+)", text, re.M)
+            self.assertEqual(len(shown), 1, name)
+            words, block = shown[0]
+            output, said, status = command(*words.split(), cwd=support.ROOT)
+            self.assertEqual((output, said, status), (b"", textwrap.dedent(block), 1), name)
 
     def test_keep_going(self):
         output, said, status = command("check", "--keep-going", example("delivery"))
