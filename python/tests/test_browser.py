@@ -311,6 +311,30 @@ class InBrowser(unittest.TestCase):
         self.assertEqual(len(places), 2)
         self.assertTrue(all(place < 1_280 for place in places), places)
 
+    def test_on_a_phone_it_is_read_why_a_file_was_not_judged(self):
+        missing = made_up.file("missing", 3, fault="read fault: No such file or directory")
+        self.load(made_up.delivery([], [missing, made_up.file("good")]), 400)
+        edges = self.run_in_page(
+            "Array.from(document.querySelectorAll('.more p, .more summary'),"
+            " (each) => each.getBoundingClientRect().right)"
+        )
+        self.assertEqual(len(edges), 3)
+        self.assertTrue(all(edge <= 400 for edge in edges), edges)
+
+    def test_on_paper_words_stay_with_their_table(self):
+        self.load(made_up.usual(3))
+        self.browser.call("Emulation.setEmulatedMedia", media="print")
+        try:
+            styles = self.run_in_page(
+                "[getComputedStyle(document.querySelector('#invalid + .wide')).breakInside,"
+                " getComputedStyle(document.querySelector('#all + p')).breakInside,"
+                " getComputedStyle(document.querySelector('#all + p')).breakAfter,"
+                " getComputedStyle(document.querySelector('#count')).breakAfter]"
+            )
+        finally:
+            self.browser.call("Emulation.setEmulatedMedia", media="")
+        self.assertEqual(styles, ["avoid"] * 4)
+
     def test_on_paper_a_heading_stays_with_its_map(self):
         self.load(made_up.usual(3))
         self.browser.call("Emulation.setEmulatedMedia", media="print")

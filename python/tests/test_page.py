@@ -1,6 +1,7 @@
 """The page about a delivery, of facts that no stream was read for: its text, size and drawings, and
 the files next to it."""
 import csv
+import dataclasses
 import html.parser
 import json
 import os
@@ -126,6 +127,13 @@ class Page(unittest.TestCase):
         self.assertEqual(len(re.findall("<details><summary>Details", text)), 200)
         self.assertLess(len(text.encode()), 700_000)
         self.assertIn("All 200 files are valid.", text)
+
+    def test_a_file_that_was_not_read_needs_no_limit(self):
+        unread = made_up.file("missing", 3, fault="No such file")
+        unread = dataclasses.replace(unread, lines=0, longest=0, peaks=(0, 0, 0))
+        text = page.html(made_up.delivery([], [unread, made_up.file("good")]))
+        self.assertNotIn("a line limit of 0 bytes", text)
+        self.assertEqual(text.count("a line limit of 80,900 bytes, a depth of 11"), 1)
 
     def test_the_details_of_the_only_file_are_open(self):
         self.assertEqual(
