@@ -51,7 +51,7 @@ impl Model for Stack {
     } };
 
     ghost invariant = { λ s. (s.count ≤ s.peak) × (s.peak ≤ s.limit) × (s.count ≤ small_vec_len s.places)
-      × (64 ≤ small_vec_len s.places) };
+        × (64 ≤ small_vec_len s.places) };
 }
 
 /// Sets the number at a place.
@@ -111,7 +111,10 @@ impl Stack {
         if self.count == self.limit {
             return Err(Refused::Full(item));
         }
-        match self.failed_growths.note(put(&mut self.places, self.count, item)) {
+        match self
+            .failed_growths
+            .note(put(&mut self.places, self.count, item))
+        {
             Ok(()) => {
                 self.count += 1;
                 self.peak = self.peak.max(self.count);

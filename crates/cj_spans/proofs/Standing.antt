@@ -347,8 +347,7 @@ standing_fault X b tokens0 stack0 tokens tokens1 stack stack1 m i (Syntax j) s l
     let r = shallow_at s.deepest stack.peak stack.limit stack0.peak stack0.limit s.stack_peak s.stack_within.below_limit
     s.stack_limit in
     let ji = a.0 in
-    let same : stack1.peak ≡ stack.peak = ap (λ z. z.peak) x in let c = s.stack_peak in
-    (
+    let same : stack1.peak ≡ stack.peak = ap (λ z. z.peak) x in let c = s.stack_peak in (
       record {
         sticks = record {
           last = s.settles.last;
@@ -373,8 +372,7 @@ standing_fault X b tokens0 stack0 tokens tokens1 stack stack1 m i (TooDeep j) s 
     let ji = a.0 in
     let same : stack1.peak ≡ stack.peak = ap (λ z. z.peak) x in let c = s.stack_peak in
     let P : ℕ → Type 0 = λ n. IsSomeAnd (read m (byte b i) t) (λ u. length u.stack ≡ suc n) in
-    let Q : Option State → Type 0 = λ o. IsSomeAnd o (λ u. length u.stack ≡ suc stack0.limit) in
-    (
+    let Q : Option State → Type 0 = λ o. IsSomeAnd o (λ u. length u.stack ≡ suc stack0.limit) in (
       record {
         last = s.settles.last;
         reached = s.settles.reached;
@@ -397,8 +395,7 @@ stepped_fault X b tokens0 stack0 tokens tokens1 stack m i v (TooDeep j) s h = ab
 stepped_fault X b tokens0 stack0 tokens tokens1 stack m i v (Syntax j) s h =
     let a = h s.deepest in
     let r = shallow_at s.deepest stack.peak stack.limit stack0.peak stack0.limit s.stack_peak s.stack_within.below_limit
-    s.stack_limit in
-    (
+    s.stack_limit in (
       record { sticks = sticks_both s.reached a.sticks; shallow = subst (λ n. n ≤ stack0.limit) (sym a.flat) r },
       subst (λ n. stack.peak ≡ max stack0.peak n) (sym a.flat) s.stack_peak,
     )
@@ -415,8 +412,7 @@ ended_fault b tokens0 stack0 tokens stack m i s l n =
     let d = e.deepest in let c = s.stack_peak in
     let w = s.place in
     let r = shallow_at s.deepest stack.peak stack.limit stack0.peak stack0.limit s.stack_peak s.stack_within.below_limit
-    s.stack_limit in
-    (
+    s.stack_limit in (
       record {
         sticks = record {
           last = s.settles.last;
