@@ -260,17 +260,19 @@ def _line(stream: IndexedStream, text: bytes, begin: int, length: int) -> bytes:
 def _all_lines(stream: IndexedStream, place: Any) -> Iterator[Tuple[bytes, List[int]]]:
     """Yields the lines after the header of a stream, some together, with 0 as the number of each.
     """
-    begin, rest = stream.header_length, b""
+    begin, rest = stream.header_length, [b""]  # of a line that has not ended
     text = place.read(begin, begin + MOST)
     while text:
         begin += len(text)
         end = text.rfind(b"\n") + 1
         if end:
-            yield rest + text[:end], [0] * text.count(b"\n")
-        rest = text[end:] if end else rest + text
+            yield b"".join([*rest, text[:end]]), [0] * text.count(b"\n")
+            rest = []
+        rest.append(text[end:])
         text = place.read(begin, begin + MOST)
-    if rest:
-        yield rest, [0]
+    last = b"".join(rest)
+    if last:
+        yield last, [0]
     if stream.packing is None and begin != stream.size:
         raise OutOfDate.because(SHORTER, stream.path)
 
