@@ -16,6 +16,7 @@ STEPS = 50_000  # of SQLite's machine, after which Python may run the handlers o
 BESIDE = ("-wal", "-journal")  # what SQLite leaves next to a database that it has not finished
 NO_INDEX = "read fault: it is no index of cityseq"
 INDEX_CHANGED = "the index was changed"
+UNFINISHED = "read fault: another program ended while it changed the index: build it again"
 # words of SQLite
 CANNOT_OPEN, NO_DATABASE = "unable to open database file", "file is not a database"
 READ_ONLY, MALFORMED = "readonly database", "malformed"
@@ -59,6 +60,8 @@ def _why(path: str, fault: sqlite3.Error) -> ReadFault:
         return ReadFault(NO_INDEX, None, path)
     if CANNOT_OPEN in str(fault) and not os.access(path, os.R_OK):
         return read_fault(OSError(errno.EACCES, os.strerror(errno.EACCES)), path)
+    if READ_ONLY in str(fault) and is_beside(os.path.realpath(path)):
+        return ReadFault(UNFINISHED, None, path)
     return read_fault(fault, path)
 
 

@@ -82,6 +82,13 @@ class Replaced(InFolder):
                 self.assertEqual(rows_of(self.index, "PRAGMA integrity_check"), [("ok",)])
                 self.index.unlink()
 
+    def test_a_cut_of_what_an_editor_left(self):
+        """Only a program that may write can take back the changes of one that was killed."""
+        self.edited("DELETE", "ends")
+        words = "another program ended while it changed the index: build it again"
+        found = command("filter", "--index", str(self.index))
+        self.assertEqual(found, (b"", f"{self.index}: read fault: {words}\n", 3))
+
     def test_an_editor_that_has_it_open(self):
         for journal in ("WAL", "DELETE"):
             with self.subTest(journal):
