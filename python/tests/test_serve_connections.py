@@ -7,6 +7,7 @@ import struct
 import time
 import unittest
 from contextlib import ExitStack, suppress
+from http.client import HTTPException
 
 from .serving import MISSING, Served, Serving, Within, rest_of
 from .support import HEADER, command, feature
@@ -61,19 +62,19 @@ class Bounds(unittest.TestCase):
 
     def test_a_client_that_is_silent(self):
         waited, detail = self.pace(9, [1], idle=0.05)
-        self.assertLess(waited, 1)
+        self.assertLess(waited, 5)
         self.assertEqual(detail, "408 nothing came for 0.05 seconds")
 
     def test_a_client_that_is_slow(self):
         """A byte in 0.02 seconds is less than 1,000 in a second."""
-        waited, detail = self.pace(0.02, [1] * 40, idle=0.1, rate=1_000)
-        self.assertLess(waited, 0.4)
+        waited, detail = self.pace(0.02, [1] * 400, idle=0.5, rate=1_000)
+        self.assertLess(waited, 5)
         self.assertEqual(detail, "408 fewer than 1000 bytes a second came")
-        self.assertEqual(self.pace(0.02, [30] * 20, idle=0.1, rate=1_000)[1], "")
+        self.assertEqual(self.pace(0.02, [30] * 20, idle=5, rate=1_000)[1], "")
 
     def test_a_request_that_takes_too_long(self):
-        waited, detail = self.pace(0.02, [1_000] * 40, idle=0.1, seconds=0.2)
-        self.assertLess(waited, 0.5)
+        waited, detail = self.pace(0.02, [1_000] * 400, idle=5, seconds=0.2)
+        self.assertLess(waited, 5)
         self.assertEqual(detail, "503 the request took longer than 0.2 seconds")
 
 
@@ -103,24 +104,24 @@ class Slow(Served):
             self.assertIn("3 bodies already", answer.json()["detail"])
 
     def test_a_body_byte_by_byte_is_ended(self):
-        with self.near(idle=0.3, rate=100) as server, server.socket() as connection:
+        with self.near(idle=0.8, rate=100) as server, server.socket() as connection:
             connection.sendall(POST % (b"check", 1_000))
             begin = time.monotonic()
             while server.process.server.busy or time.monotonic() < begin + 0.1:
                 connection.sendall(b" ")
                 time.sleep(0.05)
-                self.assertLess(time.monotonic() - begin, 5)
+                self.assertLess(time.monotonic() - begin, 20)
             self.assertIn(b"fewer than 100 bytes a second came", connection.recv(1 << 16))
 
     def test_a_body_that_stops_is_ended(self):
         """Also after a part of the answer was written, while the next bytes of the body are waited for."""
-        with self.near(idle=0.2) as server:
+        with self.near(idle=0.8) as server:
             for size in (0, 8 << 10):
                 with server.socket() as connection:
                     begin = time.monotonic()
                     connection.sendall(POST % (b"filter", 99_999_999) + HEADER + feature("b") * size)
                     found = rest_of(connection) if size else connection.recv(1 << 16)
-                self.assertLess(time.monotonic() - begin, 5)
+                self.assertLess(time.monotonic() - begin, 20)
                 self.assertTrue(found.startswith(b"HTTP/1.1 200 " if size else b"HTTP/1.1 408 "), found[:200])
                 self.assertNotIn(b"\r\n0\r\n", found)
 
@@ -135,16 +136,16 @@ class Slow(Served):
                 found = rest_of(connection)
                 self.assertNotIn(b"\r\n0\r\n\r\n", found)
                 self.assertLess(found.count(b"HTTP/1.1 200 "), 30)
-                self.assertEqual(server.ask("/").status, 200)
+                self.assertTrue(soon(lambda: is_served(server)))
 
     def test_a_client_that_reads_slowly_is_served(self):
         """What it takes is seen, also if the system could hold the whole for it."""
-        with self.near(idle=0.4) as server, server.socket(small=True) as connection:
+        with self.near(idle=1) as server, server.socket(small=True) as connection:
             connection.sendall(b"GET /collections/long/items?f=city-json-seq HTTP/1.1\r\nHost: localhost\r\nConnection: close\r\n\r\n")
             pieces, begin = [b" "], time.monotonic()
             while pieces[-1]:
                 pieces.append(connection.recv(1 << 15))
-                time.sleep(0.05 if time.monotonic() - begin < 1 else 0)
+                time.sleep(0.05 if time.monotonic() - begin < 2 else 0)
         self.assertTrue(b"".join(pieces).endswith(b"\r\n0\r\n\r\n"))
 
     def test_requests_wait_in_the_system_while_one_is_answered(self):
@@ -180,6 +181,13 @@ class Slow(Served):
                     connection.setsockopt(socket.SOL_SOCKET, socket.SO_LINGER, RESET)
                 self.assertTrue(soon(lambda: not server.process.server.busy))
             self.assertTrue(soon(lambda: not [each for each in gc.get_objects() if isinstance(each, (Body, Fed, Judgement))]))
+
+
+def is_served(server):
+    """Whether a server answers. On a busy machine it may find even this client slow."""
+    with suppress(HTTPException, OSError):
+        return server.ask("/").status == 200
+    return False
 
 
 def rest_of_new(server):
