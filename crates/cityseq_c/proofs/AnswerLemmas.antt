@@ -7,7 +7,7 @@ use Rattle.cj_stream.specs.declared.ending.End.{End}
 use Rattle.cj_stream.specs.declared.ending.End.TheVariants.{Complete, Refused, ReadFault, ReadLimit, WriteFault, Memory}
 use Rattle.cj_stream.specs.Cut.{IsUnread}
 use Rattle.cj_stream.specs.Parts.{capped_end, moved_end}
-use Rattle.cj_stream.specs.Verdict.{Rules}
+use Rattle.cj_stream.specs.Meaning.Rules.{Rules}
 use Rattle.cityseq_c.specs.Answer.{code_at, line_at, place_at, status_of}
 use Rattle.cityseq_c.specs.Joined.{ended_by, outcome_by, IsAnswerOf}
 use Rattle.cityseq_c.specs.Judged.{IsJudged}

@@ -2,7 +2,7 @@
 use Rattle.std.proofs.Common.{◌≡◌, Result, Ok, Err, sym, ap, ◌∙◌}
 use Rattle.std.specs.Prelude.{MatchResult}
 use Rattle.cj_stream.specs.Adding.{with_box}
-use Rattle.cj_stream.specs.Criteria.{Criteria, Box}
+use Rattle.cj_stream.specs.Meaning.Criteria.{Criteria, Box}
 use Rattle.cj_stream.specs.declared.query.fault.QueryFault.{QueryFault}
 use Rattle.cityseq_c.specs.Request.{edges_by}
 

@@ -5,7 +5,8 @@ use Rattle.cj_stream.specs.declared.running.Outcome.{Outcome}
 use Rattle.cj_stream.specs.declared.ending.End.{End}
 use Rattle.cj_stream.specs.declared.ending.End.TheVariants.{Complete, Refused, ReadFault, ReadLimit, WriteFault, Memory as NoMemory}
 use Rattle.cj_stream.specs.Sink.{HasRisen, SinkLaw}
-use Rattle.cj_stream.specs.Verdict.{Rules, stream_of}
+use Rattle.cj_stream.specs.Meaning.Rules.{Rules}
+use Rattle.cj_stream.specs.Verdict.{stream_of}
 use Rattle.cityseq_c.specs.Answer.{answer_to, not_judged, status_of}
 use Rattle.cityseq_c.specs.Called.{Copied, Filters, Goes, IsUnjudged, call}
 use Rattle.cityseq_c.specs.Judged.{IsJudged, Judged, lent}

@@ -2,7 +2,7 @@
 use Rattle.std.proofs.Common.{◌≡◌, ℕ, ◌+◌, ◌<◌, List, [], ◌∷◌, Some, None, false, length, take, drop, arith, refl, sym, ap, ◌∙◌, length-append, length-take}
 use Rattle.std.proofs.lemmas.List.{drop-drop, drop_all}
 use Rattle.memchr.specs.Find.{IsFirstByte, is_byte}
-use Rattle.cj_stream.specs.Lines.{Line, ended_line, lines, raw}
+use Rattle.cj_stream.specs.Meaning.Lines.{Line, ended_line, lines, raw}
 use Rattle.cj_stream.proofs.LineLemmas.{begun-none, closed-none}
 use Rattle.cj_stream.proofs.PartsLemmas.{lines-headed}
 use Rattle.cj_stream.proofs.PieceSlices.{lf_found, NoLf-before, NoLf-nowhere}

@@ -3,7 +3,7 @@ use Rattle.std.proofs.Common.{◌≡◌, ℕ, List, Bool, true, false, cond, Opt
 use Rattle.std.specs.Str.{is_utf8}
 use Rattle.cj_stream.specs.Adding.{flags_with, no_types}
 use Rattle.cj_stream.specs.BoxText.{box_text}
-use Rattle.cj_stream.specs.Criteria.{Box, Criteria}
+use Rattle.cj_stream.specs.Meaning.Criteria.{Box, Criteria}
 use Rattle.cj_stream.specs.declared.query.fault.QueryFault.{QueryFault}
 use Rattle.cj_stream.specs.declared.query.fault.QueryFault.TheVariants.{Memory as NoMemory, UnknownTypeName, BadBox as BadBoxText, BoxRange as BoxTextRange, EmptyBox as EmptyBoxText}
 use Rattle.cityseq_c.specs.Query.{DeclinesCall, DeclinesPart, DeclinesQuery, DeclinesTexts}

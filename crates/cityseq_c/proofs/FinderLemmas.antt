@@ -2,7 +2,8 @@
 use Rattle.std.proofs.Common.{◌≡◌, ℕ, zero, suc, ◌+◌, ◌-◌, ◌⊎◌, inl, inr, ◌≤◌, List, [], ◌∷◌, ◌++◌, drop, length, take, sym, ap, refl, ◌∙◌, arith, append_assoc, length-append}
 use Rattle.std.specs.List.{flat_map}
 use Rattle.std.proofs.lemmas.List.{append-nil, take_all}
-use Rattle.cj_stream.specs.Lines.{Line, NoLf, begun, ended_line, last_line, lines, raw}
+use Rattle.cj_stream.specs.Meaning.Lines.{Line, begun, ended_line, last_line, lines, raw}
+use Rattle.cj_stream.specs.Lines.{NoLf}
 use Rattle.cj_stream.proofs.IsLinesLemmas.{joined-append, lines-are_lines}
 use Rattle.cj_stream.proofs.LineLemmas.{closed-none}
 use Rattle.cj_stream.proofs.PartsLemmas.{lines-headed}

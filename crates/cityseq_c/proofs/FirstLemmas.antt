@@ -2,7 +2,7 @@
 use Rattle.std.proofs.Common.{◌≡◌, ℕ, zero, suc, List, [], ◌∷◌, take, inl, refl, sym}
 use Rattle.cj_stream.specs.Bound.{first_lines}
 use Rattle.cj_stream.specs.IsLines.{AreEnded, HaveNoLf}
-use Rattle.cj_stream.specs.Lines.{Line, lines}
+use Rattle.cj_stream.specs.Meaning.Lines.{Line, lines}
 use Rattle.cj_stream.proofs.IsLinesLemmas.{lines-are_lines, only-lines}
 
 HaveNoLf-take : (n : ℕ) (ls : List Line) → HaveNoLf ls → HaveNoLf (take n ls)

@@ -3,9 +3,10 @@ use Rattle.std.proofs.Common.{◌≡◌, ℕ, zero, suc, ◌+◌, ◌≤◌, Lis
 use Rattle.std.specs.List.{flat_map}
 use Rattle.std.specs.Prelude.{slice_get}
 use Rattle.std.proofs.lemmas.List.{length-append}
-use Rattle.cj_stream.specs.Item.{Item, raw_item}
-use Rattle.cj_stream.specs.Lines.{Line, lines, raw}
-use Rattle.cj_stream.specs.Verdict.{Rules, is_kept, item_after, kept_from, output_first, verdict}
+use Rattle.cj_stream.specs.Meaning.Item.{Item, raw_item}
+use Rattle.cj_stream.specs.Meaning.Lines.{Line, lines, raw}
+use Rattle.cj_stream.specs.Meaning.Rules.{Rules}
+use Rattle.cj_stream.specs.Verdict.{is_kept, item_after, kept_from, output_first, verdict}
 use Rattle.cj_stream.proofs.IsLinesLemmas.{lines-are_lines}
 
 -- the bytes of some items, and of some lines

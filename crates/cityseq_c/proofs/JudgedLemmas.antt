@@ -8,18 +8,21 @@ use Rattle.cj_budget.specs.declared.limits.Peaks.{Peaks}
 use Rattle.cj_stream.specs.declared.ending.End.{End}
 use Rattle.cj_stream.specs.declared.ending.End.TheVariants.{Complete, Refused, ReadFault, ReadLimit, WriteFault, Memory}
 use Rattle.cj_stream.specs.declared.running.Outcome.{Outcome}
-use Rattle.cj_stream.specs.Bound.{IsBelow, IsBounded, IsExact, exact_peaks, first_lines}
-use Rattle.cj_stream.specs.Cut.{joined, PutsPieces, in_pieces}
+use Rattle.cj_stream.specs.Bound.{IsBelow, IsExact, exact_peaks, first_lines}
+use Rattle.cj_stream.specs.Meaning.Bound.{IsBounded}
+use Rattle.cj_stream.specs.Meaning.Lines.{joined, Line, ended_line, lines, raw}
+use Rattle.cj_stream.specs.Cut.{PutsPieces, in_pieces}
 use Rattle.cj_stream.specs.Engine.{Counts, Delivers, Faults}
-use Rattle.cj_stream.specs.Headline.{IsUnhindered}
-use Rattle.cj_stream.specs.Item.{is_feature}
-use Rattle.cj_stream.specs.Lines.{Line, NoLf, ended_line, lines, raw}
+use Rattle.cj_stream.specs.Meaning.Headline.{IsUnhindered}
+use Rattle.cj_stream.specs.Meaning.Item.{is_feature}
+use Rattle.cj_stream.specs.Lines.{NoLf}
 use Rattle.cj_stream.specs.Parts.{headed}
 use Rattle.cj_stream.specs.ReportSink.{Notes}
 use Rattle.cj_stream.specs.Run.{CountsAll, Ends}
-use Rattle.cj_stream.specs.Sink.{Took, SinkLaw}
-use Rattle.cj_stream.specs.Verdict.{Rules, ending, good, item_after, is_kept, kept, kept_from, reported, reported_first}
-use Rattle.cj_stream.specs.Verdict.{reported_from, refusal_in, verdict, stretch, up_to, stream_of}
+use Rattle.cj_stream.specs.Meaning.Outputs.{Took}
+use Rattle.cj_stream.specs.Sink.{SinkLaw}
+use Rattle.cj_stream.specs.Meaning.Rules.{Rules}
+use Rattle.cj_stream.specs.Verdict.{ending, good, item_after, is_kept, kept, kept_from, reported, reported_first, reported_from, refusal_in, verdict, stretch, up_to, stream_of}
 use Rattle.cj_stream.proofs.PartsLemmas.{first-headed, lines-headed}
 use Rattle.cityseq_c.specs.Judged.{IsJudged, Judged, lent}
 use Rattle.cityseq_c.specs.ReportSlice.{count_of, noted_loan, noted_room, noted_text, Holds, NotesOne}

@@ -13,15 +13,16 @@ use Rattle.cj_spans.proofs.Judgements.{judgement}
 use Rattle.cj_stream.specs.declared.ending.End.{End}
 use Rattle.cj_stream.specs.declared.ending.End.TheVariants.{Complete, Refused, ReadFault, ReadLimit, WriteFault, Memory as NoMemory}
 use Rattle.cj_stream.specs.declared.running.Outcome.{Outcome}
-use Rattle.cj_stream.specs.Bound.{exact_peaks, first_lines, greatest, held_length, is_legible, is_readable, is_text, of_first, tree_nest, tree_size, IsBounded, IsExact, IsBelow}
+use Rattle.cj_stream.specs.Bound.{exact_peaks, first_lines, held_length, is_legible, is_readable, is_text, tree_nest, tree_size, IsExact, IsBelow}
+use Rattle.cj_stream.specs.Meaning.Bound.{greatest, of_first, IsBounded}
 use Rattle.cj_stream.specs.Engine.{Counts, Delivers, Faults}
-use Rattle.cj_stream.specs.Item.{is_feature}
-use Rattle.cj_stream.specs.Lines.{Line, ended_line, later_of, lines, raw}
+use Rattle.cj_stream.specs.Meaning.Item.{is_feature}
+use Rattle.cj_stream.specs.Meaning.Lines.{Line, ended_line, later_of, lines, raw}
 use Rattle.cj_stream.specs.Run.{CountsAll, Ends}
-use Rattle.cj_stream.specs.Sink.{Took, SinkLaw}
-use Rattle.cj_stream.specs.Verdict.{Rules, ending, ending_of, good, good_from, is_kept, kept, kept_first}
-use Rattle.cj_stream.specs.Verdict.{kept_from, refusal_from, reported, reported_first, reported_from}
-use Rattle.cj_stream.specs.Verdict.{text_verdict, verdict, verdict_at, stretch, up_to, stream_of}
+use Rattle.cj_stream.specs.Meaning.Outputs.{Took}
+use Rattle.cj_stream.specs.Sink.{SinkLaw}
+use Rattle.cj_stream.specs.Meaning.Rules.{Rules}
+use Rattle.cj_stream.specs.Verdict.{ending, ending_of, good, good_from, is_kept, kept, kept_first, kept_from, refusal_from, reported, reported_first, reported_from, text_verdict, verdict, verdict_at, stretch, up_to, stream_of}
 use Rattle.cj_stream.proofs.IsLinesLemmas.{lines-are_lines}
 use Rattle.cj_stream.proofs.PartsLemmas.{lines-headed}
 use Rattle.cityseq_c.proofs.FirstLemmas.{lines-first}

@@ -3,7 +3,7 @@ use Rattle.std.proofs.Common.{◌≡◌, ℕ, zero, suc, subst, cond, ◌+◌, �
 use Rattle.std.specs.Prelude.{slice_set}
 use Rattle.std.proofs.lemmas.Bool.{ltb-true, ltb-false}
 use Rattle.std.proofs.lemmas.List.{append-nil, take_more_set, drop-set-lt, length-set}
-use Rattle.cj_stream.specs.Sink.{Took}
+use Rattle.cj_stream.specs.Meaning.Outputs.{Took}
 use Rattle.cj_stream.specs.declared.report_sink.Report.{Report}
 use Rattle.cityseq_c.specs.ReportSlice.{count_of, noted_loan, noted_room, noted_text, told as told_of, Holds, NotesOne}
 use Rattle.cityseq_c.specs.declared.report_slice.Noted.{Noted}

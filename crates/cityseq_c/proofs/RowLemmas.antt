@@ -10,10 +10,13 @@ use Rattle.cj_geometry.specs.ObjectTypes.{object_types}
 use Rattle.cj_feature.specs.Examples.{plain_header}
 use Rattle.cj_feature.proofs.Worked.{plain_feature}
 use Rattle.cj_stream.specs.GoingRows.{going}
-use Rattle.cj_stream.specs.Item.{is_feature, tree_of}
-use Rattle.cj_stream.specs.Lines.{Line, ended_line, raw}
+use Rattle.cj_stream.specs.Meaning.Item.{is_feature}
+use Rattle.cj_stream.specs.Item.{tree_of}
+use Rattle.cj_stream.specs.Meaning.Lines.{Line, ended_line, raw}
 use Rattle.cj_stream.specs.Rows.{small_feature, small_header, wide_rules}
-use Rattle.cj_stream.specs.Verdict.{Blank, Refuse, Rules, Valid, good_from, verdict, verdict_at}
+use Rattle.cj_stream.specs.Meaning.Verdict.{Blank, Invalid, Kept}
+use Rattle.cj_stream.specs.Meaning.Rules.{Rules}
+use Rattle.cj_stream.specs.Verdict.{good_from, verdict, verdict_at}
 use Rattle.cj_stream.proofs.GoingRowLemmas.{same-verdict}
 use Rattle.cj_stream.proofs.RowLemmas.{comma_second, feature_third, feature_tree, header_first, header_tree, open_line}
 use Rattle.cj_stream.proofs.VerdictLemmas.{verdict-blank}
@@ -27,15 +30,15 @@ places_of rules ls =
     map (λ x. (x.line, x.begin)) (filter (λ x. is_feature x.item) (spots_from rules [] (good_from rules [] ls)))
 
 -- a line without a feature, and then one
-module _ (rules : Rules) (h l f : Line) (first : verdict rules [] h.content ≡ Valid)
-    (third : verdict rules (h ∷ l ∷ []) f.content ≡ Valid) where
+module _ (rules : Rules) (h l f : Line) (first : verdict rules [] h.content ≡ Kept)
+    (third : verdict rules (h ∷ l ∷ []) f.content ≡ Kept) where
   after-blank : verdict rules (h ∷ []) l.content ≡ Blank
       → places_of rules (h ∷ l ∷ f ∷ []) ≡ (3, length (raw l ++ [])) ∷ []
   unfolding verdict_at
   after-blank blank = rw (first, blank, third) (rw (first, blank, third) refl)
 
   after-invalid : (place : ℕ) (reason : Reason) → rules.options.keep_going ≡ true
-      → verdict rules (h ∷ []) l.content ≡ Refuse place reason
+      → verdict rules (h ∷ []) l.content ≡ Invalid place reason
       → places_of rules (h ∷ l ∷ f ∷ []) ≡ (3, length (raw l ++ [])) ∷ []
   unfolding verdict_at
   after-invalid place reason on bad = rw (first, bad, on, third) (rw (first, bad, third) refl)

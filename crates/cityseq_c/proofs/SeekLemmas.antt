@@ -1,7 +1,7 @@
 -- A search for a content, line by line.
 use Rattle.std.proofs.Common.{◌≡◌, ℕ, ◌+◌, List, ◌∷◌, true, false, length, refl, sym, ap, ◌∙◌}
 use Rattle.std.specs.Str.{bytes_eq}
-use Rattle.cj_stream.specs.Lines.{Line, raw}
+use Rattle.cj_stream.specs.Meaning.Lines.{Line, raw}
 use Rattle.cityseq_c.specs.Features.{Passes, Place, past_from, seek, seek_from}
 use Rattle.cityseq_c.proofs.CursorLemmas.{place}
 

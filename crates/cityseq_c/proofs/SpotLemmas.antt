@@ -7,9 +7,11 @@ use Rattle.std.proofs.lemmas.Bool.Decides.{nat_tests}
 use Rattle.std.proofs.lemmas.Grind.{flat_map-append}
 use Rattle.std.proofs.lemmas.List.{append-nil, take-append-drop}
 use Rattle.std.proofs.lemmas.Slice.Eq.{bytes_eq-Decides}
-use Rattle.cj_stream.specs.Item.{Item, is_feature}
-use Rattle.cj_stream.specs.Lines.{Line, NoLf, ended_line, lines, raw}
-use Rattle.cj_stream.specs.Verdict.{Rules, good_from, is_kept, item_after, kept, kept_from, refusal_of, verdict}
+use Rattle.cj_stream.specs.Meaning.Item.{Item, is_feature}
+use Rattle.cj_stream.specs.Meaning.Lines.{Line, ended_line, lines, raw}
+use Rattle.cj_stream.specs.Lines.{NoLf}
+use Rattle.cj_stream.specs.Meaning.Rules.{Rules}
+use Rattle.cj_stream.specs.Verdict.{good_from, is_kept, item_after, kept, kept_from, refusal_of, verdict}
 use Rattle.cj_stream.proofs.GoodLemmas.{good-take}
 use Rattle.cj_stream.proofs.LineLemmas.{begun-none, closed-none}
 use Rattle.cj_stream.proofs.MovedLemmas.{after-same}

@@ -9,16 +9,17 @@ use Rattle.cj_decimal.specs.Number.{Number as Decimal}
 use Rattle.cj_feature.specs.Shown.{transform_values}
 use Rattle.cj_geometry.specs.ObjectTypes.{type_count}
 use Rattle.cj_stream.specs.CountSink.{is_header}
-use Rattle.cj_stream.specs.Item.{Item}
+use Rattle.cj_stream.specs.Meaning.Item.{Item}
 use Rattle.cj_stream.specs.declared.ending.End.TheVariants.{Complete}
 use Rattle.cj_stream.specs.declared.running.Outcome.{Outcome}
-use Rattle.cj_stream.specs.Headline.{IsUnhindered}
+use Rattle.cj_stream.specs.Meaning.Headline.{IsUnhindered}
 use Rattle.cj_stream.specs.Run.{Puts}
 use Rattle.cj_stream.specs.Parts.{headed, wider, IsCut, JoinsTallies}
 use Rattle.cj_stream.specs.Tallied.{capped, class_count}
 use Rattle.cj_stream.specs.TallySink.{no_tally, last_shown, IsTallyOf, Tallies, TalliesRun, Tally as Tallied}
-use Rattle.cj_stream.specs.Lines.{ended_line, lines}
-use Rattle.cj_stream.specs.Verdict.{Rules, ending, item_after, kept, kept_from, stream_of}
+use Rattle.cj_stream.specs.Meaning.Lines.{ended_line, lines}
+use Rattle.cj_stream.specs.Meaning.Rules.{Rules}
+use Rattle.cj_stream.specs.Verdict.{ending, item_after, kept, kept_from, stream_of}
 use Rattle.cj_stream.specs.Sink.{never_fails}
 use Rattle.cj_stream.proofs.PartsLemmas.{front-good, header-valid, kept-first}
 use Rattle.cityseq_c.specs.Called.{IsTalliedOf}

@@ -1,7 +1,7 @@
 -- Where lines begin.
 use Rattle.std.specs.Prelude.{◌≡◌, ℕ, ◌+◌, ◌-◌, ◌≤◌, List, ◌++◌, drop, length, take}
 use Rattle.std.specs.List.{flat_map}
-use Rattle.cj_stream.specs.Lines.{lines, raw}
+use Rattle.cj_stream.specs.Meaning.Lines.{lines, raw}
 use Rattle.cityseq_c.specs.Features.{Place}
 
 -- where the line of this number begins in a text: behind the bytes of the lines before it

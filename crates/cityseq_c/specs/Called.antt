@@ -3,10 +3,11 @@ use Rattle.std.specs.Prelude.{◌≡◌, ◌⊎◌, ℕ, ◌+◌, ◌<◌, ◌�
 use Rattle.std.specs.Prelude.{drop, slice_get, take}
 use Rattle.cj_stream.specs.declared.ending.End.TheVariants.{WriteFault}
 use Rattle.cj_stream.specs.declared.running.Outcome.{Outcome}
-use Rattle.cj_stream.specs.Headline.{IsUnhindered}
-use Rattle.cj_stream.specs.Lines.{Line, lines, raw}
+use Rattle.cj_stream.specs.Meaning.Headline.{IsUnhindered}
+use Rattle.cj_stream.specs.Meaning.Lines.{Line, lines, raw}
 use Rattle.cj_stream.specs.TallySink.{Tally as Tallied, IsTallyOf}
-use Rattle.cj_stream.specs.Verdict.{Rules, is_kept, kept, output, output_first, verdict}
+use Rattle.cj_stream.specs.Meaning.Rules.{Rules}
+use Rattle.cj_stream.specs.Verdict.{is_kept, kept, output, output_first, verdict}
 use Rattle.cityseq_c.specs.Answer.{answer_to}
 use Rattle.cityseq_c.specs.Judged.{Tells}
 use Rattle.cityseq_c.specs.Query.{DeclinesCall}

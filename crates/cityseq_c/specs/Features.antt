@@ -7,12 +7,13 @@ use Rattle.std.specs.Str.{bytes_eq, chars}
 use Rattle.cj_spans.specs.Parts.{member_of, spelling_of}
 use Rattle.cj_spans.specs.Tree.{Tree, start_of}
 use Rattle.cj_feature.specs.Walks.{object_geometries}
-use Rattle.cj_stream.specs.Criteria.{objects_of}
-use Rattle.cj_stream.specs.Item.{Item, is_feature}
-use Rattle.cj_stream.specs.Lines.{Line, raw, lines, later_of}
+use Rattle.cj_stream.specs.Meaning.Criteria.{objects_of}
+use Rattle.cj_stream.specs.Meaning.Item.{Item, is_feature}
+use Rattle.cj_stream.specs.Meaning.Lines.{Line, raw, lines, later_of}
 use Rattle.cj_stream.specs.Tallied.{IsRange, beside, capped, class_count, how_often, lod_classes, numbers_on}
 use Rattle.cj_stream.specs.Tallied.{type_numbers}
-use Rattle.cj_stream.specs.Verdict.{Rules, good, is_kept, verdict, item_after}
+use Rattle.cj_stream.specs.Meaning.Rules.{Rules}
+use Rattle.cj_stream.specs.Verdict.{good, is_kept, verdict, item_after}
 use Rattle.cityseq_c.specs.Tally.{range_of}
 use Rattle.cj_geometry.specs.ObjectTypes.{type_count}
 use Rattle.cityseq_c.specs.declared.features.record_of.FeatureRecord.{FeatureRecord}

@@ -6,7 +6,7 @@ use Rattle.cj_stream.specs.declared.running.Outcome.{Outcome}
 use Rattle.cj_stream.specs.Parts.{both_outcomes, capped_outcome}
 use Rattle.cj_stream.specs.Run.{Account}
 use Rattle.cj_stream.specs.Tallied.{capped}
-use Rattle.cj_stream.specs.Verdict.{Rules}
+use Rattle.cj_stream.specs.Meaning.Rules.{Rules}
 use Rattle.cityseq_c.specs.Answer.{answer_of}
 use Rattle.cityseq_c.specs.Judged.{IsJudged, run_over}
 use Rattle.cityseq_c.specs.Words.{reason_with}

@@ -6,10 +6,11 @@ use Rattle.std.specs.Str.{is_utf8}
 use Rattle.cj_budget.specs.Limits.{InLine, InDepth, LimitPair}
 use Rattle.cj_stream.specs.Adding.{flags_with, no_types}
 use Rattle.cj_stream.specs.BoxText.{box_text}
-use Rattle.cj_stream.specs.Criteria.{Criteria, Box}
-use Rattle.cj_stream.specs.Lines.{NoLf, newline}
-use Rattle.cj_stream.specs.Options.{OptionSet}
-use Rattle.cj_stream.specs.Verdict.{Rules}
+use Rattle.cj_stream.specs.Meaning.Criteria.{Criteria, Box}
+use Rattle.cj_stream.specs.Lines.{NoLf}
+use Rattle.cj_stream.specs.Meaning.Lines.{newline}
+use Rattle.cj_stream.specs.Meaning.Options.{OptionSet}
+use Rattle.cj_stream.specs.Meaning.Rules.{Rules}
 use Rattle.cj_stream.specs.declared.query.fault.QueryFault.{QueryFault}
 use Rattle.cj_stream.specs.declared.query.fault.QueryFault.TheVariants.{Memory, UnknownTypeName, BadBox as BadBoxText}
 use Rattle.cj_stream.specs.declared.query.fault.QueryFault.TheVariants.{BoxRange as BoxTextRange}

@@ -3,9 +3,9 @@ use Rattle.std.specs.Prelude.{◌≡◌, ℕ, List, [], ◌∷◌, ◌++◌, Non
 use Rattle.cj_spans.specs.Signs.{carriage_return, newline}
 use Rattle.cj_stream.specs.GoingRows.{going}
 use Rattle.cj_stream.specs.Item.{item_at, tree_of}
-use Rattle.cj_stream.specs.Lines.{ended_line}
+use Rattle.cj_stream.specs.Meaning.Lines.{ended_line}
 use Rattle.cj_stream.specs.Rows.{small_feature, small_header, wide_rules}
-use Rattle.cj_stream.specs.Verdict.{Rules}
+use Rattle.cj_stream.specs.Meaning.Rules.{Rules}
 use Rattle.cityseq_c.specs.Cutting.{part_end}
 use Rattle.cityseq_c.specs.Features.{IsRecordOf, Spot, bits, is_among, spots}
 use Rattle.cityseq_c.specs.Tally.{range_of}

@@ -93,7 +93,7 @@ impl Answer {
     ghost use Rattle.std.specs.Prelude.{◌≢◌, ◌+◌, ◌-◌, ◌<◌, ◌^◌, ◌++◌, ℕ, List, Some};
     ghost use Rattle.cj_stream.specs.Parts.{headed, IsCut};
     ghost use Rattle.cj_stream.specs.Tallied.{capped};
-    ghost use Rattle.cj_stream.specs.Verdict.{Rules};
+    ghost use Rattle.cj_stream.specs.Meaning.Rules.{Rules};
     ghost use Rattle.cityseq_c.specs.Called.{IsUnjudged};
     ghost use Rattle.cityseq_c.specs.Joined.{both_answers, ended_by, outcome_by, IsAnswerOf};
 

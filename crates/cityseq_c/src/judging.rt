@@ -2,7 +2,8 @@
 ghost use Rattle.std.specs.Prelude.{◌≡◌, ◌↔◌, ◌+◌, ◌++◌, ◌≤◌, ◌^◌, IsTrue, IfOk, IfErr, OnErr, OnOk, length};
 ghost use Rattle.cj_stream.specs.Engine.{IsFresh, rules_of};
 ghost use Rattle.cj_stream.specs.Sink.{HasRisen};
-ghost use Rattle.cj_stream.specs.Verdict.{Rules, stream_of};
+ghost use Rattle.cj_stream.specs.Meaning.Rules.{Rules};
+ghost use Rattle.cj_stream.specs.Verdict.{stream_of};
 ghost use Rattle.cityseq_c.specs.Judged.{Judged, lent};
 ghost use Rattle.cityseq_c.specs.Query.{DeclinesCall};
 ghost use Rattle.cityseq_c.specs.Request.{AreCut, IsAsked, IsFit, needed_limits, options_of};

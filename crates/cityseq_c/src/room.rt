@@ -15,7 +15,7 @@ pub struct Room<'a> {
 
 impl<'a> Room<'a> {
     ghost use Rattle.std.specs.Prelude.{◌≡◌, ◌+◌, OnOk, OnErr};
-    ghost use Rattle.cj_stream.specs.Lines.{raw};
+    ghost use Rattle.cj_stream.specs.Meaning.Lines.{raw};
     ghost use Rattle.cityseq_c.specs.Room.{room_bytes, room_loan, written_of, room_failures, Grows, Stays};
 
     /// Returns room in which nothing is written.

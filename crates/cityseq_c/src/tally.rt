@@ -110,7 +110,8 @@ fn range_in(range: Range) -> Option<(i64, i64)>
 impl Tally {
     ghost use Rattle.std.specs.Prelude.{◌++◌, ℕ, List};
     ghost use Rattle.cj_stream.specs.Parts.{headed, IsCut};
-    ghost use Rattle.cj_stream.specs.Verdict.{Rules, ending};
+    ghost use Rattle.cj_stream.specs.Meaning.Rules.{Rules};
+    ghost use Rattle.cj_stream.specs.Verdict.{ending};
     ghost use Rattle.cj_stream.specs.declared.ending.End.{End};
     ghost use Rattle.cj_stream.specs.TallySink.{Tally as Tallied};
     ghost use Rattle.cityseq_c.specs.Called.{IsTalliedOf};

@@ -1,5 +1,5 @@
 -- What is told of texts that the program writes.
-use Rattle.std.proofs.Common.{◌≡◌, inl, inr, arith, ℕ, ◌<◌, ◌≤◌, ◌^◌, List, [], Option, Some, None, Result, Ok, Err, length, refl, ap, sym, subst, ◌∙◌}
+use Rattle.std.proofs.Common.{◌≡◌, inl, inr, arith, ℕ, ◌<◌, ◌≤◌, ◌^◌, List, [], ◌++◌, Option, Some, None, Result, Ok, Err, length, refl, ap, sym, subst, ◌∙◌}
 use Rattle.std.specs.List.{filter}
 use Rattle.std.specs.Io.KnownBytes.{Appends, Keeps}
 use Rattle.cj_budget.specs.declared.limits.Peaks.{Peaks}
@@ -9,13 +9,14 @@ use Rattle.cj_stream.specs.declared.output.WriteFault.{WriteFault as Unwritten}
 use Rattle.cj_stream.specs.declared.report_sink.Report.{Report}
 use Rattle.cj_stream.specs.declared.running.Outcome.{Outcome}
 use Rattle.cj_stream.specs.Engine.{Counts}
-use Rattle.cj_stream.specs.Headline.{Headline, fate_of, outputs}
-use Rattle.cj_stream.specs.Item.{is_feature}
-use Rattle.cj_stream.specs.Output.{Channel}
+use Rattle.cj_stream.specs.Meaning.Headline.{Headline, fate_of}
+use Rattle.cj_stream.specs.Meaning.Outputs.{outputs, Channel, Took}
+use Rattle.cj_stream.specs.Meaning.Item.{is_feature}
 use Rattle.cj_stream.specs.ReportSink.{Collects}
-use Rattle.cj_stream.specs.Run.{Account, Gave, IsReadWithin, RunsNoting, StopsInTime, Writes, WritesLines}
-use Rattle.cj_stream.specs.Sink.{HasRisen, RisesOnErr, AppendsPart, Took}
-use Rattle.cj_stream.specs.Verdict.{Rules, good, kept, kept_first, reported, reported_first, up_to, stream_of}
+use Rattle.cj_stream.specs.Run.{Run, HeadlineOfRun, LacksRoom, Account, Gave, IsReadWithin, RunsNoting, StopsInTime, Writes, WritesLines}
+use Rattle.cj_stream.specs.Sink.{HasRisen, RisesOnErr, AppendsPart}
+use Rattle.cj_stream.specs.Meaning.Rules.{Rules}
+use Rattle.cj_stream.specs.Verdict.{good, kept, kept_first, reported, reported_first, up_to, stream_of}
 use Rattle.cj_stream.specs.Bound.{exact_peaks}
 use Rattle.cj_stream.specs.TallySink.{Tally, IsTallyOf, no_tally}
 use Rattle.cj_stream.specs.Query.{rules_for}
@@ -130,6 +131,11 @@ pub lines-refused : (rules : Rules) (r : List ℕ) (n features refused : ℕ)
     → Counts rules r n features refused → n ≡ length (good rules r) → refused ≡ length (reported rules r)
 lines-refused rules r n features refused all counts lines = counts.refused ∙ ap (λ rs. length rs) (all lines)
 
+-- why memory was refused, whatever the reader is
+pub lacks-room : (run : Run) (at_start : Type 0) → LacksRoom run at_start → LacksRoom run (Unit {0})
+lacks-room run at_start (inl start) = inl (tt, start.1, start.2)
+lacks-room run at_start (inr memory) = inr memory
+
 -- a run does what is asked, where this is what it answers; told is its outcome, or one with another end
 pub Does-run : {N : Type 0} (notes : N → Report → N → Type 0) (ask : Ask) (r : List ℕ) (at_start at_end : Type 0)
     (outcome told : Outcome) (a b : Channel) (n m : N) → told ≡ ended_by outcome told.ended
@@ -202,13 +208,36 @@ Headline-kept : {N : Type 0} (notes : N → Report → N → Type 0) (rules : Ru
     → Keeps b.bytes c.bytes → c.failures ≡ b.failures → Headline notes (fate_of rules text given e peaks)
     (outputs a n) (outputs c m)
 Headline-kept notes rules text given e peaks a b c n m h k f = record {
+  js = h.js;
+  judged = h.judged;
   writes = λ u. Appends-kept a.bytes b.bytes c.bytes _ (h.writes u) k;
   gives = h.gives;
   ends = h.ends;
   cause = λ is. subst (λ n. HasRisen a.failures n) (sym f) (h.cause is);
+  memory = λ is. (
+      let r = h.memory is in
+      record {
+        unwritten = Keeps-then a.bytes b.bytes c.bytes r.unwritten k;
+        unreported = r.unreported;
+        header = r.header;
+      });
   held = h.held;
   exact = h.exact;
 }
+
+HeadlineOfRun-kept : {N : Type 0} (notes : N → Report → N → Type 0) (run : Run) (at_end : Type 0) (a b c : Channel)
+    (n m : N) → HeadlineOfRun notes run at_end (outputs a n) (outputs b m)
+    → Keeps b.bytes c.bytes → c.failures ≡ b.failures → HeadlineOfRun notes run at_end (outputs a n) (outputs c m)
+HeadlineOfRun-kept notes run at_end a b c n m (inl h) k f = inl (record {
+  ended = h.ended;
+  unread = h.unread;
+  peaks = h.peaks;
+  unwritten = Keeps-then a.bytes b.bytes c.bytes h.unwritten k;
+  unreported = h.unreported;
+})
+HeadlineOfRun-kept notes run at_end a b c n m (inr h) k f =
+    inr (λ rest all u. Headline-kept notes run.rules (run.read ++ rest) run.read run.outcome.ended run.outcome.peaks a b
+    c n m (h rest all u) k f)
 
 -- an answer stays where the writer keeps its bytes
 pub Answers-kept : (ask : Ask) (r : List ℕ) (at_end : Type 0) (outcome : Outcome) (reports : List Report) (told : End)
@@ -219,8 +248,7 @@ Answers-kept (Check limits options) r at_end outcome reports told a b c says k f
 Answers-kept (Filter limits query options) r at_end outcome reports told a b c says k f = (
   says.0,
   Writes-kept (rules_for limits query options) r outcome.ended a.bytes b.bytes c.bytes says.1 k,
-  λ rest all u. Headline-kept Collects (rules_for limits query options) _ r outcome.ended outcome.peaks a b c [] reports
-      (says.2 rest all u) k f,
+  HeadlineOfRun-kept Collects (run_of (Filter limits query options) r outcome) at_end a b c [] reports says.2 k f,
   WritesLines-kept (rules_for limits query options) r outcome.lines outcome.ended a.bytes b.bytes c.bytes says.3 k,
 )
 Answers-kept (Info limits options) r at_end outcome reports told a b c says k f =

@@ -1,7 +1,7 @@
 -- The criteria that the options of `filter` make.
 use Rattle.std.specs.Prelude.{◌≡◌, ◌⊎◌, ℕ, List, Bool, Option, Some, None, Result, Ok, Err, IsSome, IsOk, option_copied}
 use Rattle.std.specs.Prelude.{option_map}
-use Rattle.cj_stream.specs.Criteria.{Criteria, Box}
+use Rattle.cj_stream.specs.Meaning.Criteria.{Criteria, Box}
 use Rattle.cj_stream.specs.Adding.{flags_with, no_types}
 use Rattle.cj_stream.specs.BoxText.{fields, box_text}
 use Rattle.cj_stream.specs.declared.query.fault.QueryFault.{QueryFault}

@@ -6,18 +6,19 @@ use Rattle.clap.specs.Words.{kind_of}
 use Rattle.clap.specs.declared.error.kind.ErrorKind.{ErrorKind}
 use Rattle.clap.specs.declared.error.kind.ErrorKind.TheVariants.{OutOfMemory, DisplayHelp, DisplayVersion}
 use Rattle.cj_budget.specs.Limits.{LimitPair}
-use Rattle.cj_stream.specs.Criteria.{everything}
+use Rattle.cj_stream.specs.Meaning.Criteria.{everything}
 use Rattle.cj_stream.specs.Bound.{exact_peaks}
-use Rattle.cj_stream.specs.Headline.{HeadlineOfRun, Outputs, outputs}
-use Rattle.cj_stream.specs.Item.{is_feature}
-use Rattle.cj_stream.specs.Options.{OptionSet}
+use Rattle.cj_stream.specs.Run.{HeadlineOfRun, Run, Account, IsReadWithin, RunsNoting, StopsInTime, Writes}
+use Rattle.cj_stream.specs.Run.{WritesLines}
+use Rattle.cj_stream.specs.Meaning.Outputs.{Outputs, outputs, Channel}
+use Rattle.cj_stream.specs.Meaning.Item.{is_feature}
+use Rattle.cj_stream.specs.Meaning.Options.{OptionSet}
 use Rattle.cj_stream.specs.Query.{rules_for}
 use Rattle.cj_stream.specs.ReportSink.{Collects}
-use Rattle.cj_stream.specs.Run.{Run, Account, IsReadWithin, RunsNoting, StopsInTime, Writes, WritesLines}
-use Rattle.cj_stream.specs.Output.{Channel}
 use Rattle.cj_stream.specs.Sink.{HasRisen}
 use Rattle.cj_stream.specs.TallySink.{Tally, IsTallyOf}
-use Rattle.cj_stream.specs.Verdict.{Rules, Stream, good, kept, reported, stream_of, up_to}
+use Rattle.cj_stream.specs.Meaning.Rules.{Rules}
+use Rattle.cj_stream.specs.Verdict.{Stream, good, kept, reported, stream_of, up_to}
 use Rattle.cj_stream.specs.declared.ending.End.{End}
 use Rattle.cj_stream.specs.declared.ending.End.TheVariants.{Complete, Refused, ReadFault, ReadLimit, WriteFault, Memory}
 use Rattle.cj_stream.specs.declared.output.WriteFault.{WriteFault as Unwritten}

@@ -6,7 +6,7 @@ use Rattle.clap.specs.declared.parser.matches.ArgMatches.{ArgMatches}
 use Rattle.cj_budget.specs.Limits.{LimitPair, InLine, InDepth}
 use Rattle.cj_budget.specs.declared.limits.LimitFault.{LimitFault}
 use Rattle.cj_budget.specs.declared.limits.LimitFault.TheVariants.{LineLimit, DepthLimit}
-use Rattle.cj_stream.specs.Options.{OptionSet}
+use Rattle.cj_stream.specs.Meaning.Options.{OptionSet}
 use Rattle.cj_stream.specs.Query.{criteria}
 use Rattle.cj_stream.specs.declared.query.fault.QueryFault.{QueryFault}
 use Rattle.cityseq_command.specs.Commands.{IsCalled, program_app}

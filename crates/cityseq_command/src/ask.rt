@@ -3,7 +3,7 @@ ghost use Rattle.std.specs.Prelude.{◌≡◌, ℕ, List};
 ghost use Rattle.std.specs.Io.KnownBytes.{Consumes, IsAtEnd};
 ghost use Rattle.cj_stream.specs.Output.{channel};
 ghost use Rattle.cityseq_command.specs.Performed.{end_of_writing as told_after, Does, Performs, TakesOptions, asked};
-ghost use Rattle.cj_stream.specs.Headline.{outputs};
+ghost use Rattle.cj_stream.specs.Meaning.Outputs.{outputs};
 
 use crate::fault_lines::{show_after, status_after};
 use crate::report_writer::WriteReports;

@@ -12,14 +12,18 @@ use Rattle.cj_spans.specs.declared.reason.Reason.{Reason}
 use Rattle.cj_stream.specs.declared.ending.End.{End}
 use Rattle.cj_stream.specs.declared.ending.End.TheVariants.{Complete, Refused, ReadFault, ReadLimit, WriteFault, Memory}
 use Rattle.cj_stream.specs.declared.running.Outcome.{Outcome}
-use Rattle.cj_stream.specs.Bound.{IsBounded, IsExact, bytes_bound, tokens_bound, exact_peaks, contents, is_readable, is_legible}
+use Rattle.cj_stream.specs.Meaning.Bound.{IsBounded, bytes_bound, tokens_bound}
+use Rattle.cj_stream.specs.Bound.{IsExact, exact_peaks, contents, is_readable, is_legible}
 use Rattle.cj_stream.specs.Cut.{IsUnread}
 use Rattle.cj_stream.specs.Engine.{Counts}
-use Rattle.cj_stream.specs.Item.{is_feature}
-use Rattle.cj_stream.specs.Lines.{Line, NoLf, closed, begun, ended_line, lines, whole, later_of, first_content}
+use Rattle.cj_stream.specs.Meaning.Item.{is_feature}
+use Rattle.cj_stream.specs.Meaning.Lines.{Line, closed, begun, ended_line, lines, later_of, first_content}
+use Rattle.cj_stream.specs.Lines.{NoLf, whole}
 use Rattle.cj_stream.specs.Parts.{headed, IsCut, moved_end, moved_report, greater_peaks, both_outcomes}
 use Rattle.cj_stream.specs.Run.{Run, Ends, Account}
-use Rattle.cj_stream.specs.Verdict.{Rules, Valid, verdict, refusal_in, judged, long_line, good, kept_from, kept_first, reported_from, reported_first, ending, ending_of}
+use Rattle.cj_stream.specs.Meaning.Rules.{Rules}
+use Rattle.cj_stream.specs.Meaning.Verdict.{Kept}
+use Rattle.cj_stream.specs.Verdict.{verdict, refusal_in, judged, long_line, good, kept_from, kept_first, reported_from, reported_first, ending, ending_of}
 use Rattle.cj_stream.proofs.GoodLemmas.{kept_first-good}
 use Rattle.cj_stream.proofs.IsLinesLemmas.{lines-whole}
 use Rattle.cj_stream.proofs.LineLemmas.{closed-ended, begun-ended, closed-then, begun-then}
@@ -64,7 +68,7 @@ whole-parts h a b cut =
 -- ---- counts
 
 -- some lines, of which the first is a valid header, and the same without a number of them
-module _ (rules : Rules) (l : Line) (valid : verdict rules [] l.content ≡ Valid) (ys : List Line) where
+module _ (rules : Rules) (l : Line) (valid : verdict rules [] l.content ≡ Kept) (ys : List Line) where
   features-same : (m : ℕ) → length (filter is_feature (kept_from rules [] (take m (l ∷ ys))))
       ≡ length (filter is_feature (later_of (kept_from rules [] (l ∷ take (m - 1) ys))))
   features-same zero = ap (λ z. length (filter is_feature (later_of z))) (sym (kept-first rules l valid []))

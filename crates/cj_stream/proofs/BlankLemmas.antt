@@ -12,7 +12,7 @@ use Rattle.cj_spans.specs.Json.{byte, Value, atom, empty_array, full_array, empt
 use Rattle.cj_spans.specs.Judgement.{Judgement, spelled, broken, sunk, judged_size, judged_nest}
 use Rattle.cj_spans.proofs.Judgements.{judgement}
 use Rattle.cj_stream.specs.Bound.{is_text, tree_size, tree_nest}
-use Rattle.cj_stream.specs.Verdict.{is_blank_byte}
+use Rattle.cj_stream.specs.Meaning.Verdict.{is_blank_byte}
 use Rattle.cj_stream.proofs.VerdictLemmas.{and-both}
 
 -- bytes that are all blank

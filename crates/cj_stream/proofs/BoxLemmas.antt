@@ -19,7 +19,7 @@ use Rattle.cj_geometry.specs.Rule.{spelling, whole_by, whole_of}
 use Rattle.cj_feature.specs.Shown.{maps_of, maps_if}
 use Rattle.cj_feature.specs.Typed.{vertex_of, number_on}
 use Rattle.cj_stream.specs.declared.query.extent.Range.{Range}
-use Rattle.cj_stream.specs.Criteria.{Box, axis_map, vertices_of, some_at_most, some_at_least, is_in}
+use Rattle.cj_stream.specs.Meaning.Criteria.{Box, axis_map, vertices_of, some_at_most, some_at_least, is_in}
 use Rattle.cj_stream.specs.Extent.{alone, widened, range_of, meets, IsSmall}
 use borrow.Author.Differences.{up, down, product_is}
 

@@ -13,7 +13,7 @@ use Rattle.cj_decimal.proofs.Law.{has_one_value, not_both, value_is_number}
 use Rattle.cj_feature.specs.Header.{is_fixed, units_of}
 use Rattle.cj_feature.specs.Shown.{value_by}
 use Rattle.cj_feature.proofs.Fixed.{test-decides, units-only}
-use Rattle.cj_stream.specs.Criteria.{Box}
+use Rattle.cj_stream.specs.Meaning.Criteria.{Box}
 use Rattle.cj_stream.specs.BoxText.{fields, is_number_by, is_number, is_edge, edge, is_empty, box_text}
 use Rattle.cj_stream.specs.declared.query.fault.QueryFault.{QueryFault}
 use Rattle.cj_stream.specs.declared.query.fault.QueryFault.TheVariants.{BadBox, BoxRange, EmptyBox}

@@ -17,9 +17,11 @@ use Rattle.cj_feature.proofs.Worked.{plain_feature, plain_header-valid, plain_fe
 use Rattle.cj_stream.specs.declared.ending.End.TheVariants.{Complete, Refused}
 use Rattle.cj_stream.specs.ChoiceRows.{choosing, ApartRow, ChainRow, ExcludeRow}
 use Rattle.cj_stream.specs.Item.{tree_of}
-use Rattle.cj_stream.specs.Lines.{raw, ended_line}
+use Rattle.cj_stream.specs.Meaning.Lines.{raw, ended_line}
 use Rattle.cj_stream.specs.Rows.{small_header, small_feature}
-use Rattle.cj_stream.specs.Verdict.{Rules, LeftOut, Valid, is_blank_byte, is_kept_if_valid, by_least, verdict, verdict_at, tree_verdict, ending_of}
+use Rattle.cj_stream.specs.Meaning.Rules.{Rules}
+use Rattle.cj_stream.specs.Meaning.Verdict.{LeftOut, Kept, is_blank_byte}
+use Rattle.cj_stream.specs.Verdict.{is_kept_if_valid, by_least, verdict, verdict_at, tree_verdict, ending_of}
 use Rattle.cj_stream.proofs.RowLemmas.{spelled-tree, by-tree, header_json, feature_json, header_text, feature_text, header_tree, holds-everything, written, second-refused, two-good, open_line}
 use Rattle.cj_stream.proofs.VerdictLemmas.{verdict-json, tree-valid, tree-unasked}
 
@@ -53,7 +55,7 @@ module _ (tree exclude : Bool) where
   abbrev rules : Rules
   rules = choosing tree exclude
 
-  header_valid : (t : Tree) → verdict_at rules 1 t small_header ≡ Valid
+  header_valid : (t : Tree) → verdict_at rules 1 t small_header ≡ Kept
   header_valid t =
       verdict-json rules 1 t small_header (lit≤ tt) header_text refl
       ∙ (by-tree plain_header header_json (lit≤ tt) rules 1 t (judgement small_header 64)

@@ -5,11 +5,14 @@ use Rattle.cj_stream.specs.declared.ending.End.TheVariants.{Complete, Refused, R
 use Rattle.cj_stream.specs.declared.report_sink.CountReports.{CountReports}
 use Rattle.cj_stream.specs.declared.report_sink.Report.{Report}
 use Rattle.cj_stream.specs.CountReports.{count_of, no_reports, CountsFirst, CountsReportsOfRun, CountsReportsOfPieces}
-use Rattle.cj_stream.specs.Cut.{joined, in_pieces}
+use Rattle.cj_stream.specs.Meaning.Lines.{joined}
+use Rattle.cj_stream.specs.Cut.{in_pieces}
 use Rattle.cj_stream.specs.Lines.{whole}
 use Rattle.cj_stream.specs.ReportSink.{CountsReport, Notes, NotesRun, NotesPieces}
-use Rattle.cj_stream.specs.Sink.{Took, TookFront, prefixes}
-use Rattle.cj_stream.specs.Verdict.{Rules, reported, reported_first, stretch, stream_of}
+use Rattle.cj_stream.specs.Meaning.Outputs.{Took}
+use Rattle.cj_stream.specs.Sink.{TookFront, prefixes}
+use Rattle.cj_stream.specs.Meaning.Rules.{Rules}
+use Rattle.cj_stream.specs.Verdict.{reported, reported_first, stretch, stream_of}
 
 -- a sink that counted some reports goes up by them
 reports-more : (a b : CountReports) (rs : List Report) → a.reports ≤ 2 ^ 64 - 1 → Took CountsReport a rs b

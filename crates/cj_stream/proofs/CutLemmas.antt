@@ -6,16 +6,17 @@ use Rattle.std.proofs.lemmas.Bool.{ltb-true}
 use Rattle.cj_spans.specs.declared.reason.Reason.TheVariants.{LineTooLong}
 use Rattle.cj_stream.specs.declared.ending.End.{End}
 use Rattle.cj_stream.specs.declared.ending.End.TheVariants.{Complete, Refused, ReadFault, ReadLimit, WriteFault, Memory}
-use Rattle.cj_stream.specs.Item.{Item}
-use Rattle.cj_stream.specs.Lines.{Line, NoLf, closed, begun, first_of, ended_line, last_line, lines, whole}
-use Rattle.cj_stream.specs.Verdict.{Rules, verdict, header_of, item_after, goes_on, refusal_of, refusal_in}
-use Rattle.cj_stream.specs.Verdict.{refusal_from, good_from, kept_from, kept_first, kept, reported_from, reported, good}
-use Rattle.cj_stream.specs.Verdict.{ending, judged, long_line, stretch, up_to}
-use Rattle.cj_stream.specs.Cut.{joined, PutsPieces, EndsAt, Copies, TookWhole, IsUnread, in_pieces, given_after}
+use Rattle.cj_stream.specs.Meaning.Item.{Item}
+use Rattle.cj_stream.specs.Meaning.Lines.{Line, closed, begun, first_of, ended_line, last_line, lines, joined}
+use Rattle.cj_stream.specs.Lines.{NoLf, whole}
+use Rattle.cj_stream.specs.Meaning.Rules.{Rules}
+use Rattle.cj_stream.specs.Verdict.{verdict, header_of, item_after, goes_on, refusal_of, refusal_in, refusal_from, good_from, kept_from, kept_first, kept, reported_from, reported, good, ending, judged, long_line, stretch, up_to}
+use Rattle.cj_stream.specs.Cut.{PutsPieces, EndsAt, Copies, TookWhole, IsUnread, in_pieces, given_after}
 use Rattle.cj_stream.specs.Engine.{EngineState, Counts, rules_of, lines_of, Delivers, Faults, Tells, Concludes}
 use Rattle.cj_stream.specs.Reading.{Reads}
 use Rattle.cj_stream.specs.Run.{Ends}
-use Rattle.cj_stream.specs.Sink.{Took, LeavesNext, SinkLaw}
+use Rattle.cj_stream.specs.Meaning.Outputs.{Took}
+use Rattle.cj_stream.specs.Sink.{LeavesNext, SinkLaw}
 use Rattle.cj_stream.specs.Output.{writes_law}
 use Rattle.cj_stream.proofs.JoinedLemmas.{joined-cut, joined-next}
 use Rattle.cj_stream.proofs.LineLemmas.{closed-then, begun-then, NoLf-begun, first_content-long}

@@ -5,16 +5,17 @@ use Rattle.std.proofs.lemmas.List.{append-nil}
 use Rattle.cj_budget.specs.Limits.{LimitPair}
 use Rattle.cj_stream.specs.declared.ending.End.{End}
 use Rattle.cj_stream.specs.declared.ending.End.TheVariants.{Complete, Refused, ReadFault, ReadLimit, WriteFault, Memory}
-use Rattle.cj_stream.specs.Lines.{Line, closed, begun, ended_line, last_line, lines, first_content}
-use Rattle.cj_stream.specs.Item.{Item}
-use Rattle.cj_stream.specs.Verdict.{Rules, Refuse, verdict, header_of, goes_on, refusal_from, refusal_in, kept_from}
-use Rattle.cj_stream.specs.Verdict.{judged, kept_first, stretch, up_to}
+use Rattle.cj_stream.specs.Meaning.Lines.{Line, closed, begun, ended_line, last_line, lines, first_content}
+use Rattle.cj_stream.specs.Meaning.Item.{Item}
+use Rattle.cj_stream.specs.Meaning.Rules.{Rules}
+use Rattle.cj_stream.specs.Meaning.Verdict.{Invalid}
+use Rattle.cj_stream.specs.Verdict.{verdict, header_of, goes_on, refusal_from, refusal_in, kept_from, judged, kept_first, stretch, up_to}
 use Rattle.cj_budget.specs.Bounded.{IsWithin}
 use Rattle.cj_budget.specs.declared.limits.Peaks.{Peaks}
-use Rattle.cj_stream.specs.Bound.{bytes_bound, IsBelow, IsBounded}
+use Rattle.cj_stream.specs.Meaning.Bound.{bytes_bound, IsBounded}
+use Rattle.cj_stream.specs.Bound.{IsBelow}
 use Rattle.cj_stream.specs.Scanning.{Scanning, HasRoom, Scanned, HoldsFew}
-use Rattle.cj_stream.specs.Reading.{Reading, is_lenient, IsSound, Reads, kept_closed, Advances, IsNext, LacksMemory}
-use Rattle.cj_stream.specs.Reading.{HasCause, Stops, further, stop_at}
+use Rattle.cj_stream.specs.Reading.{Reading, is_lenient, IsSound, Reads, kept_closed, Advances, IsNext, LacksMemory, HasCause, Stops, further, stop_at}
 use Rattle.cj_stream.specs.Engine.{EngineState, StandsFor, Counts, Going, Faults, Delivers, Tells, limits_of, held_by, peaks_of}
 use Rattle.cj_stream.specs.Sink.{SinkLaw, with_sink}
 use Rattle.cj_stream.proofs.LineLemmas.{closed-then, first_content-grows, none-from_length}
@@ -145,7 +146,7 @@ front-next limits p q l n h e =
 pub next-refusal : (rules : Rules) (n place : ℕ) (reason : _) (p q : List ℕ) (l : Line) → IsNext rules.limits p q l
     → n ≡ length (closed p) + 1
     → refusal_in rules (map ended_line (closed p)) ≡ None → verdict rules (map ended_line (closed p)) l.content
-    ≡ Refuse place reason → goes_on rules n ≡ false
+    ≡ Invalid place reason → goes_on rules n ≡ false
     → refusal_in rules (judged rules.limits q) ≡ Some (Refused n place reason)
 next-refusal rules n place reason p q l h e good v on =
     let at : length (map ended_line (closed p)) + 1 ≡ n = omega (arith, length-map_lines (closed p), e) in

@@ -10,14 +10,15 @@ use Rattle.cj_spans.specs.declared.reason.Reason.TheVariants.{NoHeader}
 use Rattle.cj_stream.specs.declared.ending.End.{End}
 use Rattle.cj_stream.specs.declared.ending.End.TheVariants.{Complete, Refused, ReadFault, ReadLimit, WriteFault, Memory}
 use Rattle.cj_stream.specs.Ending.{answer_of}
-use Rattle.cj_stream.specs.Lines.{Line, closed, begun, begun_after, first_content, ended_line, last_line, later_of, lines}
-use Rattle.cj_stream.specs.Item.{Item}
-use Rattle.cj_stream.specs.Verdict.{Rules, Verdict, Refuse, Blank, LeftOut, Valid, verdict, item_after, goes_on}
-use Rattle.cj_stream.specs.Verdict.{refusal_of, is_kept, refusal_in, refusal_from, kept_from, ending, ending_of}
-use Rattle.cj_stream.specs.Verdict.{kept_first, stretch, up_to}
-use Rattle.cj_stream.specs.Bound.{bytes_bound, greatest, held_length, contents, exact_peaks, IsExact}
-use Rattle.cj_stream.specs.Reading.{Reading, next_verdict, next_item, is_lenient, IsLeft, Refuses, Deals, Settles}
-use Rattle.cj_stream.specs.Reading.{Reads, Finishes, FinishesWith, Passes, JudgedAs, judged_next}
+use Rattle.cj_stream.specs.Meaning.Lines.{Line, closed, begun, first_content, ended_line, last_line, later_of, lines}
+use Rattle.cj_stream.specs.Lines.{begun_after}
+use Rattle.cj_stream.specs.Meaning.Item.{Item}
+use Rattle.cj_stream.specs.Meaning.Rules.{Rules}
+use Rattle.cj_stream.specs.Meaning.Verdict.{Verdict, Invalid, Blank, LeftOut, Kept}
+use Rattle.cj_stream.specs.Verdict.{verdict, item_after, goes_on, refusal_of, is_kept, refusal_in, refusal_from, kept_from, ending, ending_of, kept_first, stretch, up_to}
+use Rattle.cj_stream.specs.Meaning.Bound.{bytes_bound, greatest}
+use Rattle.cj_stream.specs.Bound.{held_length, contents, exact_peaks, IsExact}
+use Rattle.cj_stream.specs.Reading.{Reading, next_verdict, next_item, is_lenient, IsLeft, Refuses, Deals, Settles, Reads, Finishes, FinishesWith, Passes, JudgedAs, judged_next}
 use Rattle.cj_stream.specs.Scanning.{Scanning, Scanned, ScansNext, HasRoom, HoldsFew}
 use Rattle.cj_stream.specs.Engine.{StandsFor, Counts, Faults, Delivers, Concludes, end_of}
 use Rattle.cj_stream.specs.Sink.{SinkLaw, with_sink}
@@ -148,7 +149,7 @@ module _ {S : Type 0} (law : SinkLaw S) (f g : Reading) (s t : S) (p : List ℕ)
   last-lenient on is = rw length-cs is
 
   concluded-refused : (b : ℕ) (c : List ℕ) (place : ℕ) (reason : Reason) (on : Bool) (r : Result (Unit {0}) End)
-      → begun p ≡ b ∷ c → verdict f.rules (map ended_line (closed p)) (b ∷ c) ≡ Refuse place reason
+      → begun p ≡ b ∷ c → verdict f.rules (map ended_line (closed p)) (b ∷ c) ≡ Invalid place reason
       → is_lenient f ≡ on → Refuses on (Refused (f.lines + 1) place reason) f r g → Concluded f.rules p g.lines
       (end_of r)
   concluded-refused b c place reason true r e h is d =
@@ -160,11 +161,11 @@ module _ {S : Type 0} (law : SinkLaw S) (f g : Reading) (s t : S) (p : List ℕ)
       → verdict f.rules (map ended_line (closed p)) (b ∷ c) ≡ v
       → Deals law (judged_next f (is_lenient f) v (unended b c)) (with_sink f s) r (with_sink g t)
       → Concluded f.rules p g.lines (end_of r)
-  concluded-last b c (Refuse place reason) r e h d = concluded-refused b c place reason (is_lenient f) r e h refl d.0
+  concluded-last b c (Invalid place reason) r e h d = concluded-refused b c place reason (is_lenient f) r e h refl d.0
   concluded-last b c Blank r e h d = rw d.0 (ending-verdict b c e ∙ rw h refl, count-last b c e d.1.lines)
   concluded-last b c LeftOut r e h d = rw d.0 (ending-verdict b c e ∙ rw h refl, count-last b c e d.1.lines)
-  concluded-last b c Valid (Ok x) e h d = (ending-verdict b c e ∙ rw h refl, count-last b c e d.0.lines)
-  concluded-last b c Valid (Err x) e h d = rw d.0 tt
+  concluded-last b c Kept (Ok x) e h d = (ending-verdict b c e ∙ rw h refl, count-last b c e d.0.lines)
+  concluded-last b c Kept (Err x) e h d = rw d.0 tt
 
   concluded-none : (r : Result (Unit {0}) End) → begun p ≡ [] → FinishesWith law [] (with_sink f s) r (with_sink g t)
       → Concluded f.rules p g.lines (end_of r)
@@ -218,7 +219,7 @@ module _ {S : Type 0} (law : SinkLaw S) (f g : Reading) (s t : S) (p : List ℕ)
       }
 
   counts-refused : (b : ℕ) (c : List ℕ) (place : ℕ) (reason : Reason) (on : Bool) (r : Result (Unit {0}) End)
-      → begun p ≡ b ∷ c → verdict f.rules (map ended_line (closed p)) (b ∷ c) ≡ Refuse place reason
+      → begun p ≡ b ∷ c → verdict f.rules (map ended_line (closed p)) (b ∷ c) ≡ Invalid place reason
       → is_lenient f ≡ on → Refuses on (Refused (f.lines + 1) place reason) f r g → Counts f.rules p g.lines g.kept
       g.refused
   counts-refused b c place reason true r e h is d =
@@ -229,11 +230,11 @@ module _ {S : Type 0} (law : SinkLaw S) (f g : Reading) (s t : S) (p : List ℕ)
       → verdict f.rules (map ended_line (closed p)) (b ∷ c) ≡ v
       → Deals law (judged_next f (is_lenient f) v (unended b c)) (with_sink f s) r (with_sink g t)
       → Counts f.rules p g.lines g.kept g.refused
-  counts-last b c (Refuse place reason) r e h d = counts-refused b c place reason (is_lenient f) r e h refl d.0
+  counts-last b c (Invalid place reason) r e h d = counts-refused b c place reason (is_lenient f) r e h refl d.0
   counts-last b c Blank r e h d = counts-passed b c false false e d.1 (rw h refl) (rw h refl) (rw h refl)
   counts-last b c LeftOut r e h d = counts-passed b c false false e d.1 (rw h refl) (rw h refl) (rw h refl)
-  counts-last b c Valid (Ok x) e h d = counts-passed b c true false e d.0 (rw h refl) (rw h refl) (rw h refl)
-  counts-last b c Valid (Err x) e h d = counts-left d.1
+  counts-last b c Kept (Ok x) e h d = counts-passed b c true false e d.0 (rw h refl) (rw h refl) (rw h refl)
+  counts-last b c Kept (Err x) e h d = counts-left d.1
 
   pub Counts-finished : (r : Result (Unit {0}) End) → Finishes law p (with_sink f s) r (with_sink g t)
       → Counts f.rules p g.lines g.kept g.refused
@@ -288,11 +289,11 @@ module _ {S : Type 0} (law : SinkLaw S) (f g : Reading) (s t : S) (p : List ℕ)
 
   settled-dealt : (l : Item) (v : Verdict) (r : Result (Unit {0}) End)
       → Deals law (JudgedAs (f.lines + 1) (is_lenient f) v l) (with_sink f s) r (with_sink g t) → Settled
-  settled-dealt l (Refuse place reason) r d = settled-refused (is_lenient f) place reason r d.0
+  settled-dealt l (Invalid place reason) r d = settled-refused (is_lenient f) place reason r d.0
   settled-dealt l Blank r d = settled-passed false false d.1
   settled-dealt l LeftOut r d = settled-passed false false d.1
-  settled-dealt l Valid (Ok x) d = settled-passed true false d.0
-  settled-dealt l Valid (Err x) d = settled-left d.1
+  settled-dealt l Kept (Ok x) d = settled-passed true false d.0
+  settled-dealt l Kept (Err x) d = settled-left d.1
 
   Settled-finished : (r : Result (Unit {0}) End) → Finishes law p (with_sink f s) r (with_sink g t) → Settled
   Settled-finished r d = go (begun p) d
@@ -356,11 +357,11 @@ module _ {S : Type 0} (law : SinkLaw S) (f g : Reading) (s t : S) (p : List ℕ)
   peak-dealt : (b : ℕ) (c : List ℕ) (v : Verdict) (r : Result (Unit {0}) End) → begun p ≡ b ∷ c
       → Deals law (judged_next f (is_lenient f) v (unended b c)) (with_sink f s) r (with_sink g t) → end_of r ≡ Complete
       → g.header.peak + g.line.peak ≡ (exact_peaks f.rules.limits p).bytes
-  peak-dealt b c (Refuse place reason) r e d done = peak-refused b c place reason (is_lenient f) r e d.0 done
+  peak-dealt b c (Invalid place reason) r e d done = peak-refused b c place reason (is_lenient f) r e d.0 done
   peak-dealt b c Blank r e d done = peak-all false false b c e d.1
   peak-dealt b c LeftOut r e d done = peak-all false false b c e d.1
-  peak-dealt b c Valid (Ok x) e d done = peak-all true false b c e d.0
-  peak-dealt b c Valid (Err x) e d done = absurd (clash (sym d.0 ∙ done))
+  peak-dealt b c Kept (Ok x) e d done = peak-all true false b c e d.0
+  peak-dealt b c Kept (Err x) e d done = absurd (clash (sym d.0 ∙ done))
     where
       clash : WriteFault ≡ Complete → ⊥
       clash x = cc
@@ -401,11 +402,11 @@ module _ {S : Type 0} (law : SinkLaw S) (f g : Reading) (s t : S) (p : List ℕ)
       dealt : (v : Verdict) (l : Item) (r : Result (Unit {0}) End)
           → Deals law (JudgedAs (f.lines + 1) (is_lenient f) v l) (with_sink f s) r (with_sink g t)
           → end_of r ≡ Complete → r ≡ Ok tt
-      dealt (Refuse place reason) l r d h = refuses (is_lenient f) place reason r d.0 h
+      dealt (Invalid place reason) l r d h = refuses (is_lenient f) place reason r d.0 h
       dealt Blank l r d h = d.0
       dealt LeftOut l r d h = d.0
-      dealt Valid l (Ok x) d h = refl
-      dealt Valid l (Err x) d h = cc
+      dealt Kept l (Ok x) d h = refl
+      dealt Kept l (Err x) d h = cc
 
       memory : (r : Result (Unit {0}) End) → r ≡ Err Memory → end_of r ≡ Complete → r ≡ Ok tt
       memory (Ok x) e h = refl
@@ -468,7 +469,7 @@ module _ {S : Type 0} (law : SinkLaw S) (f g : Reading) (s t : S) (p : List ℕ)
   }
 
   delivers-refused : (b : ℕ) (c : List ℕ) (place : ℕ) (reason : Reason) (on : Bool) (r : Result (Unit {0}) End)
-      → begun p ≡ b ∷ c → verdict f.rules (map ended_line (closed p)) (b ∷ c) ≡ Refuse place reason
+      → begun p ≡ b ∷ c → verdict f.rules (map ended_line (closed p)) (b ∷ c) ≡ Invalid place reason
       → Refuses on (Refused (f.lines + 1) place reason) f r g → t ≡ s → Delivers law (stretch f.rules p f.lines g.lines)
       s t (Some (end_of r))
   delivers-refused b c place reason true r e h d still = rw d.0 (skipped b c false true e d.1 (rw h refl) still)
@@ -479,17 +480,17 @@ module _ {S : Type 0} (law : SinkLaw S) (f g : Reading) (s t : S) (p : List ℕ)
       → verdict f.rules (map ended_line (closed p)) (b ∷ c) ≡ v
       → Deals law (judged_next f (is_lenient f) v (unended b c)) (with_sink f s) r (with_sink g t)
       → Delivers law (stretch f.rules p f.lines g.lines) s t (Some (end_of r))
-  delivers-last b c (Refuse place reason) r e h d = delivers-refused b c place reason (is_lenient f) r e h d.0 d.1
+  delivers-last b c (Invalid place reason) r e h d = delivers-refused b c place reason (is_lenient f) r e h d.0 d.1
   delivers-last b c Blank r e h d = rw d.0 (skipped b c false false e d.1 (rw h refl) d.2)
   delivers-last b c LeftOut r e h d = rw d.0 (skipped b c false false e d.1 (rw h refl) d.2)
-  delivers-last b c Valid (Ok x) e h d = record {
+  delivers-last b c Kept (Ok x) e h d = record {
     added = item_after f.rules (map ended_line (closed p)) (unended b c) ∷ [];
     middle = t;
     kept = rw d.0.lines (kept-last b c e ∙ rw h refl);
     took = (t, rw (← next-item f p reads (unended b c)) d.1, refl);
     fault = refl;
   }
-  delivers-last b c Valid (Err x) e h d = rw d.0 (quiet WriteFault (ap (λ x. x.lines) d.1.same) (
+  delivers-last b c Kept (Err x) e h d = rw d.0 (quiet WriteFault (ap (λ x. x.lines) d.1.same) (
     unended b c,
     rw (d.1.same, lines-last b c e)
         (get-next (map ended_line (closed p)) [] (unended b c) f.lines (sym length-cs)),

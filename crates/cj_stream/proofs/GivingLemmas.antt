@@ -4,14 +4,15 @@ use Rattle.std.proofs.lemmas.List.{append-nil}
 use Rattle.cj_stream.specs.declared.ending.End.{End}
 use Rattle.cj_stream.specs.declared.pieces.PiecesOutcome.{PiecesOutcome}
 use Rattle.cj_stream.specs.declared.report_sink.Report.{Report}
-use Rattle.cj_stream.specs.Cut.{joined, Fed, TookWhole, in_pieces, given_after}
+use Rattle.cj_stream.specs.Meaning.Lines.{joined, closed}
+use Rattle.cj_stream.specs.Cut.{Fed, TookWhole, in_pieces, given_after}
 use Rattle.cj_stream.specs.Engine.{EngineState, StandsFor, Delivers, rules_of, lines_of, peaks_of}
 use Rattle.cj_stream.specs.Feeding.{Feeds, IsFinished}
-use Rattle.cj_stream.specs.Lines.{closed}
 use Rattle.cj_stream.specs.ReportSink.{Notes}
 use Rattle.cj_stream.specs.Run.{Ends}
 use Rattle.cj_stream.specs.Sink.{SinkLaw, with_sink}
-use Rattle.cj_stream.specs.Verdict.{Rules, refusal_in, judged, stretch}
+use Rattle.cj_stream.specs.Meaning.Rules.{Rules}
+use Rattle.cj_stream.specs.Verdict.{refusal_in, judged, stretch}
 use Rattle.cj_stream.proofs.CutLemmas.{TookWhole-left, EndsAt-told, EndsAt-concludes}
 use Rattle.cj_stream.proofs.EngineLemmas.{Going-reads}
 use Rattle.cj_stream.proofs.JoinedLemmas.{joined-all}

@@ -11,9 +11,11 @@ use Rattle.cj_spans.specs.Tree.{Tree}
 use Rattle.cj_spans.proofs.Judgements.{judgement}
 use Rattle.cj_stream.specs.declared.ending.End.TheVariants.{Complete, Refused}
 use Rattle.cj_stream.specs.GoingRows.{going, BetweenRow, FirstRow, LastRow}
-use Rattle.cj_stream.specs.Lines.{Line, raw, ended_line}
+use Rattle.cj_stream.specs.Meaning.Lines.{Line, raw, ended_line}
 use Rattle.cj_stream.specs.Rows.{small_header, small_feature, wide_rules, tight_rules}
-use Rattle.cj_stream.specs.Verdict.{Rules, Refuse, Blank, Valid, is_blank_byte, verdict, verdict_at, text_verdict, ending_of, good_from, reported_from}
+use Rattle.cj_stream.specs.Meaning.Rules.{Rules}
+use Rattle.cj_stream.specs.Meaning.Verdict.{Invalid, Blank, Kept, is_blank_byte}
+use Rattle.cj_stream.specs.Verdict.{verdict, verdict_at, text_verdict, ending_of, good_from, reported_from}
 use Rattle.cj_stream.proofs.RowLemmas.{header_first, header_tight, feature_first, feature_third, comma_second, written, open_line}
 use Rattle.cj_stream.proofs.VerdictLemmas.{verdict-long}
 
@@ -24,11 +26,11 @@ unfolding verdict_at
 same-verdict rules n header c = go (judgement c rules.limits.depth)
   where
     go : {d : ℕ} (j : Judgement c d)
-        → cond (ltb rules.limits.line (length c)) (Refuse rules.limits.line LineTooLong)
-        (cond (not (is_utf8 c)) (Refuse (utf8_valid_len c) NotUtf8)
+        → cond (ltb rules.limits.line (length c)) (Invalid rules.limits.line LineTooLong)
+        (cond (not (is_utf8 c)) (Invalid (utf8_valid_len c) NotUtf8)
         (cond (nat_lt 1 n && list_all is_blank_byte c) Blank (text_verdict (going rules) n header j)))
-        ≡ cond (ltb rules.limits.line (length c)) (Refuse rules.limits.line LineTooLong)
-        (cond (not (is_utf8 c)) (Refuse (utf8_valid_len c) NotUtf8)
+        ≡ cond (ltb rules.limits.line (length c)) (Invalid rules.limits.line LineTooLong)
+        (cond (not (is_utf8 c)) (Invalid (utf8_valid_len c) NotUtf8)
         (cond (nat_lt 1 n && list_all is_blank_byte c) Blank (text_verdict rules n header j)))
     go (spelled t json shallow) = refl
     go (broken i at none) = refl
@@ -36,8 +38,8 @@ same-verdict rules n header c = go (judgement c rules.limits.depth)
 
 module _ (rules : Rules) (on : rules.options.keep_going ≡ true) (place : ℕ) (reason : Reason) where
   -- a refused line between two good ones, and at the end
-  between : (h l f : Line) → verdict rules [] h.content ≡ Valid → verdict rules (h ∷ []) l.content ≡ Refuse place reason
-      → verdict rules (h ∷ l ∷ []) f.content ≡ Valid
+  between : (h l f : Line) → verdict rules [] h.content ≡ Kept → verdict rules (h ∷ []) l.content ≡ Invalid place reason
+      → verdict rules (h ∷ l ∷ []) f.content ≡ Kept
       → ((ending_of rules (h ∷ l ∷ f ∷ []) ≡ Complete) × (written rules (h ∷ l ∷ f ∷ []) ≡ raw h ++ (raw f ++ [])))
       × (reported_from rules [] (good_from rules [] (h ∷ l ∷ f ∷ []))
       ≡ record { line = 2; place = place; reason = reason } ∷ [])
@@ -47,7 +49,7 @@ module _ (rules : Rules) (on : rules.options.keep_going ≡ true) (place : ℕ) 
     rw (valid, bad, on, good) (rw (valid, bad, good) refl),
   )
 
-  last : (h l : Line) → verdict rules [] h.content ≡ Valid → verdict rules (h ∷ []) l.content ≡ Refuse place reason
+  last : (h l : Line) → verdict rules [] h.content ≡ Kept → verdict rules (h ∷ []) l.content ≡ Invalid place reason
       → ((ending_of rules (h ∷ l ∷ []) ≡ Complete) × (written rules (h ∷ l ∷ []) ≡ raw h ++ []))
       × (reported_from rules [] (good_from rules [] (h ∷ l ∷ [])) ≡ record { line = 2; place = place; reason = reason }
       ∷ [])
@@ -58,7 +60,7 @@ module _ (rules : Rules) (on : rules.options.keep_going ≡ true) (place : ℕ) 
   )
 
 first : (rules : Rules) (place : ℕ) (reason : Reason) (l : Line) (rest : List Line)
-    → verdict rules [] l.content ≡ Refuse place reason
+    → verdict rules [] l.content ≡ Invalid place reason
     → ((ending_of rules (l ∷ rest) ≡ Refused 1 place reason) × (written rules (l ∷ rest) ≡ []))
     × (reported_from rules [] (good_from rules [] (l ∷ rest)) ≡ [])
 first rules place reason l rest bad = ((rw bad refl, rw bad refl), rw bad refl)

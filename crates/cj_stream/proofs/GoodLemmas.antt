@@ -6,9 +6,11 @@ use Rattle.cj_spans.specs.declared.reason.Reason.{Reason}
 use Rattle.cj_spans.specs.declared.reason.Reason.TheVariants.{NoHeader}
 use Rattle.cj_stream.specs.declared.ending.End.{End}
 use Rattle.cj_stream.specs.declared.ending.End.TheVariants.{Complete, Refused}
-use Rattle.cj_stream.specs.Lines.{Line, lines}
-use Rattle.cj_stream.specs.Item.{Item}
-use Rattle.cj_stream.specs.Verdict.{Rules, Verdict, Refuse, Blank, LeftOut, Valid, verdict, item_after, goes_on, refusal_of, is_kept, refusal_from, refusal_in, good_from, kept_from, good, kept, kept_first, ending, ending_of}
+use Rattle.cj_stream.specs.Meaning.Lines.{Line, lines}
+use Rattle.cj_stream.specs.Meaning.Item.{Item}
+use Rattle.cj_stream.specs.Meaning.Rules.{Rules}
+use Rattle.cj_stream.specs.Meaning.Verdict.{Verdict, Invalid, Blank, LeftOut, Kept}
+use Rattle.cj_stream.specs.Verdict.{verdict, item_after, goes_on, refusal_of, is_kept, refusal_from, refusal_in, good_from, kept_from, good, kept, kept_first, ending, ending_of}
 use Rattle.cj_stream.proofs.VerdictLemmas.{kept-append, before-more}
 use Rattle.cj_stream.proofs.Apart.{false-true, none-some, some-none}
 
@@ -78,7 +80,7 @@ refusal-good rules before m place reason (l ∷ ls) h =
         (refusal_from rules (before ++ l ∷ []) ls) ≡ Some (Refused m place reason)
         → m ≡ length before + 1 + length
         (cond (is_some (refusal_of rules (length before + 1) v)) [] (l ∷ good_from rules (before ++ l ∷ []) ls))
-    step (Refuse q why) later h = on (goes_on rules (length before + 1)) h
+    step (Invalid q why) later h = on (goes_on rules (length before + 1)) h
       where
         on : (b : Bool)
             → cond (is_some (cond b None (Some (Refused (length before + 1) q why))))
@@ -91,7 +93,7 @@ refusal-good rules before m place reason (l ∷ ls) h =
         on false h = let same : length before + 1 ≡ m = cc in omega (arith, same)
     step Blank later h = omega (arith, later h, one)
     step LeftOut later h = omega (arith, later h, one)
-    step Valid later h = omega (arith, later h, one)
+    step Kept later h = omega (arith, later h, one)
 
 -- a refusal is no completion
 pub refusal-kind : (rules : Rules) (before ls : List Line) → refusal_from rules before ls ≡ Some Complete → ⊥
@@ -102,7 +104,7 @@ refusal-kind rules before (l ∷ ls) h =
     step : (v : Verdict) → (refusal_from rules (before ++ l ∷ []) ls ≡ Some Complete → ⊥)
         → cond (is_some (refusal_of rules (length before + 1) v)) (refusal_of rules (length before + 1) v)
         (refusal_from rules (before ++ l ∷ []) ls) ≡ Some Complete → ⊥
-    step (Refuse q why) later h = on (goes_on rules (length before + 1)) h
+    step (Invalid q why) later h = on (goes_on rules (length before + 1)) h
       where
         on : (b : Bool)
             → cond (is_some (cond b None (Some (Refused (length before + 1) q why))))
@@ -112,7 +114,7 @@ refusal-kind rules before (l ∷ ls) h =
         on false h = cc
     step Blank later h = later h
     step LeftOut later h = later h
-    step Valid later h = later h
+    step Kept later h = later h
 
 none_of : (o : Option End) → (o ≡ Some Complete → ⊥) → unwrap_or o Complete ≡ Complete → o ≡ None
 none_of None n h = refl
@@ -183,10 +185,10 @@ kept-head rules before l rest h = step (verdict rules before l.content) refl h
     step : (v : Verdict) → verdict rules before l.content ≡ v → is_kept v ≡ true
         → kept_from rules before (good_from rules before (l ∷ rest)) ≡ item_after rules before l ∷ kept_from rules
         (before ++ l ∷ []) (good_from rules (before ++ l ∷ []) rest)
-    step (Refuse place reason) e k = absurd (false-true k)
+    step (Invalid place reason) e k = absurd (false-true k)
     step Blank e k = absurd (false-true k)
     step LeftOut e k = absurd (false-true k)
-    step Valid e k = rw e (rw e refl)
+    step Kept e k = rw e (rw e refl)
 
 -- where the line after the first n ones is kept: it follows what is kept of them
 pub kept-next_line : (rules : Rules) (n : ℕ) (r : List ℕ) (l : Line) → refusal_in rules (take n (lines r)) ≡ None

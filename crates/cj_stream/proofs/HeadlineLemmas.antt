@@ -1,21 +1,38 @@
 -- What the headline says, by what a run tells, and by what pieces tell.
-use Rattle.std.proofs.Common.{◌≡◌, ◌⊎◌, inl, inr, ℕ, List, [], ◌++◌, Option, Some, sym}
+use Rattle.std.proofs.Common.{◌≡◌, ◌⊎◌, ◌∙◌, inl, inr, ℕ, List, [], ◌∷◌, ◌++◌, Bool, true, false, map, Option, Some, None, ap, arith, refl, subst, sym}
+use Rattle.std.specs.Prelude.{slice_get}
 use Rattle.std.proofs.lemmas.List.{append-nil}
-use Rattle.std.specs.Io.KnownBytes.{Appends}
+use Rattle.std.specs.Io.KnownBytes.{Appends, Keeps}
 use Rattle.cj_budget.specs.declared.limits.Peaks.{Peaks}
 use Rattle.cj_spans.specs.declared.reason.Reason.{Reason}
 use Rattle.cj_stream.specs.declared.ending.End.{End}
 use Rattle.cj_stream.specs.declared.ending.End.TheVariants.{Complete, Refused, ReadFault, ReadLimit, WriteFault, Memory}
 use Rattle.cj_stream.specs.declared.report_sink.Report.{Report}
-use Rattle.cj_stream.specs.Bound.{IsBounded, IsExact}
-use Rattle.cj_stream.specs.Cut.{Copies, joined, IsUnread, in_pieces}
-use Rattle.cj_stream.specs.Headline.{Headline, HeadlineOfRun, IsUnhindered, fate_of, outputs}
-use Rattle.cj_stream.specs.Output.{Channel}
+use Rattle.cj_stream.specs.Meaning.Bound.{IsBounded, HasPeaks}
+use Rattle.cj_stream.specs.Bound.{IsExact}
+use Rattle.cj_stream.specs.Cut.{Copies, IsUnread, in_pieces}
+use Rattle.cj_stream.specs.Item.{tree_of}
+use Rattle.cj_stream.specs.Judged.{judged_list, judged_lines}
+use Rattle.cj_stream.specs.Meaning.Lines.{Line, begun, closed, ended_line, joined, last_line, lines}
+use Rattle.cj_stream.specs.Meaning.Headline.{Headline, IsUnhindered, Fate, fate_of, BeginsWell, RefusedMemory}
+use Rattle.cj_stream.specs.Reading.{LacksMemory}
+use Rattle.cj_stream.specs.Run.{HeadlineOfRun, Run, Account, Ends, LacksRoom, Runs, Writes}
+use Rattle.cj_stream.specs.Meaning.Outputs.{Outputs, outputs, Channel, Took}
 use Rattle.cj_stream.specs.ReportSink.{NotesRun, NotesPieces}
-use Rattle.cj_stream.specs.Run.{Run, Account, Ends, Writes}
-use Rattle.cj_stream.specs.Sink.{HasRisen, Took}
-use Rattle.cj_stream.specs.Verdict.{Rules, refusal_in, judged, output, reported, ending, stream_of}
+use Rattle.cj_stream.specs.Sink.{HasRisen, SinkLaw}
+use Rattle.cj_stream.specs.Meaning.Judged.{output_in, reported_in, ending_in}
+use Rattle.cj_stream.specs.Meaning.Rules.{Rules}
+use Rattle.cj_stream.specs.Meaning.Verdict.{Kept}
+use Rattle.cj_stream.specs.Verdict.{refusal_in, judged, output, reported, ending, stream_of, verdict, verdict_at}
+use Rattle.cj_stream.proofs.AgreeLemmas.{ending-in, output-in, reported-in}
+use Rattle.cj_stream.proofs.Apart.{none-some}
 use Rattle.cj_stream.proofs.CutLemmas.{refused-more}
+use Rattle.cj_stream.proofs.JudgedLemmas.{list-are, list-only, no_tree}
+use Rattle.cj_stream.proofs.JudgedPeaks.{HasPeaks-exact, IsExact-peaks}
+use Rattle.cj_stream.proofs.LineLemmas.{closed-then}
+use Rattle.cj_stream.proofs.NoteLemmas.{noted-none}
+use Rattle.cj_stream.proofs.OutputLemmas.{memory-sink}
+use Rattle.cj_stream.proofs.VerdictLemmas.{verdict-first}
 
 module _ (rules : Rules) (pieces : List (List ℕ)) (n : ℕ) (old new : Option (List ℕ)) where
   pub Copies-writes : (e : End) → Copies (in_pieces rules pieces n) e old new → IsUnhindered e
@@ -45,33 +62,108 @@ fault-not_complete h = cc
 memory-not_complete : Memory ≡ Complete → ⊥
 memory-not_complete h = cc
 
+complete-not_memory : Complete ≡ Memory → ⊥
+complete-not_memory h = cc
+
+refusal-not_memory : (number place : ℕ) (reason : Reason) → Refused number place reason ≡ Memory → ⊥
+refusal-not_memory number place reason h = cc
+
+fault-not_memory : WriteFault ≡ Memory → ⊥
+fault-not_memory h = cc
+
+-- ---- the first line, where memory was refused
+
+-- a first line that LF ended is that of all that begins so
+first-stays : (r more c : List ℕ) → slice_get (lines r) 0 ≡ Some (ended_line c)
+    → slice_get (lines (r ++ more)) 0 ≡ Some (ended_line c)
+first-stays r more c h =
+    rw (closed-then r more) (go (closed r) (begun r) (closed (begun r ++ more)) (begun (r ++ more)) h)
+  where
+    go : (cs : List (List ℕ)) (b : List ℕ) (ds : List (List ℕ)) (d : List ℕ)
+        → slice_get (map ended_line cs ++ last_line b) 0 ≡ Some (ended_line c)
+        → slice_get (map ended_line (cs ++ ds) ++ last_line d) 0 ≡ Some (ended_line c)
+    go [] [] ds d h = absurd (none-some (ended_line c) h)
+    go [] (b ∷ s) ds d h = absurd (clash h)
+      where
+        clash : ◌≡◌ {A = Option Line} (Some (record { content = b ∷ s; lf = false })) (Some (ended_line c)) → ⊥
+        clash e = let k : false ≡ true = ap lf_of e in cc
+          where
+            lf_of : Option Line → Bool
+            lf_of None = true
+            lf_of (Some l) = l.lf
+    go (x ∷ cs) b ds d h = h
+
+begins-list : (rules : Rules) (ls : List Line) (c : List ℕ) → slice_get ls 0 ≡ Some (ended_line c)
+    → verdict rules [] c ≡ Kept → BeginsWell (judged_list rules ls)
+begins-list rules [] c h v = absurd (none-some (ended_line c) h)
+begins-list rules (l ∷ ls) c h v =
+    let same : l ≡ ended_line c = some-same h in (
+      ap (λ (x : Line). verdict_at rules 1 no_tree x.content) same
+          ∙ (verdict-first rules no_tree (tree_of rules.limits.depth []) c ∙ v),
+      ap (λ (x : Line). x.lf) same,
+    )
+  where
+    some-same : ◌≡◌ {A = Option Line} (Some l) (Some (ended_line c)) → l ≡ ended_line c
+    some-same y = cc
+
+pub begins-well : (rules : Rules) (r more : List ℕ) (n : ℕ) → LacksMemory rules r n
+    → BeginsWell (judged_lines rules (r ++ more))
+begins-well rules r more n lacks =
+    begins-list rules (lines (r ++ more)) lacks.header (first-stays r more lacks.header lacks.first) lacks.valid
+
+pub Keeps-same : (a : Option (List ℕ)) → Keeps a a
+Keeps-same None = tt
+Keeps-same (Some xs) = refl
+
+-- ---- the headline, by what is told of a stream
+
+module _ {N : Type 0} (notes : N → Report → N → Type 0) (rules : Rules) (text given : List ℕ) (e : End) (peaks : Peaks)
+    (old new : Outputs N) where
+  pub Headline-told : (IsUnhindered e → Appends old.channel.bytes new.channel.bytes (output rules text))
+      → (IsUnhindered e → Took notes old.reports (reported rules text) new.reports)
+      → (IsUnhindered e → e ≡ ending rules text)
+      → (e ≡ WriteFault → HasRisen old.channel.failures new.channel.failures)
+      → (e ≡ Memory → RefusedMemory (judged_lines rules text) old new)
+      → IsBounded rules.limits given peaks
+      → (e ≡ Complete → IsExact rules.limits text peaks)
+      → Headline notes (fate_of rules text given e peaks) old new
+  Headline-told writes gives ends cause memory held exact = record {
+    js = judged_lines rules text;
+    judged = list-are rules (lines text);
+    writes = λ u. subst (λ bs. Appends old.channel.bytes new.channel.bytes bs) (output-in rules text) (writes u);
+    gives = λ u. subst (λ rs. Took notes old.reports rs new.reports) (reported-in rules text) (gives u);
+    ends = λ u. ends u ∙ ending-in rules text;
+    cause = cause;
+    memory = memory;
+    held = held;
+    exact = λ c. HasPeaks-exact rules text peaks (sym (ends (subst IsUnhindered (sym c) tt)) ∙ c) (exact c);
+  }
+
 module _ {N : Type 0} (notes : N → Report → N → Type 0) (a b : N) (rules : Rules) (r : List ℕ) (at_end : Type 0) (n : ℕ)
     (peaks : Peaks) (bounded : IsBounded rules.limits r peaks) where
   -- a run whose end is that of each text that begins so
   told : (e : End) (old new : Channel) (rest : List ℕ) → (e ≡ ending rules (r ++ rest))
       → Appends old.bytes new.bytes (output rules (r ++ rest)) → Took notes a (reported rules (r ++ rest)) b
-      → (e ≡ WriteFault → HasRisen old.failures new.failures) → (e ≡ Complete → IsExact rules.limits (r ++ rest) peaks)
+      → (e ≡ WriteFault → HasRisen old.failures new.failures) → (e ≡ Memory → ⊥)
+      → (e ≡ Complete → IsExact rules.limits (r ++ rest) peaks)
       → Headline notes (fate_of rules (r ++ rest) r e peaks) (outputs old a) (outputs new b)
-  told e old new rest ends writes gives cause exact = record {
-    writes = λ u. writes;
-    gives = λ u. gives;
-    ends = λ u. ends;
-    cause = cause;
-    held = bounded;
-    exact = exact;
-  }
+  told e old new rest ends writes gives cause granted exact =
+      Headline-told notes rules (r ++ rest) r e peaks (outputs old a) (outputs new b) (λ u. writes) (λ u. gives)
+      (λ u. ends) cause (λ m. absurd (granted m)) bounded exact
 
   -- what a run over a writer tells is the headline, by its end
   ended : (e : End) (old new : Channel) → Ends rules r n at_end e → (e ≡ Complete → IsExact rules.limits r peaks)
       → Writes (stream_of rules r) e old.bytes new.bytes → NotesRun notes (stream_of rules r) e a b
-      → (e ≡ WriteFault → HasRisen old.failures new.failures) → (rest : List ℕ) → (at_end → rest ≡ []) → IsUnread e
+      → (e ≡ WriteFault → HasRisen old.failures new.failures)
+      → (rest : List ℕ) → (e ≡ Memory → RefusedMemory (judged_lines rules (r ++ rest)) (outputs old a) (outputs new b))
+      → (at_end → rest ≡ []) → IsUnread e
       → Headline notes (fate_of rules (r ++ rest) r e peaks) (outputs old a) (outputs new b)
-  ended Complete old new ends exact w noted c rest all u =
+  ended Complete old new ends exact w noted c rest lacks all u =
       let none = all ends.2 in
       let nothing : r ++ rest ≡ r = rw none (append-nil r) in
-      told Complete old new rest (rw nothing (sym ends.0)) (rw nothing w) (rw nothing noted) c
+      told Complete old new rest (rw nothing (sym ends.0)) (rw nothing w) (rw nothing noted) c complete-not_memory
       (λ h. rw nothing (exact h))
-  ended (Refused number place reason) old new ends exact w noted c rest all u = go ends.2
+  ended (Refused number place reason) old new ends exact w noted c rest lacks all u = go ends.2
     where
       go : at_end ⊎ (refusal_in rules (judged rules.limits r) ≡ Some (Refused number place reason))
           → Headline notes (fate_of rules (r ++ rest) r (Refused number place reason) peaks) (outputs old a)
@@ -80,41 +172,113 @@ module _ {N : Type 0} (notes : N → Report → N → Type 0) (a b : N) (rules :
           let none = all end in
           let nothing : r ++ rest ≡ r = rw none (append-nil r) in
           told (Refused number place reason) old new rest (rw nothing (sym ends.0)) (rw nothing w) (rw nothing noted) c
+          (refusal-not_memory number place reason)
           (λ h. absurd (refusal-not_complete number place reason h))
       go (inr refused) =
           let more = refused-more rules r rest (Refused number place reason) refused in
           told (Refused number place reason) old new rest (sym more.0) (rw more.1 w) (rw more.2 noted) c
+          (refusal-not_memory number place reason)
           (λ h. absurd (refusal-not_complete number place reason h))
-  ended ReadFault old new ends exact w noted c rest all u = absurd u
-  ended ReadLimit old new ends exact w noted c rest all u = absurd u
-  ended WriteFault old new ends exact w noted c rest all u = record {
-    writes = λ h. absurd h;
-    gives = λ h. absurd h;
-    ends = λ h. absurd h;
-    cause = c;
-    held = bounded;
-    exact = λ h. absurd (fault-not_complete h);
-  }
-  ended Memory old new ends exact w noted c rest all u = record {
-    writes = λ h. absurd h;
-    gives = λ h. absurd h;
-    ends = λ h. absurd h;
-    cause = c;
-    held = bounded;
-    exact = λ h. absurd (memory-not_complete h);
-  }
+  ended ReadFault old new ends exact w noted c rest lacks all u = absurd u
+  ended ReadLimit old new ends exact w noted c rest lacks all u = absurd u
+  ended WriteFault old new ends exact w noted c rest lacks all u =
+      Headline-told notes rules (r ++ rest) r WriteFault peaks (outputs old a) (outputs new b) (λ h. absurd h)
+      (λ h. absurd h) (λ h. absurd h) c (λ m. absurd (fault-not_memory m)) bounded
+      (λ h. absurd (fault-not_complete h))
+  ended Memory old new ends exact w noted c rest lacks all u =
+      Headline-told notes rules (r ++ rest) r Memory peaks (outputs old a) (outputs new b) (λ h. absurd h)
+      (λ h. absurd h) (λ h. absurd h) c lacks bounded (λ h. absurd (memory-not_complete h))
+
+-- an end is that of refused memory, or not
+is_memory : (e : End) → (e ≡ Memory) ⊎ (e ≡ Memory → ⊥)
+is_memory Complete = inr complete-not_memory
+is_memory (Refused number place reason) = inr (refusal-not_memory number place reason)
+is_memory ReadFault = inr (λ e. cc)
+is_memory ReadLimit = inr (λ e. cc)
+is_memory WriteFault = inr fault-not_memory
+is_memory Memory = inl refl
+
+-- where memory was refused, no line was dealt with, and the sink is as before
+pub undealt : (run : Run) (at_end : Type 0) → Account run at_end → LacksRoom run (Unit {0}) → run.outcome.lines ≡ 0
+undealt run at_end account (inl start) =
+    let few = rw start.1 at account.counts.few in omega (arith, few)
+undealt run at_end account (inr memory) = memory.none
+
+pub unput : {S : Type 0} (law : SinkLaw S) (run : Run) (at_end : Type 0) (s t : S) → Runs law run at_end s t
+    → run.outcome.ended ≡ Memory → LacksRoom run (Unit {0}) → t ≡ s
+unput law run at_end s t runs is lacks =
+    memory-sink law run.rules run.read run.outcome.lines s t run.outcome.ended is
+    (undealt run at_end runs.account lacks) runs.sink
 
 -- what a run over a writer tells is the headline
-pub Headline-run : {N : Type 0} (notes : N → Report → N → Type 0) (run : Run) (at_end : Type 0) (old new : Channel)
-    (a b : N) → Account run at_end
+pub Headline-run : {N : Type 0} (notes : N → Report → N → Type 0) (run : Run) (at_end : Type 0)
+    (old new : Channel) (a b : N) → Account run at_end
     → Writes (stream_of run.rules run.read) run.outcome.ended old.bytes new.bytes
-    → NotesRun notes (stream_of run.rules run.read)
-    run.outcome.ended a b
-    → (run.outcome.ended ≡ WriteFault → HasRisen old.failures new.failures) → HeadlineOfRun notes run at_end
-    (outputs old a) (outputs new b)
-Headline-run notes run at_end old new a b account writes noted cause =
-    ended notes a b run.rules run.read at_end run.outcome.lines run.outcome.peaks account.bounded run.outcome.ended old
-    new account.ends account.exact writes noted cause
+    → NotesRun notes (stream_of run.rules run.read) run.outcome.ended a b
+    → (run.outcome.ended ≡ WriteFault → HasRisen old.failures new.failures)
+    → (run.outcome.ended ≡ Memory → LacksRoom run (Unit {0}))
+    → (run.outcome.ended ≡ Memory → Keeps old.bytes new.bytes)
+    → HeadlineOfRun notes run at_end (outputs old a) (outputs new b)
+Headline-run notes run at_end old new a b account writes noted cause lacks kept =
+    by (is_memory run.outcome.ended)
+  where
+    -- the headline of each text that begins so
+    of-texts : ((rest : List ℕ) → run.outcome.ended ≡ Memory
+        → RefusedMemory (judged_lines run.rules (run.read ++ rest)) (outputs old a) (outputs new b))
+        → (rest : List ℕ) → (at_end → rest ≡ []) → IsUnread run.outcome.ended
+        → Headline notes (fate_of run.rules (run.read ++ rest) run.read run.outcome.ended run.outcome.peaks)
+        (outputs old a) (outputs new b)
+    of-texts refused rest all u =
+        ended notes a b run.rules run.read at_end run.outcome.lines run.outcome.peaks account.bounded run.outcome.ended
+        old new account.ends account.exact writes noted cause rest (refused rest) all u
+
+    room : run.outcome.ended ≡ Memory → LacksRoom run (Unit {0})
+        → HeadlineOfRun notes run at_end (outputs old a) (outputs new b)
+    room is (inl start) = inl (record {
+      ended = is;
+      unread = start.1;
+      peaks = start.2;
+      unwritten = kept is;
+      unreported = noted-none notes run.rules run.read a b run.outcome.ended is noted;
+    })
+    room is (inr memory) = inr (of-texts (λ rest m. record {
+      unwritten = kept m;
+      unreported = noted-none notes run.rules run.read a b run.outcome.ended m noted;
+      header = begins-well run.rules run.read rest run.outcome.lines memory;
+    }))
+
+    by : (run.outcome.ended ≡ Memory) ⊎ (run.outcome.ended ≡ Memory → ⊥)
+        → HeadlineOfRun notes run at_end (outputs old a) (outputs new b)
+    by (inl is) = room is (lacks is)
+    by (inr other) = inr (of-texts (λ rest m. absurd (other m)))
+
+-- ---- and the headline tells that of the stream
+
+module _ {N : Type 0} (notes : N → Report → N → Type 0) (fate : Fate End) (old new : Outputs N)
+    (h : Headline notes fate old new) where
+  one-list : h.js ≡ judged_lines fate.rules fate.text
+  one-list = list-only fate.rules (lines fate.text) h.js h.judged
+
+  pub headline-writes : IsUnhindered fate.end
+      → Appends old.channel.bytes new.channel.bytes (output fate.rules fate.text)
+  headline-writes u = subst (λ bs. Appends old.channel.bytes new.channel.bytes bs)
+      (ap (output_in fate.rules) one-list ∙ sym (output-in fate.rules fate.text)) (h.writes u)
+
+  pub headline-gives : IsUnhindered fate.end → Took notes old.reports (reported fate.rules fate.text) new.reports
+  headline-gives u = subst (λ rs. Took notes old.reports rs new.reports)
+      (ap (reported_in fate.rules) one-list ∙ sym (reported-in fate.rules fate.text)) (h.gives u)
+
+  pub headline-ends : IsUnhindered fate.end → fate.end ≡ ending fate.rules fate.text
+  headline-ends u = h.ends u ∙ (ap (ending_in fate.rules) one-list ∙ sym (ending-in fate.rules fate.text))
+
+  pub headline-exact : fate.end ≡ Complete → IsExact fate.rules.limits fate.text fate.peaks
+  headline-exact e =
+      let complete = sym (headline-ends (subst IsUnhindered (sym e) tt)) ∙ e in
+      IsExact-peaks fate.rules fate.text fate.peaks complete
+      (subst (λ js. HasPeaks fate.rules.limits js fate.peaks) one-list (h.exact e))
+
+  pub headline-memory : fate.end ≡ Memory → RefusedMemory (judged_lines fate.rules fate.text) old new
+  headline-memory e = subst (λ js. RefusedMemory js old new) one-list (h.memory e)
 
 -- what was noted of pieces, where nothing hindered it
 pub NotesPieces-gives : {N : Type 0} (notes : N → Report → N → Type 0) (rules : Rules) (pieces : List (List ℕ)) (n : ℕ)

@@ -4,8 +4,9 @@ use Rattle.std.specs.Prelude.{is_some}
 use Rattle.std.proofs.lemmas.List.{append-nil}
 use Rattle.cj_stream.specs.declared.ending.End.{End}
 use Rattle.cj_stream.specs.IsGood.{NoneRefused, AreGood, EndsWell, EndsAfter}
-use Rattle.cj_stream.specs.Lines.{Line, lines}
-use Rattle.cj_stream.specs.Verdict.{Rules, verdict, refusal_of, refusal_from, refusal_in, good_from, good, ending, ending_of}
+use Rattle.cj_stream.specs.Meaning.Lines.{Line, lines}
+use Rattle.cj_stream.specs.Meaning.Rules.{Rules}
+use Rattle.cj_stream.specs.Verdict.{verdict, refusal_of, refusal_from, refusal_in, good_from, good, ending, ending_of}
 use Rattle.cj_stream.proofs.Apart.{none-some}
 use Rattle.cj_stream.proofs.GoodLemmas.{good-append}
 use Rattle.cj_stream.proofs.VerdictLemmas.{refusal-append}

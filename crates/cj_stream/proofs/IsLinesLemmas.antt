@@ -3,7 +3,8 @@ use Rattle.std.proofs.Common.{◌≡◌, inl, inr, ℕ, List, [], ◌∷◌, ◌
 use Rattle.std.specs.List.{flat_map}
 use Rattle.std.proofs.lemmas.List.{append-nil}
 use Rattle.std.proofs.lemmas.Bool.{eqb-true}
-use Rattle.cj_stream.specs.Lines.{Line, raw, NoLf, closed, begun, begun_with, onto_first, ended_line, last_line, lines, whole}
+use Rattle.cj_stream.specs.Meaning.Lines.{Line, raw, closed, begun, begun_with, onto_first, ended_line, last_line, lines}
+use Rattle.cj_stream.specs.Lines.{NoLf, whole}
 use Rattle.cj_stream.specs.IsLines.{AreEnded, HaveNoLf, IsLines, IsWhole}
 use Rattle.cj_stream.proofs.LineLemmas.{closed-none, begun-none, closed-ended, begun-ended, NoLf-begun}
 

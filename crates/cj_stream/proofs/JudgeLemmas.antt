@@ -11,7 +11,9 @@ use Rattle.cj_spans.specs.Json.{Json}
 use Rattle.cj_spans.specs.Judgement.{Judgement, spelled, broken, sunk, IsReservedAnswerOf, judged_size, judged_nest}
 use Rattle.cj_stream.specs.Bound.{is_spelled}
 use Rattle.cj_stream.specs.Item.{judged_tree}
-use Rattle.cj_stream.specs.Verdict.{Rules, Refuse, tree_verdict, text_verdict}
+use Rattle.cj_stream.specs.Meaning.Rules.{Rules}
+use Rattle.cj_stream.specs.Meaning.Verdict.{Invalid}
+use Rattle.cj_stream.specs.Verdict.{tree_verdict, text_verdict}
 
 -- a scan that answers Ok has found the tree
 pub ok-tree : {b : List ℕ} {d : ℕ} (j : Judgement b d) (x : Unit {0}) (t : Tree) → ((u : Tree) → Json b u → u ≡ t)
@@ -32,13 +34,13 @@ ok-verdict rules n header (sunk i s) x e = cc
 -- and each fault the place
 module _ {b : List ℕ} {d : ℕ} (rules : Rules) (n : ℕ) (header : Tree) where
   pub syntax-refused : (j : Judgement b d) (i : ℕ) → IsReservedAnswerOf j (Err (Syntax i))
-      → text_verdict rules n header j ≡ Refuse i SyntaxReason
+      → text_verdict rules n header j ≡ Invalid i SyntaxReason
   syntax-refused (spelled u json shallow) i e = cc
   syntax-refused (broken k s m) i e = cc
   syntax-refused (sunk k s) i e = cc
 
   pub deep-refused : (j : Judgement b d) (i : ℕ) → IsReservedAnswerOf j (Err (TooDeep i))
-      → text_verdict rules n header j ≡ Refuse i TooDeepReason
+      → text_verdict rules n header j ≡ Invalid i TooDeepReason
   deep-refused (spelled u json shallow) i e = cc
   deep-refused (broken k s m) i e = cc
   deep-refused (sunk k s) i e = cc

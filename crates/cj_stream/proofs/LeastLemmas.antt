@@ -3,10 +3,12 @@ use Rattle.std.proofs.Common.{◌≡◌, ℕ, ◌+◌, ◌≤◌, List, [], ◌�
 use Rattle.std.specs.List.{flat_map}
 use Rattle.std.proofs.lemmas.List.{append-nil, take_all}
 use Rattle.cj_budget.specs.Limits.{LimitPair}
-use Rattle.cj_stream.specs.Bound.{IsBelow, contents, exact_peaks, first_lines, greatest, held_length}
+use Rattle.cj_stream.specs.Bound.{IsBelow, contents, exact_peaks, first_lines, held_length}
+use Rattle.cj_stream.specs.Meaning.Bound.{greatest}
 use Rattle.cj_stream.specs.declared.ending.End.{End}
 use Rattle.cj_stream.specs.Engine.{EngineState, limits_of, lines_of, peaks_of}
-use Rattle.cj_stream.specs.Lines.{begun, begun_after, closed, ended_line, first_content, first_of, last_line, later_of, lines, raw, whole}
+use Rattle.cj_stream.specs.Meaning.Lines.{begun, closed, ended_line, first_content, first_of, last_line, later_of, lines, raw}
+use Rattle.cj_stream.specs.Lines.{begun_after, whole}
 use Rattle.cj_stream.specs.Reading.{Reading, Reads, Stays, Finishes, FinishesWith, is_lenient}
 use Rattle.cj_stream.specs.Scanning.{Scanning, Scanned, HeldAll, HeldUntil, Rises}
 use Rattle.cj_stream.specs.Sink.{SinkLaw, with_sink}

@@ -13,8 +13,10 @@ use Rattle.cj_spans.specs.declared.reason.Reason.TheVariants.{LineTooLong, NotUt
 use Rattle.cj_stream.specs.declared.ending.End.{End}
 use Rattle.cj_stream.specs.declared.ending.End.TheVariants.{Complete, Refused}
 use Rattle.cj_stream.specs.Bound.{is_spelled, is_readable, exact_peaks, IsExact}
-use Rattle.cj_stream.specs.Lines.{Line, later_of, lines}
-use Rattle.cj_stream.specs.Verdict.{Rules, Verdict, Refuse, Blank, LeftOut, Valid, is_blank_byte, verdict_at, text_verdict, verdict, header_of, goes_on, refusal_of, refusal_from, refusal_in, report_of, good_from, good, reported_from, reported, ending, ending_of}
+use Rattle.cj_stream.specs.Meaning.Lines.{Line, later_of, lines}
+use Rattle.cj_stream.specs.Meaning.Rules.{Rules}
+use Rattle.cj_stream.specs.Meaning.Verdict.{Verdict, Invalid, Blank, LeftOut, Kept, is_blank_byte}
+use Rattle.cj_stream.specs.Verdict.{verdict_at, text_verdict, verdict, header_of, goes_on, refusal_of, refusal_from, refusal_in, reports_of, good_from, good, reported_from, reported, ending, ending_of}
 use Rattle.cj_stream.proofs.Apart.{none-some, some-none}
 use Rattle.cj_stream.proofs.GoodLemmas.{good-all, refusal-kind}
 use Rattle.cj_stream.proofs.VerdictLemmas.{and-both}
@@ -26,11 +28,11 @@ first-none (Some x) rest h = cc
 -- where reading goes on, no later line is the end
 lenient-none : (rules : Rules) (n : ℕ) (v : Verdict) → rules.options.keep_going ≡ true → 1 < n
     → refusal_of rules n v ≡ None
-lenient-none rules n (Refuse place reason) on later = let e : ltb 1 n ≡ true = grind (arith, nat_tests) in
+lenient-none rules n (Invalid place reason) on later = let e : ltb 1 n ≡ true = grind (arith, nat_tests) in
     rw (e, on) refl
 lenient-none rules n Blank on later = refl
 lenient-none rules n LeftOut on later = refl
-lenient-none rules n Valid on later = refl
+lenient-none rules n Kept on later = refl
 
 later-none : (rules : Rules) (before ls : List Line) → rules.options.keep_going ≡ true → 0 < length before
     → refusal_from rules before ls ≡ None
@@ -70,11 +72,11 @@ never rules n off = rw off (go (nat_lt 1 n))
     go false = refl
 
 silent : (rules : Rules) (n : ℕ) (v : Verdict) → rules.options.keep_going ≡ false → refusal_of rules n v ≡ None
-    → report_of n v ≡ []
-silent rules n (Refuse place reason) off h = absurd (some-none (Refused n place reason) (rw (never rules n off) at h))
+    → reports_of n v ≡ []
+silent rules n (Invalid place reason) off h = absurd (some-none (Refused n place reason) (rw (never rules n off) at h))
 silent rules n Blank off h = refl
 silent rules n LeftOut off h = refl
-silent rules n Valid off h = refl
+silent rules n Kept off h = refl
 
 unreported_from : (rules : Rules) (before ls : List Line) → rules.options.keep_going ≡ false
     → reported_from rules before (good_from rules before ls) ≡ []
@@ -102,12 +104,12 @@ readable-verdict rules n header c off h =
     go (ltb rules.limits.line (length c)) (is_utf8 c) (nat_lt 1 n) (list_all is_blank_byte c)
     (judgement c rules.limits.depth) h
   where
-    refused : (place : ℕ) (reason : _) → refusal_of rules n (Refuse place reason) ≡ None → ⊥
+    refused : (place : ℕ) (reason : _) → refusal_of rules n (Invalid place reason) ≡ None → ⊥
     refused place reason k = some-none (Refused n place reason) (rw off at k)
 
     go : {d : ℕ} (long text later blank : Bool) (j : Judgement c d)
-        → refusal_of rules n (cond long (Refuse rules.limits.line LineTooLong)
-        (cond (not text) (Refuse (utf8_valid_len c) NotUtf8)
+        → refusal_of rules n (cond long (Invalid rules.limits.line LineTooLong)
+        (cond (not text) (Invalid (utf8_valid_len c) NotUtf8)
         (cond (later && blank) Blank (text_verdict rules n header j)))) ≡ None
         → (not long && text) && (blank || is_spelled j) ≡ true
     go true text later blank j k = absurd (refused _ _ k)

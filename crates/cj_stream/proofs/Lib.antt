@@ -1,4 +1,5 @@
 pub mod AccountLemmas
+pub mod AgreeLemmas
 pub mod Apart
 pub mod BlankLemmas
 pub mod BoundRowLemmas
@@ -24,6 +25,9 @@ pub mod IsGoodLemmas
 pub mod IsLinesLemmas
 pub mod JoinedLemmas
 pub mod JudgeLemmas
+pub mod JudgedLemmas
+pub mod JudgedParts
+pub mod JudgedPeaks
 pub mod KnownLemmas
 pub mod LeastLemmas
 pub mod LenientLemmas

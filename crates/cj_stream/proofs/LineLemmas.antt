@@ -1,7 +1,8 @@
 -- The lines of a text that goes on.
 use Rattle.std.proofs.Common.{◌≡◌, ℕ, List, [], ◌∷◌, ◌++◌, Bool, true, false, eqb, cond, suc, ◌<◌, ◌≤◌, length, get_or, arith, refl, ap, ◌∙◌, length-append}
 use Rattle.std.proofs.lemmas.List.{append-nil}
-use Rattle.cj_stream.specs.Lines.{closed, begun, begun_with, begun_after, onto_first, first_of, first_content, NoLf}
+use Rattle.cj_stream.specs.Meaning.Lines.{closed, begun, begun_with, onto_first, first_of, first_content}
+use Rattle.cj_stream.specs.Lines.{begun_after, NoLf}
 
 -- a test that is not true is false
 pub not_true : (x : Bool) → ¬ (x ≡ true) → x ≡ false

@@ -7,16 +7,18 @@ use Rattle.cj_stream.specs.declared.ending.End.TheVariants.{Complete, Refused}
 use Rattle.cj_stream.specs.declared.line_pieces.LinesOutcome.{LinesOutcome}
 use Rattle.cj_stream.specs.declared.ending.LineEnd.{LineEnd}
 use Rattle.cj_stream.specs.declared.ending.LineEnd.TheVariants.{Complete as LineComplete, Refused as LineRefused, WriteFault as LineWriteFault}
-use Rattle.cj_stream.specs.Cut.{joined, TookWhole, in_pieces, given_after}
+use Rattle.cj_stream.specs.Meaning.Lines.{joined, closed, begun, ended_line, lines}
+use Rattle.cj_stream.specs.Cut.{TookWhole, in_pieces, given_after}
 use Rattle.cj_stream.specs.Ending.{line_end}
 use Rattle.cj_stream.specs.Engine.{Counts, Delivers}
-use Rattle.cj_stream.specs.Item.{Item}
+use Rattle.cj_stream.specs.Meaning.Item.{Item}
 use Rattle.cj_stream.specs.LinePieces.{kept_after, PutsLines, CopiesLines, later_pieces}
-use Rattle.cj_stream.specs.Lines.{closed, begun, ended_line, lines, whole}
+use Rattle.cj_stream.specs.Lines.{whole}
 use Rattle.cj_stream.specs.Run.{Ends}
-use Rattle.cj_stream.specs.Sink.{Took, LeavesNext, SinkLaw}
-use Rattle.cj_stream.specs.Verdict.{Rules, refusal_in, judged, kept, kept_from, kept_first, ending, good, item_after}
-use Rattle.cj_stream.specs.Verdict.{stretch}
+use Rattle.cj_stream.specs.Meaning.Outputs.{Took}
+use Rattle.cj_stream.specs.Sink.{LeavesNext, SinkLaw}
+use Rattle.cj_stream.specs.Meaning.Rules.{Rules}
+use Rattle.cj_stream.specs.Verdict.{refusal_in, judged, kept, kept_from, kept_first, ending, good, item_after, stretch}
 use Rattle.cj_stream.specs.Output.{writes_law}
 use Rattle.cj_stream.proofs.CutLemmas.{refused-more}
 use Rattle.cj_stream.proofs.EngineLemmas.{take-front, lines-front, kept_first-front}

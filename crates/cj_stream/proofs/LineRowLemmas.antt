@@ -7,20 +7,22 @@ use Rattle.cj_spans.specs.declared.reason.Reason.TheVariants.{Syntax}
 use Rattle.cj_spans.specs.Tree.{Tree}
 use Rattle.cj_spans.proofs.Judgements.{judgement, over, by_step, by_depth, sinks, at_end, by_end, text_of, no_end, ends_at}
 use Rattle.cj_stream.specs.declared.ending.End.TheVariants.{Complete, Refused}
-use Rattle.cj_stream.specs.Lines.{Line, raw, ended_line}
+use Rattle.cj_stream.specs.Meaning.Lines.{Line, raw, ended_line}
 use Rattle.cj_stream.specs.LineRows.{TabRow, HeaderRow}
 use Rattle.cj_stream.specs.Rows.{small_header, small_feature, wide_rules, Gives}
-use Rattle.cj_stream.specs.Verdict.{Rules, Valid, Refuse, verdict, verdict_at, ending_of}
+use Rattle.cj_stream.specs.Meaning.Rules.{Rules}
+use Rattle.cj_stream.specs.Meaning.Verdict.{Kept, Invalid}
+use Rattle.cj_stream.specs.Verdict.{verdict, verdict_at, ending_of}
 use Rattle.cj_stream.proofs.RowLemmas.{header_first, feature_third, blank-between, after_header, open_line, written}
 use Rattle.cj_stream.proofs.VerdictLemmas.{verdict-blank}
 
 -- a form feed is no JSON text, whatever the header
-feed_second : (header : Tree) → verdict_at wide_rules 2 header (12 ∷ []) ≡ Refuse 0 Syntax
+feed_second : (header : Tree) → verdict_at wide_rules 2 header (12 ∷ []) ≡ Invalid 0 Syntax
 unfolding verdict_at is_utf8 chars encode judgement over by_step by_depth at_end by_end text_of no_end ends_at
 feed_second header = refl
 
 -- a valid header alone
-header-alone : (rules : Rules) (h : Line) → verdict rules [] h.content ≡ Valid → (ending_of rules (h ∷ []) ≡ Complete)
+header-alone : (rules : Rules) (h : Line) → verdict rules [] h.content ≡ Kept → (ending_of rules (h ∷ []) ≡ Complete)
     × (written rules (h ∷ []) ≡ raw h ++ [])
 header-alone rules h valid = rw valid (refl, rw valid refl)
 

@@ -8,9 +8,11 @@ use Rattle.cj_spans.specs.Tree.{Tree}
 use Rattle.cj_spans.proofs.Judgements.{judgement}
 use Rattle.cj_stream.specs.declared.ending.End.{End}
 use Rattle.cj_stream.specs.declared.ending.End.TheVariants.{Refused}
-use Rattle.cj_stream.specs.Lines.{Line}
+use Rattle.cj_stream.specs.Meaning.Lines.{Line}
 use Rattle.cj_stream.specs.Parts.{moved_end, moved_report}
-use Rattle.cj_stream.specs.Verdict.{Rules, Verdict, Refuse, Blank, LeftOut, Valid, verdict_at, text_verdict, verdict, item_after, refusal_of, report_of, refusal_from, good_from, kept_from, reported_from}
+use Rattle.cj_stream.specs.Meaning.Rules.{Rules}
+use Rattle.cj_stream.specs.Meaning.Verdict.{Verdict, Invalid, Blank, LeftOut, Kept}
+use Rattle.cj_stream.specs.Verdict.{verdict_at, text_verdict, verdict, item_after, refusal_of, reports_of, refusal_from, good_from, kept_from, reported_from}
 
 module _ (rules : Rules) where
   -- ---- one line
@@ -45,7 +47,7 @@ module _ (rules : Rules) where
   -- by numbers of which one is so much more than the other
   one-refusal : (n m k : ℕ) (v : Verdict) → 1 < m → n ≡ m + k
       → refusal_of rules n v ≡ option_map (moved_end k) (refusal_of rules m v)
-  one-refusal n m k (Refuse place reason) later e =
+  one-refusal n m k (Invalid place reason) later e =
       let n_later : ltb 1 n ≡ true = grind (arith, nat_tests) in
       let m_later : ltb 1 m ≡ true = grind (arith, nat_tests) in
       rw (n_later, m_later, e) (go rules.options.keep_going)
@@ -56,13 +58,13 @@ module _ (rules : Rules) where
       go false = refl
   one-refusal n m k Blank later e = refl
   one-refusal n m k LeftOut later e = refl
-  one-refusal n m k Valid later e = refl
+  one-refusal n m k Kept later e = refl
 
-  one-report : (n m k : ℕ) (v : Verdict) → n ≡ m + k → report_of n v ≡ map (moved_report k) (report_of m v)
-  one-report n m k (Refuse place reason) e = rw e refl
+  one-report : (n m k : ℕ) (v : Verdict) → n ≡ m + k → reports_of n v ≡ map (moved_report k) (reports_of m v)
+  one-report n m k (Invalid place reason) e = rw e refl
   one-report n m k Blank e = refl
   one-report n m k LeftOut e = refl
-  one-report n m k Valid e = refl
+  one-report n m k Kept e = refl
 
   module _ (l : Line) where
     after-refusal : (xs ys : List Line) (k : ℕ) (c : List ℕ) → length xs ≡ length ys + k
@@ -122,4 +124,4 @@ module _ (rules : Rules) where
           one-report (length (l ∷ xs) + 1) n k v (omega (arith, e)),
           reported-moved (xs ++ z ∷ []) (ys ++ z ∷ []) zs k (longer xs ys z k e),
         )
-        (sym (map-append (moved_report k) (report_of n v) (reported_from rules (l ∷ ys ++ z ∷ []) zs)))
+        (sym (map-append (moved_report k) (reports_of n v) (reported_from rules (l ∷ ys ++ z ∷ []) zs)))

@@ -9,17 +9,20 @@ use Rattle.cj_stream.specs.declared.ending.LineEnd.{LineEnd}
 use Rattle.cj_stream.specs.declared.ending.LineEnd.TheVariants.{Complete as LineComplete, Refused as LineRefused, WriteFault as LineWriteFault}
 use Rattle.cj_budget.specs.declared.limits.Peaks.{Peaks}
 use Rattle.cj_stream.specs.declared.report_sink.Report.{Report}
-use Rattle.cj_stream.specs.Cut.{joined, in_pieces}
+use Rattle.cj_stream.specs.Meaning.Lines.{joined, Line, closed, begun, ended_line, lines}
+use Rattle.cj_stream.specs.Cut.{in_pieces}
 use Rattle.cj_stream.specs.Ending.{line_end}
-use Rattle.cj_stream.specs.Item.{Item}
+use Rattle.cj_stream.specs.Meaning.Item.{Item}
 use Rattle.cj_stream.specs.LinePieces.{reported_after, NotesLines, later_pieces}
-use Rattle.cj_stream.specs.Lines.{Line, NoLf, closed, begun, ended_line, lines, whole}
+use Rattle.cj_stream.specs.Lines.{NoLf, whole}
 use Rattle.cj_stream.specs.Reading.{Reading, told_verdict, Stores, Settles, Reads, JudgedAs}
 use Rattle.cj_stream.specs.ReportSink.{Collects, Notes, NotesRun, NotesPieces}
 use Rattle.cj_stream.specs.Run.{Run, Ends, RunsNoting}
-use Rattle.cj_stream.specs.Sink.{Took, SinkLaw, with_sink}
-use Rattle.cj_stream.specs.Verdict.{Rules, Verdict, Refuse, Blank, LeftOut, Valid, verdict, refusal_in, judged, good}
-use Rattle.cj_stream.specs.Verdict.{good_from, report_of, reported_from, reported, reported_first, stretch, stream_of}
+use Rattle.cj_stream.specs.Meaning.Outputs.{Took}
+use Rattle.cj_stream.specs.Sink.{SinkLaw, with_sink}
+use Rattle.cj_stream.specs.Meaning.Rules.{Rules}
+use Rattle.cj_stream.specs.Meaning.Verdict.{Verdict, Invalid, Blank, LeftOut, Kept}
+use Rattle.cj_stream.specs.Verdict.{verdict, refusal_in, judged, good, good_from, reports_of, reported_from, reported, reported_first, stretch, stream_of}
 use Rattle.cj_stream.proofs.Apart.{some-none}
 use Rattle.cj_stream.proofs.CutLemmas.{refused-more}
 use Rattle.cj_stream.proofs.EngineLemmas.{lines-front, take-front, Counts-front}
@@ -79,11 +82,11 @@ unreported : (rules : Rules) (l : Line) → refusal_in rules (l ∷ []) ≡ None
 unreported rules l h = go (verdict rules [] l.content) refl h
   where
     go : (v : Verdict) → verdict rules [] l.content ≡ v → refusal_in rules (l ∷ []) ≡ None
-        → report_of 1 (verdict rules [] l.content) ++ [] ≡ []
-    go (Refuse place reason) e h = absurd (some-none (Refused 1 place reason) (rw e at h))
+        → reports_of 1 (verdict rules [] l.content) ++ [] ≡ []
+    go (Invalid place reason) e h = absurd (some-none (Refused 1 place reason) (rw e at h))
     go Blank e h = rw e refl
     go LeftOut e h = rw e refl
-    go Valid e h = rw e refl
+    go Kept e h = rw e refl
 
 pub first-unreported : (rules : Rules) (k : ℕ) (q : List ℕ) → k ≤ 1 → refusal_in rules (take k (lines q)) ≡ None
     → reported_first rules k q ≡ []
@@ -280,7 +283,7 @@ module _ {N : Type 0} (notes : N → Report → N → Type 0) where
   -- a part and an LF
   pub Notes-line : (f g h : Reading) (p part more : List ℕ) (n m : N) → Reads f p → NoLf part → Stores f part g
       → h.lines ≡ g.lines + 1
-      → Took notes n (report_of (g.lines + 1) (told_verdict g)) m
+      → Took notes n (reports_of (g.lines + 1) (told_verdict g)) m
       → Notes notes (stretch f.rules (p ++ (part ++ 10 ∷ more)) f.lines h.lines) n m
   Notes-line f g h p part more n m reads free st one noted =
       let now = Reads-stored f g p part reads st free in
@@ -302,25 +305,25 @@ module _ {N : Type 0} (notes : N → Report → N → Type 0) where
       (let k = reported_first-front f.rules h.lines (p ++ (part ++ 10 ∷ [])) more count in rw text at k) in
       let front = reported_first-front f.rules f.lines p (part ++ 10 ∷ more) reads.lines in
       let line : reported_from f.rules [] (map ended_line (closed (p ++ (part ++ 10 ∷ []))))
-      ≡ reported_from f.rules [] (map ended_line (closed p)) ++ report_of (g.lines + 1) (told_verdict g) =
+      ≡ reported_from f.rules [] (map ended_line (closed p)) ++ reports_of (g.lines + 1) (told_verdict g) =
       rw (
         closed-line p part free,
         map_lines-append (closed p) ((begun p ++ part) ∷ []),
         reported-append f.rules [] xs (ended_line (begun p ++ part) ∷ []),
-        append-nil (report_of (length (map ended_line (closed p)) + 1)
+        append-nil (reports_of (length (map ended_line (closed p)) + 1)
             (verdict f.rules (map ended_line (closed p)) (begun p ++ part))),
         told,
         at,
       ) refl in
       record {
-        added = report_of (g.lines + 1) (told_verdict g);
-        told = after ∙ (line ∙ ap (λ z. z ++ report_of (g.lines + 1) (told_verdict g)) (sym front));
+        added = reports_of (g.lines + 1) (told_verdict g);
+        told = after ∙ (line ∙ ap (λ z. z ++ reports_of (g.lines + 1) (told_verdict g)) (sym front));
         noted = noted;
       }
 
   -- a last line
   pub Notes-last : (f g : Reading) (p : List ℕ) (n m : N) → Reads f p → 0 < length (begun p) → g.lines ≡ f.lines + 1
-      → Took notes n (report_of (f.lines + 1) (told_verdict f)) m → Notes notes (stretch f.rules p f.lines g.lines) n m
+      → Took notes n (reports_of (f.lines + 1) (told_verdict f)) m → Notes notes (stretch f.rules p f.lines g.lines) n m
   Notes-last f g p n m reads some one noted =
       let xs = map ended_line (closed p) in
       let told = told-verdict f (begun p) reads.begun ∙ next-verdict f p reads (begun p) in
@@ -329,7 +332,7 @@ module _ {N : Type 0} (notes : N → Report → N → Type 0) where
       let front : reported_first f.rules f.lines p ≡ reported_from f.rules [] (map ended_line (closed p)) =
       (let k = reported_first-front f.rules f.lines p [] reads.lines in rw (append-nil p) at k) in
       record {
-        added = report_of (f.lines + 1) (told_verdict f);
+        added = reports_of (f.lines + 1) (told_verdict f);
         told = rw (front, one) (go (begun p) refl some told at);
         noted = noted;
       }
@@ -338,7 +341,7 @@ module _ {N : Type 0} (notes : N → Report → N → Type 0) where
           → told_verdict f ≡ verdict f.rules (map ended_line (closed p)) (begun p)
           → f.lines + 1 ≡ length (map ended_line (closed p)) + 1
           → reported_first f.rules (f.lines + 1) p ≡ reported_from f.rules [] (map ended_line (closed p))
-          ++ report_of (f.lines + 1) (told_verdict f)
+          ++ reports_of (f.lines + 1) (told_verdict f)
       go [] e some told at = absurd (omega arith)
       go (b ∷ c) e some told at =
           let xs = map ended_line (closed p) in
@@ -352,7 +355,7 @@ module _ {N : Type 0} (notes : N → Report → N → Type 0) where
           rw (
             all,
             reported-append f.rules [] xs (l ∷ []),
-            append-nil (report_of (length (map ended_line (closed p)) + 1)
+            append-nil (reports_of (length (map ended_line (closed p)) + 1)
                 (verdict f.rules (map ended_line (closed p)) (b ∷ c))),
             told,
             at,
@@ -364,7 +367,7 @@ module _ {N : Type 0} (notes : N → Report → N → Type 0) where
       (p : List ℕ) (n m : N) (r : Result (Unit {0}) End)
       → Reads f p → 0 < length (begun p) → Settles law (JudgedAs (f.lines + 1) on v i) (with_sink f s) r (with_sink g t)
       → OnOk r (g.lines ≡ f.lines + 1)
-      → OnOk r (Took notes n (report_of (f.lines + 1) (told_verdict f)) m) → OnErr r (m ≡ n)
+      → OnOk r (Took notes n (reports_of (f.lines + 1) (told_verdict f)) m) → OnErr r (m ≡ n)
       → Notes notes (stretch f.rules p f.lines g.lines) n m
   Notes-finished law on v i f g s t p n m (Ok x) reads some d one noted silent = Notes-last f g p n m reads some one
       noted

@@ -7,12 +7,14 @@ use Rattle.cj_stream.specs.declared.ending.End.{End}
 use Rattle.cj_stream.specs.declared.ending.End.TheVariants.{Complete, Refused, ReadFault, ReadLimit, WriteFault, Memory}
 use Rattle.cj_stream.specs.declared.running.Outcome.{Outcome}
 use Rattle.cj_stream.specs.Engine.{Counts}
-use Rattle.cj_stream.specs.Item.{is_feature}
-use Rattle.cj_stream.specs.Lines.{Line, lines}
+use Rattle.cj_stream.specs.Meaning.Item.{is_feature}
+use Rattle.cj_stream.specs.Meaning.Lines.{Line, lines}
 use Rattle.cj_stream.specs.Parts.{headed, IsCut, moved_end, capped_end, both_outcomes, capped_outcome}
 use Rattle.cj_stream.specs.Run.{Ends, Account}
 use Rattle.cj_stream.specs.Tallied.{capped}
-use Rattle.cj_stream.specs.Verdict.{Rules, Verdict, Refuse, Blank, LeftOut, Valid, verdict, item_after, is_kept, report_of, kept_from, reported_from}
+use Rattle.cj_stream.specs.Meaning.Rules.{Rules}
+use Rattle.cj_stream.specs.Meaning.Verdict.{Verdict, Invalid, Blank, LeftOut, Kept}
+use Rattle.cj_stream.specs.Verdict.{verdict, item_after, is_kept, reports_of, kept_from, reported_from}
 use Rattle.cj_stream.proofs.GoodLemmas.{good-refused}
 use Rattle.cj_stream.proofs.PartsLemmas.{front-good}
 use Rattle.cj_stream.proofs.AccountLemmas.{run_over, Account-joined}
@@ -42,7 +44,7 @@ kept-short rules before (l ∷ ls) =
 reported-short : (rules : Rules) (before ls : List Line) → length (reported_from rules before ls) ≤ length ls
 reported-short rules before [] = omega arith
 reported-short rules before (l ∷ ls) =
-    let now = report_of (length before + 1) (verdict rules before l.content) in
+    let now = reports_of (length before + 1) (verdict rules before l.content) in
     omega (
       arith,
       one (length before + 1) (verdict rules before l.content),
@@ -50,11 +52,11 @@ reported-short rules before (l ∷ ls) =
       length-append now (reported_from rules (before ++ l ∷ []) ls),
     )
   where
-    one : (n : ℕ) (v : Verdict) → length (report_of n v) ≤ 1
-    one n (Refuse place reason) = omega arith
+    one : (n : ℕ) (v : Verdict) → length (reports_of n v) ≤ 1
+    one n (Invalid place reason) = omega arith
     one n Blank = omega arith
     one n LeftOut = omega arith
-    one n Valid = omega arith
+    one n Kept = omega arith
 
 -- no more features are kept, and no more lines refused, than were dealt with
 few-counted : (rules : Rules) (r : List ℕ) (n f k : ℕ) → Counts rules r n f k → (f ≤ n) × (k ≤ n)

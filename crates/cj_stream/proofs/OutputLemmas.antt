@@ -5,14 +5,16 @@ use Rattle.std.proofs.lemmas.List.{append-nil}
 use Rattle.std.specs.Io.KnownBytes.{Appends, Keeps}
 use Rattle.cj_stream.specs.declared.ending.End.{End}
 use Rattle.cj_stream.specs.declared.ending.End.TheVariants.{Complete, Refused, ReadFault, ReadLimit, WriteFault, Memory}
-use Rattle.cj_stream.specs.Lines.{lines, whole, closed}
-use Rattle.cj_stream.specs.Item.{Item, raw_item}
-use Rattle.cj_stream.specs.Verdict.{Rules, refusal_in, good, good_from, kept_from, kept, kept_first, item_after}
-use Rattle.cj_stream.specs.Verdict.{output_first, stretch, up_to, stream_of}
+use Rattle.cj_stream.specs.Meaning.Lines.{lines, closed}
+use Rattle.cj_stream.specs.Lines.{whole}
+use Rattle.cj_stream.specs.Meaning.Item.{Item, raw_item}
+use Rattle.cj_stream.specs.Meaning.Rules.{Rules}
+use Rattle.cj_stream.specs.Verdict.{refusal_in, good, good_from, kept_from, kept, kept_first, item_after, output_first, stretch, up_to, stream_of}
 use Rattle.cj_stream.specs.Engine.{Counts, Delivers}
 use Rattle.cj_stream.specs.Cut.{AppendsMore}
 use Rattle.cj_stream.specs.Run.{Run, Account, Ends, Puts, Runs, Writes, WritesLines}
-use Rattle.cj_stream.specs.Sink.{Took, TookFront, LeavesNext, AppendsPart, SinkLaw, prefixes}
+use Rattle.cj_stream.specs.Meaning.Outputs.{Took}
+use Rattle.cj_stream.specs.Sink.{TookFront, LeavesNext, AppendsPart, SinkLaw, prefixes}
 use Rattle.cj_stream.specs.Output.{writes_law}
 use Rattle.cj_stream.proofs.IsLinesLemmas.{joined-append, lines-whole}
 use Rattle.cj_stream.proofs.ReadingLemmas.{length-map_lines}

@@ -16,11 +16,15 @@ use Rattle.cj_spans.specs.Tree.{Tree}
 use Rattle.cj_spans.proofs.Judgements.{judgement}
 use Rattle.cj_stream.specs.declared.ending.End.{End}
 use Rattle.cj_stream.specs.declared.ending.End.TheVariants.{Complete, Refused}
-use Rattle.cj_stream.specs.Bound.{exact_peaks, contents, greatest, held_length, tree_size, tree_nest}
-use Rattle.cj_stream.specs.Item.{raw_item, is_feature}
-use Rattle.cj_stream.specs.Lines.{Line, NoLf, closed, begun, ended_line, lines, whole, later_of, first_content}
+use Rattle.cj_stream.specs.Bound.{exact_peaks, contents, held_length, tree_size, tree_nest}
+use Rattle.cj_stream.specs.Meaning.Bound.{greatest}
+use Rattle.cj_stream.specs.Meaning.Item.{raw_item, is_feature}
+use Rattle.cj_stream.specs.Meaning.Lines.{Line, closed, begun, ended_line, lines, later_of, first_content}
+use Rattle.cj_stream.specs.Lines.{NoLf, whole}
 use Rattle.cj_stream.specs.Parts.{headed, IsCut, moved_end, moved_report, greater_peaks}
-use Rattle.cj_stream.specs.Verdict.{Rules, Verdict, Refuse, Blank, LeftOut, Valid, is_blank_byte, by_least, verdict_at, text_verdict, verdict, findings, item_after, refusal_of, refusal_from, refusal_in, good_from, good, kept_from, kept, reported_from, reported, output, ending, ending_of}
+use Rattle.cj_stream.specs.Meaning.Rules.{Rules}
+use Rattle.cj_stream.specs.Meaning.Verdict.{Verdict, Invalid, Blank, LeftOut, Kept, is_blank_byte}
+use Rattle.cj_stream.specs.Verdict.{by_least, verdict_at, text_verdict, verdict, findings, item_after, refusal_of, refusal_from, refusal_in, good_from, good, kept_from, kept, reported_from, reported, output, ending, ending_of}
 use Rattle.cj_stream.proofs.Apart.{some-none}
 use Rattle.cj_stream.proofs.CutLemmas.{lines-more, good-stays}
 use Rattle.cj_stream.proofs.EngineLemmas.{same-peaks}
@@ -62,8 +66,8 @@ first-not_left_out rules header c h =
     asked (Some f) e = cc
 
     go : {d : ℕ} (long text : Bool) (j : Judgement c d)
-        → cond long (Refuse rules.limits.line LineTooLong)
-        (cond (not text) (Refuse (utf8_valid_len c) NotUtf8)
+        → cond long (Invalid rules.limits.line LineTooLong)
+        (cond (not text) (Invalid (utf8_valid_len c) NotUtf8)
         (cond (false && list_all is_blank_byte c) Blank (text_verdict rules 1 header j))) ≡ LeftOut → ⊥
     go true text j e = cc
     go false false j e = cc
@@ -71,18 +75,18 @@ first-not_left_out rules header c h =
     go false true (broken i s k) e = cc
     go false true (sunk i s) e = cc
 
-valid-first : (rules : Rules) (c : List ℕ) → refusal_of rules 1 (verdict rules [] c) ≡ None → verdict rules [] c ≡ Valid
+valid-first : (rules : Rules) (c : List ℕ) → refusal_of rules 1 (verdict rules [] c) ≡ None → verdict rules [] c ≡ Kept
 valid-first rules c h = go (verdict rules [] c) refl
   where
-    go : (v : Verdict) → verdict rules [] c ≡ v → verdict rules [] c ≡ Valid
-    go (Refuse place reason) e = absurd (some-none (Refused 1 place reason) (rw e at h))
+    go : (v : Verdict) → verdict rules [] c ≡ v → verdict rules [] c ≡ Kept
+    go (Invalid place reason) e = absurd (some-none (Refused 1 place reason) (rw e at h))
     go Blank e = let late = (blank-is rules 1 _ c e).0 in absurd (omega (arith, late))
     go LeftOut e = absurd (first-not_left_out rules _ c e)
-    go Valid e = e
+    go Kept e = e
 
 -- ---- lines, and more lines, behind a header that is valid
 
-module _ (rules : Rules) (l : Line) (valid : verdict rules [] l.content ≡ Valid) where
+module _ (rules : Rules) (l : Line) (valid : verdict rules [] l.content ≡ Kept) where
   pub kept-first : (zs : List Line) → kept_from rules [] (l ∷ zs) ≡ item_after rules [] l ∷ kept_from rules (l ∷ []) zs
   kept-first zs = rw valid refl
 
@@ -145,7 +149,7 @@ module _ (rules : Rules) (h a : List ℕ) (cut : IsCut h a) where
     pub front-none : refusal_in rules (ended_line h ∷ lines a) ≡ None
     front-none = let k = complete-none rules (lines (headed h a)) done in rw front-lines at k
 
-    pub header-valid : verdict rules [] h ≡ Valid
+    pub header-valid : verdict rules [] h ≡ Kept
     header-valid =
         valid-first rules h (first-none (refusal_of rules 1 (verdict rules [] h))
         (refusal_from rules (ended_line h ∷ []) (lines a)) front-none).0

@@ -8,13 +8,15 @@ use Rattle.cj_spans.specs.declared.reason.Reason.{Reason}
 use Rattle.cj_spans.specs.declared.reason.Reason.TheVariants.{LineTooLong}
 use Rattle.cj_stream.specs.declared.ending.End.{End}
 use Rattle.cj_stream.specs.declared.ending.End.TheVariants.{Refused, WriteFault, Memory}
-use Rattle.cj_stream.specs.Lines.{lines, closed, begun, ended_line, NoLf}
-use Rattle.cj_stream.specs.Item.{Item}
-use Rattle.cj_stream.specs.Verdict.{Rules, Verdict, Refuse, Blank, LeftOut, Valid, verdict, item_after, refusal_of, is_kept, long_line}
-use Rattle.cj_stream.specs.Reading.{Reading, begun_of, told_verdict, next_verdict, is_lenient, IsBegun}
-use Rattle.cj_stream.specs.Reading.{IsLeft, Unstored, Stores, Passes, Refuses, Deals, Settles, Reads, kept_closed}
-use Rattle.cj_stream.specs.Reading.{Advances, IsNext, HasCause, Stops, further, JudgedAs, judged_next, stop_at}
-use Rattle.cj_stream.specs.Sink.{Took, SinkLaw, with_sink, TookMore}
+use Rattle.cj_stream.specs.Meaning.Lines.{lines, closed, begun, ended_line}
+use Rattle.cj_stream.specs.Lines.{NoLf}
+use Rattle.cj_stream.specs.Meaning.Item.{Item}
+use Rattle.cj_stream.specs.Meaning.Rules.{Rules}
+use Rattle.cj_stream.specs.Meaning.Verdict.{Verdict, Invalid, Blank, LeftOut, Kept}
+use Rattle.cj_stream.specs.Verdict.{verdict, item_after, refusal_of, is_kept, long_line}
+use Rattle.cj_stream.specs.Reading.{Reading, begun_of, told_verdict, next_verdict, is_lenient, IsBegun, IsLeft, Unstored, Stores, Passes, Refuses, Deals, Settles, Reads, kept_closed, Advances, IsNext, HasCause, Stops, further, JudgedAs, judged_next, stop_at}
+use Rattle.cj_stream.specs.Meaning.Outputs.{Took}
+use Rattle.cj_stream.specs.Sink.{SinkLaw, with_sink, TookMore}
 use Rattle.cj_stream.proofs.LineLemmas.{closed-more, begun-more, closed-lf, begun-lf, none-from_length}
 use Rattle.cj_stream.proofs.VerdictLemmas.{verdict-long}
 use Rattle.cj_stream.proofs.ReadingLemmas.{left-same, strict-first, Reads-left, Reads-stored, Reads-passed, is_refused, held-whole, dropped-long, told-verdict, next-verdict, next-item, kept_closed-lf, map_lines-append}
@@ -85,7 +87,7 @@ module _ {S : Type 0} (law : SinkLaw S) where
 
   -- a refused line that reading goes on after
   gone-on : (g h : Reading) (s t : S) (p : List ℕ) (place : ℕ) (reason : Reason) (on : Bool) (r : Result (Unit {0}) End)
-      → Reads g p → next_verdict g (begun p) ≡ Refuse place reason
+      → Reads g p → next_verdict g (begun p) ≡ Invalid place reason
       → is_lenient g ≡ on → Refuses on (Refused (g.lines + 1) place reason) g r h → t ≡ s → r ≡ Ok tt
       → Advances law (further p (10 ∷ [])) (with_sink g s) (with_sink h t)
   gone-on g h s t p place reason true r reads e is d still ok =
@@ -96,13 +98,13 @@ module _ {S : Type 0} (law : SinkLaw S) where
       → next_verdict g (begun p) ≡ v
       → Deals law (judged_next g (is_lenient g) v (ended_line (begun p))) (with_sink g s) r (with_sink h t) → r ≡ Ok tt
       → Advances law (further p (10 ∷ [])) (with_sink g s) (with_sink h t)
-  dealt g h s t p (Refuse place reason) r reads e d ok =
+  dealt g h s t p (Invalid place reason) r reads e d ok =
       gone-on g h s t p place reason (is_lenient g) r reads e refl d.0 d.1 ok
   dealt g h s t p Blank r reads e d ok = passed g h s t p false false reads d.1 (rw e refl) (rw e refl) (rw e refl) d.2
   dealt g h s t p LeftOut r reads e d ok =
       passed g h s t p false false reads d.1 (rw e refl) (rw e refl) (rw e refl) d.2
-  dealt g h s t p Valid (Err x) reads e d ok = absurd (clash-err (Err x) x refl ok)
-  dealt g h s t p Valid (Ok x) reads e d ok =
+  dealt g h s t p Kept (Err x) reads e d ok = absurd (clash-err (Err x) x refl ok)
+  dealt g h s t p Kept (Ok x) reads e d ok =
       let is = next-item g p reads (ended_line (begun p)) in
       passed g h s t p true false reads d.0 (rw e refl) (rw e refl) (rw e refl) (t, rw (← is) d.1, refl)
 
@@ -123,18 +125,18 @@ module _ {S : Type 0} (law : SinkLaw S) where
       (subst (λ v. Settles law (judged_next g on v (record { content = begun_of g; lf = lf })) (with_sink g s) r
       (with_sink h t)) (told-verdict g c is) d)
     where
-      no-item : (x : Item) (place : ℕ) (reason : Reason) (v : Verdict) → v ≡ Refuse place reason
+      no-item : (x : Item) (place : ℕ) (reason : Reason) (v : Verdict) → v ≡ Invalid place reason
           → Settles law (JudgedAs (g.lines + 1) on v x) (with_sink g s) r (with_sink h t)
           → Settles law (judged_next g on v (record { content = c; lf = lf })) (with_sink g s) r (with_sink h t)
       no-item x place reason v e k = rw e (other (rw e at k))
         where
-          other : Settles law (JudgedAs (g.lines + 1) on (Refuse place reason) x) (with_sink g s) r (with_sink h t)
-              → Settles law (judged_next g on (Refuse place reason) (record { content = c; lf = lf })) (with_sink g s) r
+          other : Settles law (JudgedAs (g.lines + 1) on (Invalid place reason) x) (with_sink g s) r (with_sink h t)
+              → Settles law (judged_next g on (Invalid place reason) (record { content = c; lf = lf })) (with_sink g s) r
               (with_sink h t)
           other (inl d) = inl d
           other (inr m) = absurd (apart m.4)
             where
-              apart : Refuse place reason ≡ Valid → ⊥
+              apart : Invalid place reason ≡ Kept → ⊥
               apart z = cc
 
       go : (b : Bool) → g.dropped ≡ b → Settles law (judged_next g on (next_verdict g c)
@@ -262,7 +264,7 @@ module _ {S : Type 0} (law : SinkLaw S) where
   -- a refused line that is the end
   unforgiven : (g h : Reading) (s t : S) (p part more : List ℕ) (place : ℕ) (reason : Reason) (on : Bool)
       (r : Result (Unit {0}) End) (e : End) → NoLf part → Reads g (p ++ part)
-      → next_verdict g (begun (p ++ part)) ≡ Refuse place reason → is_lenient g ≡ on
+      → next_verdict g (begun (p ++ part)) ≡ Invalid place reason → is_lenient g ≡ on
       → Refuses on (Refused (g.lines + 1) place reason) g r h → t ≡ s → r ≡ Err e
       → IsLeft g h × HasCause law (stop_at g.rules (p ++ part) (p ++ (part ++ 10 ∷ more)) g.lines) s t e
   unforgiven g h s t p part more place reason true r e n reads is on d still err = absurd (good-bad r e d.0 err)
@@ -287,15 +289,15 @@ module _ {S : Type 0} (law : SinkLaw S) where
       → Deals law (judged_next g (is_lenient g) v (ended_line (begun (p ++ part)))) (with_sink g s) r (with_sink h t)
       → r ≡ Err e
       → IsLeft g h × HasCause law (stop_at g.rules (p ++ part) (p ++ (part ++ 10 ∷ more)) g.lines) s t e
-  undealt g h s t p part more (Refuse place reason) r e n reads is d err =
+  undealt g h s t p part more (Invalid place reason) r e n reads is d err =
       unforgiven g h s t p part more place reason (is_lenient g) r e n reads is refl d.0 d.1 err
   undealt g h s t p part more Blank r e n reads is d err = absurd (good-bad r e d.0 err)
   undealt g h s t p part more LeftOut r e n reads is d err = absurd (good-bad r e d.0 err)
-  undealt g h s t p part more Valid (Ok x) e n reads is d err = absurd (clash err)
+  undealt g h s t p part more Kept (Ok x) e n reads is d err = absurd (clash err)
     where
       clash : ◌≡◌ {A = Result (Unit {0}) End} (Ok x) (Err e) → ⊥
       clash y = cc
-  undealt g h s t p part more Valid (Err x) e n reads is d err =
+  undealt g h s t p part more Kept (Err x) e n reads is d err =
       let same : e ≡ WriteFault = cc in
       let b = begun-more p part n in
       let told : is_kept (verdict g.rules (map ended_line (closed (p ++ part))) (begun (p ++ part))) ≡ true =

@@ -11,7 +11,7 @@ use Rattle.cj_geometry.specs.ObjectTypes.{object_types}
 use Rattle.cj_geometry.proofs.Digits.{whole-zero, whole-one}
 use Rattle.cj_feature.specs.Shown.{maps_of}
 use Rattle.cj_feature.specs.Typed.{number_on}
-use Rattle.cj_stream.specs.Criteria.{Box, holds, vertices_of}
+use Rattle.cj_stream.specs.Meaning.Criteria.{Box, holds, vertices_of}
 use Rattle.cj_stream.specs.QueryRows.{plain_header, two_objects, one_instance, boxed, IdRows, TypeRows, LodRows, InstanceRows, InBoxRows, OutOfBoxRows, EachPartRows}
 use Rattle.cj_stream.proofs.BoxRowLemmas.{zero, one}
 

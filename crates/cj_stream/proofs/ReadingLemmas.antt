@@ -7,12 +7,17 @@ use Rattle.std.proofs.lemmas.Bool.Decides.{nat_tests}
 use Rattle.cj_budget.specs.Bounded.{IsWithin}
 use Rattle.cj_budget.specs.Limits.{LimitPair}
 use Rattle.cj_spans.specs.declared.reason.Reason.TheVariants.{LineTooLong}
-use Rattle.cj_stream.specs.Lines.{Line, closed, begun, begun_after, begun_later, ended_line, first_of, first_content, later_of, NoLf}
+use Rattle.cj_stream.specs.Meaning.Lines.{Line, closed, begun, ended_line, first_of, first_content, later_of}
+use Rattle.cj_stream.specs.Lines.{begun_after, begun_later, NoLf}
 use Rattle.std.specs.List.{filter}
 use Rattle.cj_spans.specs.Tree.{Tree}
-use Rattle.cj_stream.specs.Item.{Item, is_feature, item_at}
-use Rattle.cj_stream.specs.Verdict.{Rules, Verdict, Refuse, Blank, LeftOut, Valid, verdict_at, verdict, header_of, item_after, goes_on, refusal_of, report_of, is_kept, kept_from, reported_from}
-use Rattle.cj_stream.specs.Bound.{greatest, held_length}
+use Rattle.cj_stream.specs.Meaning.Item.{Item, is_feature}
+use Rattle.cj_stream.specs.Item.{item_at}
+use Rattle.cj_stream.specs.Meaning.Rules.{Rules}
+use Rattle.cj_stream.specs.Meaning.Verdict.{Verdict, Invalid, Blank, LeftOut, Kept}
+use Rattle.cj_stream.specs.Verdict.{verdict_at, verdict, header_of, item_after, goes_on, refusal_of, reports_of, is_kept, kept_from, reported_from}
+use Rattle.cj_stream.specs.Meaning.Bound.{greatest}
+use Rattle.cj_stream.specs.Bound.{held_length}
 use Rattle.cj_stream.specs.Reading.{Reading, begun_of, told_verdict, held_header, next_verdict, next_item, is_lenient, stored, IsBegun, IsLeft, Fits, Drops, StaysDropped, Stores, Passes, Reads, kept_closed}
 use Rattle.cj_stream.proofs.LineLemmas.{closed-more, begun-more, closed-lf, begun-lf, first_of-some, first_of-lf, begun_after-some, begun_after-empty, none-from_length}
 use Rattle.cj_stream.proofs.VerdictLemmas.{verdict-first, verdict-long, before-more, refusal-append, kept-append}
@@ -85,7 +90,7 @@ pub told-verdict : (f : Reading) (c : List ℕ) → IsBegun f c → told_verdict
 told-verdict f c is = go f.dropped refl
   where
     go : (b : Bool) → f.dropped ≡ b
-        → cond f.dropped (Refuse f.rules.limits.line LineTooLong) (next_verdict f (begun_of f)) ≡ next_verdict f c
+        → cond f.dropped (Invalid f.rules.limits.line LineTooLong) (next_verdict f (begun_of f)) ≡ next_verdict f c
     go true d = rw d (sym (verdict-long f.rules (f.lines + 1) (held_header f) c (dropped-long f c is d)))
     go false d = rw d (ap (next_verdict f) (held-whole f c is d).0)
 
@@ -436,23 +441,23 @@ pub reported-append : (rules : Rules) (before xs ys : List Line)
 reported-append rules before [] ys = rw (append-nil before) refl
 reported-append rules before (x ∷ xs) ys =
     let r = reported-append rules (before ++ x ∷ []) xs ys in
-    let now = report_of (length before + 1) (verdict rules before x.content) in
+    let now = reports_of (length before + 1) (verdict rules before x.content) in
     ap (λ z. now ++ z) (r ∙ ap (λ z. reported_from rules (before ++ x ∷ []) xs ++ reported_from rules z ys)
     (before-more before x xs))
     ∙ sym (append_assoc now (reported_from rules (before ++ x ∷ []) xs) (reported_from rules (before ++ x ∷ xs) ys))
 
 -- a refused line
 abbrev pub is_refused : Verdict → Bool
-is_refused (Refuse place reason) = true
+is_refused (Invalid place reason) = true
 is_refused Blank = false
 is_refused LeftOut = false
-is_refused Valid = false
+is_refused Kept = false
 
-pub count-reported : (n : ℕ) (v : Verdict) → length (report_of n v) ≡ (if is_refused v then 1 else 0)
-count-reported n (Refuse place reason) = refl
+pub count-reported : (n : ℕ) (v : Verdict) → length (reports_of n v) ≡ (if is_refused v then 1 else 0)
+count-reported n (Invalid place reason) = refl
 count-reported n Blank = refl
 count-reported n LeftOut = refl
-count-reported n Valid = refl
+count-reported n Kept = refl
 
 one-more : (b : Bool) (n m : ℕ) → m ≡ (if b then 1 else 0) → (if b then n + 1 else n) ≡ n + m
 one-more true n m e = omega (arith, e)
@@ -464,13 +469,13 @@ pub refused-next : (f g : Reading) (xs : List Line) (l : Line) (put refused : Bo
     → refused ≡ is_refused (verdict f.rules xs l.content) → g.refused ≡ length (reported_from f.rules [] (xs ++ l ∷ []))
 refused-next f g xs l put refused k s e =
     let v = verdict f.rules xs l.content in
-    let now = report_of (length xs + 1) v in
-    let count : length (report_of (length xs + 1) (verdict f.rules xs l.content)) ≡ (if refused then 1 else 0) =
+    let now = reports_of (length xs + 1) v in
+    let count : length (reports_of (length xs + 1) (verdict f.rules xs l.content)) ≡ (if refused then 1 else 0) =
     rw e (count-reported (length xs + 1) v) in
     rw (
       s.refused,
       reported-append f.rules [] xs (l ∷ []),
-      append-nil (report_of (length xs + 1) (verdict f.rules xs l.content)),
+      append-nil (reports_of (length xs + 1) (verdict f.rules xs l.content)),
     )
     (one-more refused f.refused (length now) count
     ∙ (ap (λ z. z + length now) k ∙ sym (length-append (reported_from f.rules [] xs) now)))

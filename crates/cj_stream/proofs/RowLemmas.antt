@@ -23,12 +23,15 @@ use Rattle.cj_spans.proofs.WorkedLines.{after, spells_end}
 use Rattle.cj_feature.specs.Examples.{plain_header, other_id}
 use Rattle.cj_feature.proofs.Worked.{plain_feature, euro_feature as euro_tree, euro_feature-valid, plain_header-valid, plain_feature-valid, other_id-refused, feature-no_header, header-no_feature}
 use Rattle.cj_stream.specs.declared.ending.End.TheVariants.{Complete, Refused}
-use Rattle.cj_stream.specs.Item.{raw_item, judged_tree, tree_of}
-use Rattle.cj_stream.specs.Lines.{Line, raw, ended_line}
+use Rattle.cj_stream.specs.Meaning.Item.{raw_item}
+use Rattle.cj_stream.specs.Item.{judged_tree, tree_of}
+use Rattle.cj_stream.specs.Meaning.Lines.{Line, raw, ended_line}
 use Rattle.cj_stream.specs.Rows.{small_header, small_feature, lost_feature, euro_feature, wide_rules, tight_rules, Gives, WholeRow, BlankRow, OrderRow, BadRow, LongRow}
-use Rattle.cj_stream.specs.Criteria.{everything, holds}
-use Rattle.cj_stream.specs.Options.{usual_options}
-use Rattle.cj_stream.specs.Verdict.{Rules, goes_on, is_kept_if_valid, Refuse, Blank, Valid, is_blank_byte, verdict, verdict_at, text_verdict, by_least, tree_verdict, ending_of, good_from, kept_from}
+use Rattle.cj_stream.specs.Meaning.Criteria.{everything, holds}
+use Rattle.cj_stream.specs.Meaning.Options.{usual_options}
+use Rattle.cj_stream.specs.Meaning.Rules.{Rules}
+use Rattle.cj_stream.specs.Verdict.{goes_on, is_kept_if_valid, verdict, verdict_at, text_verdict, by_least, tree_verdict, ending_of, good_from, kept_from}
+use Rattle.cj_stream.specs.Meaning.Verdict.{Invalid, Blank, Kept, is_blank_byte}
 use Rattle.cj_stream.proofs.VerdictLemmas.{verdict-long, verdict-json, verdict-blank, tree-valid}
 
 -- ---- trees
@@ -114,43 +117,43 @@ header_tree = judged plain_header header_json (lit≤ tt) (judgement small_heade
 pub feature_tree : tree_of 64 small_feature ≡ plain_feature.tree
 feature_tree = judged plain_feature.tree feature_json (lit≤ tt) (judgement small_feature 64)
 
-pub header_first : (t : Tree) → verdict_at wide_rules 1 t small_header ≡ Valid
+pub header_first : (t : Tree) → verdict_at wide_rules 1 t small_header ≡ Kept
 header_first t = sound 1 t small_header plain_header header_json (lit≤ tt) 8388608 (lit≤ tt) header_text refl
     ∙ tree-valid wide_rules 1 t plain_header plain_header-valid refl
 
-pub header_tight : (t : Tree) → verdict_at tight_rules 1 t small_header ≡ Valid
+pub header_tight : (t : Tree) → verdict_at tight_rules 1 t small_header ≡ Kept
 header_tight t = sound 1 t small_header plain_header header_json (lit≤ tt) 116 (lit≤ tt) header_text refl
     ∙ tree-valid tight_rules 1 t plain_header plain_header-valid refl
 
-euro_second : verdict_at wide_rules 2 (tree_of 64 small_header) euro_feature ≡ Valid
+euro_second : verdict_at wide_rules 2 (tree_of 64 small_header) euro_feature ≡ Kept
 euro_second =
     rw header_tree (sound 2 plain_header euro_feature euro_tree euro_json (lit≤ tt) 8388608 (lit≤ tt) euro_text refl
     ∙ tree-valid wide_rules 2 plain_header euro_tree euro_feature-valid (holds-everything plain_header euro_tree))
 
-feature_second : verdict_at wide_rules 2 (tree_of 64 small_header) small_feature ≡ Valid
+feature_second : verdict_at wide_rules 2 (tree_of 64 small_header) small_feature ≡ Kept
 feature_second =
     rw header_tree (sound 2 plain_header small_feature plain_feature.tree feature_json (lit≤ tt) 8388608
     (lit≤ tt) feature_text refl
     ∙ tree-valid wide_rules 2 plain_header plain_feature.tree plain_feature-valid
     (holds-everything plain_header plain_feature.tree))
 
-pub feature_third : verdict_at wide_rules 3 (tree_of 64 small_header) small_feature ≡ Valid
+pub feature_third : verdict_at wide_rules 3 (tree_of 64 small_header) small_feature ≡ Kept
 feature_third =
     rw header_tree (sound 3 plain_header small_feature plain_feature.tree feature_json (lit≤ tt) 8388608
     (lit≤ tt) feature_text refl
     ∙ tree-valid wide_rules 3 plain_header plain_feature.tree plain_feature-valid
     (holds-everything plain_header plain_feature.tree))
 
-pub feature_first : (t : Tree) → verdict_at wide_rules 1 t small_feature ≡ Refuse 0 MissingMember
+pub feature_first : (t : Tree) → verdict_at wide_rules 1 t small_feature ≡ Invalid 0 MissingMember
 feature_first t = sound 1 t small_feature plain_feature.tree feature_json (lit≤ tt) 8388608 (lit≤ tt) feature_text refl
     ∙ ap (by_least true) feature-no_header
 
-header_second : verdict_at wide_rules 2 (tree_of 64 small_header) small_header ≡ Refuse 0 MissingMember
+header_second : verdict_at wide_rules 2 (tree_of 64 small_header) small_header ≡ Invalid 0 MissingMember
 header_second =
     rw header_tree (sound 2 plain_header small_header plain_header header_json (lit≤ tt) 8388608 (lit≤ tt) header_text
     refl ∙ ap (by_least (is_kept_if_valid wide_rules 2 plain_header plain_header)) header-no_feature)
 
-lost_third : verdict_at wide_rules 3 (tree_of 64 small_header) lost_feature ≡ Refuse 31 IdNotFound
+lost_third : verdict_at wide_rules 3 (tree_of 64 small_header) lost_feature ≡ Invalid 31 IdNotFound
 lost_third =
     rw header_tree (sound 3 plain_header lost_feature other_id.tree lost_json (lit≤ tt) 8388608 (lit≤ tt) lost_text refl
     ∙ ap (by_least (is_kept_if_valid wide_rules 3 plain_header other_id.tree)) other_id-refused)
@@ -163,23 +166,23 @@ abbrev comma : List ℕ
 comma = codes "{\"type\":\"CityJSONFeature\",}"
 
 module _ (header : Tree) where
-  cut_second : verdict_at wide_rules 2 header cut ≡ Refuse 6 NotUtf8
+  cut_second : verdict_at wide_rules 2 header cut ≡ Invalid 6 NotUtf8
   unfolding verdict_at is_utf8 chars encode utf8_valid_len
   cut_second = refl
 
-  pub comma_second : verdict_at wide_rules 2 header comma ≡ Refuse 26 Syntax
+  pub comma_second : verdict_at wide_rules 2 header comma ≡ Invalid 26 Syntax
   unfolding verdict_at is_utf8 chars encode judgement over by_step by_depth at_end by_end text_of no_end ends_at
   comma_second = refl
 
-  short_second : verdict_at wide_rules 2 header (take 80 small_feature) ≡ Refuse 80 Syntax
+  short_second : verdict_at wide_rules 2 header (take 80 small_feature) ≡ Invalid 80 Syntax
   unfolding verdict_at is_utf8 chars encode judgement over by_step by_depth at_end by_end text_of no_end ends_at
   short_second = refl
 
-  deep_second : verdict_at wide_rules 2 header (replicate 65 91) ≡ Refuse 64 TooDeep
+  deep_second : verdict_at wide_rules 2 header (replicate 65 91) ≡ Invalid 64 TooDeep
   unfolding verdict_at is_utf8 chars encode judgement over by_step by_depth sinks at_end by_end text_of no_end ends_at
   deep_second = refl
 
-  open_second : verdict_at wide_rules 2 header (replicate 64 91) ≡ Refuse 64 Syntax
+  open_second : verdict_at wide_rules 2 header (replicate 64 91) ≡ Invalid 64 Syntax
   unfolding verdict_at is_utf8 chars encode judgement over by_step by_depth sinks at_end by_end text_of no_end ends_at
   open_second = refl
 
@@ -191,31 +194,31 @@ module _ (rules : Rules) where
   written ls = flat_map raw_item (kept_from rules [] (good_from rules [] ls))
 
   module _ (place : ℕ) (reason : Reason) where
-    first-refused : (l : Line) (rest : List Line) → verdict rules [] l.content ≡ Refuse place reason
+    first-refused : (l : Line) (rest : List Line) → verdict rules [] l.content ≡ Invalid place reason
         → (ending_of rules (l ∷ rest) ≡ Refused 1 place reason) × (written (l ∷ rest) ≡ [])
     first-refused l rest bad = rw bad (refl, refl)
 
-    module _ (h : Line) (valid : verdict rules [] h.content ≡ Valid) where
+    module _ (h : Line) (valid : verdict rules [] h.content ≡ Kept) where
       pub second-refused : goes_on rules 2 ≡ false → (l : Line) (rest : List Line)
-          → verdict rules (h ∷ []) l.content ≡ Refuse place reason
+          → verdict rules (h ∷ []) l.content ≡ Invalid place reason
           → (ending_of rules (h ∷ l ∷ rest) ≡ Refused 2 place reason) × (written (h ∷ l ∷ rest) ≡ raw h ++ [])
       unfolding verdict_at
       second-refused on l rest bad = rw (valid, bad, on) (refl, rw valid refl)
 
       third-refused : goes_on rules 3 ≡ false → (f l : Line) (rest : List Line)
-          → verdict rules (h ∷ []) f.content ≡ Valid → verdict rules (h ∷ f ∷ []) l.content ≡ Refuse place reason
+          → verdict rules (h ∷ []) f.content ≡ Kept → verdict rules (h ∷ f ∷ []) l.content ≡ Invalid place reason
           → (ending_of rules (h ∷ f ∷ l ∷ rest) ≡ Refused 3 place reason)
           × (written (h ∷ f ∷ l ∷ rest) ≡ raw h ++ (raw f ++ []))
       unfolding verdict_at
       third-refused on f l rest good bad = rw (valid, good, bad, on) (refl, rw (valid, good) refl)
 
-  module _ (h : Line) (valid : verdict rules [] h.content ≡ Valid) where
-    pub two-good : (f : Line) → verdict rules (h ∷ []) f.content ≡ Valid → (ending_of rules (h ∷ f ∷ []) ≡ Complete)
+  module _ (h : Line) (valid : verdict rules [] h.content ≡ Kept) where
+    pub two-good : (f : Line) → verdict rules (h ∷ []) f.content ≡ Kept → (ending_of rules (h ∷ f ∷ []) ≡ Complete)
         × (written (h ∷ f ∷ []) ≡ raw h ++ (raw f ++ []))
     two-good f good = rw (valid, good) (refl, rw (valid, good) refl)
 
     pub blank-between : (b f : Line) → verdict rules (h ∷ []) b.content ≡ Blank
-        → verdict rules (h ∷ b ∷ []) f.content ≡ Valid
+        → verdict rules (h ∷ b ∷ []) f.content ≡ Kept
         → (ending_of rules (h ∷ b ∷ f ∷ []) ≡ Complete) × (written (h ∷ b ∷ f ∷ []) ≡ raw h ++ (raw f ++ []))
     blank-between b f blank good = rw (valid, blank, good) (refl, rw (valid, blank, good) refl)
 
@@ -243,7 +246,7 @@ bad = third-refused wide_rules 31 IdNotFound (ended_line small_header) (header_f
 
 -- the last line, after the small header
 module _ (c : List ℕ) (place : ℕ) (reason : Reason) where
-  pub after_header : verdict_at wide_rules 2 (tree_of 64 small_header) c ≡ Refuse place reason → (l : Line)
+  pub after_header : verdict_at wide_rules 2 (tree_of 64 small_header) c ≡ Invalid place reason → (l : Line)
       → l.content ≡ c
       → (ending_of wide_rules (ended_line small_header ∷ l ∷ []) ≡ Refused 2 place reason)
       × (written wide_rules (ended_line small_header ∷ l ∷ []) ≡ small_header ++ 10 ∷ [])

@@ -5,15 +5,17 @@ use Rattle.std.proofs.lemmas.List.{append-nil}
 use Rattle.std.specs.Io.KnownBytes.{Consumes, Keeps}
 use Rattle.cj_stream.specs.declared.ending.End.{End}
 use Rattle.cj_stream.specs.declared.ending.End.TheVariants.{Complete, Refused, ReadFault, ReadLimit, WriteFault, Memory}
-use Rattle.cj_stream.specs.Lines.{Line, closed, last_line, lines, whole}
-use Rattle.cj_stream.specs.Verdict.{Rules, verdict, refusal_of, refusal_in, refusal_from, judged, ending, ending_of}
-use Rattle.cj_stream.specs.Verdict.{kept_first, stretch, up_to}
-use Rattle.cj_stream.specs.Engine.{EngineState, StandsFor, Counts, Delivers, Faults, Concludes, Tells, rules_of, limits_of, lines_of, peaks_of}
+use Rattle.cj_stream.specs.Meaning.Lines.{Line, closed, last_line, lines}
+use Rattle.cj_stream.specs.Lines.{whole}
+use Rattle.cj_stream.specs.Meaning.Rules.{Rules}
+use Rattle.cj_stream.specs.Verdict.{verdict, refusal_of, refusal_in, refusal_from, judged, ending, ending_of, kept_first, stretch, up_to}
+use Rattle.cj_stream.specs.Engine.{EngineState, EngineFailsToGrow, HasFailedToGrow, StandsFor, Counts, Delivers, Faults, Concludes, Tells, rules_of, limits_of, lines_of, peaks_of}
 use Rattle.cj_stream.specs.Reading.{Reading, Reads}
 use Rattle.cj_stream.specs.Run.{Run, Ends, Gave, HeldBegun, IsLastRead, IsReadWithin, LacksRoom, Runs, StopsInTime, outcome_of}
 use Rattle.cj_stream.specs.Bound.{IsBelow, exact_peaks, first_lines}
 use Rattle.cj_stream.specs.Scanning.{Scanned}
-use Rattle.cj_stream.specs.Sink.{HasRisen, Took, SinkLaw}
+use Rattle.cj_stream.specs.Sink.{HasRisen, SinkLaw}
+use Rattle.cj_stream.specs.Meaning.Outputs.{Took}
 use Rattle.cj_stream.specs.Cut.{IsUnread}
 use Rattle.cj_stream.proofs.PieceLemmas.{Took-append}
 use Rattle.cj_stream.proofs.EngineLemmas.{begun-good, judged-front, kept_first-front}
@@ -142,6 +144,15 @@ HasRisen-after a b c le (inr h) = go (zero_or (c - a))
     go : (c - a ≡ 0) ⊎ (0 < c - a) → HasRisen a c
     go (inl z) = inr (omega (arith, h.0, h.1), h.1)
     go (inr z) = inl (omega arith)
+
+-- a count that rose is not 0
+rose : (a b : ℕ) → HasRisen a b → 0 < b
+rose a b (inl lt) = omega (arith, lt)
+rose a b (inr h) = omega (arith, h.1)
+
+pub fails-grown : (e f : EngineState) → EngineFailsToGrow e f → HasFailedToGrow f
+fails-grown e f (inl h) = inl (rose _ _ h)
+fails-grown e f (inr h) = inr (rose _ _ h)
 
 -- a run that was refused its memory before the first read
 pub Consumes-none : (a : Option (List ℕ)) → Consumes a a []

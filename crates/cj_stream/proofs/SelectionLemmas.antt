@@ -4,11 +4,13 @@ use Rattle.std.specs.Prelude.{option_map, unwrap_or}
 use Rattle.std.specs.List.{flat_map}
 use Rattle.cj_stream.specs.declared.ending.End.{End}
 use Rattle.cj_stream.specs.declared.ending.End.TheVariants.{Complete}
-use Rattle.cj_stream.specs.Item.{raw_item}
-use Rattle.cj_stream.specs.Lines.{Line, NoLf, ended_line, lines}
+use Rattle.cj_stream.specs.Meaning.Item.{raw_item}
+use Rattle.cj_stream.specs.Meaning.Lines.{Line, ended_line, lines}
+use Rattle.cj_stream.specs.Lines.{NoLf}
 use Rattle.cj_stream.specs.Parts.{headed, moved_end}
 use Rattle.cj_stream.specs.Selection.{LeavesKept, all_lines, staying}
-use Rattle.cj_stream.specs.Verdict.{Rules, ending, ending_of, good_from, is_kept, item_after, kept, kept_from, output, refusal_from, refusal_in, refusal_of, verdict}
+use Rattle.cj_stream.specs.Meaning.Rules.{Rules}
+use Rattle.cj_stream.specs.Verdict.{ending, ending_of, good_from, is_kept, item_after, kept, kept_from, output, refusal_from, refusal_in, refusal_of, verdict}
 use Rattle.cj_stream.proofs.GoodLemmas.{good-all}
 use Rattle.cj_stream.proofs.LenientLemmas.{complete-none, first-none}
 use Rattle.cj_stream.proofs.MovedLemmas.{kept-moved, refusal-moved}

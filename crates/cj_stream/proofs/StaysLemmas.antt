@@ -1,10 +1,9 @@
 -- What stays of a reading, whatever comes of some bytes.
 use Rattle.std.proofs.Common.{◌≡◌, ◌+◌, inl, inr, Bool, true, false, Result, Ok, Err, arith, refl, ap, ◌∙◌}
 use Rattle.cj_stream.specs.declared.ending.End.{End}
-use Rattle.cj_stream.specs.Item.{Item}
-use Rattle.cj_stream.specs.Verdict.{Verdict, Refuse, Blank, LeftOut, Valid}
-use Rattle.cj_stream.specs.Reading.{Reading, Stays}
-use Rattle.cj_stream.specs.Reading.{Settles, JudgedAs}
+use Rattle.cj_stream.specs.Meaning.Item.{Item}
+use Rattle.cj_stream.specs.Meaning.Verdict.{Verdict, Invalid, Blank, LeftOut, Kept}
+use Rattle.cj_stream.specs.Reading.{Reading, Stays, Settles, JudgedAs}
 use Rattle.cj_stream.specs.Sink.{SinkLaw, with_sink}
 
 pub Stays-same : (f g : Reading) → g ≡ f → Stays f g
@@ -20,10 +19,10 @@ Stays-then f g h a b = record {
 -- an error leaves the count of lines
 pub settled-err : {S : Type 0} (law : SinkLaw S) (on : Bool) (v : Verdict) (i : Item) (f g : Reading) (s t : S)
     (e : End) → Settles law (JudgedAs (f.lines + 1) on v i) (with_sink f s) (Err e) (with_sink g t) → g.lines ≡ f.lines
-settled-err law true (Refuse at why) i f g s t e (inl d) = let ok : ◌≡◌ {A = Result (Unit {0}) End} (Err e) (Ok tt) =
+settled-err law true (Invalid at why) i f g s t e (inl d) = let ok : ◌≡◌ {A = Result (Unit {0}) End} (Err e) (Ok tt) =
     d.0.0 in cc
-settled-err law false (Refuse at why) i f g s t e (inl d) = ap (λ x. x.lines) d.0.1
+settled-err law false (Invalid at why) i f g s t e (inl d) = ap (λ x. x.lines) d.0.1
 settled-err law on Blank i f g s t e (inl d) = let ok : ◌≡◌ {A = Result (Unit {0}) End} (Err e) (Ok tt) = d.0 in cc
 settled-err law on LeftOut i f g s t e (inl d) = let ok : ◌≡◌ {A = Result (Unit {0}) End} (Err e) (Ok tt) = d.0 in cc
-settled-err law on Valid i f g s t e (inl d) = ap (λ x. x.lines) d.1.same
+settled-err law on Kept i f g s t e (inl d) = ap (λ x. x.lines) d.1.same
 settled-err law on v i f g s t e (inr m) = ap (λ x. x.lines) m.1.same

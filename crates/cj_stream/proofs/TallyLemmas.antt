@@ -6,13 +6,16 @@ use Rattle.cj_spans.specs.Tree.{Tree}
 use Rattle.cj_stream.specs.declared.sink.CountSink.{CountSink}
 use Rattle.cj_stream.specs.declared.ending.End.{End}
 use Rattle.cj_stream.specs.declared.ending.End.TheVariants.{Complete, Refused, ReadFault, ReadLimit, WriteFault, Memory}
-use Rattle.cj_stream.specs.Cut.{joined, PutsPieces, in_pieces}
-use Rattle.cj_stream.specs.Item.{Item, is_feature}
+use Rattle.cj_stream.specs.Meaning.Lines.{joined}
+use Rattle.cj_stream.specs.Cut.{PutsPieces, in_pieces}
+use Rattle.cj_stream.specs.Meaning.Item.{Item, is_feature}
 use Rattle.cj_stream.specs.Lines.{whole}
 use Rattle.cj_stream.specs.Run.{Puts}
-use Rattle.cj_stream.specs.Sink.{Took, LeavesNext, never_fails}
+use Rattle.cj_stream.specs.Meaning.Outputs.{Took}
+use Rattle.cj_stream.specs.Sink.{LeavesNext, never_fails}
 use Rattle.cj_stream.specs.CountSink.{Counts, CountsBy, is_header, no_counts, counts_of, CountsRun, CountsPieces}
-use Rattle.cj_stream.specs.Verdict.{Rules, kept, stream_of}
+use Rattle.cj_stream.specs.Meaning.Rules.{Rules}
+use Rattle.cj_stream.specs.Verdict.{kept, stream_of}
 
 -- both counts are those of another sink
 both : (a b : CountSink) → a.headers ≡ b.headers → a.features ≡ b.features → a ≡ b

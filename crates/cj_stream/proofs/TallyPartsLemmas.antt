@@ -12,12 +12,13 @@ use Rattle.cj_decimal.specs.Number.{Number}
 use Rattle.cj_feature.specs.Shown.{transform_values}
 use Rattle.cj_stream.specs.declared.ending.End.TheVariants.{Complete}
 use Rattle.cj_stream.specs.CountSink.{is_header}
-use Rattle.cj_stream.specs.Item.{is_feature}
-use Rattle.cj_stream.specs.Lines.{Line, ended_line, later_of}
+use Rattle.cj_stream.specs.Meaning.Item.{is_feature}
+use Rattle.cj_stream.specs.Meaning.Lines.{Line, ended_line, later_of}
 use Rattle.cj_stream.specs.Parts.{headed, IsCut, wider, JoinsTallies}
 use Rattle.cj_stream.specs.Tallied.{capped, how_often, type_numbers, lod_classes, numbers_on, IsRange, beside, over_features}
 use Rattle.cj_stream.specs.TallySink.{Tally, last_shown, IsTallyOf}
-use Rattle.cj_stream.specs.Verdict.{Rules, verdict, item_after, is_kept, kept_from, good, kept, ending}
+use Rattle.cj_stream.specs.Meaning.Rules.{Rules}
+use Rattle.cj_stream.specs.Verdict.{verdict, item_after, is_kept, kept_from, good, kept, ending}
 use Rattle.cj_stream.proofs.PartsLemmas.{header-valid, back-good, back-kept, kept-first, kept-parts, features-counted}
 use Rattle.cj_stream.proofs.Ranges.{IsRange-two}
 use Rattle.cj_stream.proofs.ReadingLemmas.{after-feature}

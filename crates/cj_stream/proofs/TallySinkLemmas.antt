@@ -9,15 +9,18 @@ use Rattle.cj_decimal.specs.Number.{Number}
 use Rattle.cj_feature.specs.Shown.{transform_values}
 use Rattle.cj_stream.specs.declared.ending.End.{End}
 use Rattle.cj_stream.specs.declared.ending.End.TheVariants.{Complete, Refused, ReadFault, ReadLimit, WriteFault, Memory}
-use Rattle.cj_stream.specs.Cut.{joined, PutsPieces, in_pieces}
-use Rattle.cj_stream.specs.Item.{Item, is_feature}
+use Rattle.cj_stream.specs.Meaning.Lines.{joined}
+use Rattle.cj_stream.specs.Cut.{PutsPieces, in_pieces}
+use Rattle.cj_stream.specs.Meaning.Item.{Item, is_feature}
 use Rattle.cj_stream.specs.Lines.{whole}
 use Rattle.cj_stream.specs.Run.{Puts}
-use Rattle.cj_stream.specs.Sink.{Took, LeavesNext, never_fails}
+use Rattle.cj_stream.specs.Meaning.Outputs.{Took}
+use Rattle.cj_stream.specs.Sink.{LeavesNext, never_fails}
 use Rattle.cj_stream.specs.CountSink.{is_header}
 use Rattle.cj_stream.specs.Tallied.{capped, how_often, type_numbers, lod_classes, numbers_on, beside, over_features}
 use Rattle.cj_stream.specs.TallySink.{Tally, no_tally, Widens, Shows, TalliesBy, Tallies, IsTallyOf, TalliesRun, TalliesPieces}
-use Rattle.cj_stream.specs.Verdict.{Rules, kept, stream_of}
+use Rattle.cj_stream.specs.Meaning.Rules.{Rules}
+use Rattle.cj_stream.specs.Verdict.{kept, stream_of}
 use Rattle.cj_stream.proofs.Ranges.{Widens-no, Widens-two}
 
 -- ---- counts

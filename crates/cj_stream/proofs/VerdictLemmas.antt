@@ -17,9 +17,11 @@ use Rattle.cj_spans.specs.Tree.{Tree}
 use Rattle.cj_spans.specs.declared.finding.Finding.{Finding}
 use Rattle.cj_spans.specs.Finding.{least, IsLeast}
 use Rattle.cj_spans.proofs.Findings.{least_only, fold_least}
-use Rattle.cj_stream.specs.Lines.{Line}
-use Rattle.cj_stream.specs.Item.{Item}
-use Rattle.cj_stream.specs.Verdict.{Rules, Refuse, Blank, LeftOut, Valid, verdict_at, verdict, findings, is_kept_if_valid, by_least, tree_verdict, text_verdict, item_after, is_blank_byte, refusal_of, is_kept, refusal_from, kept_from}
+use Rattle.cj_stream.specs.Meaning.Lines.{Line}
+use Rattle.cj_stream.specs.Meaning.Item.{Item}
+use Rattle.cj_stream.specs.Meaning.Rules.{Rules}
+use Rattle.cj_stream.specs.Meaning.Verdict.{Invalid, Blank, LeftOut, Kept, is_blank_byte}
+use Rattle.cj_stream.specs.Verdict.{verdict_at, verdict, findings, is_kept_if_valid, by_least, tree_verdict, text_verdict, item_after, refusal_of, is_kept, refusal_from, kept_from}
 use Rattle.cj_stream.proofs.LineLemmas.{not_true}
 
 blank-byte : (b : ℕ) → is_blank_byte b ≡ true → b < 128
@@ -49,12 +51,12 @@ blank-ascii (b ∷ c) h zero = blank-byte b (and-both (is_blank_byte b) (list_al
 blank-ascii (b ∷ c) h (suc i) = blank-ascii c (and-both (is_blank_byte b) (list_all is_blank_byte c) h).1 i
 
 pub verdict-long : (rules : Rules) (n : ℕ) (header : Tree) (c : List ℕ) → rules.limits.line < length c
-    → verdict_at rules n header c ≡ Refuse rules.limits.line LineTooLong
+    → verdict_at rules n header c ≡ Invalid rules.limits.line LineTooLong
 unfolding verdict_at
 verdict-long rules n header c h = let e : ltb rules.limits.line (length c) ≡ true = grind (arith, nat_tests) in rw e
 
 pub verdict-bytes : (rules : Rules) (n : ℕ) (header : Tree) (c : List ℕ) → length c ≤ rules.limits.line → ¬ IsUtf8 c
-    → verdict_at rules n header c ≡ Refuse (utf8_valid_len c) NotUtf8
+    → verdict_at rules n header c ≡ Invalid (utf8_valid_len c) NotUtf8
 unfolding verdict_at
 verdict-bytes rules n header c h not_text =
     let e : ltb rules.limits.line (length c) ≡ false = grind (arith, nat_tests) in
@@ -87,11 +89,11 @@ unfolding verdict_at
 verdict-first rules x y c = go (judgement c rules.limits.depth)
   where
     go : {d : ℕ} (j : Judgement c d)
-        → cond (ltb rules.limits.line (length c)) (Refuse rules.limits.line LineTooLong)
-        (cond (not (is_utf8 c)) (Refuse (utf8_valid_len c) NotUtf8)
+        → cond (ltb rules.limits.line (length c)) (Invalid rules.limits.line LineTooLong)
+        (cond (not (is_utf8 c)) (Invalid (utf8_valid_len c) NotUtf8)
         (cond (nat_lt 1 1 && list_all is_blank_byte c) Blank (text_verdict rules 1 x j)))
-        ≡ cond (ltb rules.limits.line (length c)) (Refuse rules.limits.line LineTooLong)
-        (cond (not (is_utf8 c)) (Refuse (utf8_valid_len c) NotUtf8)
+        ≡ cond (ltb rules.limits.line (length c)) (Invalid rules.limits.line LineTooLong)
+        (cond (not (is_utf8 c)) (Invalid (utf8_valid_len c) NotUtf8)
         (cond (nat_lt 1 1 && list_all is_blank_byte c) Blank (text_verdict rules 1 y j)))
     go (spelled t json n) = refl
     go (broken i s n) = refl
@@ -103,12 +105,12 @@ least-is : (fs : List Finding) (f : Finding) → IsLeast fs (Some f) → least N
 least-is fs f h = least_only fs fs (Some f) (least None fs) (λ g. (λ x. x, λ x. x)) h (fold_least None fs)
 
 pub tree-refused : (rules : Rules) (n : ℕ) (header t : Tree) (f : Finding)
-    → IsLeast (findings rules n header t) (Some f) → tree_verdict rules n header t ≡ Refuse f.place f.reason
+    → IsLeast (findings rules n header t) (Some f) → tree_verdict rules n header t ≡ Invalid f.place f.reason
 tree-refused rules n header t f h =
     ap (by_least (is_kept_if_valid rules n header t)) (least-is (findings rules n header t) f h)
 
 pub tree-valid : (rules : Rules) (n : ℕ) (header t : Tree) → findings rules n header t ≡ []
-    → is_kept_if_valid rules n header t ≡ true → tree_verdict rules n header t ≡ Valid
+    → is_kept_if_valid rules n header t ≡ true → tree_verdict rules n header t ≡ Kept
 tree-valid rules n header t h keep = ap (λ fs. by_least (is_kept_if_valid rules n header t) (least None fs)) h
     ∙ rw keep refl
 
@@ -134,8 +136,8 @@ blank-is rules n header c h = let k =
     (judgement c rules.limits.depth) h in (ltb-true 1 n k.0, k.1)
   where
     go : {d : ℕ} (long text later blank : Bool) (j : Judgement c d)
-        → cond long (Refuse rules.limits.line LineTooLong)
-        (cond (not text) (Refuse (utf8_valid_len c) NotUtf8)
+        → cond long (Invalid rules.limits.line LineTooLong)
+        (cond (not text) (Invalid (utf8_valid_len c) NotUtf8)
         (cond (later && blank) Blank (text_verdict rules n header j))) ≡ Blank → (later ≡ true) × (blank ≡ true)
     go true text later blank j e = cc
     go false false later blank j e = cc

@@ -4,12 +4,14 @@ use Rattle.std.specs.List.{filter}
 use Rattle.cj_budget.specs.declared.limits.Peaks.{Peaks}
 use Rattle.cj_stream.specs.declared.ending.End.{End}
 use Rattle.cj_stream.specs.declared.ending.End.TheVariants.{Complete, Refused, ReadFault, ReadLimit, WriteFault, Memory}
-use Rattle.cj_stream.specs.Cut.{joined, IsUnread}
+use Rattle.cj_stream.specs.Meaning.Lines.{joined}
+use Rattle.cj_stream.specs.Cut.{IsUnread}
 use Rattle.cj_stream.specs.Engine.{Counts}
-use Rattle.cj_stream.specs.Headline.{IsUnhindered}
-use Rattle.cj_stream.specs.Item.{is_feature}
+use Rattle.cj_stream.specs.Meaning.Headline.{IsUnhindered}
+use Rattle.cj_stream.specs.Meaning.Item.{is_feature}
 use Rattle.cj_stream.specs.Run.{CountsAll, Ends}
-use Rattle.cj_stream.specs.Verdict.{Rules, refusal_in, judged, good, kept, reported}
+use Rattle.cj_stream.specs.Meaning.Rules.{Rules}
+use Rattle.cj_stream.specs.Verdict.{refusal_in, judged, good, kept, reported}
 use Rattle.cj_stream.proofs.CutLemmas.{good-more, refused-more}
 use Rattle.cj_stream.proofs.GoodLemmas.{kept_first-good}
 use Rattle.cj_stream.proofs.JoinedLemmas.{joined-cut}

@@ -2,7 +2,7 @@
 use Rattle.std.specs.Prelude.{ℕ, List, [], ◌∷◌, ◌++◌, Bool, true, false, replicate, slice_set, Option, Some, unwrap_or}
 use Rattle.std.specs.Prelude.{option_and_then}
 use Rattle.cj_geometry.specs.ObjectTypes.{ObjectRow, row_named, type_count}
-use Rattle.cj_stream.specs.Criteria.{Criteria, Box}
+use Rattle.cj_stream.specs.Meaning.Criteria.{Criteria, Box}
 
 -- no flag of a type is set
 abbrev pub no_types : List Bool

@@ -1,32 +1,15 @@
--- The most that may be held, and how much was held at most.
-use Rattle.std.specs.Prelude.{◌≡◌, ℕ, ◌+◌, ◌/◌, ◌≤◌, List, [], ◌∷◌, Bool, true, false, not, nat_lt, ◌&&◌, ◌||◌}
-use Rattle.std.specs.Prelude.{if◌then◌else◌, length, map, max, min, take}
+-- How much was held at most of the lines of a stream so far.
+use Rattle.std.specs.Prelude.{◌≡◌, ℕ, ◌+◌, ◌≤◌, List, Bool, true, false, not, nat_lt, ◌&&◌, ◌||◌}
+use Rattle.std.specs.Prelude.{if◌then◌else◌, length, map, min, take}
 use Rattle.std.specs.List.{flat_map, list_all}
 use Rattle.std.specs.Str.{is_utf8}
 use Rattle.cj_budget.specs.Limits.{LimitPair}
 use Rattle.cj_budget.specs.declared.limits.Peaks.{Peaks}
 use Rattle.cj_spans.specs.Judgement.{Judgement, spelled, broken, sunk, judged_size, judged_nest}
 use Rattle.cj_spans.proofs.Judgements.{judgement}
-use Rattle.cj_stream.specs.Lines.{lines, later_of, first_content, raw}
-use Rattle.cj_stream.specs.Verdict.{is_blank_byte}
-
--- the bytes of a stream's first line, cut at the line limit
-abbrev pub first_bytes : LimitPair → List ℕ → ℕ
-first_bytes limits s = min (length (first_content s)) limits.line
-
--- the bytes of the first line, and those of one line more
-abbrev pub bytes_bound : LimitPair → List ℕ → ℕ
-bytes_bound limits s = first_bytes limits s + limits.line
-
--- a token for each two bytes of these, and of open containers
-abbrev pub tokens_bound : LimitPair → List ℕ → ℕ
-tokens_bound limits s = (first_bytes limits s + limits.line + limits.depth) / 2 + 1
-
--- what was held at most is within the bound for the bytes so far
-pub record IsBounded (limits : LimitPair) (s : List ℕ) (peaks : Peaks) : Type 0 where
-  pub bytes : peaks.bytes ≤ bytes_bound limits s
-  pub tokens : peaks.tokens ≤ tokens_bound limits s
-  pub depth : peaks.depth ≤ limits.depth
+use Rattle.cj_stream.specs.Meaning.Bound.{of_first, greatest}
+use Rattle.cj_stream.specs.Meaning.Lines.{lines, later_of, first_content, raw}
+use Rattle.cj_stream.specs.Meaning.Verdict.{is_blank_byte}
 
 -- no count is above the other's
 pub record IsBelow (a b : Peaks) : Type 0 where
@@ -45,16 +28,6 @@ tree_size limits c = if is_text limits c then judged_size (judgement c limits.de
 -- the most containers that are open in it, or 0
 abbrev pub tree_nest : LimitPair → List ℕ → ℕ
 tree_nest limits c = if is_text limits c then judged_nest (judgement c limits.depth) else 0
-
--- a measure of the first of some contents, or 0
-abbrev pub of_first : (List ℕ → ℕ) → List (List ℕ) → ℕ
-of_first measure [] = 0
-of_first measure (c ∷ cs) = measure c
-
--- the greatest measure of some contents, or 0
-abbrev pub greatest : (List ℕ → ℕ) → List (List ℕ) → ℕ
-greatest measure [] = 0
-greatest measure (c ∷ cs) = max (measure c) (greatest measure cs)
 
 -- the contents of the lines of a stream
 abbrev pub contents : List ℕ → List (List ℕ)

@@ -2,7 +2,8 @@
 use Rattle.std.specs.Prelude.{◌≡◌, ℕ, List, [], ◌∷◌, ◌++◌}
 use Rattle.cj_budget.specs.Limits.{LimitPair}
 use Rattle.cj_budget.specs.declared.limits.Peaks.{Peaks}
-use Rattle.cj_stream.specs.Bound.{bytes_bound, tokens_bound, IsBounded, exact_peaks}
+use Rattle.cj_stream.specs.Meaning.Bound.{bytes_bound, tokens_bound, IsBounded}
+use Rattle.cj_stream.specs.Bound.{exact_peaks}
 use Rattle.cj_stream.specs.Rows.{small_header, small_feature}
 
 -- the usual limits, a line limit below the 116 bytes of the small header, and one that it just meets, beside an odd sum

@@ -6,7 +6,7 @@ use Rattle.cj_decimal.specs.Class.{Class, no_number, out_of_range, not_whole, wh
 use Rattle.cj_decimal.proofs.Classes.{class}
 use Rattle.cj_feature.specs.Header.{is_fixed}
 use Rattle.cj_feature.specs.Shown.{value_by, units_in}
-use Rattle.cj_stream.specs.Criteria.{Box, there_is}
+use Rattle.cj_stream.specs.Meaning.Criteria.{Box, there_is}
 use Rattle.cj_stream.specs.declared.query.fault.QueryFault.{QueryFault}
 use Rattle.cj_stream.specs.declared.query.fault.QueryFault.TheVariants.{BadBox, BoxRange, EmptyBox}
 

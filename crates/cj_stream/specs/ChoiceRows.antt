@@ -3,9 +3,9 @@ use Rattle.std.specs.Prelude.{ℕ, List, [], ◌∷◌, ◌++◌, Bool, true, fa
 use Rattle.cj_spans.specs.declared.reason.Reason.TheVariants.{NotReached}
 use Rattle.cj_feature.specs.Examples.{chain, part_apart, main_part}
 use Rattle.cj_stream.specs.declared.ending.End.TheVariants.{Complete, Refused}
-use Rattle.cj_stream.specs.Criteria.{everything}
+use Rattle.cj_stream.specs.Meaning.Criteria.{everything}
 use Rattle.cj_stream.specs.Rows.{small_header, small_feature, Gives}
-use Rattle.cj_stream.specs.Verdict.{Rules}
+use Rattle.cj_stream.specs.Meaning.Rules.{Rules}
 
 -- the usual limits, where all is asked for, and these options
 abbrev pub choosing : Bool → Bool → Rules

@@ -1,21 +1,20 @@
 -- Streams that come in pieces.
-use Rattle.std.specs.Prelude.{◌≡◌, ◌⊎◌, ℕ, ◌+◌, ◌≤◌, List, [], ◌∷◌, ◌++◌, Option, Some, None, length, take}
+use Rattle.std.specs.Prelude.{◌≡◌, ◌⊎◌, ℕ, ◌+◌, ◌≤◌, List, ◌++◌, Option, Some, None, length, take}
 use Rattle.std.specs.Io.KnownBytes.{Appends}
 use Rattle.cj_stream.specs.declared.pieces.PiecesOutcome.{PiecesOutcome}
 use Rattle.cj_stream.specs.declared.ending.End.{End}
 use Rattle.cj_stream.specs.declared.ending.End.TheVariants.{Complete, Refused, ReadFault, ReadLimit, WriteFault, Memory}
-use Rattle.cj_stream.specs.Lines.{closed, lines, whole}
-use Rattle.cj_stream.specs.Item.{Item}
-use Rattle.cj_stream.specs.Verdict.{Rules, refusal_in, judged, kept, ending, output, stretch}
-use Rattle.cj_stream.specs.Bound.{IsBounded, IsBelow, IsExact, exact_peaks, first_lines}
+use Rattle.cj_stream.specs.Meaning.Lines.{closed, lines, joined}
+use Rattle.cj_stream.specs.Lines.{whole}
+use Rattle.cj_stream.specs.Meaning.Item.{Item}
+use Rattle.cj_stream.specs.Meaning.Rules.{Rules}
+use Rattle.cj_stream.specs.Verdict.{refusal_in, judged, kept, ending, output, stretch}
+use Rattle.cj_stream.specs.Meaning.Bound.{IsBounded}
+use Rattle.cj_stream.specs.Bound.{IsBelow, IsExact, exact_peaks, first_lines}
 use Rattle.cj_stream.specs.Engine.{EngineState, Counts, Delivers, rules_of, lines_of, refused_of, held_by, peaks_of}
 use Rattle.cj_stream.specs.Reading.{LacksMemory}
-use Rattle.cj_stream.specs.Sink.{SinkLaw, Took, prefixes, TookFront, LeavesNext, AppendsPart}
-
--- the stream that pieces are a cut of; pieces may be empty
-abbrev pub joined : List (List ℕ) → List ℕ
-joined [] = []
-joined (piece ∷ pieces) = piece ++ joined pieces
+use Rattle.cj_stream.specs.Sink.{SinkLaw, prefixes, TookFront, LeavesNext, AppendsPart}
+use Rattle.cj_stream.specs.Meaning.Outputs.{Took}
 
 -- a stream that was given in pieces: the rules, all of the pieces, and how many of them were wholly taken
 pub record InPieces : Type 0 where

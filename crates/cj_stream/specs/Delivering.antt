@@ -3,17 +3,18 @@ use Rattle.std.specs.Prelude.{◌≡◌, Result, Ok, Err}
 use Rattle.cj_stream.specs.declared.desk.Dealt.{Dealt}
 use Rattle.cj_stream.specs.declared.desk.Dealt.TheVariants.{Kept, LeftOut, Blank, Refused}
 use Rattle.cj_stream.specs.declared.output.WriteFault.{WriteFault}
-use Rattle.cj_stream.specs.Item.{Item}
-use Rattle.cj_stream.specs.Reading.{JudgedLine, JudgedAs}
+use Rattle.cj_stream.specs.Meaning.Item.{Item}
+use Rattle.cj_stream.specs.Reading.{DueLine, JudgedAs}
 use Rattle.cj_stream.specs.Sink.{SinkLaw}
-use Rattle.cj_stream.specs.Verdict.{Verdict, Refuse, Valid, LeftOut as LeftOutLine, Blank as BlankLine}
+use Rattle.cj_stream.specs.Meaning.Verdict.{Verdict, Invalid, Kept as KeptLine, LeftOut as LeftOutLine}
+use Rattle.cj_stream.specs.Meaning.Verdict.{Blank as BlankLine}
 
 -- what became of a line is the verdict on it
 abbrev pub verdict_of : Dealt → Verdict
-verdict_of Kept = Valid
+verdict_of Kept = KeptLine
 verdict_of LeftOut = LeftOutLine
 verdict_of Blank = BlankLine
-verdict_of (Refused f) = Refuse f.place f.reason
+verdict_of (Refused f) = Invalid f.place f.reason
 
 -- the sink took the item if the line was kept, and stays if not
 abbrev pub Gets : {S : Type 0} → SinkLaw S → Item → Dealt → S → S → Type 0
@@ -21,6 +22,6 @@ Gets law i Kept s t = law.takes s i t
 Gets law i other s t = t ≡ s
 
 -- the answer is the verdict, and the sink has what is kept; or a fault of the sink is answered, at a line to keep
-abbrev pub Hands : {S : Type 0} → SinkLaw S → JudgedLine → S → Result Dealt WriteFault → S → Type 0
+abbrev pub Hands : {S : Type 0} → SinkLaw S → DueLine → S → Result Dealt WriteFault → S → Type 0
 Hands law (JudgedAs number on v i) s (Ok dealt) t = (v ≡ verdict_of dealt) × Gets law i dealt s t
-Hands law (JudgedAs number on v i) s (Err fault) t = (v ≡ Valid) × law.leaves s i t
+Hands law (JudgedAs number on v i) s (Err fault) t = (v ≡ KeptLine) × law.leaves s i t

@@ -2,7 +2,7 @@
 use Rattle.cj_spans.specs.declared.reason.Reason.TheVariants.{Syntax}
 use Rattle.cj_stream.specs.declared.ending.End.TheVariants.{Complete, Refused, ReadFault, ReadLimit, WriteFault, Memory}
 use Rattle.cj_stream.specs.Cut.{IsUnread}
-use Rattle.cj_stream.specs.Headline.{IsUnhindered}
+use Rattle.cj_stream.specs.Meaning.Headline.{IsUnhindered}
 
 -- a failed write and refused memory hinder, and nothing else does
 abbrev pub UnhinderedRow : Type 0

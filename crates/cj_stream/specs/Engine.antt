@@ -1,19 +1,23 @@
 -- Which bytes an engine stands for, and what it answers.
-use Rattle.std.specs.Prelude.{◌≡◌, ℕ, ◌+◌, ◌≤◌, List, [], ◌++◌, true, Option, Some, None, is_none, Result, Ok, Err}
+use Rattle.std.specs.Prelude.{◌≡◌, ◌⊎◌, ℕ, ◌+◌, ◌<◌, ◌≤◌, List, [], ◌++◌, true, Option, Some, None, is_none, Result, Ok, Err}
 use Rattle.std.specs.Prelude.{if◌then◌else◌, length, take, slice_get}
 use Rattle.cj_budget.specs.Limits.{LimitPair}
 use Rattle.cj_budget.specs.declared.limits.Peaks.{Peaks}
 use Rattle.cj_stream.specs.declared.ending.End.{End}
 use Rattle.cj_stream.specs.declared.ending.End.TheVariants.{Complete, Refused, WriteFault, Memory}
 use Rattle.cj_stream.specs.Carrying.{FramerState}
-use Rattle.cj_stream.specs.Lines.{Line, closed, lines, whole, first_content, begun_later}
-use Rattle.cj_stream.specs.Item.{Item}
-use Rattle.cj_stream.specs.Verdict.{Rules, refusal_in, judged, verdict, item_after, is_kept, good, ending, kept_first}
+use Rattle.cj_stream.specs.Meaning.Lines.{Line, closed, lines, first_content}
+use Rattle.cj_stream.specs.Lines.{whole, begun_later}
+use Rattle.cj_stream.specs.Meaning.Item.{Item}
+use Rattle.cj_stream.specs.Meaning.Rules.{Rules}
+use Rattle.cj_stream.specs.Verdict.{refusal_in, judged, verdict, item_after, is_kept, good, ending, kept_first}
 use Rattle.cj_stream.specs.Verdict.{features_first, reported_first, UpTo, up_to, Stretch}
-use Rattle.cj_stream.specs.Bound.{IsBounded, IsBelow, of_first, tree_size}
+use Rattle.cj_stream.specs.Meaning.Bound.{IsBounded, of_first}
+use Rattle.cj_stream.specs.Bound.{IsBelow, tree_size}
 use Rattle.cj_stream.specs.Reading.{Reading, Reads, stored}
 use Rattle.cj_stream.specs.Scanning.{Scanning, Scanned, ListsFailToGrow}
-use Rattle.cj_stream.specs.Sink.{SinkLaw, Took}
+use Rattle.cj_stream.specs.Sink.{SinkLaw}
+use Rattle.cj_stream.specs.Meaning.Outputs.{Took}
 
 -- what a contract sees of an engine: the bytes and the tokens that it holds of a stream, the bytes it has taken, and
 -- the end it has come to
@@ -75,6 +79,10 @@ pub record StandsFor (e : EngineState) (p : List ℕ) : Type 0 where
 -- a growth for later lines failed: the count of that has risen, of one of their two lists
 abbrev pub EngineFailsToGrow : EngineState → EngineState → Type 0
 EngineFailsToGrow old new = ListsFailToGrow old.reading old.scanning new.reading new.scanning
+
+-- some growth for later lines has failed
+abbrev pub HasFailedToGrow : EngineState → Type 0
+HasFailedToGrow e = (0 < e.reading.line.failed_growths) ⊎ (0 < e.scanning.line.failed_growths)
 
 -- it has been given nothing
 abbrev pub IsFresh : EngineState → Type 0

@@ -1,7 +1,8 @@
 -- How much of a piece the reader of a header has used.
 use Rattle.std.specs.Prelude.{◌≡◌, ℕ, ◌≤◌, List, [], ◌∷◌, ◌++◌, true, false, length, take}
 use Rattle.cj_stream.specs.declared.header_reader.Progress.{Progress}
-use Rattle.cj_stream.specs.Lines.{newline, NoLf}
+use Rattle.cj_stream.specs.Meaning.Lines.{newline}
+use Rattle.cj_stream.specs.Lines.{NoLf}
 
 -- the bytes up to and with the first LF, where the header was accepted; and else all, of which none is LF
 pub record IsFront (piece : List ℕ) (t : Progress) : Type 0 where

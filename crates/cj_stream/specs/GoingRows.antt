@@ -5,7 +5,8 @@ use Rattle.cj_stream.specs.declared.ending.End.{End}
 use Rattle.cj_stream.specs.declared.ending.End.TheVariants.{Complete, Refused}
 use Rattle.cj_stream.specs.declared.report_sink.Report.{Report}
 use Rattle.cj_stream.specs.Rows.{small_header, small_feature, wide_rules, tight_rules, Gives}
-use Rattle.cj_stream.specs.Verdict.{Rules, reported}
+use Rattle.cj_stream.specs.Meaning.Rules.{Rules}
+use Rattle.cj_stream.specs.Verdict.{reported}
 
 -- the same rules, but told to go on
 abbrev pub going : Rules → Rules

@@ -1,10 +1,11 @@
--- Which lines of a stream are good, in other words.
+-- Which lines of a stream are handled, in other words.
 use Rattle.std.specs.Prelude.{◌≡◌, ◌+◌, ◌≤◌, ℕ, List, [], ◌∷◌, ◌++◌, Some, None, length}
 use Rattle.cj_spans.specs.declared.reason.Reason.TheVariants.{NoHeader}
 use Rattle.cj_stream.specs.declared.ending.End.{End}
 use Rattle.cj_stream.specs.declared.ending.End.TheVariants.{Complete, Refused}
-use Rattle.cj_stream.specs.Lines.{Line, lines}
-use Rattle.cj_stream.specs.Verdict.{Rules, verdict, refusal_of}
+use Rattle.cj_stream.specs.Meaning.Lines.{Line, lines}
+use Rattle.cj_stream.specs.Meaning.Rules.{Rules}
+use Rattle.cj_stream.specs.Verdict.{verdict, refusal_of}
 
 -- these are a prefix of all
 pub record IsFront (ls all : List Line) : Type 0 where
@@ -22,12 +23,12 @@ pub record AreGood (rules : Rules) (s : List ℕ) (ls : List Line) : Type 0 wher
   pub unrefused : NoneRefused rules ls
   pub longest : (others : List Line) → IsFront others (lines s) → NoneRefused rules others → length others ≤ length ls
 
--- the end of a stream of which all lines are good: it is complete, but for a stream without a line
+-- the end of a stream of which all lines are handled: it is complete, but for a stream without a line
 abbrev pub EndsWell : List Line → End → Type 0
 EndsWell [] e = e ≡ Refused 1 0 NoHeader
 EndsWell (l ∷ ls) e = e ≡ Complete
 
--- the end of a stream by its good lines and those after them: the refusal of the first of these
+-- the end of a stream by its handled lines and those after them: the refusal of the first of these
 abbrev pub EndsAfter : Rules → List Line → List Line → End → Type 0
 EndsAfter rules ls [] e = EndsWell ls e
 EndsAfter rules ls (next ∷ rest) e = refusal_of rules (length ls + 1) (verdict rules ls next.content) ≡ Some e

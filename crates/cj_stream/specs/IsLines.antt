@@ -1,7 +1,8 @@
 -- What it means to be the lines of a stream.
 use Rattle.std.specs.Prelude.{◌≡◌, ◌⊎◌, ℕ, List, [], ◌∷◌, ◌++◌, true, false}
 use Rattle.std.specs.List.{flat_map}
-use Rattle.cj_stream.specs.Lines.{newline, Line, raw, NoLf}
+use Rattle.cj_stream.specs.Meaning.Lines.{newline, Line, raw}
+use Rattle.cj_stream.specs.Lines.{NoLf}
 
 -- LF ended each line but perhaps the last, which is then not empty
 abbrev pub AreEnded : List Line → Type 0

@@ -1,5 +1,5 @@
--- What is put to a sink: a header, or a feature beside its header.
-use Rattle.std.specs.Prelude.{ℕ, List, Bool, ◌==◌, if◌then◌else◌, Option, Some, None, is_some}
+-- The items that a header, a feature and a line are.
+use Rattle.std.specs.Prelude.{ℕ, List, Bool, ◌==◌, if◌then◌else◌, Some, None}
 use Rattle.cj_spans.specs.Tree.{Tree, no_items, array}
 use Rattle.cj_spans.specs.Judgement.{Judgement, spelled, broken, sunk}
 use Rattle.cj_spans.proofs.Judgements.{judgement}
@@ -7,21 +7,8 @@ use Rattle.cj_feature.specs.declared.header.Header.{Header}
 use Rattle.cj_feature.specs.declared.feature.Feature.{Feature}
 use Rattle.cj_feature.specs.HeaderView.{header_tree, header_line}
 use Rattle.cj_feature.specs.View.{feature_tree, feature_line, feature_header}
-use Rattle.cj_stream.specs.Lines.{Line, raw}
-
--- a line, the tree that it spells, and, if it is a feature, the tree of its header
-pub record Item : Type 0 where
-  pub line : Line
-  pub tree : Tree
-  pub header : Option Tree
-
--- the bytes of an item are those of its line
-abbrev pub raw_item : Item → List ℕ
-raw_item i = raw i.line
-
--- an item is a feature, or else the header
-abbrev pub is_feature : Item → Bool
-is_feature i = is_some i.header
+use Rattle.cj_stream.specs.Meaning.Item.{Item}
+use Rattle.cj_stream.specs.Meaning.Lines.{Line}
 
 -- the item that a header is, and the one that a feature is, with or without LF
 abbrev pub header_item : Header → Bool → Item

@@ -9,18 +9,20 @@ use Rattle.cj_spans.specs.Sound.{AreOf}
 use Rattle.cj_feature.specs.declared.header.reading.HeaderParts.{HeaderParts}
 use Rattle.cj_feature.specs.Reached.{AreMarks}
 use Rattle.cj_feature.specs.Shown.{ArePartsOf, parts_box}
-use Rattle.cj_stream.specs.Criteria.{needs_box}
+use Rattle.cj_stream.specs.Meaning.Criteria.{needs_box}
 use Rattle.cj_stream.specs.Item.{tree_of}
-use Rattle.cj_stream.specs.Options.{OptionSet}
+use Rattle.cj_stream.specs.Meaning.Options.{OptionSet}
 use Rattle.cj_stream.specs.Reading.{Reading}
 use Rattle.cj_stream.specs.Scanning.{Scanning}
-use Rattle.cj_stream.specs.Verdict.{Rules, Refuse, is_blank_line, verdict_at, tree_verdict}
+use Rattle.cj_stream.specs.Meaning.Rules.{Rules}
+use Rattle.cj_stream.specs.Meaning.Verdict.{Invalid}
+use Rattle.cj_stream.specs.Verdict.{is_blank_line, verdict_at, tree_verdict}
 
 -- what a content is says this of its verdict
 abbrev pub Decides : Rules → ℕ → Tree → List ℕ → Result (Unit {0}) Finding → Type 0
 Decides rules number header c (Ok x) =
     verdict_at rules number header c ≡ tree_verdict rules number header (tree_of rules.limits.depth c)
-Decides rules number header c (Err f) = verdict_at rules number header c ≡ Refuse f.place f.reason
+Decides rules number header c (Err f) = verdict_at rules number header c ≡ Invalid f.place f.reason
 
 -- and it says so under any rules with this depth limit, on a line with any number and any header, unless it is blank
 abbrev pub Says : List ℕ → ℕ → Result (Unit {0}) Finding → Type 0

@@ -8,7 +8,6 @@ pub mod ChoiceRows
 pub mod CountReports
 pub mod CountRows
 pub mod CountSink
-pub mod Criteria
 pub mod Cut
 pub mod Delivering
 pub mod Device
@@ -19,16 +18,16 @@ pub mod Extent
 pub mod Feeding
 pub mod Front
 pub mod GoingRows
-pub mod Headline
 pub mod Ids
 pub mod IsGood
 pub mod IsLines
 pub mod Item
+pub mod Judged
 pub mod Judging
 pub mod LinePieces
 pub mod LineRows
 pub mod Lines
-pub mod Options
+pub mod Meaning
 pub mod Output
 pub mod Parts
 pub mod Query

@@ -7,14 +7,18 @@ use Rattle.cj_stream.specs.declared.ending.LineEnd.TheVariants.{Complete, WriteF
 use Rattle.cj_stream.specs.declared.line_pieces.LinesOutcome.{LinesOutcome}
 use Rattle.cj_stream.specs.declared.pieces.PiecesOutcome.{PiecesOutcome}
 use Rattle.cj_stream.specs.declared.report_sink.Report.{Report}
-use Rattle.cj_stream.specs.Bound.{IsBounded, IsExact}
-use Rattle.cj_stream.specs.Cut.{joined, AppendsMore}
+use Rattle.cj_stream.specs.Meaning.Bound.{IsBounded}
+use Rattle.cj_stream.specs.Bound.{IsExact}
+use Rattle.cj_stream.specs.Meaning.Lines.{joined}
+use Rattle.cj_stream.specs.Cut.{AppendsMore}
 use Rattle.cj_stream.specs.Ending.{line_end}
-use Rattle.cj_stream.specs.Item.{Item, raw_item}
+use Rattle.cj_stream.specs.Meaning.Item.{Item, raw_item}
 use Rattle.cj_stream.specs.Lines.{whole}
-use Rattle.cj_stream.specs.Headline.{Fate, Outputs}
-use Rattle.cj_stream.specs.Sink.{SinkLaw, Took, prefixes, TookFront, LeavesNext, AppendsPart, HasRisen}
-use Rattle.cj_stream.specs.Verdict.{Rules, kept, kept_first, reported, reported_first, ending}
+use Rattle.cj_stream.specs.Meaning.Headline.{Fate}
+use Rattle.cj_stream.specs.Meaning.Outputs.{Outputs, Took}
+use Rattle.cj_stream.specs.Sink.{SinkLaw, prefixes, TookFront, LeavesNext, AppendsPart, HasRisen}
+use Rattle.cj_stream.specs.Meaning.Rules.{Rules}
+use Rattle.cj_stream.specs.Verdict.{kept, kept_first, reported, reported_first, ending}
 
 -- what is kept of a stream, but for what is kept of its first n lines; and what is written of that
 abbrev pub kept_after : Rules → ℕ → List ℕ → List Item

@@ -3,7 +3,8 @@ use Rattle.std.specs.Prelude.{ℕ, List, Option, Result}
 use Rattle.std.specs.Io.KnownBytes.{Appends}
 use Rattle.cj_stream.specs.declared.output.Output.{Output}
 use Rattle.cj_stream.specs.declared.output.WriteFault.{WriteFault}
-use Rattle.cj_stream.specs.Item.{raw_item}
+use Rattle.cj_stream.specs.Meaning.Item.{raw_item}
+use Rattle.cj_stream.specs.Meaning.Outputs.{Channel}
 use Rattle.cj_stream.specs.Sink.{SinkLaw, AppendsPart}
 
 -- the writer
@@ -18,12 +19,7 @@ output_failures o = o.failures
 abbrev pub flush_answer : {W : Type 0} → Output W → Option (Result (Unit {0}) WriteFault)
 flush_answer o = o.noted
 
--- what is known of an output: the bytes that its writer holds, if it tells them, and what its calls have answered
-pub record Channel : Type 0 where
-  pub bytes : Option (List ℕ)
-  pub failures : ℕ
-  pub flushed : Option (Result (Unit {0}) WriteFault)
-
+-- what is known of an output: what its writer tells, and what its calls have answered
 abbrev pub channel : {W : Type 0} → (W → Option (List ℕ)) → Output W → Channel
 channel contents o = record {
   bytes = contents (output_writer o);

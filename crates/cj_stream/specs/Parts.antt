@@ -8,10 +8,13 @@ use Rattle.cj_stream.specs.declared.ending.End.{End}
 use Rattle.cj_stream.specs.declared.ending.End.TheVariants.{Complete, Refused, ReadFault, ReadLimit, WriteFault, Memory}
 use Rattle.cj_stream.specs.declared.report_sink.Report.{Report}
 use Rattle.cj_stream.specs.declared.running.Outcome.{Outcome}
-use Rattle.cj_stream.specs.Lines.{newline, NoLf, whole}
+use Rattle.cj_stream.specs.Meaning.Lines.{newline}
+use Rattle.cj_stream.specs.Meaning.Judged.{JudgedLine}
+use Rattle.cj_stream.specs.Lines.{NoLf, whole}
 use Rattle.cj_stream.specs.Tallied.{capped}
 use Rattle.cj_stream.specs.TallySink.{RangesFront, Tally}
-use Rattle.cj_stream.specs.Verdict.{Rules, ending}
+use Rattle.cj_stream.specs.Meaning.Rules.{Rules}
+use Rattle.cj_stream.specs.Verdict.{ending}
 
 -- the stream of a first line with this content, and then these bytes
 abbrev pub headed : List ℕ → List ℕ → List ℕ
@@ -39,6 +42,10 @@ moved_end n Memory = Memory
 -- a report of the second part, seen as one of the stream
 abbrev pub moved_report : ℕ → Report → Report
 moved_report n r = record { line = r.line + n; place = r.place; reason = r.reason }
+
+-- a judged line of the second part, seen as one of the stream
+abbrev pub moved_line : ℕ → JudgedLine → JudgedLine
+moved_line n j = record j { number = j.number + n }
 
 -- the greater of each two counts
 abbrev pub greater_peaks : Peaks → Peaks → Peaks

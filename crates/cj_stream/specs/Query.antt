@@ -3,9 +3,9 @@ use Rattle.std.specs.Prelude.{ℕ, List, Option, map, option_map, vec_items, str
 use Rattle.cj_budget.specs.Limits.{LimitPair}
 use Rattle.cj_stream.specs.declared.query.Query.{Query}
 use Rattle.cj_stream.specs.declared.query.bounds.Bounds.{Bounds}
-use Rattle.cj_stream.specs.Criteria.{Criteria, Box}
-use Rattle.cj_stream.specs.Options.{OptionSet}
-use Rattle.cj_stream.specs.Verdict.{Rules}
+use Rattle.cj_stream.specs.Meaning.Criteria.{Criteria, Box}
+use Rattle.cj_stream.specs.Meaning.Options.{OptionSet}
+use Rattle.cj_stream.specs.Meaning.Rules.{Rules}
 
 -- the box of these bounds
 abbrev pub box_of : Bounds → Box

@@ -4,7 +4,7 @@ use Rattle.std.specs.Prelude.{◌≡◌, ℕ, ◌*◌, ◌^◌, List, [], ◌∷
 use Rattle.std.specs.Prelude.{slice_set}
 use Rattle.cj_spans.specs.declared.token.Kind.TheVariants.{Number, Text}
 use Rattle.cj_spans.specs.Tree.{Tree, Atom, Items, Members, scalar, array, object, no_items, item, no_members, member}
-use Rattle.cj_stream.specs.Criteria.{Criteria, Box, everything, holds}
+use Rattle.cj_stream.specs.Meaning.Criteria.{Criteria, Box, everything, holds}
 use Rattle.cj_stream.specs.Adding.{no_types}
 
 -- ---- trees

@@ -11,12 +11,17 @@ use Rattle.cj_stream.specs.declared.store.Store.{Store}
 use Rattle.cj_spans.specs.declared.reason.Reason.TheVariants.{NoHeader, LineTooLong}
 use Rattle.cj_stream.specs.declared.ending.End.{End}
 use Rattle.cj_stream.specs.declared.ending.End.TheVariants.{Refused, WriteFault, Memory}
-use Rattle.cj_stream.specs.Lines.{Line, lines, closed, begun, begun_later, ended_line, first_content, later_of}
-use Rattle.cj_stream.specs.Item.{Item, is_feature, tree_of, item_at}
+use Rattle.cj_stream.specs.Meaning.Lines.{Line, lines, closed, begun, ended_line, first_content, later_of}
+use Rattle.cj_stream.specs.Lines.{begun_later}
+use Rattle.cj_stream.specs.Meaning.Item.{Item, is_feature}
+use Rattle.cj_stream.specs.Item.{tree_of, item_at}
 use Rattle.cj_stream.specs.Query.{rules_for}
-use Rattle.cj_stream.specs.Verdict.{Rules, Verdict, Refuse, Blank, LeftOut, Valid, verdict_at, verdict}
-use Rattle.cj_stream.specs.Verdict.{item_after, is_kept, goes_on, refusal_in, kept_from, reported_from, judged}
-use Rattle.cj_stream.specs.Bound.{greatest, held_length}
+use Rattle.cj_stream.specs.Meaning.Rules.{Rules}
+use Rattle.cj_stream.specs.Meaning.Verdict.{Verdict, Invalid, Blank, LeftOut, Kept}
+use Rattle.cj_stream.specs.Verdict.{verdict_at, verdict, item_after, is_kept, goes_on, refusal_in, kept_from}
+use Rattle.cj_stream.specs.Verdict.{reported_from, judged}
+use Rattle.cj_stream.specs.Meaning.Bound.{greatest}
+use Rattle.cj_stream.specs.Bound.{held_length}
 use Rattle.cj_stream.specs.Sink.{SinkLaw, WithSink, TookMore}
 
 -- the rules, the content of the first line, the content of a later line that has begun, how many lines were dealt with,
@@ -72,7 +77,7 @@ pub record IsBegun (f : Reading) (c : List ℕ) : Type 0 where
 
 -- the verdict on the begun line, by what is known of it
 abbrev pub told_verdict : Reading → Verdict
-told_verdict f = if f.dropped then Refuse f.rules.limits.line LineTooLong else next_verdict f (begun_of f)
+told_verdict f = if f.dropped then Invalid f.rules.limits.line LineTooLong else next_verdict f (begun_of f)
 
 -- the line limit is in range, both lists have it, and no more features are kept, nor lines refused, than there are
 -- lines
@@ -138,14 +143,14 @@ pub record IsLeft (f g : Reading) : Type 0 where
 
 -- what a line is judged as: its number, whether reading goes on after it if it is refused, the verdict on it, and the
 -- item that it is
-pub data JudgedLine : Type 0 where
-  JudgedAs : ℕ → Bool → Verdict → Item → JudgedLine
+pub data DueLine : Type 0 where
+  JudgedAs : ℕ → Bool → Verdict → Item → DueLine
 
 -- the line that comes next; and the begun line, with or without LF
-abbrev pub judged_next : Reading → Bool → Verdict → Line → JudgedLine
+abbrev pub judged_next : Reading → Bool → Verdict → Line → DueLine
 judged_next f on v l = JudgedAs (f.lines + 1) on v (next_item f l)
 
-abbrev pub judged_begun : Reading → Bool → Verdict → Bool → JudgedLine
+abbrev pub judged_begun : Reading → Bool → Verdict → Bool → DueLine
 judged_begun f on v lf = judged_next f on v (record { content = begun_of f; lf = lf })
 
 -- a line was refused, which would be this end: where reading goes on after it, it is dealt with, and else it is the end
@@ -154,25 +159,25 @@ Refuses true e old answer new = (answer ≡ Ok tt) × Passes false true old new
 Refuses false e old answer new = (answer ≡ Err e) × (new ≡ old)
 
 -- what comes of a line, by its verdict
-abbrev pub Deals : {S : Type 0} → SinkLaw S → JudgedLine → WithSink Reading S → Result (Unit {0}) End
+abbrev pub Deals : {S : Type 0} → SinkLaw S → DueLine → WithSink Reading S → Result (Unit {0}) End
     → WithSink Reading S → Type 0
-Deals law (JudgedAs number on (Refuse place reason) i) old answer new =
+Deals law (JudgedAs number on (Invalid place reason) i) old answer new =
     Refuses on (Refused number place reason) old.state answer new.state × (new.sink ≡ old.sink)
 Deals law (JudgedAs number on Blank i) old answer new =
     (answer ≡ Ok tt) × Passes false false old.state new.state × (new.sink ≡ old.sink)
 Deals law (JudgedAs number on LeftOut i) old answer new =
     (answer ≡ Ok tt) × Passes false false old.state new.state × (new.sink ≡ old.sink)
-Deals law (JudgedAs number on Valid i) old answer new =
+Deals law (JudgedAs number on Kept i) old answer new =
     MatchResult answer (λ _. Passes true false old.state new.state × law.takes old.sink i new.sink)
     (λ e. (e ≡ WriteFault) × IsLeft old.state new.state × law.leaves old.sink i new.sink)
 
 -- what comes of a line with this verdict, or no memory was granted for later lines, and nothing comes of it; so it is
 -- only with a valid first line that LF ended
-abbrev pub Settles : {S : Type 0} → SinkLaw S → JudgedLine → WithSink Reading S → Result (Unit {0}) End
+abbrev pub Settles : {S : Type 0} → SinkLaw S → DueLine → WithSink Reading S → Result (Unit {0}) End
     → WithSink Reading S → Type 0
 Settles law (JudgedAs number on v i) old answer new = Deals law (JudgedAs number on v i) old answer new
     ⊎ ((answer ≡ Err Memory) × IsLeft old.state new.state × (new.sink ≡ old.sink) × (old.state.lines ≡ 0)
-    × (v ≡ Valid) × (i.line.lf ≡ true))
+    × (v ≡ Kept) × (i.line.lf ≡ true))
 
 -- these bytes have been read, and no line of them was the end
 pub record Reads (f : Reading) (p : List ℕ) : Type 0 where
@@ -219,7 +224,7 @@ pub record LacksMemory (rules : Rules) (q : List ℕ) (n : ℕ) : Type 0 where
   pub none : n ≡ 0
   pub header : List ℕ
   pub first : slice_get (lines q) 0 ≡ Some (ended_line header)
-  pub valid : verdict rules [] header ≡ Valid
+  pub valid : verdict rules [] header ≡ Kept
 
 -- where reading stopped: after the lines that LF ended in these bytes, of all bytes, which are so many lines
 pub record StopAt : Type 0 where
@@ -239,7 +244,7 @@ lines_done at = map ended_line (closed at.done)
 abbrev pub HasCause : {S : Type 0} → SinkLaw S → StopAt → S → S → End → Type 0
 HasCause law at s t (Refused number place reason) =
     (l : Line) × IsNext at.rules.limits at.done at.all l × (number ≡ at.lines + 1)
-    × (verdict at.rules (lines_done at) l.content ≡ Refuse place reason) × (t ≡ s)
+    × (verdict at.rules (lines_done at) l.content ≡ Invalid place reason) × (t ≡ s)
     × (goes_on at.rules number ≡ false)
 HasCause law at s t WriteFault =
     (l : Line) × IsNext at.rules.limits at.done at.all l

@@ -6,7 +6,8 @@ use Rattle.cj_stream.specs.declared.report_sink.CountReports.{CountReports}
 use Rattle.cj_stream.specs.declared.report_sink.Report.{Report}
 use Rattle.cj_stream.specs.Cut.{InPieces, all_of, given_of}
 use Rattle.cj_stream.specs.Lines.{whole}
-use Rattle.cj_stream.specs.Sink.{Took, prefixes, TookFront}
+use Rattle.cj_stream.specs.Meaning.Outputs.{Took}
+use Rattle.cj_stream.specs.Sink.{prefixes, TookFront}
 use Rattle.cj_stream.specs.Verdict.{Stream, Stretch, reported, reported_first}
 
 -- a report goes up a count by one, which stops at the greatest u64

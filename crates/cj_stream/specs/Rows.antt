@@ -4,9 +4,10 @@ use Rattle.cj_spans.specs.declared.reason.Reason.TheVariants.{NoHeader, LineTooL
 use Rattle.cj_spans.specs.declared.reason.Reason.TheVariants.{MissingMember, IdNotFound}
 use Rattle.cj_stream.specs.declared.ending.End.{End}
 use Rattle.cj_stream.specs.declared.ending.End.TheVariants.{Complete, Refused}
-use Rattle.cj_stream.specs.Criteria.{everything}
-use Rattle.cj_stream.specs.Options.{usual_options}
-use Rattle.cj_stream.specs.Verdict.{Rules, output, ending}
+use Rattle.cj_stream.specs.Meaning.Criteria.{everything}
+use Rattle.cj_stream.specs.Meaning.Options.{usual_options}
+use Rattle.cj_stream.specs.Meaning.Rules.{Rules}
+use Rattle.cj_stream.specs.Verdict.{output, ending}
 
 -- a small header, a small feature, and one whose id no city object has
 abbrev pub small_header : List ℕ

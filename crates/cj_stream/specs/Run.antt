@@ -7,15 +7,21 @@ use Rattle.cj_stream.specs.declared.ending.End.{End}
 use Rattle.cj_stream.specs.declared.ending.End.TheVariants.{Complete, Refused, ReadFault, ReadLimit, WriteFault, Memory}
 use Rattle.cj_stream.specs.declared.report_sink.Report.{Report}
 use Rattle.cj_stream.specs.declared.running.Outcome.{Outcome}
-use Rattle.cj_stream.specs.Lines.{Line, lines, raw, whole}
-use Rattle.cj_stream.specs.Item.{is_feature}
-use Rattle.cj_stream.specs.Verdict.{Rules, refusal_in, judged, good, is_kept, kept, ending, output, output_first}
-use Rattle.cj_stream.specs.Verdict.{reported, verdict, Stream, stream_of, UpTo, stretch}
-use Rattle.cj_stream.specs.Bound.{IsBelow, IsBounded, IsExact, exact_peaks, first_lines}
+use Rattle.cj_stream.specs.Meaning.Lines.{Line, lines, raw}
+use Rattle.cj_stream.specs.Lines.{whole}
+use Rattle.cj_stream.specs.Meaning.Item.{is_feature}
+use Rattle.cj_stream.specs.Meaning.Rules.{Rules}
+use Rattle.cj_stream.specs.Verdict.{refusal_in, judged, good, is_kept, kept, ending, output, output_first, reported}
+use Rattle.cj_stream.specs.Verdict.{verdict, Stream, stream_of, UpTo, stretch}
+use Rattle.cj_stream.specs.Bound.{IsBelow, IsExact, exact_peaks, first_lines}
+use Rattle.cj_stream.specs.Meaning.Bound.{IsBounded}
+use Rattle.cj_stream.specs.Cut.{IsUnread}
+use Rattle.cj_stream.specs.Meaning.Headline.{Headline, fate_of}
 use Rattle.cj_stream.specs.Engine.{EngineState, Counts, Delivers, lines_of, refused_of, peaks_of}
 use Rattle.cj_stream.specs.Reading.{LacksMemory}
 use Rattle.cj_stream.specs.ReportSink.{Notes, NotesRun}
-use Rattle.cj_stream.specs.Sink.{SinkLaw, Took, prefixes, TookFront, LeavesNext, AppendsPart}
+use Rattle.cj_stream.specs.Sink.{SinkLaw, prefixes, TookFront, LeavesNext, AppendsPart}
+use Rattle.cj_stream.specs.Meaning.Outputs.{Outputs, Took}
 
 -- a run: the rules that its lines are judged by, the bytes that it read, and how it went
 pub record Run : Type 0 where
@@ -146,6 +152,23 @@ Writes r (Refused number place reason) old new = Appends old new (output r.rules
 Writes r WriteFault old new = AppendsPart old new (output r.rules r.bytes)
 Writes r Memory old new = AppendsPart old new (output r.rules r.bytes)
 Writes r cut_short old new = Appends old new (output r.rules (whole r.bytes))
+
+-- a run whose memory was refused before its first read: nothing was read, held, written or reported
+pub record StopsUnread {N : Type 0} (run : Run) (old new : Outputs N) : Type 0 where
+  pub ended : run.outcome.ended ≡ Memory
+  pub unread : run.read ≡ []
+  pub peaks : run.outcome.peaks ≡ record { bytes = 0; tokens = 0; depth = 0 }
+  pub unwritten : Keeps old.channel.bytes new.channel.bytes
+  pub unreported : new.reports ≡ old.reports
+
+-- The headline of a run over the bytes that a reader gave, unless a read failed or the reads ran out. It is that of each
+-- stream that begins with these bytes, and of which they are all if the reader was at its end. Or memory was refused
+-- before the first read.
+abbrev pub HeadlineOfRun : {N : Type 0} → (N → Report → N → Type 0) → Run → Type 0 → Outputs N → Outputs N → Type 0
+HeadlineOfRun notes run at_end old new =
+    StopsUnread run old new
+    ⊎ ((rest : List ℕ) → (at_end → rest ≡ []) → IsUnread run.outcome.ended
+    → Headline notes (fate_of run.rules (run.read ++ rest) run.read run.outcome.ended run.outcome.peaks) old new)
 
 -- the bytes that a writer got where the write of the line after these failed: their output, and a prefix of that line,
 -- which is kept

@@ -10,9 +10,10 @@ use Rattle.cj_spans.specs.declared.token.Token.{Token}
 use Rattle.cj_spans.specs.Judgement.{judged_size, judged_nest}
 use Rattle.cj_spans.proofs.Judgements.{judgement}
 use Rattle.cj_stream.specs.declared.desk.Desk.{Desk}
-use Rattle.cj_stream.specs.Lines.{closed, first_of, later_of}
+use Rattle.cj_stream.specs.Meaning.Lines.{closed, first_of, later_of}
 use Rattle.cj_stream.specs.Reading.{Reading, IsBegun}
-use Rattle.cj_stream.specs.Bound.{tree_size, tree_nest, is_readable, of_first, greatest}
+use Rattle.cj_stream.specs.Bound.{tree_size, tree_nest, is_readable}
+use Rattle.cj_stream.specs.Meaning.Bound.{of_first, greatest}
 
 -- the tokens of the first line, those of the line that is judged, and its open containers
 pub record Scanning : Type 0 where

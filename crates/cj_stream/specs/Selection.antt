@@ -1,7 +1,8 @@
 -- Lines that are left out of a stream.
 use Rattle.std.specs.Prelude.{◌≡◌, List, [], ◌∷◌, All, Bool, false, if◌then◌else◌, map}
-use Rattle.cj_stream.specs.Lines.{Line}
-use Rattle.cj_stream.specs.Verdict.{Rules, is_kept, verdict}
+use Rattle.cj_stream.specs.Meaning.Lines.{Line}
+use Rattle.cj_stream.specs.Meaning.Rules.{Rules}
+use Rattle.cj_stream.specs.Verdict.{is_kept, verdict}
 
 -- some lines, each with whether it stays: all of them, and those that stay
 abbrev pub all_lines : List (Line × Bool) → List Line

@@ -1,7 +1,8 @@
 -- The law of a sink, and what its calls do to it, one after another.
 use Rattle.std.specs.Prelude.{◌≡◌, ℕ, List, [], ◌∷◌, ◌++◌, Option, Result, Ok, Err}
 use Rattle.std.specs.Io.KnownBytes.{Appends}
-use Rattle.cj_stream.specs.Item.{Item}
+use Rattle.cj_stream.specs.Meaning.Item.{Item}
+use Rattle.cj_stream.specs.Meaning.Outputs.{Took}
 pub use Rattle.cj_budget.specs.Counts.{HasRisen, counted}
 
 -- the law of a sink: what one whole item makes of it, what a fault may leave of it, and how often its device has failed
@@ -26,11 +27,6 @@ with_sink x s = record { state = x; sink = s }
 abbrev pub RisesOnErr : {T E : Type 0} → Result T E → ℕ → ℕ → Type 0
 RisesOnErr (Ok x) old new = new ≡ old
 RisesOnErr (Err e) old new = HasRisen old new
-
--- each of these in turn makes a step
-abbrev pub Took : {S X : Type 0} → (S → X → S → Type 0) → S → List X → S → Type 0
-Took step old [] new = new ≡ old
-Took {S} step old (x ∷ xs) new = (between : S) × step old x between × Took step between xs new
 
 -- it had taken some items, and has now taken these others, which begin with them
 abbrev pub TookMore : {S X : Type 0} → (S → X → S → Type 0) → List X → List X → S → S → Type 0

@@ -10,8 +10,8 @@ use Rattle.cj_geometry.specs.ObjectTypes.{ObjectRow, type_count}
 use Rattle.cj_feature.specs.Feature.{templates_of}
 use Rattle.cj_feature.specs.Typed.{type_row, number_on}
 use Rattle.cj_feature.specs.Walks.{object_geometries}
-use Rattle.cj_stream.specs.Criteria.{objects_of, vertices_of}
-use Rattle.cj_stream.specs.Item.{Item}
+use Rattle.cj_stream.specs.Meaning.Criteria.{objects_of, vertices_of}
+use Rattle.cj_stream.specs.Meaning.Item.{Item}
 
 -- ---- counts
 

@@ -1,14 +1,13 @@
--- Which lines are refused, which are blank, and what is kept of a stream.
+-- What is kept, written and reported of a stream, line after line, as functions. The laws say that these are what the
+-- list of its judged lines says.
 use Rattle.std.specs.Prelude.{ℕ, ◌+◌, List, [], ◌∷◌, ◌++◌, Bool, true, false, not, ◌&&◌, ◌||◌, ◌==◌, nat_lt}
 use Rattle.std.specs.Prelude.{if◌then◌else◌, Option, Some, None, length, take, map, unwrap_or, is_some}
 use Rattle.std.specs.List.{filter, flat_map, list_all}
 use Rattle.std.specs.Str.{is_utf8}
 use Rattle.std.specs.Str.Lossy.{utf8_valid_len}
 use Rattle.cj_budget.specs.Limits.{LimitPair}
-use Rattle.cj_spans.specs.declared.reason.Reason.{Reason}
 use Rattle.cj_spans.specs.declared.reason.Reason.TheVariants.{NoHeader, LineTooLong, NotUtf8, Syntax, TooDeep}
 use Rattle.cj_spans.specs.declared.finding.Finding.{Finding}
-use Rattle.cj_spans.specs.Signs.{carriage_return, space, tab}
 use Rattle.cj_spans.specs.Finding.{least}
 use Rattle.cj_spans.specs.Tree.{Tree}
 use Rattle.cj_spans.specs.Judgement.{Judgement, spelled, broken, sunk}
@@ -18,28 +17,12 @@ use Rattle.cj_feature.specs.Feature.{feature as feature_findings}
 use Rattle.cj_stream.specs.declared.ending.End.{End}
 use Rattle.cj_stream.specs.declared.ending.End.TheVariants.{Complete, Refused}
 use Rattle.cj_stream.specs.declared.report_sink.Report.{Report}
-use Rattle.cj_stream.specs.Criteria.{Criteria, needs_box, holds}
-use Rattle.cj_stream.specs.Lines.{Line, lines, closed, begun, ended_line, last_line}
-use Rattle.cj_stream.specs.Item.{Item, raw_item, is_feature, tree_of, item_at}
-use Rattle.cj_stream.specs.Options.{OptionSet}
-
--- what lines are judged by: the limits, what is asked of features, and what is told beside these
-pub record Rules : Type 0 where
-  pub limits : LimitPair
-  pub criteria : Criteria
-  pub options : OptionSet
-
--- a line is refused at a byte of its content for a reason, or blank, or a valid feature that is not asked for, or valid
--- and to be kept
-pub data Verdict : Type 0 where
-  Refuse : ℕ → Reason → Verdict
-  Blank : Verdict
-  LeftOut : Verdict
-  Valid : Verdict
-
--- space, tab and CR
-abbrev pub is_blank_byte : ℕ → Bool
-is_blank_byte b = b == space || (b == tab || b == carriage_return)
+use Rattle.cj_stream.specs.Meaning.Criteria.{needs_box, holds}
+use Rattle.cj_stream.specs.Meaning.Lines.{Line, lines, closed, begun, ended_line, last_line}
+use Rattle.cj_stream.specs.Meaning.Item.{Item, raw_item, is_feature}
+use Rattle.cj_stream.specs.Item.{tree_of, item_at}
+use Rattle.cj_stream.specs.Meaning.Rules.{Rules}
+use Rattle.cj_stream.specs.Meaning.Verdict.{Verdict, Invalid, Blank, LeftOut, Kept, is_blank_byte}
 
 -- a later line of such bytes alone is blank
 abbrev pub is_blank_line : ℕ → List ℕ → Bool
@@ -62,8 +45,8 @@ is_kept_if_valid rules number header t = number == 1 || is_asked rules header t
 
 -- the verdict by the least of some findings; where there is none, by whether the tree is asked for
 abbrev pub by_least : Bool → Option Finding → Verdict
-by_least keep None = if keep then Valid else LeftOut
-by_least keep (Some f) = Refuse f.place f.reason
+by_least keep None = if keep then Kept else LeftOut
+by_least keep (Some f) = Invalid f.place f.reason
 
 -- the verdict on a line of this tree
 abbrev pub tree_verdict : Rules → ℕ → Tree → Tree → Verdict
@@ -73,16 +56,16 @@ tree_verdict rules number header t =
 -- the verdict on bytes of UTF-8, by what they are as a JSON text under a depth limit
 abbrev pub text_verdict : {c : List ℕ} {depth : ℕ} → Rules → ℕ → Tree → Judgement c depth → Verdict
 text_verdict rules number header (spelled tree json shallow) = tree_verdict rules number header tree
-text_verdict rules number header (broken place syntax shallow) = Refuse place Syntax
-text_verdict rules number header (sunk place deep) = Refuse place TooDeep
+text_verdict rules number header (broken place syntax shallow) = Invalid place Syntax
+text_verdict rules number header (sunk place deep) = Invalid place TooDeep
 
 -- The verdict on a content, by the rules, the line's number and the tree of the header: too long, no UTF-8, blank, no
 -- JSON or nested too deep, or by its findings. Each content has one judgement, whose type says what it is; the proof
 -- that it has one computes it.
 unfoldable pub verdict_at : Rules → ℕ → Tree → List ℕ → Verdict
 verdict_at rules number header content =
-    if nat_lt rules.limits.line (length content) then Refuse rules.limits.line LineTooLong
-    else (if not (is_utf8 content) then Refuse (utf8_valid_len content) NotUtf8
+    if nat_lt rules.limits.line (length content) then Invalid rules.limits.line LineTooLong
+    else (if not (is_utf8 content) then Invalid (utf8_valid_len content) NotUtf8
     else (if is_blank_line number content then Blank
     else text_verdict rules number header (judgement content rules.limits.depth)))
 
@@ -109,25 +92,25 @@ goes_on rules number = nat_lt 1 number && rules.options.keep_going
 
 -- the end that a refusal makes, where reading does not go on after it
 abbrev pub refusal_of : Rules → ℕ → Verdict → Option End
-refusal_of rules number (Refuse place reason) =
+refusal_of rules number (Invalid place reason) =
     if goes_on rules number then None else Some (Refused number place reason)
 refusal_of rules number Blank = None
 refusal_of rules number LeftOut = None
-refusal_of rules number Valid = None
+refusal_of rules number Kept = None
 
 -- what is reported of a line with this number, where reading goes on after it: its refusal, if it is refused
-abbrev pub report_of : ℕ → Verdict → List Report
-report_of number (Refuse place reason) = record { line = number; place = place; reason = reason } ∷ []
-report_of number Blank = []
-report_of number LeftOut = []
-report_of number Valid = []
+abbrev pub reports_of : ℕ → Verdict → List Report
+reports_of number (Invalid place reason) = record { line = number; place = place; reason = reason } ∷ []
+reports_of number Blank = []
+reports_of number LeftOut = []
+reports_of number Kept = []
 
 -- a valid line that is asked for is kept
 abbrev pub is_kept : Verdict → Bool
-is_kept (Refuse place reason) = false
+is_kept (Invalid place reason) = false
 is_kept Blank = false
 is_kept LeftOut = false
-is_kept Valid = true
+is_kept Kept = true
 
 -- the first refusal that is an end, among lines that come after others
 abbrev pub refusal_from : Rules → List Line → List Line → Option End
@@ -136,7 +119,7 @@ refusal_from rules before (l ∷ ls) =
     let first = refusal_of rules (length before + 1) (verdict rules before l.content) in
     if is_some first then first else refusal_from rules (before ++ l ∷ []) ls
 
--- the longest prefix without a refusal that is an end
+-- the handled lines: the longest prefix without a refusal that is an end
 abbrev pub good_from : Rules → List Line → List Line → List Line
 good_from rules before [] = []
 good_from rules before (l ∷ ls) =
@@ -154,13 +137,14 @@ kept_from rules before (l ∷ ls) =
 abbrev pub reported_from : Rules → List Line → List Line → List Report
 reported_from rules before [] = []
 reported_from rules before (l ∷ ls) =
-    report_of (length before + 1) (verdict rules before l.content) ++ reported_from rules (before ++ l ∷ []) ls
+    reports_of (length before + 1) (verdict rules before l.content) ++ reported_from rules (before ++ l ∷ []) ls
 
 -- the first such refusal among the lines of a stream, or of a prefix of them
 abbrev pub refusal_in : Rules → List Line → Option End
 refusal_in rules ls = refusal_from rules [] ls
 
--- the lines up to the first whose refusal is the end; where reading goes on, all of them if the first is not refused
+-- the handled lines of a stream: those before the first whose refusal is the end. If reading goes on, these are all
+-- lines, unless the first is invalid.
 abbrev pub good : Rules → List ℕ → List Line
 good rules s = good_from rules [] (lines s)
 

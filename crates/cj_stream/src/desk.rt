@@ -16,11 +16,12 @@ ghost use Rattle.cj_budget.specs.Limits.{InLine};
 ghost use Rattle.cj_spans.specs.Marks.{AreUnmarked};
 ghost use Rattle.cj_spans.specs.Scan.{KeepsLaw};
 ghost use Rattle.cj_feature.specs.HeaderView.{header_tree, has_box};
-ghost use Rattle.cj_stream.specs.Criteria.{needs_box};
+ghost use Rattle.cj_stream.specs.Meaning.Criteria.{needs_box};
 ghost use Rattle.cj_stream.specs.Item.{tree_of, item_at};
 ghost use Rattle.cj_stream.specs.Query.{criteria};
 ghost use Rattle.cj_stream.specs.Sink.{HasRisen};
-ghost use Rattle.cj_stream.specs.Verdict.{Valid, Refuse, verdict_at, is_blank_byte};
+ghost use Rattle.cj_stream.specs.Meaning.Verdict.{Kept, Invalid, is_blank_byte};
+ghost use Rattle.cj_stream.specs.Verdict.{verdict_at};
 ghost use Rattle.cj_stream.specs.Reading.{JudgedAs};
 
 use crate::judge::{is_blank, judge};
@@ -108,9 +109,9 @@ impl<'q> Desk<'q> {
             (rules_for self.old.limits self.old.query.now self.old.options) header_parts) }
         ensures verdict { MatchResult result
             (λ _. verdict_at (rules_for self.old.limits self.old.query.now self.old.options) 1
-            (tree_of self.old.limits.depth content.now) content.now ≡ Valid)
+            (tree_of self.old.limits.depth content.now) content.now ≡ Kept)
             (λ f. verdict_at (rules_for self.old.limits self.old.query.now self.old.options) 1
-            (tree_of self.old.limits.depth content.now) content.now ≡ Refuse f.place f.reason) }
+            (tree_of self.old.limits.depth content.now) content.now ≡ Invalid f.place f.reason) }
         ensures holds { OnOk result (HoldsTree content.now (tree_lists self.old.header_tokens self.old.opened)
             (tree_lists self.new.header_tokens self.new.opened)) }
         ensures law { KeepsLaw content.now self.old.header_tokens self.new.header_tokens

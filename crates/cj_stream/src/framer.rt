@@ -30,18 +30,21 @@ ghost use Rattle.cj_spans.specs.Finding.{found_at};
 ghost use Rattle.cj_stream.specs.Carrying.{IsFramed, Carries, TakesAll, TakesSome, FinishesAll};
 ghost use Rattle.cj_stream.specs.declared.ending.End.TheVariants.{Refused};
 ghost use Rattle.cj_stream.specs.Ending.{answer_of, header_end, line_end};
-ghost use Rattle.cj_stream.specs.Lines.{newline, NoLf, closed};
+ghost use Rattle.cj_stream.specs.Meaning.Lines.{newline, closed};
+ghost use Rattle.cj_stream.specs.Lines.{NoLf};
 ghost use Rattle.cj_stream.specs.Front.{IsFront};
 ghost use Rattle.cj_stream.specs.Item.{tree_of};
 ghost use Rattle.cj_stream.specs.Judging.{ShowsTree, IsHeaderOf};
 ghost use Rattle.cj_stream.specs.Query.{rules_for};
-ghost use Rattle.cj_stream.specs.Reading.{begun_of, told_verdict, is_lenient, IsLeft, Stores, Unstored, Passes};
-ghost use Rattle.cj_stream.specs.Reading.{Refuses, Deals, Settles, Reads, Stays, judged_begun};
+ghost use Rattle.cj_stream.specs.Reading.{begun_of, told_verdict, is_lenient, IsLeft, Stores, Unstored};
+ghost use Rattle.cj_stream.specs.Reading.{Passes, Refuses, Deals, Settles, Reads, Stays, judged_begun};
 ghost use Rattle.cj_stream.specs.ReportSink.{Notes};
 ghost use Rattle.cj_stream.specs.Scanning.{IsReady, IsStill, ListsFailToGrow, Scanned, ScansNext};
 ghost use Rattle.cj_stream.specs.Scanning.{HoldsFewNext, HeldUntil, Forgets};
-ghost use Rattle.cj_stream.specs.Sink.{HasRisen, Took, with_sink};
-ghost use Rattle.cj_stream.specs.Verdict.{Refuse, Valid, report_of, stretch};
+ghost use Rattle.cj_stream.specs.Sink.{HasRisen, with_sink};
+ghost use Rattle.cj_stream.specs.Meaning.Outputs.{Took};
+ghost use Rattle.cj_stream.specs.Meaning.Verdict.{Invalid, Kept};
+ghost use Rattle.cj_stream.specs.Verdict.{reports_of, stretch};
 
 use crate::desk::{Dealt, Desk};
 use crate::ending::{End, HeaderEnd, LineEnd};
@@ -266,7 +269,7 @@ impl<'q> Framer<'q> {
         ensures forgets { OnOk result (Forgets self.old.scanning self.new.scanning) }
         ensures same { OnErr result (self.new ≡ self.old) }
         ensures noted { OnOk result (Took N.notes reports.old
-            (report_of (self.old.reading.lines + 1) (Refuse finding.place finding.reason)) reports.new) }
+            (reports_of (self.old.reading.lines + 1) (Invalid finding.place finding.reason)) reports.new) }
         ensures silent { OnErr result (reports.new ≡ reports.old) }
         ensures framed { IsFramed self.new }
     {
@@ -297,7 +300,7 @@ impl<'q> Framer<'q> {
         ensures counts { S.law.failures sink.old ≤ S.law.failures sink.new }
         ensures cause { IsErrOf result HeaderEnd.WriteFault
             → HasRisen (S.law.failures sink.old) (S.law.failures sink.new) }
-        ensures deals { Deals S.law (judged_begun self.old.reading false Valid lf)
+        ensures deals { Deals S.law (judged_begun self.old.reading false Kept lf)
             (with_sink self.old.reading sink.old) (answer_of header_end result) (with_sink self.new.reading sink.new) }
         ensures forgets { OnOk result (Forgets self.old.scanning self.new.scanning) }
         ensures same { OnErr result (self.new.scanning ≡ self.old.scanning) }
@@ -332,7 +335,7 @@ impl<'q> Framer<'q> {
         ensures counts { S.law.failures sink.old ≤ S.law.failures sink.new }
         ensures cause { IsErrOf result HeaderEnd.WriteFault
             → HasRisen (S.law.failures sink.old) (S.law.failures sink.new) }
-        ensures settles { Settles S.law (judged_begun self.old.reading false Valid lf)
+        ensures settles { Settles S.law (judged_begun self.old.reading false Kept lf)
             (with_sink self.old.reading sink.old) (answer_of header_end result) (with_sink self.new.reading sink.new) }
         ensures forgets { OnOk result (Forgets self.old.scanning self.new.scanning) }
         ensures still { OnErr result (IsStill self.old.scanning self.new.scanning) }
@@ -397,7 +400,7 @@ impl<'q> Framer<'q> {
         ensures scanned { OnOk result (ScansNext self.old.reading self.old.scanning self.new.scanning) }
         ensures few { HoldsFewNext self.old.reading self.old.scanning self.new.scanning }
         ensures noted { OnOk result (Took N.notes reports.old
-            (report_of (self.old.reading.lines + 1) (told_verdict self.old.reading)) reports.new) }
+            (reports_of (self.old.reading.lines + 1) (told_verdict self.old.reading)) reports.new) }
         ensures silent { OnErr result (reports.new ≡ reports.old) }
     {
         if self.store.dropped {

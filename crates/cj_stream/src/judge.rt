@@ -6,7 +6,7 @@ ghost use Rattle.std.specs.Prelude.{◌≡◌, ◌≤◌, ◌+◌, ◌/◌, ◌&
 ghost use Rattle.std.specs.List.{list_all};
 ghost use Rattle.std.specs.Str.{is_utf8};
 ghost use Rattle.cj_stream.specs.Bound.{is_spelled};
-ghost use Rattle.cj_stream.specs.Verdict.{is_blank_byte};
+ghost use Rattle.cj_stream.specs.Meaning.Verdict.{is_blank_byte};
 ghost use Rattle.cj_stream.specs.Judging.{Says, ShowsTree};
 ghost use Rattle.cj_stream.specs.Scanning.{HoldsTree, tree_lists};
 ghost use Rattle.cj_spans.proofs.Judgements.{judgement};

@@ -10,32 +10,42 @@
 //! let outcome = run(alloc, &mut reader, &mut tally, &mut NoReports, limits, &query, usual);
 //! laws::puts_are_tallied();                     // so the tally is that of what is kept
 //! ```
-ghost use Rattle.std.specs.Prelude.{◌≡◌, ◌≢◌, ◌+◌, ◌++◌, ℕ, List, [], Bool, Option, Some, None, true, false, drop};
+ghost use Rattle.std.specs.Prelude.{◌≡◌, ◌≢◌, ◌↔◌, ◌+◌, ◌++◌, ℕ, List, [], Bool, Option, Some, None, true, false, drop};
 ghost use Rattle.std.specs.Prelude.{length, map, take};
 ghost use Rattle.std.specs.List.{filter, flat_map};
-ghost use Rattle.std.specs.Io.KnownBytes.{IsAtEnd};
+ghost use Rattle.std.specs.Io.KnownBytes.{Appends, IsAtEnd};
 ghost use Rattle.cj_budget.specs.Limits.{LimitPair};
 ghost use Rattle.cj_budget.specs.declared.limits.Peaks.{Peaks};
 ghost use Rattle.cj_stream.specs.Bound.{IsExact, exact_peaks};
-ghost use Rattle.cj_stream.specs.CountReports.{count_of, no_reports, CountsReportsOfRun, CountsReportsOfPieces};
+ghost use Rattle.cj_stream.specs.CountReports.{count_of, no_reports, CountsReportsOfRun};
+ghost use Rattle.cj_stream.specs.CountReports.{CountsReportsOfPieces};
 ghost use Rattle.cj_stream.specs.CountSink.{no_counts, Counts, CountsRun, CountsPieces};
-ghost use Rattle.cj_stream.specs.Cut.{joined, Copies, PutsPieces, InPieces};
+ghost use Rattle.cj_stream.specs.Meaning.Lines.{joined, Line, ended_line, later_of, lines};
+ghost use Rattle.cj_stream.specs.Cut.{Copies, PutsPieces, InPieces};
 ghost use Rattle.cj_stream.specs.Ending.{line_end};
-ghost use Rattle.cj_stream.specs.Headline.{HeadlineOfRun, outputs};
+ghost use Rattle.cj_stream.specs.Judged.{judged_lines};
+ghost use Rattle.cj_stream.specs.Run.{HeadlineOfRun, Account, LacksRoom, Puts, Run, Runs, RunsNoting, Writes};
+ghost use Rattle.cj_stream.specs.Run.{WritesLines};
+ghost use Rattle.cj_stream.specs.Meaning.Bound.{HasPeaks};
+ghost use Rattle.cj_stream.specs.Meaning.Headline.{Fate, Headline, IsUnhindered, RefusedMemory};
+ghost use Rattle.cj_stream.specs.Meaning.Judged.{JudgedLine, AreJudged, handled, kept_in, output_in};
+ghost use Rattle.cj_stream.specs.Meaning.Judged.{reported_in, ending_in};
+ghost use Rattle.cj_stream.specs.Meaning.Outputs.{Outputs, outputs, Took};
 ghost use Rattle.cj_stream.specs.IsGood.{AreGood, EndsAfter};
 ghost use Rattle.cj_stream.specs.IsLines.{IsLines, IsWhole};
-ghost use Rattle.cj_stream.specs.Item.{is_feature};
-ghost use Rattle.cj_stream.specs.Lines.{Line, NoLf, ended_line, later_of, lines, whole};
+ghost use Rattle.cj_stream.specs.Meaning.Item.{is_feature};
+ghost use Rattle.cj_stream.specs.Lines.{NoLf, whole};
 ghost use Rattle.cj_stream.specs.Output.{output_writer, output_failures, channel, output_law};
-ghost use Rattle.cj_stream.specs.Parts.{headed, IsCut, AreComplete, moved_end, moved_report, greater_peaks};
+ghost use Rattle.cj_stream.specs.Parts.{headed, IsCut, AreComplete, moved_end, moved_line, moved_report};
+ghost use Rattle.cj_stream.specs.Parts.{greater_peaks};
 ghost use Rattle.cj_stream.specs.Parts.{JoinsTallies};
 ghost use Rattle.cj_stream.specs.ReportSink.{Collects, CountsReport, Notes, NotesRun, NotesPieces};
-ghost use Rattle.cj_stream.specs.Run.{Account, Puts, Run, Runs, RunsNoting, Writes, WritesLines};
 ghost use Rattle.cj_stream.specs.Selection.{LeavesKept, all_lines, staying};
 ghost use Rattle.cj_stream.specs.Sink.{HasRisen, never_fails};
 ghost use Rattle.cj_stream.specs.TallySink.{Tally, no_tally, Tallies, IsTallyOf, TalliesRun, TalliesPieces};
-ghost use Rattle.cj_stream.specs.Verdict.{Rules, refusal_in, good, kept, kept_first, reported, reported_first, output};
-ghost use Rattle.cj_stream.specs.Verdict.{ending, stretch, up_to, Stream};
+ghost use Rattle.cj_stream.specs.Meaning.Rules.{Rules};
+ghost use Rattle.cj_stream.specs.Verdict.{refusal_in, good, kept, kept_first, reported, reported_first};
+ghost use Rattle.cj_stream.specs.Verdict.{output, ending, stretch, up_to, Stream};
 ghost use Rattle.cj_stream.specs.declared.ending.End.{End};
 ghost use Rattle.cj_stream.specs.declared.ending.LineEnd.{LineEnd};
 ghost use Rattle.cj_stream.specs.declared.output.Output.{Output};
@@ -56,8 +66,46 @@ pub fn lines_are_the_lines(stream: &[u8])
     let _ = stream;
 }
 
-/// The good lines of a stream are the longest prefix of its lines in which no invalid line is an
-/// end. The ending of the stream is that of the line after them. Both hold under all rules.
+/// The lines of a stream have one list of verdicts, as `AreJudged` says, and no other.
+pub fn lines_are_judged(stream: &[u8])
+    ensures are { (rules : Rules) → AreJudged rules (lines stream.now) (judged_lines rules stream.now) }
+    ensures only { (rules : Rules) (js : List JudgedLine) → AreJudged rules (lines stream.now) js
+        → js ≡ judged_lines rules stream.now }
+{
+    let _ = stream;
+}
+
+/// The list of judged lines says all that the functions of a stream say: the handled lines, what is
+/// kept, written and reported, the ending, and the peaks of a complete stream.
+pub fn judged_lines_tell_all()
+    ensures good { (rules : Rules) (r : List ℕ)
+        → good rules r ≡ map (λ j. j.line) (handled rules (judged_lines rules r)) }
+    ensures kept { (rules : Rules) (r : List ℕ) → kept rules r ≡ kept_in rules (judged_lines rules r) }
+    ensures output { (rules : Rules) (r : List ℕ) → output rules r ≡ output_in rules (judged_lines rules r) }
+    ensures reported { (rules : Rules) (r : List ℕ) → reported rules r ≡ reported_in rules (judged_lines rules r) }
+    ensures ending { (rules : Rules) (r : List ℕ) → ending rules r ≡ ending_in rules (judged_lines rules r) }
+    ensures peaks { (rules : Rules) (r : List ℕ) (peaks : Peaks) → ending rules r ≡ End.Complete
+        → IsExact rules.limits r peaks ↔ HasPeaks rules.limits (judged_lines rules r) peaks }
+{}
+
+/// A headline says what the functions of a stream say. So no headline has too few judged lines, too
+/// few that are handled, or no reports.
+pub fn headlines_tell_all<N: ReportSink>()
+    ensures writes { (fate : Fate End) (old new : Outputs N) → Headline N.notes fate old new → IsUnhindered fate.end
+        → Appends old.channel.bytes new.channel.bytes (output fate.rules fate.text) }
+    ensures gives { (fate : Fate End) (old new : Outputs N) → Headline N.notes fate old new → IsUnhindered fate.end
+        → Took N.notes old.reports (reported fate.rules fate.text) new.reports }
+    ensures ends { (fate : Fate End) (old new : Outputs N) → Headline N.notes fate old new → IsUnhindered fate.end
+        → fate.end ≡ ending fate.rules fate.text }
+    ensures exact { (fate : Fate End) (old new : Outputs N) → Headline N.notes fate old new
+        → fate.end ≡ End.Complete → IsExact fate.rules.limits fate.text fate.peaks }
+    ensures memory { (fate : Fate End) (old new : Outputs N) → Headline N.notes fate old new
+        → fate.end ≡ End.Memory → RefusedMemory (judged_lines fate.rules fate.text) old new }
+{}
+
+/// The handled lines of a stream (`good`) are the longest prefix of its lines in which no invalid
+/// line is an end. The ending of the stream is that of the line after them. Both hold under all
+/// rules.
 pub fn good_lines_are_the_longest(stream: &[u8])
     ensures are { (rules : Rules) → AreGood rules stream.now (good rules stream.now) }
     ensures only { (rules : Rules) (ls : List Line) → AreGood rules stream.now ls → ls ≡ good rules stream.now }
@@ -67,8 +115,8 @@ pub fn good_lines_are_the_longest(stream: &[u8])
     let _ = stream;
 }
 
-/// If reading goes on after invalid lines, all lines are good, unless the first one is invalid.
-/// Then none is good.
+/// If reading goes on after invalid lines, all lines are handled, unless the first one is invalid.
+/// Then none is handled.
 pub fn good_lines_are_all_or_none()
     ensures all { (rules : Rules) (r : List ℕ) → rules.options.keep_going ≡ true
         → refusal_in rules (take 1 (lines r)) ≡ None
@@ -77,7 +125,7 @@ pub fn good_lines_are_all_or_none()
         → good rules r ≡ [] }
 {}
 
-/// If the first invalid line is the end, no good line is invalid, so nothing is reported. The peaks
+/// If the first invalid line is the end, no handled line is invalid, so nothing is reported. The peaks
 /// of a complete stream are then known exactly, as each later line is blank or spells a tree.
 pub fn first_invalid_line_is_the_end()
     ensures unreported { (rules : Rules) (r : List ℕ) → rules.options.keep_going ≡ false → reported rules r ≡ [] }
@@ -90,15 +138,19 @@ pub fn first_invalid_line_is_the_end()
 /// A stream can be read in two parts. The first is the header with some whole lines. The second is
 /// the header with what follows them, which may be any bytes. If the first part is complete:
 ///
-/// - What is kept, written and reported of the stream is that of the first part, followed by that
-///   of the second part without its header.
+/// - The judged lines of the stream are those of the first part, followed by those of the second
+///   part without its header. So what is kept, written and reported of the stream is that of the
+///   first part, followed by that of the second part without its header.
 /// - The number of a line in the second part is greater by the number of later lines in the first
 ///   part. The ending is that of the second part, with its line moved in this way.
-/// - The good lines, the kept features and the reported lines add up, with the header counted once.
+/// - The handled lines, the kept features and the reported lines add up, with the header counted once.
 ///
 /// For any endings, each peak is the greater one of both parts. The first part may itself be joined
 /// from two, so the law holds for any number of parts.
 pub fn parts_are_joined()
+    ensures judged { (rules : Rules) (h a b : List ℕ) → IsCut h a → ending rules (headed h a) ≡ End.Complete
+        → judged_lines rules (headed h (a ++ b)) ≡ judged_lines rules (headed h a)
+        ++ map (moved_line (length (lines a))) (later_of (judged_lines rules (headed h b))) }
     ensures kept { (rules : Rules) (h a b : List ℕ) → IsCut h a → ending rules (headed h a) ≡ End.Complete
         → kept rules (headed h (a ++ b)) ≡ kept rules (headed h a) ++ later_of (kept rules (headed h b)) }
     ensures output { (rules : Rules) (h a b : List ℕ) → IsCut h a → ending rules (headed h a) ≡ End.Complete
@@ -177,7 +229,7 @@ pub fn lines_left_out_change_nothing()
         → output rules (headed h b) ≡ output rules (headed h a) }
 {}
 
-/// What is kept of the good lines is what is kept of all lines, and the same is true of what is
+/// What is kept of the handled lines is what is kept of all lines, and the same is true of what is
 /// reported.
 pub fn good_lines_are_kept()
     ensures kept { (rules : Rules) (r : List ℕ) (n : ℕ) → n ≡ length (good rules r)
@@ -214,7 +266,8 @@ pub fn puts_are_tallied()
 {}
 
 /// An `Output` writes what it takes: in a run, given its end and the lines that were dealt with,
-/// and of pieces. The headline holds for a run, with the cause of a write fault.
+/// and of pieces. The headline holds for a run, with the causes of a write fault and of refused
+/// memory.
 pub fn puts_are_written<W: Write + Drop, N: ReportSink>()
     ensures runs { (r : Stream) (e : End) (a b : Output W) → Puts (output_law W.contents) r e a b
         → Writes r e (W.contents (output_writer a)) (W.contents (output_writer b)) }
@@ -226,6 +279,7 @@ pub fn puts_are_written<W: Write + Drop, N: ReportSink>()
     ensures headline { (run : Run) (left : Option (List ℕ)) (a b : Output W) (n m : N)
         → Runs (output_law W.contents) run (IsAtEnd left) a b
         → RunsNoting N.notes run n m
+        → (run.outcome.ended ≡ End.Memory → LacksRoom run (Unit {0}))
         → (run.outcome.ended ≡ End.WriteFault → HasRisen (output_failures a) (output_failures b))
         → HeadlineOfRun N.notes run (IsAtEnd left) (outputs (channel W.contents a) n)
         (outputs (channel W.contents b) m) }
@@ -241,7 +295,7 @@ pub fn reports_are_collected<W: Write + Drop>()
         → RunsNoting Collects run [] (reported_first run.rules run.outcome.lines run.read) }
     ensures headline { (run : Run) (left : Option (List ℕ)) (a b : Output W)
         → Runs (output_law W.contents) run (IsAtEnd left) a b
-        → (run.outcome.ended ≡ End.Memory → run.outcome.lines ≡ 0)
+        → (run.outcome.ended ≡ End.Memory → LacksRoom run (Unit {0}))
         → (run.outcome.ended ≡ End.WriteFault → HasRisen (output_failures a) (output_failures b))
         → HeadlineOfRun Collects run (IsAtEnd left) (outputs (channel W.contents a) []) (outputs (channel W.contents b)
         (reported_first run.rules run.outcome.lines run.read)) }

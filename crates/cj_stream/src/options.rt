@@ -1,6 +1,6 @@
 //! How a stream is read and judged, in addition to the limits and the query.
 ghost use Rattle.std.specs.Prelude.{◌≡◌};
-ghost use Rattle.cj_stream.specs.Options.{usual_options};
+ghost use Rattle.cj_stream.specs.Meaning.Options.{usual_options};
 
 use std::marker::Model;
 
@@ -16,7 +16,7 @@ pub struct Options {
 }
 
 impl Model for Options {
-    ghost use Rattle.cj_stream.specs.Options.{OptionSet};
+    ghost use Rattle.cj_stream.specs.Meaning.Options.{OptionSet};
 
     ghost Value = { OptionSet };
 

@@ -8,7 +8,7 @@ ghost use Rattle.cj_stream.specs.Cut.{IsUnread};
 ghost use Rattle.cj_stream.specs.Parts.{headed, IsCut, moved_end, greater_peaks, capped_end, both_outcomes};
 ghost use Rattle.cj_stream.specs.Parts.{capped_outcome};
 ghost use Rattle.cj_stream.specs.Run.{Account};
-ghost use Rattle.cj_stream.specs.Verdict.{Rules};
+ghost use Rattle.cj_stream.specs.Meaning.Rules.{Rules};
 
 use crate::ending::End;
 use crate::running::Outcome;

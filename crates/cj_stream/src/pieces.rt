@@ -2,9 +2,11 @@
 //!
 //! What is held does not depend on the cut, as each line is put together in the engine's own list.
 ghost use Rattle.std.specs.Prelude.{◌≡◌, ◌+◌, ◌≤◌, ◌^◌, [], Some, length, map, take};
-ghost use Rattle.cj_stream.specs.Cut.{joined, Copies, PutsPieces, TookWhole, Fed, in_pieces, given_after};
-ghost use Rattle.cj_stream.specs.Engine.{Delivers, IsFresh, rules_of, lines_of};
-ghost use Rattle.cj_stream.specs.Headline.{Headline, IsUnhindered, fate_of, outputs};
+ghost use Rattle.cj_stream.specs.Meaning.Lines.{joined};
+ghost use Rattle.cj_stream.specs.Cut.{Copies, PutsPieces, TookWhole, Fed, in_pieces, given_after};
+ghost use Rattle.cj_stream.specs.Engine.{Delivers, HasFailedToGrow, IsFresh, rules_of, lines_of};
+ghost use Rattle.cj_stream.specs.Meaning.Headline.{Headline, IsUnhindered, fate_of};
+ghost use Rattle.cj_stream.specs.Meaning.Outputs.{outputs};
 ghost use Rattle.cj_stream.specs.Output.{output_writer, channel, output_law};
 ghost use Rattle.cj_stream.specs.ReportSink.{Notes, NotesPieces};
 ghost use Rattle.cj_stream.specs.Run.{CountsAll, Ends, outcome_of};
@@ -50,6 +52,7 @@ fn feed_all<S: LineSink, N: ReportSink>(
         (joined (take (result.taken + 1) (map (λ piece. piece.now) pieces.now))) 0 (lines_of engine.new))
         reports.old reports.new }
     ensures cause { result.ended ≡ End.WriteFault → HasRisen (S.law.failures sink.old) (S.law.failures sink.new) }
+    ensures growth { result.ended ≡ End.Memory → HasFailedToGrow engine.new }
 {
     for (taken, piece) in pieces.iter().enumerate() {
         if let Err(ended) = engine.feed(piece, sink, reports) {
@@ -104,6 +107,7 @@ pub fn put_pieces<S: LineSink, N: ReportSink>(
     ensures cause { result.ended ≡ End.WriteFault → HasRisen (S.law.failures sink.old) (S.law.failures sink.new) }
     ensures memory { result.ended ≡ End.Memory → (lines_of engine.new ≡ 0) × (sink.new ≡ sink.old)
         × (reports.new ≡ reports.old) }
+    ensures growth { result.ended ≡ End.Memory → HasFailedToGrow engine.new }
 {
     feed_all(engine, pieces, sink, reports)
 }
@@ -124,6 +128,9 @@ pub fn put_pieces<S: LineSink, N: ReportSink>(
 /// The first two hold unless a write fails or memory is refused, for a writer whose contract says
 /// which bytes it got. The third always holds. After a fault the writer has a prefix of the output
 /// of the given pieces. The prefix has all output of the pieces that were taken whole.
+///
+/// If memory is refused, nothing was written or reported. The first line is then a valid header, and
+/// a growth of the engine's lists for later lines has failed.
 ///
 /// The engine comes from `Engine::open` with these limits, query and options, and has been given
 /// nothing.
@@ -150,6 +157,7 @@ pub fn headline<W: Write + Drop, N: ReportSink>(
         reports.old reports.new }
     ensures memory { result.ended ≡ End.Memory → (lines_of engine.new ≡ 0) × (sink.new ≡ sink.old)
         × (reports.new ≡ reports.old) }
+    ensures growth { result.ended ≡ End.Memory → HasFailedToGrow engine.new }
 {
     put_pieces(engine, pieces, sink, reports)
 }

@@ -3,8 +3,9 @@ ghost use Rattle.std.specs.Prelude.{◌≡◌, true, Some, Ok, Err, [], IfErr, O
 ghost use Rattle.cj_spans.specs.Tree.{Tree};
 ghost use Rattle.cj_feature.specs.HeaderView.{header_tree, has_box};
 ghost use Rattle.cj_feature.specs.View.{feature_tree};
-ghost use Rattle.cj_stream.specs.Criteria.{everything, if_set, needs_box, has_id as id_holds, has_type as type_holds};
-ghost use Rattle.cj_stream.specs.Criteria.{has_lod as lod_holds, is_in as in_box, holds as satisfies};
+ghost use Rattle.cj_stream.specs.Meaning.Criteria.{everything, if_set, needs_box, has_id as id_holds};
+ghost use Rattle.cj_stream.specs.Meaning.Criteria.{has_type as type_holds, has_lod as lod_holds};
+ghost use Rattle.cj_stream.specs.Meaning.Criteria.{is_in as in_box, holds as satisfies};
 ghost use Rattle.cj_geometry.specs.ObjectTypes.{row_named};
 ghost use Rattle.cj_stream.specs.Adding.{no_types, with_id, with_lod, with_type, with_box};
 ghost use Rattle.cj_stream.specs.BoxText.{box_text};
@@ -42,7 +43,7 @@ pub struct Query {
 
 impl Query {
     /// Returns a query with no part set, so it selects every feature. It allocates nothing.
-    #[tactic(auto, unfolding(crate::specs::Query::criteria, crate::specs::Criteria::holds))]
+    #[tactic(auto, unfolding(crate::specs::Query::criteria, crate::specs::Meaning::Criteria::holds))]
     pub fn all(alloc: Global) -> Query
         ensures all { criteria result ≡ everything }
         ensures failed_growths { failed_growths_of result ≡ 0 }
@@ -194,7 +195,7 @@ impl Query {
 
     /// Returns whether the query selects a feature, given the header of its stream. It tries the
     /// cheapest part first.
-    #[tactic(auto, unfolding(crate::specs::Criteria::holds))]
+    #[tactic(auto, unfolding(crate::specs::Meaning::Criteria::holds))]
     pub fn holds(&self, feature: &Feature, header: &Header) -> bool
         requires { has_box header.now ≡ needs_box (criteria self.now) }
         ensures { result ≡ satisfies (criteria self.now) (header_tree header.now) (feature_tree feature.now) }

@@ -1,5 +1,5 @@
 use Rattle.std.proofs.Common.{◌++◌, sym, ap, ◌∙◌}
-use Rattle.cj_stream.specs.Headline.{IsUnhindered}
+use Rattle.cj_stream.specs.Meaning.Headline.{IsUnhindered}
 use Rattle.cj_stream.specs.Sink.{never_fails}
 use Rattle.cityseq_c.specs.Features.{HoldsRecords, ListsItem, listed_loan, listed_room, spots}
 use Rattle.cityseq_c.specs.Request.{IsFit}

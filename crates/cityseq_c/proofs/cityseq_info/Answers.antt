@@ -1,6 +1,6 @@
 use Rattle.std.proofs.Common.{◌++◌, ◌∙◌, sym}
 use Rattle.std.specs.Prelude.{OnOk}
-use Rattle.cj_stream.specs.Headline.{IsUnhindered}
+use Rattle.cj_stream.specs.Meaning.Headline.{IsUnhindered}
 use Rattle.cj_stream.specs.TallySink.{Tallies}
 use Rattle.cj_stream.specs.declared.ending.End.TheVariants.{Complete}
 use Rattle.cj_stream.specs.Sink.{never_fails}

@@ -19,7 +19,7 @@ pub struct Cursor<'a> {
 
 impl<'a> Cursor<'a> {
     ghost use Rattle.std.specs.Prelude.{◌≡◌, ◌<◌, ◌↔◌, IsTrue, drop};
-    ghost use Rattle.cj_stream.specs.Lines.{lines};
+    ghost use Rattle.cj_stream.specs.Meaning.Lines.{lines};
     ghost use Rattle.cityseq_c.specs.Features.{Passes, Seeks, place_of};
 
     /// Returns the beginning of a part. The first line of the part is line 2, after the header.

@@ -17,7 +17,7 @@ pub struct Listed<'a> {
 
 impl<'a> Listed<'a> {
     ghost use Rattle.std.specs.Prelude.{◌≡◌};
-    ghost use Rattle.cj_stream.specs.Lines.{lines};
+    ghost use Rattle.cj_stream.specs.Meaning.Lines.{lines};
     ghost use Rattle.cityseq_c.specs.Features.{listed_place, listed_room, listed_loan, listed_count};
 
     /// Returns a sink for the features of a part. It has written no record.

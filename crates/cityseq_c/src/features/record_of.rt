@@ -3,7 +3,7 @@ ghost use Rattle.std.specs.Prelude.{◌≡◌, ◌≤◌, Bool, get_or, length, 
 ghost use Rattle.std.specs.List.{flat_map};
 ghost use Rattle.cj_feature.specs.View.{feature_header, feature_tree};
 ghost use Rattle.cj_feature.specs.Walks.{object_geometries};
-ghost use Rattle.cj_stream.specs.Criteria.{objects_of};
+ghost use Rattle.cj_stream.specs.Meaning.Criteria.{objects_of};
 ghost use Rattle.cj_stream.specs.Item.{feature_item};
 ghost use Rattle.cj_stream.specs.Tallied.{capped, lod_classes, type_numbers};
 ghost use Rattle.cityseq_c.specs.Features.{IsRecordOf, bits, is_among};

@@ -4,7 +4,7 @@ ghost use Rattle.cj_decimal.specs.Affine.{image};
 ghost use Rattle.cj_feature.specs.HeaderView.{header_tree, has_box};
 ghost use Rattle.cj_feature.specs.View.{feature_tree};
 ghost use Rattle.cj_feature.specs.Walks.{coordinates_left};
-ghost use Rattle.cj_stream.specs.Criteria.{is_in as in_box};
+ghost use Rattle.cj_stream.specs.Meaning.Criteria.{is_in as in_box};
 ghost use Rattle.cj_stream.specs.Extent.{alone, widened, range_of, meets, IsSmall};
 ghost use Rattle.cj_stream.specs.Query.{box_of};
 ghost use Rattle.cj_stream.specs.Tallied.{numbers_on};

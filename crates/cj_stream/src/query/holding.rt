@@ -3,8 +3,8 @@ ghost use Rattle.std.specs.Prelude.{◌≡◌, map, option_map, string_bytes};
 ghost use Rattle.cj_spans.specs.View.{tree};
 ghost use Rattle.cj_feature.specs.HeaderView.{header_tree};
 ghost use Rattle.cj_feature.specs.View.{feature_tree};
-ghost use Rattle.cj_stream.specs.Criteria.{there_is, is_one_of as is_one, has_id as id_holds, has_type as type_holds};
-ghost use Rattle.cj_stream.specs.Criteria.{has_lod as lod_holds};
+ghost use Rattle.cj_stream.specs.Meaning.Criteria.{there_is, is_one_of as is_one, has_id as id_holds};
+ghost use Rattle.cj_stream.specs.Meaning.Criteria.{has_type as type_holds, has_lod as lod_holds};
 
 use crate::query::ids::Ids;
 use cj_feature::{Feature, Header};

@@ -28,7 +28,7 @@ ghost use Rattle.std.specs.Ordering.{is_eq};
 ghost use Rattle.cj_spans.specs.Parts.{text_of};
 ghost use Rattle.cj_spans.specs.View.{tree};
 ghost use Rattle.cj_stream.specs.Adding.{with_text};
-ghost use Rattle.cj_stream.specs.Criteria.{is_one_of as is_one};
+ghost use Rattle.cj_stream.specs.Meaning.Criteria.{is_one_of as is_one};
 ghost use Rattle.cj_stream.specs.Ids.{key_of, compare_keys, pieces, piece, key_at, keys_at, Ascend, AreRuns};
 ghost use Rattle.cj_stream.specs.Ids.{AreIndexed, HasAllOf};
 ghost use Rattle.cj_stream.specs.Sink.{HasRisen, counted};

@@ -10,9 +10,10 @@ ghost use Rattle.cj_feature.specs.Members.{items_if};
 ghost use Rattle.cj_feature.specs.Typed.{number_on};
 ghost use Rattle.cj_feature.specs.View.{feature_tree, feature_header};
 ghost use Rattle.cj_feature.specs.Walks.{object_geometries, vertices_left};
-ghost use Rattle.cj_stream.specs.Criteria.{objects_of};
+ghost use Rattle.cj_stream.specs.Meaning.Criteria.{objects_of};
 ghost use Rattle.cj_stream.specs.Parts.{wider as wider_range, WidensFront};
-ghost use Rattle.cj_stream.specs.Tallied.{class_of as lod_class, type_numbers, lod_classes, numbers_on, own_classes};
+ghost use Rattle.cj_stream.specs.Tallied.{class_of as lod_class, type_numbers, lod_classes, numbers_on};
+ghost use Rattle.cj_stream.specs.Tallied.{own_classes};
 ghost use Rattle.cj_stream.specs.TallySink.{AreWordsOf, RisesBy, TakesNumber, TakesSome, Widens};
 
 use super::LOD_CLASSES;

@@ -2,7 +2,7 @@ use Rattle.std.proofs.Common.{ap, inl, ◌∙◌}
 use Rattle.std.proofs.lemmas.Result.{err_from_is_err_and}
 use Rattle.cj_stream.specs.Engine.{rules_of}
 use Rattle.cj_stream.specs.Query.{criteria, rules_for}
-use Rattle.cj_stream.specs.Verdict.{Rules}
+use Rattle.cj_stream.specs.Meaning.Rules.{Rules}
 use Rattle.cityseq_c.specs.Request.{IsFit}
 use Rattle.cityseq_c.proofs.CalledLemmas.{known-ok}
 use Rattle.cityseq_c.proofs.FaultLemmas.{call-declined, no-fault}

@@ -1,6 +1,6 @@
 use Rattle.std.proofs.Common.{◌≡◌, ◌∙◌, List, ℕ, [], Ok, ap, refl, subst, sym}
 use Rattle.std.specs.Io.KnownBytes.{Consumes, IsAtEnd}
-use Rattle.cj_stream.specs.Headline.{outputs}
+use Rattle.cj_stream.specs.Meaning.Outputs.{outputs}
 use Rattle.cj_stream.specs.Output.{channel, output_failures}
 use Rattle.cj_stream.specs.Sink.{HasRisen}
 use Rattle.cj_stream.specs.Verdict.{stream_of}
@@ -9,7 +9,7 @@ use Rattle.cityseq_command.specs.Performed.{Does, Performs, asked, rules_of_ask,
 use Rattle.cityseq_command.specs.FaultLines.{fault_line, status_after}
 use Rattle.cityseq_command.specs.ReportWriter.{WritesReport, lent_output, report_lines}
 use Rattle.cityseq_command.specs.declared.ask.Ask.TheVariants.{Filter}
-use Rattle.cityseq_command.proofs.PerformLemmas.{Answers-kept, Does-run, enough-told}
+use Rattle.cityseq_command.proofs.PerformLemmas.{Answers-kept, Does-run, enough-told, lacks-room}
 use Rattle.cityseq_command.proofs.WroteLemmas.{WroteAfter-then, wrote-reports}
 use Rattle.cityseq_command.proofs.ask.perform.Given.{Over}
 use Rattle.cityseq_command.proofs.ask.perform.Goals as goal
@@ -48,7 +48,7 @@ did g c = elim c.match-ask.branch [
             w.run-outcome.new.reports refl e.3.account e.2 e.4 e.5 (law.runs run left e.3.account none) (
               refl,
               writes.runs (stream_of run.rules e.0) ended old new e.3.puts,
-              law.headline run left old new e.3 none ran.cause,
+              law.headline run left old new e.3 (λ is. lacks-room run _ (e.5.memory is)) ran.cause,
               writes.lines run left old new e.3 none,
             ) ran.cause,
       )

@@ -6,7 +6,7 @@ use Rattle.std.specs.Str.{IsValidUpTo, is_utf8}
 use Rattle.std.proofs.lemmas.Str.{utf8_valid_len-IsValidUpTo, is_utf8-from_IsUtf8, IsUtf8-from_is_utf8}
 use Rattle.cj_spans.specs.declared.fault.LineFault.TheVariants.{Syntax, TooDeep}
 use Rattle.cj_spans.specs.declared.reason.Reason.TheVariants.{NotUtf8}
-use Rattle.cj_stream.specs.Verdict.{Refuse}
+use Rattle.cj_stream.specs.Meaning.Verdict.{Invalid}
 use Rattle.cj_stream.proofs.VerdictLemmas.{verdict-bytes, verdict-json}
 use Rattle.cj_stream.proofs.JudgeLemmas.{ok-tree, ok-verdict, syntax-refused, deep-refused, not_text, syntax-text, deep-text, syntax-unspelled, deep-unspelled}
 use Rattle.cj_stream.proofs.LineLemmas.{not_true}
@@ -57,7 +57,7 @@ returns-in-Err-NotUtf8-clause-says c = λ rules number header le same not_blank.
     (c.scan_reserved.ensures.not_utf8 c.in-Err-NotUtf8.place).0
     (c.in-Err-NotUtf8.is ∙ ap Err c.in-Err-NotUtf8.field-0-is) in
     verdict-bytes rules number header c.args.content.now le (not_text c.args.content.now c.in-Err-NotUtf8.place place)
-    ∙ ap (λ i. Refuse i NotUtf8) (utf8_valid_len-IsValidUpTo c.args.content.now c.in-Err-NotUtf8.place place)
+    ∙ ap (λ i. Invalid i NotUtf8) (utf8_valid_len-IsValidUpTo c.args.content.now c.in-Err-NotUtf8.place place)
 
 pub returns-in-Err-Syntax-clause-says : goal.returns-in-Err-Syntax-clause-says
 returns-in-Err-Syntax-clause-says c = λ rules number header le same not_blank.

@@ -1,6 +1,10 @@
+use Rattle.cj_stream.proofs.JudgedParts.{judged-parts}
 use Rattle.cj_stream.proofs.PartsLemmas.{kept-parts, output-parts, ending-parts, reported-parts, lines-counted, features-counted, refused-counted, exact-parts}
 use Rattle.cj_stream.proofs.TallyPartsLemmas.{tally-parts}
 use Rattle.cj_stream.proofs.laws.parts_are_joined.Goals as goal
+
+pub returns-clause-judged : goal.returns-clause-judged
+returns-clause-judged c = λ rules h a b cut done. judged-parts rules h a b cut done
 
 pub returns-clause-kept : goal.returns-clause-kept
 returns-clause-kept c = λ rules h a b cut done. kept-parts rules h a cut done b

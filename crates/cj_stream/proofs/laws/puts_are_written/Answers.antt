@@ -1,7 +1,8 @@
-use Rattle.std.specs.Io.KnownBytes.{IsAtEnd}
-use Rattle.cj_stream.specs.Output.{output_writer, channel, output_failures}
+use Rattle.std.proofs.Common.{subst, sym}
+use Rattle.std.specs.Io.KnownBytes.{IsAtEnd, Keeps}
+use Rattle.cj_stream.specs.Output.{output_writer, channel, output_failures, output_law}
 use Rattle.cj_stream.proofs.CutLemmas.{Copies-puts}
-use Rattle.cj_stream.proofs.HeadlineLemmas.{Headline-run}
+use Rattle.cj_stream.proofs.HeadlineLemmas.{Headline-run, Keeps-same, unput}
 use Rattle.cj_stream.proofs.OutputLemmas.{Writes-puts, WritesLines-told}
 use Rattle.cj_stream.proofs.laws.puts_are_written.Goals as goal
 
@@ -15,11 +16,13 @@ returns-clause-lines g c = λ run left a b runs none.
     b run.outcome.ended none runs.sink
 
 pub returns-clause-headline : goal.returns-clause-headline
-returns-clause-headline g c = λ run left a b n m runs noting cause.
-    Headline-run g.N.ReportSink.notes run (IsAtEnd left) (channel g.W.Write.contents a) (channel g.W.Write.contents b) n
-    m runs.account
-    (Writes-puts (λ o. g.W.Write.contents (output_writer o)) output_failures run.rules run.read a b run.outcome.ended
-    runs.puts) noting.noted cause
+returns-clause-headline g c = λ run left a b n m runs noting lacks cause.
+    let contents = g.W.Write.contents in
+    Headline-run g.N.ReportSink.notes run (IsAtEnd left) (channel contents a) (channel contents b) n m runs.account
+    (Writes-puts (λ o. contents (output_writer o)) output_failures run.rules run.read a b run.outcome.ended runs.puts)
+    noting.noted cause lacks
+    (λ is. subst (λ s. Keeps (contents (output_writer a)) (contents (output_writer s)))
+    (sym (unput (output_law contents) run (IsAtEnd left) a b runs is (lacks is))) (Keeps-same _))
 
 pub returns-clause-pieces : goal.returns-clause-pieces
 returns-clause-pieces g c = λ cut e a b puts. Copies-puts (λ o. g.W.Write.contents (output_writer o)) output_failures

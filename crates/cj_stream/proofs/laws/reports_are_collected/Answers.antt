@@ -1,9 +1,9 @@
-use Rattle.std.specs.Prelude.{[]}
-use Rattle.std.specs.Io.KnownBytes.{IsAtEnd}
-use Rattle.cj_stream.specs.Output.{output_writer, channel, output_failures}
+use Rattle.std.proofs.Common.{[], subst, sym}
+use Rattle.std.specs.Io.KnownBytes.{IsAtEnd, Keeps}
+use Rattle.cj_stream.specs.Output.{output_writer, channel, output_failures, output_law}
 use Rattle.cj_stream.specs.ReportSink.{Collects}
 use Rattle.cj_stream.specs.Verdict.{reported_first}
-use Rattle.cj_stream.proofs.HeadlineLemmas.{Headline-run}
+use Rattle.cj_stream.proofs.HeadlineLemmas.{Headline-run, Keeps-same, undealt, unput}
 use Rattle.cj_stream.proofs.NoteLemmas.{Noting-collected}
 use Rattle.cj_stream.proofs.OutputLemmas.{Writes-puts}
 use Rattle.cj_stream.proofs.laws.reports_are_collected.Goals as goal
@@ -13,9 +13,12 @@ returns-clause-runs g c =
     λ run left account none. Noting-collected run (IsAtEnd left) account.counts.good account.ends none
 
 pub returns-clause-headline : goal.returns-clause-headline
-returns-clause-headline g c = λ run left a b runs none cause.
-    Headline-run Collects run (IsAtEnd left) (channel g.W.Write.contents a) (channel g.W.Write.contents b) []
+returns-clause-headline g c = λ run left a b runs lacks cause.
+    let contents = g.W.Write.contents in
+    Headline-run Collects run (IsAtEnd left) (channel contents a) (channel contents b) []
     (reported_first run.rules run.outcome.lines run.read) runs.account
-    (Writes-puts (λ o. g.W.Write.contents (output_writer o)) output_failures run.rules run.read a b run.outcome.ended
-    runs.puts)
-    (Noting-collected run (IsAtEnd left) runs.account.counts.good runs.account.ends none).noted cause
+    (Writes-puts (λ o. contents (output_writer o)) output_failures run.rules run.read a b run.outcome.ended runs.puts)
+    (Noting-collected run (IsAtEnd left) runs.account.counts.good runs.account.ends
+    (λ is. undealt run (IsAtEnd left) runs.account (lacks is))).noted cause lacks
+    (λ is. subst (λ s. Keeps (contents (output_writer a)) (contents (output_writer s)))
+    (sym (unput (output_law contents) run (IsAtEnd left) a b runs is (lacks is))) (Keeps-same _))

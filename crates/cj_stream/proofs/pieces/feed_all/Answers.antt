@@ -3,7 +3,7 @@ use Rattle.std.proofs.lemmas.List.{length-map}
 use Rattle.cj_stream.specs.Engine.{rules_of}
 use Rattle.cj_stream.proofs.GivingLemmas.{Given-none, Given-next, Given-fed, Given-finished}
 use Rattle.cj_stream.proofs.JoinedLemmas.{joined-more, joined-short}
-use Rattle.cj_stream.proofs.RunLemmas.{HasRisen-after}
+use Rattle.cj_stream.proofs.RunLemmas.{HasRisen-after, fails-grown}
 use Rattle.cj_stream.proofs.pieces.feed_all.Goals as goal
 
 pub feed-requires : goal.feed-requires
@@ -48,6 +48,8 @@ returns-in-Err g c =
       reports = all.noted;
       cause = λ e. HasRisen-after _ _ _ c.loop-taken.invariant.counts
           (c.in-Err.ensures.feeds.cause c.loop-taken.invariant.given.going (ap Err e));
+      growth = λ e. fails-grown c.loop-taken.engine c.feed.new.self
+          (c.in-Err.ensures.feeds.growth c.loop-taken.invariant.given.going (ap Err e));
     }
 
 pub returns : goal.returns
@@ -64,4 +66,5 @@ returns g c =
       reports = all.noted;
       cause = λ e. HasRisen-after _ _ _ c.loop-taken.invariant.counts
           (c.finish-ended.ensures.finished.cause c.loop-taken.invariant.given.going e);
+      growth = λ e. absurd (c.finish-ended.ensures.finished.memory c.loop-taken.invariant.given.going e);
     }

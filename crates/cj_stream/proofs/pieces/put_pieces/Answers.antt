@@ -1,5 +1,5 @@
 use Rattle.std.proofs.Common.{[], ◌+◌, map, take, refl}
-use Rattle.cj_stream.specs.Cut.{joined}
+use Rattle.cj_stream.specs.Meaning.Lines.{joined}
 use Rattle.cj_stream.specs.Engine.{rules_of, lines_of}
 use Rattle.cj_stream.proofs.CutLemmas.{PutsPieces-ends, unread-at}
 use Rattle.cj_stream.proofs.LinePieceLemmas.{Delivers-whole}
@@ -30,6 +30,7 @@ returns g c =
       reports = e.reports;
       counts = CountsAll-ends rules _ _ _ _ pieces r.taken r.ended e.fed.counts e.ends unread;
       cause = e.cause;
+      growth = e.growth;
       memory = λ lacks. (
         (e.fed.memory lacks).none,
         memory-sink g.S.LineSink.law rules given _ _ _ r.ended lacks (e.fed.memory lacks).none sink,

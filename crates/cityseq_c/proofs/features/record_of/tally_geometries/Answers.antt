@@ -8,7 +8,7 @@ use Rattle.cj_geometry.specs.Lod.{lod}
 use Rattle.cj_feature.specs.Feature.{templates_of}
 use Rattle.cj_feature.specs.View.{feature_header, feature_tree}
 use Rattle.cj_feature.specs.Walks.{object_geometries}
-use Rattle.cj_stream.specs.Criteria.{objects_of}
+use Rattle.cj_stream.specs.Meaning.Criteria.{objects_of}
 use Rattle.cj_stream.specs.Tallied.{capped, class_of, lod_classes}
 use Rattle.cityseq_c.specs.Features.{bits}
 use Rattle.cityseq_c.proofs.BitLemmas.{bits-among}

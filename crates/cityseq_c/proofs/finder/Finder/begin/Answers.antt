@@ -1,6 +1,6 @@
 use Rattle.std.proofs.Common.{◌≡◌, ◌⊎◌, ◌+◌, ◌++◌, ◌≤◌, [], ◌∙◌, ap, arith, inl, inr, length, refl, sym}
 use Rattle.std.proofs.lemmas.List.{drop_all}
-use Rattle.cj_stream.specs.Lines.{lines}
+use Rattle.cj_stream.specs.Meaning.Lines.{lines}
 use Rattle.cityseq_c.specs.Begins.{begin_of}
 use Rattle.cityseq_c.specs.Features.{place_of}
 use Rattle.cityseq_c.specs.ReportSlice.{finder_text}

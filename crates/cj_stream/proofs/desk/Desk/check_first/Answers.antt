@@ -3,7 +3,7 @@ use Rattle.cj_spans.specs.Finding.{IsLeast}
 use Rattle.cj_spans.specs.View.{document}
 use Rattle.cj_feature.specs.Header.{header as header_findings}
 use Rattle.cj_stream.specs.Item.{tree_of}
-use Rattle.cj_stream.specs.Criteria.{needs_box}
+use Rattle.cj_stream.specs.Meaning.Criteria.{needs_box}
 use Rattle.cj_stream.specs.Query.{rules_for}
 use Rattle.cj_stream.specs.Verdict.{findings}
 use Rattle.cj_stream.proofs.VerdictLemmas.{tree-refused}

@@ -7,7 +7,8 @@ use Rattle.cj_feature.specs.HeaderView.{header_tree}
 use Rattle.cj_stream.specs.Item.{tree_of}
 use Rattle.cj_stream.specs.Query.{rules_for}
 use Rattle.cj_stream.specs.Scanning.{scanning}
-use Rattle.cj_stream.specs.Verdict.{findings, is_blank_byte}
+use Rattle.cj_stream.specs.Verdict.{findings}
+use Rattle.cj_stream.specs.Meaning.Verdict.{is_blank_byte}
 use Rattle.cj_stream.proofs.BlankLemmas.{blank-tree}
 use Rattle.cj_stream.proofs.ScanningLemmas.{scans-none}
 use Rattle.cj_stream.proofs.VerdictLemmas.{tree-refused, verdict-blank}

@@ -3,7 +3,7 @@ use Rattle.cj_stream.specs.declared.ending.End.TheVariants.{Refused}
 use Rattle.cj_stream.specs.Ending.{answer_of, line_end}
 use Rattle.cj_stream.specs.Reading.{begun_of, told_verdict, is_lenient, Refuses}
 use Rattle.cj_stream.specs.Scanning.{scanning, ScansLine, Forgets}
-use Rattle.cj_stream.specs.Verdict.{Refuse}
+use Rattle.cj_stream.specs.Meaning.Verdict.{Invalid}
 use Rattle.cj_stream.proofs.FinishLemmas.{ok-then}
 use Rattle.cj_stream.proofs.ReadingLemmas.{begun_of-later}
 use Rattle.cj_stream.proofs.ScanningLemmas.{ScansNext-held, ScansNext-dropped}
@@ -59,7 +59,7 @@ returns-in-Ok-Refused-clause-settles g c =
     ∙ c.if-self.false in
     let hands = rw c.in-Ok-Refused.field-0-is at (c.in-Ok-Refused.ensures.hands (c.self.inside.store.lines + 1)
     (omega (arith, c.requires.later, ap (λ x. x.reading.lines) c.self.view_is))) in
-    let told : told_verdict f ≡ Refuse c.in-Ok-Refused.finding.place c.in-Ok-Refused.finding.reason =
+    let told : told_verdict f ≡ Invalid c.in-Ok-Refused.finding.place c.in-Ok-Refused.finding.reason =
     rw (
       held,
       begun_of-later f c.requires.later,

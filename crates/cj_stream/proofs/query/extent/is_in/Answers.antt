@@ -2,7 +2,7 @@ use Rattle.std.proofs.Common.{◌≡◌, ◌∙◌, length, sym, rules, arith}
 use Rattle.cj_feature.specs.HeaderView.{header_tree, has_box}
 use Rattle.cj_feature.specs.View.{feature_tree}
 use Rattle.cj_stream.specs.Query.{box_of}
-use Rattle.cj_stream.specs.Criteria.{axis_map}
+use Rattle.cj_stream.specs.Meaning.Criteria.{axis_map}
 use Rattle.cj_stream.specs.Tallied.{numbers_on}
 use Rattle.cj_stream.specs.Extent.{meets}
 use Rattle.cj_stream.proofs.BoxLemmas.{maps_shown, axis_told, box-numbers, and_second, and_first}

@@ -6,7 +6,7 @@ use Rattle.cj_feature.specs.Feature.{templates_of}
 use Rattle.cj_feature.specs.Walks.{geometries_left}
 use Rattle.cj_feature.specs.HeaderView.{header_tree}
 use Rattle.cj_feature.specs.View.{feature_tree}
-use Rattle.cj_stream.specs.Criteria.{there_is, is_one_of, has_lod}
+use Rattle.cj_stream.specs.Meaning.Criteria.{there_is, is_one_of, has_lod}
 use Rattle.cj_stream.proofs.query.holding.has_lod_together.Given as goal
 
 abbrev pub invariant-loop-geometry : goal.invariant-loop-geometry

@@ -4,7 +4,7 @@ use Rattle.cj_geometry.specs.ObjectTypes.{ObjectRow}
 use Rattle.cj_feature.specs.Typed.{type_row}
 use Rattle.cj_feature.specs.Walks.{objects_left}
 use Rattle.cj_feature.specs.View.{feature_tree}
-use Rattle.cj_stream.specs.Criteria.{there_is, has_type}
+use Rattle.cj_stream.specs.Meaning.Criteria.{there_is, has_type}
 use Rattle.cj_stream.proofs.query.holding.has_type.Given as goal
 
 abbrev pub invariant-loop-object : goal.invariant-loop-object

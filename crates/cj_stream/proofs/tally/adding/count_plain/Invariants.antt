@@ -3,7 +3,7 @@ use Rattle.std.specs.List.{flat_map}
 use Rattle.cj_feature.specs.Typed.{type_row}
 use Rattle.cj_feature.specs.View.{feature_tree}
 use Rattle.cj_feature.specs.Walks.{object_geometries, objects_left}
-use Rattle.cj_stream.specs.Criteria.{objects_of}
+use Rattle.cj_stream.specs.Meaning.Criteria.{objects_of}
 use Rattle.cj_stream.specs.Tallied.{own_classes, row_number, type_numbers}
 use Rattle.cj_stream.proofs.Counted.{Counting}
 use Rattle.cj_stream.proofs.tally.adding.count_plain.Given as goal

@@ -5,7 +5,7 @@ use Rattle.std.proofs.lemmas.List.Sorted.{list_any-IsPermutation}
 use Rattle.cj_spans.specs.Parts.{text_of}
 use Rattle.cj_spans.specs.View.{tree}
 use Rattle.cj_stream.specs.Ids.{Key, key_of, compare_keys, pieces, keys_at, keys_of}
-use Rattle.cj_stream.specs.Criteria.{is_one_of}
+use Rattle.cj_stream.specs.Meaning.Criteria.{is_one_of}
 use Rattle.cj_stream.proofs.IdLemmas.{has_key}
 use Rattle.cj_stream.proofs.query.ids.Ids.has.Goals as goal
 

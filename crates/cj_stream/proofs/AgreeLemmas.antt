@@ -1,0 +1,275 @@
+-- The list of judged lines says what the lines one after another say.
+use Rattle.std.proofs.Common.{◌≡◌, ℕ, ◌+◌, ◌<◌, ◌≤◌, List, [], ◌∷◌, ◌++◌, Bool, true, false, cond, eqb, ltb, length, map, Option, Some, None, refl, sym, ap, subst, ◌∙◌, arith, length-append}
+use Rattle.std.specs.Prelude.{not, ◌&&◌, ◌||◌, option_map, unwrap_or}
+use Rattle.std.specs.List.{cons_option, filter_map, find, flat_map}
+use Rattle.std.proofs.lemmas.Bool.Decides.{nat_tests}
+use Rattle.std.proofs.lemmas.List.Sums.{take_while-cons}
+use Rattle.cj_spans.specs.Tree.{Tree, nest}
+use Rattle.cj_spans.specs.Json.{Json}
+use Rattle.cj_spans.specs.Judgement.{Judgement, spelled, broken, sunk}
+use Rattle.cj_spans.proofs.Judgements.{judgement, say_same}
+use Rattle.cj_stream.specs.declared.ending.End.{End}
+use Rattle.cj_stream.specs.declared.ending.End.TheVariants.{Complete}
+use Rattle.cj_stream.specs.Item.{tree_of, judged_tree}
+use Rattle.cj_stream.specs.Judged.{judged_at, judged_later, judged_behind, judged_list, judged_lines}
+use Rattle.cj_stream.specs.Meaning.Item.{raw_item}
+use Rattle.cj_stream.specs.Meaning.Judged.{JudgedLine, ends, handled, item_by, item_of, report_by, report_of, kept_in, output_in, reported_in, end_of_report, end_at, ending_in}
+use Rattle.cj_stream.specs.Meaning.Lines.{Line, lines}
+use Rattle.cj_stream.specs.Meaning.Rules.{Rules}
+use Rattle.cj_stream.specs.Meaning.Verdict.{Verdict, Invalid, Blank, LeftOut, Kept, IsVerdict}
+use Rattle.cj_stream.specs.Verdict.{verdict_at, verdict, item_after, goes_on, is_kept, refusal_from, good_from, kept_from, reported_from, good, kept, reported, output, ending, ending_of}
+use Rattle.cj_stream.proofs.JudgedLemmas.{IsFirst, first-is, first-verdict, first-blank, first-left, kept-tree, later-fits, behind-some, no_tree, verdict-is}
+use Rattle.cj_stream.proofs.VerdictLemmas.{verdict-first}
+
+-- reading goes on after an invalid line, or ends there
+ends-goes : (n : ℕ) → 0 < n → (keep : Bool) → (eqb n 1 || not keep) ≡ not (ltb 1 n && keep)
+ends-goes n h keep = go (eqb n 1) refl
+  where
+    go : (b : Bool) → eqb n 1 ≡ b → (b || not keep) ≡ not (ltb 1 n && keep)
+    go true e = let f : ltb 1 n ≡ false = grind (arith, nat_tests) in rw f refl
+    go false e = let f : ltb 1 n ≡ true = grind (arith, nat_tests) in rw f refl
+
+item-none : (line : Line) (header tree : Option Tree) (v : Verdict) → is_kept v ≡ false → item_by line header tree v ≡ None
+item-none line header None v h = refl
+item-none line header (Some t) (Invalid place reason) h = refl
+item-none line header (Some t) Blank h = refl
+item-none line header (Some t) LeftOut h = refl
+item-none line header (Some t) Kept h = cc
+
+-- the end that a line is, if reading ends at it
+abbrev end_if : Option JudgedLine → Option End
+end_if o = option_map (λ (j : JudgedLine). end_of_report (report_of j)) o
+
+module _ (rules : Rules) where
+  -- the four of some lines after others are those of a list of judged lines
+  pub record Agrees (before ls : List Line) (js : List JudgedLine) : Type 0 where
+    pub good : good_from rules before ls ≡ map (λ j. j.line) (handled rules js)
+    pub kept : kept_from rules before (good_from rules before ls) ≡ kept_in rules js
+    pub reported : reported_from rules before (good_from rules before ls) ≡ reported_in rules js
+    pub refusal : refusal_from rules before ls
+        ≡ option_map (λ (j : JudgedLine). end_of_report (report_of j)) (find (ends rules) js)
+
+  -- the next line, as both see it
+  record IsNext (before : List Line) (l : Line) (j : JudgedLine) : Type 0 where
+    line : j.line ≡ l
+    number : j.number ≡ length before + 1
+    verdict : j.verdict ≡ verdict rules before l.content
+    item : j.verdict ≡ Kept → item_of j ≡ Some (item_after rules before l)
+
+  module _ (before ls : List Line) (l : Line) (j : JudgedLine) (js : List JudgedLine) where
+    -- reading goes on after the line
+    record Passes : Type 0 where
+      line : j.line ≡ l
+      good : good_from rules before (l ∷ ls) ≡ l ∷ good_from rules (before ++ l ∷ []) ls
+      kept : (gs : List Line) → kept_from rules before (l ∷ gs)
+          ≡ cons_option (item_of j) (kept_from rules (before ++ l ∷ []) gs)
+      reported : (gs : List Line) → reported_from rules before (l ∷ gs)
+          ≡ cons_option (report_of j) (reported_from rules (before ++ l ∷ []) gs)
+      refusal : refusal_from rules before (l ∷ ls) ≡ refusal_from rules (before ++ l ∷ []) ls
+      on : ends rules j ≡ false
+
+    handled-by : (b : Bool) → ends rules j ≡ b → handled rules (j ∷ js) ≡ cond (not b) (j ∷ handled rules js) []
+    handled-by b e = take_while-cons (λ q. not (ends rules q)) j js ∙ ap (λ z. cond (not z) (j ∷ handled rules js) []) e
+
+    passes : Passes → Agrees (before ++ l ∷ []) ls js → Agrees before (l ∷ ls) (j ∷ js)
+    passes p a =
+        let h : handled rules (j ∷ js) ≡ j ∷ handled rules js = handled-by false p.on in
+        record {
+          good = p.good ∙ (ap (λ z. l ∷ z) a.good
+              ∙ (ap (λ z. z ∷ map (λ (q : JudgedLine). q.line) (handled rules js)) (sym p.line)
+              ∙ sym (ap (λ z. map (λ (q : JudgedLine). q.line) z) h)));
+          kept = ap (λ z. kept_from rules before z) p.good
+              ∙ (p.kept (good_from rules (before ++ l ∷ []) ls)
+              ∙ (ap (λ z. cons_option (item_of j) z) a.kept ∙ sym (ap (λ z. filter_map item_of z) h)));
+          reported = ap (λ z. reported_from rules before z) p.good
+              ∙ (p.reported (good_from rules (before ++ l ∷ []) ls)
+              ∙ (ap (λ z. cons_option (report_of j) z) a.reported ∙ sym (ap (λ z. filter_map report_of z) h)));
+          refusal = p.refusal ∙ (a.refusal ∙ sym (ap (λ z. end_if (cond z (Some j) (find (ends rules) js))) p.on));
+        }
+
+    -- by its verdict
+    step : IsNext before l j → (v : Verdict) → verdict rules before l.content ≡ v
+        → Agrees (before ++ l ∷ []) ls js → Agrees before (l ∷ ls) (j ∷ js)
+    step is (Invalid place reason) e a = go (goes_on rules (length before + 1)) refl
+      where
+        at : j.verdict ≡ Invalid place reason
+        at = is.verdict ∙ e
+
+        told : report_of j ≡ Some (record { line = length before + 1; place = place; reason = reason })
+        told = rw (at, is.number) refl
+
+        nothing : item_of j ≡ None
+        nothing = rw at (item-none j.line j.header j.tree (Invalid place reason) refl)
+
+        ends-by : (on : Bool) → goes_on rules (length before + 1) ≡ on → ends rules j ≡ not on
+        ends-by on k = rw (at, is.number)
+            (ends-goes (length before + 1) (omega arith) rules.options.keep_going ∙ ap not k)
+
+        go : (on : Bool) → goes_on rules (length before + 1) ≡ on → Agrees before (l ∷ ls) (j ∷ js)
+        go true on =
+            passes (record {
+              line = is.line;
+              good = rw (e, on) refl;
+              kept = λ gs. rw (e, nothing) refl;
+              reported = λ gs. rw (e, told) refl;
+              refusal = rw (e, on) refl;
+              on = ends-by true on;
+            }) a
+        go false on =
+            let h : handled rules (j ∷ js) ≡ [] = handled-by true (ends-by false on) in
+            record {
+              good = rw (e, on) (sym (ap (λ z. map (λ (q : JudgedLine). q.line) z) h));
+              kept = rw (e, on) (sym (ap (λ z. filter_map item_of z) h));
+              reported = rw (e, on) (sym (ap (λ z. filter_map report_of z) h));
+              refusal = rw (e, on)
+                  (sym (ap (λ z. end_if (cond z (Some j) (find (ends rules) js))) (ends-by false on)
+                  ∙ ap (λ z. Some (end_of_report z)) told));
+            }
+    step is Blank e a =
+        let at : j.verdict ≡ Blank = is.verdict ∙ e in
+        let nothing : item_of j ≡ None = rw at (item-none j.line j.header j.tree Blank refl) in
+        passes (record {
+          line = is.line;
+          good = rw e refl;
+          kept = λ gs. rw (e, nothing) refl;
+          reported = λ gs. rw (e, at) refl;
+          refusal = rw e refl;
+          on = rw at refl;
+        }) a
+    step is LeftOut e a =
+        let at : j.verdict ≡ LeftOut = is.verdict ∙ e in
+        let nothing : item_of j ≡ None = rw at (item-none j.line j.header j.tree LeftOut refl) in
+        passes (record {
+          line = is.line;
+          good = rw e refl;
+          kept = λ gs. rw (e, nothing) refl;
+          reported = λ gs. rw (e, at) refl;
+          refusal = rw e refl;
+          on = rw at refl;
+        }) a
+    step is Kept e a =
+        let at : j.verdict ≡ Kept = is.verdict ∙ e in
+        let item : item_of j ≡ Some (item_after rules before l) = is.item at in
+        passes (record {
+          line = is.line;
+          good = rw e refl;
+          kept = λ gs. rw (e, item) refl;
+          reported = λ gs. rw (e, at) refl;
+          refusal = rw e refl;
+          on = rw at refl;
+        }) a
+
+  -- the tree that a content spells, by both
+  same-tree : (c : List ℕ) (u : Tree) → Json c u → nest u ≤ rules.limits.depth → u ≡ tree_of rules.limits.depth c
+  same-tree c u json shallow = go (judgement c rules.limits.depth)
+    where
+      go : (j : Judgement c rules.limits.depth) → u ≡ judged_tree j
+      go (spelled t k m) = say_same (spelled u json shallow) (spelled t k m)
+      go (broken i s m) = absurd (say_same (spelled u json shallow) (broken i s m))
+      go (sunk i s) = absurd (say_same (spelled u json shallow) (sunk i s))
+
+  -- the item of a kept line with this header
+  same-item : (header : Option Tree) (l : Line) (t : Option Tree) (v : Verdict)
+      → IsVerdict rules header l.content t v → v ≡ Kept
+      → item_by l header t v
+      ≡ Some (record { line = l; tree = tree_of rules.limits.depth l.content; header = header })
+  same-item header l t v is e =
+      let k = kept-tree rules header l.content t v is e in
+      let same = same-tree l.content k.0 k.2.json k.2.shallow in
+      rw (e, k.1) (ap (λ z. Some (record { line = l; tree = z; header = header })) same)
+
+  -- behind a header
+  pub later-agrees : (first : Line) (xs : List Line) (n : ℕ) → n ≡ length (first ∷ xs) + 1 → (ls : List Line)
+      → Agrees (first ∷ xs) ls (judged_later rules (tree_of rules.limits.depth first.content) n ls)
+  later-agrees first xs n e [] = record { good = refl; kept = refl; reported = refl; refusal = refl }
+  later-agrees first xs n e (l ∷ ls) =
+      let h = tree_of rules.limits.depth first.content in
+      let later : 1 < n = omega (arith, e) in
+      let other : eqb (length (first ∷ xs) + 1) 1 ≡ false = other-number (length (first ∷ xs)) (omega arith) in
+      let is = verdict-is rules n h (Some h) (later-fits rules n h later) l.content in
+      let count : n + 1 ≡ length (first ∷ (xs ++ l ∷ [])) + 1 = omega (arith, e, length-append xs (l ∷ [])) in
+      step (first ∷ xs) ls l (judged_at rules n (Some h) l) (judged_later rules h (n + 1) ls)
+      (record {
+        line = refl;
+        number = e;
+        verdict = ap (λ m. verdict_at rules m h l.content) e;
+        item = λ k. rw other (same-item (Some h) l _ _ is k);
+      })
+      (verdict rules (first ∷ xs) l.content) refl
+      (later-agrees first (xs ++ l ∷ []) (n + 1) count ls)
+    where
+      other-number : (k : ℕ) → 0 < k → eqb (k + 1) 1 ≡ false
+      other-number k h = grind (arith, nat_tests)
+
+  -- of all lines
+  pub list-agrees : (ls : List Line) → Agrees [] ls (judged_list rules ls)
+  list-agrees [] = record { good = refl; kept = refl; reported = refl; refusal = refl }
+  list-agrees (l ∷ ls) = go (judged_at rules 1 None l).verdict refl
+    where
+      first : JudgedLine
+      first = judged_at rules 1 None l
+
+      is : IsVerdict rules None l.content (judged_at rules 1 None l).tree (judged_at rules 1 None l).verdict
+      is = (first-is rules l).verdict
+
+      old : (judged_at rules 1 None l).verdict ≡ verdict rules [] l.content
+      old = verdict-first rules no_tree (tree_of rules.limits.depth []) l.content
+
+      next : IsNext [] l (judged_at rules 1 None l)
+      next = record { line = refl; number = refl; verdict = old; item = λ k. same-item None l (judged_at rules 1 None l).tree (judged_at rules 1 None l).verdict is k }
+
+      go : (v : Verdict) → (judged_at rules 1 None l).verdict ≡ v → Agrees [] (l ∷ ls) (judged_list rules (l ∷ ls))
+      go (Invalid place reason) e =
+          let k : verdict rules [] l.content ≡ Invalid place reason = sym old ∙ e in
+          let at : ends rules (judged_at rules 1 None l) ≡ true = rw e refl in
+          let h : handled rules (judged_list rules (l ∷ ls)) ≡ [] =
+          handled-by [] ls l (judged_at rules 1 None l)
+          (judged_behind rules (judged_at rules 1 None l).verdict (judged_at rules 1 None l).tree ls) true at in
+          record {
+            good = rw k (sym (ap (λ z. map (λ (q : JudgedLine). q.line) z) h));
+            kept = rw k (sym (ap (λ z. filter_map item_of z) h));
+            reported = rw k (sym (ap (λ z. filter_map report_of z) h));
+            refusal = rw k (sym (ap (λ z. end_if (cond z (Some (judged_at rules 1 None l))
+                (find (ends rules) (judged_behind rules (judged_at rules 1 None l).verdict
+                (judged_at rules 1 None l).tree ls)))) at
+                ∙ ap (λ z. Some (end_of_report (report_by 1 z))) e));
+          }
+      go Blank e = let k = subst IsFirst e (first-verdict rules l.content (judged_at rules 1 None l).tree (judged_at rules 1 None l).verdict is) in absurd (first-blank k)
+      go LeftOut e = let k = subst IsFirst e (first-verdict rules l.content (judged_at rules 1 None l).tree (judged_at rules 1 None l).verdict is) in absurd (first-left k)
+      go Kept e =
+          let k = kept-tree rules None l.content (judged_at rules 1 None l).tree (judged_at rules 1 None l).verdict is e in
+          let same = same-tree l.content k.0 k.2.json k.2.shallow in
+          let behind =
+          behind-some rules (judged_at rules 1 None l).verdict (judged_at rules 1 None l).tree k.0 ls e k.1
+          ∙ ap (λ h. judged_later rules h 2 ls) same in
+          subst (λ js. Agrees [] (l ∷ ls) (judged_at rules 1 None l ∷ js)) (sym behind)
+          (step [] ls l (judged_at rules 1 None l) (judged_later rules (tree_of rules.limits.depth l.content) 2 ls) next
+          (verdict rules [] l.content) refl (later-agrees l [] 2 refl ls))
+
+  -- ---- of a stream
+
+  module _ (s : List ℕ) where
+    pub good-in : good rules s ≡ map (λ j. j.line) (handled rules (judged_lines rules s))
+    good-in = (list-agrees (lines s)).good
+
+    pub kept-in : kept rules s ≡ kept_in rules (judged_lines rules s)
+    kept-in = (list-agrees (lines s)).kept
+
+    pub output-in : output rules s ≡ output_in rules (judged_lines rules s)
+    output-in = ap (λ is. flat_map raw_item is) kept-in
+
+    pub reported-in : reported rules s ≡ reported_in rules (judged_lines rules s)
+    reported-in = (list-agrees (lines s)).reported
+
+    pub ending-in : ending rules s ≡ ending_in rules (judged_lines rules s)
+    ending-in = go (lines s) (list-agrees (lines s)).refusal
+      where
+        by : (o : Option JudgedLine) → unwrap_or (end_if o) Complete ≡ end_at o
+        by None = refl
+        by (Some j) = refl
+
+        go : (ls : List Line)
+            → refusal_from rules [] ls ≡ end_if (find (ends rules) (judged_list rules ls))
+            → ending_of rules ls ≡ ending_in rules (judged_list rules ls)
+        go [] e = refl
+        go (l ∷ ls) e = ap (λ o. unwrap_or o Complete) e ∙ by _

@@ -1,0 +1,88 @@
+-- The list of judged lines of a stream that is read in two parts.
+use Rattle.std.proofs.Common.{◌≡◌, ℕ, ◌+◌, ◌<◌, List, [], ◌∷◌, ◌++◌, length, map, Some, None, refl, sym, ap, ◌∙◌, arith}
+use Rattle.cj_spans.specs.Tree.{Tree}
+use Rattle.cj_stream.specs.declared.ending.End.TheVariants.{Complete}
+use Rattle.cj_stream.specs.Item.{tree_of}
+use Rattle.cj_stream.specs.Judged.{judged_at, judged_later, judged_list, judged_lines}
+use Rattle.cj_stream.specs.Meaning.Lines.{Line, ended_line, later_of, lines}
+use Rattle.cj_stream.specs.Meaning.Rules.{Rules}
+use Rattle.cj_stream.specs.Meaning.Verdict.{Kept}
+use Rattle.cj_stream.specs.Parts.{headed, IsCut, moved_line}
+use Rattle.cj_stream.specs.Verdict.{ending, verdict}
+use Rattle.cj_stream.proofs.JudgedLemmas.{behind-some, first-is, kept-tree, later-fits, no_tree, only-verdict, verdict-is}
+use Rattle.cj_stream.proofs.PartsLemmas.{all-lines, back-lines, front-lines, header-valid}
+use Rattle.cj_stream.proofs.VerdictLemmas.{verdict-first}
+
+module _ (rules : Rules) (h : Tree) where
+  -- more lines after some
+  later-append : (n : ℕ) (xs ys : List Line)
+      → judged_later rules h n (xs ++ ys) ≡ judged_later rules h n xs ++ judged_later rules h (n + length xs) ys
+  later-append n [] ys = let none : n + 0 ≡ n = omega arith in rw none refl
+  later-append n (x ∷ xs) ys =
+      let next : n + 1 + length xs ≡ n + length (x ∷ xs) = omega arith in
+      ap (λ js. judged_at rules n (Some h) x ∷ js) (later-append (n + 1) xs ys
+      ∙ ap (λ m. judged_later rules h (n + 1) xs ++ judged_later rules h m ys) next)
+
+  -- the same lines by other numbers
+  line-moved : (n k : ℕ) → 1 < n → (l : Line)
+      → judged_at rules (n + k) (Some h) l ≡ moved_line k (judged_at rules n (Some h) l)
+  line-moved n k later l =
+      let is = verdict-is rules (n + k) h (Some h) (later-fits rules (n + k) h (omega (arith, later))) l.content in
+      let same = (only-verdict rules n h (Some h) (later-fits rules n h later) l.content _ _ is).verdict in
+      ap (λ v. record {
+        number = n + k;
+        line = l;
+        header = Some h;
+        tree = (judged_at rules n (Some h) l).tree;
+        verdict = v;
+      }) same
+
+  later-moved : (n k : ℕ) → 1 < n → (ls : List Line)
+      → judged_later rules h (n + k) ls ≡ map (moved_line k) (judged_later rules h n ls)
+  later-moved n k later [] = refl
+  later-moved n k later (l ∷ ls) =
+      let next : n + k + 1 ≡ n + 1 + k = omega arith in
+      ap (λ j. j ∷ judged_later rules h (n + k + 1) ls) (line-moved n k later l)
+      ∙ ap (λ js. moved_line k (judged_at rules n (Some h) l) ∷ js) (ap (λ m. judged_later rules h m ls) next
+      ∙ later-moved (n + 1) k (omega (arith, later)) ls)
+
+module _ (rules : Rules) (l : Line) (valid : verdict rules [] l.content ≡ Kept) where
+  first-kept : (judged_at rules 1 None l).verdict ≡ Kept
+  first-kept = verdict-first rules no_tree (tree_of rules.limits.depth []) l.content ∙ valid
+
+  -- a valid header, and the lines after it
+  headed-list : (h : Tree) × ((ls : List Line)
+      → judged_list rules (l ∷ ls) ≡ judged_at rules 1 None l ∷ judged_later rules h 2 ls)
+  headed-list =
+      let first = judged_at rules 1 None l in
+      let k = kept-tree rules None l.content first.tree first.verdict (first-is rules l).verdict first-kept in (
+        k.0,
+        λ ls. ap (λ js. judged_at rules 1 None l ∷ js) (behind-some rules first.verdict first.tree k.0 ls first-kept k.1),
+      )
+
+  list-joined : (xs ys : List Line) → judged_list rules (l ∷ xs ++ ys) ≡ judged_list rules (l ∷ xs)
+      ++ map (moved_line (length xs)) (later_of (judged_list rules (l ∷ ys)))
+  list-joined xs ys =
+      let k = headed-list in
+      let first = judged_at rules 1 None l in
+      let back : judged_later rules k.0 (2 + length xs) ys
+      ≡ map (moved_line (length xs)) (later_of (judged_list rules (l ∷ ys))) =
+      later-moved rules k.0 2 (length xs) (omega arith) ys
+      ∙ sym (ap (λ js. map (moved_line (length xs)) (later_of js)) (k.1 ys)) in
+      k.1 (xs ++ ys)
+      ∙ (ap (λ js. first ∷ js) (later-append rules k.0 2 xs ys)
+      ∙ (ap (λ js. first ∷ judged_later rules k.0 2 xs ++ js) back
+      ∙ ap (λ js. js ++ map (moved_line (length xs)) (later_of (judged_list rules (l ∷ ys)))) (sym (k.1 xs))))
+
+-- the list of both parts is that of the first, and then that of the second without its header, moved
+pub judged-parts : (rules : Rules) (h a b : List ℕ) → IsCut h a → ending rules (headed h a) ≡ Complete
+    → judged_lines rules (headed h (a ++ b)) ≡ judged_lines rules (headed h a)
+    ++ map (moved_line (length (lines a))) (later_of (judged_lines rules (headed h b)))
+judged-parts rules h a b cut done =
+    let moved = map (moved_line (length (lines a))) in
+    ap (judged_list rules) (all-lines rules h a cut b)
+    ∙ (list-joined rules (ended_line h) (header-valid rules h a cut done) (lines a) (lines b)
+    ∙ (ap (λ ls. judged_list rules ls ++ moved (later_of (judged_list rules (ended_line h ∷ lines b))))
+    (sym (front-lines rules h a cut))
+    ∙ ap (λ ls. judged_lines rules (headed h a) ++ moved (later_of (judged_list rules ls)))
+    (sym (back-lines rules h a cut b))))

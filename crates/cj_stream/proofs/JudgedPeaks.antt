@@ -1,0 +1,221 @@
+-- What was held at most of a complete stream is what its judged lines say.
+use Rattle.std.proofs.Common.{◌≡◌, ℕ, ◌+◌, ◌<◌, List, [], ◌∷◌, ◌++◌, Bool, true, false, cond, ltb, length, map, max, Option, Some, None, refl, sym, ap, subst, ◌∙◌, arith}
+use Rattle.std.specs.Prelude.{not, ◌&&◌, ◌||◌, is_some}
+use Rattle.std.specs.List.{find, list_all}
+use Rattle.std.specs.Str.{is_utf8}
+use Rattle.std.specs.Str.Lossy.{utf8_valid_len}
+use Rattle.std.proofs.lemmas.Bool.Decides.{nat_tests}
+use Rattle.cj_budget.specs.declared.limits.Peaks.{Peaks}
+use Rattle.cj_spans.specs.declared.reason.Reason.{Reason}
+use Rattle.cj_spans.specs.declared.reason.Reason.TheVariants.{LineTooLong, NoHeader, NotUtf8}
+use Rattle.cj_spans.specs.Tree.{Tree}
+use Rattle.cj_spans.specs.Judgement.{Judgement, spelled, broken, sunk, judged_size, judged_nest}
+use Rattle.cj_spans.proofs.Judgements.{judgement}
+use Rattle.cj_stream.specs.declared.ending.End.TheVariants.{Complete, Refused}
+use Rattle.cj_stream.specs.Bound.{IsExact, exact_peaks, held_length, is_readable, is_spelled, is_text, tree_nest, tree_size}
+use Rattle.cj_stream.specs.Bound.{is_legible as are_readable}
+use Rattle.cj_stream.specs.Judged.{spelled_tree, read_tree, judged_at, judged_behind, judged_later, judged_list, judged_lines}
+use Rattle.cj_stream.specs.Meaning.Bound.{HasPeaks, greatest, held_bytes, is_blank_verdict, is_legible, nest_if, peaks_in, size_if}
+use Rattle.cj_stream.specs.Meaning.Judged.{JudgedLine, ends, end_at, end_of_report, ending_in, report_by}
+use Rattle.cj_stream.specs.Meaning.Lines.{Line, begun, closed, ended_line, first_content, first_of, last_line, later_of, lines}
+use Rattle.cj_stream.specs.Meaning.Rules.{Rules}
+use Rattle.cj_stream.specs.Meaning.Verdict.{Verdict, Invalid, Blank, LeftOut, Kept, is_blank, is_blank_byte}
+use Rattle.cj_stream.specs.Verdict.{by_least, ending, first_line, text_verdict, verdict_at}
+use Rattle.cj_stream.proofs.AgreeLemmas.{ending-in}
+use Rattle.cj_stream.proofs.BlankLemmas.{blank-tree}
+use Rattle.cj_stream.proofs.JudgedLemmas.{IsFirst, behind-some, first-blank, first-is, first-left, first-verdict, kept-tree}
+
+or-true : (x : Bool) → x || true ≡ true
+or-true true = refl
+or-true false = refl
+
+-- the first line begins a stream
+first-line : (s : List ℕ) (l : Line) (ls : List Line) → lines s ≡ l ∷ ls → first_content s ≡ l.content
+first-line s l ls e = go (closed s) (begun s) e
+  where
+    go : (cs : List (List ℕ)) (b : List ℕ) → map ended_line cs ++ last_line b ≡ l ∷ ls → first_of cs b ≡ l.content
+    go [] [] e = cc
+    go [] (b ∷ s) e = ap first_line e
+    go (c ∷ cs) b e = ap first_line e
+
+-- ---- one line
+
+sized-by : {c : List ℕ} {d : ℕ} (text blanks : Bool) (j : Judgement c d)
+    → (blanks ≡ true → cond text (judged_size j) 0 ≡ 0)
+    → cond text (judged_size j) 0 ≡ size_if (cond (text && not blanks) (spelled_tree j) None)
+sized-by false blanks j h = refl
+sized-by true true j h = h refl
+sized-by true false (spelled t k n) h = refl
+sized-by true false (broken i s n) h = refl
+sized-by true false (sunk i s) h = refl
+
+nested-by : {c : List ℕ} {d : ℕ} (text blanks : Bool) (j : Judgement c d)
+    → (blanks ≡ true → cond text (judged_nest j) 0 ≡ 0)
+    → cond text (judged_nest j) 0 ≡ nest_if (cond (text && not blanks) (spelled_tree j) None)
+nested-by false blanks j h = refl
+nested-by true true j h = h refl
+nested-by true false (spelled t k n) h = refl
+nested-by true false (broken i s n) h = refl
+nested-by true false (sunk i s) h = refl
+
+all-blank : (header : Option Tree) (c : List ℕ) → is_blank header c ≡ true → list_all is_blank_byte c ≡ true
+all-blank None c h = cc
+all-blank (Some t) c h = h
+
+module _ (rules : Rules) where
+  sized : (header : Option Tree) (c : List ℕ) → tree_size rules.limits c ≡ size_if (read_tree rules header c)
+  sized header c =
+      sized-by (is_text rules.limits c) (is_blank header c) (judgement c rules.limits.depth)
+      (λ b. (blank-tree rules.limits c (all-blank header c b)).0)
+
+  nested : (header : Option Tree) (c : List ℕ) → tree_nest rules.limits c ≡ nest_if (read_tree rules header c)
+  nested header c =
+      nested-by (is_text rules.limits c) (is_blank header c) (judgement c rules.limits.depth)
+      (λ b. (blank-tree rules.limits c (all-blank header c b)).1)
+
+  not-blank : (n : ℕ) (h t : Tree) (keep : Bool) → is_blank_verdict (by_least keep None) ≡ false
+  not-blank n h t true = refl
+  not-blank n h t false = refl
+
+  legible : (n : ℕ) (h : Tree) (l : Line) → 1 < n
+      → is_readable rules.limits l.content ≡ is_legible (judged_at rules n (Some h) l)
+  unfolding verdict_at
+  legible n h l later =
+      let is_later : ltb 1 n ≡ true = grind (arith, nat_tests) in
+      rw is_later (go (ltb rules.limits.line (length l.content)) (is_utf8 l.content)
+      (list_all is_blank_byte l.content) (judgement l.content rules.limits.depth))
+    where
+      go : {c : List ℕ} {d : ℕ} (long text blanks : Bool) (j : Judgement c d)
+          → (not long && text) && (blanks || is_spelled j)
+          ≡ is_blank_verdict (cond long (Invalid rules.limits.line LineTooLong)
+          (cond (not text) (Invalid (utf8_valid_len l.content) NotUtf8)
+          (cond blanks Blank (text_verdict rules n h j))))
+          || is_some (cond ((not long && text) && not blanks) (spelled_tree j) None)
+      go true text blanks j = refl
+      go false false blanks j = refl
+      go false true true j = refl
+      go false true false (spelled t k m) = sym (or-true _)
+      go false true false (broken i s m) = refl
+      go false true false (sunk i s) = refl
+
+  -- ---- the later lines
+
+  later-held : (h : Tree) (n : ℕ) (ls : List Line)
+      → greatest (held_length rules.limits) (map (λ l. l.content) ls)
+      ≡ greatest (held_bytes rules.limits) (judged_later rules h n ls)
+  later-held h n [] = refl
+  later-held h n (l ∷ ls) = ap (λ m. max (held_length rules.limits l.content) m) (later-held h (n + 1) ls)
+
+  later-sized : (h : Tree) (n : ℕ) (ls : List Line)
+      → greatest (tree_size rules.limits) (map (λ l. l.content) ls)
+      ≡ greatest (λ j. size_if j.tree) (judged_later rules h n ls)
+  later-sized h n [] = refl
+  later-sized h n (l ∷ ls) =
+      ap (λ m. max m (greatest (tree_size rules.limits) (map (λ (l : Line). l.content) ls))) (sized (Some h) l.content)
+      ∙ ap (λ m. max (size_if (read_tree rules (Some h) l.content)) m) (later-sized h (n + 1) ls)
+
+  later-nested : (h : Tree) (n : ℕ) (ls : List Line)
+      → greatest (tree_nest rules.limits) (map (λ l. l.content) ls)
+      ≡ greatest (λ j. nest_if j.tree) (judged_later rules h n ls)
+  later-nested h n [] = refl
+  later-nested h n (l ∷ ls) =
+      ap (λ m. max m (greatest (tree_nest rules.limits) (map (λ (l : Line). l.content) ls))) (nested (Some h) l.content)
+      ∙ ap (λ m. max (nest_if (read_tree rules (Some h) l.content)) m) (later-nested h (n + 1) ls)
+
+  later-legible : (h : Tree) (n : ℕ) → 1 < n → (ls : List Line)
+      → list_all (is_readable rules.limits) (map (λ l. l.content) ls)
+      ≡ list_all is_legible (judged_later rules h n ls)
+  later-legible h n later [] = refl
+  later-legible h n later (l ∷ ls) =
+      ap (λ b. b && list_all (is_readable rules.limits) (map (λ (l : Line). l.content) ls)) (legible n h l later)
+      ∙ ap (λ b. is_legible (judged_at rules n (Some h) l) && b) (later-legible h (n + 1) (omega arith) ls)
+
+  -- ---- a complete stream
+
+  refused-first : (l : Line) (ls : List Line) (place : ℕ) (reason : Reason)
+      → (judged_at rules 1 None l).verdict ≡ Invalid place reason
+      → ending_in rules (judged_list rules (l ∷ ls)) ≡ Refused 1 place reason
+  refused-first l ls place reason e =
+      let at : ends rules (judged_at rules 1 None l) ≡ true = rw e refl in
+      let rest = judged_behind rules (judged_at rules 1 None l).verdict (judged_at rules 1 None l).tree ls in
+      ap (λ b. end_at (cond b (Some (judged_at rules 1 None l)) (find (ends rules) rest))) at
+      ∙ ap (λ v. end_of_report (report_by 1 v)) e
+
+  pub kept-first : (l : Line) (ls : List Line) → ending_in rules (judged_list rules (l ∷ ls)) ≡ Complete
+      → (judged_at rules 1 None l).verdict ≡ Kept
+  kept-first l ls h = go (judged_at rules 1 None l).verdict refl (first-verdict rules l.content _ _ (first-is rules l).verdict)
+    where
+      clash : (place : ℕ) (reason : Reason) → Refused 1 place reason ≡ Complete → ⊥
+      clash place reason e = cc
+
+      go : (v : Verdict) → (judged_at rules 1 None l).verdict ≡ v → IsFirst v → (judged_at rules 1 None l).verdict ≡ Kept
+      go (Invalid place reason) e k = absurd (clash place reason (sym (refused-first l ls place reason e) ∙ h))
+      go Blank e k = absurd (first-blank k)
+      go LeftOut e k = absurd (first-left k)
+      go Kept e k = e
+
+  record SamePeaks (s : List ℕ) (js : List JudgedLine) : Type 0 where
+    peaks : exact_peaks rules.limits s ≡ peaks_in rules.limits js
+    readable : are_readable rules.limits s ≡ list_all is_legible (later_of js)
+
+  headed-peaks : (s : List ℕ) (h : Tree) (l : Line) (ls : List Line) → lines s ≡ l ∷ ls
+      → SamePeaks s (judged_at rules 1 None l ∷ judged_later rules h 2 ls)
+  headed-peaks s h l ls e =
+      let bytes = ap length (first-line s l ls e) in
+      let held = ap (λ z. greatest (held_length rules.limits) (later_of (map (λ (l : Line). l.content) z))) e
+      ∙ later-held h 2 ls in
+      let more = ap (λ z. greatest (tree_size rules.limits) (later_of (map (λ (l : Line). l.content) z))) e
+      ∙ later-sized h 2 ls in
+      let size = ap (λ z. first_size (map (λ (l : Line). l.content) z)) e ∙ sized None l.content in
+      let nest = ap (λ z. greatest (tree_nest rules.limits) (map (λ (l : Line). l.content) z)) e
+      ∙ (ap (λ m. max m (greatest (tree_nest rules.limits) (map (λ (l : Line). l.content) ls))) (nested None l.content)
+      ∙ ap (λ m. max (nest_if (read_tree rules None l.content)) m) (later-nested h 2 ls)) in
+      record {
+        peaks = λ i. record { bytes = bytes i + held i; tokens = size i + more i; depth = nest i };
+        readable = ap (λ z. list_all (is_readable rules.limits) (later_of (map (λ (l : Line). l.content) z))) e
+            ∙ later-legible h 2 (omega arith) ls;
+      }
+    where
+      first_size : List (List ℕ) → ℕ
+      first_size [] = 0
+      first_size (c ∷ cs) = tree_size rules.limits c
+
+  same-peaks : (s : List ℕ) → ending rules s ≡ Complete → SamePeaks s (judged_lines rules s)
+  same-peaks s h = go (lines s) refl (sym (ending-in rules s) ∙ h)
+    where
+      clash : Refused 1 0 NoHeader ≡ Complete → ⊥
+      clash e = cc
+
+      go : (ls : List Line) → lines s ≡ ls → ending_in rules (judged_list rules ls) ≡ Complete
+          → SamePeaks s (judged_list rules ls)
+      go [] e h = absurd (clash h)
+      go (l ∷ ls) e h =
+          let k = kept-first l ls h in
+          let u = kept-tree rules None l.content _ _ (first-is rules l).verdict k in
+          let behind = behind-some rules _ _ u.0 ls k u.1 in
+          subst (λ js. SamePeaks s (judged_at rules 1 None l ∷ js)) (sym behind) (headed-peaks s u.0 l ls e)
+
+  pub HasPeaks-exact : (s : List ℕ) (peaks : Peaks) → ending rules s ≡ Complete → IsExact rules.limits s peaks
+      → HasPeaks rules.limits (judged_lines rules s) peaks
+  HasPeaks-exact s peaks h e =
+      let same = same-peaks s h in
+      record {
+        bytes = e.bytes ∙ ap (λ (p : Peaks). p.bytes) same.peaks;
+        tokens = omega (arith, e.least.tokens, ap (λ (p : Peaks). p.tokens) same.peaks);
+        depth = omega (arith, e.least.depth, ap (λ (p : Peaks). p.depth) same.peaks);
+        legible = λ k. e.legible (same.readable ∙ k) ∙ same.peaks;
+      }
+
+  pub IsExact-peaks : (s : List ℕ) (peaks : Peaks) → ending rules s ≡ Complete
+      → HasPeaks rules.limits (judged_lines rules s) peaks → IsExact rules.limits s peaks
+  IsExact-peaks s peaks h e =
+      let same = same-peaks s h in
+      record {
+        bytes = e.bytes ∙ sym (ap (λ (p : Peaks). p.bytes) same.peaks);
+        least = record {
+          bytes = omega (arith, e.bytes, ap (λ (p : Peaks). p.bytes) same.peaks);
+          tokens = omega (arith, e.tokens, ap (λ (p : Peaks). p.tokens) same.peaks);
+          depth = omega (arith, e.depth, ap (λ (p : Peaks). p.depth) same.peaks);
+        };
+        legible = λ k. e.legible (sym same.readable ∙ k) ∙ sym same.peaks;
+      }

@@ -1,0 +1,9 @@
+use Rattle.cj_stream.specs.Meaning.Lines.{lines}
+use Rattle.cj_stream.proofs.JudgedLemmas.{list-are, list-only}
+use Rattle.cj_stream.proofs.laws.lines_are_judged.Goals as goal
+
+pub returns-clause-are : goal.returns-clause-are
+returns-clause-are c = λ rules. list-are rules (lines c.args.stream.now)
+
+pub returns-clause-only : goal.returns-clause-only
+returns-clause-only c = λ rules js h. list-only rules (lines c.args.stream.now) js h
