@@ -4,13 +4,13 @@ use Rattle.std.specs.Prelude.{◌^◌, ◌&&◌, int_le, get_or}
 use Rattle.std.specs.List.{list_any}
 use Rattle.std.specs.Str.{chars}
 use lib.Utf8.{encode}
-use Rattle.cj_decimal.specs.Affine.{AffineMap, image}
-use Rattle.cj_spans.specs.Text.{text, code_points_after, first_code_point, first_width}
-use Rattle.cj_spans.specs.Tree.{Tree}
-use Rattle.cj_geometry.specs.ObjectTypes.{object_types}
+use Rattle.cj_decimal.specs.Meaning.Affine.{AffineMap, image}
+use Rattle.cj_spans.specs.Meaning.Text.{text, code_points_after, first_code_point, first_width}
+use Rattle.cj_spans.specs.Meaning.Tree.{Tree}
+use Rattle.cj_geometry.specs.Meaning.ObjectTypes.{object_types}
 use Rattle.cj_geometry.proofs.Digits.{whole-zero, whole-one}
-use Rattle.cj_feature.specs.Shown.{maps_of}
-use Rattle.cj_feature.specs.Typed.{number_on}
+use Rattle.cj_feature.specs.Meaning.Transform.{maps_of}
+use Rattle.cj_feature.specs.Meaning.CityObject.{number_on}
 use Rattle.cj_stream.specs.Criteria.{Box, holds, vertices_of}
 use Rattle.cj_stream.specs.QueryRows.{plain_header, two_objects, one_instance, boxed, IdRows, TypeRows, LodRows, InstanceRows, InBoxRows, OutOfBoxRows, EachPartRows}
 use Rattle.cj_stream.proofs.BoxRowLemmas.{zero, one}

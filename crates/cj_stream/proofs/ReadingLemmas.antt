@@ -5,11 +5,11 @@ use Rattle.std.proofs.lemmas.List.{append-nil}
 use Rattle.std.proofs.lemmas.Bool.{ltb-true}
 use Rattle.std.proofs.lemmas.Bool.Decides.{nat_tests}
 use Rattle.cj_budget.specs.Bounded.{IsWithin}
-use Rattle.cj_budget.specs.Limits.{LimitPair}
+use Rattle.cj_budget.specs.Meaning.Limits.{LimitPair}
 use Rattle.cj_spans.specs.declared.reason.Reason.TheVariants.{LineTooLong}
 use Rattle.cj_stream.specs.Lines.{Line, closed, begun, begun_after, begun_later, ended_line, first_of, first_content, later_of, NoLf}
 use Rattle.std.specs.List.{filter}
-use Rattle.cj_spans.specs.Tree.{Tree}
+use Rattle.cj_spans.specs.Meaning.Tree.{Tree}
 use Rattle.cj_stream.specs.Item.{Item, is_feature, item_at}
 use Rattle.cj_stream.specs.Verdict.{Rules, Verdict, Refuse, Blank, LeftOut, Valid, verdict_at, verdict, header_of, item_after, goes_on, refusal_of, report_of, is_kept, kept_from, reported_from}
 use Rattle.cj_stream.specs.Bound.{greatest, held_length}
