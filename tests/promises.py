@@ -223,12 +223,12 @@ def check_tests(code, report):
 
 def check_headline(report):
     """The record of the headline stands in the document as in its definition."""
-    definition = (ROOT / 'crates/cj_stream/specs/Headline.antt').read_text()
+    definition = next(ROOT.glob('crates/cj_stream/specs/**/Headline.antt')).read_text()
     record = re.search(r'^pub record Headline .*\n(?:    .*\n)*(?:  pub .*\n)+', definition, re.M)
     report.place = 'docs/PROMISES.md'
     document = (ROOT / 'docs/PROMISES.md').read_text()
     is_there = record is not None and f'```\n{record[0]}```\n' in document
-    report.count(is_there, 'the record of the headline is not that of specs/Headline.antt')
+    report.count(is_there, 'the record of the headline is not that of Headline.antt')
 
 
 def check_reasons(code, report):
