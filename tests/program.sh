@@ -886,6 +886,11 @@ row_the_documents_name_what_is_there() {
   tests/promises.py > "$scratch/noise" || { cat "$scratch/noise"; false; }
 }
 
+row_the_page_of_the_proof_is_made_of_the_sources() {
+  command -v python3 > "$scratch/noise" || return $skipped
+  tests/proof.py > "$scratch/noise" || { cat "$scratch/noise"; false; }
+}
+
 row_the_documents_link_to_what_is_there_and_are_short() {
   command -v python3 > "$scratch/noise" || return $skipped
   tests/links.py > "$scratch/noise" || { cat "$scratch/noise"; false; }

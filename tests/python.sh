@@ -38,7 +38,7 @@ types() {
 
 lint() {
   if ! "$python" -c 'import flake8' 2> "$scratch/noise"; then echo 'left out: flake8 is not there' && echo '0 passed, 0 failed' && return; fi
-  "$python" -m flake8 bench bench/run examples packaging packaging/cityseq-run python tests tests/run vectors && echo '1 passed, 0 failed' && return
+  "$python" -m flake8 bench bench/run examples packaging packaging/cityseq-run python tests tests/run tools vectors && echo '1 passed, 0 failed' && return
   echo '0 passed, 1 failed'
 }
 

@@ -4,7 +4,7 @@ use Rattle.std.specs.Prelude.{is_some, slice_set}
 use Rattle.std.specs.List.{AllZip}
 use Rattle.std.proofs.lemmas.Bool.{ltb-true, ltb-false}
 use Rattle.std.proofs.lemmas.List.{append-nil, take_more_set, drop-set-lt, length-set}
-use Rattle.cj_spans.specs.Tree.{Tree}
+use Rattle.cj_spans.specs.Meaning.Tree.{Tree}
 use Rattle.cj_stream.specs.Meaning.Item.{Item}
 use Rattle.cj_stream.specs.Meaning.Lines.{Line}
 use Rattle.cj_stream.specs.Meaning.Outputs.{Took}

@@ -4,9 +4,9 @@ use Rattle.std.specs.List.{filter}
 use Rattle.std.specs.Str.{chars}
 use Rattle.cj_spans.specs.declared.reason.Reason.{Reason}
 use Rattle.cj_spans.specs.declared.reason.Reason.TheVariants.{Syntax}
-use Rattle.cj_spans.specs.Text.{text, code_points_after, first_code_point, first_width}
-use Rattle.cj_spans.specs.Tree.{Tree}
-use Rattle.cj_geometry.specs.ObjectTypes.{object_types}
+use Rattle.cj_spans.specs.Meaning.Text.{text, code_points_after, first_code_point, first_width}
+use Rattle.cj_spans.specs.Meaning.Tree.{Tree}
+use Rattle.cj_geometry.specs.Meaning.ObjectTypes.{object_types}
 use Rattle.cj_feature.specs.Examples.{plain_header}
 use Rattle.cj_feature.proofs.Worked.{plain_feature}
 use Rattle.cj_stream.specs.GoingRows.{going}

@@ -5,8 +5,8 @@ use Rattle.std.proofs.lemmas.Grind.{same_number_lists}
 use Rattle.std.proofs.lemmas.List.{get_or-replicate}
 use Rattle.std.specs.List.{filter, last_or}
 use Rattle.std.specs.Str.{chars}
-use Rattle.cj_decimal.specs.Number.{Number as Decimal}
-use Rattle.cj_feature.specs.Shown.{transform_values}
+use Rattle.cj_decimal.specs.Meaning.Number.{Number as Decimal}
+use Rattle.cj_feature.specs.Meaning.Transform.{transform_values}
 use Rattle.cj_geometry.specs.ObjectTypes.{type_count}
 use Rattle.cj_stream.specs.CountSink.{is_header}
 use Rattle.cj_stream.specs.Meaning.Item.{Item}

@@ -1,6 +1,6 @@
 -- What C is told of how it went.
 use Rattle.std.specs.Prelude.{ℕ, Result, Ok, Err}
-use Rattle.cj_spans.specs.Reason.{code_of}
+use Rattle.cj_spans.specs.Meaning.Reason.{code_of}
 use Rattle.cj_stream.specs.declared.ending.End.{End}
 use Rattle.cj_stream.specs.declared.ending.End.TheVariants.{Complete, Refused, ReadFault, ReadLimit, WriteFault}
 use Rattle.cj_stream.specs.declared.ending.End.TheVariants.{Memory as NoMemory}

@@ -4,9 +4,10 @@ use Rattle.std.specs.Prelude.{Some, None, ℤ, if◌then◌else◌, MatchOption,
 use Rattle.std.specs.Prelude.{slice_set, take}
 use Rattle.std.specs.List.{AllZip, filter, flat_map}
 use Rattle.std.specs.Str.{bytes_eq, chars}
-use Rattle.cj_spans.specs.Parts.{member_of, spelling_of}
-use Rattle.cj_spans.specs.Tree.{Tree, start_of}
-use Rattle.cj_feature.specs.Walks.{object_geometries}
+use Rattle.cj_spans.specs.Meaning.Parts.{member_of}
+use Rattle.cj_spans.specs.Places.{spelling_of}
+use Rattle.cj_spans.specs.Meaning.Tree.{Tree, start_of}
+use Rattle.cj_feature.specs.Meaning.CityObject.{object_geometries}
 use Rattle.cj_stream.specs.Meaning.Criteria.{objects_of}
 use Rattle.cj_stream.specs.Meaning.Item.{Item, is_feature}
 use Rattle.cj_stream.specs.Meaning.Lines.{Line, raw, lines, later_of}

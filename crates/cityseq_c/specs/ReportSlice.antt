@@ -1,6 +1,6 @@
 -- What contracts see of room that is lent for reports, and what it has of some reports.
 use Rattle.std.specs.Prelude.{◌≡◌, ℕ, ◌+◌, List, ◌++◌, map, length, min, take, drop, nat_lt, if◌then◌else◌, slice_set}
-use Rattle.cj_spans.specs.Reason.{code_of}
+use Rattle.cj_spans.specs.Meaning.Reason.{code_of}
 use Rattle.cj_stream.specs.declared.report_sink.Report.{Report}
 use Rattle.cityseq_c.specs.Begins.{begin_of}
 use Rattle.cityseq_c.specs.declared.finder.Finder.{Finder}

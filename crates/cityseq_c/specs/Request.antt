@@ -3,7 +3,8 @@ use Rattle.std.specs.Prelude.{◌≡◌, ◌⊎◌, ℕ, ◌+◌, ◌^◌, ◌<�
 use Rattle.std.specs.Prelude.{nat_eq, nat_le, length, max, min, Option, Some, None, Result, Ok, Err, option_map}
 use Rattle.std.specs.List.{slice_split}
 use Rattle.std.specs.Str.{is_utf8}
-use Rattle.cj_budget.specs.Limits.{InLine, InDepth, LimitPair}
+use Rattle.cj_budget.specs.Limits.{InLine, InDepth}
+use Rattle.cj_budget.specs.Meaning.Limits.{LimitPair}
 use Rattle.cj_stream.specs.Adding.{flags_with, no_types}
 use Rattle.cj_stream.specs.BoxText.{box_text}
 use Rattle.cj_stream.specs.Meaning.Criteria.{Criteria, Box}

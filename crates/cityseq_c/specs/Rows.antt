@@ -1,6 +1,6 @@
 -- Worked rows of the definitions, which compute.
 use Rattle.std.specs.Prelude.{◌≡◌, ℕ, List, [], ◌∷◌, ◌++◌, None, codes, map}
-use Rattle.cj_spans.specs.Signs.{carriage_return, newline}
+use Rattle.cj_spans.specs.Meaning.Signs.{carriage_return, newline}
 use Rattle.cj_stream.specs.GoingRows.{going}
 use Rattle.cj_stream.specs.Item.{item_at, tree_of}
 use Rattle.cj_stream.specs.Meaning.Lines.{ended_line}

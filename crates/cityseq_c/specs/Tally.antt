@@ -2,7 +2,7 @@
 use Rattle.std.specs.Prelude.{◌≡◌, ℕ, ◌+◌, ◌*◌, ◌^◌, ◌<◌, List, [], ◌∷◌, Option, None, Some, ℤ, pos, get_or, int_lt}
 use Rattle.std.specs.Prelude.{is_some, nat_eq, replicate, unsigned_abs, if◌then◌else◌}
 use Rattle.std.specs.List.{AllZip}
-use Rattle.cj_decimal.specs.Number.{Number}
+use Rattle.cj_decimal.specs.Meaning.Number.{Number}
 use Rattle.cj_geometry.specs.ObjectTypes.{type_count}
 use Rattle.cj_stream.specs.Tallied.{class_count}
 use Rattle.cj_stream.specs.TallySink.{Tally as Tallied}

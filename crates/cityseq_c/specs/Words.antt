@@ -1,8 +1,9 @@
 -- The texts of reasons and the names of types, by their numbers.
 use Rattle.std.specs.Prelude.{◌≡◌, ℕ, List, [], ◌∷◌, ◌++◌, Option, None, Some, length, take, drop, min, nat_eq}
 use Rattle.std.specs.Prelude.{if◌then◌else◌}
-use Rattle.cj_geometry.specs.ObjectTypes.{ObjectRow, object_types}
-use Rattle.cj_spans.specs.Reason.{code_of, words_of}
+use Rattle.cj_geometry.specs.Meaning.ObjectTypes.{ObjectRow, object_types}
+use Rattle.cj_spans.specs.Meaning.Reason.{code_of}
+use Rattle.cj_spans.specs.Meaning.ReasonWords.{words_of}
 use Rattle.cj_spans.specs.declared.reason.Reason.{Reason}
 use Rattle.cj_spans.specs.declared.reason.Reason.TheVariants.{NoHeader, LineTooLong, NotUtf8, Syntax, TooDeep}
 use Rattle.cj_spans.specs.declared.reason.Reason.TheVariants.{MissingMember, DuplicateName, WrongKind, NumberRange}

@@ -9,7 +9,8 @@ use Rattle.cityseq_command.specs.declared.fault_lines.Shown.{Shown}
 use Rattle.cj_budget.specs.declared.limits.LimitFault.{LimitFault}
 use Rattle.cj_budget.specs.declared.limits.LimitFault.TheVariants.{LineLimit, DepthLimit}
 use Rattle.cj_stream.specs.declared.output.WriteFault.{WriteFault as Unwritten}
-use Rattle.cj_spans.specs.Reason.{code_of, words_of}
+use Rattle.cj_spans.specs.Meaning.Reason.{code_of}
+use Rattle.cj_spans.specs.Meaning.ReasonWords.{words_of}
 use Rattle.cj_stream.specs.declared.query.fault.QueryFault.{QueryFault}
 use Rattle.cj_stream.specs.declared.query.fault.QueryFault.TheVariants.{Memory as NoMemory, UnknownTypeName, BadBox}
 use Rattle.cj_stream.specs.declared.query.fault.QueryFault.TheVariants.{BoxRange, EmptyBox}

@@ -3,8 +3,8 @@ use Rattle.std.specs.Prelude.{ℕ, zero, suc, List, [], ◌∷◌, ◌++◌, Opt
 use Rattle.std.specs.Fmt.{signed_decimal}
 use Rattle.std.specs.List.{flat_map}
 use Rattle.cj_budget.specs.declared.limits.Peaks.{Peaks}
-use Rattle.cj_decimal.specs.Number.{Number}
-use Rattle.cj_geometry.specs.ObjectTypes.{ObjectRow, object_types}
+use Rattle.cj_decimal.specs.Meaning.Number.{Number}
+use Rattle.cj_geometry.specs.Meaning.ObjectTypes.{ObjectRow, object_types}
 use Rattle.cj_stream.specs.Meaning.Lines.{joined}
 use Rattle.cj_stream.specs.TallySink.{Tally}
 use Rattle.cityseq_command.specs.Text.{text_line, count_line, counted}

@@ -1,6 +1,6 @@
 -- Worked texts of `check` and `info`, which compute.
 use Rattle.std.specs.Prelude.{◌≡◌, [], ◌∷◌, ◌++◌, Some, pos, negsuc, codes, replicate}
-use Rattle.cj_decimal.specs.Number.{number}
+use Rattle.cj_decimal.specs.Meaning.Number.{scaled}
 use Rattle.cj_stream.specs.Meaning.Lines.{joined}
 use Rattle.cj_stream.specs.TallySink.{Tally, no_tally}
 use Rattle.cityseq_command.specs.Summary.{check_text, summary_text}
@@ -12,8 +12,8 @@ buildings = record {
   types = 0 ∷ 2 ∷ replicate 31 0;
   lods = 0 ∷ 0 ∷ 1 ∷ replicate 3 0;
   ranges = Some (pos 0, pos 1000) ∷ Some (pos 0, pos 1000) ∷ Some (pos 0, pos 0) ∷ [];
-  scale = Some (replicate 3 (number (pos 1) (negsuc 2)));
-  translate = Some (number (pos 1) (pos 3) ∷ number (pos 2) (pos 3) ∷ number (pos 0) (pos 0) ∷ []);
+  scale = Some (replicate 3 (scaled (pos 1) (negsuc 2)));
+  translate = Some (scaled (pos 1) (pos 3) ∷ scaled (pos 2) (pos 3) ∷ scaled (pos 0) (pos 0) ∷ []);
 }
 
 -- terrain and parts of tunnels below the ground, with geometries of the first class and the last
@@ -23,8 +23,8 @@ underground = record {
   types = replicate 11 0 ++ 3 ∷ (replicate 20 0 ++ 40 ∷ []);
   lods = 1 ∷ (replicate 4 0 ++ 20 ∷ []);
   ranges = Some (negsuc 6, negsuc 0) ∷ Some (pos 5, pos 5) ∷ Some (negsuc 99, pos 0) ∷ [];
-  scale = Some (number (negsuc 0) (pos 0) ∷ number (pos 25) (negsuc 3) ∷ number (pos 1) (pos 2) ∷ []);
-  translate = Some (number (negsuc 452) (negsuc 2) ∷ number (pos 0) (pos 0) ∷ number (pos 84616468) (negsuc 2) ∷ []);
+  scale = Some (scaled (negsuc 0) (pos 0) ∷ scaled (pos 25) (negsuc 3) ∷ scaled (pos 1) (pos 2) ∷ []);
+  translate = Some (scaled (negsuc 452) (negsuc 2) ∷ scaled (pos 0) (pos 0) ∷ scaled (pos 84616468) (negsuc 2) ∷ []);
 }
 
 -- the summary of the buildings

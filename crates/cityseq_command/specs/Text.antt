@@ -1,7 +1,7 @@
 -- Lines of text that the program writes.
 use Rattle.std.specs.Prelude.{ℕ, suc, zero, List, [], ◌∷◌, ◌++◌, decimal}
 use Rattle.std.specs.List.{flat_map}
-use Rattle.cj_spans.specs.Signs.{newline, space}
+use Rattle.cj_spans.specs.Meaning.Signs.{newline, space}
 
 -- a line: a name, and words after it, each behind a space
 abbrev pub text_line : List ℕ → List (List ℕ) → List ℕ

@@ -3,7 +3,8 @@ use Rattle.std.specs.Prelude.{◌≡◌, ◌≢◌, ℕ, ◌<◌, ◌^◌, List,
 use Rattle.std.specs.Str.Parse.{IsNumeral, digits_value, without_leading_plus}
 use Rattle.clap.specs.Words.{HasKind, Text, fault_of, found_of, first_value, one_text, subcommand_of}
 use Rattle.clap.specs.declared.parser.matches.ArgMatches.{ArgMatches}
-use Rattle.cj_budget.specs.Limits.{LimitPair, InLine, InDepth}
+use Rattle.cj_budget.specs.Meaning.Limits.{LimitPair}
+use Rattle.cj_budget.specs.Limits.{InLine, InDepth}
 use Rattle.cj_budget.specs.declared.limits.LimitFault.{LimitFault}
 use Rattle.cj_budget.specs.declared.limits.LimitFault.TheVariants.{LineLimit, DepthLimit}
 use Rattle.cj_stream.specs.Meaning.Options.{OptionSet}

@@ -2,7 +2,8 @@
 use Rattle.std.specs.Prelude.{◌≡◌, ◌↔◌, ◌⊎◌, ℕ, ◌<◌, ◌≤◌, List, [], length, max, nat_le, Bool, true, IsTrue, Result}
 use Rattle.std.specs.Prelude.{OnOk, OnErr, IsOk, IsErrOf, refl}
 use Rattle.std.specs.Coded.{Coded, code_by, coded×, coded_ℕ, coded_list, coded_bool}
-use Rattle.cj_budget.specs.Counts.{HasRisen, one_more}
+use Rattle.cj_budget.specs.Meaning.Counts.{HasRisen}
+use Rattle.cj_budget.specs.Counts.{one_more_failure}
 use Rattle.cj_budget.specs.declared.growth.NoMemory.{NoMemory}
 use Rattle.cj_budget.specs.declared.bounded.Refused.{Refused}
 use Rattle.cj_budget.specs.declared.bounded.Refused.TheVariants.{Full, Memory}
@@ -51,7 +52,7 @@ module _ {T : Type 0} where
 
   -- a growth failed: the count of that is one more, and nothing else has changed
   pub record FailsToGrow (old new : BoundedList T) : Type 0 where
-    pub same : new ≡ record old { failed_growths = one_more old.failed_growths }
+    pub same : new ≡ record old { failed_growths = one_more_failure old.failed_growths }
     pub risen : HasRisen old.failed_growths new.failed_growths
 
   -- x was added, which makes xs; or it is given back: as Full exactly where the list is full, and nothing has changed;

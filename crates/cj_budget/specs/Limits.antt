@@ -1,10 +1,6 @@
--- The limits of a run: their ranges, and the usual ones.
+-- The ranges of limits, and the usual limits.
 use Rattle.std.specs.Prelude.{ℕ, ◌≤◌}
-
--- what a contract sees of limits: the most content bytes of a line, and the most open containers
-pub record LimitPair : Type 0 where
-  pub line : ℕ
-  pub depth : ℕ
+use Rattle.cj_budget.specs.Meaning.Limits.{LimitPair}
 
 -- a line limit in range
 abbrev pub InLine : ℕ → Type 0

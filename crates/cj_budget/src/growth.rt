@@ -4,7 +4,8 @@
 //! `note` raises the count, and a lack of memory is reported only if the count has risen. The count
 //! is private: a proof can rely on it only if no other code can set it.
 ghost use Rattle.std.specs.Prelude.{◌≡◌, OnOk, OnErr, IsOk, IsErr};
-ghost use Rattle.cj_budget.specs.Counts.{HasRisen, counted};
+ghost use Rattle.cj_budget.specs.Meaning.Counts.{HasRisen};
+ghost use Rattle.cj_budget.specs.Counts.{counted};
 
 use std::marker::Model;
 use thiserror::Error;

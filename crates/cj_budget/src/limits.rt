@@ -42,7 +42,8 @@ pub struct Limits {
 }
 
 impl Model for Limits {
-    ghost use Rattle.cj_budget.specs.Limits.{LimitPair, InLine, InDepth};
+    ghost use Rattle.cj_budget.specs.Meaning.Limits.{LimitPair};
+    ghost use Rattle.cj_budget.specs.Limits.{InLine, InDepth};
 
     ghost Value = { LimitPair };
 

@@ -5,10 +5,11 @@ use Rattle.std.proofs.lemmas.Nat.{le_bytes_8, pow-add}
 use Rattle.std.proofs.lemmas.Bool.{cases_lt}
 use Rattle.std.proofs.Math.Nat.{mul-le-mul_left}
 use Rattle.std.specs.Prelude.{Option, None, Some, IfSome, IsSome, Ok, pos}
-use Rattle.cj_decimal.specs.Class.{Class, whole_answer}
-use Rattle.cj_decimal.specs.Reading.{IsShort}
-use Rattle.cj_decimal.specs.Spelling.{IsInt, digits_value}
-use Rattle.cj_decimal.specs.Word.{word_of, AllBelow, IsCountWord, IsWordOf, TellsBelow, weighed}
+use Rattle.cj_decimal.specs.Meaning.Class.{Class, whole_answer}
+use Rattle.cj_decimal.specs.inner.Reading.{IsShort}
+use Rattle.cj_decimal.specs.Meaning.Spelling.{IsInt}
+use Rattle.cj_decimal.specs.Meaning.Reading.{digits_value}
+use Rattle.cj_decimal.specs.Word.{little_endian, AllBelow, IsCountWord, IsWordOf, TellsBelow, weighed}
 use Rattle.cj_decimal.proofs.Wholes.{answer_digits}
 use Rattle.cj_decimal.proofs.Eights.{eight, horner, int_short, spelled_value}
 
@@ -78,25 +79,25 @@ bytes_of [] h i = omega arith
 bytes_of (b ∷ s) h zero = let l = h.0 in omega arith
 bytes_of (b ∷ s) h (suc i) = bytes_of s h.1 i
 
-pub swapped : (s : List ℕ) → length s ≡ 8 → AllBelow 10 s → swap_bytes w64 (word_of s) ≡ weighed 256 s
+pub swapped : (s : List ℕ) → length s ≡ 8 → AllBelow 10 s → swap_bytes w64 (little_endian s) ≡ weighed 256 s
 unfolding weighed
-swapped s l = eight (λ s. AllBelow 10 s → swap_bytes w64 (word_of s) ≡ weighed 256 s) each s l
+swapped s l = eight (λ s. AllBelow 10 s → swap_bytes w64 (little_endian s) ≡ weighed 256 s) each s l
   where
     each : (a b c d e f g h : ℕ) → AllBelow 10 (a ∷ b ∷ c ∷ d ∷ e ∷ f ∷ g ∷ h ∷ [])
-        → swap_bytes w64 (word_of (a ∷ b ∷ c ∷ d ∷ e ∷ f ∷ g ∷ h ∷ []))
+        → swap_bytes w64 (little_endian (a ∷ b ∷ c ∷ d ∷ e ∷ f ∷ g ∷ h ∷ []))
         ≡ weighed 256 (a ∷ b ∷ c ∷ d ∷ e ∷ f ∷ g ∷ h ∷ [])
     each a b c d e f g h z =
         let s = a ∷ b ∷ c ∷ d ∷ e ∷ f ∷ g ∷ h ∷ [] in
-        let same : word_of s ≡ from_le_bytes w64 s = omega arith in
-        ap (from_be_bytes w64) (le_bytes_8 s (word_of s) refl (bytes_of s z) same) ∙ omega arith
+        let same : little_endian s ≡ from_le_bytes w64 s = omega arith in
+        ap (from_be_bytes w64) (le_bytes_8 s (little_endian s) refl (bytes_of s z) same) ∙ omega arith
 
-unswapped : (s : List ℕ) → length s ≡ 8 → AllBelow 10 s → swap_bytes w64 (weighed 256 s) ≡ word_of s
+unswapped : (s : List ℕ) → length s ≡ 8 → AllBelow 10 s → swap_bytes w64 (weighed 256 s) ≡ little_endian s
 unfolding weighed
-unswapped s l = eight (λ s. AllBelow 10 s → swap_bytes w64 (weighed 256 s) ≡ word_of s) each s l
+unswapped s l = eight (λ s. AllBelow 10 s → swap_bytes w64 (weighed 256 s) ≡ little_endian s) each s l
   where
     each : (a b c d e f g h : ℕ) → AllBelow 10 (a ∷ b ∷ c ∷ d ∷ e ∷ f ∷ g ∷ h ∷ [])
         → swap_bytes w64 (weighed 256 (a ∷ b ∷ c ∷ d ∷ e ∷ f ∷ g ∷ h ∷ []))
-        ≡ word_of (a ∷ b ∷ c ∷ d ∷ e ∷ f ∷ g ∷ h ∷ [])
+        ≡ little_endian (a ∷ b ∷ c ∷ d ∷ e ∷ f ∷ g ∷ h ∷ [])
     each a b c d e f g h z =
         let s = a ∷ b ∷ c ∷ d ∷ e ∷ f ∷ g ∷ h ∷ [] in
         let r = h ∷ g ∷ f ∷ e ∷ d ∷ c ∷ b ∷ a ∷ [] in
@@ -107,8 +108,8 @@ unswapped s l = eight (λ s. AllBelow 10 s → swap_bytes w64 (weighed 256 s) �
             (z.1.1.1.1.1.0, (z.1.1.1.1.0, (z.1.1.1.0, (z.1.1.0, (z.1.0, (z.0, tt)))))),
           ),
         ) in
-        let turned : weighed 256 s ≡ word_of r = omega arith in
-        let back : weighed 256 r ≡ word_of s = omega arith in
+        let turned : weighed 256 s ≡ little_endian r = omega arith in
+        let back : weighed 256 r ≡ little_endian s = omega arith in
         ap (swap_bytes w64) turned ∙ swapped r refl other ∙ back
 
 -- ---- words and their numbers
@@ -124,17 +125,17 @@ words_in_order v w a b x y h =
     omega (arith, o, m, n)
 
 -- eight digits as a word
-pub word_of_eight : (s : List ℕ) (m n : ℕ) → length s ≡ 8 → AllBelow 10 s → m ≡ word_of s
+pub word_of_eight : (s : List ℕ) (m n : ℕ) → length s ≡ 8 → AllBelow 10 s → m ≡ little_endian s
     → digits_value (map (λ d. d + 48) s) ≡ n → IsWordOf (swap_bytes w64 m) n
 word_of_eight s m n l small is value = (s, l, small, ap (swap_bytes w64) is ∙ swapped s l small, sym value)
 
 pub eight_of_word : (w n : ℕ) → IsWordOf w n → (s : List ℕ) × (length s ≡ 8) × AllBelow 10 s
-    × (swap_bytes w64 w ≡ word_of s) × (n ≡ digits_value (map (λ d. d + 48) s))
+    × (swap_bytes w64 w ≡ little_endian s) × (n ≡ digits_value (map (λ d. d + 48) s))
 eight_of_word w n h = (h.0, h.1, h.2, ap (swap_bytes w64) h.3 ∙ unswapped h.0 h.1 h.2, h.4)
 
-pub eight_room : (s : List ℕ) (m : ℕ) → length s ≡ 8 → AllBelow 10 s → m ≡ word_of s → m < 2 ^ 60
+pub eight_room : (s : List ℕ) (m : ℕ) → length s ≡ 8 → AllBelow 10 s → m ≡ little_endian s → m < 2 ^ 60
 eight_room s m l =
-    eight (λ s. AllBelow 10 s → m ≡ word_of s → m < 2 ^ 60)
+    eight (λ s. AllBelow 10 s → m ≡ little_endian s → m < 2 ^ 60)
     (λ a b c d e f g h z is.
     omega (
       arith,

@@ -1,20 +1,23 @@
 -- Numbers of at most eight digits, read by one word of eight bytes.
 use Rattle.std.proofs.Common.{◌≡◌, ℕ, zero, suc, ◌+◌, ◌-◌, ◌*◌, ◌/◌, ◌%◌, ◌^◌, ◌<◌, ◌≤◌, List, [], ◌∷◌, length, take, drop, map, Bool, true, false, ◌&&◌, ◌||◌, nat_le, nat_eq, refl, sym, ap, subst, arith, ◌∙◌, inl, inr, not}
+use Rattle.std.proofs.Common.{get_or}
 use Rattle.std.specs.Int.Bits.{bit_and, bit_xor, and_block, xor_block}
 use Rattle.std.proofs.lemmas.Nat.{xor_lt, pow-add, shr-shr, shr_le, and_mask}
 use Rattle.std.proofs.lemmas.Nat.Bits.{and_high_mask}
 use Rattle.std.proofs.lemmas.Bool.Decides.{nat_tests}
 use Rattle.std.proofs.lemmas.Bool.{cases_lt}
 use Rattle.std.specs.Prelude.{slice_range, ◌⊎◌, IsTrue}
-use Rattle.std.proofs.Common.{get_or}
 use Rattle.std.proofs.lemmas.List.{drop-take, drop-drop, get_or-take, get_or-drop, length-drop, length-take-le}
-use Rattle.cj_decimal.specs.Reading.{IsShort, after_frac, digits_front, digits_rest, begins, begins_digit, body, is_exp, is_frac, is_int, written_of}
+use Rattle.cj_decimal.specs.inner.Reading.{IsShort}
+use Rattle.cj_decimal.specs.Meaning.Reading.{after_frac, digits_front, digits_rest, begins, begins_digit, body, is_exp}
+use Rattle.cj_decimal.specs.Meaning.Reading.{is_frac, is_int, written_of, digits_value, value_after}
 use Rattle.cj_decimal.proofs.Grammar.{append_nil, both_left, digit_begins, front_all, front_append, front_rest, int_digits, int_from_test, int_is_digits, spells_test, test_spells}
 use Rattle.cj_decimal.proofs.Parts.{minus_there, no_minus, not_int}
 use Rattle.cj_decimal.proofs.Wholes.{int_alone_reads}
 use Rattle.cj_decimal.proofs.NumberBytes.{NumberBytes, number_bytes}
-use Rattle.cj_decimal.specs.Spelling.{AllDigits, IsDigit, IsInt, IsFewDigits, IsNumber, IsNumberIfBegun, digits_value, value_after}
-use Rattle.cj_decimal.specs.Word.{word_of, AllBelow}
+use Rattle.cj_decimal.specs.Meaning.Spelling.{AllDigits, IsDigit, IsInt, SpellsNumber}
+use Rattle.cj_decimal.specs.FewDigits.{IsFewDigits, IsNumberIfBegun}
+use Rattle.cj_decimal.specs.Word.{little_endian, AllBelow}
 
 copies : ℕ → ℕ → List ℕ
 copies zero c = []
@@ -22,24 +25,24 @@ copies (suc n) c = c ∷ copies n c
 
 -- ---- bits, byte by byte
 
-and_same : (c : ℕ) → c < 256 → (s : List ℕ) → AllBelow 256 s → bit_and (word_of s) (word_of (copies (length s) c))
-    ≡ word_of (map (λ b. bit_and b c) s)
+and_same : (c : ℕ) → c < 256 → (s : List ℕ) → AllBelow 256 s → bit_and (little_endian s) (little_endian (copies (length s) c))
+    ≡ little_endian (map (λ b. bit_and b c) s)
 unfolding copies
 and_same c l [] h = refl
 and_same c l (b ∷ s) h =
-    let w = word_of s in let v = word_of (copies (length s) c) in
+    let w = little_endian s in let v = little_endian (copies (length s) c) in
     let p : b + 256 * w ≡ w * 2 ^ 8 + b = omega arith in
     let q : c + 256 * v ≡ v * 2 ^ 8 + c = omega arith in
     let block = and_block 8 w v b c h.0 l in
     let rest = and_same c l s h.1 in
     ap (λ n. bit_and n (c + 256 * v)) p ∙ ap (bit_and (w * 2 ^ 8 + b)) q ∙ omega (arith, block, rest)
 
-xor_same : (c : ℕ) → c < 256 → (s : List ℕ) → AllBelow 256 s → bit_xor (word_of s) (word_of (copies (length s) c))
-    ≡ word_of (map (λ b. bit_xor b c) s)
+xor_same : (c : ℕ) → c < 256 → (s : List ℕ) → AllBelow 256 s → bit_xor (little_endian s) (little_endian (copies (length s) c))
+    ≡ little_endian (map (λ b. bit_xor b c) s)
 unfolding copies
 xor_same c l [] h = refl
 xor_same c l (b ∷ s) h =
-    let w = word_of s in let v = word_of (copies (length s) c) in
+    let w = little_endian s in let v = little_endian (copies (length s) c) in
     let p : b + 256 * w ≡ w * 2 ^ 8 + b = omega arith in
     let q : c + 256 * v ≡ v * 2 ^ 8 + c = omega arith in
     let block = xor_block 8 w v b c h.0 l in
@@ -50,17 +53,17 @@ high_of : (b : ℕ) → b < 256 → bit_and b 240 ≡ 0 → b < 16
 high_of b l h = let e : bit_and b (2 ^ 8 - 2 ^ 4) ≡ b / 2 ^ 4 * 2 ^ 4 = and_high_mask 8 4 (omega arith) b l in
     omega (arith, e, h)
 
-all_high : (s : List ℕ) → AllBelow 256 s → word_of (map (λ b. bit_and b 240) s) ≡ 0 → AllBelow 16 s
+all_high : (s : List ℕ) → AllBelow 256 s → little_endian (map (λ b. bit_and b 240) s) ≡ 0 → AllBelow 16 s
 all_high [] h z = tt
 all_high (b ∷ s) h z = (high_of b h.0 (omega (arith, z)), all_high s h.1 (omega (arith, z)))
 
 -- the high half of each byte is 0
-nibbles : (s : List ℕ) → length s ≡ 8 → AllBelow 256 s → bit_and (word_of s) 0xf0f0f0f0f0f0f0f0 ≡ 0 → AllBelow 16 s
+nibbles : (s : List ℕ) → length s ≡ 8 → AllBelow 256 s → bit_and (little_endian s) 0xf0f0f0f0f0f0f0f0 ≡ 0 → AllBelow 16 s
 unfolding copies
 nibbles s e h z =
-    let high : word_of (copies 8 240) ≡ 0xf0f0f0f0f0f0f0f0 = refl in
+    let high : little_endian (copies 8 240) ≡ 0xf0f0f0f0f0f0f0f0 = refl in
     let same = and_same 240 (omega arith) s h in
-    all_high s h (sym same ∙ ap (λ n. bit_and (word_of s) (word_of (copies n 240))) e ∙ ap (bit_and (word_of s)) high
+    all_high s h (sym same ∙ ap (λ n. bit_and (little_endian s) (little_endian (copies n 240))) e ∙ ap (bit_and (little_endian s)) high
     ∙ z)
 
 length_map : (f : ℕ → ℕ) (s : List ℕ) → length (map f s) ≡ length s
@@ -140,19 +143,19 @@ nothing_shifted k = let h = shr_le 0 k in let e : 0 / 2 ^ k ≡ 0 = omega arith 
     none : (p : ℕ) → 0 * p ≡ 0
     none p = grind (arith)
 
-clear_word : (j : ℕ) (s : List ℕ) → AllBelow 256 s → word_of s / 2 ^ (8 * j) * 2 ^ (8 * j) ≡ word_of (clear j s)
+clear_word : (j : ℕ) (s : List ℕ) → AllBelow 256 s → little_endian s / 2 ^ (8 * j) * 2 ^ (8 * j) ≡ little_endian (clear j s)
 unfolding clear
 clear_word zero s h = omega arith
 clear_word (suc j) [] h = nothing_shifted (8 * suc j)
 clear_word (suc j) (b ∷ s) h =
-    let n = b + 256 * word_of s in
+    let n = b + 256 * little_endian s in
     let k : 8 * suc j ≡ 8 + 8 * j = omega arith in
-    let first : n / 2 ^ 8 ≡ word_of s = omega (arith, h.0) in
+    let first : n / 2 ^ 8 ≡ little_endian s = omega (arith, h.0) in
     let rest = clear_word j s h.1 in
     ap (λ i. n / 2 ^ i * 2 ^ i) k
     ∙ ap (λ q. q * 2 ^ (8 + 8 * j)) (sym (shr-shr n 8 (8 * j)) ∙ ap (λ q. q / 2 ^ (8 * j)) first)
-    ∙ ap (λ p. word_of s / 2 ^ (8 * j) * p) (pow-add 2 8 (8 * j))
-    ∙ times_shifted (word_of s / 2 ^ (8 * j)) (2 ^ (8 * j))
+    ∙ ap (λ p. little_endian s / 2 ^ (8 * j) * p) (pow-add 2 8 (8 * j))
+    ∙ times_shifted (little_endian s / 2 ^ (8 * j)) (2 ^ (8 * j))
     ∙ omega (arith, rest)
 
 -- a list of eight
@@ -169,15 +172,15 @@ eight P each (a ∷ b ∷ c ∷ d ∷ e ∷ f ∷ g ∷ []) l = absurd (omega (a
 eight P each (a ∷ b ∷ c ∷ d ∷ e ∷ f ∷ g ∷ h ∷ []) l = each a b c d e f g h
 eight P each (a ∷ b ∷ c ∷ d ∷ e ∷ f ∷ g ∷ h ∷ i ∷ s) l = absurd (omega (arith, l))
 
-word_below : (s : List ℕ) → length s ≡ 8 → AllBelow 256 s → word_of s < 2 ^ 64
+word_below : (s : List ℕ) → length s ≡ 8 → AllBelow 256 s → little_endian s < 2 ^ 64
 word_below s l =
-    eight (λ t. AllBelow 256 t → word_of t < 2 ^ 64)
+    eight (λ t. AllBelow 256 t → little_endian t < 2 ^ 64)
     (λ a b c d e f g h z. omega
     (arith, z.0, z.1.0, z.1.1.0, z.1.1.1.0, z.1.1.1.1.0, z.1.1.1.1.1.0, z.1.1.1.1.1.1.0, z.1.1.1.1.1.1.1.0)) s l
 
 masked : (j : ℕ) (s : List ℕ) → j ≤ 8 → length s ≡ 8 → AllBelow 256 s
-    → bit_and (word_of s) (2 ^ 64 - 2 ^ (8 * j)) ≡ word_of (clear j s)
-masked j s k l h = and_high_mask 64 (8 * j) (omega arith) (word_of s) (word_below s l h) ∙ clear_word j s h
+    → bit_and (little_endian s) (2 ^ 64 - 2 ^ (8 * j)) ≡ little_endian (clear j s)
+masked j s k l h = and_high_mask 64 (8 * j) (omega arith) (little_endian s) (word_below s l h) ∙ clear_word j s h
 
 -- ---- the number that eight digits spell
 
@@ -225,7 +228,7 @@ spelled_value n [] = refl
 spelled_value n (d ∷ s) = let e : 10 * n + (d + 48 - 48) ≡ 10 * n + d = omega arith in
     ap (λ m. value_after m (map (λ c. c + 48) s)) e ∙ spelled_value (10 * n + d) s
 
-pub value_eight : (s : List ℕ) → length s ≡ 8 → AllBelow 10 s → (w n : ℕ) → w ≡ word_of s
+pub value_eight : (s : List ℕ) → length s ≡ 8 → AllBelow 10 s → (w n : ℕ) → w ≡ little_endian s
     → n ≡ (bit_and (w * 10 + w / 2 ^ 8) 0x000000ff000000ff * 4294967296000100 % 2 ^ 64
     + bit_and ((w * 10 + w / 2 ^ 8) / 2 ^ 16) 0x000000ff000000ff * 42949672960001 % 2 ^ 64) % 2 ^ 64 / 2 ^ 32
     → n ≡ digits_value (map (λ d. d + 48) s)
@@ -233,7 +236,7 @@ unfolding horner
 value_eight s l = eight P each s l
   where
     P : List ℕ → Type 0
-    P s = AllBelow 10 s → (w n : ℕ) → w ≡ word_of s
+    P s = AllBelow 10 s → (w n : ℕ) → w ≡ little_endian s
         → n ≡ (bit_and (w * 10 + w / 2 ^ 8) 0x000000ff000000ff * 4294967296000100 % 2 ^ 64
         + bit_and ((w * 10 + w / 2 ^ 8) / 2 ^ 16) 0x000000ff000000ff * 42949672960001 % 2 ^ 64) % 2 ^ 64 / 2 ^ 32
         → n ≡ digits_value (map (λ d. d + 48) s)
@@ -352,7 +355,7 @@ low_of : (b : ℕ) → b < 16 → bit_and b 240 ≡ 0
 low_of b l = let e : bit_and b (2 ^ 8 - 2 ^ 4) ≡ b / 2 ^ 4 * 2 ^ 4 = and_high_mask 8 4 (omega arith) b (omega arith) in
     omega (arith, e)
 
-all_low : (s : List ℕ) → AllBelow 16 s → word_of (map (λ b. bit_and b 240) s) ≡ 0
+all_low : (s : List ℕ) → AllBelow 16 s → little_endian (map (λ b. bit_and b 240) s) ≡ 0
 all_low [] h = refl
 all_low (b ∷ s) h = let first = low_of b h.0 in let rest = all_low s h.1 in omega (arith, first, rest)
 
@@ -360,27 +363,27 @@ below_more : (m n : ℕ) → m ≤ n → (s : List ℕ) → AllBelow m s → All
 below_more m n l [] h = tt
 below_more m n l (b ∷ s) h = (omega (arith, h.0), below_more m n l s h.1)
 
-no_nibbles : (s : List ℕ) → length s ≡ 8 → AllBelow 16 s → bit_and (word_of s) 0xf0f0f0f0f0f0f0f0 ≡ 0
+no_nibbles : (s : List ℕ) → length s ≡ 8 → AllBelow 16 s → bit_and (little_endian s) 0xf0f0f0f0f0f0f0f0 ≡ 0
 unfolding copies
 no_nibbles s e h =
-    let high : word_of (copies 8 240) ≡ 0xf0f0f0f0f0f0f0f0 = refl in
+    let high : little_endian (copies 8 240) ≡ 0xf0f0f0f0f0f0f0f0 = refl in
     let same = and_same 240 (omega arith) s (below_more 16 256 (omega arith) s h) in
-    ap (bit_and (word_of s)) (sym high ∙ ap (λ n. word_of (copies n 240)) (sym e)) ∙ same ∙ all_low s h
+    ap (bit_and (little_endian s)) (sym high ∙ ap (λ n. little_endian (copies n 240)) (sym e)) ∙ same ∙ all_low s h
 
 -- the word that is tested, and what its test says of the bytes
-module _ (j : ℕ) (s : List ℕ) (w m : ℕ) (lj : j ≤ 8) (ls : length s ≡ 8) (h : AllBelow 256 s) (is : w ≡ word_of s)
+module _ (j : ℕ) (s : List ℕ) (w m : ℕ) (lj : j ≤ 8) (ls : length s ≡ 8) (h : AllBelow 256 s) (is : w ≡ little_endian s)
     (word : m ≡ bit_and (bit_xor w 0x3030303030303030) (2 ^ 64 - 2 ^ (8 * j))) where
   tested_length : length (clear j (without_zeros s)) ≡ 8
   unfolding without_zeros
   tested_length = length_clear j (without_zeros s) ∙ length_map (λ b. bit_xor b 48) s ∙ ls
 
-  tested : m ≡ word_of (clear j (without_zeros s))
+  tested : m ≡ little_endian (clear j (without_zeros s))
   unfolding copies without_zeros
   tested =
       let xs = without_zeros s in
-      let zeros : word_of (copies 8 48) ≡ 0x3030303030303030 = refl in
-      let same : bit_xor (word_of s) 0x3030303030303030 ≡ word_of xs =
-      ap (bit_xor (word_of s)) (sym zeros ∙ ap (λ k. word_of (copies k 48)) (sym ls))
+      let zeros : little_endian (copies 8 48) ≡ 0x3030303030303030 = refl in
+      let same : bit_xor (little_endian s) 0x3030303030303030 ≡ little_endian xs =
+      ap (bit_xor (little_endian s)) (sym zeros ∙ ap (λ k. little_endian (copies k 48)) (sym ls))
       ∙ xor_same 48 (omega arith) s h in
       word ∙ ap (λ v. bit_and (bit_xor v 0x3030303030303030) (2 ^ 64 - 2 ^ (8 * j))) is
       ∙ ap (λ v. bit_and v (2 ^ 64 - 2 ^ (8 * j))) same
@@ -388,10 +391,10 @@ module _ (j : ℕ) (s : List ℕ) (w m : ℕ) (lj : j ≤ 8) (ls : length s ≡ 
 
   -- where each byte of the word is below 16: the eight digits of the word, and those that stand at the end of eight
   -- bytes, which are a number if begun as one
-  pub eight_at_end : j < 8 → ((t : List ℕ) → length t ≡ 8 → AllBelow 256 t → m ≡ word_of t → AllBelow 16 t)
+  pub eight_at_end : j < 8 → ((t : List ℕ) → length t ≡ 8 → AllBelow 256 t → m ≡ little_endian t → AllBelow 16 t)
       → IsNumberIfBegun (drop j s)
-      → IsNumber (drop j s) × AllDigits (drop j s)
-      × ((t : List ℕ) × (length t ≡ 8) × AllBelow 10 t × (m ≡ word_of t)
+      → SpellsNumber (drop j s) × AllDigits (drop j s)
+      × ((t : List ℕ) × (length t ≡ 8) × AllBelow 10 t × (m ≡ little_endian t)
       × (digits_value (map (λ d. d + 48) t) ≡ digits_value (drop j s)))
   eight_at_end few each if_begun =
       let t = clear j (without_zeros s) in
@@ -404,7 +407,7 @@ module _ (j : ℕ) (s : List ℕ) (w m : ℕ) (lj : j ≤ 8) (ls : length s ≡ 
 
   -- and digits pass the test
   pub digits_pass : (b : Bool)
-      → ((t : List ℕ) → length t ≡ 8 → AllBelow 256 t → m ≡ word_of t → AllBelow 16 t → IsTrue b)
+      → ((t : List ℕ) → length t ≡ 8 → AllBelow 256 t → m ≡ little_endian t → AllBelow 16 t → IsTrue b)
       → AllDigits (drop j s) → IsTrue b
   digits_pass b each d =
       let t = clear j (without_zeros s) in
@@ -452,11 +455,11 @@ is_zero : (n : ℕ) → n ≡ 0 → IsTrue (nat_eq n 0)
 is_zero n h = grind (arith, nat_tests)
 
 -- the test of a word: no bit is set in a high half
-pub low_each : (w : ℕ) (s : List ℕ) → length s ≡ 8 → AllBelow 256 s → w ≡ word_of s
+pub low_each : (w : ℕ) (s : List ℕ) → length s ≡ 8 → AllBelow 256 s → w ≡ little_endian s
     → IsTrue (nat_eq (bit_and w 0xf0f0f0f0f0f0f0f0) 0) → AllBelow 16 s
 low_each w s e h is test = nibbles s e h (ap (λ v. bit_and v 0xf0f0f0f0f0f0f0f0) (sym is) ∙ zero_is _ test)
 
-pub passes_low : (w : ℕ) (s : List ℕ) → length s ≡ 8 → w ≡ word_of s → AllBelow 16 s
+pub passes_low : (w : ℕ) (s : List ℕ) → length s ≡ 8 → w ≡ little_endian s → AllBelow 16 s
     → IsTrue (nat_eq (bit_and w 0xf0f0f0f0f0f0f0f0) 0)
 passes_low w s e is low = is_zero _ (ap (λ v. bit_and v 0xf0f0f0f0f0f0f0f0) is ∙ no_nibbles s e low)
 
@@ -557,7 +560,7 @@ digits_unsigned [] all = refl
 digits_unsigned (b ∷ t) all = ap (begins 45) (sym (append_nil (b ∷ t))) ∙ digit_begins 45 (b ∷ t) [] all (omega arith)
 
 -- they are an int
-pub number_int : (s : List ℕ) → IsNumber s → AllDigits s → IsInt s
+pub number_int : (s : List ℕ) → SpellsNumber s → AllDigits s → IsInt s
 unfolding begins_digit
 number_int s number all = go (is_int (digits_front (body s))) refl
   where
@@ -573,7 +576,7 @@ number_int s number all = go (is_int (digits_front (body s))) refl
 tests : List ℕ → Bool
 tests t = is_int (digits_front t) && (is_frac (digits_rest t) && is_exp (after_frac (digits_rest t)))
 
-body_number : (s : List ℕ) → IsNumber s → IsNumber (body s)
+body_number : (s : List ℕ) → SpellsNumber s → SpellsNumber (body s)
 unfolding tests
 body_number s number =
     let test = (spells_test s number.0 number.1).0 in
@@ -588,6 +591,6 @@ pub begun_behind : (line : List ℕ) (start stop : ℕ) → start < stop → sto
 begun_behind line start stop order within minus number = λ low high.
     let s = slice_range line start stop in
     let first = first_is line start stop order ∙ minus in
-    let P : List ℕ → Type 0 = IsNumber in
+    let P : List ℕ → Type 0 = SpellsNumber in
     subst P (body_behind line start stop order (minus_first line start stop order within minus))
     (body_number s (number (omega (arith, first)) (omega (arith, first))))

@@ -1,8 +1,11 @@
 -- What a spelling that was read stands for, and that its value is one.
 use Rattle.std.proofs.Common.{◌≡◌, ℕ, ◌++◌, List, length, Bool, ℤ, pos, ◌-ℤ◌, sym, ap, ◌∙◌, subst}
-use Rattle.cj_decimal.specs.Number.{Number, number, signed, SameValue, IsNormal, IsInRange, IsOutOfRange}
-use Rattle.cj_decimal.specs.Spelling.{Written, Spells, IsNumber, digits_value, number_of, IsValue, HasOneValue, IsNumberInRange, IsNumberOutOfRange}
-use Rattle.cj_decimal.specs.Reading.{IsReadOf}
+use Rattle.cj_decimal.specs.Meaning.Number.{Number, scaled, signed}
+use Rattle.cj_decimal.specs.Meaning.Equality.{SameValue, IsNormal, IsInRange, IsOutOfRange}
+use Rattle.cj_decimal.specs.Meaning.Reading.{Written, digits_value}
+use Rattle.cj_decimal.specs.Meaning.Spelling.{number_of, Spells, SpellsNumber, IsValue, HasOneValue, IsNumberInRange}
+use Rattle.cj_decimal.specs.Meaning.Spelling.{IsNumberOutOfRange}
+use Rattle.cj_decimal.specs.inner.Reading.{IsReadOf}
 use Rattle.cj_decimal.proofs.Values.{same_sym, same_trans, normal_same}
 use Rattle.cj_decimal.proofs.Normal.{normal_form}
 use Rattle.cj_decimal.proofs.Grammar.{spells_test}
@@ -30,15 +33,15 @@ has_one_value s = record {
 abbrev pub read_number : (s : List ℕ) (negative : Bool) (lead extra : ℕ) (lost : Bool) (after_point : ℕ) (exponent : ℤ)
     → IsReadOf s negative lead extra lost after_point exponent → Number
 read_number s negative lead extra lost after_point exponent r =
-    number (signed negative (digits_value (r.written.int ++ r.written.frac))) (r.written.exponent -ℤ pos after_point)
+    scaled (signed negative (digits_value (r.written.int ++ r.written.frac))) (r.written.exponent -ℤ pos after_point)
 
 is_number_of : (s : List ℕ) (negative : Bool) (lead extra : ℕ) (lost : Bool) (after_point : ℕ) (exponent : ℤ)
     (r : IsReadOf s negative lead extra lost after_point exponent)
     → read_number s negative lead extra lost after_point exponent r ≡ number_of r.written
 is_number_of s negative lead extra lost after_point exponent r =
     let n : ℕ = digits_value (r.written.int ++ r.written.frac) in
-    ap (λ b. number (signed b n) (r.written.exponent -ℤ pos after_point)) (sym r.sign)
-    ∙ ap (λ k. number (signed r.written.negative n) (r.written.exponent -ℤ pos k)) (sym r.after_point_is)
+    ap (λ b. scaled (signed b n) (r.written.exponent -ℤ pos after_point)) (sym r.sign)
+    ∙ ap (λ k. scaled (signed r.written.negative n) (r.written.exponent -ℤ pos k)) (sym r.after_point_is)
 
 pub value_of_read : (s : List ℕ) (negative : Bool) (lead extra : ℕ) (lost : Bool) (after_point : ℕ) (exponent : ℤ)
     (r : IsReadOf s negative lead extra lost after_point exponent) (v : Number)
@@ -64,5 +67,5 @@ not_both s a b =
     let same = one_value s a.0 b.0 a.1 b.1 in
     b.2 (let P : Number → Type 0 = IsInRange in subst P same a.2)
 
-pub value_is_number : (s : List ℕ) (v : Number) → IsValue s v → IsNumber s
+pub value_is_number : (s : List ℕ) (v : Number) → IsValue s v → SpellsNumber s
 value_is_number s v a = (a.written, a.spells)

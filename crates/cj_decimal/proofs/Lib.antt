@@ -17,3 +17,4 @@ pub mod Few
 pub mod Scales
 pub mod Splits
 pub mod Worked
+pub mod Decimals

@@ -4,9 +4,10 @@ use Rattle.std.specs.Prelude.{◌⊎◌, unsigned_abs}
 use Rattle.std.specs.Int.{int_gap, int_min, w32, w128, cast_signed, cast_unsigned}
 use Rattle.std.proofs.lemmas.Nat.{pow-add}
 use Rattle.std.proofs.lemmas.Int.{ints, by_lt_z, to_z-of_z, fits_signed_from_abs}
-use Rattle.cj_decimal.specs.Number.{Number, number, signed, SameValue, IsNormal, IsInRange, IsOutOfRange}
-use Rattle.cj_decimal.specs.Digits.{IsTooLong, StandsFor, IsTrimmed}
-use Rattle.cj_decimal.specs.Reading.{Saturates}
+use Rattle.cj_decimal.specs.Meaning.Number.{Number, scaled, signed}
+use Rattle.cj_decimal.specs.Meaning.Equality.{SameValue, IsNormal, IsInRange, IsOutOfRange}
+use Rattle.cj_decimal.specs.inner.Digits.{IsTooLong, StandsFor, IsTrimmed}
+use Rattle.cj_decimal.specs.inner.Reading.{Saturates}
 use Rattle.cj_decimal.proofs.TenPowers.{ten_pow_suc, neg_times}
 use Rattle.cj_decimal.proofs.Trims.{trim_more, trim_left}
 use Rattle.cj_decimal.proofs.Values.{same_scaled}
@@ -27,7 +28,7 @@ zero_times : (k : ℕ) → pos 0 *ℤ pos k ≡ pos 0
 zero_times k = omega (arith, ints)
 
 -- 0 at any power is the pair (0, 0)
-pub zero_same : (s : Bool) (n : ℕ) (q : ℤ) → n ≡ 0 → SameValue (number (signed s n) q) (number (pos 0) (pos 0))
+pub zero_same : (s : Bool) (n : ℕ) (q : ℤ) → n ≡ 0 → SameValue (scaled (signed s n) q) (scaled (pos 0) (pos 0))
 zero_same s n q e =
     let none : signed s n ≡ pos 0 = ap (signed s) e ∙ signed_zero s in
     record {
@@ -35,16 +36,16 @@ zero_same s n q e =
           ∙ sym (zero_times _);
     }
 
-pub zero_normal : IsNormal (number (pos 0) (pos 0))
+pub zero_normal : IsNormal (scaled (pos 0) (pos 0))
 zero_normal = record { normal = λ e. refl }
 
 -- the number c with k zeros at its end is the number c at a power k higher
 pub trimmed_same : (s : Bool) (n c k : ℕ) (p q : ℤ) → n ≡ c * 10 ^ k → q ≡ p +ℤ pos k
-    → SameValue (number (signed s n) p) (number (signed s c) q)
+    → SameValue (scaled (signed s n) p) (scaled (signed s c) q)
 trimmed_same s n c k p q e f =
     same_scaled (signed s n) (signed s c) p q k (ap (signed s) e ∙ signed_times s c (10 ^ k)) f
 
-pub trimmed_normal : (s : Bool) (c : ℕ) (q : ℤ) → 0 < c % 10 → IsNormal (number (signed s c) q)
+pub trimmed_normal : (s : Bool) (c : ℕ) (q : ℤ) → 0 < c % 10 → IsNormal (scaled (signed s c) q)
 trimmed_normal s c q h = record { normal = λ e. absurd (omega (arith, h, e, ap (λ n. n % 10) (signed_size s c))) }
 
 -- ---- every number has a normal form
@@ -80,24 +81,24 @@ trim n p = trim_within n n (omega arith) p
 abbrev pub NormalOf : Number → Type 0
 NormalOf m = (v : Number) × SameValue m v × IsNormal v
 
-pub normal_form : (s : Bool) (n : ℕ) (q : ℤ) → NormalOf (number (signed s n) q)
-normal_form s zero q = (number (pos 0) (pos 0), zero_same s 0 q refl, zero_normal)
+pub normal_form : (s : Bool) (n : ℕ) (q : ℤ) → NormalOf (scaled (signed s n) q)
+normal_form s zero q = (scaled (pos 0) (pos 0), zero_same s 0 q refl, zero_normal)
 normal_form s (suc n) q =
     let t = trim (suc n) (omega arith) in (
-      number (signed s t.0) (q +ℤ pos t.1),
+      scaled (signed s t.0) (q +ℤ pos t.1),
       trimmed_same s (suc n) t.0 t.1 q _ t.2.whole refl,
       trimmed_normal s t.0 _ t.2.last,
     )
 
 -- ---- what from_parts answers
 -- too many digits are out of range in every form
-pub too_long_out : (s : Bool) (n : ℕ) (q : ℤ) → IsTooLong n → IsOutOfRange (number (signed s n) q)
+pub too_long_out : (s : Bool) (n : ℕ) (q : ℤ) → IsTooLong n → IsOutOfRange (scaled (signed s n) q)
 too_long_out s n q long =
     let some : 0 < n = omega (arith, long.too_long n 0 (omega arith)) in
     let t = trim n some in
     let big : 10 ^ 36 ≤ t.0 = long.too_long t.0 t.1 t.2.whole in
     record {
-      normal_form = number (signed s t.0) (q +ℤ pos t.1);
+      normal_form = scaled (signed s t.0) (q +ℤ pos t.1);
       same = trimmed_same s n t.0 t.1 q _ t.2.whole refl;
       normal = trimmed_normal s t.0 _ t.2.last;
       out = λ r. omega (arith, r.digits, signed_size s t.0, big);
@@ -133,26 +134,26 @@ power_high_out e r after_point up s a b h = by_lt_z r (pos (10 ^ 35))
 
 -- where the power is out of range, the normal form is
 pub power_out : (s : Bool) (n c up : ℕ) (q : ℤ) → n ≡ c * 10 ^ up → 0 < c % 10 → ((q +ℤ pos up) <ℤ neg_ℤ (pos 1000000))
-    ⊎ (pos 1000000 <ℤ (q +ℤ pos up)) → IsOutOfRange (number (signed s n) q)
+    ⊎ (pos 1000000 <ℤ (q +ℤ pos up)) → IsOutOfRange (scaled (signed s n) q)
 power_out s n c up q whole last far = record {
-  normal_form = number (signed s c) (q +ℤ pos up);
+  normal_form = scaled (signed s c) (q +ℤ pos up);
   same = trimmed_same s n c up q _ whole refl;
   normal = trimmed_normal s c _ last;
   out = λ r. ⊎_elim (λ h. omega (arith, ints, r.power_low)) (λ h. omega (arith, ints, r.power_high)) far;
 }
 
 pub form_in_range : (s : Bool) (c : ℕ) (p : ℤ) → c < 10 ^ 36 → neg_ℤ (pos 1000000) ≤ℤ p → p ≤ℤ pos 1000000
-    → IsInRange (number (signed s c) p)
+    → IsInRange (scaled (signed s c) p)
 form_in_range s c p small low high =
     record { digits = omega (arith, signed_size s c); power_low = low; power_high = high }
 
 -- the same at a coefficient and a power that equal these
 pub in_form : (s : Bool) (c : ℕ) (x p : ℤ) → x ≡ signed s c → c < 10 ^ 36 → 0 < c % 10 → neg_ℤ (pos 1000000) ≤ℤ p
-    → p ≤ℤ pos 1000000 → IsNormal (number x p) × IsInRange (number x p)
+    → p ≤ℤ pos 1000000 → IsNormal (scaled x p) × IsInRange (scaled x p)
 in_form s c x p e small last low high = rw e (trimmed_normal s c p last, form_in_range s c p small low high)
 
 pub same_form : (s : Bool) (n c up : ℕ) (q x p : ℤ) → n ≡ c * 10 ^ up → x ≡ signed s c → p ≡ q +ℤ pos up
-    → SameValue (number (signed s n) q) (number x p)
+    → SameValue (scaled (signed s n) q) (scaled x p)
 same_form s n c up q x p whole e f = rw e (trimmed_same s n c up q p whole f)
 
 -- a coefficient that went to bits and back

@@ -2,7 +2,8 @@
 use Rattle.std.proofs.Common.{◌≡◌, ℕ, ◌≤◌, List, [], ◌∷◌, ◌++◌, Bool, true, false, refl, sym, subst, arith, inl, inr}
 use Rattle.std.specs.Prelude.{◌⊎◌, ℤ}
 use Rattle.std.specs.Int.Bits.{bit_xor}
-use Rattle.cj_decimal.specs.Spelling.{AllDigits, IsDigit, IsDigits, IsExp, IsExpSign, IsFrac, IsInt, IsMinus, IsNumber}
+use Rattle.cj_decimal.specs.Meaning.Spelling.{AllDigits, IsDigit, IsDigits, IsExp, IsExpSign, IsFrac, IsInt, IsMinus}
+use Rattle.cj_decimal.specs.Meaning.Spelling.{SpellsNumber}
 
 abbrev pub NumberBytes : List ℕ → Type 0
 NumberBytes [] = Unit {0}
@@ -71,7 +72,7 @@ of_exp e s (inr p) =
     of_mark p.mark (p.sign ++ p.digits) s p.mark_is
     (both p.sign p.digits (of_sign p.negative p.sign p.sign_is) (of_some p.digits p.digits_are)) p.joined
 
-pub number_bytes : (s : List ℕ) → IsNumber s → NumberBytes s
+pub number_bytes : (s : List ℕ) → SpellsNumber s → NumberBytes s
 number_bytes s number =
     let n = number.0 in let p = number.1 in
     subst NumberBytes (sym p.joined)

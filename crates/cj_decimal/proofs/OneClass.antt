@@ -1,15 +1,16 @@
 -- Two classes of one spelling say the same.
 use Rattle.std.proofs.Common.{◌≡◌, ℕ, List, ℤ, pos, subst, arith}
 use Rattle.std.proofs.lemmas.Int.{ints}
-use Rattle.cj_decimal.specs.Number.{Number, number, IsWhole}
-use Rattle.cj_decimal.specs.Class.{Class, no_number, out_of_range, not_whole, whole, SaySame}
+use Rattle.cj_decimal.specs.Meaning.Number.{Number, scaled}
+use Rattle.cj_decimal.specs.Meaning.Equality.{IsWhole}
+use Rattle.cj_decimal.specs.Meaning.Class.{Class, no_number, out_of_range, not_whole, whole, SaySame}
 use Rattle.cj_decimal.proofs.Values.{same_sym, same_trans}
 use Rattle.cj_decimal.proofs.Law.{has_one_value, not_both, value_is_number}
 
 -- a number is one whole number
 one_whole : (v : Number) (w x : ℤ) → IsWhole v w → IsWhole v x → w ≡ x
 one_whole v w x a b =
-    let both = same_trans (number w (pos 0)) v (number x (pos 0)) (same_sym v (number w (pos 0)) a.same) b.same in
+    let both = same_trans (scaled w (pos 0)) v (scaled x (pos 0)) (same_sym v (scaled w (pos 0)) a.same) b.same in
     omega (arith, ints, both.coefficients)
 
 -- what is whole for one value of a spelling is so for the other, which is the same

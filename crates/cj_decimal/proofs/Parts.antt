@@ -4,11 +4,14 @@ use Rattle.std.specs.Prelude.{nat_eq, ◌&&◌, ◌||◌, not}
 use Rattle.std.specs.Prelude.{neg_ℤ, Option, None, Some, IsSome}
 use Rattle.std.proofs.lemmas.Int.{ints}
 use Rattle.std.proofs.Math.Nat.{le-mul_of_pos_right}
-use Rattle.cj_decimal.specs.Number.{signed}
+use Rattle.cj_decimal.specs.Meaning.Number.{signed}
 use Rattle.std.specs.Char.{is_ascii_digit}
-use Rattle.cj_decimal.specs.Digits.{StandsFor}
-use Rattle.cj_decimal.specs.Spelling.{value_after, digits_value, IsNumber, Spells}
-use Rattle.cj_decimal.specs.Reading.{IsReadOf, Passes, Stops, body, written_of, digits_front, digits_rest, begins, is_empty, begins_digit, is_int, is_frac, frac_digits, after_frac, exp_digits, is_whole_digits, is_exp, exp_value, Saturates, SaturatesSize}
+use Rattle.cj_decimal.specs.inner.Digits.{StandsFor}
+use Rattle.cj_decimal.specs.Meaning.Reading.{value_after, digits_value, body, written_of, digits_front, digits_rest}
+use Rattle.cj_decimal.specs.Meaning.Reading.{begins, is_empty, begins_digit, is_int, is_frac, frac_digits, after_frac}
+use Rattle.cj_decimal.specs.Meaning.Reading.{exp_digits, is_whole_digits, is_exp, exp_value}
+use Rattle.cj_decimal.specs.Meaning.Spelling.{SpellsNumber, Spells}
+use Rattle.cj_decimal.specs.inner.Reading.{IsReadOf, Passes, Stops, Saturates, SaturatesSize}
 use Rattle.cj_decimal.proofs.TenPowers.{ten_pow_pos}
 use Rattle.cj_decimal.proofs.Pushes.{stands_short, short_stands}
 use Rattle.cj_decimal.proofs.Grammar.{append_nil, front_rest, both, both_left, both_right, spells_test, test_spells}
@@ -238,15 +241,15 @@ value_append n [] ys = refl
 value_append n (b ∷ xs) ys = value_append (10 * n + (b - 48)) xs ys
 
 -- what fails a part of the test is no number
-pub not_int : (s : List ℕ) → is_int (digits_front (body s)) ≡ false → ¬ IsNumber s
+pub not_int : (s : List ℕ) → is_int (digits_front (body s)) ≡ false → ¬ SpellsNumber s
 not_int s h n = let int : is_int (digits_front (body s)) ≡ true = both_left _ _ (spells_test s n.0 n.1).0 in
     absurd (cc (h, int))
 
-pub not_frac : (s : List ℕ) → is_frac (digits_rest (body s)) ≡ false → ¬ IsNumber s
+pub not_frac : (s : List ℕ) → is_frac (digits_rest (body s)) ≡ false → ¬ SpellsNumber s
 not_frac s h n = let frac : is_frac (digits_rest (body s)) ≡ true =
     both_left _ _ (both_right (is_int (digits_front (body s))) _ (spells_test s n.0 n.1).0) in absurd (cc (h, frac))
 
-pub not_exp : (s : List ℕ) → is_exp (after_frac (digits_rest (body s))) ≡ false → ¬ IsNumber s
+pub not_exp : (s : List ℕ) → is_exp (after_frac (digits_rest (body s))) ≡ false → ¬ SpellsNumber s
 not_exp s h n = let exp : is_exp (after_frac (digits_rest (body s))) ≡ true =
     both_right (is_frac (digits_rest (body s))) _
     (both_right (is_int (digits_front (body s))) _ (spells_test s n.0 n.1).0) in absurd (cc (h, exp))

@@ -1,17 +1,18 @@
 -- A number as a whole number of units.
 use Rattle.std.proofs.Common.{◌≡◌, ℕ, zero, suc, ◌+◌, ◌-◌, ◌*◌, ◌%◌, ◌^◌, ◌<◌, ◌≤◌, ℤ, pos, neg_ℤ, ◌+ℤ◌, ◌*ℤ◌, ◌≤ℤ◌, ◌<ℤ◌, refl, ap, ◌∙◌, arith}
+use Rattle.std.proofs.Common.{rules}
 use Rattle.std.specs.Prelude.{unsigned_abs}
 use Rattle.std.specs.Prelude.{FitsSigned, Option, Some, None, IfSome, IfNone}
-use Rattle.std.proofs.Common.{rules}
 use Rattle.std.specs.Int.{int_gap, w128, cast_signed, cast_unsigned}
 use Rattle.std.proofs.lemmas.Int.{ints, to_z-of_z, fits_signed_from_abs}
 use Rattle.std.proofs.Math.Nat.{mul-le-mul_right, mul-lt-mul_of_pos_right}
-use Rattle.cj_decimal.specs.Number.{Number, number, SameValue, IsNormal}
+use Rattle.cj_decimal.specs.Meaning.Number.{Number, scaled}
+use Rattle.cj_decimal.specs.Meaning.Equality.{SameValue, IsNormal}
 use Rattle.cj_decimal.proofs.TenPowers.{ten_pow_pos, ten_pow_add, ten_pow_le}
 use Rattle.cj_decimal.proofs.Values.{scaled_same, same_scaled, same_sym, gap_is, abs_times, ends_in_zero}
 
 -- a number whose power is below that of the units is no whole number of them
-pub units_below : (v : Number) (u t : ℤ) → IsNormal v → SameValue v (number u t) → v.power <ℤ t → t ≤ℤ pos 0 → ⊥
+pub units_below : (v : Number) (u t : ℤ) → IsNormal v → SameValue v (scaled u t) → v.power <ℤ t → t ≤ℤ pos 0 → ⊥
 units_below v u t normal same low unit =
     by_gap (int_gap v.power t) (gap_is v.power t (omega (arith, ints)))
     (scaled_same v.coefficient u v.power t same (omega (arith, ints)))
@@ -21,22 +22,22 @@ units_below v u t normal same low unit =
     by_gap (suc g) f e =
         let size : unsigned_abs v.coefficient ≡ unsigned_abs u * 10 ^ (g + 1) = ap unsigned_abs e
         ∙ abs_times u (10 ^ suc g) ∙ ap (λ k. unsigned_abs u * 10 ^ k) (omega arith) in
-        let none : v ≡ number (pos 0) (pos 0) =
+        let none : v ≡ scaled (pos 0) (pos 0) =
         normal.normal (ap (λ n. n % 10) size ∙ ends_in_zero (unsigned_abs u) g) in
         omega (arith, ints, ap (λ (n : Number). n.power) none)
 
 -- the number of units, where the power is k above theirs
-pub units_are : (v : Number) (u t : ℤ) (k : ℕ) → v.power ≡ t +ℤ pos k → SameValue v (number u t)
+pub units_are : (v : Number) (u t : ℤ) (k : ℕ) → v.power ≡ t +ℤ pos k → SameValue v (scaled u t)
     → u ≡ v.coefficient *ℤ pos (10 ^ k)
 units_are v u t k f same =
     let low : t ≤ℤ v.power = omega (arith, ints, f) in
     let gap : int_gap t v.power ≡ k = omega (arith, ints, gap_is t v.power low, f) in
-    scaled_same u v.coefficient t v.power (same_sym v (number u t) same) low
+    scaled_same u v.coefficient t v.power (same_sym v (scaled u t) same) low
     ∙ ap (λ g. v.coefficient *ℤ pos (10 ^ g)) gap
 
 pub units_same : (v : Number) (u t : ℤ) (k : ℕ) → v.power ≡ t +ℤ pos k → u ≡ v.coefficient *ℤ pos (10 ^ k)
-    → SameValue v (number u t)
-units_same v u t k f e = same_sym (number u t) v (same_scaled u v.coefficient t v.power k e f)
+    → SameValue v (scaled u t)
+units_same v u t k f e = same_sym (scaled u t) v (same_scaled u v.coefficient t v.power k e f)
 
 -- a coefficient below a power of ten is below a higher one after the zeros
 pub scaled_small : (c k digits : ℕ) → k ≤ digits → c < 10 ^ (digits - k) → c * 10 ^ k < 10 ^ digits
@@ -64,14 +65,14 @@ zeros_large c k digits some h =
     at_least : (c p : ℕ) → 0 < c → p ≤ c * p
     at_least c p h = grind arith
 
-pub size_of_units : (v : Number) (u t : ℤ) (k : ℕ) → v.power ≡ t +ℤ pos k → SameValue v (number u t)
+pub size_of_units : (v : Number) (u t : ℤ) (k : ℕ) → v.power ≡ t +ℤ pos k → SameValue v (scaled u t)
     → unsigned_abs u ≡ unsigned_abs v.coefficient * 10 ^ k
 size_of_units v u t k f same = ap unsigned_abs (units_are v u t k f same) ∙ abs_times v.coefficient (10 ^ k)
 
 -- where the zeros alone are as many as the bound has, the number is too large
 pub far_units : (v : Number) (u : ℤ) (after_point digits k : ℕ) → IsNormal v
     → v.power ≡ neg_ℤ (pos after_point) +ℤ pos k → after_point < digits → digits ≤ k
-    → SameValue v (number u (neg_ℤ (pos after_point))) → 10 ^ digits ≤ unsigned_abs u
+    → SameValue v (scaled u (neg_ℤ (pos after_point))) → 10 ^ digits ≤ unsigned_abs u
 far_units v u after_point digits k normal f apart h same = by_size (unsigned_abs v.coefficient) refl
   where
     by_size : (n : ℕ) → unsigned_abs v.coefficient ≡ n → 10 ^ digits ≤ unsigned_abs u
@@ -85,7 +86,7 @@ far_units v u after_point digits k normal f apart h same = by_size (unsigned_abs
 
 -- where the coefficient with its zeros reaches the bound, likewise
 pub large_units : (v : Number) (u t : ℤ) (digits k : ℕ) → v.power ≡ t +ℤ pos k
-    → 10 ^ digits ≤ unsigned_abs v.coefficient * 10 ^ k → SameValue v (number u t) → 10 ^ digits ≤ unsigned_abs u
+    → 10 ^ digits ≤ unsigned_abs v.coefficient * 10 ^ k → SameValue v (scaled u t) → 10 ^ digits ≤ unsigned_abs u
 large_units v u t digits k f large same = omega (arith, size_of_units v u t k f same, large)
 
 -- a product of that size is small, and fits
@@ -132,13 +133,13 @@ product_in_bits c k digits power h most fits small e =
 pub value_in_units : (r : Option ℤ) (v w : Number) (t x : ℤ) (digits k : ℕ)
     → IfSome r (λ u. (u ≡ x *ℤ pos (10 ^ k)) × (unsigned_abs u < 10 ^ digits)) → v ≡ w → x ≡ v.coefficient
     → v.power ≡ t +ℤ pos k
-    → IfSome r (λ u. SameValue w (number u t) × (unsigned_abs u < 10 ^ digits))
+    → IfSome r (λ u. SameValue w (scaled u t) × (unsigned_abs u < 10 ^ digits))
 value_in_units None v w t x digits k h same e f = search rules
 value_in_units (Some u) v w t x digits k h same e f =
     rw (← same) (units_same v u t k f (h.0 ∙ ap (λ c. c *ℤ pos (10 ^ k)) e), h.1)
 
 pub none_in_units : (r : Option ℤ) (v w : Number) (t x : ℤ) (digits k : ℕ)
     → IfNone r (10 ^ digits ≤ unsigned_abs x * 10 ^ k) → v ≡ w → x ≡ v.coefficient → v.power ≡ t +ℤ pos k
-    → IfNone r ((u : ℤ) → SameValue w (number u t) → 10 ^ digits ≤ unsigned_abs u)
+    → IfNone r ((u : ℤ) → SameValue w (scaled u t) → 10 ^ digits ≤ unsigned_abs u)
 none_in_units None v w t x digits k h same e f = λ u s. large_units v u t digits k f (rw e at h) (rw same s)
 none_in_units (Some u) v w t x digits k h same e f = search rules

@@ -1,14 +1,15 @@
 -- Equality of numbers, and its laws.
 use Rattle.std.proofs.Common.{◌≡◌, ℕ, zero, suc, ◌+◌, ◌*◌, ◌%◌, ◌^◌, ◌<◌, ℤ, pos, negsuc, ◌+ℤ◌, ◌*ℤ◌, ◌≤ℤ◌, true, refl, sym, ap, ◌∙◌, arith}
-use Rattle.std.specs.Prelude.{unsigned_abs, ◌⊎◌}
 use Rattle.std.proofs.Common.{inl, inr, ⊎_elim}
-use Rattle.std.specs.Int.{int_gap, int_min, Width, w32, w128, cast_signed, cast_unsigned}
-use Rattle.std.specs.Prelude.{nat_eq, FitsSigned, ◌↔◌}
 use Rattle.std.proofs.Common.{subst}
+use Rattle.std.specs.Prelude.{unsigned_abs, ◌⊎◌}
+use Rattle.std.specs.Prelude.{nat_eq, FitsSigned, ◌↔◌}
+use Rattle.std.specs.Int.{int_gap, int_min, Width, w32, w128, cast_signed, cast_unsigned}
 use Rattle.std.proofs.lemmas.Bool.Decides.{nat_tests}
 use Rattle.std.proofs.lemmas.Int.{ints, clamps, unsigned_abs-mul, by_lt_z, to_z-of_z, fits_signed_from_abs}
 use Rattle.std.proofs.Math.Nat.{mul-mod_right}
-use Rattle.cj_decimal.specs.Number.{Number, number, smaller_power, brought, SameValue, IsNormal, IsInRange}
+use Rattle.cj_decimal.specs.Meaning.Number.{Number, scaled}
+use Rattle.cj_decimal.specs.Meaning.Equality.{smaller_power, brought, SameValue, IsNormal, IsInRange}
 use Rattle.cj_decimal.proofs.TenPowers.{ten_pow_pos, ten_pow_add, ten_pow_suc, times_cancel, times_times, times_one, mul_right_cancel}
 
 -- the gap between two numbers in order
@@ -70,24 +71,24 @@ same_trans l m n h k =
 
 -- a coefficient with k zeros at its end, and a power that is k greater without them
 pub same_scaled : (c d : ℤ) (p q : ℤ) (k : ℕ) → c ≡ d *ℤ pos (10 ^ k) → q ≡ p +ℤ pos k
-    → SameValue (number c p) (number d q)
+    → SameValue (scaled c p) (scaled d q)
 same_scaled c d p q k e f =
     let low : p ≤ℤ q = omega (arith, ints, f) in
     let here : p ≤ℤ p = omega (arith, ints) in
     let none : int_gap p p ≡ 0 = omega (arith, ints, gap_is p p here) in
     let up_k : int_gap p q ≡ k = omega (arith, ints, gap_is p q low, f) in
-    at_same (number c p) (number d q) p here low
+    at_same (scaled c p) (scaled d q) p here low
     (ap (λ g. c *ℤ pos (10 ^ g)) none ∙ times_one c ∙ e ∙ ap (λ g. d *ℤ pos (10 ^ g)) (sym up_k))
 
 -- and the other way round
-pub scaled_same : (c d : ℤ) (p q : ℤ) → SameValue (number c p) (number d q) → p ≤ℤ q → c ≡ d *ℤ pos (10 ^ int_gap p q)
+pub scaled_same : (c d : ℤ) (p q : ℤ) → SameValue (scaled c p) (scaled d q) → p ≤ℤ q → c ≡ d *ℤ pos (10 ^ int_gap p q)
 scaled_same c d p q same low =
     let here : p ≤ℤ p = omega (arith, ints) in
     let none : int_gap p p ≡ 0 = omega (arith, ints, gap_is p p here) in
-    sym (times_one c) ∙ sym (ap (λ g. c *ℤ pos (10 ^ g)) none) ∙ same_at (number c p) (number d q) p same here low
+    sym (times_one c) ∙ sym (ap (λ g. c *ℤ pos (10 ^ g)) none) ∙ same_at (scaled c p) (scaled d q) p same here low
 
 pub number_eq : (m n : Number) → m.coefficient ≡ n.coefficient → m.power ≡ n.power → m ≡ n
-number_eq m n e f = ap (λ c. number c m.power) e ∙ ap (λ p. number n.coefficient p) f
+number_eq m n e f = ap (λ c. scaled c m.power) e ∙ ap (λ p. scaled n.coefficient p) f
 
 pub abs_times : (c : ℤ) (k : ℕ) → unsigned_abs (c *ℤ pos k) ≡ unsigned_abs c * k
 abs_times c k = unsigned_abs-mul c (pos k)
@@ -109,7 +110,7 @@ normal_gap v w a b low zero f e = number_eq v w (e ∙ times_one w.coefficient) 
 normal_gap v w a b low (suc g) f e =
     let size : unsigned_abs v.coefficient ≡ unsigned_abs w.coefficient * 10 ^ (g + 1) = ap unsigned_abs e
     ∙ abs_times w.coefficient (10 ^ suc g) ∙ ap (λ k. unsigned_abs w.coefficient * 10 ^ k) (omega arith) in
-    let zero_v : v ≡ number (pos 0) (pos 0) =
+    let zero_v : v ≡ scaled (pos 0) (pos 0) =
     a.normal (ap (λ n. n % 10) size ∙ ends_in_zero (unsigned_abs w.coefficient) g) in
     let none : unsigned_abs w.coefficient * 10 ^ (g + 1) ≡ 0 * 10 ^ (g + 1) = sym size
     ∙ ap (λ n. unsigned_abs n.coefficient) zero_v ∙ omega arith in

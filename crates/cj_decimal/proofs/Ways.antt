@@ -3,8 +3,8 @@ use Rattle.std.proofs.Common.{◌≡◌, ℕ, suc, ◌+◌, ◌-◌, ◌*◌, �
 use Rattle.std.proofs.lemmas.Bool.{cases_lt}
 use Rattle.std.proofs.lemmas.Bool.Decides.{nat_tests}
 use Rattle.std.specs.Char.{is_ascii_digit}
-use Rattle.cj_decimal.specs.Reading.{begins_digit, digits_front, digits_rest, Passes, Carries, Stops}
-use Rattle.cj_decimal.specs.Spelling.{value_after}
+use Rattle.cj_decimal.specs.Meaning.Reading.{begins_digit, digits_front, digits_rest, value_after}
+use Rattle.cj_decimal.specs.inner.Reading.{Passes, Carries, Stops}
 
 pub front_digit : (b : ℕ) (s : List ℕ) → is_ascii_digit b ≡ true → digits_front (b ∷ s) ≡ b ∷ digits_front s
 unfolding digits_front

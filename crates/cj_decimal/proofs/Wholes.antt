@@ -4,10 +4,14 @@ use Rattle.std.specs.Prelude.{IfOk, IfSome, IsSome, unsigned_abs}
 use Rattle.std.specs.Char.{is_ascii_digit}
 use Rattle.std.proofs.Math.Nat.{le-mul_of_pos_right}
 use Rattle.std.proofs.lemmas.Int.{ints}
-use Rattle.cj_decimal.specs.Number.{Number, number, signed, IsNormal, IsInRange, IsWhole}
-use Rattle.cj_decimal.specs.Spelling.{IsNumber, IsValue, IsNumberOutOfRange, IsInt, IsFewDigits, IsFewSigned, digits_value}
-use Rattle.cj_decimal.specs.Class.{Class, no_number, out_of_range, not_whole, whole, whole_answer}
-use Rattle.cj_decimal.specs.Reading.{digits_front, digits_rest, is_int, begins, begins_digit, body, Passes, IsShort}
+use Rattle.cj_decimal.specs.Meaning.Number.{Number, scaled, signed}
+use Rattle.cj_decimal.specs.Meaning.Equality.{IsNormal, IsInRange, IsWhole}
+use Rattle.cj_decimal.specs.Meaning.Spelling.{SpellsNumber, IsValue, IsNumberOutOfRange, IsInt}
+use Rattle.cj_decimal.specs.FewDigits.{IsFewDigits, IsFewSigned}
+use Rattle.cj_decimal.specs.Meaning.Reading.{digits_value, digits_front, digits_rest, is_int, begins, begins_digit}
+use Rattle.cj_decimal.specs.Meaning.Reading.{body}
+use Rattle.cj_decimal.specs.Meaning.Class.{Class, no_number, out_of_range, not_whole, whole, whole_answer}
+use Rattle.cj_decimal.specs.inner.Reading.{Passes, IsShort}
 use Rattle.cj_decimal.specs.declared.decimal.DecimalFault.{DecimalFault}
 use Rattle.cj_decimal.specs.declared.decimal.DecimalFault.TheVariants.{NotANumber, NumberRange}
 use Rattle.cj_decimal.proofs.TenPowers.{ten_pow_pos}
@@ -22,7 +26,7 @@ use Rattle.cj_decimal.proofs.Law.{has_one_value, value_of_read, not_both, value_
 
 -- ---- whichever class a spelling is shown to have
 module _ (s : List ℕ) where
-  answer_none : (c : Class s) → ¬ IsNumber s → whole_answer c ≡ Err NotANumber
+  answer_none : (c : Class s) → ¬ SpellsNumber s → whole_answer c ≡ Err NotANumber
   answer_none (no_number n) o = refl
   answer_none (out_of_range n) o = absurd (o (value_is_number s n.0 n.1))
   answer_none (not_whole v value range n) o = absurd (o (value_is_number s v value))
@@ -35,7 +39,7 @@ module _ (s : List ℕ) where
   answer_out (whole v w value range is) o = absurd (not_both s (v, value, range) o)
 
   -- what `read` says of its faults
-  pub answer_fault : (f : DecimalFault) (c : Class s) → (f ≡ NotANumber → ¬ IsNumber s)
+  pub answer_fault : (f : DecimalFault) (c : Class s) → (f ≡ NotANumber → ¬ SpellsNumber s)
       → (f ≡ NumberRange → IsNumberOutOfRange s) → whole_answer c ≡ Err f
   answer_fault NotANumber c none out = answer_none c (none refl)
   answer_fault NumberRange c none out = answer_out c (out refl)
@@ -47,7 +51,7 @@ module _ (s : List ℕ) where
 
     one_whole : (w x : ℤ) → IsWhole v w → IsWhole v x → x ≡ w
     one_whole w x a b =
-        let both = same_trans (number x (pos 0)) v (number w (pos 0)) (same_sym v (number x (pos 0)) b.same) a.same in
+        let both = same_trans (scaled x (pos 0)) v (scaled w (pos 0)) (same_sym v (scaled x (pos 0)) b.same) a.same in
         omega (arith, ints, both.coefficients)
 
     pub answer_whole : (w : ℤ) (c : Class s) → IsWhole v w → whole_answer c ≡ Ok (Some w)
@@ -146,7 +150,7 @@ signed_answer s negative n c sign short =
     let exponent : read.written.exponent ≡ pos 0 = read.exponent_is.same (omega (arith, ints)) in
     let value = value_of_read s negative n 0 false 0 (pos 0) read form.0 (rw (digits, exponent) form.1) form.2 in
     let is : IsWhole form.0 w =
-    record { same = same_sym (number w (pos 0)) form.0 form.1; small = rw (size negative n) short.small } in
+    record { same = same_sym (scaled w (pos 0)) form.0 form.1; small = rw (size negative n) short.small } in
     answer_whole s form.0 value (whole_in_range form.0 w form.2 is) w c is
 
 same_short : (s t : List ℕ) (n : ℕ) → t ≡ s → IsShort s n → IsShort t n

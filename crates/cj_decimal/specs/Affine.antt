@@ -1,20 +1,11 @@
--- Affine maps of whole numbers, in units of 10^-18.
-use Rattle.std.specs.Prelude.{◌≡◌, ◌<◌, ◌^◌, ℤ, pos, neg_ℤ, ◌+ℤ◌, ◌*ℤ◌, unsigned_abs}
+-- How an affine map is kept.
+use Rattle.std.specs.Prelude.{◌≡◌, ◌<◌, ◌^◌, ℤ, pos, neg_ℤ, unsigned_abs}
 use Rattle.std.specs.Int.{int_div_euclid, int_rem_euclid}
-use Rattle.cj_decimal.specs.Number.{Number, number}
-
--- the map that takes v to v * scale + shift, both in units of 10^-18
-pub record AffineMap : Type 0 where
-  pub scale : ℤ
-  pub shift : ℤ
-
--- where the map takes v, in units of 10^-18
-abbrev pub image : AffineMap → ℤ → ℤ
-image m v = v *ℤ m.scale +ℤ m.shift
+use Rattle.cj_decimal.specs.Meaning.Number.{Number, scaled}
 
 -- the number of so many units of 10^-18
 abbrev pub units : ℤ → Number
-units n = number n (neg_ℤ (pos 18))
+units n = scaled n (neg_ℤ (pos 18))
 
 -- a scale is kept in two parts: how many whole ones, rounded down, and how many units more
 pub record IsSplit (scale whole part : ℤ) : Type 0 where

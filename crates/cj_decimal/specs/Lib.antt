@@ -1,9 +1,6 @@
 pub mod Affine
-pub mod Class
-pub mod Digits
-pub mod Number
-pub mod Reading
-pub mod Signs
-pub mod Spelling
+pub mod FewDigits
+pub mod Meaning
 pub mod Rows
 pub mod Word
+pub mod inner

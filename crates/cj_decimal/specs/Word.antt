@@ -1,12 +1,12 @@
 -- Bytes as one number, and what is read by it.
 use Rattle.std.specs.Prelude.{◌≡◌, ℕ, ◌+◌, ◌-◌, ◌*◌, ◌<◌, ◌≤◌, List, [], ◌∷◌, length, map, ◌^◌}
-use Rattle.cj_decimal.specs.Signs.{digit_0}
-use Rattle.cj_decimal.specs.Spelling.{digits_value}
+use Rattle.cj_decimal.specs.Meaning.Signs.{digit_0}
+use Rattle.cj_decimal.specs.Meaning.Reading.{digits_value}
 
 -- bytes as one number, of which the first is least
-abbrev pub word_of : List ℕ → ℕ
-word_of [] = 0
-word_of (b ∷ s) = b + 256 * word_of s
+abbrev pub little_endian : List ℕ → ℕ
+little_endian [] = 0
+little_endian (b ∷ s) = b + 256 * little_endian s
 
 -- all of them are below n
 abbrev pub AllBelow : ℕ → List ℕ → Type 0

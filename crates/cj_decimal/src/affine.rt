@@ -5,8 +5,9 @@
 ghost use Rattle.std.specs.Prelude.{◌≡◌, ◌<◌, ◌≤◌, ◌^◌, ◌+ℤ◌, ◌*ℤ◌, ◌*◌, ◌≤ℤ◌, ◌<ℤ◌, pos, unsigned_abs};
 ghost use Rattle.std.specs.Int.{int_div_euclid, int_rem_euclid};
 ghost use Rattle.std.specs.Ordering.{int_cmp};
-ghost use Rattle.cj_decimal.specs.Number.{value_order};
-ghost use Rattle.cj_decimal.specs.Affine.{image, units};
+ghost use Rattle.cj_decimal.specs.Meaning.Equality.{value_order};
+ghost use Rattle.cj_decimal.specs.Meaning.Affine.{image};
+ghost use Rattle.cj_decimal.specs.Affine.{units};
 
 use crate::fixed::Fixed18;
 use std::cmp::Ordering;
@@ -30,7 +31,8 @@ pub struct Affine {
 impl Model for Affine {
     ghost use Rattle.std.specs.Prelude.{pos, ◌^◌};
     ghost use Rattle.std.specs.Int.{int_div_euclid, int_rem_euclid};
-    ghost use Rattle.cj_decimal.specs.Affine.{AffineMap, IsSplit, IsInUnits};
+    ghost use Rattle.cj_decimal.specs.Meaning.Affine.{AffineMap};
+    ghost use Rattle.cj_decimal.specs.Affine.{IsSplit, IsInUnits};
 
     ghost Value = { AffineMap };
 

@@ -7,13 +7,15 @@ ghost use Rattle.std.specs.Prelude.{◌≡◌, ◌↔◌, ℕ, ◌+◌, ◌*◌,
 ghost use Rattle.std.specs.Prelude.{length, slice_range, IsTrue, IfSome, IfNone, IsSome, IfOk, IsOk, IsErrOf};
 ghost use Rattle.std.proofs.Common.{rules};
 ghost use Rattle.std.specs.Cmp.Rules.{comparing};
-ghost use Rattle.cj_decimal.specs.Spelling.{IsFewDigits, IsFewSigned, IsNumber, IsNumberIfBegun, IsValue};
-ghost use Rattle.cj_decimal.specs.Spelling.{IsNumberInRange, IsNumberOutOfRange, HasOneValue};
-ghost use Rattle.cj_decimal.specs.Class.{Class, whole_answer};
-ghost use Rattle.cj_decimal.specs.Number.{number, signed, same_parts, SameValue, IsNormal, IsInRange, IsOutOfRange};
-ghost use Rattle.cj_decimal.specs.Number.{IsWhole, IsFixed};
-ghost use Rattle.cj_decimal.specs.Digits.{StandsFor};
-ghost use Rattle.cj_decimal.specs.Reading.{Saturates};
+ghost use Rattle.cj_decimal.specs.FewDigits.{IsFewDigits, IsFewSigned, IsNumberIfBegun};
+ghost use Rattle.cj_decimal.specs.Meaning.Spelling.{SpellsNumber, IsValue, IsNumberInRange, IsNumberOutOfRange};
+ghost use Rattle.cj_decimal.specs.Meaning.Spelling.{HasOneValue};
+ghost use Rattle.cj_decimal.specs.Meaning.Class.{Class, whole_answer};
+ghost use Rattle.cj_decimal.specs.Meaning.Number.{scaled, signed};
+ghost use Rattle.cj_decimal.specs.Meaning.Equality.{same_parts, SameValue, IsNormal, IsInRange, IsOutOfRange, IsWhole};
+ghost use Rattle.cj_decimal.specs.Meaning.Equality.{IsFixed};
+ghost use Rattle.cj_decimal.specs.inner.Digits.{StandsFor};
+ghost use Rattle.cj_decimal.specs.inner.Reading.{Saturates};
 ghost use Rattle.cj_decimal.specs.Word.{IsCountWord, IsWordOf, TellsBelow};
 
 use crate::fixed::Fixed18;
@@ -60,13 +62,14 @@ pub struct Decimal {
 }
 
 impl Model for Decimal {
-    ghost use Rattle.cj_decimal.specs.Number.{Number, number, IsNormal, IsInRange};
+    ghost use Rattle.cj_decimal.specs.Meaning.Number.{Number, scaled};
+    ghost use Rattle.cj_decimal.specs.Meaning.Equality.{IsNormal, IsInRange};
 
     ghost Value = { Number };
 
-    ghost view = { λ d. number d.coefficient d.power };
+    ghost view = { λ d. scaled d.coefficient d.power };
 
-    ghost invariant = { λ d. IsNormal (number d.coefficient d.power) × IsInRange (number d.coefficient d.power) };
+    ghost invariant = { λ d. IsNormal (scaled d.coefficient d.power) × IsInRange (scaled d.coefficient d.power) };
 
     ghost inverse = { λ n. record { coefficient = n.coefficient; power = n.power } };
 }
@@ -120,10 +123,10 @@ impl Decimal {
     fn from_parts(parts: Parts) -> Option<Decimal>
         ensures some { (n : ℕ) (e : ℤ) → StandsFor parts.digits.lead parts.digits.extra parts.digits.lost n
             → Saturates e parts.exponent
-            → IfSome result (SameValue (number (signed parts.negative n) (e -ℤ pos parts.after_point))) }
+            → IfSome result (SameValue (scaled (signed parts.negative n) (e -ℤ pos parts.after_point))) }
         ensures none { (n : ℕ) (e : ℤ) → StandsFor parts.digits.lead parts.digits.extra parts.digits.lost n
             → Saturates e parts.exponent
-            → IfNone result (IsOutOfRange (number (signed parts.negative n) (e -ℤ pos parts.after_point))) }
+            → IfNone result (IsOutOfRange (scaled (signed parts.negative n) (e -ℤ pos parts.after_point))) }
         ensures form { IfSome result (λ d. IsNormal d × IsInRange d) }
     {
         if parts.digits.lost {
@@ -160,7 +163,7 @@ impl Decimal {
         ensures value { IfOk result (IsValue spelling.now) }
         ensures in_range { IfOk result IsInRange }
         ensures ok { IsOk result ↔ IsNumberInRange spelling.now }
-        ensures not_a_number { IsErrOf result DecimalFault.NotANumber ↔ (¬ IsNumber spelling.now) }
+        ensures not_a_number { IsErrOf result DecimalFault.NotANumber ↔ (¬ SpellsNumber spelling.now) }
         ensures number_range { IsErrOf result DecimalFault.NumberRange
             ↔ IsNumberOutOfRange spelling.now }
 
@@ -313,8 +316,8 @@ impl Decimal {
         requires bounded { digits ≤ 36 }
         requires apart { after_point < digits }
         ensures value { IfSome result
-            (λ u. SameValue self (number u (neg_ℤ (pos after_point))) × (unsigned_abs u < 10 ^ digits)) }
-        ensures none { IfNone result ((u : ℤ) → SameValue self (number u (neg_ℤ (pos after_point)))
+            (λ u. SameValue self (scaled u (neg_ℤ (pos after_point))) × (unsigned_abs u < 10 ^ digits)) }
+        ensures none { IfNone result ((u : ℤ) → SameValue self (scaled u (neg_ℤ (pos after_point)))
             → 10 ^ digits ≤ unsigned_abs u) }
     {
         let power = self.power + after_point as i32;

@@ -4,9 +4,9 @@
 //! into 128 bits. They count from the first digit that is not 0. Zeros at the end are counted
 //! separately. Only a later digit that is not 0 makes the number too long.
 ghost use Rattle.std.specs.Prelude.{◌≡◌, ℕ, ◌+◌, ◌*◌, ◌^◌, ◌<◌, ◌≤◌, length, drop, [], IsTrue, ◌-◌, slice_index};
-ghost use Rattle.cj_decimal.specs.Digits.{StandsFor};
-ghost use Rattle.cj_decimal.specs.Spelling.{value_after};
-ghost use Rattle.cj_decimal.specs.Reading.{Carries, Passes, Stops, begins_digit, digits_front};
+ghost use Rattle.cj_decimal.specs.inner.Digits.{StandsFor};
+ghost use Rattle.cj_decimal.specs.Meaning.Reading.{value_after, begins_digit, digits_front};
+ghost use Rattle.cj_decimal.specs.inner.Reading.{Carries, Passes, Stops};
 
 /// The least number of 36 digits. One more digit fits after any lesser number.
 const FULL: u128 = 100_000_000_000_000_000_000_000_000_000_000_000;

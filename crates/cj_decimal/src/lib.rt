@@ -18,8 +18,8 @@
 //!
 //! A number goes through the modules `spelling` (its parts, by `digits`), `trimming` (no zeros at
 //! the end), `decimal`, and then `fixed` and `affine`. A whole number of few digits goes through
-//! `digits` and `whole`. The definitions of a spelling and its value are in specs/Spelling and
-//! specs/Number. What is proved about the definitions alone is in [`laws`].
+//! `digits` and `whole`. The definitions of a spelling and its value are in specs/Meaning. What is
+//! proved about the definitions alone is in [`laws`].
 #![tactic(auto)]
 
 mod affine;

@@ -1,11 +1,12 @@
 //! The parts of a number's spelling, read from the front in one pass (RFC 8259, section 6).
 ghost use Rattle.std.specs.Prelude.{◌≡◌, ℕ, ◌+◌, ◌*◌, ◌^◌, ◌<◌, ◌≤◌, ◌||◌, length, drop, true, false, MatchOption, ◌-◌};
 ghost use Rattle.std.specs.Prelude.{unsigned_abs, IsSome, IsNone, ◌↔◌, IfSome};
-ghost use Rattle.cj_decimal.specs.Digits.{StandsFor};
-ghost use Rattle.cj_decimal.specs.Spelling.{IsNumber, digits_value, value_after};
-ghost use Rattle.cj_decimal.specs.Reading.{begins, body, digits_front, digits_rest, is_int, is_frac, frac_digits};
-ghost use Rattle.cj_decimal.specs.Reading.{after_frac, exp_digits, is_whole_digits, is_exp, exp_value, Saturates};
-ghost use Rattle.cj_decimal.specs.Reading.{SaturatesSize, IsReadOf, Passes, Carries, Stops};
+ghost use Rattle.cj_decimal.specs.inner.Digits.{StandsFor};
+ghost use Rattle.cj_decimal.specs.Meaning.Spelling.{SpellsNumber};
+ghost use Rattle.cj_decimal.specs.Meaning.Reading.{digits_value, value_after, begins, body, digits_front, digits_rest};
+ghost use Rattle.cj_decimal.specs.Meaning.Reading.{is_int, is_frac, frac_digits, after_frac, exp_digits};
+ghost use Rattle.cj_decimal.specs.Meaning.Reading.{is_whole_digits, is_exp, exp_value};
+ghost use Rattle.cj_decimal.specs.inner.Reading.{Saturates, SaturatesSize, IsReadOf, Passes, Carries, Stops};
 
 use crate::digits::{Digits, Run, read_digits, read_long, read_on, read_short};
 
@@ -184,7 +185,7 @@ fn integer_parts(spelling: &[u8], negative: bool, from: usize, short: u64) -> Op
     requires stops { Stops spelling.now from (length spelling.now) }
     requires value { short ≡ digits_value (digits_front (drop from spelling.now)) }
     requires short { short < 10 ^ 18 }
-    ensures number { IsSome result ↔ IsNumber spelling.now }
+    ensures number { IsSome result ↔ SpellsNumber spelling.now }
     ensures reads { IfSome result
         (λ parts. IsReadOf spelling.now parts.negative parts.digits.lead parts.digits.extra
         parts.digits.lost parts.after_point parts.exponent) }
@@ -206,7 +207,7 @@ fn integer_parts(spelling: &[u8], negative: bool, from: usize, short: u64) -> Op
 
 /// Reads a whole spelling in one pass. Returns its parts, or None if it is not a number of JSON.
 pub fn read_parts(spelling: &[u8]) -> Option<Parts>
-    ensures number { IsSome result ↔ IsNumber spelling.now }
+    ensures number { IsSome result ↔ SpellsNumber spelling.now }
     ensures reads { IfSome result
         (λ parts. IsReadOf spelling.now parts.negative parts.digits.lead parts.digits.extra
         parts.digits.lost parts.after_point parts.exponent) }

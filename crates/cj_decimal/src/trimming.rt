@@ -1,6 +1,6 @@
 //! A number without the zeros at its end.
 ghost use Rattle.std.specs.Prelude.{◌≡◌, ◌*◌, ◌^◌, ◌<◌, ◌≤◌};
-ghost use Rattle.cj_decimal.specs.Digits.{IsTrimmed};
+ghost use Rattle.cj_decimal.specs.inner.Digits.{IsTrimmed};
 
 /// Returns the number without the zeros at its end, and their count, for numbers of one machine
 /// word.

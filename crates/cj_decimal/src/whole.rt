@@ -4,9 +4,10 @@
 //! `read_few` and `read_few_signed` of a [`Decimal`] return what digits alone spell. `read_whole`
 //! tries them first, and leaves the rest to `read`: `12.0`, `1e2` and a leading 0.
 ghost use Rattle.std.specs.Prelude.{◌≡◌, ◌≤◌, length, IfSome, IsSome, ◌↔◌};
-ghost use Rattle.cj_decimal.specs.Class.{Class, whole_answer};
-ghost use Rattle.cj_decimal.specs.Reading.{IsShort};
-ghost use Rattle.cj_decimal.specs.Spelling.{IsInt, IsFewDigits};
+ghost use Rattle.cj_decimal.specs.Meaning.Class.{Class, whole_answer};
+ghost use Rattle.cj_decimal.specs.inner.Reading.{IsShort};
+ghost use Rattle.cj_decimal.specs.Meaning.Spelling.{IsInt};
+ghost use Rattle.cj_decimal.specs.FewDigits.{IsFewDigits};
 
 use crate::decimal::{Decimal, DecimalFault};
 use crate::spelling::is_int_part;

@@ -2,9 +2,11 @@
 //! number's end.
 ghost use Rattle.std.specs.Prelude.{◌≡◌, ℕ, ◌+◌, ◌-◌, ◌*◌, ◌^◌, ◌<◌, ◌≤◌, List, length, map, slice_range, IfSome};
 ghost use Rattle.std.specs.Prelude.{IsSome, IsTrue, ◌↔◌};
-ghost use Rattle.cj_decimal.specs.Reading.{IsShort};
-ghost use Rattle.cj_decimal.specs.Spelling.{IsInt, IsNumberIfBegun, digits_value};
-ghost use Rattle.cj_decimal.specs.Word.{word_of, AllBelow, IsCountWord, IsWordOf, TellsBelow};
+ghost use Rattle.cj_decimal.specs.inner.Reading.{IsShort};
+ghost use Rattle.cj_decimal.specs.Meaning.Spelling.{IsInt};
+ghost use Rattle.cj_decimal.specs.FewDigits.{IsNumberIfBegun};
+ghost use Rattle.cj_decimal.specs.Meaning.Reading.{digits_value};
+ghost use Rattle.cj_decimal.specs.Word.{little_endian, AllBelow, IsCountWord, IsWordOf, TellsBelow};
 
 /// The number of bytes in a word.
 const BYTES: usize = 8;
@@ -36,7 +38,7 @@ const PAIRS: u64 = 0x0000_00ff_0000_00ff;
 fn word_before(line: &[u8], stop: usize) -> u64
     requires room { 8 ≤ stop }
     requires within { stop ≤ length line.now }
-    ensures { result ≡ word_of (slice_range line.now (stop - 8) stop) }
+    ensures { result ≡ little_endian (slice_range line.now (stop - 8) stop) }
 {
     let bytes = &line[stop - BYTES..stop];
     u64::from_le_bytes([
@@ -61,7 +63,7 @@ fn last_bytes(count: usize) -> u64
 fn value_of(word: u64) -> u64
     requires { word < 2 ^ 60 }
     ensures small { result < 2 ^ 32 }
-    ensures value { (s : List ℕ) → length s ≡ 8 → AllBelow 10 s → word ≡ word_of s
+    ensures value { (s : List ℕ) → length s ≡ 8 → AllBelow 10 s → word ≡ little_endian s
         → result ≡ digits_value (map (λ d. d + 48) s) }
 {
     let pairs = word * 10 + (word >> 8);
@@ -73,7 +75,7 @@ fn value_of(word: u64) -> u64
 /// Returns whether each byte of a word is below 16.
 #[inline(always)]
 fn are_low(word: u64) -> bool
-    ensures { (s : List ℕ) → length s ≡ 8 → AllBelow 256 s → word ≡ word_of s
+    ensures { (s : List ℕ) → length s ≡ 8 → AllBelow 256 s → word ≡ little_endian s
         → IsTrue result ↔ AllBelow 16 s }
 {
     word & HIGH == 0

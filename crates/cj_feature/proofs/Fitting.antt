@@ -5,18 +5,21 @@ use Rattle.std.specs.List.{Contains}
 use Rattle.std.specs.Str.{chars}
 use Rattle.std.proofs.lemmas.List.Elements.{All-contains}
 use Rattle.cj_spans.specs.declared.node.Node.{Node}
-use Rattle.cj_spans.specs.Tree.{Tree, start_of}
-use Rattle.cj_spans.specs.Parts.{AreInValueOrder, members_of, member_of, text_of}
+use Rattle.cj_spans.specs.Meaning.Tree.{Tree, start_of}
+use Rattle.cj_spans.specs.Places.{AreValuesInOrder}
+use Rattle.cj_spans.specs.Meaning.Parts.{members_of, member_of, text_of}
 use Rattle.cj_spans.specs.View.{tree, line_of, source_of, tokens_in}
-use Rattle.cj_feature.specs.Marking.{IsMarkedBy, HaveMarks, ListMarks, MarksFit, IsUnmarked, IsNext, IsToMark}
-use Rattle.cj_feature.specs.Relations.{IsIn, Children}
-use Rattle.cj_feature.specs.Reached.{Reached, itself, child, IsReached, IsReachedObject, AreMarks, is_reached}
+use Rattle.cj_feature.specs.inner.Marking.{IsMarkedBy, HaveMarks, ListMarks, MarksFit, IsUnmarked, IsNext, IsToMark}
+use Rattle.cj_feature.specs.Meaning.Relations.{IsIn, Children}
+use Rattle.cj_feature.specs.Meaning.Reachable.{Reached, itself, child, IsReached, IsReachedObject}
+use Rattle.cj_feature.specs.ReachedMarks.{AreMarks}
+use Rattle.cj_feature.specs.Meaning.Reached.{is_reached}
 use Rattle.cj_feature.proofs.LinkFaults.{nowhere, first-or, not-so, from-texts, to-texts, from-listed, to-listed}
 use Rattle.cj_feature.proofs.Reaching.{is-reached, to-reached}
 use Rattle.cj_feature.proofs.Walking.{marked-beside, shown-beside}
 
 -- a value has one name
-pub one-name : (ms : List (Tree × Tree)) → AreInValueOrder ms → (m n : Tree × Tree) → Contains ms m → Contains ms n
+pub one-name : (ms : List (Tree × Tree)) → AreValuesInOrder ms → (m n : Tree × Tree) → Contains ms m → Contains ms n
     → m.1 ≡ n.1 → m.0 ≡ n.0
 one-name [] o m n h k e = absurd (nowhere m h)
 one-name (x ∷ ms) o m n h k e =
@@ -38,7 +41,7 @@ one-name (x ∷ ms) o m n h k e =
 -- a city object has a mark where its name is reached, and else none
 module _ (objects : Node) (id name t : Tree) (fit : MarksFit objects id)
     (held : Contains (members_of (tree objects)) (name, t)) where
-  pub marked-reached : AreInValueOrder (members_of (tree objects)) → IsMarkedBy objects t
+  pub marked-reached : AreValuesInOrder (members_of (tree objects)) → IsMarkedBy objects t
       → is_reached (members_of (tree objects)) id name ≡ true
   marked-reached order h =
       let r = (fit t).0 h in

@@ -3,10 +3,10 @@ use Rattle.std.proofs.Common.{◌≡◌, ℕ, ◌*◌, ◌^◌, ◌<◌, Bool, t
 use Rattle.std.specs.Prelude.{unsigned_abs, is_some, ◌↔◌, IsSome}
 use Rattle.std.proofs.lemmas.Int.{ints}
 use Rattle.std.proofs.lemmas.Bool.Decides.{nat_tests}
-use Rattle.cj_decimal.specs.Number.{Number, IsNormal, IsFixed}
+use Rattle.cj_decimal.specs.Meaning.Number.{Number, is_fixed_by, is_fixed, units_by, units_of}
+use Rattle.cj_decimal.specs.Meaning.Equality.{IsNormal, IsFixed}
 use Rattle.cj_decimal.proofs.Values.{abs_times}
 use Rattle.cj_decimal.proofs.Scales.{units_below, units_are, units_same, size_of_units}
-use Rattle.cj_feature.specs.Header.{is_fixed_by, is_fixed, units_by, units_of}
 
 below-is : (a b : ℕ) → nat_lt a b ≡ true → a < b
 below-is a b h = grind (arith, nat_tests)

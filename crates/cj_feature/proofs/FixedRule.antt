@@ -1,40 +1,34 @@
 -- The rule on a fixed number, and the maps of axes that it allows.
-use Rattle.std.proofs.Common.{◌≡◌, ℕ, List, [], ◌∷◌, ◌++◌, Bool, true, false, cond, map, length, Some, None, refl, ap}
-use Rattle.std.specs.Prelude.{not, nat_eq}
+use Rattle.std.proofs.Common.{◌≡◌, ℕ, List, [], ◌∷◌, ◌++◌, Bool, true, false, cond, map, length, Some, refl, ap, subst}
+use Rattle.std.specs.Prelude.{not, nat_eq, Result, Ok, Err}
 use Rattle.std.proofs.lemmas.Bool.{eqb-true}
 use Rattle.std.specs.List.{flat_map}
 use Rattle.cj_spans.specs.declared.reason.Reason.TheVariants.{NotThree, TransformNotFixed}
-use Rattle.cj_spans.specs.Tree.{Tree}
-use Rattle.cj_spans.specs.Kinds.{is_number, is_array}
-use Rattle.cj_spans.specs.Parts.{kind_of, spelling_of, items_of, member_of}
-use Rattle.cj_decimal.specs.Number.{Number, IsInRange}
-use Rattle.cj_decimal.specs.Spelling.{IsValue, IsNumberInRange}
-use Rattle.cj_decimal.specs.Class.{Class, no_number, out_of_range, not_whole, whole}
-use Rattle.cj_decimal.proofs.Classes.{class}
-use Rattle.cj_decimal.proofs.Law.{has_one_value, not_both, value_is_number}
-use Rattle.cj_geometry.specs.Rule.{one, spelling, number, needs, has_length, of_length}
-use Rattle.cj_feature.specs.Header.{is_fixed, fixed_findings, fixed, first_two, three_numbers}
-use Rattle.cj_feature.specs.Members.{items_if}
-use Rattle.cj_feature.specs.Shown.{value_by, value_of, are_fixed}
+use Rattle.cj_spans.specs.Meaning.Tree.{Tree}
+use Rattle.cj_spans.specs.Meaning.Kinds.{is_number, is_array}
+use Rattle.cj_spans.specs.Meaning.Parts.{kind_of, items_of, member_of, items_if}
+use Rattle.cj_spans.specs.Places.{spelling_of}
+use Rattle.cj_decimal.specs.Meaning.Number.{Number, is_fixed}
+use Rattle.cj_decimal.specs.Meaning.Equality.{IsInRange}
+use Rattle.cj_decimal.specs.Meaning.Spelling.{IsValue, IsNumberInRange}
+use Rattle.cj_decimal.specs.declared.decimal.DecimalFault.{DecimalFault}
+use Rattle.cj_decimal.specs.Meaning.Decimal.{decimal_of}
+use Rattle.cj_decimal.proofs.Decimals.{decimal_is, decimal_has}
+use Rattle.cj_geometry.specs.Meaning.Rule.{one, needs, has_length, of_length}
+use Rattle.cj_geometry.specs.Meaning.Numbers.{spelling, number, value_if, value_of}
+use Rattle.cj_feature.specs.Meaning.Header.{fixed_findings, fixed, first_two, three_numbers}
+use Rattle.cj_feature.specs.Shown.{are_fixed}
 use Rattle.cj_feature.proofs.None.{none-both, of_kind-none, by-member}
 use Rattle.cj_feature.proofs.Values.{is-number, same-spelling}
 
 -- ---- what the rule finds of a number
 
-by-value : (t : Tree) (s : List ℕ) (u : Number) → IsValue s u → IsInRange u → (c : Class s)
-    → fixed_findings t c ≡ cond (is_fixed u) [] (one TransformNotFixed t)
-by-value t s u is range (no_number n) = absurd (n (value_is_number s u is))
-by-value t s u is range (out_of_range n) = absurd (not_both s (u, is, range) n)
-by-value t s u is range (not_whole v value inside n) =
-    ap (λ x. cond (is_fixed x) [] (one TransformNotFixed t)) ((has_one_value s).one v u value is)
-by-value t s u is range (whole v w value inside n) =
-    ap (λ x. cond (is_fixed x) [] (one TransformNotFixed t)) ((has_one_value s).one v u value is)
-
-by-none : (t : Tree) (s : List ℕ) → (IsNumberInRange s → ⊥) → (c : Class s) → fixed_findings t c ≡ []
-by-none t s none (no_number n) = refl
-by-none t s none (out_of_range n) = refl
-by-none t s none (not_whole v value inside n) = absurd (none (v, value, inside))
-by-none t s none (whole v w value inside n) = absurd (none (v, value, inside))
+by-none : (t : Tree) (s : List ℕ) → (IsNumberInRange s → ⊥) → fixed_findings t (value_if (decimal_of s)) ≡ []
+by-none t s none = go (decimal_of s) refl
+  where
+    go : (r : Result Number DecimalFault) → decimal_of s ≡ r → fixed_findings t (value_if r) ≡ []
+    go (Ok v) e = let has = decimal_has s v e in absurd (none (v, has.0, has.1))
+    go (Err f) e = refl
 
 module _ (line : List ℕ) (t : Tree) (kind : is_number (kind_of t) ≡ true) where
   spelled : spelling_of line t ≡ spelling t
@@ -42,10 +36,11 @@ module _ (line : List ℕ) (t : Tree) (kind : is_number (kind_of t) ≡ true) wh
 
   pub fixed-read : (u : Number) → IsValue (spelling_of line t) u → IsInRange u
       → fixed t ≡ cond (is_fixed u) [] (one TransformNotFixed t)
-  fixed-read u is range = rw kind (by-value t (spelling t) u (rw spelled at is) range (class (spelling t)))
+  fixed-read u is range =
+      rw kind (ap (λ r. fixed_findings t (value_if r)) (decimal_is (spelling t) u (rw spelled at is) range))
 
   pub fixed-unread : (IsNumberInRange (spelling_of line t) → ⊥) → fixed t ≡ []
-  fixed-unread none = rw kind (by-none t (spelling t) (rw spelled at none) (class (spelling t)))
+  fixed-unread none = rw kind (by-none t (spelling t) (rw spelled at none))
 
 -- the same told by an answer
 pub by-answer : (t : Tree) (u : Number) (b : Bool) → is_fixed u ≡ not b
@@ -59,21 +54,8 @@ none-fixed : (t : Tree) (b : Bool) → cond b [] (one TransformNotFixed t) ≡ [
 none-fixed t true h = refl
 none-fixed t false h = absurd (cc h)
 
-class-fixed : (t : Tree) (s : List ℕ) (c : Class s) (v : Number) → value_by c ≡ Some v → fixed_findings t c ≡ []
-    → is_fixed v ≡ true
-class-fixed t s (no_number n) v e h = absurd (cc e)
-class-fixed t s (out_of_range n) v e h = absurd (cc e)
-class-fixed t s (not_whole u value inside n) v e h = let same : u ≡ v = cc e in
-    rw (← same) (none-fixed t (is_fixed u) h)
-class-fixed t s (whole u w value inside n) v e h = let same : u ≡ v = cc e in rw (← same) (none-fixed t (is_fixed u) h)
-
 value-fixed : (t : Tree) (v : Number) → value_of t ≡ Some v → fixed t ≡ [] → is_fixed v ≡ true
-value-fixed t v e h = go (is_number (kind_of t)) e h
-  where
-    go : (b : Bool) → cond b (value_by (class (spelling t))) None ≡ Some v
-        → cond b (fixed_findings t (class (spelling t))) [] ≡ [] → is_fixed v ≡ true
-    go true e h = class-fixed t (spelling t) (class (spelling t)) v e h
-    go false e h = absurd (cc e)
+value-fixed t v e h = none-fixed t (is_fixed v) (subst (λ o. fixed_findings t o ≡ []) e h)
 
 -- ---- three numbers, of which the first two are fixed
 

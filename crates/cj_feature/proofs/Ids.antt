@@ -3,15 +3,14 @@ use Rattle.std.proofs.Common.{◌≡◌, ℕ, List, [], ◌++◌, Bool, true, fa
 use Rattle.std.specs.List.{flat_map}
 use Rattle.std.specs.Str.{chars}
 use Rattle.cj_spans.specs.declared.reason.Reason.TheVariants.{IdNotFound}
-use Rattle.cj_spans.specs.Tree.{Tree}
-use Rattle.cj_spans.specs.Kinds.{is_text, is_object}
-use Rattle.cj_spans.specs.Parts.{kind_of, members_of, member_of, text_of}
-use Rattle.cj_geometry.specs.Rule.{one, of_kind, distinct}
-use Rattle.cj_geometry.specs.Geometry.{Given, count_of}
-use Rattle.cj_feature.specs.Typed.{members_if}
-use Rattle.cj_feature.specs.Feature.{id_in, city_object, city_objects, feature_rules}
-use Rattle.cj_feature.specs.Links.{is_known}
-use Rattle.cj_feature.specs.Relations.{IsIn}
+use Rattle.cj_spans.specs.Meaning.Tree.{Tree}
+use Rattle.cj_spans.specs.Meaning.Kinds.{is_text, is_object}
+use Rattle.cj_spans.specs.Meaning.Parts.{kind_of, members_of, member_of, text_of, members_if}
+use Rattle.cj_geometry.specs.Meaning.Rule.{one, of_kind, distinct}
+use Rattle.cj_geometry.specs.Meaning.Geometry.{Given, count_of}
+use Rattle.cj_feature.specs.Meaning.Feature.{id_in, city_object, city_objects, feature_rules}
+use Rattle.cj_feature.specs.Meaning.Links.{is_known}
+use Rattle.cj_feature.specs.Meaning.Relations.{IsIn}
 use Rattle.cj_feature.proofs.None.{of_kind-none, is-there, then-none}
 use Rattle.cj_feature.proofs.LinkFaults.{from-known, known-text}
 use Rattle.cj_feature.proofs.Valid.{has-id, has-objects}

@@ -4,12 +4,12 @@ use Rattle.std.specs.List.{flat_map}
 use Rattle.std.proofs.lemmas.Bool.{eqb-true}
 use Rattle.cj_spans.specs.declared.finding.Finding.{Finding}
 use Rattle.cj_spans.specs.declared.reason.Reason.{Reason}
-use Rattle.cj_spans.specs.Finding.{least}
-use Rattle.cj_spans.specs.Kinds.{is_array}
-use Rattle.cj_spans.specs.Tree.{Tree}
-use Rattle.cj_spans.specs.Parts.{kind_of, items_of}
+use Rattle.cj_spans.specs.Meaning.Finding.{least}
+use Rattle.cj_spans.specs.Meaning.Kinds.{is_array}
+use Rattle.cj_spans.specs.Meaning.Tree.{Tree}
+use Rattle.cj_spans.specs.Meaning.Parts.{kind_of, items_of}
 use Rattle.cj_spans.proofs.Findings.{least-two, least-swap}
-use Rattle.cj_geometry.specs.Rule.{one, of_kind, nothing, has_length, of_length}
+use Rattle.cj_geometry.specs.Meaning.Rule.{one, of_kind, nothing, has_length, of_length}
 use Rattle.cj_geometry.proofs.OfKind.{of_kind-then}
 
 -- another length has its reason

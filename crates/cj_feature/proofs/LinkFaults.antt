@@ -9,15 +9,17 @@ use Rattle.cj_spans.specs.declared.token.Kind.{Kind}
 use Rattle.cj_spans.specs.declared.token.Kind.TheVariants.{Null, Truth, Number, Text, Array, Object}
 use Rattle.cj_spans.specs.declared.finding.Finding.{Finding}
 use Rattle.cj_spans.specs.declared.reason.Reason.TheVariants.{ChildNotFound, LinkNotMutual, NoParent}
-use Rattle.cj_spans.specs.Finding.{found_at}
-use Rattle.cj_spans.specs.Kinds.{is_text, is_array}
-use Rattle.cj_spans.specs.Text.{text}
-use Rattle.cj_spans.specs.Tree.{Tree, scalar, array, object, start_of, Members, no_members, member}
-use Rattle.cj_spans.specs.Parts.{kind_of, items_of, list_members, members_of, member_of, text_of, are_same_texts}
-use Rattle.cj_geometry.specs.Rule.{one}
-use Rattle.cj_feature.specs.Members.{items_if}
-use Rattle.cj_feature.specs.Links.{same_text, listed_in, is_group, is_part, is_known, has_item, lists, answered, child, parent, children, parents, part_of, part, object_links, links}
-use Rattle.cj_feature.specs.Relations.{IsIn, IsListed, Lists, IsLinkFault, child_not_found, child_not_mutual, parent_not_mutual, no_parent}
+use Rattle.cj_spans.specs.Meaning.Finding.{found_at}
+use Rattle.cj_spans.specs.Meaning.Kinds.{is_text, is_array}
+use Rattle.cj_spans.specs.Meaning.Text.{text}
+use Rattle.cj_spans.specs.Meaning.Tree.{Tree, scalar, array, object, start_of, Members, no_members, member}
+use Rattle.cj_spans.specs.Meaning.Parts.{kind_of, items_of, list_members, members_of, member_of, text_of}
+use Rattle.cj_spans.specs.Meaning.Parts.{are_same_texts, items_if}
+use Rattle.cj_geometry.specs.Meaning.Rule.{one}
+use Rattle.cj_feature.specs.Meaning.Links.{same_text, listed_in, is_group, is_part, is_known, has_item, lists, answered}
+use Rattle.cj_feature.specs.Meaning.Links.{child, parent, children, parents, part_of, part, object_links, links}
+use Rattle.cj_feature.specs.Meaning.Relations.{IsIn, IsListed, Lists, IsLinkFault, child_not_found, child_not_mutual}
+use Rattle.cj_feature.specs.Meaning.Relations.{parent_not_mutual, no_parent}
 
 -- ---- elements
 

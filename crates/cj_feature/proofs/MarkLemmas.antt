@@ -4,7 +4,7 @@ use Rattle.std.proofs.lemmas.Bool.{cases_lt}
 use Rattle.cj_spans.specs.declared.token.Token.{Token}
 use Rattle.cj_spans.specs.Marks.{has_mark, is_marked_at, IsMarked}
 use Rattle.cj_spans.specs.Preorder.{spans_of}
-use Rattle.cj_spans.specs.Tree.{Tree}
+use Rattle.cj_spans.specs.Meaning.Tree.{Tree}
 use Rattle.cj_spans.specs.View.{tree_at}
 
 -- how many have no mark

@@ -9,14 +9,14 @@ use Rattle.std.proofs.lemmas.Bool.{cases_lt}
 use Rattle.std.proofs.lemmas.List.{get_or-take, get_or-set_same, get_or-set_other, length-set, length-take-le}
 use Rattle.std.proofs.lemmas.List.Sorted.{Contains-permutation, searchable_from_sorted}
 use Rattle.cj_spans.specs.declared.node.Node.{Node}
-use Rattle.cj_spans.specs.Tree.{Tree}
-use Rattle.cj_spans.specs.Parts.{text_of}
+use Rattle.cj_spans.specs.Meaning.Tree.{Tree}
+use Rattle.cj_spans.specs.Meaning.Parts.{text_of}
 use Rattle.cj_feature.specs.declared.feature.search.noted.Noted.{Noted}
 use Rattle.cj_feature.specs.declared.feature.search.unmarked.Names.{Names}
 use Rattle.cj_feature.specs.declared.feature.search.unmarked.Names.TheVariants.{Every, These}
-use Rattle.cj_feature.specs.Links.{same_text}
-use Rattle.cj_feature.specs.Questions.{Side, compare_sides, side_of, side_in}
-use Rattle.cj_feature.specs.Unmarked.{AreInNameOrder, IsNoted, IsSought}
+use Rattle.cj_feature.specs.Meaning.Links.{same_text}
+use Rattle.cj_feature.specs.inner.Questions.{Side, compare_sides, side_of, side_in}
+use Rattle.cj_feature.specs.inner.Unmarked.{AreInNameOrder, IsNoted, IsSought}
 use Rattle.cj_feature.proofs.LinkFaults.{from-texts}
 use Rattle.cj_feature.proofs.Questions.{sides_total}
 

@@ -11,22 +11,23 @@ use Rattle.cj_budget.specs.Bounded.{BoundedList}
 use Rattle.cj_spans.specs.declared.token.Token.{Token}
 use Rattle.cj_spans.specs.declared.node.Doc.{Doc}
 use Rattle.cj_spans.specs.declared.node.Node.{Node}
-use Rattle.cj_spans.specs.Json.{Json}
+use Rattle.cj_spans.specs.Meaning.Json.{Json}
 use Rattle.cj_spans.specs.Marks.{KeepsTokens, is_marked_at}
 use Rattle.cj_spans.specs.Preorder.{Span, spans_of}
-use Rattle.cj_spans.specs.Tree.{Tree}
-use Rattle.cj_spans.specs.Parts.{members_of, member_of, text_of}
+use Rattle.cj_spans.specs.Meaning.Tree.{Tree}
+use Rattle.cj_spans.specs.Meaning.Parts.{members_of, member_of, text_of}
 use Rattle.cj_spans.specs.View.{tree, line_of, source_of, tokens_in, tree_at, document_line, document_source}
 use Rattle.cj_feature.specs.declared.feature.search.near.Near.{Near}
 use Rattle.cj_feature.specs.declared.feature.search.near.lists.Lists.{Lists}
 use Rattle.cj_feature.specs.declared.feature.search.near.pending.Pending.{Pending}
 use Rattle.cj_feature.specs.declared.feature.search.near.slot.Held.TheVariants.{Nothing}
 use Rattle.cj_feature.specs.declared.feature.search.near.slot.Slot.{Slot}
-use Rattle.cj_feature.specs.Links.{listed_in}
-use Rattle.cj_feature.specs.Relations.{IsIn, Children}
-use Rattle.cj_feature.specs.Reached.{itself, child, IsReached, IsReachedObject}
-use Rattle.cj_feature.specs.Slots.{IsHeld, IsReady}
-use Rattle.cj_feature.specs.Marking.{AreNamed, AreReached, ReachesName, Knows, WaitsFor, AddsNone, IsGuide, spans_by}
+use Rattle.cj_feature.specs.Meaning.Links.{listed_in}
+use Rattle.cj_feature.specs.Meaning.Relations.{IsIn, Children}
+use Rattle.cj_feature.specs.Meaning.Reachable.{itself, child, IsReached, IsReachedObject}
+use Rattle.cj_feature.specs.inner.Slots.{SlotHolds, IsReady}
+use Rattle.cj_feature.specs.inner.Marking.{AreNamed, AreReached, ReachesName, Knows, WaitsFor, AddsNone, IsGuide}
+use Rattle.cj_feature.specs.inner.Marking.{spans_by}
 use Rattle.cj_feature.proofs.LinkFaults.{from-texts, from-listed}
 use Rattle.cj_spans.proofs.Marking.{line-of-document}
 use Rattle.cj_feature.proofs.Fitting.{one-some}
@@ -79,7 +80,7 @@ same-one (suc n) v zero x h = cc h
 same-one (suc n) v (suc k) x h = same-one n v k x h
 
 -- where each slot holds nothing, none holds a city object
-pub none-held : (n : ℕ) (v : Slot) → IsHeld v Nothing → (k m : ℕ) (s : Slot) → slice_get (replicate n v) k ≡ Some s
+pub none-held : (n : ℕ) (v : Slot) → SlotHolds v Nothing → (k m : ℕ) (s : Slot) → slice_get (replicate n v) k ≡ Some s
     → IsReady s m → ⊥
 none-held n v empty k m s h r = let same : s.packed ≡ v.packed = ap (λ (t : Slot). t.packed) (same-one n v k s h) in
     omega (arith, same, empty, r.packed, r.above)

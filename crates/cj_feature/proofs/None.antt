@@ -4,9 +4,9 @@ use Rattle.std.specs.List.{flat_map, list_all}
 use Rattle.cj_spans.specs.declared.token.Kind.{Kind}
 use Rattle.cj_spans.specs.declared.reason.Reason.TheVariants.{WrongKind}
 use Rattle.cj_spans.specs.declared.finding.Finding.{Finding}
-use Rattle.cj_spans.specs.Tree.{Tree}
-use Rattle.cj_spans.specs.Parts.{kind_of, member_of}
-use Rattle.cj_geometry.specs.Rule.{one, of_kind, missing, if_there, needs}
+use Rattle.cj_spans.specs.Meaning.Tree.{Tree}
+use Rattle.cj_spans.specs.Meaning.Parts.{kind_of, member_of}
+use Rattle.cj_geometry.specs.Meaning.Rule.{one, of_kind, missing, if_there, needs}
 
 -- neither of two lists has one
 pub none-both : (fs gs : List Finding) → fs ++ gs ≡ [] → (fs ≡ []) × (gs ≡ [])

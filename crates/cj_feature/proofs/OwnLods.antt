@@ -1,25 +1,27 @@
 -- The LoDs of a valid feature beside a header without templates: no geometry is an instance.
 use Rattle.std.proofs.Common.{◌≡◌, ℕ, List, [], ◌∷◌, ◌++◌, Bool, true, false, cond, Option, Some, None, map, codes, not, nat_lt, refl, sym, ap, subst, ◌∙◌, arith}
-use Rattle.std.specs.Prelude.{pos, negsuc}
+use Rattle.std.specs.Prelude.{pos, negsuc, ℤ, Result, Ok, Err}
 use Rattle.std.specs.List.{flat_map}
 use Rattle.std.specs.Str.{chars}
 use Rattle.std.proofs.lemmas.List.{map-append}
 use Rattle.std.proofs.lemmas.Bool.Decides.{nat_tests}
 use Rattle.cj_spans.specs.declared.reason.Reason.TheVariants.{TemplateIndex, BadInstance}
-use Rattle.cj_spans.specs.Tree.{Tree}
-use Rattle.cj_spans.specs.Kinds.{is_number, is_text, is_array, is_object}
-use Rattle.cj_spans.specs.Parts.{items_of, members_of, member_of, has_text}
-use Rattle.cj_decimal.specs.Class.{Class, no_number, out_of_range, not_whole, whole}
-use Rattle.cj_decimal.proofs.Classes.{class}
-use Rattle.cj_geometry.specs.Geometry.{Given, count_of, geometry, template_count, typed_rules, form_rules, instance_rules, is_itself}
-use Rattle.cj_geometry.specs.Lod.{is_instance, lod}
-use Rattle.cj_geometry.specs.Rule.{one, of_kind, if_there, index, index_findings, spelling, needs, may_have, distinct}
-use Rattle.cj_geometry.specs.Table.{form_of, instance}
+use Rattle.cj_spans.specs.Meaning.Tree.{Tree}
+use Rattle.cj_spans.specs.Meaning.Kinds.{is_number, is_text, is_array, is_object}
+use Rattle.cj_spans.specs.Meaning.Parts.{items_of, members_of, member_of, has_text, items_if, members_if}
+use Rattle.cj_decimal.specs.declared.decimal.DecimalFault.{DecimalFault}
+use Rattle.cj_decimal.specs.Meaning.Number.{Number, as_whole}
+use Rattle.cj_decimal.specs.Meaning.Decimal.{decimal_of}
+use Rattle.cj_geometry.specs.Meaning.Geometry.{Given, count_of, geometry, template_count, typed_rules, form_rules}
+use Rattle.cj_geometry.specs.Meaning.Geometry.{instance_rules, is_itself}
+use Rattle.cj_geometry.specs.Meaning.Lod.{is_instance, lod}
+use Rattle.cj_geometry.specs.Meaning.Rule.{one, of_kind, if_there, needs, may_have, distinct}
+use Rattle.cj_geometry.specs.Meaning.Numbers.{index, is_outside, value_findings, whole_findings, spelling}
+use Rattle.cj_geometry.specs.Meaning.Table.{form_of, instance}
 use Rattle.cj_geometry.proofs.Texts.{other_text}
-use Rattle.cj_feature.specs.Feature.{feature, templates_of, city_object, city_objects, geometries, object_type, second_level, texts}
-use Rattle.cj_feature.specs.Members.{items_if}
-use Rattle.cj_feature.specs.Typed.{members_if}
-use Rattle.cj_feature.specs.Walks.{object_geometries}
+use Rattle.cj_feature.specs.Meaning.Feature.{feature, templates_of, city_object, city_objects, geometries, object_type}
+use Rattle.cj_feature.specs.Meaning.Feature.{second_level, texts}
+use Rattle.cj_feature.specs.Meaning.CityObject.{object_geometries}
 use Rattle.cj_feature.proofs.None.{none-both, of_kind-none, by-member}
 use Rattle.cj_feature.proofs.Valid.{has-objects}
 
@@ -47,14 +49,16 @@ instance-form t h =
 below-none : (k : ℕ) → nat_lt k 0 ≡ false
 below-none k = grind (arith, nat_tests)
 
-no-index : {s : List ℕ} (t : Tree) (c : Class s) → index_findings TemplateIndex (Some 0) t c ≡ [] → ⊥
-no-index t (no_number n) h = cc h
-no-index t (out_of_range n) h = cc h
-no-index t (not_whole v value range n) h = cc h
-no-index t (whole v (pos k) value range is) h =
-    let b = below-none k in
-    cc (subst (λ b. cond (not b) (one TemplateIndex t) [] ≡ []) b h)
-no-index t (whole v (negsuc k) value range is) h = cc h
+no-index : (t : Tree) (r : Result Number DecimalFault)
+    → value_findings (λ v. whole_findings (λ w. cond (is_outside (Some 0) w) (one TemplateIndex t) []) t (as_whole v)) t r
+    ≡ [] → ⊥
+no-index t (Ok v) h = go (as_whole v) h
+  where
+    go : (o : Option ℤ) → whole_findings (λ w. cond (is_outside (Some 0) w) (one TemplateIndex t) []) t o ≡ [] → ⊥
+    go None h = cc h
+    go (Some (pos k)) h = let b = below-none k in cc (subst (λ b. cond (not b) (one TemplateIndex t) [] ≡ []) b h)
+    go (Some (negsuc k)) h = cc h
+no-index t (Err e) h = cc h
 
 module _ (vertices : Option ℕ) (templates : Given) (empty : template_count templates ≡ 0) where
   -- so no instance is valid
@@ -63,8 +67,10 @@ module _ (vertices : Option ℕ) (templates : Given) (empty : template_count tem
       let none = subst (λ n. instance_rules vertices n g ≡ []) empty h in
       let found = by-member (index TemplateIndex (Some 0)) g (member_of (chars (codes "template")) g)
       (none-both _ _ (none-both _ _ none).0).0 in
-      no-index found.0 (class (spelling found.0))
-      (of_kind-none (λ u. index_findings TemplateIndex (Some 0) u (class (spelling u))) found.0 is_number found.2).1
+      no-index found.0 (decimal_of (spelling found.0))
+      (of_kind-none (λ u. value_findings (λ v. whole_findings
+      (λ w. cond (is_outside (Some 0) w) (one TemplateIndex found.0) []) found.0 (as_whole v)) u (decimal_of (spelling u)))
+      found.0 is_number found.2).1
 
   no-form : (b : Bool) (g t : Tree) → cond b (one BadInstance t) (instance_rules vertices (template_count templates) g)
       ≡ [] → ⊥

@@ -6,17 +6,17 @@ use Rattle.std.specs.Str.{chars}
 use Rattle.cj_spans.specs.declared.finding.Finding.{Finding}
 use Rattle.cj_spans.specs.declared.reason.Reason.{Reason}
 use Rattle.cj_spans.specs.declared.reason.Reason.TheVariants.{ChildNotFound, LinkNotMutual, NoParent}
-use Rattle.cj_spans.specs.Finding.{least}
-use Rattle.cj_spans.specs.Kinds.{is_text, is_array}
-use Rattle.cj_spans.specs.Tree.{Tree}
-use Rattle.cj_spans.specs.Parts.{kind_of, member_of}
+use Rattle.cj_spans.specs.Meaning.Finding.{least}
+use Rattle.cj_spans.specs.Meaning.Kinds.{is_text, is_array}
+use Rattle.cj_spans.specs.Meaning.Tree.{Tree}
+use Rattle.cj_spans.specs.Meaning.Parts.{kind_of, member_of, items_if}
 use Rattle.cj_spans.proofs.Findings.{least-append, least-swap}
-use Rattle.cj_geometry.specs.Rule.{one}
+use Rattle.cj_geometry.specs.Meaning.Rule.{one}
 use Rattle.cj_feature.specs.declared.feature.search.link.Link.{Link}
 use Rattle.cj_feature.specs.declared.feature.search.link.Link.TheVariants.{Child, Parent}
-use Rattle.cj_feature.specs.Kin.{back_of, linked}
-use Rattle.cj_feature.specs.Members.{items_if}
-use Rattle.cj_feature.specs.Links.{same_text, listed_in, is_part, is_known, has_item, lists, answered, children, parents, part_of, part, object_links}
+use Rattle.cj_feature.specs.inner.Kin.{back_of, linked}
+use Rattle.cj_feature.specs.Meaning.Links.{same_text, listed_in, is_part, is_known, has_item, lists, answered, children}
+use Rattle.cj_feature.specs.Meaning.Links.{parents, part_of, part, object_links}
 
 -- ---- who lists is in the feature
 

@@ -17,16 +17,18 @@ use denote.Param.Members.{Mut}
 use denote.Ref.{Bor}
 use Rattle.cj_spans.specs.declared.node.Node.{Node}
 use Rattle.cj_spans.specs.declared.token.Kind.TheVariants.{Null, Truth, Number, Text, Array, Object}
-use Rattle.cj_spans.specs.Tree.{Tree, scalar, array, object}
+use Rattle.cj_spans.specs.Meaning.Tree.{Tree, scalar, array, object}
 use Rattle.cj_spans.specs.Order.{compare_texts}
-use Rattle.cj_spans.specs.Parts.{kind_of, members_of, text_of, are_same_texts}
+use Rattle.cj_spans.specs.Meaning.Parts.{kind_of, members_of, text_of, are_same_texts}
 use Rattle.cj_spans.specs.View.{tree}
 use Rattle.cj_geometry.proofs.Initials.{still_free}
 use Rattle.cj_feature.specs.declared.feature.search.questions.order.Question.{Question}
-use Rattle.cj_feature.specs.Links.{same_text, is_known, lists}
-use Rattle.cj_feature.specs.Tag.{tag_of}
+use Rattle.cj_feature.specs.Meaning.Links.{same_text, is_known, lists}
+use Rattle.cj_feature.specs.inner.Tag.{tag_of}
 use Rattle.cj_feature.proofs.LinkFaults.{from-texts}
-use Rattle.cj_feature.specs.Questions.{Key, Side, compare_sides, side_of, compare_keys, key_of, from_in, to_in, key_in, AreInOrder, IsPlaceOf, IsFirstOn, IsQuestion, AreListed, AreLeft}
+use Rattle.cj_feature.specs.inner.Questions.{Key, Side, compare_sides, side_of, compare_keys, key_of, from_in, to_in}
+use Rattle.cj_feature.specs.inner.Questions.{key_in, AreQuestionsInOrder, IsPlaceOf, IsFirstOn, IsQuestion, AreListed}
+use Rattle.cj_feature.specs.inner.Questions.{AreLeft}
 
 -- ---- a list in order
 
@@ -98,7 +100,7 @@ pub in_order : (objects : Node) {F : Type 0} {g : Mut F (Bor Question × (Bor Qu
     (qs : List Question) → ((lt : Question → Question → Bool) → IsStrictWeakOrder lt → ComparesAs g lt f
     → IsSortedBy lt qs)
     → ((a : Bor Question × (Bor Question × Unit {0})) (r : Ordering) (f' : F) → Called g f a r f'
-    → (r ≡ compare_keys (key_in objects a.0.now) (key_in objects a.1.0.now)) × (f' ≡ f)) → AreInOrder objects qs
+    → (r ≡ compare_keys (key_in objects a.0.now) (key_in objects a.1.0.now)) × (f' ≡ f)) → AreQuestionsInOrder objects qs
 in_order objects {g = g} {f = f} qs sorted each =
     let key = key_in objects in
     sorted (λ x y. is_lt (compare_keys (key x) (key y))) (ranks_by keys_total key)
@@ -115,7 +117,7 @@ no_later Greater Equal h e = e
 no_later Greater Greater h e = e
 
 -- those before a key come before all others
-pub parted : (objects : Node) (qs : List Question) (k : Key) → AreInOrder objects qs
+pub parted : (objects : Node) (qs : List Question) (k : Key) → AreQuestionsInOrder objects qs
     → IsPartitionedBy (λ q. is_lt (compare_keys (key_in objects q) k)) qs
 parted objects qs k h =
     let rises = searchable_from_sorted keys_total (key_in objects) qs k h in

@@ -5,11 +5,12 @@ use Rattle.std.specs.List.{Contains}
 use Rattle.std.specs.Str.{chars}
 use Rattle.std.proofs.lemmas.List.Elements.{Contains-append_left, Contains-append_right, Contains-append_cases}
 use Rattle.std.proofs.lemmas.List.Filters.{length-filter_both}
-use Rattle.cj_spans.specs.Tree.{Tree}
-use Rattle.cj_spans.specs.Parts.{text_of, are_same_texts}
-use Rattle.cj_feature.specs.Links.{same_text, listed_in, has_item}
-use Rattle.cj_feature.specs.Relations.{IsIn, Children}
-use Rattle.cj_feature.specs.Reached.{Reached, itself, child, IsReached, list_child, reached_from, reached_of, is_reached}
+use Rattle.cj_spans.specs.Meaning.Tree.{Tree}
+use Rattle.cj_spans.specs.Meaning.Parts.{text_of, are_same_texts}
+use Rattle.cj_feature.specs.Meaning.Links.{same_text, listed_in, has_item}
+use Rattle.cj_feature.specs.Meaning.Relations.{IsIn, Children}
+use Rattle.cj_feature.specs.Meaning.Reachable.{Reached, itself, child, IsReached}
+use Rattle.cj_feature.specs.Meaning.Reached.{list_child, reached_from, reached_of, is_reached}
 use Rattle.cj_feature.proofs.LinkFaults.{here, there, nowhere, first-or, from-any, to-any, carried, from-texts, to-texts, from-listed, to-listed}
 
 -- ---- elements that pass a test

@@ -1,23 +1,28 @@
 -- Where the rules on city objects and vertices find nothing, types are known and vertices have three whole numbers.
 use Rattle.std.proofs.Common.{◌≡◌, ◌∙◌, sym, ap, ℕ, zero, suc, ◌<◌, ◌≤◌, drop, take, pos, List, [], ◌∷◌, ◌++◌, length, map, Bool, true, false, nat_eq, cond, Option, Some, None, ℤ, codes, refl, inl, inr, arith}
 use Rattle.std.specs.List.{flat_map, list_all}
-use Rattle.std.specs.Prelude.{IfSome}
+use Rattle.std.specs.Prelude.{IfSome, Result, Ok, Err, option_and_then}
 use Rattle.std.proofs.lemmas.List.{drop-map, drop_all}
 use Rattle.std.proofs.lemmas.Bool.{cases_lt, eqb-true}
 use Rattle.std.specs.Str.{chars}
 use Rattle.cj_spans.specs.declared.reason.Reason.TheVariants.{NotThree}
-use Rattle.cj_spans.specs.Tree.{Tree, total_size}
-use Rattle.cj_spans.specs.Kinds.{is_text, is_number, is_array, is_object}
-use Rattle.cj_spans.specs.Parts.{items_of, members_of, member_of}
+use Rattle.cj_spans.specs.Meaning.Tree.{Tree}
+use Rattle.cj_spans.specs.Forest.{total_size}
+use Rattle.cj_spans.specs.Meaning.Kinds.{is_text, is_number, is_array, is_object}
+use Rattle.cj_spans.specs.Meaning.Parts.{items_of, members_of, member_of}
 use Rattle.cj_decimal.specs.Word.{IsWordOf}
-use Rattle.cj_decimal.specs.Class.{Class, no_number, out_of_range, not_whole, whole}
-use Rattle.cj_decimal.proofs.Classes.{class}
+use Rattle.cj_decimal.specs.declared.decimal.DecimalFault.{DecimalFault}
+use Rattle.cj_decimal.specs.Meaning.Number.{Number, as_whole}
+use Rattle.cj_decimal.specs.Meaning.Decimal.{decimal_of}
 use Rattle.cj_geometry.proofs.Lone.{whole-size}
-use Rattle.cj_geometry.specs.ObjectTypes.{ObjectRow, row_of}
-use Rattle.cj_geometry.specs.Geometry.{Given}
-use Rattle.cj_geometry.specs.Rule.{one, needs, may_have, spelling, whole_findings, whole_by, whole_of, whole_number, distinct, has_length, of_length}
-use Rattle.cj_feature.specs.Feature.{known_type, object_type, geometries, texts, second_level, city_object, city_objects, vertex_list}
-use Rattle.cj_feature.specs.Typed.{is_row, is_typed, are_one, are_two, are_three, is_vertex, begins_whole, number_on, vertex_of}
+use Rattle.cj_geometry.specs.Meaning.ObjectTypes.{ObjectRow, row_of}
+use Rattle.cj_geometry.specs.Meaning.Geometry.{Given}
+use Rattle.cj_geometry.specs.Meaning.Rule.{one, needs, may_have, distinct, has_length, of_length}
+use Rattle.cj_geometry.specs.Meaning.Numbers.{spelling, value_findings, whole_findings, value_if, whole_of, whole_number}
+use Rattle.cj_feature.specs.Meaning.Feature.{known_type, object_type, geometries, texts, second_level, city_object}
+use Rattle.cj_feature.specs.Meaning.Feature.{city_objects, vertex_list}
+use Rattle.cj_feature.specs.inner.Typed.{is_row, is_typed, are_one, are_two, are_three, is_vertex, begins_whole}
+use Rattle.cj_feature.specs.Meaning.CityObject.{number_on, vertex_of}
 use Rattle.cj_feature.proofs.None.{none-both, of_kind-none, by-member, none-each}
 
 -- ---- city objects
@@ -54,16 +59,21 @@ all-typed vertices templates t h =
 
 -- ---- vertices
 
-by-class : {s : List ℕ} (t : Tree) (c : Class s) → whole_findings t c ≡ [] → (w : ℤ) × (whole_by c ≡ Some w)
-by-class t (no_number n) h = absurd (cc h)
-by-class t (out_of_range n) h = absurd (cc h)
-by-class t (not_whole v value range n) h = absurd (cc h)
-by-class t (whole v w value range is) h = (w, refl)
+by-value : (t : Tree) (r : Result Number DecimalFault)
+    → value_findings (λ v. whole_findings (λ w. []) t (as_whole v)) t r ≡ []
+    → (w : ℤ) × (option_and_then as_whole (value_if r) ≡ Some w)
+by-value t (Ok v) h = go (as_whole v) refl h
+  where
+    go : (o : Option ℤ) → as_whole v ≡ o → whole_findings (λ w. []) t o ≡ [] → (w : ℤ) × (as_whole v ≡ Some w)
+    go None e h = absurd (cc h)
+    go (Some w) e h = (w, e)
+by-value t (Err f) h = absurd (cc h)
 
 whole-value : (t : Tree) → whole_number t ≡ [] → (w : ℤ) × (whole_of t ≡ Some w)
 whole-value t h =
-    let parts = of_kind-none (λ u. whole_findings u (class (spelling u))) t is_number h in
-    let value = by-class t (class (spelling t)) parts.1 in
+    let parts = of_kind-none (λ u. value_findings (λ v. whole_findings (λ w. []) t (as_whole v)) u
+    (decimal_of (spelling u))) t is_number h in
+    let value = by-value t (decimal_of (spelling t)) parts.1 in
     (value.0, rw parts.0 value.1)
 
 by-length : (b : Bool) (t : Tree) → cond b [] (one NotThree t) ≡ [] → b ≡ true

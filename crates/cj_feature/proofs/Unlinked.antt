@@ -5,10 +5,9 @@ use Rattle.std.specs.Prelude.{codes, is_some, option_map}
 use Rattle.std.specs.List.{flat_map}
 use Rattle.std.specs.Str.{chars}
 use Rattle.cj_spans.specs.declared.finding.Finding.{Finding}
-use Rattle.cj_spans.specs.Parts.{member_of}
-use Rattle.cj_spans.specs.Tree.{Tree}
-use Rattle.cj_feature.specs.Links.{child, is_group, is_part, object_links, parent, part_of}
-use Rattle.cj_feature.specs.Members.{items_if}
+use Rattle.cj_spans.specs.Meaning.Parts.{member_of, items_if}
+use Rattle.cj_spans.specs.Meaning.Tree.{Tree}
+use Rattle.cj_feature.specs.Meaning.Links.{child, is_group, is_part, object_links, parent, part_of}
 
 -- and the next of some members has none
 pub next_unlinked : (f : Tree × Tree → List Finding) (all rest : List (Tree × Tree)) (m : Tree × Tree)

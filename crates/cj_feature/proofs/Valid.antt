@@ -1,14 +1,14 @@
 -- What headers and features of no findings have.
 use Rattle.std.proofs.Common.{◌≡◌, List, [], ◌++◌, Bool, true, false, cond, codes, ap}
 use Rattle.std.specs.Str.{chars}
-use Rattle.cj_spans.specs.Tree.{Tree}
-use Rattle.cj_spans.specs.Kinds.{is_text, is_object}
+use Rattle.cj_spans.specs.Meaning.Tree.{Tree}
+use Rattle.cj_spans.specs.Meaning.Kinds.{is_text, is_object}
 use Rattle.cj_spans.specs.declared.finding.Finding.{Finding}
-use Rattle.cj_spans.specs.Parts.{member_of}
-use Rattle.cj_geometry.specs.Rule.{of_kind, needs, distinct}
-use Rattle.cj_geometry.specs.Geometry.{Given, count_of}
-use Rattle.cj_feature.specs.Feature.{id_in, city_objects, vertex_list, feature_rules}
-use Rattle.cj_feature.specs.Header.{three_numbers, transform, header_rules, header}
+use Rattle.cj_spans.specs.Meaning.Parts.{member_of}
+use Rattle.cj_geometry.specs.Meaning.Rule.{of_kind, needs, distinct}
+use Rattle.cj_geometry.specs.Meaning.Geometry.{Given, count_of}
+use Rattle.cj_feature.specs.Meaning.Feature.{id_in, city_objects, vertex_list, feature_rules}
+use Rattle.cj_feature.specs.Meaning.Header.{three_numbers, transform, header_rules, header}
 use Rattle.cj_feature.proofs.None.{none-both, of_kind-none}
 
 -- a transform

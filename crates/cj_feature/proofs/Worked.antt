@@ -3,16 +3,16 @@ use Rattle.std.proofs.Common.{◌≡◌, ℕ, List, [], ◌∷◌, ◌++◌, fal
 use Rattle.std.specs.Prelude.{codes}
 use Rattle.std.specs.Str.{chars}
 use Rattle.cj_spans.specs.declared.reason.Reason.TheVariants.{MissingMember, IdNotFound, NotReached}
-use Rattle.cj_spans.specs.Finding.{least, found_at}
-use Rattle.cj_spans.specs.Json.{atom_at}
-use Rattle.cj_spans.specs.Text.{text, code_points_after, first_code_point, first_width}
-use Rattle.cj_spans.specs.Tree.{Tree, array, object, no_items, member, no_members}
-use Rattle.cj_geometry.specs.ObjectTypes.{object_types}
+use Rattle.cj_spans.specs.Meaning.Finding.{least, found_at}
+use Rattle.cj_spans.specs.Meaning.Json.{atom_at}
+use Rattle.cj_spans.specs.Meaning.Text.{text, code_points_after, first_code_point, first_width}
+use Rattle.cj_spans.specs.Meaning.Tree.{Tree, array, object, no_items, member, no_members}
+use Rattle.cj_geometry.specs.Meaning.ObjectTypes.{object_types}
 use Rattle.cj_geometry.proofs.Digits.{number-zero, number-one}
 use Rattle.cj_feature.specs.Examples.{Row, row, plain_header, other_id, chain, part_apart, main_part, text as text_at}
-use Rattle.cj_feature.specs.Feature.{feature}
-use Rattle.cj_feature.specs.Header.{header}
-use Rattle.cj_feature.specs.Reached.{reached_from, is_reached}
+use Rattle.cj_feature.specs.Meaning.Feature.{feature}
+use Rattle.cj_feature.specs.Meaning.Header.{header}
+use Rattle.cj_feature.specs.Meaning.Reached.{reached_from, is_reached}
 
 -- a feature of one city object
 abbrev pub plain_feature : Row

@@ -1,8 +1,8 @@
 -- Worked features and headers: lines and their trees.
 use Rattle.std.specs.Prelude.{ℕ, ◌+◌, List, ◌++◌, length, codes}
 use Rattle.cj_spans.specs.declared.token.Kind.TheVariants.{Null, Number, Text}
-use Rattle.cj_spans.specs.Tree.{Tree, Members, scalar, array, object, no_items, item, no_members, member}
-use Rattle.cj_spans.specs.Json.{atom_at}
+use Rattle.cj_spans.specs.Meaning.Tree.{Tree, Members, scalar, array, object, no_items, item, no_members, member}
+use Rattle.cj_spans.specs.Meaning.Json.{atom_at}
 
 -- a string and a number, at their places
 abbrev pub text : List ℕ → ℕ → ℕ → Tree

@@ -1,6 +1,6 @@
 -- What a view of a header shows: a tree and a line, and whether it was judged for a box.
 use Rattle.std.specs.Prelude.{ℕ, List, Bool}
-use Rattle.cj_spans.specs.Tree.{Tree}
+use Rattle.cj_spans.specs.Meaning.Tree.{Tree}
 use Rattle.cj_spans.specs.View.{document, document_line}
 use Rattle.cj_feature.specs.declared.header.Header.{Header}
 

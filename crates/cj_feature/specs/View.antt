@@ -1,6 +1,6 @@
 -- What a view of a feature shows: a tree, a line, and its header's tree and line.
 use Rattle.std.specs.Prelude.{ℕ, List}
-use Rattle.cj_spans.specs.Tree.{Tree}
+use Rattle.cj_spans.specs.Meaning.Tree.{Tree}
 use Rattle.cj_spans.specs.View.{document, document_line}
 use Rattle.cj_feature.specs.declared.feature.Feature.{Feature}
 

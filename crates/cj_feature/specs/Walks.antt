@@ -1,20 +1,17 @@
 -- Walks over a feature: what of its tree is left.
-use Rattle.std.specs.Prelude.{◌≡◌, ℕ, List, ◌++◌, map, Option, ℤ, IfSome, codes}
+use Rattle.std.specs.Prelude.{◌≡◌, ℕ, List, ◌++◌, map, Option, ℤ, IfSome}
 use Rattle.std.specs.List.{flat_map}
-use Rattle.std.specs.Str.{chars}
 use Rattle.std.specs.Iterator.{YieldsFirstBy}
 use Rattle.cj_spans.specs.declared.node.Node.{Node}
-use Rattle.cj_spans.specs.Tree.{Tree}
-use Rattle.cj_spans.specs.Parts.{member_of}
+use Rattle.cj_spans.specs.Meaning.Tree.{Tree}
 use Rattle.cj_spans.specs.View.{tree, line_of, items_left, members_left, members_line}
-use Rattle.cj_geometry.specs.Geometry.{left_of}
+use Rattle.cj_geometry.specs.ListSteps.{left_of}
 use Rattle.cj_feature.specs.declared.feature.city_object.CityObject.{CityObject}
 use Rattle.cj_feature.specs.declared.feature.city_object.Objects.{Objects}
 use Rattle.cj_feature.specs.declared.feature.coordinates.Coordinates.{Coordinates}
 use Rattle.cj_feature.specs.declared.feature.geometries.Geometries.{Geometries}
 use Rattle.cj_feature.specs.declared.feature.vertices.Vertices.{Vertices}
-use Rattle.cj_feature.specs.Members.{items_if}
-use Rattle.cj_feature.specs.Typed.{vertex_of, number_on}
+use Rattle.cj_feature.specs.Meaning.CityObject.{vertex_of, number_on, object_geometries}
 
 -- ---- city objects
 
@@ -34,10 +31,6 @@ YieldsObject s r t = YieldsFirstBy object_trees objects_left s r t × (objects_l
     × IfSome r (λ o. (line_of o.id ≡ objects_line s) × (line_of o.node ≡ objects_line s))
 
 -- ---- geometries
-
--- those of a city object
-abbrev pub object_geometries : Tree × Tree → List Tree
-object_geometries m = items_if (member_of (chars (codes "geometry")) m.1)
 
 unfoldable pub geometries_left : Geometries → List Tree
 geometries_left w = left_of w.items ++ flat_map object_geometries (members_left w.objects)

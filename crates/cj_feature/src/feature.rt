@@ -1,12 +1,12 @@
 //! Features: the later lines of a stream.
 ghost use Rattle.std.specs.Prelude.{◌≡◌, ◌<◌, ℕ, List, [], false, Some, IfSome, codes, map, option_map};
 ghost use Rattle.std.specs.Str.{chars};
-ghost use Rattle.cj_spans.specs.Parts.{member_of, text_of};
+ghost use Rattle.cj_spans.specs.Meaning.Parts.{member_of, text_of};
 ghost use Rattle.cj_spans.specs.View.{document, document_line, document_source, tree, tree_in, line_of};
 ghost use Rattle.std.specs.Option.{ForSome};
 ghost use Rattle.cj_geometry.specs.Given.{given, given_line};
-ghost use Rattle.cj_feature.specs.Feature.{feature, templates_of};
-ghost use Rattle.cj_geometry.specs.TreeSet.{tree_if-set, given-set};
+ghost use Rattle.cj_feature.specs.Meaning.Feature.{feature, templates_of};
+ghost use Rattle.cj_geometry.specs.inner.TreeSet.{tree_if-set, given-set};
 
 mod city_object;
 mod coordinates;
@@ -46,13 +46,13 @@ pub struct Feature<'a> {
 impl<'a> Feature<'a> {
     ghost use Rattle.std.specs.Prelude.{IsTrue};
     ghost use Rattle.std.specs.List.{flat_map};
-    ghost use Rattle.cj_geometry.specs.Lod.{lod};
-    ghost use Rattle.cj_feature.specs.Members.{items_if};
-    ghost use Rattle.cj_feature.specs.Relations.{IsIn};
-    ghost use Rattle.cj_feature.specs.Typed.{members_if, vertex_of, number_on};
+    ghost use Rattle.cj_geometry.specs.Meaning.Lod.{lod};
+    ghost use Rattle.cj_spans.specs.Meaning.Parts.{items_if, members_if};
+    ghost use Rattle.cj_feature.specs.Meaning.Relations.{IsIn};
+    ghost use Rattle.cj_feature.specs.Meaning.CityObject.{vertex_of, number_on, object_geometries};
     ghost use Rattle.cj_feature.specs.View.{feature_tree, feature_line, feature_header, feature_header_line};
     ghost use Rattle.cj_feature.specs.Walks.{objects_left, objects_line, geometries_left, geometries_line};
-    ghost use Rattle.cj_feature.specs.Walks.{object_geometries, vertices_left, coordinates_left};
+    ghost use Rattle.cj_feature.specs.Walks.{vertices_left, coordinates_left};
 
     /// Returns the feature of a document that has no findings with this header. `objects` and
     /// `vertices` are the numbers of its members, and `templates` are those of the header.

@@ -4,8 +4,8 @@ ghost use Rattle.std.specs.Option.{ForSome};
 ghost use Rattle.std.specs.Str.{chars};
 ghost use Rattle.cj_spans.specs.View.{document, document_line};
 ghost use Rattle.cj_geometry.specs.Given.{given, given_line};
-ghost use Rattle.cj_feature.specs.Feature.{templates_of};
-ghost use Rattle.cj_feature.specs.Header.{header};
+ghost use Rattle.cj_feature.specs.Meaning.Feature.{templates_of};
+ghost use Rattle.cj_feature.specs.Meaning.Header.{header};
 ghost use Rattle.cj_feature.specs.Shown.{ArePartsOf, AreKept};
 
 mod reading;
@@ -32,7 +32,8 @@ pub struct Header<'a> {
 }
 
 impl<'a> Header<'a> {
-    ghost use Rattle.cj_feature.specs.Shown.{transform_values, maps_if, parts_box};
+    ghost use Rattle.cj_feature.specs.Meaning.Transform.{transform_values};
+    ghost use Rattle.cj_feature.specs.Shown.{maps_if, parts_box};
     ghost use Rattle.cj_feature.specs.HeaderView.{header_tree, header_line, has_box};
 
     /// Returns the header of a document that was judged for a box or for none.

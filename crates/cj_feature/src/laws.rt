@@ -1,17 +1,17 @@
 //! Laws of the definitions, each proved once.
 ghost use Rattle.std.specs.Prelude.{◌≡◌, ◌↔◌, List, Some, ℤ, IsTrue, true};
 ghost use Rattle.std.specs.List.{Contains};
-ghost use Rattle.cj_spans.specs.Tree.{Tree};
+ghost use Rattle.cj_spans.specs.Meaning.Tree.{Tree};
 ghost use Rattle.cj_spans.specs.declared.finding.Finding.{Finding};
-ghost use Rattle.cj_spans.specs.Parts.{members_of};
-ghost use Rattle.cj_decimal.specs.Number.{Number, IsNormal, IsWhole, IsFixed};
-ghost use Rattle.cj_decimal.specs.Spelling.{IsValue};
-ghost use Rattle.cj_geometry.specs.Rule.{spelling, whole_of};
-ghost use Rattle.cj_feature.specs.Header.{is_fixed, units_of};
-ghost use Rattle.cj_feature.specs.Links.{links};
-ghost use Rattle.cj_feature.specs.Reached.{IsReached, is_reached};
-ghost use Rattle.cj_feature.specs.Relations.{IsLinkFault};
-ghost use Rattle.cj_feature.specs.Shown.{value_of};
+ghost use Rattle.cj_spans.specs.Meaning.Parts.{members_of};
+ghost use Rattle.cj_decimal.specs.Meaning.Number.{Number, is_fixed, units_of};
+ghost use Rattle.cj_decimal.specs.Meaning.Equality.{IsNormal, IsWhole, IsFixed};
+ghost use Rattle.cj_decimal.specs.Meaning.Spelling.{IsValue};
+ghost use Rattle.cj_geometry.specs.Meaning.Numbers.{spelling, whole_of, value_of};
+ghost use Rattle.cj_feature.specs.Meaning.Links.{links};
+ghost use Rattle.cj_feature.specs.Meaning.Reachable.{IsReached};
+ghost use Rattle.cj_feature.specs.Meaning.Reached.{is_reached};
+ghost use Rattle.cj_feature.specs.Meaning.Relations.{IsLinkFault};
 
 /// There are two definitions of what is wrong with the links of city objects. One is tests on their
 /// members, which compute. The other is relations between ids. Both give the same findings.

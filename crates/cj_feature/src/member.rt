@@ -1,13 +1,13 @@
 //! Members that must be a certain text, and members that are counted.
 ghost use Rattle.std.specs.Prelude.{◌≡◌, ℕ, List, option_map};
 ghost use Rattle.std.specs.Str.{chars};
-ghost use Rattle.cj_spans.specs.Finding.{least};
-ghost use Rattle.cj_spans.specs.Kinds.{is_text};
-ghost use Rattle.cj_spans.specs.Parts.{member_of};
+ghost use Rattle.cj_spans.specs.Meaning.Finding.{least};
+ghost use Rattle.cj_spans.specs.Meaning.Kinds.{is_text};
+ghost use Rattle.cj_spans.specs.Meaning.Parts.{member_of};
 ghost use Rattle.cj_spans.specs.View.{tree};
-ghost use Rattle.cj_geometry.specs.Geometry.{count_of};
-ghost use Rattle.cj_geometry.specs.Rule.{of_kind, missing};
-ghost use Rattle.cj_feature.specs.Header.{is_named, has_member_named};
+ghost use Rattle.cj_geometry.specs.Meaning.Geometry.{count_of};
+ghost use Rattle.cj_geometry.specs.Meaning.Rule.{of_kind, missing};
+ghost use Rattle.cj_feature.specs.Meaning.Header.{is_named, has_member_named};
 
 use cj_geometry::rule::{add, check_there, count_items};
 use cj_spans::{Kind, Least, Node, Reason};

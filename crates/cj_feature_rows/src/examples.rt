@@ -3,11 +3,11 @@ ghost use Rattle.std.specs.Prelude.{◌≡◌, ◌∷◌, [], false, true, Some,
 ghost use Rattle.cj_spans.specs.declared.reason.Reason.TheVariants.{MissingMember, DuplicateName, WrongKind, WrongType};
 ghost use Rattle.cj_spans.specs.declared.reason.Reason.TheVariants.{WrongVersion, NotEmpty, NotThree, IdNotFound};
 ghost use Rattle.cj_spans.specs.declared.reason.Reason.TheVariants.{ChildNotFound, LinkNotMutual, NoParent, NotReached};
-ghost use Rattle.cj_spans.specs.Finding.{least, found_at};
+ghost use Rattle.cj_spans.specs.Meaning.Finding.{least, found_at};
 ghost use Rattle.cj_spans.specs.Forest.{forest};
 ghost use Rattle.cj_spans.specs.Preorder.{preorder};
-ghost use Rattle.cj_feature.specs.Header.{header};
-ghost use Rattle.cj_feature.specs.Feature.{feature};
+ghost use Rattle.cj_feature.specs.Meaning.Header.{header};
+ghost use Rattle.cj_feature.specs.Meaning.Feature.{feature};
 ghost use Rattle.cj_feature.specs.Examples.{bare, itself, lost_child, unlisted_part, unlisted_parent, lost_parent};
 ghost use Rattle.cj_feature.specs.Examples.{part_alone, part_of_other, part_of_none, part_of_number, group};
 ghost use Rattle.cj_feature.specs.Examples.{unlisted_member, unlisted_group, group_of_other, part_of_no_object};

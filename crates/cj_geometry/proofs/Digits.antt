@@ -4,13 +4,15 @@ use Rattle.std.specs.Prelude.{codes}
 use Rattle.std.proofs.lemmas.Int.{ints}
 use Rattle.cj_spans.specs.declared.token.Kind.TheVariants.{Number}
 use Rattle.cj_spans.specs.declared.reason.Reason.{Reason}
-use Rattle.cj_spans.specs.Tree.{Tree, scalar}
-use Rattle.cj_decimal.specs.Number.{number as number_of}
-use Rattle.cj_decimal.specs.Spelling.{IsValue, digits_value}
-use Rattle.cj_decimal.specs.Class.{Class, whole_answer}
-use Rattle.cj_decimal.specs.Reading.{digits_front, digits_rest, begins, begins_digit, is_int, is_empty}
+use Rattle.cj_spans.specs.Meaning.Tree.{Tree, scalar}
+use Rattle.cj_decimal.specs.Meaning.Number.{scaled as number_of}
+use Rattle.cj_decimal.specs.Meaning.Spelling.{IsValue}
+use Rattle.cj_decimal.specs.Meaning.Reading.{digits_value, digits_front, digits_rest, begins, begins_digit, is_int}
+use Rattle.cj_decimal.specs.Meaning.Reading.{is_empty}
+use Rattle.cj_decimal.specs.Meaning.Class.{Class, whole_answer}
 use Rattle.cj_decimal.proofs.Wholes.{answer_digits, answer_whole}
-use Rattle.cj_geometry.specs.Rule.{one, is_outside, number, index, whole_of}
+use Rattle.cj_geometry.specs.Meaning.Rule.{one}
+use Rattle.cj_geometry.specs.Meaning.Numbers.{is_outside, number, index, whole_of}
 use Rattle.cj_geometry.proofs.Numbers.{index-read, number-read, whole-read}
 
 -- the number that a spelling stands for, at these places

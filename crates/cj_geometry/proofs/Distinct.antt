@@ -5,12 +5,13 @@ use Rattle.std.proofs.lemmas.Bool.Decides.{nat_tests}
 use Rattle.std.proofs.lemmas.List.Elements.{All-contains, All-head, All-tail, All-nil, All-append, Contains-append_left, Contains-append_right, Contains-append_cases}
 use Rattle.cj_spans.specs.declared.reason.Reason.TheVariants.{DuplicateName}
 use Rattle.cj_spans.specs.declared.finding.Finding.{Finding}
-use Rattle.cj_spans.specs.Finding.{least, found_at}
-use Rattle.cj_spans.specs.Tree.{Tree, start_of}
-use Rattle.cj_spans.specs.Parts.{text_of, are_same_texts, AreInOrder}
+use Rattle.cj_spans.specs.Meaning.Finding.{least, found_at}
+use Rattle.cj_spans.specs.Meaning.Tree.{Tree, start_of}
+use Rattle.cj_spans.specs.Meaning.Parts.{text_of, are_same_texts}
+use Rattle.cj_spans.specs.Places.{AreNamesInOrder}
 use Rattle.cj_spans.proofs.Findings.{least-append}
-use Rattle.cj_geometry.specs.Rule.{one, repeats_of, repeats}
-use Rattle.cj_geometry.specs.Names.{is_above, Ascend, repeat_of, neighbours, last_of, names_of}
+use Rattle.cj_geometry.specs.Meaning.Rule.{one, repeats_of, repeats}
+use Rattle.cj_geometry.specs.inner.Names.{is_above, Ascend, repeat_of, neighbours, last_of, names_of}
 use Rattle.cj_geometry.proofs.Neighbours.{absorbed, contains_cases, contains_first, contains_later, contains_none, AreDealt, HaveNoGap, IsPast, all_dealt, none_past, last_past, last_among}
 
 -- ---- what a repeated name is
@@ -59,7 +60,7 @@ names_behind name (m ∷ ms) a u c =
       | inr d ↦ names_behind name ms (All-tail (λ (n : Tree × Tree). start_of name < start_of n.0) m ms a) u d
     ]
 
-pub repeat_is : (ms : List (Tree × Tree)) → AreInOrder ms → (f : Finding) → Contains (repeats ms) f
+pub repeat_is : (ms : List (Tree × Tree)) → AreNamesInOrder ms → (f : Finding) → Contains (repeats ms) f
     → IsRepeat (names_of ms) f
 repeat_is [] o f c = absurd (contains_none f c)
 repeat_is (m ∷ ms) o f c =
@@ -111,7 +112,7 @@ told_of name (m ∷ ms) u c s =
         (subst (λ x. Contains (one DuplicateName m.0) (found_at (start_of x) DuplicateName)) e
         (contains_first (found_at (start_of m.0) DuplicateName) []))
 
-pub repeat_told : (ms : List (Tree × Tree)) → AreInOrder ms → (t u : Tree) → Contains (names_of ms) t
+pub repeat_told : (ms : List (Tree × Tree)) → AreNamesInOrder ms → (t u : Tree) → Contains (names_of ms) t
     → Contains (names_of ms) u → are_same_texts (text_of u) (text_of t) ≡ true → start_of t < start_of u
     → Contains (repeats ms) (found_at (start_of u) DuplicateName)
 repeat_told [] o t u ct cu s l = absurd (contains_none t ct)
@@ -137,7 +138,7 @@ repeat_told (m ∷ ms) o t u ct cu s l =
 
 -- ---- what neighbours tell is told by the rule
 
-repeat_among : (ms : List (Tree × Tree)) → AreInOrder ms → (floor : Option Tree) (t : Tree)
+repeat_among : (ms : List (Tree × Tree)) → AreNamesInOrder ms → (floor : Option Tree) (t : Tree)
     → IfSome floor (Contains (names_of ms)) → Contains (names_of ms) t → All (Contains (repeats ms)) (repeat_of floor t)
 repeat_among ms o None t cf ct = All-nil (Contains (repeats ms))
 repeat_among ms o (Some u) t cf ct =
@@ -155,7 +156,7 @@ repeat_among ms o (Some u) t cf ct =
     by_test true false e f = All-nil (Contains (repeats ms))
     by_test false b e f = All-nil (Contains (repeats ms))
 
-pub neighbours_among : (ms : List (Tree × Tree)) → AreInOrder ms → (floor : Option Tree) (ts : List Tree)
+pub neighbours_among : (ms : List (Tree × Tree)) → AreNamesInOrder ms → (floor : Option Tree) (ts : List Tree)
     → IfSome floor (Contains (names_of ms)) → All (Contains (names_of ms)) ts
     → All (Contains (repeats ms)) (neighbours floor ts)
 neighbours_among ms o floor [] cf a = All-nil (Contains (repeats ms))
@@ -181,7 +182,7 @@ pub record AreNext (ms : List (Tree × Tree)) (floor : Option Tree) (ts : List T
   pub past : All (IsPast floor) ts
   pub no_gap : HaveNoGap (names_of ms) floor ts
 
-pub reached_more : (ms : List (Tree × Tree)) → AreInOrder ms
+pub reached_more : (ms : List (Tree × Tree)) → AreNamesInOrder ms
     → (old now next : Option Finding) (floor last : Option Tree) (ts : List Tree) → HasReached ms old now floor
     → AreNext ms floor ts → next ≡ least now (neighbours floor ts) → last ≡ last_of floor ts
     → HasReached ms old next last
@@ -202,7 +203,7 @@ told_all o [] a = refl
 told_all o (f ∷ fs) a = ap (λ x. least x fs) (All-head (λ g. least o (g ∷ []) ≡ o) f fs a)
     ∙ told_all o fs (All-tail (λ g. least o (g ∷ []) ≡ o) f fs a)
 
-pub all_reached : (ms : List (Tree × Tree)) → AreInOrder ms → (old now : Option Finding) (floor : Option Tree)
+pub all_reached : (ms : List (Tree × Tree)) → AreNamesInOrder ms → (old now : Option Finding) (floor : Option Tree)
     → HasReached ms old now floor → ((t : Tree) → Contains (names_of ms) t → is_above floor t ≡ false)
     → now ≡ least old (repeats ms)
 all_reached ms o old now floor r done =

@@ -4,16 +4,20 @@ use Rattle.std.specs.Prelude.{◌↔◌, slice_range}
 use Rattle.std.specs.List.{Contains}
 use Rattle.std.proofs.lemmas.List.Elements.{Contains-push_cases}
 use Rattle.cj_spans.specs.declared.token.Kind.TheVariants.{Number, Text}
-use Rattle.cj_spans.specs.Spelling.{IsScalar}
-use Rattle.cj_spans.specs.Spelling as scanned
-use Rattle.cj_spans.specs.Tree.{Atom, Tree, scalar, Items, no_items, item, Members, no_members, member, add_item, add_member}
-use Rattle.cj_spans.specs.Parts.{kind_of, spelling_of, list_items, items_of, list_members, members_of}
-use Rattle.cj_spans.specs.Json.{Json, Value, atom, empty_array, full_array, empty_object, full_object, Padded, padded, LedItems, no_led, led, LedMembers, no_led_members, led_member, IsAtom}
-use Rattle.cj_decimal.specs.Number.{signed}
-use Rattle.cj_decimal.specs.Spelling.{IsNumber, digits_value}
-use Rattle.cj_decimal.specs.Spelling as read
-use Rattle.cj_decimal.specs.Class.{Class, no_number, out_of_range, not_whole, whole}
-use Rattle.cj_geometry.specs.Grammar.{IsHeld, the_tree, an_item, a_value, IsOfNumber}
+use Rattle.cj_spans.specs.Meaning.Spelling.{IsScalar}
+use Rattle.cj_spans.specs.Meaning.Spelling as scanned
+use Rattle.cj_spans.specs.Meaning.Tree.{Atom, Tree, scalar, Items, no_items, item, Members, no_members, member}
+use Rattle.cj_spans.specs.Meaning.Tree.{add_item, add_member}
+use Rattle.cj_spans.specs.Meaning.Parts.{kind_of, list_items, items_of, list_members, members_of}
+use Rattle.cj_spans.specs.Places.{spelling_of}
+use Rattle.cj_spans.specs.Meaning.Json.{Json, Value, atom, empty_array, full_array, empty_object, full_object, Padded}
+use Rattle.cj_spans.specs.Meaning.Json.{padded, LedItems, no_led, led, LedMembers, no_led_members, led_member, IsAtom}
+use Rattle.cj_decimal.specs.Meaning.Number.{signed}
+use Rattle.cj_decimal.specs.Meaning.Spelling.{SpellsNumber}
+use Rattle.cj_decimal.specs.Meaning.Reading.{digits_value}
+use Rattle.cj_decimal.specs.Meaning.Spelling as read
+use Rattle.cj_decimal.specs.Meaning.Class.{Class, no_number, out_of_range, not_whole, whole}
+use Rattle.cj_geometry.specs.Grammar.{IsWithinTree, the_tree, an_item, a_value, IsOfNumber}
 
 -- ---- what is scanned as a number is read as one
 
@@ -48,7 +52,7 @@ exp_forth (b ∷ s) h =
       }),
     )
 
-pub read_number : (s : List ℕ) → scanned.IsNumber s → IsNumber s
+pub read_number : (s : List ℕ) → scanned.IsNumber s → SpellsNumber s
 read_number s n =
     let minus = minus_forth n.minus n.minus_is in
     let frac = frac_forth n.frac n.frac_is in
@@ -95,7 +99,7 @@ exp_back e s (inr p) =
     let is : scanned.IsExp (p.mark ∷ (p.sign ++ p.digits)) = (p.mark_is, rest) in
     subst scanned.IsExp (sym p.joined) is
 
-pub scanned_number : (s : List ℕ) → IsNumber s → scanned.IsNumber s
+pub scanned_number : (s : List ℕ) → SpellsNumber s → scanned.IsNumber s
 scanned_number s (w, n) =
     record {
       minus = n.minus;
@@ -110,10 +114,10 @@ scanned_number s (w, n) =
       joined = n.joined;
     }
 
-pub one_grammar : (s : List ℕ) → IsScalar Number s ↔ IsNumber s
+pub one_grammar : (s : List ℕ) → IsScalar Number s ↔ SpellsNumber s
 one_grammar s = (read_number s, scanned_number s)
 
-pub atom_number : (line : List ℕ) (i j : ℕ) → IsAtom line Number i j → IsNumber (slice_range line i j)
+pub atom_number : (line : List ℕ) (i j : ℕ) → IsAtom line Number i j → SpellsNumber (slice_range line i j)
 atom_number line i j a = read_number (slice_range line i j) a.spelled
 
 -- ---- what a text holds is spelled in it
@@ -179,12 +183,12 @@ module _ {b : List ℕ} where
   value_spelled (full_object i j k l ms n t opened before name p closed) m h =
       last_value ms n t m (padded_spelled p) (led_members_spelled before m) h
 
-  held_spelled : {t u : Tree} → Spelled b t → IsHeld t u → Spelled b u
+  held_spelled : {t u : Tree} → Spelled b t → IsWithinTree t u → Spelled b u
   held_spelled s the_tree = s
   held_spelled s (an_item u v h c) = let w = held_spelled s h in item_spelled w.2 v c
   held_spelled s (a_value u m h c) = let w = held_spelled s h in value_spelled w.2 m c
 
-  spelled_number : {i j : ℕ} {u : Tree} → Value b i j u → kind_of u ≡ Number → IsNumber (spelling_of b u)
+  spelled_number : {i j : ℕ} {u : Tree} → Value b i j u → kind_of u ≡ Number → SpellsNumber (spelling_of b u)
   spelled_number (atom k i j a) e =
       read_number (slice_range b i j) (subst (λ x. IsScalar x (slice_range b i j)) e a.spelled)
   spelled_number (empty_array i j opened white closed) e = cc
@@ -192,18 +196,18 @@ module _ {b : List ℕ} where
   spelled_number (empty_object i j opened white closed) e = cc
   spelled_number (full_object i j k l ms n t opened before name p closed) e = cc
 
-pub held_number : (line : List ℕ) (t u : Tree) → Json line t → IsHeld t u → kind_of u ≡ Number
-    → IsNumber (spelling_of line u)
+pub held_number : (line : List ℕ) (t u : Tree) → Json line t → IsWithinTree t u → kind_of u ≡ Number
+    → SpellsNumber (spelling_of line u)
 held_number line t u json h e = spelled_number (held_spelled (padded_spelled json) h).2 e
 
 -- ---- and so its class is one of a number
 
-of_number : (s : List ℕ) (c : Class s) → IsNumber s → IsOfNumber c
+of_number : (s : List ℕ) (c : Class s) → SpellsNumber s → IsOfNumber c
 of_number s (no_number n) h = n h
 of_number s (out_of_range n) h = tt
 of_number s (not_whole v value range n) h = tt
 of_number s (whole v w value range is) h = tt
 
-pub held_class : (line : List ℕ) (t u : Tree) (c : Class (spelling_of line u)) → Json line t → IsHeld t u
+pub held_class : (line : List ℕ) (t u : Tree) (c : Class (spelling_of line u)) → Json line t → IsWithinTree t u
     → kind_of u ≡ Number → IsOfNumber c
 held_class line t u c json h e = of_number (spelling_of line u) c (held_number line t u json h e)

@@ -5,11 +5,11 @@ use Rattle.std.proofs.Common.{inl, inr, length, get_or, cond, arith, refl, subst
 use Rattle.std.specs.Prelude.{◌%◌, option_and_then, replicate, slice_set}
 use Rattle.std.proofs.lemmas.Bool.{cases_eq, false≢true}
 use Rattle.std.proofs.lemmas.List.{get_or-set_same, get_or-set_other, length-set}
-use Rattle.cj_spans.specs.Initials.{are_apart, begin_apart, then_apart}
+use Rattle.cj_spans.specs.Initials.{are_apart, begin_apart, then_apart, first_code_of, head}
 use Rattle.cj_spans.specs.declared.reason.Reason.TheVariants.{DuplicateName}
-use Rattle.cj_spans.specs.Parts.{are_same_texts, first_code_of, head, members_of, text_of}
-use Rattle.cj_spans.specs.Tree.{Tree}
-use Rattle.cj_geometry.specs.Rule.{distinct, one, repeats_of, repeats}
+use Rattle.cj_spans.specs.Meaning.Parts.{are_same_texts, members_of, text_of}
+use Rattle.cj_spans.specs.Meaning.Tree.{Tree}
+use Rattle.cj_geometry.specs.Meaning.Rule.{distinct, one, repeats_of, repeats}
 use Rattle.cj_geometry.proofs.Repeats.{same_texts}
 
 -- one name more

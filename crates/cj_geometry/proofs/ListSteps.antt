@@ -4,7 +4,8 @@ use Rattle.std.proofs.Math.ListN.{set}
 use Rattle.std.proofs.lemmas.Bool.{cases_lt}
 use Rattle.std.proofs.lemmas.List.{get_or-set_same, get_or-set_other, take-append-drop, length-set}
 use Rattle.std.proofs.lemmas.Nat.{mul-le, div_below, div-add-mod'}
-use Rattle.cj_spans.specs.Tree.{Tree, size, total_size}
+use Rattle.cj_spans.specs.Meaning.Tree.{Tree, size}
+use Rattle.cj_spans.specs.Forest.{total_size}
 use Rattle.cj_geometry.specs.ListSteps.{AreSizesAt}
 
 -- of a walk over a list: what is left, and what was noted before it

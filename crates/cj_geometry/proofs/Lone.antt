@@ -1,18 +1,21 @@
 -- Items at the front of an array that hold nothing, and have no finding.
 use Rattle.std.proofs.Common.{◌≡◌, ℕ, zero, suc, ◌+◌, ◌<◌, ◌≤◌, List, [], ◌∷◌, ◌++◌, length, take, drop, Bool, true, false, not, nat_lt, Option, Some, None, pos, refl, sym, ap, subst, arith, ◌∙◌}
 use Rattle.std.specs.List.{flat_map}
-use Rattle.std.specs.Prelude.{ℤ, IfSome, IsSome}
+use Rattle.std.specs.Prelude.{ℤ, IfSome, IsSome, Result, Ok, Err, option_and_then}
 use Rattle.std.proofs.lemmas.List.{length-drop}
 use Rattle.std.proofs.lemmas.List.Concat.{flat_map-append}
 use Rattle.std.proofs.lemmas.Bool.Decides.{nat_tests}
 use Rattle.cj_spans.specs.declared.reason.Reason.{Reason}
 use Rattle.cj_spans.specs.declared.finding.Finding.{Finding}
-use Rattle.cj_spans.specs.Tree.{Tree, scalar, array, object, size, total_size}
-use Rattle.cj_spans.specs.Kinds.{is_number}
-use Rattle.cj_spans.specs.Parts.{kind_of}
-use Rattle.cj_decimal.specs.Class.{Class, no_number, out_of_range, not_whole, whole}
-use Rattle.cj_decimal.proofs.Classes.{class}
-use Rattle.cj_geometry.specs.Rule.{spelling, index, is_outside, whole_of, whole_by, whole_number, whole_findings}
+use Rattle.cj_spans.specs.Meaning.Tree.{Tree, scalar, array, object, size}
+use Rattle.cj_spans.specs.Forest.{total_size}
+use Rattle.cj_spans.specs.Meaning.Kinds.{is_number}
+use Rattle.cj_spans.specs.Meaning.Parts.{kind_of}
+use Rattle.cj_decimal.specs.declared.decimal.DecimalFault.{DecimalFault}
+use Rattle.cj_decimal.specs.Meaning.Number.{Number, as_whole}
+use Rattle.cj_decimal.specs.Meaning.Decimal.{decimal_of}
+use Rattle.cj_geometry.specs.Meaning.Numbers.{spelling, index, is_outside, whole_of, whole_number, value_findings}
+use Rattle.cj_geometry.specs.Meaning.Numbers.{whole_findings, value_if}
 use Rattle.cj_geometry.specs.Lone.{AreLone}
 use Rattle.cj_geometry.proofs.Numbers.{index-of-whole}
 
@@ -74,17 +77,16 @@ pub whole-there : (o : Option ℤ) (t : Tree) → IfSome o (λ w. whole_of t ≡
 whole-there None t is some = absurd (cc some)
 whole-there (Some w) t is some = (w, is)
 
-whole-by-none : (s : List ℕ) (t : Tree) (c : Class s) (w : ℤ) → whole_by c ≡ Some w → whole_findings t c ≡ []
-whole-by-none s t (no_number n) w e = absurd (cc e)
-whole-by-none s t (out_of_range n) w e = absurd (cc e)
-whole-by-none s t (not_whole v value range n) w e = absurd (cc e)
-whole-by-none s t (whole v x value range is) w e = refl
+whole-by-none : (t : Tree) (r : Result Number DecimalFault) (w : ℤ) → option_and_then as_whole (value_if r) ≡ Some w
+    → value_findings (λ v. whole_findings (λ w. []) t (as_whole v)) t r ≡ []
+whole-by-none t (Ok v) w e = ap (whole_findings (λ w. []) t) e
+whole-by-none t (Err f) w e = absurd (cc e)
 
 pub whole-none : (t : Tree) (w : ℤ) → whole_of t ≡ Some w → whole_number t ≡ []
 whole-none t w e = go (is_number (kind_of t)) refl
   where
     go : (b : Bool) → is_number (kind_of t) ≡ b → whole_number t ≡ []
-    go true k = rw k (whole-by-none (spelling t) t (class (spelling t)) w (rw k at e))
+    go true k = rw k (whole-by-none t (decimal_of (spelling t)) w (rw k at e))
     go false k = absurd (cc (rw k at e))
 
 pub index-none : (t : Tree) (n bound : ℕ) → whole_of t ≡ Some (pos n) → (reason : Reason) (count : Option ℕ)

@@ -5,12 +5,13 @@ use Rattle.std.proofs.lemmas.Bool.Decides.{nat_tests}
 use Rattle.std.proofs.lemmas.List.Elements.{All-contains, All-head, All-tail, Contains-append_left, Contains-append_right, Contains-append_cases}
 use Rattle.cj_spans.specs.declared.reason.Reason.TheVariants.{DuplicateName}
 use Rattle.cj_spans.specs.declared.finding.Finding.{Finding}
-use Rattle.cj_spans.specs.Finding.{least, list_found, HaveSame, found_at}
-use Rattle.cj_spans.specs.Tree.{Tree, start_of}
-use Rattle.cj_spans.specs.Parts.{text_of, are_same_texts}
+use Rattle.cj_spans.specs.Meaning.Finding.{least, found_at}
+use Rattle.cj_spans.specs.Meaning.Least.{list_found, HaveSame}
+use Rattle.cj_spans.specs.Meaning.Tree.{Tree, start_of}
+use Rattle.cj_spans.specs.Meaning.Parts.{text_of, are_same_texts}
 use Rattle.cj_spans.proofs.Findings.{least-append, least-swap, least_only, fold_least}
-use Rattle.cj_geometry.specs.Rule.{one}
-use Rattle.cj_geometry.specs.Names.{is_earlier, is_above, Ascend, repeat_of, neighbours, last_of}
+use Rattle.cj_geometry.specs.Meaning.Rule.{one}
+use Rattle.cj_geometry.specs.inner.Names.{is_earlier, is_above, Ascend, repeat_of, neighbours, last_of}
 use Rattle.cj_geometry.proofs.Repeats.{same_texts}
 use Rattle.cj_geometry.proofs.Ordered.{earlier_itself, earlier_on, upto_on, on_upto, upto_upto, both_sides, none_true, tied, earlier_by_start, start_by_earlier, text_between}
 

@@ -1,38 +1,47 @@
 -- What reading a number says of its findings.
 use Rattle.std.proofs.Common.{◌≡◌, ℕ, ◌<◌, ◌^◌, List, [], Bool, true, false, cond, Option, Some, None, Result, Ok, Err, ℤ, to_z, of_z, w64, refl, sym, ap, subst, ◌∙◌, arith, ◌∷◌, ◌≤◌, get_or, inl, inr}
-use Rattle.std.specs.Prelude.{unsigned_abs, pos, IfSome, IsSome, slice_range}
+use Rattle.std.specs.Prelude.{unsigned_abs, pos, negsuc, ◌*ℤ◌, nat_lt, unwrap_or, option_and_then, IfSome, IsSome, slice_range}
 use Rattle.std.proofs.lemmas.Bool.Decides.{nat_tests}
 use Rattle.std.proofs.lemmas.Int.{to_z-of_z, fits_signed_from_abs}
 use Rattle.cj_spans.specs.declared.token.Kind.TheVariants.{Null, Truth, Number, Text, Array, Object}
 use Rattle.cj_spans.specs.declared.reason.Reason.{Reason}
-use Rattle.cj_spans.specs.declared.reason.Reason.TheVariants.{NotWhole, WrongKind, NumberRange}
+use Rattle.cj_spans.specs.declared.reason.Reason.TheVariants.{NotWhole, WrongKind}
 use Rattle.cj_spans.specs.declared.finding.Finding.{Finding}
-use Rattle.cj_spans.specs.Finding.{least}
-use Rattle.cj_spans.specs.Tree.{Tree, scalar, array, object}
-use Rattle.cj_spans.specs.Json.{byte}
+use Rattle.cj_spans.specs.Meaning.Finding.{least}
+use Rattle.cj_spans.specs.Meaning.Tree.{Tree, scalar, array, object}
+use Rattle.cj_spans.specs.Meaning.Json.{byte}
 use Rattle.cj_spans.specs.Forest.{kind_by}
-use Rattle.cj_spans.specs.Kinds.{is_number}
-use Rattle.cj_spans.specs.Parts.{kind_of, spelling_of}
+use Rattle.cj_spans.specs.Meaning.Kinds.{is_number}
+use Rattle.cj_spans.specs.Meaning.Parts.{kind_of}
+use Rattle.cj_spans.specs.Places.{spelling_of}
 use Rattle.cj_decimal.specs.declared.decimal.DecimalFault.{DecimalFault}
 use Rattle.cj_decimal.specs.declared.decimal.DecimalFault.TheVariants.{NotANumber, NumberRange as OutOfRange}
 use Rattle.cj_decimal.proofs.Eights.{first_is}
-use Rattle.cj_decimal.specs.Spelling.{IsInt, IsFewDigits, IsFewSigned, IsNumber, IsNumberIfBegun, IsNumberInRange, IsNumberOutOfRange}
+use Rattle.cj_decimal.specs.Meaning.Spelling.{IsInt, SpellsNumber, IsNumberInRange, IsNumberOutOfRange}
+use Rattle.cj_decimal.specs.FewDigits.{IsFewDigits, IsFewSigned, IsNumberIfBegun}
 use Rattle.cj_decimal.specs.Word.{IsWordOf}
-use Rattle.cj_decimal.specs.Class.{Class, no_number, out_of_range, not_whole, whole, whole_answer}
+use Rattle.cj_decimal.specs.Meaning.Class.{Class, whole_answer, whole_answer_by}
+use Rattle.cj_decimal.specs.Meaning.Number.{Number as DecimalNumber, as_whole, whole_by as power_whole}
+use Rattle.cj_decimal.specs.Meaning.Decimal.{decimal_of}
+use Rattle.cj_decimal.proofs.Decimals.{decimal_is, whole_class}
 use Rattle.cj_decimal.proofs.Classes.{class}
-use Rattle.cj_decimal.proofs.Law.{not_both, value_is_number}
 use Rattle.cj_decimal.proofs.Wholes.{answer_fault}
-use Rattle.cj_spans.specs.Spelling as scanned
+use Rattle.cj_spans.specs.Meaning.Spelling as scanned
 use Rattle.cj_geometry.proofs.Grammars.{read_number}
-use Rattle.cj_geometry.specs.Rule.{one, spelling, is_outside, fault_reason, number_findings, index_findings, number, index, whole_by, whole_of}
+use Rattle.cj_geometry.specs.Meaning.Rule.{one}
+use Rattle.cj_geometry.specs.Meaning.Numbers.{spelling, is_outside, fault_reason, value_findings, whole_findings, number}
+use Rattle.cj_geometry.specs.Meaning.Numbers.{index, value_if, whole_of}
 
-in-range : (s : List ℕ) (t : Tree) (c : Class s) → IsNumberInRange s → number_findings t c ≡ []
-in-range s t (no_number n) o = absurd (n (value_is_number s o.0 o.1))
-in-range s t (out_of_range n) o = absurd (not_both s o n)
-in-range s t (not_whole v value range n) o = refl
-in-range s t (whole v w value range is) o = refl
+in-range : (s : List ℕ) (t : Tree) → IsNumberInRange s → value_findings (λ v. []) t (decimal_of s) ≡ []
+in-range s t o = ap (value_findings (λ v. []) t) (decimal_is s o.0 o.1 o.2)
 
 -- ---- what reading a whole number answers
+
+-- what the rule on an index finds of a number that was read
+abbrev pub IndexFindings : Reason → Option ℕ → Tree → Result DecimalNumber DecimalFault → List Finding
+IndexFindings reason count t r =
+    value_findings (λ v. whole_findings (λ w. cond (is_outside count w) (one reason t) []) t (as_whole v)) t r
+
 -- the findings of an index by it
 abbrev pub index-by : Reason → Option ℕ → Tree → Result (Option ℤ) DecimalFault → List Finding
 index-by reason count t (Ok None) = one NotWhole t
@@ -40,52 +49,63 @@ index-by reason count t (Ok (Some w)) = cond (is_outside count w) (one reason t)
 index-by reason count t (Err e) = one (fault_reason e) t
 
 index-class : (s : List ℕ) (reason : Reason) (count : Option ℕ) (t : Tree) (c : Class s)
-    → index_findings reason count t c ≡ index-by reason count t (whole_answer c)
-index-class s reason count t (no_number n) = refl
-index-class s reason count t (out_of_range n) = refl
-index-class s reason count t (not_whole v value range n) = refl
-index-class s reason count t (whole v w value range is) = refl
+    → IndexFindings reason count t (decimal_of s) ≡ index-by reason count t (whole_answer c)
+index-class s reason count t c = by_value (decimal_of s) ∙ ap (index-by reason count t) (whole_class s c)
+  where
+    by_whole : (o : Option ℤ) → whole_findings (λ w. cond (is_outside count w) (one reason t) []) t o
+        ≡ index-by reason count t (Ok o)
+    by_whole None = refl
+    by_whole (Some w) = refl
+
+    by_value : (r : Result DecimalNumber DecimalFault) → IndexFindings reason count t r
+        ≡ index-by reason count t (whole_answer_by r)
+    by_value (Ok v) = by_whole (as_whole v)
+    by_value (Err e) = refl
 
 -- the findings of a number by it
 abbrev pub number-by : Tree → Result (Option ℤ) DecimalFault → List Finding
 number-by t (Ok o) = []
 number-by t (Err e) = one (fault_reason e) t
 
-number-class : (s : List ℕ) (t : Tree) (c : Class s) → number_findings t c ≡ number-by t (whole_answer c)
-number-class s t (no_number n) = refl
-number-class s t (out_of_range n) = refl
-number-class s t (not_whole v value range n) = refl
-number-class s t (whole v w value range is) = refl
+number-class : (s : List ℕ) (t : Tree) (c : Class s) → value_findings (λ v. []) t (decimal_of s)
+    ≡ number-by t (whole_answer c)
+number-class s t c = by_value (decimal_of s) ∙ ap (number-by t) (whole_class s c)
+  where
+    by_value : (r : Result DecimalNumber DecimalFault) → value_findings (λ v. []) t r
+        ≡ number-by t (whole_answer_by r)
+    by_value (Ok v) = refl
+    by_value (Err e) = refl
 
 -- the whole number by it
 abbrev pub whole-if : Result (Option ℤ) DecimalFault → Option ℤ
 whole-if (Ok o) = o
 whole-if (Err e) = None
 
-whole-class : (s : List ℕ) (c : Class s) → whole_by c ≡ whole-if (whole_answer c)
-whole-class s (no_number n) = refl
-whole-class s (out_of_range n) = refl
-whole-class s (not_whole v value range n) = refl
-whole-class s (whole v w value range is) = refl
+whole-class : (s : List ℕ) (c : Class s) → option_and_then as_whole (value_if (decimal_of s)) ≡ whole-if (whole_answer c)
+whole-class s c = by_value (decimal_of s) ∙ ap whole-if (whole_class s c)
+  where
+    by_value : (r : Result DecimalNumber DecimalFault) → option_and_then as_whole (value_if r)
+        ≡ whole-if (whole_answer_by r)
+    by_value (Ok v) = refl
+    by_value (Err e) = refl
 
 -- a whole number that went to bits and back
 pub whole-fits : (w : ℤ) → unsigned_abs w < 10 ^ 18 → to_z w64 (of_z w64 w) ≡ w
 whole-fits w small = to_z-of_z w64 w (fits_signed_from_abs w64 w (omega arith))
 
 -- ---- of a tree that has a whole number
-by-whole : (s : List ℕ) (t : Tree) (c : Class s) (w : ℤ) → whole_by c ≡ Some w → (reason : Reason) (count : Option ℕ)
-    → index_findings reason count t c ≡ cond (is_outside count w) (one reason t) []
-by-whole s t (no_number n) w is reason count = absurd (cc is)
-by-whole s t (out_of_range n) w is reason count = absurd (cc is)
-by-whole s t (not_whole v value range n) w is reason count = absurd (cc is)
-by-whole s t (whole v x value range are) w is reason count = let same : x ≡ w = cc is in rw same refl
+by-whole : (t : Tree) (r : Result DecimalNumber DecimalFault) (w : ℤ) → option_and_then as_whole (value_if r) ≡ Some w
+    → (reason : Reason) (count : Option ℕ)
+    → IndexFindings reason count t r ≡ cond (is_outside count w) (one reason t) []
+by-whole t (Ok v) w is reason count = ap (whole_findings (λ w. cond (is_outside count w) (one reason t) []) t) is
+by-whole t (Err e) w is reason count = absurd (cc is)
 
 pub index-of-whole : (t : Tree) (w : ℤ) → whole_of t ≡ Some w → (reason : Reason) (count : Option ℕ)
     → index reason count t ≡ cond (is_outside count w) (one reason t) []
 index-of-whole t w is reason count = go (is_number (kind_of t)) refl
   where
     go : (b : Bool) → is_number (kind_of t) ≡ b → index reason count t ≡ cond (is_outside count w) (one reason t) []
-    go true e = rw e (by-whole (spelling t) t (class (spelling t)) w (rw e at is) reason count)
+    go true e = rw e (by-whole t (decimal_of (spelling t)) w (rw e at is) reason count)
     go false e = absurd (cc (rw e at is))
 
 pub whole-kind : (t : Tree) (w : ℤ) → whole_of t ≡ Some w → kind_of t ≡ Number
@@ -107,15 +127,43 @@ index-told found t same reason count = go (is_number (kind_of t)) refl
     by_test true = same reason
     by_test false = refl
 
-    by_class : {s : List ℕ} (c : Class s) → least found (index_findings reason count t c) ≡ found
-    by_class (no_number n) = same WrongKind
-    by_class (out_of_range n) = same NumberRange
-    by_class (not_whole v value range n) = same NotWhole
-    by_class (whole v w value range is) = by_test (is_outside count w)
+    by_whole : (o : Option ℤ)
+        → least found (whole_findings (λ w. cond (is_outside count w) (one reason t) []) t o) ≡ found
+    by_whole None = same NotWhole
+    by_whole (Some w) = by_test (is_outside count w)
+
+    by_value : (r : Result DecimalNumber DecimalFault) → least found (IndexFindings reason count t r) ≡ found
+    by_value (Ok v) = by_whole (as_whole v)
+    by_value (Err e) = same (fault_reason e)
 
     go : (b : Bool) → is_number (kind_of t) ≡ b → least found (index reason count t) ≡ found
-    go true e = rw e (by_class (class (spelling t)))
+    go true e = rw e (by_value (decimal_of (spelling t)))
     go false e = rw e (same WrongKind)
+
+-- a whole number is below 10^18 in size
+pub whole-small : (t : Tree) → unsigned_abs (unwrap_or (whole_of t) (pos 0)) < 10 ^ 18
+whole-small t = by_kind (is_number (kind_of t))
+  where
+    by_size : (w : ℤ) (b : Bool) → nat_lt (unsigned_abs w) (10 ^ 18) ≡ b
+        → unsigned_abs (unwrap_or (cond b (Some w) None) (pos 0)) < 10 ^ 18
+    by_size w true e = grind (arith, nat_tests)
+    by_size w false e = omega arith
+
+    by_power : (c p : ℤ) → unsigned_abs (unwrap_or (power_whole c p) (pos 0)) < 10 ^ 18
+    by_power c (pos k) =
+        by_size (c *ℤ pos (10 ^ k)) (nat_lt (unsigned_abs (c *ℤ pos (10 ^ k))) (10 ^ 18)) refl
+    by_power c (negsuc k) = omega arith
+
+    by_value : (r : Result DecimalNumber DecimalFault)
+        → unsigned_abs (unwrap_or (option_and_then as_whole (value_if r)) (pos 0)) < 10 ^ 18
+    by_value (Ok v) = by_power v.coefficient v.power
+    by_value (Err e) = omega arith
+
+    by_kind : (b : Bool)
+        → unsigned_abs (unwrap_or (option_and_then as_whole (cond b (value_if (decimal_of (spelling t))) None)) (pos 0))
+        < 10 ^ 18
+    by_kind true = by_value (decimal_of (spelling t))
+    by_kind false = omega arith
 
 -- ---- of a tree of the kind
 
@@ -129,9 +177,9 @@ module _ (line : List ℕ) (t : Tree) (kind : kind_of t ≡ Number) where
       go (object i j ms) e = cc
 
   pub number-in : IsNumberInRange (spelling_of line t) → number t ≡ []
-  number-in o = rw kind (in-range (spelling t) t (class (spelling t)) (rw spelled at o))
+  number-in o = rw kind (in-range (spelling t) t (rw spelled at o))
 
-  pub number-fault : (e : DecimalFault) → (e ≡ NotANumber → ¬ IsNumber (spelling_of line t))
+  pub number-fault : (e : DecimalFault) → (e ≡ NotANumber → ¬ SpellsNumber (spelling_of line t))
       → (e ≡ OutOfRange → IsNumberOutOfRange (spelling_of line t)) → number t ≡ one (fault_reason e) t
   number-fault e none out =
       rw kind (number-class (spelling t) t (class (spelling t))

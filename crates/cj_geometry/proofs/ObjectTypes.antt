@@ -3,11 +3,12 @@ use Rattle.std.proofs.Common.{◌≡◌, ℕ, ◌<◌, List, [], ◌∷◌, leng
 use Rattle.std.proofs.lemmas.Bool.{agree_below, agree_below_at, and_parts, eqb-true}
 use Rattle.std.proofs.lemmas.Slice.Eq.{bytes_eq-Decides}
 use Rattle.std.specs.Str.{chars, bytes_eq}
-use Rattle.cj_spans.specs.Text.{are_same}
-use Rattle.cj_spans.specs.Tree.{Tree}
-use Rattle.cj_spans.specs.Parts.{text_of, has_text}
+use Rattle.cj_spans.specs.Meaning.Text.{are_same}
+use Rattle.cj_spans.specs.Meaning.Tree.{Tree}
+use Rattle.cj_spans.specs.Meaning.Parts.{text_of, has_text}
 use Rattle.cj_geometry.proofs.Texts.{text-is}
-use Rattle.cj_geometry.specs.ObjectTypes.{ObjectRow, object_types, row_in, row_of, row_numbered, number_of, row_at}
+use Rattle.cj_geometry.specs.Meaning.ObjectTypes.{ObjectRow, object_types, row_in, row_of}
+use Rattle.cj_geometry.specs.ObjectTypes.{row_numbered, number_of, row_at}
 use Rattle.cj_geometry.specs.declared.object_type.ObjectType.{ObjectType}
 use Rattle.cj_geometry.specs.declared.object_type.ObjectType.TheVariants.{Bridge, Building, CityFurniture, CityObjectGroup, GenericCityObject, LandUse, OtherConstruction, PlantCover, Railway, Road, SolitaryVegetationObject, TINRelief, TransportSquare, Tunnel, WaterBody, Waterway, BridgeConstructiveElement, BridgeFurniture, BridgeInstallation, BridgePart, BridgeRoom, BuildingConstructiveElement, BuildingFurniture, BuildingInstallation, BuildingPart, BuildingRoom, BuildingStorey, BuildingUnit, TunnelConstructiveElement, TunnelFurniture, TunnelHollowSpace, TunnelInstallation, TunnelPart}
 

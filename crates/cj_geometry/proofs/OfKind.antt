@@ -2,10 +2,10 @@
 use Rattle.std.proofs.Common.{◌≡◌, List, Bool, true, Option, ap, ◌∙◌}
 use Rattle.cj_spans.specs.declared.token.Kind.{Kind}
 use Rattle.cj_spans.specs.declared.finding.Finding.{Finding}
-use Rattle.cj_spans.specs.Finding.{least}
-use Rattle.cj_spans.specs.Tree.{Tree}
-use Rattle.cj_spans.specs.Parts.{kind_of}
-use Rattle.cj_geometry.specs.Rule.{of_kind, nothing}
+use Rattle.cj_spans.specs.Meaning.Finding.{least}
+use Rattle.cj_spans.specs.Meaning.Tree.{Tree}
+use Rattle.cj_spans.specs.Meaning.Parts.{kind_of}
+use Rattle.cj_geometry.specs.Meaning.Rule.{of_kind, nothing}
 
 -- the kind is looked at first, and then the rule
 pub of_kind-then : (is : Kind → Bool) (rule : Tree → List Finding) (t : Tree) (o p q : Option Finding)

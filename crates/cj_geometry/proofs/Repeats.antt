@@ -5,11 +5,11 @@ use Rattle.std.proofs.lemmas.Bool.Decides.{nat_tests}
 use Rattle.std.proofs.lemmas.Bool.{or_from}
 use Rattle.cj_spans.specs.declared.reason.Reason.{Reason}
 use Rattle.cj_spans.specs.declared.finding.Finding.{Finding}
-use Rattle.cj_spans.specs.Finding.{least, is_before, found_at}
-use Rattle.cj_spans.specs.Reason.{code_of}
-use Rattle.cj_spans.specs.Tree.{Tree, start_of}
-use Rattle.cj_spans.specs.Parts.{are_same_texts}
-use Rattle.cj_geometry.specs.Rule.{one}
+use Rattle.cj_spans.specs.Meaning.Finding.{least, is_before, found_at}
+use Rattle.cj_spans.specs.Meaning.Reason.{code_of}
+use Rattle.cj_spans.specs.Meaning.Tree.{Tree, start_of}
+use Rattle.cj_spans.specs.Meaning.Parts.{are_same_texts}
+use Rattle.cj_geometry.specs.Meaning.Rule.{one}
 
 -- what stands after what was found changes nothing
 pub told_before : (o : Option Finding) (f : Finding) (t : Tree) → o ≡ Some f → f.place < start_of t → (r : Reason)

@@ -9,10 +9,11 @@ use Rattle.std.proofs.lemmas.List.{map-append, take_more_set, length-append, len
 use Rattle.std.proofs.lemmas.List.Elements.{All-contains, All-head, All-tail, All-nil, All-push, All-map, Contains-get_or, Contains-append_left, Contains-append_right, Contains-append_cases, Contains-push, All-contains_itself}
 use Rattle.std.proofs.lemmas.List.Sorted.{length_permutation, All-permutation, Contains-permutation, IsPermutation-sym}
 use Rattle.cj_spans.specs.declared.node.Source.{Source}
-use Rattle.cj_spans.specs.Tree.{Tree}
+use Rattle.cj_spans.specs.Meaning.Tree.{Tree}
 use Rattle.cj_geometry.specs.declared.rule.order.WordedName.{WordedName}
-use Rattle.cj_geometry.specs.Names.{is_earlier, is_above, is_below, is_past, Ascend, last_of, names_of}
-use Rattle.cj_geometry.specs.WordedNames.{name_in, names_in, limit_in, IsWorded, compare_worded, AreLeast, TakeOne, IsHeld, HoldNames}
+use Rattle.cj_geometry.specs.inner.Names.{is_earlier, is_above, is_below, is_past, Ascend, last_of, names_of}
+use Rattle.cj_geometry.specs.inner.WordedNames.{name_in, names_in, limit_in, IsWorded, compare_worded, AreLeast}
+use Rattle.cj_geometry.specs.inner.WordedNames.{TakeOne, IsHeldName, HoldNames}
 use Rattle.cj_geometry.proofs.Ordered.{earlier_itself, earlier_not_back, on_upto, upto_upto, both_sides, none_true}
 use Rattle.cj_geometry.proofs.WordedNames.{less_as_earlier}
 use Rattle.cj_geometry.proofs.Neighbours.{contains_cases, contains_first, contains_later, contains_none, IsPast, HaveNoGap, past_above, none_past, last_past}
@@ -52,7 +53,7 @@ full_least s room n e least new c l f a h =
 -- ---- a walk begins, and passes a name over
 
 pub holds_first : (s : Source) (names : List Tree) (floor : Option Tree) → HoldNames s names names floor None []
-holds_first s names floor = record { held = All-nil (IsHeld s names floor None); whole = λ t c a b. inr c }
+holds_first s names floor = record { held = All-nil (IsHeldName s names floor None); whole = λ t c a b. inr c }
 
 pub holds_passed : (s : Source) (names left : List Tree) (floor ceiling : Option Tree) (es : List WordedName) (t : Tree)
     → is_above floor t && is_below ceiling t ≡ false → HoldNames s names (t ∷ left) floor ceiling es
@@ -79,10 +80,10 @@ below_under None t h = refl
 below_under (Some c) t h = earlier_not_back t c h
 
 pub holds_pushed : (s : Source) (names left : List Tree) (floor ceiling : Option Tree) (es : List WordedName)
-    (e : WordedName) → IsHeld s names floor ceiling e → HoldNames s names (name_in s e ∷ left) floor ceiling es
+    (e : WordedName) → IsHeldName s names floor ceiling e → HoldNames s names (name_in s e ∷ left) floor ceiling es
     → HoldNames s names left floor ceiling (es ++ e ∷ [])
 holds_pushed s names left floor ceiling es e i h = record {
-  held = All-push (IsHeld s names floor ceiling) es e h.held i;
+  held = All-push (IsHeldName s names floor ceiling) es e h.held i;
   whole = λ u c a b. still u (h.whole u c a b);
 }
   where
@@ -122,16 +123,16 @@ pub holds_least : (s : Source) (names left : List Tree) (floor ceiling : Option 
     (next : WordedName) → HoldNames s names left floor ceiling es → AreLeast s es front next
     → HoldNames s names left floor (Some (name_in s next)) front
 holds_least s names left floor ceiling es front next h a = record {
-  held = all_of (IsHeld s names floor (Some (name_in s next))) front held_on;
+  held = all_of (IsHeldName s names floor (Some (name_in s next))) front held_on;
   whole = λ t c up b. still t b (h.whole t c up (below_more ceiling t (name_in s next) n.under b));
 }
   where
-    n : IsHeld s names floor ceiling next
-    n = All-contains (IsHeld s names floor ceiling) es next h.held (next_among s es front next a)
+    n : IsHeldName s names floor ceiling next
+    n = All-contains (IsHeldName s names floor ceiling) es next h.held (next_among s es front next a)
 
-    held_on : (e : WordedName) → Contains front e → IsHeld s names floor (Some (name_in s next)) e
+    held_on : (e : WordedName) → Contains front e → IsHeldName s names floor (Some (name_in s next)) e
     held_on e c =
-        let i = All-contains (IsHeld s names floor ceiling) es e h.held (front_among s es front next a e c) in
+        let i = All-contains (IsHeldName s names floor ceiling) es e h.held (front_among s es front next a e c) in
         let l = All-contains (λ d. is_lt (compare_worded s next d) ≡ false) front e a.before c in
         record {
           word = i.word;
@@ -144,7 +145,7 @@ holds_least s names left floor ceiling es front next h a = record {
     kept : (t : Tree) (e : WordedName) → is_earlier t (name_in s next) ≡ true → Contains es e → name_in s e ≡ t
         → Contains (names_in s front) t
     kept t e b c f =
-        let i = All-contains (IsHeld s names floor ceiling) es e h.held c in
+        let i = All-contains (IsHeldName s names floor ceiling) es e h.held c in
         let b' : is_earlier (name_in s e) (name_in s next) ≡ true = ap (λ x. is_earlier x (name_in s next)) f ∙ b in
         elim (Contains-append_cases front (next ∷ a.others) e (Contains-permutation es _ e a.permutation c)) [
           | inl d ↦ subst (λ x. Contains (names_in s front) x) f (contains_map (name_in s) front e d)
@@ -191,7 +192,7 @@ pub gathered_more : (s : Source) (names left : List Tree) (floor : Option Tree) 
     → TakeOne s e es ceiling new next → HasGathered s names (t ∷ left) floor ceiling es
     → HasGathered s names left floor next new
 gathered_more s names left floor ceiling next e t es new f w a b o g =
-    let i : IsHeld s names floor (limit_in s ceiling) e = record {
+    let i : IsHeldName s names floor (limit_in s ceiling) e = record {
       word = w;
       named = subst (Contains names) (sym f) (All-head (Contains names) t left g.rest);
       above = a;
@@ -210,7 +211,7 @@ gathered_more s names left floor ceiling next e t es new f w a b o g =
         (subst (λ x. HasGathered s names left floor x (es ++ e ∷ [])) (sym p.1)
         (record { holds = h; word = g.word; rest = rest }))
     by_room (inr p) h =
-        let n = All-contains (IsHeld s names floor (limit_in s ceiling)) (es ++ e ∷ []) p.0 h.held
+        let n = All-contains (IsHeldName s names floor (limit_in s ceiling)) (es ++ e ∷ []) p.0 h.held
         (next_among s (es ++ e ∷ []) new p.0 p.2) in
         subst (λ x. HasGathered s names left floor x new) (sym p.1)
         (record {
@@ -250,7 +251,7 @@ pub are_next : (s : Source) (ms : List (Tree × Tree)) (floor ceiling : Option T
     → HoldNames s (names_of ms) [] floor ceiling es → IsPermutation es fs → Ascend (names_in s fs)
     → AreNext ms floor (names_in s fs)
 are_next s ms floor ceiling es fs h p a =
-    let moved = All-permutation (IsHeld s (names_of ms) floor ceiling) es fs p h.held in
+    let moved = All-permutation (IsHeldName s (names_of ms) floor ceiling) es fs p h.held in
     record {
       ascend = a;
       named = All-map (Contains (names_of ms)) (name_in s) fs (λ k d l. (moved k d l).named);
@@ -291,7 +292,7 @@ pub first_held : (s : Source) (ms : List (Tree × Tree)) (floor ceiling : Option
     → left_above (names_of ms) (last_of floor (names_in s fs)) < left_above (names_of ms) floor
 first_held s ms floor ceiling [] fs h p a l = absurd (omega arith)
 first_held s ms floor ceiling (e ∷ es) fs h p a l =
-    let i = All-head (IsHeld s (names_of ms) floor ceiling) e es h.held in
+    let i = All-head (IsHeldName s (names_of ms) floor ceiling) e es h.held in
     fewer_left ms floor (names_in s fs) (name_in s e) (are_next s ms floor ceiling (e ∷ es) fs h p a)
     (contains_map (name_in s) fs e (Contains-permutation (e ∷ es) fs e p (contains_first e es))) i.above
 

@@ -1,11 +1,11 @@
 -- Findings one after another.
 use Rattle.std.proofs.Common.{◌≡◌, List, ◌∷◌, Option, sym, ap, ◌∙◌}
 use Rattle.cj_spans.specs.declared.finding.Finding.{Finding}
-use Rattle.cj_spans.specs.Finding.{least}
-use Rattle.cj_spans.specs.Tree.{Tree}
+use Rattle.cj_spans.specs.Meaning.Finding.{least}
+use Rattle.cj_spans.specs.Meaning.Tree.{Tree}
 use Rattle.cj_spans.proofs.Findings.{least-append}
-use Rattle.cj_geometry.specs.Rule.{repeats_of, repeats}
-use Rattle.cj_geometry.specs.Geometry.{beside, first_part, other_parts}
+use Rattle.cj_geometry.specs.Meaning.Rule.{repeats_of, repeats}
+use Rattle.cj_geometry.specs.Meaning.Geometry.{paired, first_part, other_parts}
 
 -- one name more
 pub names-on : (all rest : List (Tree × Tree)) (m : Tree × Tree) (o p total : Option Finding)
@@ -17,11 +17,11 @@ names-on all rest m o p total h e q =
 
 -- one value more, with the part beside it
 pub beside-on : (rule : Tree → Option Tree → List Finding) (all rest parts : List Tree) (t : Tree) (b : Option Tree)
-    (left : List Tree) (o p total : Option Finding) → least o (beside rule all parts) ≡ total
+    (left : List Tree) (o p total : Option Finding) → least o (paired rule all parts) ≡ total
     → all ≡ t ∷ rest → b ≡ first_part parts → left ≡ other_parts parts → p ≡ least o (rule t b)
-    → least p (beside rule rest left) ≡ total
+    → least p (paired rule rest left) ≡ total
 beside-on rule all rest parts t b left o p total h e f g q =
-    let one : least o (beside rule (t ∷ rest) parts) ≡ total = sym (ap (λ xs. least o (beside rule xs parts)) e) ∙ h in
-    let two : least (least o (rule t (first_part parts))) (beside rule rest (other_parts parts)) ≡ total =
-    sym (least-append o (rule t (first_part parts)) (beside rule rest (other_parts parts))) ∙ one in
+    let one : least o (paired rule (t ∷ rest) parts) ≡ total = sym (ap (λ xs. least o (paired rule xs parts)) e) ∙ h in
+    let two : least (least o (rule t (first_part parts))) (paired rule rest (other_parts parts)) ≡ total =
+    sym (least-append o (rule t (first_part parts)) (paired rule rest (other_parts parts))) ∙ one in
     rw (q, f, g) two

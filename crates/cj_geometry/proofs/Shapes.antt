@@ -3,9 +3,9 @@ use Rattle.std.proofs.Common.{◌≡◌, ℕ, zero, suc, ◌-◌, ◌<◌, List,
 use Rattle.std.specs.List.{flat_map}
 use Rattle.std.proofs.Math.Numerals.{sub-one}
 use Rattle.cj_spans.specs.declared.token.Kind.TheVariants.{Array}
-use Rattle.cj_spans.specs.Tree.{Tree}
-use Rattle.cj_spans.specs.Parts.{kind_of, items_of}
-use Rattle.cj_geometry.specs.Geometry.{shape, entry, values, beside, other_count, other_parts, parts_of}
+use Rattle.cj_spans.specs.Meaning.Tree.{Tree}
+use Rattle.cj_spans.specs.Meaning.Parts.{kind_of, items_of, items_if}
+use Rattle.cj_geometry.specs.Meaning.Geometry.{shape, entry, values, paired, other_count, other_parts}
 
 pub shape-array : (v : Option ℕ) (d : ℕ) (t : Tree) → 0 < d → kind_of t ≡ Array
     → shape v d t ≡ flat_map (shape v (d - 1)) (items_of t)
@@ -13,12 +13,12 @@ shape-array v zero t h k = absurd (omega arith)
 shape-array v (suc d) t h k = rw (k, sub-one (suc d)) refl
 
 pub values-array : (m : Option ℕ) (d : ℕ) (t : Tree) (b : Option Tree) → 0 < d → kind_of t ≡ Array
-    → values m d t b ≡ other_count t b ++ beside (values m (d - 1)) (items_of t) (parts_of b)
+    → values m d t b ≡ other_count t b ++ paired (values m (d - 1)) (items_of t) (items_if b)
 values-array m zero t b h k = absurd (omega arith)
 values-array m (suc d) t b h k = rw (k, sub-one (suc d)) refl
 
 -- at the lowest level what stands beside the values tells nothing
-pub beside-entries : (m : Option ℕ) (ts bs : List Tree) → beside (values m 0) ts bs ≡ flat_map (entry m) ts
+pub beside-entries : (m : Option ℕ) (ts bs : List Tree) → paired (values m 0) ts bs ≡ flat_map (entry m) ts
 beside-entries m [] bs = refl
 beside-entries m (t ∷ ts) bs = ap (λ fs. entry m t ++ fs) (beside-entries m ts (other_parts bs))
 
@@ -27,5 +27,5 @@ pub values-one : (m : Option ℕ) (d : ℕ) (t : Tree) (b : Option Tree) → d �
 values-one m d t b h k =
     let low : d - 1 ≡ 0 = omega arith in
     values-array m d t b (omega arith) k
-    ∙ ap (λ e. other_count t b ++ beside (values m e) (items_of t) (parts_of b)) low
-    ∙ ap (λ fs. other_count t b ++ fs) (beside-entries m (items_of t) (parts_of b))
+    ∙ ap (λ e. other_count t b ++ paired (values m e) (items_of t) (items_if b)) low
+    ∙ ap (λ fs. other_count t b ++ fs) (beside-entries m (items_of t) (items_if b))

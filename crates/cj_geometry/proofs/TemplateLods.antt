@@ -3,9 +3,9 @@ use Rattle.std.proofs.Common.{◌≡◌, ℕ, zero, suc, List, [], ◌∷◌, ma
 use Rattle.std.specs.Option.{ForSome, IfSome}
 use Rattle.std.proofs.Math.ListN.{set}
 use Rattle.cj_spans.specs.declared.node.Node.{Node}
-use Rattle.cj_spans.specs.Tree.{Tree}
+use Rattle.cj_spans.specs.Meaning.Tree.{Tree}
 use Rattle.cj_geometry.specs.declared.lods.TemplateLod.{TemplateLod}
-use Rattle.cj_geometry.specs.TemplateLods.{AreAnswersIn, told_by, lod_for, kept_in, kept_at}
+use Rattle.cj_geometry.specs.inner.TemplateLods.{AreAnswersIn, told_by, lod_for, kept_in, kept_at}
 
 -- an answer that is kept is right
 pub answer-right : (ts : List Tree) (os : List (Option TemplateLod)) (k : ℕ) (a : TemplateLod) → AreAnswersIn ts os

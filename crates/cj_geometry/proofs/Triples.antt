@@ -4,12 +4,14 @@ use Rattle.std.specs.Prelude.{All}
 use Rattle.std.specs.List.{flat_map}
 use Rattle.cj_spans.specs.declared.token.Kind.TheVariants.{Array}
 use Rattle.cj_spans.specs.declared.reason.Reason.{Reason}
-use Rattle.cj_spans.specs.Tree.{Tree}
-use Rattle.cj_spans.specs.Parts.{kind_of, items_of, spelling_of}
+use Rattle.cj_spans.specs.Meaning.Tree.{Tree}
+use Rattle.cj_spans.specs.Meaning.Parts.{kind_of, items_of}
+use Rattle.cj_spans.specs.Places.{spelling_of}
 use Rattle.cj_spans.specs.Wholes.{IsWholeNumber, IsShortWhole}
-use Rattle.cj_decimal.specs.Spelling.{IsFewDigits, IsFewSigned}
+use Rattle.cj_decimal.specs.FewDigits.{IsFewDigits, IsFewSigned}
 use Rattle.cj_decimal.proofs.Few.{few_whole}
-use Rattle.cj_geometry.specs.Rule.{of_length, whole_number}
+use Rattle.cj_geometry.specs.Meaning.Rule.{of_length}
+use Rattle.cj_geometry.specs.Meaning.Numbers.{whole_number}
 use Rattle.cj_geometry.proofs.Lone.{whole-none}
 use Rattle.cj_geometry.proofs.Numbers.{whole-there}
 

@@ -16,12 +16,12 @@ use Rattle.std.proofs.lemmas.List.Elements.{All-head, All-tail, All-nil}
 use Rattle.std.proofs.lemmas.Fn.{always_returns_same}
 use Rattle.std.proofs.lemmas.List.Sorted.{ranks_by, sorted_far}
 use Rattle.cj_spans.specs.declared.node.Source.{Source}
-use Rattle.cj_spans.specs.Tree.{Tree, start_of}
-use Rattle.cj_spans.specs.Parts.{text_of}
-use Rattle.cj_spans.specs.Order.{compare_texts, word_of}
+use Rattle.cj_spans.specs.Meaning.Tree.{Tree, start_of}
+use Rattle.cj_spans.specs.Meaning.Parts.{text_of}
+use Rattle.cj_spans.specs.Order.{compare_texts, front_word}
 use Rattle.cj_spans.proofs.Words.{less_by_words}
-use Rattle.cj_geometry.specs.Names.{compare_names, is_earlier, Ascend}
-use Rattle.cj_geometry.specs.WordedNames.{name_in, names_in, word_in, IsWorded, compare_worded, AreLeast}
+use Rattle.cj_geometry.specs.inner.Names.{compare_names, is_earlier, Ascend}
+use Rattle.cj_geometry.specs.inner.WordedNames.{name_in, names_in, word_in, IsWorded, compare_worded, AreLeast}
 use Rattle.cj_geometry.specs.declared.rule.order.WordedName.{WordedName}
 use Rattle.cj_geometry.proofs.Ordered.{order}
 
@@ -40,7 +40,7 @@ same_numbers m n h =
 greater_numbers : (m n : ℕ) → n < m → nat_cmp m n ≡ Greater
 greater_numbers m n h = nat_cmp_total.antisymm m n ∙ ap ordering_reverse (less_numbers n m h)
 
-words_first : (t u : Tree) (v w : ℕ) → v ≡ word_of (text_of t) → w ≡ word_of (text_of u)
+words_first : (t u : Tree) (v w : ℕ) → v ≡ front_word (text_of t) → w ≡ front_word (text_of u)
     → ordering_then (nat_cmp v w) (compare_names t u) ≡ compare_names t u
 words_first t u v w e f =
     elim (cases_order v w) [

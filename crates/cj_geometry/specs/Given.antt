@@ -1,12 +1,19 @@
 -- What contracts see of templates.
-use Rattle.std.specs.Prelude.{ℕ, List, Option, Some, None, option_map}
+use Rattle.std.specs.Prelude.{Option, Some, None, ℕ, List, option_map}
+use Rattle.cj_spans.specs.Meaning.Tree.{Tree}
+use Rattle.cj_geometry.specs.Meaning.Geometry.{Given, listed, empty, itself}
 use Rattle.cj_spans.specs.declared.node.Node.{Node}
 use Rattle.cj_spans.specs.declared.node.Source.{Source}
 use Rattle.cj_spans.specs.View.{tree, line_of, source_of}
 use Rattle.cj_geometry.specs.declared.templates.Choice.{Choice}
 use Rattle.cj_geometry.specs.declared.templates.Choice.TheVariants.{Listed, Stepped, Empty, Itself}
 use Rattle.cj_geometry.specs.declared.templates.Templates.{Templates}
-use Rattle.cj_geometry.specs.Geometry.{Given, listed, empty, itself}
+
+-- the list, if there is one
+abbrev pub list_of : Given → Option Tree
+list_of (listed t) = Some t
+list_of empty = None
+list_of itself = None
 
 abbrev pub given_by : Choice → Given
 given_by (Listed l) = listed (tree l.node)

@@ -1,8 +1,16 @@
 -- What is kept of a list at even steps.
-use Rattle.std.specs.Prelude.{◌≡◌, ℕ, ◌+◌, ◌*◌, ◌/◌, ◌<◌, List, length, take, get_or}
-use Rattle.cj_spans.specs.Tree.{Tree, total_size}
+use Rattle.std.specs.Prelude.{List, [], Option, Some, None, ◌≡◌, ℕ, ◌+◌, ◌*◌, ◌/◌, ◌<◌, length, take, get_or}
+use Rattle.cj_spans.specs.Meaning.Tree.{Tree}
+use Rattle.cj_spans.specs.declared.node.Items.{Items}
+use Rattle.cj_spans.specs.View.{items_left}
+use Rattle.cj_spans.specs.Forest.{total_size}
 use Rattle.cj_geometry.specs.declared.steps.FinerSteps.{FinerSteps}
 use Rattle.cj_geometry.specs.declared.steps.Steps.{Steps}
+
+-- what is left of a walk over parts, if there is one
+abbrev pub left_of : Option Items → List Tree
+left_of None = []
+left_of (Some w) = items_left w
 
 -- how many values and names stand before each item whose number is a multiple of the step
 abbrev pub AreSizesAt : ℕ → List Tree → List ℕ → Type 0

@@ -2,7 +2,7 @@
 use Rattle.std.specs.Prelude.{ℕ, List, Option}
 use Rattle.cj_spans.specs.declared.node.Source.{Source}
 use Rattle.cj_geometry.specs.declared.lods.Lods.{Lods}
-use Rattle.cj_geometry.specs.Geometry.{Given}
+use Rattle.cj_geometry.specs.Meaning.Geometry.{Given}
 use Rattle.cj_geometry.specs.Given.{given, given_line, given_source}
 
 -- the templates that are asked

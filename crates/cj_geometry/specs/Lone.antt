@@ -1,6 +1,7 @@
 -- Items that hold nothing.
 use Rattle.std.specs.Prelude.{◌≡◌, ℕ, ◌≤◌, List, length, take}
-use Rattle.cj_spans.specs.Tree.{Tree, total_size}
+use Rattle.cj_spans.specs.Meaning.Tree.{Tree}
+use Rattle.cj_spans.specs.Forest.{total_size}
 
 -- there are n trees at the front, each of which is one value and holds no others
 pub record AreLone (n : ℕ) (ts : List Tree) : Type 0 where

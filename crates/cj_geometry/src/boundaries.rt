@@ -1,11 +1,11 @@
 //! Boundaries: lists of some depth, and below them indices of vertices.
 ghost use Rattle.std.specs.Prelude.{◌≡◌, codes, option_map};
 ghost use Rattle.std.specs.Str.{chars};
-ghost use Rattle.cj_spans.specs.Finding.{least};
-ghost use Rattle.cj_spans.specs.Parts.{member_of};
+ghost use Rattle.cj_spans.specs.Meaning.Finding.{least};
+ghost use Rattle.cj_spans.specs.Meaning.Parts.{member_of};
 ghost use Rattle.cj_spans.specs.View.{tree};
-ghost use Rattle.cj_geometry.specs.Rule.{needs};
-ghost use Rattle.cj_geometry.specs.Geometry.{shape};
+ghost use Rattle.cj_geometry.specs.Meaning.Rule.{needs};
+ghost use Rattle.cj_geometry.specs.Meaning.Geometry.{shape};
 
 use crate::rule::{Bound, add, check_index_below, check_there, count_indices};
 use cj_spans::{Kind, Least, Node, Reason};

@@ -1,8 +1,8 @@
 //! The geometry types.
 ghost use Rattle.std.specs.Prelude.{◌≡◌, option_map};
 ghost use Rattle.cj_spans.specs.View.{tree};
-ghost use Rattle.cj_geometry.specs.Form.{form_value};
-ghost use Rattle.cj_geometry.specs.Table.{form_of, parts as parts_of_form};
+ghost use Rattle.cj_geometry.specs.inner.Form.{form_value};
+ghost use Rattle.cj_geometry.specs.Meaning.Table.{form_of, parts as parts_of_form};
 
 use cj_spans::Node;
 

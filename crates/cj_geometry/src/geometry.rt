@@ -1,13 +1,13 @@
 //! The rules on geometries (CityJSON 2.0, section 3).
 ghost use Rattle.std.specs.Prelude.{◌≡◌, codes, option_map};
 ghost use Rattle.std.specs.Str.{chars};
-ghost use Rattle.cj_spans.specs.Finding.{least};
-ghost use Rattle.cj_spans.specs.Parts.{member_of};
+ghost use Rattle.cj_spans.specs.Meaning.Finding.{least};
+ghost use Rattle.cj_spans.specs.Meaning.Parts.{member_of};
 ghost use Rattle.cj_spans.specs.View.{tree};
 ghost use Rattle.cj_geometry.specs.Given.{given};
-ghost use Rattle.cj_geometry.specs.Table.{form_of as form_of_tree};
-ghost use Rattle.cj_geometry.specs.GeometryParts.{AreParts};
-ghost use Rattle.cj_geometry.specs.Geometry.{part_rules, form_rules, typed_rules, geometry};
+ghost use Rattle.cj_geometry.specs.Meaning.Table.{form_of as form_of_tree};
+ghost use Rattle.cj_geometry.specs.inner.GeometryParts.{AreParts};
+ghost use Rattle.cj_geometry.specs.Meaning.Geometry.{part_rules, form_rules, typed_rules, geometry};
 
 use crate::boundaries::check_boundaries;
 use crate::form::{Form, form_of};

@@ -3,10 +3,11 @@
 ghost use Rattle.std.specs.Prelude.{◌≡◌, codes, Some};
 ghost use Rattle.std.specs.Str.{chars};
 ghost use Rattle.cj_spans.specs.declared.reason.Reason.TheVariants.{TemplateIndex, VertexIndex, BadInstance};
-ghost use Rattle.cj_spans.specs.Finding.{least};
+ghost use Rattle.cj_spans.specs.Meaning.Finding.{least};
 ghost use Rattle.cj_spans.specs.View.{tree};
-ghost use Rattle.cj_geometry.specs.Rule.{needs, number, index, of_length};
-ghost use Rattle.cj_geometry.specs.Geometry.{instance_rules};
+ghost use Rattle.cj_geometry.specs.Meaning.Rule.{needs, of_length};
+ghost use Rattle.cj_geometry.specs.Meaning.Numbers.{number, index};
+ghost use Rattle.cj_geometry.specs.Meaning.Geometry.{instance_rules};
 
 use crate::rule::{check_index, check_length, check_number, needed};
 use cj_spans::{Least, Node, Reason};

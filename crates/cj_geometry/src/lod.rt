@@ -1,11 +1,11 @@
 //! The level of detail of a geometry (CityJSON 2.0, section 3.1).
 ghost use Rattle.std.specs.Prelude.{◌≡◌, Some, if◌then◌else◌, codes, option_map, slice_get, IfSome};
 ghost use Rattle.std.specs.Str.{chars};
-ghost use Rattle.cj_spans.specs.Parts.{member_of};
+ghost use Rattle.cj_spans.specs.Meaning.Parts.{member_of};
 ghost use Rattle.cj_spans.specs.View.{tree, items_left, items_source, line_of, source_of};
 ghost use Rattle.cj_geometry.specs.Given.{given, given_line, given_source};
-ghost use Rattle.cj_geometry.specs.Lod.{chosen, template_lod, is_instance, lod};
-ghost use Rattle.cj_geometry.specs.Rule.{whole_of};
+ghost use Rattle.cj_geometry.specs.Meaning.Lod.{chosen, template_lod, is_instance, lod};
+ghost use Rattle.cj_geometry.specs.Meaning.Numbers.{whole_of};
 
 use crate::form::INSTANCE;
 use crate::rule::read_whole;

@@ -7,13 +7,12 @@ ghost use Rattle.std.specs.Prelude.{◌≡◌, ◌<◌, ℕ, Some, IfSome, codes
 ghost use Rattle.std.specs.Prelude.{slice_get, slice_set};
 ghost use Rattle.std.specs.Option.{ForSome};
 ghost use Rattle.std.specs.Str.{chars};
-ghost use Rattle.cj_spans.specs.Parts.{items_of, member_of};
+ghost use Rattle.cj_spans.specs.Meaning.Parts.{items_of, member_of, items_if};
 ghost use Rattle.cj_spans.specs.View.{tree, line_of, source_of};
-ghost use Rattle.cj_geometry.specs.Geometry.{list_of, parts_of};
-ghost use Rattle.cj_geometry.specs.Given.{given, given_source};
-ghost use Rattle.cj_geometry.specs.TemplateLods.{AreAnswersIn, kept_at};
+ghost use Rattle.cj_geometry.specs.Given.{list_of, given, given_source};
+ghost use Rattle.cj_geometry.specs.inner.TemplateLods.{AreAnswersIn, kept_at};
 ghost use Rattle.cj_geometry.specs.ListSteps.{AreStepsOf, AreFinerStepsOf};
-ghost use Rattle.cj_geometry.specs.TreeSet.{options-set};
+ghost use Rattle.cj_geometry.specs.inner.TreeSet.{options-set};
 
 use crate::lod::is_an_instance;
 use crate::rule::read_whole;
@@ -74,14 +73,14 @@ pub struct Lods<'a> {
     finer: Option<FinerSteps>,
     answers: [Option<TemplateLod<'a>>; ANSWERS],
     oldest: usize,
-    ghost stepped: { AreStepsOf (parts_of (list_of (given templates))) steps },
-    ghost stepped_finer: { ForSome finer (AreFinerStepsOf (parts_of (list_of (given templates)))) },
-    ghost answered: { AreAnswersIn (parts_of (list_of (given templates))) answers } by { options-set _ _ },
+    ghost stepped: { AreStepsOf (items_if (list_of (given templates))) steps },
+    ghost stepped_finer: { ForSome finer (AreFinerStepsOf (items_if (list_of (given templates)))) },
+    ghost answered: { AreAnswersIn (items_if (list_of (given templates))) answers } by { options-set _ _ },
     ghost placed: { (slot : ℕ) → ForSome (kept_at answers slot) (λ n. given_source templates ≡ Some (source_of n)) },
 }
 
 impl<'a> Lods<'a> {
-    ghost use Rattle.cj_geometry.specs.Lod.{chosen, is_instance, template_lod, lod};
+    ghost use Rattle.cj_geometry.specs.Meaning.Lod.{chosen, is_instance, template_lod, lod};
     ghost use Rattle.cj_geometry.specs.Lods.{given_to, line_given_to, source_given_to};
     ghost use Rattle.cj_geometry.specs.Given.{given_line};
 

@@ -1,10 +1,11 @@
 //! The types of city objects (CityJSON 2.0, section 2).
 ghost use Rattle.std.specs.Prelude.{◌≡◌, ◌<◌, true, Some, length, map, option_map};
 ghost use Rattle.std.specs.Str.{chars};
-ghost use Rattle.cj_spans.specs.Tree.{Tree};
-ghost use Rattle.cj_spans.specs.Parts.{has_text};
+ghost use Rattle.cj_spans.specs.Meaning.Tree.{Tree};
+ghost use Rattle.cj_spans.specs.Meaning.Parts.{has_text};
 ghost use Rattle.cj_spans.specs.View.{tree};
-ghost use Rattle.cj_geometry.specs.ObjectTypes.{object_types, type_count, row_of, row_named, row_at};
+ghost use Rattle.cj_geometry.specs.Meaning.ObjectTypes.{object_types, row_of};
+ghost use Rattle.cj_geometry.specs.ObjectTypes.{type_count, row_named, row_at};
 
 use cj_spans::Node;
 
@@ -48,7 +49,7 @@ pub enum ObjectType {
 }
 
 /// The number of types is that of the rows of the table, in promises and in the program.
-#[tactic(auto, unfolding(crate::specs::ObjectTypes::object_types))]
+#[tactic(auto, unfolding(crate::specs::Meaning::ObjectTypes::object_types))]
 pub fn types_are_counted()
     ensures table { type_count ≡ length object_types }
     ensures program { ObjectType.COUNT ≡ type_count }
@@ -59,7 +60,7 @@ impl ObjectType {
     pub const COUNT: usize = 33;
 
     /// Returns all types, in the order of the table.
-    #[tactic(auto, unfolding(crate::specs::ObjectTypes::object_types))]
+    #[tactic(auto, unfolding(crate::specs::Meaning::ObjectTypes::object_types))]
     pub fn all() -> [ObjectType; ObjectType::COUNT]
         ensures { map row_at result ≡ object_types }
     {
@@ -143,7 +144,7 @@ impl ObjectType {
     }
 
     /// Returns its name.
-    #[tactic(auto, unfolding(crate::specs::ObjectTypes::object_types))]
+    #[tactic(auto, unfolding(crate::specs::Meaning::ObjectTypes::object_types))]
     pub fn name(self) -> &'static str
         ensures name { result.now ≡ (row_at self).name }
 

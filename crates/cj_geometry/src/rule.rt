@@ -20,11 +20,11 @@
 //! ```
 ghost use Rattle.std.specs.Prelude.{◌≡◌, IsTrue};
 ghost use Rattle.cj_spans.specs.declared.reason.Reason.{Reason as ReasonOf};
-ghost use Rattle.cj_spans.specs.Finding.{least};
-ghost use Rattle.cj_spans.specs.Kinds.{is_text, is_array, is_object};
-ghost use Rattle.cj_spans.specs.Parts.{kind_of};
+ghost use Rattle.cj_spans.specs.Meaning.Finding.{least};
+ghost use Rattle.cj_spans.specs.Meaning.Kinds.{is_text, is_array, is_object};
+ghost use Rattle.cj_spans.specs.Meaning.Parts.{kind_of};
 ghost use Rattle.cj_spans.specs.View.{tree};
-ghost use Rattle.cj_geometry.specs.Rule.{one, of_kind, nothing};
+ghost use Rattle.cj_geometry.specs.Meaning.Rule.{one, of_kind, nothing};
 
 mod array;
 mod member;

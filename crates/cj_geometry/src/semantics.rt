@@ -3,14 +3,15 @@ ghost use Rattle.std.specs.Prelude.{◌≡◌, ◌++◌, ◌<◌, ◌^◌, [], c
 ghost use Rattle.std.specs.Prelude.{IsTrue};
 ghost use Rattle.std.specs.List.{flat_map};
 ghost use Rattle.std.specs.Str.{chars};
-ghost use Rattle.cj_spans.specs.Finding.{least};
-ghost use Rattle.cj_spans.specs.Parts.{items_of, member_of};
-ghost use Rattle.cj_spans.specs.Tree.{Tree, size};
+ghost use Rattle.cj_spans.specs.Meaning.Finding.{least};
+ghost use Rattle.cj_spans.specs.Meaning.Parts.{items_of, member_of, items_if};
+ghost use Rattle.cj_spans.specs.Meaning.Tree.{Tree, size};
 ghost use Rattle.cj_spans.specs.View.{tree};
 ghost use Rattle.cj_geometry.specs.Lone.{AreLone};
-ghost use Rattle.cj_geometry.specs.Rule.{needs};
-ghost use Rattle.cj_geometry.specs.Geometry.{first_part, other_parts, left_of, parts_of, other_count, entry, values};
-ghost use Rattle.cj_geometry.specs.Geometry.{surface, surfaces, count_of, semantics, semantics_if};
+ghost use Rattle.cj_geometry.specs.Meaning.Rule.{needs};
+ghost use Rattle.cj_geometry.specs.Meaning.Geometry.{first_part, other_parts, other_count, entry, values, surface};
+ghost use Rattle.cj_geometry.specs.Meaning.Geometry.{surfaces, count_of, semantics, semantics_if};
+ghost use Rattle.cj_geometry.specs.ListSteps.{left_of};
 
 use crate::rule::{
     Bound, add, check_array, check_index_below, check_names, check_object, check_text_member,
@@ -21,7 +22,7 @@ use cj_spans::{Items, Kind, Least, Node, Reason};
 /// Returns a walk over the parts of a part, if there is one.
 #[inline(always)]
 fn walk(part: Option<Node>) -> Option<Items>
-    ensures { left_of result ≡ parts_of (option_map tree part.entry) }
+    ensures { left_of result ≡ items_if (option_map tree part.entry) }
 {
     match part {
         Some(part) => Some(part.items()),
@@ -44,7 +45,7 @@ fn next_part<'a>(parts: &mut Option<Items<'a>>) -> Option<Node<'a>>
 /// Checks that an array and the part of the boundaries for it have equally many items, if the part
 /// is an array too. `even` says whether they have.
 fn check_evenness(node: Node, part: Option<Node>, even: bool, found: &mut Least)
-    requires { even ≡ nat_eq (length (items_of (tree node))) (length (parts_of (option_map tree part))) }
+    requires { even ≡ nat_eq (length (items_of (tree node))) (length (items_if (option_map tree part))) }
     ensures { found.new ≡ least found.old (other_count (tree node.entry) (option_map tree part.entry)) }
 {
     let Some(part) = part else {
@@ -62,7 +63,7 @@ fn check_evenness(node: Node, part: Option<Node>, even: bool, found: &mut Least)
 
 /// Returns how many parts a part has. 0 if there is none.
 fn count_parts(part: Option<Node>) -> u64
-    ensures { result ≡ length (parts_of (option_map tree part.entry)) }
+    ensures { result ≡ length (items_if (option_map tree part.entry)) }
 {
     match part {
         Some(part) => count_items(part),

@@ -4,7 +4,7 @@
 //! before the step. That is a fact about the list alone, and finds its items in any copy of its
 //! line. Then an item is at most a 64th of the list away.
 ghost use Rattle.std.specs.Prelude.{◌≡◌, ◌<◌, ◌*◌, ◌/◌, [], length, option_map, slice_get, IfSome};
-ghost use Rattle.cj_spans.specs.Parts.{items_of};
+ghost use Rattle.cj_spans.specs.Meaning.Parts.{items_of};
 ghost use Rattle.cj_spans.specs.View.{tree, source_of};
 ghost use Rattle.cj_geometry.specs.ListSteps.{AreSizesAt, AreStepsOf, AreFinerStepsOf};
 

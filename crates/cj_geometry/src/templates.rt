@@ -1,6 +1,6 @@
 //! The templates that a geometry may name (CityJSON 2.0, section 3).
 ghost use Rattle.std.specs.Prelude.{◌≡◌, Some, None, length};
-ghost use Rattle.cj_spans.specs.Parts.{items_of};
+ghost use Rattle.cj_spans.specs.Meaning.Parts.{items_of};
 ghost use Rattle.cj_spans.specs.View.{tree, line_of, source_of};
 ghost use Rattle.cj_geometry.specs.ListSteps.{AreStepsOf};
 
@@ -42,9 +42,9 @@ pub struct Templates<'a> {
 impl<'a> Templates<'a> {
     ghost use Rattle.std.specs.Prelude.{option_map, nat_eq};
     ghost use Rattle.cj_spans.specs.declared.token.Kind.TheVariants.{Array};
-    ghost use Rattle.cj_spans.specs.Parts.{kind_of};
-    ghost use Rattle.cj_geometry.specs.Geometry.{listed, empty, itself, list_of, parts_of, template_count, is_itself};
-    ghost use Rattle.cj_geometry.specs.Given.{given, given_line, given_source};
+    ghost use Rattle.cj_spans.specs.Meaning.Parts.{kind_of, items_if};
+    ghost use Rattle.cj_geometry.specs.Meaning.Geometry.{listed, empty, itself, template_count, is_itself};
+    ghost use Rattle.cj_geometry.specs.Given.{list_of, given, given_line, given_source};
 
     /// Returns the templates of the header's list, which is an array.
     pub fn list(node: Node<'a>) -> Templates<'a>
@@ -141,7 +141,7 @@ impl<'a> Templates<'a> {
     /// Returns the steps of the list, by a walk over it if they are not known. Without a list they
     /// are those of an empty one.
     pub(crate) fn steps(self) -> Steps
-        ensures { AreStepsOf (parts_of (list_of (given self.entry))) result }
+        ensures { AreStepsOf (items_if (list_of (given self.entry))) result }
     {
         match self.choice {
             Choice::Stepped(list) => *list.steps,

@@ -1,10 +1,10 @@
 -- Worked geometries: lines and their trees.
 use Rattle.std.specs.Prelude.{◌≡◌, ℕ, zero, suc, ◌+◌, List, ◌++◌, length, true, false, [], ◌∷◌, Some, codes}
 use Rattle.cj_spans.specs.declared.token.Kind.TheVariants.{Null, Number, Text}
-use Rattle.cj_spans.specs.Tree.{Tree, Items, scalar, array, object, no_items, item, no_members, member}
-use Rattle.cj_spans.specs.Json.{atom_at}
-use Rattle.cj_spans.specs.Parts.{has_text}
-use Rattle.cj_geometry.specs.Table.{Row, form_of}
+use Rattle.cj_spans.specs.Meaning.Tree.{Tree, Items, scalar, array, object, no_items, item, no_members, member}
+use Rattle.cj_spans.specs.Meaning.Json.{atom_at}
+use Rattle.cj_spans.specs.Meaning.Parts.{has_text}
+use Rattle.cj_geometry.specs.Meaning.Table.{Row, form_of}
 
 -- two points
 abbrev pub points_line : List ℕ

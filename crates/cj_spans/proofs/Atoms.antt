@@ -9,10 +9,12 @@ use Rattle.cj_spans.specs.declared.lex.Lex.TheVariants.{InString}
 use Rattle.cj_spans.specs.declared.step.Mode.{Mode}
 use Rattle.cj_spans.specs.declared.step.Mode.TheVariants.{After}
 use Rattle.cj_spans.specs.declared.step.Move.{Move}
-use Rattle.cj_spans.specs.Json.{byte}
+use Rattle.cj_spans.specs.Meaning.Json.{byte}
 use Rattle.cj_spans.specs.Preorder.{token_at}
-use Rattle.cj_spans.specs.Machine.{State, state, between, in_atom, read, end_atom, go_on, step, settle, lex_step, lex_kind, Continues, still, further, Halts, Reaches, here, on, ComesTo, SticksFlat, phase_after}
-use Rattle.cj_spans.specs.Spelling.{is_plain}
+use Rattle.cj_spans.specs.inner.Machine.{State, state, between, in_atom, read, end_atom, go_on, step, settle, lex_step}
+use Rattle.cj_spans.specs.inner.Machine.{lex_kind, Continues, still, further, Halts, Reaches, here, on, ComesTo}
+use Rattle.cj_spans.specs.inner.Machine.{SticksFlat, phase_after}
+use Rattle.cj_spans.specs.Meaning.Spelling.{is_plain}
 use Rattle.cj_spans.proofs.Spellings.{none_some, plain_goes}
 
 -- ---- the code's loop

@@ -14,12 +14,13 @@ use Rattle.cj_spans.specs.declared.lex.Lex.{Lex}
 use Rattle.cj_spans.specs.declared.lex.Lex.TheVariants.{Zero, InString, StringDone}
 use Rattle.cj_spans.specs.declared.step.Mode.{Mode}
 use Rattle.cj_spans.specs.declared.step.Mode.TheVariants.{Ready, FirstItem, After, FirstName, NextName, AfterName}
-use Rattle.cj_spans.specs.Tree.{Tree, nest}
-use Rattle.cj_spans.specs.Json.{byte, Json}
-use Rattle.cj_spans.specs.Front.{Front, IsFront, SyntaxAt, stuck, short}
-use Rattle.cj_spans.specs.Begins.{BeginsText, IsFirstFault, IsFirstTooDeep}
+use Rattle.cj_spans.specs.Meaning.Tree.{Tree, nest}
+use Rattle.cj_spans.specs.Meaning.Json.{byte, Json}
+use Rattle.cj_spans.specs.Meaning.Prefix.{JsonPrefix, IsJsonPrefix, SyntaxAt, stuck, short}
+use Rattle.cj_spans.specs.Meaning.Begins.{BeginsText, IsFirstFault, IsFirstTooDeep}
 use Rattle.cj_spans.specs.Preorder.{token_at, flatten, flatten_items, flatten_members}
-use Rattle.cj_spans.specs.Machine.{open_kind, State, state, in_atom, step, end_atom, after_token, after_in, still, Reaches, here, on, start, SinksAt, RunAnswers, BeginsValue}
+use Rattle.cj_spans.specs.inner.Machine.{open_kind, State, state, in_atom, step, end_atom, after_token, after_in, still}
+use Rattle.cj_spans.specs.inner.Machine.{Reaches, here, on, start, SinksAt, RunAnswers, BeginsValue}
 use Rattle.cj_spans.proofs.Spellings.{can_end, text_end}
 use Rattle.cj_spans.proofs.Lists.{slice_get-append, slice_get-seam, rise-nest}
 use Rattle.cj_spans.proofs.Runs.{IsEnd, colon, bracket, brace, Arrives, arrive_on, arrived, settled, idle, BeginsName}
@@ -49,7 +50,7 @@ rest_byte b rest i n l = grind (arith, common_steps)
 length_with : (b rest : List ℕ) (i : ℕ) → i ≤ length b → length (take i b ++ rest) ≡ i + length rest
 length_with b rest i l = grind (arith, common_steps)
 
-pub text_front : (b : List ℕ) (i : ℕ) → i ≤ length b → BeginsText b i → IsFront b i
+pub text_front : (b : List ℕ) (i : ℕ) → i ≤ length b → BeginsText b i → IsJsonPrefix b i
 text_front b i l x =
     let c = take i b ++ x.rest in
     let v = run_json c x.tree x.json in
@@ -60,7 +61,7 @@ text_front b i l x =
     let r = transfer b i (λ k h. sym (same_byte b x.rest i k l h)) w.at w.reached (omega arith) in
     record {
       open_count = length w.at.stack;
-      front = subst (λ n. Front b 0 n (length w.at.stack)) w.place (inv_front w.at (inv_reaches b w.at r));
+      front = subst (λ n. JsonPrefix b 0 n (length w.at.stack)) w.place (inv_front w.at (inv_reaches b w.at r));
     }
 
 -- ---- the open containers and what closes them
@@ -438,7 +439,7 @@ state_text b i l s reached e =
       nest_is = nest_of c t.tree d.arrives.at d.tokens s.deepest t.json d.arrives.reached d.arrives.settles;
     }
 
-pub front_text : (b : List ℕ) (i : ℕ) → i ≤ length b → IsFront b i → BeginsText b i
+pub front_text : (b : List ℕ) (i : ℕ) → i ≤ length b → IsJsonPrefix b i → BeginsText b i
 front_text b i l f = let v = front_runs f.front start Ready [] [] 0 tt here in
     (state_text b i l v.at v.reached v.place).text
 
@@ -470,7 +471,7 @@ text_no_fault b t j i f = elim (eq-or-lt_of_le f.within) [
 ]
 
 -- a text that begins so opens as many containers as the line does
-text_nest : (b : List ℕ) (i n : ℕ) → i ≤ length b → Front b 0 i n → (x : BeginsText b i) → n ≤ nest x.tree
+text_nest : (b : List ℕ) (i n : ℕ) → i ≤ length b → JsonPrefix b 0 i n → (x : BeginsText b i) → n ≤ nest x.tree
 text_nest b i n l f x =
     let c = take i b ++ x.rest in
     let u = front_runs f start Ready [] [] 0 tt here in

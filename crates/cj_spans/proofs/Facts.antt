@@ -9,10 +9,13 @@ use Rattle.cj_spans.specs.declared.token.Token.{Token}
 use Rattle.cj_spans.specs.declared.lex.Lex.{Lex}
 use Rattle.cj_spans.specs.declared.step.Mode.{Mode}
 use Rattle.cj_spans.specs.declared.step.Mode.TheVariants.{Ready, FirstItem, After, FirstName, NextName, AfterName}
-use Rattle.cj_spans.specs.Spelling.{is_white_space}
-use Rattle.cj_spans.specs.Json.{byte}
+use Rattle.cj_spans.specs.Meaning.Spelling.{is_white_space}
+use Rattle.cj_spans.specs.Meaning.Json.{byte}
 use Rattle.cj_spans.specs.Preorder.{token_at}
-use Rattle.cj_spans.specs.Machine.{open_kind, Phase, State, state, between, in_atom, step, read, read_in, begin_value, begin_name, after_value, after_token, after_in, close_empty, close_token, end_atom, go_on, settle, lex_start, lex_step, lex_kind, Reaches, here, on, start}
+use Rattle.cj_spans.specs.inner.Machine.{open_kind, Phase, State, state, between, in_atom, step, read, read_in}
+use Rattle.cj_spans.specs.inner.Machine.{begin_value, begin_name, after_value, after_token, after_in, close_empty}
+use Rattle.cj_spans.specs.inner.Machine.{close_token, end_atom, go_on, settle, lex_start, lex_step, lex_kind, Reaches}
+use Rattle.cj_spans.specs.inner.Machine.{here, on, start}
 use Rattle.cj_spans.proofs.Spellings.{none_some, some_same}
 use Rattle.cj_spans.proofs.Runs.{idle}
 

@@ -8,8 +8,9 @@ use Rattle.std.proofs.lemmas.Bool.Decides.{nat_tests}
 use Rattle.cj_spans.specs.declared.reason.Reason.{Reason}
 use Rattle.cj_spans.specs.declared.reason.Reason.TheVariants.{NoHeader, LineTooLong, NotUtf8, Syntax, TooDeep, MissingMember, DuplicateName, WrongKind, NumberRange, WrongType, WrongVersion, NotEmpty, NotThree, NotWhole, UnknownObjectType, IdNotFound, ChildNotFound, LinkNotMutual, NoParent, UnknownGeometryType, VertexIndex, SemanticsCount, SemanticsIndex, TemplateIndex, BadInstance, TransformNotFixed, NotReached}
 use Rattle.cj_spans.specs.declared.finding.Finding.{Finding}
-use Rattle.cj_spans.specs.Reason.{code_of}
-use Rattle.cj_spans.specs.Finding.{IsNoLater, IsLeast, HaveSame, is_before, lesser, least, list_found}
+use Rattle.cj_spans.specs.Meaning.Reason.{code_of}
+use Rattle.cj_spans.specs.Meaning.Least.{IsNoLater, IsLeast, HaveSame, list_found}
+use Rattle.cj_spans.specs.Meaning.Finding.{is_before, lesser, least}
 
 -- ---- a code tells its reason
 

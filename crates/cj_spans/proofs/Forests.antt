@@ -4,9 +4,12 @@ use Rattle.std.proofs.lemmas.List.{append-nil}
 use Rattle.std.proofs.lemmas.Bool.Decides.{nat_tests}
 use Rattle.cj_spans.specs.declared.token.Kind.{Kind}
 use Rattle.cj_spans.specs.declared.token.Kind.TheVariants.{Null, Truth, Number, Text, Array, Object}
-use Rattle.cj_spans.specs.Tree.{Atom, Tree, scalar, array, object, Items, no_items, item, Members, no_members, member, add_item, add_member, start_of}
-use Rattle.cj_spans.specs.Spelling.{IsScalar, IsInt}
-use Rattle.cj_spans.specs.Json.{byte, atom_at, IsAtom, Value, atom, empty_array, full_array, empty_object, full_object, Padded, padded, LedItems, no_led, led, LedMembers, no_led_members, led_member, Named, named, Json}
+use Rattle.cj_spans.specs.Meaning.Tree.{Atom, Tree, scalar, array, object, Items, no_items, item, Members, no_members}
+use Rattle.cj_spans.specs.Meaning.Tree.{member, add_item, add_member, start_of}
+use Rattle.cj_spans.specs.Meaning.Spelling.{IsScalar, IsInt}
+use Rattle.cj_spans.specs.Meaning.Json.{byte, atom_at, IsAtom, Value, atom, empty_array, full_array, empty_object}
+use Rattle.cj_spans.specs.Meaning.Json.{full_object, Padded, padded, LedItems, no_led, led, LedMembers, no_led_members}
+use Rattle.cj_spans.specs.Meaning.Json.{led_member, Named, named, Json}
 use Rattle.cj_spans.specs.Preorder.{Span, span_at, preorder, items_preorder, members_preorder}
 use Rattle.cj_spans.specs.Forest.{kind_by, held, past, items_from, members_from, node, forest}
 use Rattle.cj_spans.proofs.Lists.{items_preorder-add, members_preorder-add}

@@ -4,17 +4,18 @@ use Rattle.std.proofs.lemmas.Bool.{cases_lt}
 use Rattle.cj_spans.specs.declared.token.Token.{Token}
 use Rattle.cj_spans.specs.declared.step.Mode.{Mode}
 use Rattle.cj_spans.specs.declared.step.Mode.TheVariants.{Ready, FirstItem, After, FirstName, AfterName}
-use Rattle.cj_spans.specs.Tree.{Members, no_items, no_members}
-use Rattle.cj_spans.specs.Json.{byte, White, padded, no_led, LedMembers, no_led_members}
-use Rattle.cj_spans.specs.Front.{Front, white, begun, whole, in_object}
-use Rattle.cj_spans.specs.Front.{in_array as front_array, in_member as front_member, in_name as front_name, after_name as front_after_name}
+use Rattle.cj_spans.specs.Meaning.Tree.{Members, no_items, no_members}
+use Rattle.cj_spans.specs.Meaning.Json.{byte, White, padded, no_led, LedMembers, no_led_members}
+use Rattle.cj_spans.specs.Meaning.Prefix.{JsonPrefix, white, begun, whole, in_object, in_array as front_array}
+use Rattle.cj_spans.specs.Meaning.Prefix.{MemberPrefix, before_name, in_name as front_name}
+use Rattle.cj_spans.specs.Meaning.Prefix.{after_name as front_after_name, in_value}
 use Rattle.cj_spans.specs.Preorder.{flatten, token_at}
-use Rattle.cj_spans.specs.Machine.{State, state, in_atom, Reaches, on, BeginsValue}
+use Rattle.cj_spans.specs.inner.Machine.{State, state, in_atom, Reaches, on, BeginsValue}
 use Rattle.cj_spans.proofs.Lists.{length-snoc, slice_get-seam, rise}
 use Rattle.cj_spans.proofs.Runs.{Arrives, settled, skip, BeginsName, idle}
+use Rattle.cj_spans.proofs.Runs.{skip_after}
 use Rattle.cj_spans.proofs.Follows.{run_padded, run_led, run_led_members, run_named, open_array, open_object}
 use Rattle.cj_spans.proofs.Places.{atom_begun, name_begun, run_begun, run_begun_name, run_name, begun_reading, quote_first}
-use Rattle.cj_spans.proofs.Runs.{skip_after}
 use Rattle.cj_spans.proofs.Sound.{Context, root, in_array, in_member, Inv, ready, first_item, after_tree, first_name, next_name, after_name, in_scalar, in_name, no_white}
 
 -- ---- from fronts to states
@@ -55,48 +56,45 @@ object_at {b} i j k us w o ld s m ks ts p h r =
     (slice_get-seam ts [] t) tt r1 in
     record { mode = r2.mode; tokens = _; deepest = _; begins = r2.begins; reached = r2.reached }
 
-pub front_runs : {b : List ℕ} {i j n : ℕ} → Front b i j n
-    → (s : State) (m : Mode) (ks : List ℕ) (ts : List Token) (p : ℕ) → BeginsValue m → Reaches b s (idle m ks ts i p)
-    → Live b s j (n + length ks)
-front_runs {b} (white i j w) s m ks ts p h r =
-    live_n _ _ (omega arith) (lives s (idle m ks ts j p) (skip w s m ks ts p r))
-front_runs {b} (begun i j l k w g) s m ks ts p h r =
-    let q = begun_reading g in
-    live_n _ _ (omega arith)
-    (lives s (state (in_atom After j q.last) ks ts l p) (run_begun q.inside s m ks ts p h (skip w s m ks ts p r)))
-front_runs {b} (whole i j t w) s m ks ts p h r =
-    live_n _ _ (omega arith)
-    (live b s (idle After ks (ts ++ flatten (length ts) t) j (rise (length ks) p t)) (run_padded w s m ks ts p h r))
-front_runs {b} (front_array i j k l n us w o ld q) s m ks ts p h r =
-    let t = token_at j 0 0 in let y = max p (suc (length ks)) in
-    let r1 = on (idle m ks ts j p) (idle FirstItem (length ts ∷ ks) (ts ++ t ∷ []) (suc j) y) (skip w s m ks ts p r)
-    (open_array m ks ts j p (byte b j) h o) in
-    let r2 = run_led ld s FirstItem (length ts) ks (ts ++ t ∷ []) y j (suc (length ts)) (length-snoc ts t)
-    (slice_get-seam ts [] t) tt r1 in
-    live_n _ _ (omega arith) (front_runs q s r2.mode (length ts ∷ ks) _ _ r2.begins r2.reached)
-front_runs {b} (in_object i j k l us w o ld w2) s m ks ts p h r =
-    let q = object_at {b = b} i j k us w o ld s m ks ts p h r in
-    live_n _ _ (omega arith)
-    (lives s (idle q.mode (length ts ∷ ks) q.tokens l q.deepest)
-    (skip w2 s q.mode (length ts ∷ ks) q.tokens q.deepest q.reached))
-front_runs {b} (front_name i j k l m2 us w o ld w2 g) s m ks ts p h r =
-    let q = object_at {b = b} i j k us w o ld s m ks ts p h r in
-    let z = begun_reading g in
-    live_n _ _ (omega arith) (lives s (state (in_atom AfterName l z.last) (length ts ∷ ks) q.tokens m2 q.deepest)
-    (run_begun_name z.inside (quote_first b l m2 g.rest g.order g.within g.spelled) s q.mode (length ts ∷ ks) q.tokens
-    q.deepest q.begins (skip w2 s q.mode (length ts ∷ ks) q.tokens q.deepest q.reached)))
-front_runs {b} (front_after_name i j k l m2 n us w o ld w2 g w3) s m ks ts p h r =
-    let q = object_at {b = b} i j k us w o ld s m ks ts p h r in
-    let z = run_name g s q.mode (length ts ∷ ks) q.tokens q.deepest q.begins
-    (skip w2 s q.mode (length ts ∷ ks) q.tokens q.deepest q.reached) in
-    live_n _ _ (omega arith)
-    (live b s (idle AfterName (length ts ∷ ks) _ n q.deepest)
-    (skip_after w3 s AfterName (length ts ∷ ks) _ q.deepest z))
-front_runs {b} (front_member i j k l m2 n us nm w o ld named_at f) s m ks ts p h r =
-    let q = object_at {b = b} i j k us w o ld s m ks ts p h r in
-    live_n _ _ (omega arith)
-    (front_runs f s Ready (length ts ∷ ks) _ q.deepest tt
-    (run_named named_at s q.mode (length ts ∷ ks) q.tokens q.deepest q.begins q.reached))
+mutual
+  pub front_runs : {b : List ℕ} {i j n : ℕ} → JsonPrefix b i j n
+      → (s : State) (m : Mode) (ks : List ℕ) (ts : List Token) (p : ℕ) → BeginsValue m
+      → Reaches b s (idle m ks ts i p) → Live b s j (n + length ks)
+  front_runs {b} (white i j w) s m ks ts p h r =
+      live_n _ _ (omega arith) (lives s (idle m ks ts j p) (skip w s m ks ts p r))
+  front_runs {b} (begun i j l k w g) s m ks ts p h r =
+      let q = begun_reading g in
+      live_n _ _ (omega arith)
+      (lives s (state (in_atom After j q.last) ks ts l p) (run_begun q.inside s m ks ts p h (skip w s m ks ts p r)))
+  front_runs {b} (whole i j t w) s m ks ts p h r =
+      live_n _ _ (omega arith)
+      (live b s (idle After ks (ts ++ flatten (length ts) t) j (rise (length ks) p t)) (run_padded w s m ks ts p h r))
+  front_runs {b} (front_array i j k l n us w o ld q) s m ks ts p h r =
+      let t = token_at j 0 0 in let y = max p (suc (length ks)) in
+      let r1 = on (idle m ks ts j p) (idle FirstItem (length ts ∷ ks) (ts ++ t ∷ []) (suc j) y) (skip w s m ks ts p r)
+      (open_array m ks ts j p (byte b j) h o) in
+      let r2 = run_led ld s FirstItem (length ts) ks (ts ++ t ∷ []) y j (suc (length ts)) (length-snoc ts t)
+      (slice_get-seam ts [] t) tt r1 in
+      live_n _ _ (omega arith) (front_runs q s r2.mode (length ts ∷ ks) _ _ r2.begins r2.reached)
+  front_runs {b} (in_object i j k l n us w o ld f) s m ks ts p h r =
+      let q = object_at {b = b} i j k us w o ld s m ks ts p h r in
+      live_n _ _ (omega arith) (member_runs f s q.mode (length ts ∷ ks) q.tokens q.deepest q.begins q.reached)
+
+  member_runs : {b : List ℕ} {i j n : ℕ} → MemberPrefix b i j n
+      → (s : State) (m : Mode) (ks : List ℕ) (ts : List Token) (p : ℕ) → BeginsName m
+      → Reaches b s (idle m ks ts i p) → Live b s j (n + length ks)
+  member_runs {b} (before_name i j w) s m ks ts p h r =
+      live_n _ _ (omega arith) (lives s (idle m ks ts j p) (skip w s m ks ts p r))
+  member_runs {b} (front_name i j l w g) s m ks ts p h r =
+      let z = begun_reading g in
+      live_n _ _ (omega arith) (lives s (state (in_atom AfterName j z.last) ks ts l p)
+      (run_begun_name z.inside (quote_first b j l g.rest g.order g.within g.spelled) s m ks ts p h
+      (skip w s m ks ts p r)))
+  member_runs {b} (front_after_name i j k l w g v) s m ks ts p h r =
+      let z = run_name g s m ks ts p h (skip w s m ks ts p r) in
+      live_n _ _ (omega arith) (live b s (idle AfterName ks _ l p) (skip_after v s AfterName ks _ p z))
+  member_runs {b} (in_value i j k n a named_at f) s m ks ts p h r =
+      front_runs f s Ready ks _ p tt (run_named named_at s m ks ts p h r)
 
 -- ---- from states to fronts
 
@@ -105,33 +103,29 @@ white_join {b} {i} {j} {k} v w =
     let o = v.order in let p = w.order in
     record { order = omega arith; each = λ n l u. elim (cases_lt n j) [ inl s ↦ v.each n l s | inr g ↦ w.each n g u ] }
 
-front_white : {b : List ℕ} {i j k n : ℕ} → White b i j → Front b j k n → Front b i k n
+front_white : {b : List ℕ} {i j k n : ℕ} → White b i j → JsonPrefix b j k n → JsonPrefix b i k n
 front_white {i = i} v (white j k w) = white i k (white_join v w)
 front_white {i = i} v (begun j k l kd w g) = begun i k l kd (white_join v w) g
 front_white {i = i} v (whole j k t (padded j2 a c k2 t2 w p x)) = whole i k t (padded i a c k t (white_join v w) p x)
 front_white {i = i} v (front_array j k l m n us w o ld q) = front_array i k l m n us (white_join v w) o ld q
-front_white {i = i} v (in_object j k l m us w o ld w2) = in_object i k l m us (white_join v w) o ld w2
-front_white {i = i} v (front_name j k l m n us w o ld w2 g) = front_name i k l m n us (white_join v w) o ld w2 g
-front_white {i = i} v (front_after_name j k l m n a us w o ld w2 g w3) =
-    front_after_name i k l m n a us (white_join v w) o ld w2 g w3
-front_white {i = i} v (front_member j k l m n a us nm w o ld g f) =
-    front_member i k l m n a us nm (white_join v w) o ld g f
+front_white {i = i} v (in_object j k l m n us w o ld f) = in_object i k l m n us (white_join v w) o ld f
 
-front_n : {b : List ℕ} {i j : ℕ} (m n : ℕ) → m ≡ n → Front b i j m → Front b i j n
-front_n {b} {i} {j} m n e f = subst (λ k. Front b i j k) e f
+front_n : {b : List ℕ} {i j : ℕ} (m n : ℕ) → m ≡ n → JsonPrefix b i j m → JsonPrefix b i j n
+front_n {b} {i} {j} m n e f = subst (λ k. JsonPrefix b i j k) e f
 
-context_front : {b : List ℕ} {e : ℕ} {ks : List ℕ} {ts : List Token} → Context b e ks ts → (j n : ℕ) → Front b e j n
-    → Front b 0 j (n + length ks)
+context_front : {b : List ℕ} {e : ℕ} {ks : List ℕ} {ts : List Token} → Context b e ks ts → (j n : ℕ) → JsonPrefix b e j n
+    → JsonPrefix b 0 j (n + length ks)
 context_front {b} (root e w) j n f = front_n _ _ (omega arith) (front_white w f)
 context_front {b} (in_array e0 j0 e ks ts us c o l w) j n f =
     front_n _ _ (omega arith)
     (context_front c j (suc n) (front_array e0 e0 j0 j n us (no_white b e0) o l (front_white w f)))
 context_front {b} (in_member e0 j0 k e ks ts us nm c o l d w) j n f =
     front_n _ _ (omega arith)
-    (context_front c j (suc n) (front_member e0 e0 j0 k j n us nm (no_white b e0) o l d (front_white w f)))
+    (context_front c j (suc n)
+    (in_object e0 e0 j0 j n us (no_white b e0) o l (in_value j0 k j n nm d (front_white w f))))
 
 -- what was read is a prefix, with as many containers open as the stack has
-pub inv_front : {b : List ℕ} (s : State) → Inv b s → Front b 0 s.place (length s.stack)
+pub inv_front : {b : List ℕ} (s : State) → Inv b s → JsonPrefix b 0 s.place (length s.stack)
 inv_front {b} s (ready k p ks ts c) = front_n _ _ (omega arith) (context_front c k 0 (white k k (no_white b k)))
 inv_front {b} s (first_item e k p ks ts c o w) =
     front_n _ _ (omega arith)
@@ -141,12 +135,15 @@ inv_front {b} s (after_tree e j k p ks ts t c v w) =
     front_n _ _ (omega arith) (context_front c k 0 (whole e k t (padded e e j k t (no_white b e) v w)))
 inv_front {b} s (first_name e k p ks ts c o w) =
     front_n _ _ (omega arith)
-    (context_front c k 1 (in_object e e (suc e) k no_members (no_white b e) o (no_led_members (suc e)) w))
+    (context_front c k 1 (in_object e e (suc e) k 0 no_members (no_white b e) o (no_led_members (suc e))
+    (before_name (suc e) k w)))
 inv_front {b} s (next_name e j k p ks ts us c o l w) =
-    front_n _ _ (omega arith) (context_front c k 1 (in_object e e j k us (no_white b e) o l w))
+    front_n _ _ (omega arith) (context_front c k 1 (in_object e e j k 0 us (no_white b e) o l (before_name j k w)))
 inv_front {b} s (after_name e j l m k p ks ts us c o ld w0 wd w) =
-    front_n _ _ (omega arith) (context_front c k 1 (front_after_name e e j l m k us (no_white b e) o ld w0 wd w))
+    front_n _ _ (omega arith)
+    (context_front c k 1 (in_object e e j k 0 us (no_white b e) o ld (front_after_name j l m k w0 wd w)))
 inv_front {b} s (in_scalar e k p ks ts x c w) = let g = atom_begun w in
     front_n _ _ (omega arith) (context_front c k 0 (begun e e k g.kind (no_white b e) g.begun))
 inv_front {b} s (in_name e j l k p ks ts us x c o ld w0 q w) =
-    front_n _ _ (omega arith) (context_front c k 1 (front_name e e j l k us (no_white b e) o ld w0 (name_begun w q)))
+    front_n _ _ (omega arith)
+    (context_front c k 1 (in_object e e j k 0 us (no_white b e) o ld (front_name j l k w0 (name_begun w q))))

@@ -12,10 +12,12 @@ use Rattle.cj_spans.specs.declared.step.Mode.TheVariants.{Ready, FirstItem, Afte
 use Rattle.cj_spans.specs.declared.step.Move.TheVariants.{Open}
 use Rattle.cj_spans.specs.declared.step.Next.{Next}
 use Rattle.cj_spans.specs.declared.arrays.Numbers.{Numbers}
-use Rattle.cj_spans.specs.Json.{byte}
+use Rattle.cj_spans.specs.Meaning.Json.{byte}
 use Rattle.cj_spans.specs.Preorder.{token_at}
-use Rattle.cj_spans.specs.Machine.{state, between, start, with_opened, read, after_in, after_token, ComesTo, ReadsByte, Grown, BeginsValue, InArray, IsInnermost, IsNumberUpTo, EndsItem, FitsToken}
-use Rattle.cj_spans.specs.Pass.{Standing, Stands, StandsIn, LeadsIn, GoesOn, KeepsTokens, ReadsNumbers}
+use Rattle.cj_spans.specs.inner.Machine.{state, between, start, with_opened, read, after_in, after_token, ComesTo}
+use Rattle.cj_spans.specs.inner.Machine.{ReadsByte, Grown, BeginsValue, InArray, IsInnermost, IsNumberUpTo, EndsItem}
+use Rattle.cj_spans.specs.inner.Machine.{FitsToken}
+use Rattle.cj_spans.specs.inner.Pass.{Standing, Stands, StandsIn, LeadsIn, GoesOn, KeepsTokens, ReadsNumbers}
 use Rattle.cj_spans.proofs.Nested.{stands_on, stands_small, stands_room, stands_within, standing_number, standing_comma, standing_opened, standing_closed, standing_refused, opened_in, opens_array}
 use Rattle.std.proofs.lemmas.Option.{slice_get_within}
 use Rattle.cj_spans.proofs.Spellings.{some_same}

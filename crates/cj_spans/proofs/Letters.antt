@@ -11,7 +11,7 @@ use Rattle.std.specs.Int.Count.{count_trailing_zeros}
 use Rattle.std.specs.Str.{IsAscii}
 use Rattle.simdutf8.specs.Steps.{first, second}
 use Rattle.simdutf8.proofs.Chars.{least_is, most_is, StepsThen-IsUtf8}
-use Rattle.cj_spans.specs.Json.{byte}
+use Rattle.cj_spans.specs.Meaning.Json.{byte}
 
 -- a byte beyond ASCII
 abbrev beyond : ℕ → Bool

@@ -6,8 +6,11 @@ use Rattle.std.proofs.lemmas.Bool.Decides.{nat_tests}
 use Rattle.std.proofs.lemmas.List.{append-nil, length-drop}
 use Rattle.std.proofs.lemmas.Option.{slice_get_within}
 use Rattle.cj_spans.specs.declared.token.Token.{Token}
-use Rattle.cj_spans.specs.Tree.{Atom, Tree, Items, Members, add_item, add_member, size, items_size, members_size}
-use Rattle.cj_spans.specs.Json.{Value, atom, empty_array, full_array, empty_object, full_object, Padded, padded, LedItems, no_led, led, LedMembers, no_led_members, led_member, Named, named, Json}
+use Rattle.cj_spans.specs.Meaning.Tree.{Atom, Tree, Items, Members, add_item, add_member, size, items_size}
+use Rattle.cj_spans.specs.Meaning.Tree.{members_size}
+use Rattle.cj_spans.specs.Meaning.Json.{Value, atom, empty_array, full_array, empty_object, full_object, Padded, padded}
+use Rattle.cj_spans.specs.Meaning.Json.{LedItems, no_led, led, LedMembers, no_led_members, led_member, Named, named}
+use Rattle.cj_spans.specs.Meaning.Json.{Json}
 use Rattle.cj_spans.specs.Preorder.{flatten, flatten_items, flatten_members, token_at}
 use Rattle.cj_spans.specs.Sound.{before, AreLinked}
 use Rattle.cj_spans.specs.Marks.{is_marked_at, AreUnmarked}

@@ -5,12 +5,12 @@ use Rattle.std.proofs.lemmas.Bool.{cases_lt}
 use Rattle.std.proofs.lemmas.Bool.Decides.{nat_tests}
 use Rattle.cj_budget.specs.Bounded.{BoundedList, IsWithin}
 use Rattle.cj_spans.specs.declared.token.Token.{Token}
-use Rattle.cj_spans.specs.Tree.{Tree, start_of}
+use Rattle.cj_spans.specs.Meaning.Tree.{Tree, start_of}
 use Rattle.cj_spans.specs.Preorder.{spans_of, token_at}
 use Rattle.cj_spans.specs.Forest.{forest}
 use Rattle.cj_spans.specs.Sound.{AreOf, AreRising, AreLinked, before, link_of}
 use Rattle.cj_spans.specs.Marks.{has_mark, is_marked_at, bare, KeepsTokens}
-use Rattle.cj_spans.specs.Json.{Json}
+use Rattle.cj_spans.specs.Meaning.Json.{Json}
 use Rattle.cj_spans.specs.View.{tree_at, tree_in, source_of, tokens_in, line_of, document, document_line, document_source}
 use Rattle.cj_spans.specs.declared.node.Source.{Source}
 use Rattle.cj_spans.specs.declared.node.Doc.{Doc}

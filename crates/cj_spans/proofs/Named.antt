@@ -7,10 +7,10 @@ use Rattle.cj_spans.specs.declared.token.Token.{Token}
 use Rattle.cj_spans.specs.declared.lex.Lex.TheVariants.{InString, StringDone}
 use Rattle.cj_spans.specs.declared.step.Mode.{Mode}
 use Rattle.cj_spans.specs.declared.step.Mode.TheVariants.{Ready, After, FirstName, NextName, AfterName}
-use Rattle.cj_spans.specs.Json.{byte}
+use Rattle.cj_spans.specs.Meaning.Json.{byte}
 use Rattle.cj_spans.specs.Preorder.{token_at}
-use Rattle.cj_spans.specs.Machine.{State, state, in_atom, start, step, ComesTo, BeginsName, StringLeads, IsQuoted}
-use Rattle.cj_spans.specs.Pass.{StandsIn, LeadsIn}
+use Rattle.cj_spans.specs.inner.Machine.{State, state, in_atom, start, step, ComesTo, BeginsName, StringLeads, IsQuoted}
+use Rattle.cj_spans.specs.inner.Pass.{StandsIn, LeadsIn}
 use Rattle.cj_spans.proofs.Runs.{idle}
 use Rattle.cj_spans.proofs.Atoms.{ends_ok}
 use Rattle.cj_spans.proofs.Signs.{step_on, colon_read, comma_read, innermost_more}

@@ -10,10 +10,12 @@ use Rattle.cj_spans.specs.declared.step.Mode.{Mode}
 use Rattle.cj_spans.specs.declared.step.Mode.TheVariants.{Ready, FirstItem, FirstName, After}
 use Rattle.cj_spans.specs.declared.step.Move.{Move}
 use Rattle.cj_spans.specs.declared.step.Move.TheVariants.{To}
-use Rattle.cj_spans.specs.Json.{byte}
+use Rattle.cj_spans.specs.Meaning.Json.{byte}
 use Rattle.cj_spans.specs.Preorder.{token_at}
-use Rattle.cj_spans.specs.Machine.{State, state, between, start, read, with_opened, open_kind, open_link, phase_after, deepest_after, Answers, ReadsByte, BeginsValue, InArray, IsInnermost, IsNumberUpTo, EndsItem, FitsToken, Grown, Kept}
-use Rattle.cj_spans.specs.Pass.{Standing, Stands, GoesOn}
+use Rattle.cj_spans.specs.inner.Machine.{State, state, between, start, read, with_opened, open_kind, open_link}
+use Rattle.cj_spans.specs.inner.Machine.{phase_after, deepest_after, Answers, ReadsByte, BeginsValue, InArray}
+use Rattle.cj_spans.specs.inner.Machine.{IsInnermost, IsNumberUpTo, EndsItem, FitsToken, Grown, Kept}
+use Rattle.cj_spans.specs.inner.Pass.{Standing, Stands, GoesOn}
 use Rattle.cj_spans.proofs.Spellings.{some_same}
 use Rattle.cj_spans.proofs.Runs.{idle}
 use Rattle.cj_spans.proofs.Atoms.{settles_at}

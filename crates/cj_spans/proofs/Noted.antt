@@ -7,12 +7,12 @@ use Rattle.std.proofs.lemmas.Bool.{cases_eq, false≢true}
 use Rattle.std.proofs.lemmas.Bool.Decides.{nat_tests}
 use Rattle.std.proofs.lemmas.List.{get_or-set_same, get_or-set_other, length-set, map-set, get_or-map}
 use Rattle.cj_spans.specs.declared.node.Members.{Members}
-use Rattle.cj_spans.specs.Initials.{are_apart, then_apart}
-use Rattle.cj_spans.specs.Noted.{AreNoted, IsPlace, members_from, noted_from, note, is_noted, is_free}
-use Rattle.cj_spans.specs.Parts.{are_same_texts, first_code_of, first_named, has_text, head, text_of}
+use Rattle.cj_spans.specs.Initials.{are_apart, then_apart, first_code_of, head}
+use Rattle.cj_spans.specs.inner.Noted.{AreNoted, IsPlace, members_from, noted_from, note, is_noted, is_free}
+use Rattle.cj_spans.specs.Meaning.Parts.{are_same_texts, first_named, has_text, text_of}
 use Rattle.cj_spans.specs.Preorder.{spans_of}
 use Rattle.cj_spans.specs.Sound.{before}
-use Rattle.cj_spans.specs.Tree.{Tree}
+use Rattle.cj_spans.specs.Meaning.Tree.{Tree}
 use Rattle.cj_spans.specs.View.{members_left, tree_at}
 use Rattle.cj_spans.proofs.Spellings.{some_same}
 use Rattle.cj_spans.proofs.Views.{below}

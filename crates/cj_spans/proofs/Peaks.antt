@@ -5,10 +5,10 @@ use Rattle.cj_budget.specs.Bounded.{BoundedList}
 use Rattle.cj_spans.specs.declared.fault.LineFault.{LineFault}
 use Rattle.cj_spans.specs.declared.fault.LineFault.TheVariants.{Syntax, TooDeep}
 use Rattle.cj_spans.specs.declared.token.Token.{Token}
-use Rattle.cj_spans.specs.Json.{byte}
-use Rattle.cj_spans.specs.Front.{Front, white}
+use Rattle.cj_spans.specs.Meaning.Json.{byte}
+use Rattle.cj_spans.specs.Meaning.Prefix.{JsonPrefix, white}
 use Rattle.cj_spans.specs.Scan.{IsDeepest, HasPeakAt}
-use Rattle.cj_spans.specs.Machine.{State, Reaches, here, on, start, RunAnswers}
+use Rattle.cj_spans.specs.inner.Machine.{State, Reaches, here, on, start, RunAnswers}
 use Rattle.cj_spans.proofs.Sound.{inv_reaches, no_white}
 use Rattle.cj_spans.proofs.Facts.{goes, lawful_reaches}
 use Rattle.cj_spans.proofs.Fronts.{inv_front}
@@ -18,7 +18,7 @@ use Rattle.cj_spans.proofs.Verdicts.{Cleared, not_deeper}
 record DeepestFront (b : List ℕ) (s : State) : Type 0 where
   place : ℕ
   within : place ≤ s.place
-  front : Front b 0 place s.deepest
+  front : JsonPrefix b 0 place s.deepest
 
 deepest_front : (b : List ℕ) (s : State) → Reaches b start s → DeepestFront b s
 deepest_front b s here = record { place = 0; within = omega arith; front = white 0 0 (no_white b 0) }
@@ -31,7 +31,7 @@ deepest_front b s (on t v r h) =
           record {
             place = v.place;
             within = omega arith;
-            front = subst (λ n. Front b 0 v.place n) e (inv_front v (inv_reaches b v (on t v r h)));
+            front = subst (λ n. JsonPrefix b 0 v.place n) e (inv_front v (inv_reaches b v (on t v r h)));
           }
       | inr l ↦
           let f = deepest_front b t r in
@@ -40,11 +40,11 @@ deepest_front b s (on t v r h) =
           record {
             place = f.place;
             within = omega arith;
-            front = subst (λ n. Front b 0 f.place n) e f.front;
+            front = subst (λ n. JsonPrefix b 0 f.place n) e f.front;
           }
     ]
 
-not_more : (b : List ℕ) (s : State) (k n : ℕ) → Reaches b start s → k ≤ s.place → Front b 0 k n → n ≤ s.deepest
+not_more : (b : List ℕ) (s : State) (k n : ℕ) → Reaches b start s → k ≤ s.place → JsonPrefix b 0 k n → n ≤ s.deepest
 not_more b s k n r l f =
     elim (cases_lt s.deepest n) [
       | inl g ↦ absurd (not_deeper b s s.deepest k n r (omega arith) l f g)

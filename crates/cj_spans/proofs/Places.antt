@@ -12,11 +12,12 @@ use Rattle.cj_spans.specs.declared.lex.Lex.{Lex}
 use Rattle.cj_spans.specs.declared.lex.Lex.TheVariants.{AfterN, AfterNu, AfterNul, NullDone, AfterT, AfterTr, AfterTru, AfterF, AfterFa, AfterFal, AfterFals, TruthDone, Minus, Zero, Whole, Point, Fraction, Mark, MarkSign, Exponent, InString, Escape, Hex4, Hex3, Hex2, Hex1, StringDone}
 use Rattle.cj_spans.specs.declared.step.Mode.{Mode}
 use Rattle.cj_spans.specs.declared.step.Mode.TheVariants.{Ready, FirstItem, After, FirstName, NextName, AfterName}
-use Rattle.cj_spans.specs.Spelling.{is_white_space, IsScalar}
-use Rattle.cj_spans.specs.Json.{byte, IsAtom}
-use Rattle.cj_spans.specs.Front.{Begun}
+use Rattle.cj_spans.specs.Meaning.Spelling.{is_white_space, IsScalar}
+use Rattle.cj_spans.specs.Meaning.Json.{byte, IsAtom}
+use Rattle.cj_spans.specs.Meaning.Prefix.{Begun}
 use Rattle.cj_spans.specs.Preorder.{token_at}
-use Rattle.cj_spans.specs.Machine.{State, state, in_atom, step, begin_value, lex_start, lex_step, lex_kind, Continues, still, further, Reaches, on, end_atom, BeginsValue}
+use Rattle.cj_spans.specs.inner.Machine.{State, state, in_atom, step, begin_value, lex_start, lex_step, lex_kind}
+use Rattle.cj_spans.specs.inner.Machine.{Continues, still, further, Reaches, on, end_atom, BeginsValue}
 use Rattle.cj_spans.proofs.Spellings.{none_some, some_same, lex_run, reading, reading_sound, reading_whole, reading-more, reading-append, reading-prefix, can_end, IsOfText, TextOption, of_text_step, text_kind, text_end}
 use Rattle.cj_spans.proofs.Atoms.{continues_reaches}
 use Rattle.cj_spans.proofs.Runs.{IsEnd, space, tab, feed, «return», comma, colon, bracket, brace, white_end, Arrives, BeginsName, idle}

@@ -4,11 +4,11 @@ use Rattle.std.specs.Prelude.{All, ⊤}
 use Rattle.std.proofs.lemmas.Bool.{cases_lt}
 use Rattle.std.proofs.lemmas.List.Elements.{All-nil, All-cons, All-head, All-tail, All-take, All-drop}
 use Rattle.cj_spans.specs.declared.token.Token.{Token}
-use Rattle.cj_spans.specs.Tree.{Tree, start_of}
-use Rattle.cj_spans.specs.Json.{byte}
+use Rattle.cj_spans.specs.Meaning.Tree.{Tree, start_of}
+use Rattle.cj_spans.specs.Meaning.Json.{byte}
 use Rattle.cj_spans.specs.Preorder.{Span, spans_of}
 use Rattle.cj_spans.specs.Forest.{forest, held, past, kind_by}
-use Rattle.cj_spans.specs.Parts.{AreInOrder, AreInValueOrder}
+use Rattle.cj_spans.specs.Places.{AreNamesInOrder, AreValuesInOrder}
 use Rattle.cj_spans.specs.Sound.{AreWithin, shown_between}
 use Rattle.cj_spans.specs.View.{pairs_of}
 use Rattle.cj_spans.proofs.Forests.{past_on, start-node}
@@ -61,7 +61,7 @@ names_among n (t ∷ u ∷ ts) a =
     All-cons (λ (m : Tree × Tree). n < start_of m.0) (t, u) (pairs_of ts) (All-head (λ u. n < start_of u) t (u ∷ ts) a)
     (names_among n ts (All-tail (λ u. n < start_of u) u ts (All-tail (λ u. n < start_of u) t (u ∷ ts) a)))
 
-pub pairs_rise : (ts : List Tree) → Rise ts → AreInOrder (pairs_of ts)
+pub pairs_rise : (ts : List Tree) → Rise ts → AreNamesInOrder (pairs_of ts)
 pairs_rise [] r = tt
 pairs_rise (t ∷ []) r = tt
 pairs_rise (t ∷ u ∷ ts) r =
@@ -76,7 +76,7 @@ values_among n (t ∷ u ∷ ts) a =
     All-cons (λ (m : Tree × Tree). n < start_of m.1) (t, u) (pairs_of ts) (All-head (λ u. n < start_of u) u ts later)
     (values_among n ts (All-tail (λ u. n < start_of u) u ts later))
 
-pub values_rise : (ts : List Tree) → Rise ts → AreInValueOrder (pairs_of ts)
+pub values_rise : (ts : List Tree) → Rise ts → AreValuesInOrder (pairs_of ts)
 values_rise [] r = tt
 values_rise (t ∷ []) r = tt
 values_rise (t ∷ u ∷ ts) r = (values_among (start_of u) ts r.1.0, values_rise ts r.1.1)

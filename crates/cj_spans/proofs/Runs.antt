@@ -9,9 +9,10 @@ use Rattle.cj_spans.specs.declared.lex.Lex.{Lex}
 use Rattle.cj_spans.specs.declared.lex.Lex.TheVariants.{AfterN, AfterNu, AfterNul, NullDone, AfterT, AfterTr, AfterTru, AfterF, AfterFa, AfterFal, AfterFals, TruthDone, Minus, Zero, Whole, Point, Fraction, Mark, MarkSign, Exponent, InString, Escape, Hex4, Hex3, Hex2, Hex1, StringDone}
 use Rattle.cj_spans.specs.declared.step.Mode.{Mode}
 use Rattle.cj_spans.specs.declared.step.Mode.TheVariants.{FirstName, NextName}
-use Rattle.cj_spans.specs.Spelling.{is_white_space}
-use Rattle.cj_spans.specs.Json.{byte, White}
-use Rattle.cj_spans.specs.Machine.{is_digit, Phase, State, state, between, in_atom, read, end_atom, go_on, step, settle, lex_step, lex_kind, point_or_mark, Reaches, on}
+use Rattle.cj_spans.specs.Meaning.Spelling.{is_white_space}
+use Rattle.cj_spans.specs.Meaning.Json.{byte, White}
+use Rattle.cj_spans.specs.inner.Machine.{is_digit, Phase, State, state, between, in_atom, read, end_atom, go_on, step}
+use Rattle.cj_spans.specs.inner.Machine.{settle, lex_step, lex_kind, point_or_mark, Reaches, on}
 use Rattle.cj_spans.proofs.Spellings.{none_some, some_same, either}
 
 -- between scalars and names

@@ -7,11 +7,14 @@ use Rattle.std.proofs.lemmas.Grind.{merely}
 use Rattle.cj_spans.specs.declared.token.Token.{Token}
 use Rattle.cj_spans.specs.declared.token.Kind.{Kind}
 use Rattle.cj_spans.specs.declared.token.Kind.TheVariants.{Null, Truth, Number, Text, Array, Object}
-use Rattle.cj_spans.specs.Tree.{Atom, Tree, scalar, array, object, Items, no_items, item, Members, no_members, member, add_item, add_member, start_of, size, total_size, items_size, members_size}
-use Rattle.cj_spans.specs.Spelling.{IsScalar, IsNumber}
-use Rattle.cj_spans.specs.Json.{byte, IsAtom, Value, atom, empty_array, full_array, empty_object, full_object, Padded, padded, LedItems, no_led, led, LedMembers, no_led_members, led_member, Named, named, Json}
+use Rattle.cj_spans.specs.Meaning.Tree.{Atom, Tree, scalar, array, object, Items, no_items, item, Members, no_members}
+use Rattle.cj_spans.specs.Meaning.Tree.{member, add_item, add_member, start_of, size, items_size, members_size}
+use Rattle.cj_spans.specs.Forest.{total_size, kind_by, held, past, atom_of, items_from, members_from, node, forest}
+use Rattle.cj_spans.specs.Meaning.Spelling.{IsScalar, IsNumber}
+use Rattle.cj_spans.specs.Meaning.Json.{byte, IsAtom, Value, atom, empty_array, full_array, empty_object, full_object}
+use Rattle.cj_spans.specs.Meaning.Json.{Padded, padded, LedItems, no_led, led, LedMembers, no_led_members, led_member}
+use Rattle.cj_spans.specs.Meaning.Json.{Named, named, Json}
 use Rattle.cj_spans.specs.Preorder.{Span, span_at, preorder, items_preorder, members_preorder, spans_of}
-use Rattle.cj_spans.specs.Forest.{kind_by, held, past, atom_of, items_from, members_from, node, forest}
 use Rattle.cj_spans.specs.Sound.{AreOf, AreWithin, AreRising, AreNested, AreNamed, AreSpelled, AreLinked, are_members}
 use Rattle.cj_spans.specs.View.{tree_at}
 use Rattle.cj_spans.proofs.Lists.{items_preorder-add, members_preorder-add}

@@ -10,8 +10,11 @@ use Rattle.cj_spans.specs.declared.token.Kind.{Kind}
 use Rattle.cj_spans.specs.declared.token.Kind.TheVariants.{Null, Truth, Number, Text, Array, Object}
 use Rattle.cj_spans.specs.declared.lex.Lex.{Lex}
 use Rattle.cj_spans.specs.declared.lex.Lex.TheVariants.{AfterN, AfterNu, AfterNul, NullDone, AfterT, AfterTr, AfterTru, AfterF, AfterFa, AfterFal, AfterFals, TruthDone, Minus, Zero, Whole, Point, Fraction, Mark, MarkSign, Exponent, InString, Escape, Hex4, Hex3, Hex2, Hex1, StringDone}
-use Rattle.cj_spans.specs.Spelling.{IsScalar, is_plain, is_escape, is_hex, IsDigit, AllDigits, IsDigits, IsMinus, IsInt, IsFrac, IsExp, IsExpSign, IsExpRest, IsNumber, IsBody, nothing, plain, escape, unicode, null_text, true_text, false_text}
-use Rattle.cj_spans.specs.Machine.{is_digit, lex_start, lex_step, lex_kind, hex, one, digit_or, mark, point_or_mark, sign_mark}
+use Rattle.cj_spans.specs.Meaning.Spelling.{IsScalar, is_plain, is_escape, is_hex, IsDigit, AllDigits, IsDigits}
+use Rattle.cj_spans.specs.Meaning.Spelling.{IsMinus, IsInt, IsFrac, IsExp, IsExpSign, IsExpRest, IsNumber, IsBody}
+use Rattle.cj_spans.specs.Meaning.Spelling.{nothing, plain, escape, unicode, null_text, true_text, false_text}
+use Rattle.cj_spans.specs.inner.Machine.{is_digit, lex_start, lex_step, lex_kind, hex, one, digit_or, mark}
+use Rattle.cj_spans.specs.inner.Machine.{point_or_mark, sign_mark}
 
 pub none_some : {A B : Type 0} (x : A) → ◌≡◌ {A = Option A} None (Some x) → B
 none_some x h = cc

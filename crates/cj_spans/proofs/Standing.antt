@@ -10,10 +10,12 @@ use Rattle.cj_spans.specs.declared.step.Mode.TheVariants.{Ready, FirstItem, Afte
 use Rattle.cj_spans.specs.declared.step.Move.{Move}
 use Rattle.cj_spans.specs.declared.step.Move.TheVariants.{Stay, To, Open, Atom}
 use Rattle.cj_spans.specs.declared.step.Next.{Next}
-use Rattle.cj_spans.specs.Json.{byte}
+use Rattle.cj_spans.specs.Meaning.Json.{byte}
 use Rattle.cj_spans.specs.Scan.{KeepsLaw}
-use Rattle.cj_spans.specs.Machine.{State, state, step, read, Reaches, here, on, start, ComesTo, Sticks, phase_after, deepest_after, Answers, EndAnswers, Kept, Grown, BeginsValue, BeginsName, BeginsAtom, SticksAt, RunAnswers}
-use Rattle.cj_spans.specs.Pass.{Standing}
+use Rattle.cj_spans.specs.inner.Machine.{State, state, step, read, Reaches, here, on, start, ComesTo, Sticks}
+use Rattle.cj_spans.specs.inner.Machine.{phase_after, deepest_after, Answers, EndAnswers, Kept, Grown, BeginsValue}
+use Rattle.cj_spans.specs.inner.Machine.{BeginsName, BeginsAtom, SticksAt, RunAnswers}
+use Rattle.cj_spans.specs.inner.Pass.{Standing}
 use Rattle.cj_spans.proofs.Spellings.{some_same}
 use Rattle.cj_spans.proofs.Runs.{idle, settled, same_mode}
 use Rattle.cj_spans.proofs.Facts.{IsLawful, goes, lawful_reaches, lawful_settles, reaches_both}

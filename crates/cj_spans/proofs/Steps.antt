@@ -7,8 +7,8 @@ use Rattle.cj_spans.specs.declared.token.Token.{Token}
 use Rattle.cj_spans.specs.declared.step.Mode.{Mode}
 use Rattle.cj_spans.specs.declared.step.Mode.TheVariants.{Ready, FirstItem, After, FirstName, NextName, AfterName}
 use Rattle.cj_spans.specs.declared.step.Move.{Move}
-use Rattle.cj_spans.specs.Spelling.{is_white_space}
-use Rattle.cj_spans.specs.Machine.{State, state, between, read, read_in, Answers}
+use Rattle.cj_spans.specs.Meaning.Spelling.{is_white_space}
+use Rattle.cj_spans.specs.inner.Machine.{State, state, between, read, read_in, Answers}
 
 -- the answer of the mode n, where the machine's step in it is that of the call
 pub in_answers : (o : Option State) (m n : Mode) (c i p d : ℕ) (r : Result Move LineFault) (ls : List ℕ)

@@ -9,8 +9,10 @@ use Rattle.std.proofs.lemmas.Str.{encode_ascii, inside_one, cons_from_encodes, c
 use Rattle.std.specs.Str.{chars, IsUtf8, encode_utf8_all}
 use Rattle.std.specs.Prelude.{encode_utf8}
 use Rattle.std.specs.Char.Utf16.{is_high_surrogate, is_low_surrogate}
-use Rattle.cj_spans.specs.Spelling.{is_plain, is_escape, is_hex, IsBody, nothing, plain as plain_byte, escape, unicode, IsString}
-use Rattle.cj_spans.specs.Text.{char_of, four_digits, unit, is_unicode, is_pair, body_of, StandFor, done, plain, letter, single, pair}
+use Rattle.cj_spans.specs.Meaning.Spelling.{is_plain, is_escape, is_hex, IsBody, nothing, plain as plain_byte, escape}
+use Rattle.cj_spans.specs.Meaning.Spelling.{unicode, IsString}
+use Rattle.cj_spans.specs.Meaning.Text.{char_of, four_digits, unit, is_unicode, is_pair, body_of}
+use Rattle.cj_spans.specs.Meaning.StandFor.{StandFor, done, plain, letter, single, pair}
 
 -- how the bytes b and r of a body begin
 data BodyBegins (b : ℕ) (r : List ℕ) : Type 0 where

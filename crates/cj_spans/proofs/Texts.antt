@@ -6,11 +6,13 @@ use Rattle.std.proofs.lemmas.List.{drop-drop, drop-take, length-take}
 use Rattle.std.proofs.lemmas.Bool.Decides.{nat_tests}
 use Rattle.std.proofs.lemmas.Grind.{common_steps}
 use Rattle.cj_spans.specs.declared.text.decode.CodePoint.{CodePoint}
-use Rattle.cj_spans.specs.Decoding.{left, after_read, ReadsCodePoint, code_points_from, AreAlike, StartAlike}
+use Rattle.cj_spans.specs.inner.Decoding.{left, after_read, ReadsCodePoint, code_points_from, AreAlike, StartAlike}
 use Rattle.cj_spans.specs.Order.{compare}
 use Rattle.std.specs.Ordering.{nat_cmp, ordering_then}
 use Rattle.std.specs.declared.cmp.Ordering.TheVariants.{Less, Equal, Greater}
-use Rattle.cj_spans.specs.Text.{char_of, four_digits, unit, is_unicode, is_escaped, is_pair, escaped, first_code_point, first_width, code_points_after, text, are_same, StandFor, done, plain, letter, single, pair}
+use Rattle.cj_spans.specs.Meaning.Text.{char_of, four_digits, unit, is_unicode, is_escaped, is_pair, escaped}
+use Rattle.cj_spans.specs.Meaning.Text.{first_code_point, first_width, code_points_after, text, are_same}
+use Rattle.cj_spans.specs.Meaning.StandFor.{StandFor, done, plain, letter, single, pair}
 use Rattle.std.specs.Char.{digit_value}
 use Rattle.std.specs.Char.Utf16.{is_high_surrogate, is_low_surrogate, surrogate_pair_char}
 use Rattle.std.specs.Str.{chars, chars_after, continuation_len, lead_bits}

@@ -12,18 +12,20 @@ use Rattle.cj_spans.specs.declared.token.Token.{Token}
 use Rattle.cj_spans.specs.declared.token.Kind.{Kind}
 use Rattle.cj_spans.specs.declared.token.Kind.TheVariants.{Null, Truth, Number, Text, Array, Object}
 use Rattle.cj_spans.specs.declared.lex.Lex.{Lex}
-use Rattle.cj_spans.specs.Tree.{Tree, size}
-use Rattle.cj_spans.specs.Json.{byte}
-use Rattle.cj_spans.specs.Kinds.{is_number}
+use Rattle.cj_spans.specs.Meaning.Tree.{Tree, size}
+use Rattle.cj_spans.specs.Meaning.Json.{byte}
+use Rattle.cj_spans.specs.Meaning.Kinds.{is_number}
 use Rattle.cj_spans.specs.Forest.{kind_by, node}
-use Rattle.cj_spans.specs.Machine.{lex_kind}
-use Rattle.cj_spans.specs.Parts.{kind_of, spelling_of, items_of}
+use Rattle.cj_spans.specs.inner.Machine.{lex_kind}
+use Rattle.cj_spans.specs.Meaning.Parts.{kind_of, items_of}
+use Rattle.cj_spans.specs.Places.{spelling_of}
 use Rattle.cj_spans.specs.Preorder.{spans_of}
 use Rattle.cj_spans.specs.Scan.{AreSized}
 use Rattle.cj_spans.specs.Sound.{AreWithin, AreRising, AreNested, AreLinked, AreSpelled, before, link_of}
-use Rattle.cj_spans.specs.Spelling.{IsNumber, IsFrac, IsExp}
+use Rattle.cj_spans.specs.Meaning.Spelling.{IsNumber, IsFrac, IsExp}
 use Rattle.cj_spans.specs.View.{tree_at}
-use Rattle.cj_spans.specs.Wholes.{IsWholeNumber, IsShortWhole, IsWholeSign}
+use Rattle.cj_spans.specs.Wholes.{IsWholeNumber, IsShortWhole}
+use Rattle.cj_spans.specs.inner.Wholes.{IsWholeSign}
 use Rattle.cj_spans.proofs.Places.{slice_has, slice-length}
 use Rattle.cj_spans.proofs.Sizes.{before_walked}
 use Rattle.cj_spans.proofs.Spellings.{some_same, reading, reading_sound, reading_whole}

@@ -10,11 +10,11 @@ use Rattle.std.proofs.lemmas.Simd.{bit_mask_l, mask_l-lt, get_or-chunk, leading_
 use Rattle.std.proofs.lemmas.List.{length-map, get_or-map, map-id}
 use Rattle.std.proofs.Math.Nat.{div-eq_of_lt}
 use Rattle.std.proofs.Math.Pow.{pow_mono}
-use Rattle.cj_spans.specs.Spelling.{is_plain}
-use Rattle.cj_spans.specs.Json.{byte}
-use Rattle.cj_spans.specs.Machine.{is_digit}
-use Rattle.cj_spans.specs.Decoding.{AreAlike}
-use Rattle.cj_spans.specs.Wholes.{IsWholeSign, AreMarkedTo}
+use Rattle.cj_spans.specs.Meaning.Spelling.{is_plain}
+use Rattle.cj_spans.specs.Meaning.Json.{byte}
+use Rattle.cj_spans.specs.inner.Machine.{is_digit}
+use Rattle.cj_spans.specs.inner.Decoding.{AreAlike}
+use Rattle.cj_spans.specs.inner.Wholes.{IsWholeSign, AreMarkedTo}
 
 -- how far a byte is above `0`, where bytes below it come last
 abbrev above : ℕ → ℕ

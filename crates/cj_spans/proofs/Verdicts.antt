@@ -13,14 +13,15 @@ use Rattle.cj_spans.specs.declared.token.Kind.{Kind}
 use Rattle.cj_spans.specs.declared.token.Token.{Token}
 use Rattle.cj_spans.specs.declared.step.Mode.{Mode}
 use Rattle.cj_spans.specs.declared.step.Mode.TheVariants.{Ready, FirstItem, After, FirstName, NextName, AfterName}
-use Rattle.cj_spans.specs.Tree.{Tree, scalar, size, nest}
-use Rattle.cj_spans.specs.Json.{byte, atom_at, White, Value, atom, Padded, padded, Json}
-use Rattle.cj_spans.specs.Front.{Front, IsFront, SyntaxAt, stuck, short, DeepAt, NowhereDeep}
+use Rattle.cj_spans.specs.Meaning.Tree.{Tree, scalar, size, nest}
+use Rattle.cj_spans.specs.Meaning.Json.{byte, atom_at, White, Value, atom, Padded, padded, Json}
+use Rattle.cj_spans.specs.Meaning.Prefix.{JsonPrefix, IsJsonPrefix, SyntaxAt, stuck, short, DeepAt, NowhereDeep}
 use Rattle.cj_spans.specs.Preorder.{flatten, spans_of}
 use Rattle.cj_spans.specs.Forest.{forest}
 use Rattle.cj_spans.specs.Scan.{IsScanOf, KeepsLaw}
 use Rattle.cj_spans.specs.Marks.{AreUnmarked}
-use Rattle.cj_spans.specs.Machine.{State, state, in_atom, step, settle, end_atom, lex_kind, Reaches, here, on, start, Sticks, SticksAt, SinksAt, Accepts, RunAnswers}
+use Rattle.cj_spans.specs.inner.Machine.{State, state, in_atom, step, settle, end_atom, lex_kind, Reaches, here, on}
+use Rattle.cj_spans.specs.inner.Machine.{start, Sticks, SticksAt, SinksAt, Accepts, RunAnswers}
 use Rattle.cj_spans.proofs.Spellings.{none_some, some_same}
 use Rattle.cj_spans.proofs.Lists.{rise, rise-nest, length-flatten, spans_of-flatten}
 use Rattle.cj_spans.proofs.Runs.{idle, settled, same_mode}
@@ -122,15 +123,15 @@ next_stuck b s u r n (on t v q h) e =
     let d : s ≡ t = same_state b s t r q (omega arith) in
     none_some v (sym n ∙ ap (λ w. step (byte b w.place) w) d ∙ h)
 
-front_before : (b : List ℕ) (s : State) (k : ℕ) → Reaches b start s → k ≤ s.place → IsFront b k
+front_before : (b : List ℕ) (s : State) (k : ℕ) → Reaches b start s → k ≤ s.place → IsJsonPrefix b k
 front_before b s k r l =
     let v = state_before b s k r l in
     record {
       open_count = length v.at.stack;
-      front = subst (λ n. Front b 0 n (length v.at.stack)) v.place (inv_front v.at (inv_reaches b v.at v.reached));
+      front = subst (λ n. JsonPrefix b 0 n (length v.at.stack)) v.place (inv_front v.at (inv_reaches b v.at v.reached));
     }
 
-live_at : (b : List ℕ) (i n : ℕ) → Front b 0 i n → Live b start i (n + 0)
+live_at : (b : List ℕ) (i n : ℕ) → JsonPrefix b 0 i n → Live b start i (n + 0)
 live_at b i n f = front_runs f start Ready [] [] 0 tt here
 
 pub sticks_syntax : (b : List ℕ) (i : ℕ) → Sticks b start i → SyntaxAt b i
@@ -149,7 +150,7 @@ sticks_syntax b i a =
     ]
 
 -- no state that the machine comes to on its way has more containers open
-pub not_deeper : (b : List ℕ) (s : State) (d i n : ℕ) → Reaches b start s → s.deepest ≤ d → i ≤ s.place → Front b 0 i n
+pub not_deeper : (b : List ℕ) (s : State) (d i n : ℕ) → Reaches b start s → s.deepest ≤ d → i ≤ s.place → JsonPrefix b 0 i n
     → d < n → ⊥
 not_deeper b s d i n r h l f g =
     let v = live_at b i n f in
@@ -203,12 +204,12 @@ sinks_deep b d i a = by_step (step (byte b i) a.last) refl a.deep
         let q : step (byte b a.last.place) a.last ≡ Some u = ap (λ n. step (byte b n) a.last) a.at ∙ e in
         let r = on a.last u a.reached q in
         let p : u.place ≡ suc i = next_place a.last u a.reached q ∙ ap suc a.at in
-        let f : Front b 0 (suc i) (length u.stack) =
-        subst (λ n. Front b 0 n (length u.stack)) p (inv_front u (inv_reaches b u r)) in
+        let f : JsonPrefix b 0 (suc i) (length u.stack) =
+        subst (λ n. JsonPrefix b 0 n (length u.stack)) p (inv_front u (inv_reaches b u r)) in
         let at = a.at in
         record {
           within = a.within;
-          deep = subst (λ n. Front b 0 (suc i) n) h f;
+          deep = subst (λ n. JsonPrefix b 0 (suc i) n) h f;
           least = λ k l g. not_deeper b a.last d (suc k) (suc d) a.reached a.shallow (omega arith) g (omega arith);
         }
 
@@ -222,7 +223,7 @@ one_deep b d i j x y =
           elim o [ inl l ↦ absurd (y.least i l x.deep) | inr g ↦ absurd (x.least j g y.deep) ]
     ]
 
-pub fronts_below : {b : List ℕ} {j : ℕ} → SyntaxAt b j → (k : ℕ) → k < j → IsFront b (suc k)
+pub fronts_below : {b : List ℕ} {j : ℕ} → SyntaxAt b j → (k : ℕ) → k < j → IsJsonPrefix b (suc k)
 fronts_below (stuck l f n) k h = f k h
 fronts_below (short e f n) k h = f k h
 

@@ -9,12 +9,13 @@ use Rattle.std.proofs.lemmas.Bool.Decides.{nat_tests}
 use Rattle.cj_spans.specs.declared.token.Token.{Token}
 use Rattle.cj_spans.specs.declared.token.Kind.{Kind}
 use Rattle.cj_spans.specs.declared.token.Kind.TheVariants.{Null, Truth, Number, Text, Array, Object}
-use Rattle.cj_spans.specs.Tree.{Tree, scalar, array, object, start_of}
-use Rattle.cj_spans.specs.Json.{byte}
+use Rattle.cj_spans.specs.Meaning.Tree.{Tree, scalar, array, object, start_of}
+use Rattle.cj_spans.specs.Meaning.Json.{byte}
 use Rattle.cj_spans.specs.Preorder.{Span, spans_of}
 use Rattle.cj_spans.specs.Forest.{kind_by, held, past, atom_of, items_from, members_from, node, forest}
-use Rattle.cj_spans.specs.Parts.{kind_of, spelling_of, list_items, list_members}
-use Rattle.cj_spans.specs.Kinds.{is_text}
+use Rattle.cj_spans.specs.Meaning.Parts.{kind_of, list_items, list_members}
+use Rattle.cj_spans.specs.Places.{spelling_of}
+use Rattle.cj_spans.specs.Meaning.Kinds.{is_text}
 use Rattle.cj_spans.specs.Sound.{StopBefore, before, is_name, are_members}
 use Rattle.cj_spans.specs.View.{tree_at, pairs_of}
 use Rattle.cj_spans.proofs.Links.{before_one, before_zero}

@@ -8,11 +8,11 @@ use Rattle.std.proofs.lemmas.Bool.Decides.{nat_tests}
 use Rattle.cj_spans.specs.declared.token.Token.{Token}
 use Rattle.cj_spans.specs.declared.token.Kind.{Kind}
 use Rattle.cj_spans.specs.declared.token.Kind.TheVariants.{Null, Truth, Number, Text, Array, Object}
-use Rattle.cj_spans.specs.Tree.{Tree, start_of, size, total_size}
-use Rattle.cj_spans.specs.Json.{byte}
+use Rattle.cj_spans.specs.Meaning.Tree.{Tree, start_of, size}
+use Rattle.cj_spans.specs.Forest.{total_size, kind_by, held, past, node, forest}
+use Rattle.cj_spans.specs.Meaning.Json.{byte}
 use Rattle.cj_spans.specs.Preorder.{Span, span_at, spans_of}
-use Rattle.cj_spans.specs.Forest.{kind_by, held, past, node, forest}
-use Rattle.cj_spans.specs.Parts.{kind_of, items_of, members_of}
+use Rattle.cj_spans.specs.Meaning.Parts.{kind_of, items_of, members_of}
 use Rattle.cj_spans.specs.Sound.{AreOf, AreNamed, AreNested, AreLinked, AreLone, AreWhole, ShowMembers, StopBefore, before, is_name, are_members, link_of, shown_between, items_end, members_end}
 use Rattle.cj_spans.specs.Scan.{AreSized}
 use Rattle.cj_spans.specs.View.{tree_at, pairs_of}

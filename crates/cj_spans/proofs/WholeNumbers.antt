@@ -9,10 +9,11 @@ use Rattle.cj_spans.specs.declared.lex.Lex.{Lex}
 use Rattle.cj_spans.specs.declared.lex.Lex.TheVariants.{Minus, Whole, Zero}
 use Rattle.cj_spans.specs.declared.step.Mode.{Mode}
 use Rattle.cj_spans.specs.declared.step.Mode.TheVariants.{Ready, FirstItem, After}
-use Rattle.cj_spans.specs.Spelling.{is_white_space}
-use Rattle.cj_spans.specs.Json.{byte}
+use Rattle.cj_spans.specs.Meaning.Spelling.{is_white_space}
+use Rattle.cj_spans.specs.Meaning.Json.{byte}
 use Rattle.cj_spans.specs.Preorder.{token_at}
-use Rattle.cj_spans.specs.Machine.{State, state, in_atom, moved, step, lex_start, lex_step, Continues, still, further, ComesTo, BeginsValue, IsNumberUpTo, EndsItem, is_digit}
+use Rattle.cj_spans.specs.inner.Machine.{State, state, in_atom, moved, step, lex_start, lex_step, Continues, still}
+use Rattle.cj_spans.specs.inner.Machine.{further, ComesTo, BeginsValue, IsNumberUpTo, EndsItem, is_digit}
 use Rattle.cj_spans.proofs.Runs.{idle, atom_ends, IsEnd, comma, bracket}
 use Rattle.cj_spans.proofs.Atoms.{ends_ok}
 use Rattle.cj_spans.proofs.Signs.{step_on}

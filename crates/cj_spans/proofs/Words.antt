@@ -6,8 +6,8 @@ use Rattle.std.specs.declared.cmp.Ordering.TheVariants.{Less, Equal, Greater}
 use Rattle.std.proofs.lemmas.Bool.{cases_order, cases_lt}
 use Rattle.std.proofs.lemmas.Bool.Decides.{nat_tests}
 use Rattle.std.specs.Int.{from_be_bytes, w64}
-use Rattle.cj_spans.specs.Decoding.{AreAlike, code_points_from}
-use Rattle.cj_spans.specs.Order.{compare, compare_texts, digits, word_of}
+use Rattle.cj_spans.specs.inner.Decoding.{AreAlike, code_points_from}
+use Rattle.cj_spans.specs.Order.{compare, compare_texts, digits, front_word}
 use Rattle.cj_spans.proofs.Texts.{chars_past, plain_code, points_done}
 
 -- ---- the digits by cases
@@ -95,7 +95,7 @@ less_by_digits w (c ∷ cs) (d ∷ ds) h =
       | inr (inr l) ↦ let m = first_no_more w c d cs ds l in absurd (omega arith)
     ]
 
-pub less_by_words : (s t : Option (List ℕ)) → word_of s < word_of t → compare_texts s t ≡ Less
+pub less_by_words : (s t : Option (List ℕ)) → front_word s < front_word t → compare_texts s t ≡ Less
 less_by_words s None h = absurd (omega arith)
 less_by_words None (Some t) h = refl
 less_by_words (Some s) (Some t) h = less_by_digits (256 ^ 7) s t h

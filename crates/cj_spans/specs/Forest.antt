@@ -1,13 +1,18 @@
 -- The trees that a list of spans shows in a line: each span holds those after it that start before it stops. A span's
 -- kind is told by the line's byte at its start.
-use Rattle.std.specs.Prelude.{ℕ, List, [], ◌∷◌, cond, nat_eq, nat_lt, ◌||◌}
+use Rattle.std.specs.Prelude.{ℕ, ◌+◌, List, [], ◌∷◌, cond, nat_eq, nat_lt, ◌||◌}
+use Rattle.cj_spans.specs.Meaning.Tree.{Tree, size, Atom, scalar, array, object, Items, no_items, item, Members}
+use Rattle.cj_spans.specs.Meaning.Tree.{no_members, member, start_of}
 use Rattle.cj_spans.specs.declared.token.Kind.{Kind}
 use Rattle.cj_spans.specs.declared.token.Kind.TheVariants.{Null, Truth, Number, Text, Array, Object}
-use Rattle.cj_spans.specs.Tree.{Atom, Tree, scalar, array, object, Items, no_items, item, Members, no_members, member}
-use Rattle.cj_spans.specs.Tree.{start_of}
-use Rattle.cj_spans.specs.Json.{byte, atom_at}
+use Rattle.cj_spans.specs.Meaning.Json.{byte, atom_at}
 use Rattle.cj_spans.specs.Preorder.{Span}
-use Rattle.cj_spans.specs.Signs.{left_brace, left_bracket, quote, small_f, small_n, small_t}
+use Rattle.cj_spans.specs.Meaning.Signs.{left_brace, left_bracket, quote, small_f, small_n, small_t}
+
+-- that of some trees together
+abbrev pub total_size : List Tree → ℕ
+total_size [] = 0
+total_size (t ∷ ts) = size t + total_size ts
 
 -- the kind of a value that begins with this byte
 abbrev pub kind_by : ℕ → Kind

@@ -1,8 +1,17 @@
 -- Names that begin with characters of different slots, the numbers below 32.
-use Rattle.std.specs.Prelude.{ℕ, ◌%◌, List, [], ◌∷◌, replicate, slice_set, get_or, Bool, true, false, cond}
-use Rattle.std.specs.Prelude.{Option, None, Some}
-use Rattle.cj_spans.specs.Parts.{first_code_of}
-use Rattle.cj_spans.specs.Tree.{Tree}
+use Rattle.std.specs.Prelude.{ℕ, List, [], ◌∷◌, Option, Some, None, option_and_then, ◌%◌, replicate, slice_set, get_or}
+use Rattle.std.specs.Prelude.{Bool, true, false, cond}
+use Rattle.cj_spans.specs.Meaning.Tree.{Tree}
+use Rattle.cj_spans.specs.Meaning.Parts.{text_of}
+
+-- the first of a list
+abbrev pub head : List ℕ → Option ℕ
+head [] = None
+head (c ∷ cs) = Some c
+
+-- the first code point of the text; none where there is no text or it is empty
+abbrev pub first_code_of : Tree → Option ℕ
+first_code_of t = option_and_then head (text_of t)
 
 -- the slot of a first character was free, and so were those of the rest once it is taken
 abbrev pub then_apart : Option ℕ → List Bool → (List Bool → Bool) → Bool

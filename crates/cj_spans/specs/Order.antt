@@ -19,6 +19,6 @@ digits weight [] = 0
 digits weight (c ∷ cs) = cond (nat_lt c 255) (c * weight + digits (weight / 256) cs) (255 * weight)
 
 -- a number below 2^64 of the front of a text: its first eight code points, as those behind them weigh nothing
-abbrev pub word_of : Option (List ℕ) → ℕ
-word_of None = 0
-word_of (Some t) = digits (256 ^ 7) t
+abbrev pub front_word : Option (List ℕ) → ℕ
+front_word None = 0
+front_word (Some t) = digits (256 ^ 7) t

@@ -1,8 +1,8 @@
 -- The tokens of a tree, each before those of its parts.
 use Rattle.std.specs.Prelude.{ℕ, suc, ◌+◌, List, [], ◌∷◌, ◌++◌}
 use Rattle.cj_spans.specs.declared.token.Token.{Token}
-use Rattle.cj_spans.specs.Tree.{Tree, scalar, array, object, Items, no_items, item, Members, no_members, member, size}
-use Rattle.cj_spans.specs.Tree.{items_size, members_size}
+use Rattle.cj_spans.specs.Meaning.Tree.{Tree, scalar, array, object, Items, no_items, item, Members, no_members, member}
+use Rattle.cj_spans.specs.Meaning.Tree.{size, items_size, members_size}
 
 -- where a value or a name starts and stops
 pub record Span : Type 0 where

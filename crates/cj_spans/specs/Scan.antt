@@ -2,9 +2,9 @@
 use Rattle.std.specs.Prelude.{◌≡◌, ℕ, ◌+◌, ◌*◌, ◌≤◌, List, [], ◌∷◌, length, max, slice_get, Some, IsTrue}
 use Rattle.cj_budget.specs.Bounded.{BoundedList, IsWithin, Becomes}
 use Rattle.cj_spans.specs.declared.token.Token.{Token}
-use Rattle.cj_spans.specs.Tree.{Tree, size, nest}
-use Rattle.cj_spans.specs.Json.{Json}
-use Rattle.cj_spans.specs.Front.{Front}
+use Rattle.cj_spans.specs.Meaning.Tree.{Tree, size, nest}
+use Rattle.cj_spans.specs.Meaning.Json.{Json}
+use Rattle.cj_spans.specs.Meaning.Prefix.{JsonPrefix}
 use Rattle.cj_spans.specs.Preorder.{preorder, spans_of}
 use Rattle.cj_spans.specs.Forest.{forest}
 use Rattle.cj_spans.specs.Sound.{link_of, AreLinked}
@@ -33,8 +33,8 @@ pub record IsScanOf (line : List ℕ) (t : Tree) (old_tokens new_tokens : Bounde
 pub record IsDeepest (line : List ℕ) (i n : ℕ) : Type 0 where
   pub place : ℕ
   pub within : place ≤ i
-  pub front : Front line 0 place n
-  pub most : (k m : ℕ) → k ≤ i → Front line 0 k m → m ≤ n
+  pub front : JsonPrefix line 0 place n
+  pub most : (k m : ℕ) → k ≤ i → JsonPrefix line 0 k m → m ≤ n
 
 -- the peak is the greater of the old one and that number
 pub record HasPeakAt (line : List ℕ) (i : ℕ) (old new : BoundedList ℕ) : Type 0 where

@@ -4,13 +4,13 @@ use Rattle.std.specs.Prelude.{true, false, ◌&&◌, cond, nat_lt, Some, slice_g
 use Rattle.cj_spans.specs.declared.token.Kind.TheVariants.{Text, Null, Truth, Number, Array, Object}
 use Rattle.cj_spans.specs.declared.token.Kind.{Kind}
 use Rattle.cj_spans.specs.declared.token.Token.{Token}
-use Rattle.cj_spans.specs.Tree.{Tree, scalar, array, object, size, total_size}
-use Rattle.cj_spans.specs.Json.{Json, byte}
+use Rattle.cj_spans.specs.Meaning.Tree.{Tree, scalar, array, object, size}
+use Rattle.cj_spans.specs.Forest.{total_size, forest, held, kind_by}
+use Rattle.cj_spans.specs.Meaning.Json.{Json, byte}
 use Rattle.cj_spans.specs.Preorder.{spans_of}
-use Rattle.cj_spans.specs.Forest.{forest, held, kind_by}
-use Rattle.cj_spans.specs.Kinds.{is_text}
-use Rattle.cj_spans.specs.Signs.{left_brace, left_bracket, quote, right_bracket}
-use Rattle.cj_spans.specs.Spelling.{IsNumber}
+use Rattle.cj_spans.specs.Meaning.Kinds.{is_text}
+use Rattle.cj_spans.specs.Meaning.Signs.{left_brace, left_bracket, quote, right_bracket}
+use Rattle.cj_spans.specs.Meaning.Spelling.{IsNumber}
 
 -- how many tokens at the front start before the place
 abbrev pub before : ℕ → List Token → ℕ

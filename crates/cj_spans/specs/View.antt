@@ -8,8 +8,8 @@ use Rattle.cj_spans.specs.declared.node.Doc.{Doc}
 use Rattle.cj_spans.specs.declared.node.Node.{Node}
 use Rattle.cj_spans.specs.declared.node.Items.{Items}
 use Rattle.cj_spans.specs.declared.node.Members.{Members}
-use Rattle.cj_spans.specs.Tree.{Tree, scalar}
-use Rattle.cj_spans.specs.Json.{byte, atom_at}
+use Rattle.cj_spans.specs.Meaning.Tree.{Tree, scalar}
+use Rattle.cj_spans.specs.Meaning.Json.{byte, atom_at}
 use Rattle.cj_spans.specs.Preorder.{Span, spans_of}
 use Rattle.cj_spans.specs.Forest.{forest, held, kind_by, node}
 use Rattle.cj_spans.specs.Sound.{shown_between}

@@ -9,13 +9,12 @@ ghost use Rattle.cj_spans.specs.declared.token.Kind.TheVariants.{Array};
 ghost use Rattle.cj_spans.specs.declared.token.Token.{Token as TokenOf};
 ghost use Rattle.cj_spans.specs.declared.step.Mode.{Mode as ModeOf};
 ghost use Rattle.cj_spans.specs.declared.step.Mode.TheVariants.{FirstItem, After};
-ghost use Rattle.cj_spans.specs.Json.{byte as byte_of};
+ghost use Rattle.cj_spans.specs.Meaning.Json.{byte as byte_of};
 ghost use Rattle.cj_spans.specs.Preorder.{token_at};
-ghost use Rattle.cj_spans.specs.Machine.{state, between, read as read_of, Kept, Grown, InArray, BeginsValue};
-ghost use Rattle.cj_spans.specs.Machine.{MayCloseArray};
-ghost use Rattle.cj_spans.specs.Machine.{StaysInArrayNext, FitsToken, IsNumberUpTo};
-ghost use Rattle.cj_spans.specs.Pass.{Standing, Stands, StandsIn, LeadsIn, GoesOn, GoesInto, IsInside};
-ghost use Rattle.cj_spans.specs.Pass.{ComesArray, KeepsTokens, EndsArray, EndsItems, ReadsNumbers};
+ghost use Rattle.cj_spans.specs.inner.Machine.{state, between, read as read_of, Kept, Grown, InArray, BeginsValue};
+ghost use Rattle.cj_spans.specs.inner.Machine.{MayCloseArray, StaysInArrayNext, FitsToken, IsNumberUpTo};
+ghost use Rattle.cj_spans.specs.inner.Pass.{Standing, Stands, StandsIn, LeadsIn, GoesOn, GoesInto, IsInside};
+ghost use Rattle.cj_spans.specs.inner.Pass.{ComesArray, KeepsTokens, EndsArray, EndsItems, ReadsNumbers};
 
 use crate::bytes::{is_digit, stands_at};
 use crate::fault::LineFault;

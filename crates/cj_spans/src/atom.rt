@@ -5,9 +5,9 @@
 ghost use Rattle.std.specs.Prelude.{◌≡◌, ◌+◌, ◌≤◌, ◌<◌, ℕ, length, suc, IfSome, IsTrue, Some};
 ghost use Rattle.cj_spans.specs.declared.lex.Lex.{Lex as LexOf};
 ghost use Rattle.cj_spans.specs.declared.lex.Lex.TheVariants.{Fraction, Hex4, InString, Minus, Point, Whole, Zero};
-ghost use Rattle.cj_spans.specs.Json.{byte as byte_of};
-ghost use Rattle.cj_spans.specs.Machine.{lex_step as lex_step_of, Continues, Halts};
-ghost use Rattle.cj_spans.specs.Atom.{GoesTo, ReadsTo};
+ghost use Rattle.cj_spans.specs.Meaning.Json.{byte as byte_of};
+ghost use Rattle.cj_spans.specs.inner.Machine.{lex_step as lex_step_of, Continues, Halts};
+ghost use Rattle.cj_spans.specs.inner.Atom.{GoesTo, ReadsTo};
 
 use crate::bytes::{is_digit, is_escape, is_hex, stands_at};
 use crate::lex::{Lex, ends_string, lex_step, skip, skip_digits, skip_plain};

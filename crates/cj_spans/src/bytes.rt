@@ -1,9 +1,9 @@
 //! The classes of bytes in the grammar of JSON.
 ghost use Rattle.std.specs.Prelude.{◌≡◌, ◌<◌, length, IsTrue};
-ghost use Rattle.cj_spans.specs.Json.{byte as byte_of};
-ghost use Rattle.cj_spans.specs.Spelling.{is_white_space as is_white_space_of, is_hex as is_hex_of};
-ghost use Rattle.cj_spans.specs.Spelling.{is_plain as is_plain_of, is_escape as is_escape_of};
-ghost use Rattle.cj_spans.specs.Machine.{is_digit as is_digit_of};
+ghost use Rattle.cj_spans.specs.Meaning.Json.{byte as byte_of};
+ghost use Rattle.cj_spans.specs.Meaning.Spelling.{is_white_space as is_white_space_of, is_hex as is_hex_of};
+ghost use Rattle.cj_spans.specs.Meaning.Spelling.{is_plain as is_plain_of, is_escape as is_escape_of};
+ghost use Rattle.cj_spans.specs.inner.Machine.{is_digit as is_digit_of};
 
 /// Returns whether the byte is one of the four that may surround values, names and signs.
 pub fn is_white_space(byte: u8) -> bool

@@ -1,7 +1,7 @@
 //! Why a line is not a JSON text within the limits.
 ghost use Rattle.std.specs.Prelude.{◌≡◌};
 ghost use Rattle.cj_spans.specs.declared.fault.ScanFault.TheVariants.{Memory};
-ghost use Rattle.cj_spans.specs.Judgement.{widened_fault};
+ghost use Rattle.cj_spans.specs.Answers.{widened_fault};
 
 use cj_budget::NoMemory;
 use thiserror::Error;

@@ -4,7 +4,7 @@ ghost use Rattle.std.proofs.Common.{rules};
 ghost use Rattle.std.specs.Cmp.{partial_order_from_own_ties, both_tied, unsigned_ties};
 ghost use Rattle.std.specs.Cmp.Rules.{comparing};
 ghost use Rattle.std.specs.Ordering.{nat_cmp, on, eq_of_both, then_cmp, as_partial_cmp};
-ghost use Rattle.cj_spans.specs.Reason.{code_of};
+ghost use Rattle.cj_spans.specs.Meaning.Reason.{code_of};
 
 use crate::reason::Reason;
 use std::cmp::Ordering;

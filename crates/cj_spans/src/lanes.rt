@@ -1,10 +1,10 @@
 //! Bytes of a line, 16 or more at a time.
 ghost use Rattle.std.specs.Prelude.{◌≡◌, ◌+◌, ◌^◌, ◌≤◌, ◌<◌, length, ℕ, true, IfSome, IfNone, IsTrue};
-ghost use Rattle.cj_spans.specs.Decoding.{AreAlike};
-ghost use Rattle.cj_spans.specs.Spelling.{is_plain as is_plain_of};
-ghost use Rattle.cj_spans.specs.Json.{byte as byte_of};
-ghost use Rattle.cj_spans.specs.Machine.{is_digit as is_digit_of};
-ghost use Rattle.cj_spans.specs.Wholes.{IsWholeSign, AreMarked, AreMarkedTo};
+ghost use Rattle.cj_spans.specs.inner.Decoding.{AreAlike};
+ghost use Rattle.cj_spans.specs.Meaning.Spelling.{is_plain as is_plain_of};
+ghost use Rattle.cj_spans.specs.Meaning.Json.{byte as byte_of};
+ghost use Rattle.cj_spans.specs.inner.Machine.{is_digit as is_digit_of};
+ghost use Rattle.cj_spans.specs.inner.Wholes.{IsWholeSign, AreMarked, AreMarkedTo};
 
 use std::simd::prelude::*;
 

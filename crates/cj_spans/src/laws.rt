@@ -6,11 +6,12 @@ ghost use Rattle.std.specs.List.{list_any};
 ghost use Rattle.std.specs.Str.{chars, IsUtf8};
 ghost use Rattle.std.specs.Cmp.{IsTotalOrder};
 ghost use Rattle.std.specs.declared.cmp.Ordering.TheVariants.{Less, Equal};
-ghost use Rattle.cj_spans.specs.Order.{compare, compare_texts, word_of};
-ghost use Rattle.cj_spans.specs.Signs.{backslash, quote, space};
-ghost use Rattle.cj_spans.specs.Spelling.{IsString, is_hex, is_plain, is_escape};
-ghost use Rattle.cj_spans.specs.Text.{text, body_of, StandFor};
-ghost use Rattle.cj_spans.specs.Judgement.{Judgement, SaySame};
+ghost use Rattle.cj_spans.specs.Order.{compare, compare_texts, front_word};
+ghost use Rattle.cj_spans.specs.Meaning.Signs.{backslash, quote, space};
+ghost use Rattle.cj_spans.specs.Meaning.Spelling.{IsString, is_hex, is_plain, is_escape};
+ghost use Rattle.cj_spans.specs.Meaning.Text.{text, body_of};
+ghost use Rattle.cj_spans.specs.Meaning.StandFor.{StandFor};
+ghost use Rattle.cj_spans.specs.Meaning.Judgement.{Judgement, SaySame};
 
 /// A string has one text (RFC 8259, section 7). The grammar gives code points for the characters
 /// between the quotes of a string in UTF-8. The text of the string is these code points and no
@@ -46,5 +47,5 @@ pub fn texts_are_ordered()
 /// The result of [`crate::Node::text_word`] follows the order of texts: a text with a lesser word
 /// is less.
 pub fn words_are_ordered()
-    ensures { (s t : OptionOf (List ℕ)) → word_of s < word_of t → compare_texts s t ≡ Less }
+    ensures { (s t : OptionOf (List ℕ)) → front_word s < front_word t → compare_texts s t ≡ Less }
 {}

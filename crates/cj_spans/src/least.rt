@@ -1,7 +1,8 @@
 //! The least finding of a line.
 ghost use Rattle.std.specs.Prelude.{◌≡◌, ◌∷◌, ◌++◌, List, Option as OptionOf, None};
 ghost use Rattle.cj_spans.specs.declared.finding.Finding.{Finding as FindingOf};
-ghost use Rattle.cj_spans.specs.Finding.{lesser, least, list_found, is_before as is_before_of, IsLeast, HaveSame};
+ghost use Rattle.cj_spans.specs.Meaning.Finding.{lesser, least, is_before as is_before_of};
+ghost use Rattle.cj_spans.specs.Meaning.Least.{list_found, IsLeast, HaveSame};
 
 use crate::finding::Finding;
 use std::marker::Model;

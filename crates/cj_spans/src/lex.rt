@@ -2,12 +2,13 @@
 ghost use Rattle.std.specs.Prelude.{◌≡◌, ◌≤◌, ◌<◌, ℕ, length, IfSome, IsTrue, Some, true, false};
 ghost use Rattle.cj_spans.specs.declared.lex.Lex.{Lex as LexOf};
 ghost use Rattle.cj_spans.specs.declared.lex.Lex.TheVariants.{InString};
-ghost use Rattle.cj_spans.specs.Json.{byte as byte_of};
-ghost use Rattle.cj_spans.specs.Machine.{is_digit as is_digit_of, lex_start as lex_start_of, lex_step as lex_step_of};
-ghost use Rattle.cj_spans.specs.Machine.{lex_kind as lex_kind_of, one as one_of, hex as hex_of, mark as mark_of};
-ghost use Rattle.cj_spans.specs.Machine.{point_or_mark as point_or_mark_of, zero_or_whole as zero_or_whole_of};
-ghost use Rattle.cj_spans.specs.Machine.{sign_mark as sign_mark_of, string_step as string_step_of};
-ghost use Rattle.cj_spans.specs.Machine.{escape_step as escape_step_of, digit_or as digit_or_of, Continues, IsQuoted};
+ghost use Rattle.cj_spans.specs.Meaning.Json.{byte as byte_of};
+ghost use Rattle.cj_spans.specs.inner.Machine.{is_digit as is_digit_of, lex_start as lex_start_of};
+ghost use Rattle.cj_spans.specs.inner.Machine.{lex_step as lex_step_of, lex_kind as lex_kind_of, one as one_of};
+ghost use Rattle.cj_spans.specs.inner.Machine.{hex as hex_of, mark as mark_of, point_or_mark as point_or_mark_of};
+ghost use Rattle.cj_spans.specs.inner.Machine.{zero_or_whole as zero_or_whole_of, sign_mark as sign_mark_of};
+ghost use Rattle.cj_spans.specs.inner.Machine.{string_step as string_step_of, escape_step as escape_step_of};
+ghost use Rattle.cj_spans.specs.inner.Machine.{digit_or as digit_or_of, Continues, IsQuoted};
 
 use crate::bytes::{is_digit, is_escape, is_hex, is_plain};
 use crate::lanes::{LANES, find_other, find_special};

@@ -9,10 +9,10 @@ ghost use Rattle.cj_budget.specs.Bounded.{Becomes, BoundedList};
 ghost use Rattle.cj_spans.specs.declared.token.Kind.TheVariants.{Object};
 ghost use Rattle.cj_spans.specs.declared.token.Token.{Token as TokenOf};
 ghost use Rattle.cj_spans.specs.declared.step.Mode.TheVariants.{Ready, FirstItem};
-ghost use Rattle.cj_spans.specs.Json.{byte as byte_of};
+ghost use Rattle.cj_spans.specs.Meaning.Json.{byte as byte_of};
 ghost use Rattle.cj_spans.specs.Preorder.{token_at};
-ghost use Rattle.cj_spans.specs.Machine.{IsQuoted, BeginsName, InObject, StaysInObjectNext};
-ghost use Rattle.cj_spans.specs.Pass.{Standing, Stands, StandsIn, LeadsIn, GoesInto, IsInside};
+ghost use Rattle.cj_spans.specs.inner.Machine.{IsQuoted, BeginsName, InObject, StaysInObjectNext};
+ghost use Rattle.cj_spans.specs.inner.Pass.{Standing, Stands, StandsIn, LeadsIn, GoesInto, IsInside};
 
 use crate::bytes::stands_at;
 use crate::fault::LineFault;

@@ -2,7 +2,7 @@
 ghost use Rattle.std.specs.Prelude.{◌≡◌, ◌<◌, ◌≤◌, ◌+◌, length, drop};
 ghost use Rattle.cj_spans.specs.Preorder.{spans_of};
 ghost use Rattle.cj_spans.specs.Sound.{AreOf, before};
-ghost use Rattle.cj_spans.specs.Tree.{size};
+ghost use Rattle.cj_spans.specs.Meaning.Tree.{size};
 ghost use Rattle.cj_spans.specs.View.{tree_at};
 
 use crate::node::token_at;

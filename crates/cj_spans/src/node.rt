@@ -17,11 +17,11 @@ ghost use Rattle.std.specs.Prelude.{IsTrue};
 ghost use Rattle.cj_spans.specs.Sound.{AreOf, AreFull, AreWithin, AreRising, AreNested, AreNamed, AreSpelled};
 ghost use Rattle.cj_spans.specs.Sound.{AreLinked, AreLone};
 ghost use Rattle.cj_spans.specs.Sound.{AreWhole, ShowMembers, before};
-ghost use Rattle.cj_spans.specs.Tree.{Tree};
-ghost use Rattle.cj_spans.specs.declared.token.Token.{Token as TokenOf};
-ghost use Rattle.cj_spans.specs.Json.{Json, byte};
-ghost use Rattle.cj_spans.specs.Forest.{kind_by};
 ghost use Rattle.cj_spans.specs.Sound.{items_end as items_end_of, members_end as members_end_of};
+ghost use Rattle.cj_spans.specs.Meaning.Tree.{Tree};
+ghost use Rattle.cj_spans.specs.declared.token.Token.{Token as TokenOf};
+ghost use Rattle.cj_spans.specs.Meaning.Json.{Json, byte};
+ghost use Rattle.cj_spans.specs.Forest.{kind_by};
 
 use crate::lanes::are_whole_signs;
 use crate::mark::{LINKS, has_mark};
@@ -191,9 +191,11 @@ impl<'a> Doc<'a> {
 
 impl<'a> Node<'a> {
     ghost use Rattle.cj_spans.specs.declared.token.Kind.TheVariants.{Number};
-    ghost use Rattle.cj_spans.specs.Parts.{kind_of, spelling_of, items_of, members_of, AreInOrder, AreInValueOrder};
-    ghost use Rattle.cj_spans.specs.Spelling.{IsNumber};
-    ghost use Rattle.cj_spans.specs.Tree.{start_of, size, total_size};
+    ghost use Rattle.cj_spans.specs.Meaning.Parts.{kind_of, items_of, members_of};
+    ghost use Rattle.cj_spans.specs.Places.{spelling_of, AreNamesInOrder, AreValuesInOrder};
+    ghost use Rattle.cj_spans.specs.Meaning.Spelling.{IsNumber};
+    ghost use Rattle.cj_spans.specs.Meaning.Tree.{start_of, size};
+    ghost use Rattle.cj_spans.specs.Forest.{total_size};
     ghost use Rattle.cj_spans.specs.View.{tree, line_of, source_of, items_left, items_line, items_source, members_left};
     ghost use Rattle.cj_spans.specs.View.{members_line, members_source};
 
@@ -323,8 +325,8 @@ impl<'a> Node<'a> {
     /// other value has none.
     pub fn members(self) -> Members<'a>
         ensures members { members_left result ≡ members_of (tree self.entry) }
-        ensures order { AreInOrder (members_left result) }
-        ensures values { AreInValueOrder (members_left result) }
+        ensures order { AreNamesInOrder (members_left result) }
+        ensures values { AreValuesInOrder (members_left result) }
         ensures line { members_line result ≡ line_of self.entry }
         ensures source { members_source result ≡ source_of self.entry }
         ensures few { length (members_left result) < 2 ^ 63 }
@@ -340,7 +342,7 @@ const FEW_BYTES: usize = 21;
 impl<'a> Node<'a> {
     ghost use Rattle.std.specs.Prelude.{All};
     ghost use Rattle.cj_spans.specs.declared.token.Kind.TheVariants.{Array};
-    ghost use Rattle.cj_spans.specs.Parts.{kind_of, items_of};
+    ghost use Rattle.cj_spans.specs.Meaning.Parts.{kind_of, items_of};
     ghost use Rattle.cj_spans.specs.View.{tree, line_of};
     ghost use Rattle.cj_spans.specs.Wholes.{IsShortWhole};
 
@@ -419,13 +421,13 @@ impl<'a> Node<'a> {
 impl<'a> Node<'a> {
     ghost use Rattle.std.specs.Prelude.{option_map, IfSome, ◌↔◌, true};
     ghost use Rattle.std.specs.Str.{chars};
-    ghost use Rattle.cj_spans.specs.Initials.{begin_apart};
-    ghost use Rattle.cj_spans.specs.Parts.{text_of, are_same_texts, has_text, first_code_of, member_of, members_of};
-    ghost use Rattle.cj_spans.specs.Decoding.{code_points_left};
-    ghost use Rattle.cj_spans.specs.Text.{text};
+    ghost use Rattle.cj_spans.specs.Initials.{begin_apart, first_code_of};
+    ghost use Rattle.cj_spans.specs.Meaning.Parts.{text_of, are_same_texts, has_text, member_of, members_of};
+    ghost use Rattle.cj_spans.specs.inner.Decoding.{code_points_left};
+    ghost use Rattle.cj_spans.specs.Meaning.Text.{text};
     ghost use Rattle.cj_spans.specs.Tail.{tail_of};
     ghost use Rattle.cj_spans.specs.Mix.{mix_of};
-    ghost use Rattle.cj_spans.specs.Order.{compare_texts, word_of};
+    ghost use Rattle.cj_spans.specs.Order.{compare_texts, front_word};
     ghost use Rattle.cj_spans.specs.View.{tree, tree_in, line_of, source_of};
 
     /// Returns the spelling of a string or a name, with its quotes. None for any other value.
@@ -535,7 +537,7 @@ impl<'a> Node<'a> {
     /// A text with a lesser number is less, by the law [`crate::laws::words_are_ordered`]. So two
     /// numbers order most texts, without a look at the line.
     pub fn text_word(self) -> u64
-        ensures { result ≡ word_of (text_of (tree self.entry)) }
+        ensures { result ≡ front_word (text_of (tree self.entry)) }
     {
         match self.points() {
             Some(points) => word(points),
@@ -647,9 +649,9 @@ const SLOTS: usize = 32;
 impl<'a> Members<'a> {
     ghost use Rattle.std.specs.Prelude.{◌%◌, option_map, replicate, [], true, IfSome};
     ghost use Rattle.std.specs.Str.{chars};
-    ghost use Rattle.cj_spans.specs.Initials.{begin_apart};
-    ghost use Rattle.cj_spans.specs.Noted.{AreNoted, members_from, note, is_free};
-    ghost use Rattle.cj_spans.specs.Parts.{head, first_named};
+    ghost use Rattle.cj_spans.specs.Initials.{begin_apart, head};
+    ghost use Rattle.cj_spans.specs.inner.Noted.{AreNoted, members_from, note, is_free};
+    ghost use Rattle.cj_spans.specs.Meaning.Parts.{first_named};
     ghost use Rattle.cj_spans.specs.View.{tree_in, members_left, members_source};
 
     /// Returns the slot of the first character of a text. None if it has none that is ASCII.

@@ -2,8 +2,8 @@
 ghost use Rattle.std.specs.Prelude.{◌≡◌, ◌+◌, ◌^◌, ◌≤◌, ◌<◌, ℕ, length, IfSome};
 ghost use Rattle.cj_spans.specs.declared.lex.Lex.{Lex as LexOf};
 ghost use Rattle.cj_spans.specs.declared.lex.Lex.TheVariants.{Whole};
-ghost use Rattle.cj_spans.specs.Json.{byte as byte_of};
-ghost use Rattle.cj_spans.specs.Machine.{Continues, IsNumberUpTo};
+ghost use Rattle.cj_spans.specs.Meaning.Json.{byte as byte_of};
+ghost use Rattle.cj_spans.specs.inner.Machine.{Continues, IsNumberUpTo};
 
 use crate::bytes::is_digit;
 use crate::lex::{Lex, skip_digits};

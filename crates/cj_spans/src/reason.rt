@@ -1,6 +1,7 @@
 //! Why a line is invalid.
 ghost use Rattle.std.specs.Prelude.{◌≡◌};
-ghost use Rattle.cj_spans.specs.Reason.{code_of, words_of};
+ghost use Rattle.cj_spans.specs.Meaning.Reason.{code_of};
+ghost use Rattle.cj_spans.specs.Meaning.ReasonWords.{words_of};
 
 /// Why a line is invalid. A reason has a code and a text. The code orders the findings at one byte.
 #[derive(Clone, Copy, Debug, PartialEq, Eq)]

@@ -1,6 +1,6 @@
 //! The scanner: the pass over a line.
 //!
-//! The *machine* (`specs/Machine.antt`) reads one byte per step. Proofs use it, and only private
+//! The *machine* (`specs/inner/Machine.antt`) reads one byte per step. Proofs use it, and only private
 //! clauses cite it. Public clauses use the grammar (`Json`), prefixes and trees. So a change of the
 //! grammar changes `Spelling`, `Json`, `Front` and `Machine`. A faster body changes none of them.
 //!
@@ -20,21 +20,21 @@ ghost use Rattle.std.specs.Prelude.{◌≡◌, ◌+◌, ◌*◌, ◌/◌, ◌^�
 ghost use Rattle.std.specs.Prelude.{IfOk, IsOk, IsErrOf, IsTrue, IsUtf8};
 ghost use Rattle.std.specs.Str.{IsValidUpTo};
 ghost use Rattle.cj_budget.specs.Bounded.{BoundedList, IsWithin};
-ghost use Rattle.cj_budget.specs.Counts.{HasRisen};
+ghost use Rattle.cj_budget.specs.Meaning.Counts.{HasRisen};
 ghost use Rattle.cj_spans.specs.declared.step.Mode.TheVariants.{After};
-ghost use Rattle.cj_spans.specs.Tree.{Tree, nest};
-ghost use Rattle.cj_spans.specs.Json.{Json};
-ghost use Rattle.cj_spans.specs.Front.{SyntaxAt, DeepAt, NowhereDeep};
-ghost use Rattle.cj_spans.specs.Begins.{IsFirstFault, IsFirstTooDeep};
+ghost use Rattle.cj_spans.specs.Meaning.Tree.{Tree, nest};
+ghost use Rattle.cj_spans.specs.Meaning.Json.{Json, byte as byte_of};
+ghost use Rattle.cj_spans.specs.Meaning.Prefix.{SyntaxAt, DeepAt, NowhereDeep};
+ghost use Rattle.cj_spans.specs.Meaning.Begins.{IsFirstFault, IsFirstTooDeep};
 ghost use Rattle.cj_spans.specs.Marks.{AreUnmarked};
 ghost use Rattle.cj_spans.specs.Scan.{IsScanOf, AreSized, HasPeakAt, KeepsLaw, IsEmptied};
-ghost use Rattle.cj_spans.specs.Judgement.{Judgement, IsAnswerOf, IsReservedAnswerOf};
-ghost use Rattle.cj_spans.specs.Json.{byte as byte_of};
+ghost use Rattle.cj_spans.specs.Meaning.Judgement.{Judgement};
+ghost use Rattle.cj_spans.specs.Answers.{IsAnswerOf, IsReservedAnswerOf};
 ghost use Rattle.cj_spans.specs.declared.token.Token.{Token as TokenOf};
-ghost use Rattle.cj_spans.specs.Machine.{State, state, between, in_atom, ComesTo, phase_after, EndAnswers, Grown};
-ghost use Rattle.cj_spans.specs.Machine.{BeginsAtom, BeginsValue, BeginsValueNext, BeginsNameNext, InArray, InObject};
-ghost use Rattle.cj_spans.specs.Machine.{StaysInArrayNext, StaysInObjectNext, RunAnswers};
-ghost use Rattle.cj_spans.specs.Pass.{Standing, Stands, GoesOn, GoesInto, IsInside};
+ghost use Rattle.cj_spans.specs.inner.Machine.{State, state, between, in_atom, ComesTo, phase_after, EndAnswers, Grown};
+ghost use Rattle.cj_spans.specs.inner.Machine.{BeginsAtom, BeginsValue, BeginsValueNext, BeginsNameNext, InArray};
+ghost use Rattle.cj_spans.specs.inner.Machine.{InObject, StaysInArrayNext, StaysInObjectNext, RunAnswers};
+ghost use Rattle.cj_spans.specs.inner.Pass.{Standing, Stands, GoesOn, GoesInto, IsInside};
 
 use crate::arrays::{enters_array, read_arrays};
 use crate::atom::read_atom;

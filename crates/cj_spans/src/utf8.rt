@@ -5,7 +5,7 @@
 //! general check reads only what they leave.
 ghost use Rattle.std.specs.Prelude.{◌≡◌, ◌+◌, ◌≤◌, ◌<◌, length, take, ℕ, IfErr, IsUtf8, OnOk};
 ghost use Rattle.std.specs.Str.{IsValidUpTo};
-ghost use Rattle.cj_spans.specs.Json.{byte as byte_of};
+ghost use Rattle.cj_spans.specs.Meaning.Json.{byte as byte_of};
 
 use crate::lanes::{BLOCK, LANES, find_beyond_ascii, is_ascii_block};
 use simdutf8::compat::from_utf8;

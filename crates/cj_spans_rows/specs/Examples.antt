@@ -4,10 +4,10 @@ use Rattle.cj_spans.specs.declared.token.Kind.{Kind}
 use Rattle.cj_spans.specs.declared.token.Kind.TheVariants.{Null, Truth, Number, Text, Array, Object}
 use Rattle.cj_spans.specs.declared.reason.Reason.TheVariants.{WrongKind, MissingMember}
 use Rattle.cj_spans.specs.declared.finding.Finding.{Finding}
-use Rattle.cj_spans.specs.Finding.{found_at}
-use Rattle.cj_spans.specs.Parts.{kind_of, items_of, member_of}
-use Rattle.cj_spans.specs.Tree.{Tree, start_of, scalar, array, object, no_items, no_members, member}
-use Rattle.cj_spans.specs.Json.{atom_at}
+use Rattle.cj_spans.specs.Meaning.Finding.{found_at}
+use Rattle.cj_spans.specs.Meaning.Parts.{kind_of, items_of, member_of}
+use Rattle.cj_spans.specs.Meaning.Tree.{Tree, start_of, scalar, array, object, no_items, no_members, member}
+use Rattle.cj_spans.specs.Meaning.Json.{atom_at}
 
 -- the line of the tree
 abbrev pub line : List ℕ

@@ -4,11 +4,11 @@
 //! the layers above write them.
 ghost use Rattle.std.specs.Prelude.{◌≡◌, ◌∷◌, [], codes, ℕ};
 ghost use Rattle.cj_spans.specs.declared.token.Kind.TheVariants.{Number};
-ghost use Rattle.cj_spans.specs.Tree.{scalar, array, no_items, item, size, nest};
+ghost use Rattle.cj_spans.specs.Meaning.Tree.{scalar, array, no_items, item, size, nest};
 ghost use Rattle.cj_spans_rows.specs.Examples.{seven};
-ghost use Rattle.cj_spans.specs.Json.{Json, atom_at};
-ghost use Rattle.cj_spans.specs.Front.{SyntaxAt, DeepAt};
-ghost use Rattle.cj_spans.specs.Begins.{IsFirstFault};
+ghost use Rattle.cj_spans.specs.Meaning.Json.{Json, atom_at};
+ghost use Rattle.cj_spans.specs.Meaning.Prefix.{SyntaxAt, DeepAt};
+ghost use Rattle.cj_spans.specs.Meaning.Begins.{IsFirstFault};
 
 mod findings;
 mod rules;

@@ -6,7 +6,7 @@ use Rattle.std.proofs.lemmas.List.{append-nil, length-map, take-append-le}
 use Rattle.std.proofs.lemmas.List.Elements.{filter-append}
 use Rattle.std.proofs.lemmas.List.Folds.{list_all-append}
 use Rattle.std.proofs.Math.Seq.{take-append-add}
-use Rattle.cj_budget.specs.Limits.{LimitPair}
+use Rattle.cj_budget.specs.Meaning.Limits.{LimitPair}
 use Rattle.cj_budget.specs.declared.limits.Peaks.{Peaks}
 use Rattle.cj_spans.specs.declared.reason.Reason.{Reason}
 use Rattle.cj_stream.specs.declared.ending.End.{End}

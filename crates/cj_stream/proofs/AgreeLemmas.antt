@@ -4,9 +4,9 @@ use Rattle.std.specs.Prelude.{not, ◌&&◌, ◌||◌, option_map, unwrap_or}
 use Rattle.std.specs.List.{cons_option, filter_map, find, flat_map}
 use Rattle.std.proofs.lemmas.Bool.Decides.{nat_tests}
 use Rattle.std.proofs.lemmas.List.Sums.{take_while-cons}
-use Rattle.cj_spans.specs.Tree.{Tree, nest}
-use Rattle.cj_spans.specs.Json.{Json}
-use Rattle.cj_spans.specs.Judgement.{Judgement, spelled, broken, sunk}
+use Rattle.cj_spans.specs.Meaning.Tree.{Tree, nest}
+use Rattle.cj_spans.specs.Meaning.Json.{Json}
+use Rattle.cj_spans.specs.Meaning.Judgement.{Judgement, spelled, broken, sunk}
 use Rattle.cj_spans.proofs.Judgements.{judgement, say_same}
 use Rattle.cj_stream.specs.declared.ending.End.{End}
 use Rattle.cj_stream.specs.declared.ending.End.TheVariants.{Complete}

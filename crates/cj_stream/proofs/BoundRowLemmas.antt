@@ -2,10 +2,10 @@
 use Rattle.std.proofs.Common.{◌≡◌, ℕ, ◌+◌, ◌≤◌, List, [], ◌∷◌, ◌++◌, true, length, max, min, refl, ap, arith, lit≤}
 use Rattle.std.specs.Str.{is_utf8}
 use Rattle.std.proofs.lemmas.Str.{is_utf8-from_IsUtf8}
-use Rattle.cj_budget.specs.Limits.{LimitPair}
-use Rattle.cj_spans.specs.Json.{Json}
-use Rattle.cj_spans.specs.Judgement.{Judgement, spelled, broken, sunk, judged_size, judged_nest}
-use Rattle.cj_spans.specs.Tree.{Tree, size, nest}
+use Rattle.cj_budget.specs.Meaning.Limits.{LimitPair}
+use Rattle.cj_spans.specs.Meaning.Json.{Json}
+use Rattle.cj_spans.specs.Meaning.Judgement.{Judgement, spelled, broken, sunk, judged_size, judged_nest}
+use Rattle.cj_spans.specs.Meaning.Tree.{Tree, size, nest}
 use Rattle.cj_spans.proofs.Judgements.{judgement, say_same}
 use Rattle.cj_stream.specs.Bound.{tree_size, tree_nest, contents, exact_peaks}
 use Rattle.cj_stream.specs.BoundRows.{usual, held, EmptyRow, HeaderRow, CutRow, EdgeRow, ExactRow}

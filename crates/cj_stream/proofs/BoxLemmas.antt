@@ -9,15 +9,14 @@ use Rattle.std.specs.declared.cmp.Ordering.TheVariants.{Less, Equal, Greater}
 use Rattle.std.proofs.Math.Nat.{mul-le-mul_right}
 use Rattle.std.proofs.lemmas.List.{get_or_default}
 use Rattle.std.proofs.lemmas.Int.{ints, to_z-of_z, fits_signed_from_abs, fold-int_min_bounds, fold-int_max_bounds}
-use Rattle.cj_decimal.specs.Affine.{AffineMap, image}
-use Rattle.cj_spans.specs.Tree.{Tree}
-use Rattle.cj_spans.specs.Kinds.{is_number}
-use Rattle.cj_spans.specs.Parts.{kind_of, items_of}
-use Rattle.cj_decimal.specs.Class.{Class, no_number, out_of_range, not_whole, whole}
-use Rattle.cj_decimal.proofs.Classes.{class}
-use Rattle.cj_geometry.specs.Rule.{spelling, whole_by, whole_of}
-use Rattle.cj_feature.specs.Shown.{maps_of, maps_if}
-use Rattle.cj_feature.specs.Typed.{vertex_of, number_on}
+use Rattle.cj_decimal.specs.Meaning.Affine.{AffineMap, image}
+use Rattle.cj_spans.specs.Meaning.Tree.{Tree}
+use Rattle.cj_spans.specs.Meaning.Parts.{items_of}
+use Rattle.cj_geometry.specs.Meaning.Numbers.{whole_of}
+use Rattle.cj_geometry.proofs.Numbers.{whole-small}
+use Rattle.cj_feature.specs.Meaning.Transform.{maps_of}
+use Rattle.cj_feature.specs.Shown.{maps_if}
+use Rattle.cj_feature.specs.Meaning.CityObject.{vertex_of, number_on}
 use Rattle.cj_stream.specs.declared.query.extent.Range.{Range}
 use Rattle.cj_stream.specs.Meaning.Criteria.{Box, axis_map, vertices_of, some_at_most, some_at_least, is_in}
 use Rattle.cj_stream.specs.Extent.{alone, widened, range_of, meets, IsSmall}
@@ -209,20 +208,9 @@ or_second a b c d e f g = rw (e, f) g
 
 -- ---- the numbers of vertices
 
-whole_small : {s : List ℕ} (c : Class s) → unsigned_abs (unwrap_or (whole_by c) (pos 0)) < 10 ^ 18
-whole_small (no_number n) = omega arith
-whole_small (out_of_range n) = omega arith
-whole_small (not_whole v value range n) = omega arith
-whole_small (whole v w value range is) = is.small
-
-of_small : (number : Bool) (t : Tree)
-    → unsigned_abs (unwrap_or (cond number (whole_by (class (spelling t))) None) (pos 0)) < 10 ^ 18
-of_small true t = whole_small (class (spelling t))
-of_small false t = omega arith
-
 number_small : (axis : ℕ) (ts : List Tree) → unsigned_abs (number_on axis (map whole_of ts)) < 10 ^ 18
 number_small axis [] = omega arith
-number_small zero (t ∷ ts) = of_small (is_number (kind_of t)) t
+number_small zero (t ∷ ts) = whole-small t
 number_small (suc axis) (t ∷ ts) = number_small axis ts
 
 least_small : (axis : ℕ) (n : ℤ) (ts : List Tree) → unsigned_abs n < 10 ^ 18

@@ -2,13 +2,16 @@
 use Rattle.std.proofs.Common.{◌≡◌, ℕ, List, true, false, Some, pos, neg_ℤ, refl, arith, lit<}
 use Rattle.std.specs.Prelude.{codes}
 use Rattle.std.proofs.lemmas.Int.{ints}
-use Rattle.cj_decimal.specs.Number.{Number, number, SameValue, IsNormal, IsInRange}
-use Rattle.cj_decimal.specs.Spelling.{number_of}
-use Rattle.cj_decimal.specs.Reading.{is_number as spells_number, written_of, digits_front, digits_rest, begins, is_empty, begins_digit, body, is_int, is_frac, frac_digits, after_frac, exp_digits, is_whole_digits, is_exp, exp_value}
+use Rattle.cj_decimal.specs.Meaning.Number.{Number, scaled}
+use Rattle.cj_decimal.specs.Meaning.Equality.{SameValue, IsNormal, IsInRange}
+use Rattle.cj_decimal.specs.Meaning.Spelling.{number_of}
+use Rattle.cj_decimal.specs.Meaning.Reading.{is_number as spells_number, written_of, digits_front, digits_rest, begins}
+use Rattle.cj_decimal.specs.Meaning.Reading.{is_empty, begins_digit, body, is_int, is_frac, frac_digits, after_frac}
+use Rattle.cj_decimal.specs.Meaning.Reading.{exp_digits, is_whole_digits, is_exp, exp_value}
 use Rattle.cj_decimal.proofs.Classes.{class}
 use Rattle.cj_decimal.proofs.Grammar.{spells_test, test_spells}
 use Rattle.cj_decimal.proofs.Normal.{zero_normal}
-use Rattle.cj_feature.specs.Shown.{value_by}
+use Rattle.cj_decimal.specs.Meaning.Class.{value_by}
 use Rattle.cj_stream.specs.BoxText.{is_number}
 use Rattle.cj_stream.specs.BoxRows.{BoxRow, FieldRows, RangeRows, EmptyRow, OrderRows}
 use Rattle.cj_stream.proofs.BoxTextLemmas.{in-class, no-class}
@@ -26,77 +29,77 @@ told s v test same normal range =
 untold : (s : List ℕ) → spells_number s ≡ false → is_number s ≡ false
 untold s e = no-class s (λ n. absurd (cc (e, (spells_test s n.0 n.1).0))) (class s)
 
-pub one : Number_is (codes "1") (number (pos 1) (pos 0))
+pub one : Number_is (codes "1") (scaled (pos 1) (pos 0))
 unfolding digits_front digits_rest begins is_empty begins_digit body is_int is_frac frac_digits after_frac exp_digits
     is_whole_digits is_exp exp_value
-one = told (codes "1") (number (pos 1) (pos 0)) refl (record { coefficients = refl }) (record { normal = λ e. cc e })
+one = told (codes "1") (scaled (pos 1) (pos 0)) refl (record { coefficients = refl }) (record { normal = λ e. cc e })
     (record { digits = lit< tt; power_low = omega (arith, ints); power_high = omega (arith, ints) })
 
-three : Number_is (codes "3") (number (pos 3) (pos 0))
+three : Number_is (codes "3") (scaled (pos 3) (pos 0))
 unfolding digits_front digits_rest begins is_empty begins_digit body is_int is_frac frac_digits after_frac exp_digits
     is_whole_digits is_exp exp_value
-three = told (codes "3") (number (pos 3) (pos 0)) refl (record { coefficients = refl }) (record { normal = λ e. cc e })
+three = told (codes "3") (scaled (pos 3) (pos 0)) refl (record { coefficients = refl }) (record { normal = λ e. cc e })
     (record { digits = lit< tt; power_low = omega (arith, ints); power_high = omega (arith, ints) })
 
-four : Number_is (codes "4") (number (pos 4) (pos 0))
+four : Number_is (codes "4") (scaled (pos 4) (pos 0))
 unfolding digits_front digits_rest begins is_empty begins_digit body is_int is_frac frac_digits after_frac exp_digits
     is_whole_digits is_exp exp_value
-four = told (codes "4") (number (pos 4) (pos 0)) refl (record { coefficients = refl }) (record { normal = λ e. cc e })
+four = told (codes "4") (scaled (pos 4) (pos 0)) refl (record { coefficients = refl }) (record { normal = λ e. cc e })
     (record { digits = lit< tt; power_low = omega (arith, ints); power_high = omega (arith, ints) })
 
-west : Number_is (codes "1001") (number (pos 1001) (pos 0))
+west : Number_is (codes "1001") (scaled (pos 1001) (pos 0))
 unfolding digits_front digits_rest begins is_empty begins_digit body is_int is_frac frac_digits after_frac exp_digits
     is_whole_digits is_exp exp_value
-west = told (codes "1001") (number (pos 1001) (pos 0)) refl (record { coefficients = refl })
+west = told (codes "1001") (scaled (pos 1001) (pos 0)) refl (record { coefficients = refl })
     (record { normal = λ e. cc e })
     (record { digits = lit< tt; power_low = omega (arith, ints); power_high = omega (arith, ints) })
 
-south : Number_is (codes "2001") (number (pos 2001) (pos 0))
+south : Number_is (codes "2001") (scaled (pos 2001) (pos 0))
 unfolding digits_front digits_rest begins is_empty begins_digit body is_int is_frac frac_digits after_frac exp_digits
     is_whole_digits is_exp exp_value
-south = told (codes "2001") (number (pos 2001) (pos 0)) refl (record { coefficients = refl })
+south = told (codes "2001") (scaled (pos 2001) (pos 0)) refl (record { coefficients = refl })
     (record { normal = λ e. cc e })
     (record { digits = lit< tt; power_low = omega (arith, ints); power_high = omega (arith, ints) })
 
-east : Number_is (codes "1005") (number (pos 1005) (pos 0))
+east : Number_is (codes "1005") (scaled (pos 1005) (pos 0))
 unfolding digits_front digits_rest begins is_empty begins_digit body is_int is_frac frac_digits after_frac exp_digits
     is_whole_digits is_exp exp_value
-east = told (codes "1005") (number (pos 1005) (pos 0)) refl (record { coefficients = refl })
+east = told (codes "1005") (scaled (pos 1005) (pos 0)) refl (record { coefficients = refl })
     (record { normal = λ e. cc e })
     (record { digits = lit< tt; power_low = omega (arith, ints); power_high = omega (arith, ints) })
 
-north : Number_is (codes "2005") (number (pos 2005) (pos 0))
+north : Number_is (codes "2005") (scaled (pos 2005) (pos 0))
 unfolding digits_front digits_rest begins is_empty begins_digit body is_int is_frac frac_digits after_frac exp_digits
     is_whole_digits is_exp exp_value
-north = told (codes "2005") (number (pos 2005) (pos 0)) refl (record { coefficients = refl })
+north = told (codes "2005") (scaled (pos 2005) (pos 0)) refl (record { coefficients = refl })
     (record { normal = λ e. cc e })
     (record { digits = lit< tt; power_low = omega (arith, ints); power_high = omega (arith, ints) })
 
-large : Number_is (codes "1e18") (number (pos 1) (pos 18))
+large : Number_is (codes "1e18") (scaled (pos 1) (pos 18))
 unfolding digits_front digits_rest begins is_empty begins_digit body is_int is_frac frac_digits after_frac exp_digits
     is_whole_digits is_exp exp_value
-large = told (codes "1e18") (number (pos 1) (pos 18)) refl (record { coefficients = refl })
+large = told (codes "1e18") (scaled (pos 1) (pos 18)) refl (record { coefficients = refl })
     (record { normal = λ e. cc e })
     (record { digits = lit< tt; power_low = omega (arith, ints); power_high = omega (arith, ints) })
 
-larger : Number_is (codes "2e18") (number (pos 2) (pos 18))
+larger : Number_is (codes "2e18") (scaled (pos 2) (pos 18))
 unfolding digits_front digits_rest begins is_empty begins_digit body is_int is_frac frac_digits after_frac exp_digits
     is_whole_digits is_exp exp_value
-larger = told (codes "2e18") (number (pos 2) (pos 18)) refl (record { coefficients = refl })
+larger = told (codes "2e18") (scaled (pos 2) (pos 18)) refl (record { coefficients = refl })
     (record { normal = λ e. cc e })
     (record { digits = lit< tt; power_low = omega (arith, ints); power_high = omega (arith, ints) })
 
-fine : Number_is (codes "1e-19") (number (pos 1) (neg_ℤ (pos 19)))
+fine : Number_is (codes "1e-19") (scaled (pos 1) (neg_ℤ (pos 19)))
 unfolding digits_front digits_rest begins is_empty begins_digit body is_int is_frac frac_digits after_frac exp_digits
     is_whole_digits is_exp exp_value
-fine = told (codes "1e-19") (number (pos 1) (neg_ℤ (pos 19))) refl (record { coefficients = refl })
+fine = told (codes "1e-19") (scaled (pos 1) (neg_ℤ (pos 19))) refl (record { coefficients = refl })
     (record { normal = λ e. cc e })
     (record { digits = lit< tt; power_low = omega (arith, ints); power_high = omega (arith, ints) })
 
-pub zero : Number_is (codes "0") (number (pos 0) (pos 0))
+pub zero : Number_is (codes "0") (scaled (pos 0) (pos 0))
 unfolding digits_front digits_rest begins is_empty begins_digit body is_int is_frac frac_digits after_frac exp_digits
     is_whole_digits is_exp exp_value
-zero = told (codes "0") (number (pos 0) (pos 0)) refl (record { coefficients = refl }) zero_normal
+zero = told (codes "0") (scaled (pos 0) (pos 0)) refl (record { coefficients = refl }) zero_normal
     (record { digits = lit< tt; power_low = omega (arith, ints); power_high = omega (arith, ints) })
 
 blank : is_number (codes " 2") ≡ false

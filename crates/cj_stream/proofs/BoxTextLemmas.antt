@@ -5,13 +5,12 @@ use Rattle.std.specs.Iterator.{AlwaysYields}
 use Rattle.std.specs.Str.Iter.{split_steps}
 use Rattle.std.specs.Str.Pattern.{FindsChar}
 use Rattle.std.specs.declared.str.Split.{Split}
-use Rattle.cj_decimal.specs.Number.{Number, IsNormal, IsInRange, IsFixed}
-use Rattle.cj_decimal.specs.Spelling.{IsNumber, IsValue, IsNumberOutOfRange}
-use Rattle.cj_decimal.specs.Class.{Class, no_number, out_of_range, not_whole, whole}
+use Rattle.cj_decimal.specs.Meaning.Number.{Number, is_fixed, units_of}
+use Rattle.cj_decimal.specs.Meaning.Equality.{IsNormal, IsInRange, IsFixed}
+use Rattle.cj_decimal.specs.Meaning.Spelling.{SpellsNumber, IsValue, IsNumberOutOfRange}
+use Rattle.cj_decimal.specs.Meaning.Class.{Class, no_number, out_of_range, not_whole, whole, value_by}
 use Rattle.cj_decimal.proofs.Classes.{class}
 use Rattle.cj_decimal.proofs.Law.{has_one_value, not_both, value_is_number}
-use Rattle.cj_feature.specs.Header.{is_fixed, units_of}
-use Rattle.cj_feature.specs.Shown.{value_by}
 use Rattle.cj_feature.proofs.Fixed.{test-decides, units-only}
 use Rattle.cj_stream.specs.Meaning.Criteria.{Box}
 use Rattle.cj_stream.specs.BoxText.{fields, is_number_by, is_number, is_edge, edge, is_empty, box_text}
@@ -67,7 +66,7 @@ module _ (s : List ℕ) where
   out-class o (not_whole v value inside n) = absurd (not_both s (v, value, inside) o)
   out-class o (whole v w value inside n) = absurd (not_both s (v, value, inside) o)
 
-  pub no-class : ¬ IsNumber s → (c : Class s) → is_number_by c ≡ false
+  pub no-class : ¬ SpellsNumber s → (c : Class s) → is_number_by c ≡ false
   no-class none (no_number n) = refl
   no-class none (out_of_range o) = absurd (none (value_is_number s o.0 o.1))
   no-class none (not_whole v value inside n) = absurd (none (value_is_number s v value))
@@ -94,7 +93,7 @@ module _ (s : List ℕ) where
       let told = out-class o (class s) in
       rw (told.0, told.1) refl
 
-  pub answer-none : ¬ IsNumber s → Err BadBox ≡ answer
+  pub answer-none : ¬ SpellsNumber s → Err BadBox ≡ answer
   answer-none none = rw (no-class none (class s)) refl
 
   -- what an answer says of the field

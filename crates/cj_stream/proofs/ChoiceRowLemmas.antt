@@ -6,13 +6,13 @@ use Rattle.std.specs.Str.{is_utf8, chars}
 use Rattle.std.proofs.lemmas.Str.{IsUtf8-from_is_utf8}
 use lib.Utf8.{encode}
 use Rattle.cj_spans.specs.declared.reason.Reason.TheVariants.{NotReached}
-use Rattle.cj_spans.specs.Finding.{least, found_at}
+use Rattle.cj_spans.specs.Meaning.Finding.{least, found_at}
 use Rattle.cj_spans.specs.Forest.{forest}
-use Rattle.cj_spans.specs.Json.{Json}
-use Rattle.cj_spans.specs.Tree.{Tree, nest}
+use Rattle.cj_spans.specs.Meaning.Json.{Json}
+use Rattle.cj_spans.specs.Meaning.Tree.{Tree, nest}
 use Rattle.cj_spans.proofs.Judgements.{judgement}
 use Rattle.cj_feature.specs.Examples.{plain_header, chain, part_apart, main_part}
-use Rattle.cj_feature.specs.Feature.{feature}
+use Rattle.cj_feature.specs.Meaning.Feature.{feature}
 use Rattle.cj_feature.proofs.Worked.{plain_feature, plain_header-valid, plain_feature-valid, chain-valid, part_apart-valid, part_apart-refused, main_part-refused}
 use Rattle.cj_stream.specs.declared.ending.End.TheVariants.{Complete, Refused}
 use Rattle.cj_stream.specs.ChoiceRows.{choosing, ApartRow, ChainRow, ExcludeRow}

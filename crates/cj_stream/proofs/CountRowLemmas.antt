@@ -3,7 +3,7 @@ use Rattle.std.proofs.Common.{◌≡◌, ℕ, zero, suc, List, [], ◌∷◌, re
 use Rattle.std.specs.Prelude.{replicate}
 use Rattle.std.specs.Str.{chars}
 use lib.Utf8.{encode}
-use Rattle.cj_spans.specs.Text.{text, code_points_after, first_code_point, first_width}
+use Rattle.cj_spans.specs.Meaning.Text.{text, code_points_after, first_code_point, first_width}
 use Rattle.cj_stream.specs.CountRows.{RiseRows, ClassRows, LodRows, three_classes}
 use Rattle.cj_stream.specs.QueryRows.{plain_header}
 use Rattle.cj_stream.specs.Sink.{HasRisen}

@@ -8,11 +8,11 @@ use Rattle.std.proofs.lemmas.List.{get_or_past, get_or-set_same, get_or-set_othe
 use Rattle.std.proofs.lemmas.List.{length-append, map-append}
 use Rattle.std.proofs.lemmas.List.Elements.{filter-append}
 use Rattle.std.proofs.lemmas.Simd.{map-map}
-use Rattle.cj_spans.specs.Tree.{Tree}
-use Rattle.cj_spans.specs.Parts.{member_of}
-use Rattle.cj_geometry.specs.Geometry.{Given}
-use Rattle.cj_geometry.specs.Lod.{lod}
-use Rattle.cj_feature.specs.Walks.{object_geometries}
+use Rattle.cj_spans.specs.Meaning.Tree.{Tree}
+use Rattle.cj_spans.specs.Meaning.Parts.{member_of}
+use Rattle.cj_geometry.specs.Meaning.Geometry.{Given}
+use Rattle.cj_geometry.specs.Meaning.Lod.{lod}
+use Rattle.cj_feature.specs.Meaning.CityObject.{object_geometries}
 use Rattle.cj_stream.specs.Tallied.{capped, class_count, class_of, how_often, own_classes}
 use Rattle.cj_stream.specs.TallySink.{RisesBy}
 

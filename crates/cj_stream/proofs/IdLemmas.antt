@@ -21,8 +21,8 @@ use Rattle.std.proofs.lemmas.List.Sorted.{IsPermutation-append, IsPermutation-ma
 use Rattle.std.proofs.lemmas.List.Sums.{sum_by-cons, sum_by-append, sum_by-take-le}
 use Rattle.cj_spans.specs.Tail.{tail_of}
 use Rattle.cj_spans.specs.Order.{compare, compare_texts}
-use Rattle.cj_spans.specs.Parts.{text_of, are_same_texts}
-use Rattle.cj_spans.specs.Tree.{Tree}
+use Rattle.cj_spans.specs.Meaning.Parts.{text_of, are_same_texts}
+use Rattle.cj_spans.specs.Meaning.Tree.{Tree}
 use Rattle.cj_stream.specs.Meaning.Criteria.{is_one_of}
 use Rattle.cj_stream.specs.declared.query.ids.Entry.{Entry}
 use Rattle.cj_stream.specs.Ids.{Key, key_of, compare_keys, pieces, may_cut, piece, key_at, keys_at, keys_of, Ascend, AreRuns, IsCut, AreIndexed, HasAllOf}

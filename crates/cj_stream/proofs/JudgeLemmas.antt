@@ -6,9 +6,10 @@ use Rattle.std.proofs.lemmas.List.{take_all}
 use Rattle.cj_spans.specs.declared.fault.LineFault.{LineFault}
 use Rattle.cj_spans.specs.declared.fault.LineFault.TheVariants.{NotUtf8, Syntax, TooDeep}
 use Rattle.cj_spans.specs.declared.reason.Reason.TheVariants.{Syntax as SyntaxReason, TooDeep as TooDeepReason}
-use Rattle.cj_spans.specs.Tree.{Tree, size, nest}
-use Rattle.cj_spans.specs.Json.{Json}
-use Rattle.cj_spans.specs.Judgement.{Judgement, spelled, broken, sunk, IsReservedAnswerOf, judged_size, judged_nest}
+use Rattle.cj_spans.specs.Meaning.Tree.{Tree, size, nest}
+use Rattle.cj_spans.specs.Meaning.Json.{Json}
+use Rattle.cj_spans.specs.Meaning.Judgement.{Judgement, spelled, broken, sunk, judged_size, judged_nest}
+use Rattle.cj_spans.specs.Answers.{IsReservedAnswerOf}
 use Rattle.cj_stream.specs.Bound.{is_spelled}
 use Rattle.cj_stream.specs.Item.{judged_tree}
 use Rattle.cj_stream.specs.Meaning.Rules.{Rules}

@@ -8,11 +8,11 @@ use Rattle.std.proofs.lemmas.Bool.Decides.{nat_tests}
 use Rattle.cj_spans.specs.declared.reason.Reason.{Reason}
 use Rattle.cj_spans.specs.declared.reason.Reason.TheVariants.{LineTooLong, NotUtf8, Syntax, TooDeep}
 use Rattle.cj_spans.specs.declared.finding.Finding.{Finding}
-use Rattle.cj_spans.specs.Finding.{least}
-use Rattle.cj_spans.specs.Front.{SyntaxAt, DeepAt, NowhereDeep}
-use Rattle.cj_spans.specs.Json.{Json}
-use Rattle.cj_spans.specs.Judgement.{Judgement, spelled, broken, sunk}
-use Rattle.cj_spans.specs.Tree.{Tree, nest, array, no_items}
+use Rattle.cj_spans.specs.Meaning.Finding.{least}
+use Rattle.cj_spans.specs.Meaning.Prefix.{SyntaxAt, DeepAt, NowhereDeep}
+use Rattle.cj_spans.specs.Meaning.Json.{Json}
+use Rattle.cj_spans.specs.Meaning.Judgement.{Judgement, spelled, broken, sunk}
+use Rattle.cj_spans.specs.Meaning.Tree.{Tree, nest, array, no_items}
 use Rattle.cj_spans.proofs.Judgements.{judgement, say_same}
 use Rattle.cj_stream.specs.Meaning.Judged.{JudgedLine, IsJudged, AreLater, AreJudged, no_lines, no_header, headed}
 use Rattle.cj_stream.specs.Meaning.Lines.{Line}

@@ -4,16 +4,19 @@ use Rattle.std.specs.Prelude.{◌^◌, ◌&&◌, int_le, get_or}
 use Rattle.std.specs.List.{list_any}
 use Rattle.std.specs.Str.{chars}
 use lib.Utf8.{encode}
-use Rattle.cj_decimal.specs.Affine.{AffineMap, image}
-use Rattle.cj_spans.specs.Text.{text, code_points_after, first_code_point, first_width}
-use Rattle.cj_spans.specs.Tree.{Tree}
-use Rattle.cj_geometry.specs.ObjectTypes.{object_types}
+use Rattle.cj_decimal.specs.Meaning.Affine.{AffineMap, image}
+use Rattle.cj_decimal.specs.Meaning.Decimal.{decimal_of}
+use Rattle.cj_decimal.specs.Meaning.Reading.{digits_front, digits_rest, begins, begins_digit, is_empty, body, is_int}
+use Rattle.cj_decimal.specs.Meaning.Reading.{is_frac, frac_digits, after_frac, exp_digits, is_whole_digits, is_exp}
+use Rattle.cj_decimal.specs.Meaning.Reading.{exp_value}
+use Rattle.cj_spans.specs.Meaning.Text.{text, code_points_after, first_code_point, first_width}
+use Rattle.cj_spans.specs.Meaning.Tree.{Tree}
+use Rattle.cj_geometry.specs.Meaning.ObjectTypes.{object_types}
 use Rattle.cj_geometry.proofs.Digits.{whole-zero, whole-one}
-use Rattle.cj_feature.specs.Shown.{maps_of}
-use Rattle.cj_feature.specs.Typed.{number_on}
+use Rattle.cj_feature.specs.Meaning.Transform.{maps_of}
+use Rattle.cj_feature.specs.Meaning.CityObject.{number_on}
 use Rattle.cj_stream.specs.Meaning.Criteria.{Box, holds, vertices_of}
 use Rattle.cj_stream.specs.QueryRows.{plain_header, two_objects, one_instance, boxed, IdRows, TypeRows, LodRows, InstanceRows, InBoxRows, OutOfBoxRows, EachPartRows}
-use Rattle.cj_stream.proofs.BoxRowLemmas.{zero, one}
 
 pub ids : IdRows
 unfolding holds text code_points_after first_code_point first_width chars encode
@@ -55,8 +58,9 @@ abbrev itself : AffineMap
 itself = record { scale = pos (10 ^ 18); shift = pos 0 }
 
 maps : maps_of plain_header ≡ itself ∷ itself ∷ []
-unfolding text code_points_after first_code_point first_width chars encode
-maps = rw (zero.1, one.1) refl
+unfolding text code_points_after first_code_point first_width chars encode decimal_of digits_front digits_rest begins
+    begins_digit is_empty body is_int is_frac frac_digits after_frac exp_digits is_whole_digits is_exp exp_value
+maps = refl
 
 abbrev two_vertices : List (List (Option ℤ))
 two_vertices = (Some (pos 0) ∷ Some (pos 0) ∷ Some (pos 1) ∷ []) ∷ (Some (pos 1) ∷ Some (pos 0) ∷ Some (pos 0) ∷ [])

@@ -11,11 +11,11 @@ use Rattle.cj_spans.specs.declared.reason.Reason.TheVariants.{LineTooLong, NotUt
 use Rattle.cj_spans.specs.declared.step.Mode.TheVariants.{After}
 use Rattle.cj_spans.specs.declared.token.Token.{Token}
 use Rattle.cj_spans.specs.Forest.{forest}
-use Rattle.cj_spans.specs.Json.{Json}
-use Rattle.cj_spans.specs.Judgement.{Judgement, spelled, broken, sunk}
-use Rattle.cj_spans.specs.Machine.{State, state, between, settle}
+use Rattle.cj_spans.specs.Meaning.Json.{Json}
+use Rattle.cj_spans.specs.Meaning.Judgement.{Judgement, spelled, broken, sunk}
+use Rattle.cj_spans.specs.inner.Machine.{State, state, between, settle}
 use Rattle.cj_spans.specs.Preorder.{preorder, spans_of}
-use Rattle.cj_spans.specs.Tree.{Tree, nest}
+use Rattle.cj_spans.specs.Meaning.Tree.{Tree, nest}
 use Rattle.cj_spans.proofs.Forests.{json_shown}
 use Rattle.cj_spans.proofs.Judgements.{judgement, over, by_step, by_depth, sinks, at_end, by_end, text_of, no_end, ends_at, say_same}
 use Rattle.cj_spans.proofs.Lists.{spans_of-flatten}

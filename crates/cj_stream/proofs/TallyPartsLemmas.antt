@@ -7,9 +7,9 @@ use Rattle.std.proofs.lemmas.Bool.Decides.{nat_tests}
 use Rattle.std.proofs.lemmas.List.{append-nil}
 use Rattle.std.proofs.lemmas.List.Elements.{filter-append}
 use Rattle.std.proofs.lemmas.Grind.{flat_map-append}
-use Rattle.cj_spans.specs.Tree.{Tree}
-use Rattle.cj_decimal.specs.Number.{Number}
-use Rattle.cj_feature.specs.Shown.{transform_values}
+use Rattle.cj_spans.specs.Meaning.Tree.{Tree}
+use Rattle.cj_decimal.specs.Meaning.Number.{Number}
+use Rattle.cj_feature.specs.Meaning.Transform.{transform_values}
 use Rattle.cj_stream.specs.declared.ending.End.TheVariants.{Complete}
 use Rattle.cj_stream.specs.CountSink.{is_header}
 use Rattle.cj_stream.specs.Meaning.Item.{is_feature}

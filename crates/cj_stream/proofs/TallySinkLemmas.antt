@@ -4,9 +4,9 @@ use Rattle.std.specs.Prelude.{is_some, not, nat_eq, option_map, codes, replicate
 use Rattle.std.specs.List.{filter, last_or}
 use Rattle.std.specs.Str.{chars}
 use Rattle.std.proofs.lemmas.List.Elements.{filter-append}
-use Rattle.cj_spans.specs.Tree.{Tree}
-use Rattle.cj_decimal.specs.Number.{Number}
-use Rattle.cj_feature.specs.Shown.{transform_values}
+use Rattle.cj_spans.specs.Meaning.Tree.{Tree}
+use Rattle.cj_decimal.specs.Meaning.Number.{Number}
+use Rattle.cj_feature.specs.Meaning.Transform.{transform_values}
 use Rattle.cj_stream.specs.declared.ending.End.{End}
 use Rattle.cj_stream.specs.declared.ending.End.TheVariants.{Complete, Refused, ReadFault, ReadLimit, WriteFault, Memory}
 use Rattle.cj_stream.specs.Meaning.Lines.{joined}

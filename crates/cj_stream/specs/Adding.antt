@@ -1,7 +1,8 @@
 -- What is asked once a part is set or grows: the other parts stay.
 use Rattle.std.specs.Prelude.{ℕ, List, [], ◌∷◌, ◌++◌, Bool, true, false, replicate, slice_set, Option, Some, unwrap_or}
 use Rattle.std.specs.Prelude.{option_and_then}
-use Rattle.cj_geometry.specs.ObjectTypes.{ObjectRow, row_named, type_count}
+use Rattle.cj_geometry.specs.Meaning.ObjectTypes.{ObjectRow}
+use Rattle.cj_geometry.specs.ObjectTypes.{row_named, type_count}
 use Rattle.cj_stream.specs.Meaning.Criteria.{Criteria, Box}
 
 -- no flag of a type is set

@@ -3,9 +3,9 @@ use Rattle.std.specs.Prelude.{◌≡◌, ℕ, ◌+◌, ◌≤◌, List, Bool, tr
 use Rattle.std.specs.Prelude.{if◌then◌else◌, length, map, min, take}
 use Rattle.std.specs.List.{flat_map, list_all}
 use Rattle.std.specs.Str.{is_utf8}
-use Rattle.cj_budget.specs.Limits.{LimitPair}
+use Rattle.cj_budget.specs.Meaning.Limits.{LimitPair}
 use Rattle.cj_budget.specs.declared.limits.Peaks.{Peaks}
-use Rattle.cj_spans.specs.Judgement.{Judgement, spelled, broken, sunk, judged_size, judged_nest}
+use Rattle.cj_spans.specs.Meaning.Judgement.{Judgement, spelled, broken, sunk, judged_size, judged_nest}
 use Rattle.cj_spans.proofs.Judgements.{judgement}
 use Rattle.cj_stream.specs.Meaning.Bound.{of_first, greatest}
 use Rattle.cj_stream.specs.Meaning.Lines.{lines, later_of, first_content, raw}

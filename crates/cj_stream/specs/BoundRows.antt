@@ -1,6 +1,6 @@
 -- What small streams may hold at most under some limits, and what they hold.
 use Rattle.std.specs.Prelude.{◌≡◌, ℕ, List, [], ◌∷◌, ◌++◌}
-use Rattle.cj_budget.specs.Limits.{LimitPair}
+use Rattle.cj_budget.specs.Meaning.Limits.{LimitPair}
 use Rattle.cj_budget.specs.declared.limits.Peaks.{Peaks}
 use Rattle.cj_stream.specs.Meaning.Bound.{bytes_bound, tokens_bound, IsBounded}
 use Rattle.cj_stream.specs.Bound.{exact_peaks}

@@ -1,6 +1,6 @@
 -- Small counts: of failures, and of classes of LoDs.
 use Rattle.std.specs.Prelude.{◌≡◌, ◌-◌, ◌^◌, [], ◌∷◌, None, Some, codes, replicate}
-use Rattle.cj_spans.specs.Tree.{Tree}
+use Rattle.cj_spans.specs.Meaning.Tree.{Tree}
 use Rattle.cj_stream.specs.QueryRows.{string, geometry, city_object, feature, plain_header}
 use Rattle.cj_stream.specs.Sink.{HasRisen}
 use Rattle.cj_stream.specs.Tallied.{class_of, lod_classes}

@@ -1,7 +1,7 @@
 -- Which bytes an engine stands for, and what it answers.
 use Rattle.std.specs.Prelude.{◌≡◌, ◌⊎◌, ℕ, ◌+◌, ◌<◌, ◌≤◌, List, [], ◌++◌, true, Option, Some, None, is_none, Result, Ok, Err}
 use Rattle.std.specs.Prelude.{if◌then◌else◌, length, take, slice_get}
-use Rattle.cj_budget.specs.Limits.{LimitPair}
+use Rattle.cj_budget.specs.Meaning.Limits.{LimitPair}
 use Rattle.cj_budget.specs.declared.limits.Peaks.{Peaks}
 use Rattle.cj_stream.specs.declared.ending.End.{End}
 use Rattle.cj_stream.specs.declared.ending.End.TheVariants.{Complete, Refused, WriteFault, Memory}

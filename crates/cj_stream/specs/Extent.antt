@@ -2,7 +2,7 @@
 use Rattle.std.specs.Prelude.{◌<◌, ◌^◌, List, [], ◌∷◌, Bool, ◌&&◌, Option, Some, None, ℤ, int_le, unsigned_abs}
 use Rattle.std.specs.Int.{int_min, int_max}
 use Rattle.std.specs.List.{fold, list_any}
-use Rattle.cj_decimal.specs.Affine.{AffineMap, image}
+use Rattle.cj_decimal.specs.Meaning.Affine.{AffineMap, image}
 use Rattle.cj_stream.specs.declared.query.extent.Range.{Range}
 
 -- the range of a number alone

@@ -1,7 +1,7 @@
 -- The items that a header, a feature and a line are.
 use Rattle.std.specs.Prelude.{ℕ, List, Bool, ◌==◌, if◌then◌else◌, Some, None}
-use Rattle.cj_spans.specs.Tree.{Tree, no_items, array}
-use Rattle.cj_spans.specs.Judgement.{Judgement, spelled, broken, sunk}
+use Rattle.cj_spans.specs.Meaning.Tree.{Tree, no_items, array}
+use Rattle.cj_spans.specs.Meaning.Judgement.{Judgement, spelled, broken, sunk}
 use Rattle.cj_spans.proofs.Judgements.{judgement}
 use Rattle.cj_feature.specs.declared.header.Header.{Header}
 use Rattle.cj_feature.specs.declared.feature.Feature.{Feature}

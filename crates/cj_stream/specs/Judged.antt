@@ -1,7 +1,7 @@
 -- The lines of a stream with their verdicts, computed. The laws say that no other list of judged lines is theirs.
 use Rattle.std.specs.Prelude.{ℕ, ◌+◌, List, [], ◌∷◌, not, ◌&&◌, if◌then◌else◌, Option, Some, None, unwrap_or}
-use Rattle.cj_spans.specs.Judgement.{Judgement, spelled, broken, sunk}
-use Rattle.cj_spans.specs.Tree.{Tree, array, no_items}
+use Rattle.cj_spans.specs.Meaning.Judgement.{Judgement, spelled, broken, sunk}
+use Rattle.cj_spans.specs.Meaning.Tree.{Tree, array, no_items}
 use Rattle.cj_spans.proofs.Judgements.{judgement}
 use Rattle.cj_stream.specs.Bound.{is_text}
 use Rattle.cj_stream.specs.Meaning.Judged.{JudgedLine}

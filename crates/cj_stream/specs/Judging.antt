@@ -2,12 +2,12 @@
 use Rattle.std.specs.Prelude.{◌≡◌, ℕ, ◌<◌, ◌≤◌, List, length, Option, Some, Result, Ok, Err, false, IsTrue}
 use Rattle.cj_spans.specs.declared.finding.Finding.{Finding}
 use Rattle.cj_spans.specs.declared.token.Token.{Token}
-use Rattle.cj_budget.specs.Limits.{LimitPair}
-use Rattle.cj_spans.specs.Tree.{Tree}
-use Rattle.cj_spans.specs.Json.{Json}
+use Rattle.cj_budget.specs.Meaning.Limits.{LimitPair}
+use Rattle.cj_spans.specs.Meaning.Tree.{Tree}
+use Rattle.cj_spans.specs.Meaning.Json.{Json}
 use Rattle.cj_spans.specs.Sound.{AreOf}
 use Rattle.cj_feature.specs.declared.header.reading.HeaderParts.{HeaderParts}
-use Rattle.cj_feature.specs.Reached.{AreMarks}
+use Rattle.cj_feature.specs.ReachedMarks.{AreMarks}
 use Rattle.cj_feature.specs.Shown.{ArePartsOf, parts_box}
 use Rattle.cj_stream.specs.Meaning.Criteria.{needs_box}
 use Rattle.cj_stream.specs.Item.{tree_of}

@@ -1,6 +1,6 @@
 -- What contracts see of a query.
 use Rattle.std.specs.Prelude.{ℕ, List, Option, map, option_map, vec_items, string_bytes, Vec, String}
-use Rattle.cj_budget.specs.Limits.{LimitPair}
+use Rattle.cj_budget.specs.Meaning.Limits.{LimitPair}
 use Rattle.cj_stream.specs.declared.query.Query.{Query}
 use Rattle.cj_stream.specs.declared.query.bounds.Bounds.{Bounds}
 use Rattle.cj_stream.specs.Meaning.Criteria.{Criteria, Box}

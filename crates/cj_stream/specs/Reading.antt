@@ -1,11 +1,12 @@
 -- What is held of a stream while its lines are read, and which bytes it stands for.
 use Rattle.std.specs.List.{filter}
-use Rattle.cj_spans.specs.Tree.{Tree}
+use Rattle.cj_spans.specs.Meaning.Tree.{Tree}
 use Rattle.std.specs.Prelude.{◌≡◌, ◌⊎◌, ℕ, ◌+◌, ◌<◌, ◌≤◌, List, [], ◌∷◌, ◌++◌, Bool, true, false, ◌&&◌, ◌==◌, nat_lt}
 use Rattle.std.specs.Prelude.{if◌then◌else◌, IsTrue, Some, None, Result, Ok, Err, length, map, max, MatchResult}
 use Rattle.std.specs.Prelude.{slice_get}
 use Rattle.cj_budget.specs.Bounded.{BoundedList, IsWithin, Becomes}
-use Rattle.cj_budget.specs.Limits.{LimitPair, InLine}
+use Rattle.cj_budget.specs.Meaning.Limits.{LimitPair}
+use Rattle.cj_budget.specs.Limits.{InLine}
 use Rattle.cj_stream.specs.declared.desk.Desk.{Desk}
 use Rattle.cj_stream.specs.declared.store.Store.{Store}
 use Rattle.cj_spans.specs.declared.reason.Reason.TheVariants.{NoHeader, LineTooLong}

@@ -4,10 +4,11 @@ use Rattle.std.specs.Prelude.{max, min}
 use Rattle.std.specs.List.{list_all}
 use Rattle.std.specs.Str.{is_utf8}
 use Rattle.cj_budget.specs.Bounded.{BoundedList, IsWithin, Becomes}
-use Rattle.cj_budget.specs.Counts.{HasRisen}
-use Rattle.cj_budget.specs.Limits.{LimitPair, InDepth}
+use Rattle.cj_budget.specs.Meaning.Counts.{HasRisen}
+use Rattle.cj_budget.specs.Meaning.Limits.{LimitPair}
+use Rattle.cj_budget.specs.Limits.{InDepth}
 use Rattle.cj_spans.specs.declared.token.Token.{Token}
-use Rattle.cj_spans.specs.Judgement.{judged_size, judged_nest}
+use Rattle.cj_spans.specs.Meaning.Judgement.{judged_size, judged_nest}
 use Rattle.cj_spans.proofs.Judgements.{judgement}
 use Rattle.cj_stream.specs.declared.desk.Desk.{Desk}
 use Rattle.cj_stream.specs.Meaning.Lines.{closed, first_of, later_of}

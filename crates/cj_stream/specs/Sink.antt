@@ -3,7 +3,8 @@ use Rattle.std.specs.Prelude.{◌≡◌, ℕ, List, [], ◌∷◌, ◌++◌, Opt
 use Rattle.std.specs.Io.KnownBytes.{Appends}
 use Rattle.cj_stream.specs.Meaning.Item.{Item}
 use Rattle.cj_stream.specs.Meaning.Outputs.{Took}
-pub use Rattle.cj_budget.specs.Counts.{HasRisen, counted}
+pub use Rattle.cj_budget.specs.Meaning.Counts.{HasRisen}
+pub use Rattle.cj_budget.specs.Counts.{counted}
 
 -- the law of a sink: what one whole item makes of it, what a fault may leave of it, and how often its device has failed
 pub record SinkLaw (S : Type 0) : Type 1 where

@@ -2,14 +2,15 @@
 use Rattle.std.specs.Prelude.{◌≡◌, ℕ, ◌-◌, ◌^◌, List, [], length, min, if◌then◌else◌, ◌&&◌, Option, Some, None, ℤ, ◌≤ℤ◌}
 use Rattle.std.specs.Prelude.{map, option_and_then, nat_eq, nat_le, All, Contains, codes}
 use Rattle.std.specs.List.{filter, flat_map}
-use Rattle.cj_spans.specs.Tree.{Tree}
+use Rattle.cj_spans.specs.Meaning.Tree.{Tree}
 use Rattle.std.specs.Str.{chars}
-use Rattle.cj_spans.specs.Parts.{first_code_of, member_of}
-use Rattle.cj_geometry.specs.Lod.{lod}
-use Rattle.cj_geometry.specs.ObjectTypes.{ObjectRow, type_count}
-use Rattle.cj_feature.specs.Feature.{templates_of}
-use Rattle.cj_feature.specs.Typed.{type_row, number_on}
-use Rattle.cj_feature.specs.Walks.{object_geometries}
+use Rattle.cj_spans.specs.Initials.{first_code_of}
+use Rattle.cj_spans.specs.Meaning.Parts.{member_of}
+use Rattle.cj_geometry.specs.Meaning.Lod.{lod}
+use Rattle.cj_geometry.specs.Meaning.ObjectTypes.{ObjectRow}
+use Rattle.cj_geometry.specs.ObjectTypes.{type_count}
+use Rattle.cj_feature.specs.Meaning.Feature.{templates_of}
+use Rattle.cj_feature.specs.Meaning.CityObject.{type_row, number_on, object_geometries}
 use Rattle.cj_stream.specs.Meaning.Criteria.{objects_of, vertices_of}
 use Rattle.cj_stream.specs.Meaning.Item.{Item}
 

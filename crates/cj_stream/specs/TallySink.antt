@@ -3,10 +3,10 @@ use Rattle.std.specs.Prelude.{◌≡◌, ℕ, ◌+◌, ◌-◌, ◌^◌, ◌<◌
 use Rattle.std.specs.Prelude.{codes, get_or, map, option_map, pos, replicate}
 use Rattle.std.specs.List.{filter, last_or}
 use Rattle.std.specs.Str.{chars}
-use Rattle.cj_spans.specs.Tree.{Tree}
-use Rattle.cj_decimal.specs.Number.{Number}
+use Rattle.cj_spans.specs.Meaning.Tree.{Tree}
+use Rattle.cj_decimal.specs.Meaning.Number.{Number}
 use Rattle.cj_decimal.specs.Word.{IsWordOf}
-use Rattle.cj_feature.specs.Shown.{transform_values}
+use Rattle.cj_feature.specs.Meaning.Transform.{transform_values}
 use Rattle.cj_geometry.specs.ObjectTypes.{type_count}
 use Rattle.cj_stream.specs.declared.ending.End.{End}
 use Rattle.cj_stream.specs.declared.ending.End.TheVariants.{Complete, Refused, WriteFault, Memory}

@@ -26,7 +26,7 @@
 ghost use Rattle.std.specs.Prelude.{◌≡◌, ◌+◌, ◌^◌, ◌<◌, ◌≤◌, ℕ, List, [], ◌∷◌, ◌++◌, ◌⊎◌, true, false, length, take};
 ghost use Rattle.std.specs.Prelude.{if◌then◌else◌, OnOk, OnErr, IfOk, IfErr, IsErrOf, IsTrue, Some, Err};
 ghost use Rattle.cj_budget.specs.Bounded.{IsWithin};
-ghost use Rattle.cj_spans.specs.Finding.{found_at};
+ghost use Rattle.cj_spans.specs.Meaning.Finding.{found_at};
 ghost use Rattle.cj_stream.specs.Carrying.{IsFramed, Carries, TakesAll, TakesSome, FinishesAll};
 ghost use Rattle.cj_stream.specs.declared.ending.End.TheVariants.{Refused};
 ghost use Rattle.cj_stream.specs.Ending.{answer_of, header_end, line_end};

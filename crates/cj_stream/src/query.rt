@@ -1,6 +1,6 @@
 //! Which features of a stream are selected.
 ghost use Rattle.std.specs.Prelude.{◌≡◌, true, Some, Ok, Err, [], IfErr, OnOk, OnErr, MatchOption, MatchResult};
-ghost use Rattle.cj_spans.specs.Tree.{Tree};
+ghost use Rattle.cj_spans.specs.Meaning.Tree.{Tree};
 ghost use Rattle.cj_feature.specs.HeaderView.{header_tree, has_box};
 ghost use Rattle.cj_feature.specs.View.{feature_tree};
 ghost use Rattle.cj_stream.specs.Meaning.Criteria.{everything, if_set, needs_box, has_id as id_holds};

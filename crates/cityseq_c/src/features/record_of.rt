@@ -2,7 +2,7 @@
 ghost use Rattle.std.specs.Prelude.{◌≡◌, ◌≤◌, Bool, get_or, length, nat_lt, sum};
 ghost use Rattle.std.specs.List.{flat_map};
 ghost use Rattle.cj_feature.specs.View.{feature_header, feature_tree};
-ghost use Rattle.cj_feature.specs.Walks.{object_geometries};
+ghost use Rattle.cj_feature.specs.Meaning.CityObject.{object_geometries};
 ghost use Rattle.cj_stream.specs.Meaning.Criteria.{objects_of};
 ghost use Rattle.cj_stream.specs.Item.{feature_item};
 ghost use Rattle.cj_stream.specs.Tallied.{capped, lod_classes, type_numbers};

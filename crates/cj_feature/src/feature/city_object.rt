@@ -3,7 +3,8 @@ ghost use Rattle.std.specs.Prelude.{◌≡◌, true, Some};
 ghost use Rattle.std.specs.List.{list_all};
 ghost use Rattle.cj_spans.specs.View.{tree, members_left};
 ghost use Rattle.cj_geometry.specs.ObjectTypes.{row_at};
-ghost use Rattle.cj_feature.specs.Typed.{type_row, is_row, is_typed};
+ghost use Rattle.cj_feature.specs.Meaning.CityObject.{type_row};
+ghost use Rattle.cj_feature.specs.inner.Typed.{is_row, is_typed};
 
 use cj_geometry::ObjectType;
 use cj_spans::{Members, Node};

@@ -2,7 +2,8 @@
 ghost use Rattle.std.specs.Prelude.{◌≡◌, ◌<◌, true, map};
 ghost use Rattle.std.specs.List.{list_all};
 ghost use Rattle.cj_spans.specs.View.{tree, items_left};
-ghost use Rattle.cj_feature.specs.Typed.{vertex_of, number_on, is_vertex};
+ghost use Rattle.cj_feature.specs.Meaning.CityObject.{vertex_of, number_on};
+ghost use Rattle.cj_feature.specs.inner.Typed.{is_vertex};
 
 use crate::feature::vertices::next_whole;
 use cj_spans::{Items, Node};

@@ -3,9 +3,8 @@ ghost use Rattle.std.specs.Prelude.{◌≡◌, codes, option_map, IfSome};
 ghost use Rattle.std.specs.Str.{chars};
 ghost use Rattle.std.proofs.Props.{props};
 ghost use Rattle.cj_spans.specs.View.{tree, line_of, items_line, members_left, members_line};
-ghost use Rattle.cj_spans.specs.Parts.{member_of};
-ghost use Rattle.cj_geometry.specs.Geometry.{left_of};
-ghost use Rattle.cj_feature.specs.Members.{items_if};
+ghost use Rattle.cj_spans.specs.Meaning.Parts.{member_of, items_if};
+ghost use Rattle.cj_geometry.specs.ListSteps.{left_of};
 
 use cj_spans::{Items, Members, Node};
 
@@ -31,7 +30,8 @@ fn geometries_of(object: Node) -> Option<Items>
 
 impl<'a> Geometries<'a> {
     ghost use Rattle.std.specs.List.{flat_map};
-    ghost use Rattle.cj_feature.specs.Walks.{object_geometries, geometries_left, geometries_line};
+    ghost use Rattle.cj_feature.specs.Meaning.CityObject.{object_geometries};
+    ghost use Rattle.cj_feature.specs.Walks.{geometries_left, geometries_line};
 
     /// Returns a walk over the geometries of these city objects.
     #[tactic(auto, unfolding(crate::specs::Walks::geometries_left, crate::specs::Walks::geometries_line))]

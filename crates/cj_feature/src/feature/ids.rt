@@ -1,13 +1,13 @@
 //! Ids: names of the city objects of a feature.
 ghost use Rattle.std.specs.Prelude.{◌≡◌, codes, option_map};
 ghost use Rattle.std.specs.Str.{chars};
-ghost use Rattle.cj_spans.specs.Finding.{least};
-ghost use Rattle.cj_spans.specs.Kinds.{is_text};
-ghost use Rattle.cj_spans.specs.Parts.{members_of, member_of};
+ghost use Rattle.cj_spans.specs.Meaning.Finding.{least};
+ghost use Rattle.cj_spans.specs.Meaning.Kinds.{is_text};
+ghost use Rattle.cj_spans.specs.Meaning.Parts.{members_of, member_of};
 ghost use Rattle.cj_spans.specs.View.{tree};
-ghost use Rattle.cj_geometry.specs.Rule.{of_kind};
-ghost use Rattle.cj_feature.specs.Feature.{id_in, id_rule};
-ghost use Rattle.cj_feature.specs.Links.{is_known as is_known_in};
+ghost use Rattle.cj_geometry.specs.Meaning.Rule.{of_kind};
+ghost use Rattle.cj_feature.specs.Meaning.Feature.{id_in, id_rule};
+ghost use Rattle.cj_feature.specs.Meaning.Links.{is_known as is_known_in};
 
 use cj_geometry::rule::{add, check_there};
 use cj_spans::{Kind, Least, Node, Reason};

@@ -3,13 +3,13 @@
 ghost use Rattle.std.specs.Prelude.{◌≡◌, codes, option_map};
 ghost use Rattle.std.specs.List.{flat_map, list_any};
 ghost use Rattle.std.specs.Str.{chars};
-ghost use Rattle.cj_spans.specs.Finding.{least};
-ghost use Rattle.cj_spans.specs.Parts.{items_of, members_of};
+ghost use Rattle.cj_spans.specs.Meaning.Finding.{least};
+ghost use Rattle.cj_spans.specs.Meaning.Parts.{items_of, members_of};
 ghost use Rattle.cj_spans.specs.View.{tree, trees};
-ghost use Rattle.cj_feature.specs.Part.{part_parents};
-ghost use Rattle.cj_feature.specs.Links.{is_known as is_known_in, has_item as has_item_of, lists as lists_of};
-ghost use Rattle.cj_feature.specs.Links.{listed_in, is_group as is_group_of, child, parent, children, parents, part};
-ghost use Rattle.cj_feature.specs.Links.{object_links, links};
+ghost use Rattle.cj_feature.specs.inner.Part.{part_parents};
+ghost use Rattle.cj_feature.specs.Meaning.Links.{is_known as is_known_in, has_item as has_item_of, lists as lists_of};
+ghost use Rattle.cj_feature.specs.Meaning.Links.{listed_in, is_group as is_group_of, child, parent, children, parents};
+ghost use Rattle.cj_feature.specs.Meaning.Links.{part, object_links, links};
 
 use crate::feature::ids::is_known;
 use crate::feature::objects::is_part;
@@ -46,7 +46,7 @@ fn lists(objects: Node, list: &str, from: Node, to: Node) -> bool
 }
 
 /// Returns whether the city object is a group.
-#[tactic(auto, unfolding(cj_geometry::specs::ObjectTypes::object_types))]
+#[tactic(auto, unfolding(cj_geometry::specs::Meaning::ObjectTypes::object_types))]
 pub fn is_group(object: Node) -> bool
     ensures { result ≡ is_group_of (tree object.entry) }
 {

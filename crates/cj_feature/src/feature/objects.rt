@@ -1,15 +1,17 @@
 //! City objects (CityJSON 2.0, section 2).
 ghost use Rattle.std.specs.Prelude.{◌≡◌, [], List, Some, None, false, codes, option_map};
 ghost use Rattle.std.specs.Str.{chars};
-ghost use Rattle.cj_spans.specs.Finding.{least};
-ghost use Rattle.cj_spans.specs.Tree.{Tree};
-ghost use Rattle.cj_spans.specs.Parts.{member_of};
+ghost use Rattle.cj_spans.specs.Meaning.Finding.{least};
+ghost use Rattle.cj_spans.specs.Meaning.Tree.{Tree};
+ghost use Rattle.cj_spans.specs.Meaning.Parts.{member_of};
 ghost use Rattle.cj_spans.specs.View.{tree};
 ghost use Rattle.cj_geometry.specs.Given.{given};
-ghost use Rattle.cj_geometry.specs.ObjectTypes.{row_at, row_of, is_second_level as is_second_level_of};
-ghost use Rattle.cj_geometry.specs.Rule.{if_there, needs};
-ghost use Rattle.cj_feature.specs.Feature.{object_type, geometries, texts, second_level, city_object, city_objects};
-ghost use Rattle.cj_feature.specs.Links.{is_part as is_part_of, object_links, links};
+ghost use Rattle.cj_geometry.specs.ObjectTypes.{row_at};
+ghost use Rattle.cj_geometry.specs.Meaning.ObjectTypes.{row_of, is_second_level as is_second_level_of};
+ghost use Rattle.cj_geometry.specs.Meaning.Rule.{if_there, needs};
+ghost use Rattle.cj_feature.specs.Meaning.Feature.{object_type, geometries, texts, second_level, city_object};
+ghost use Rattle.cj_feature.specs.Meaning.Feature.{city_objects};
+ghost use Rattle.cj_feature.specs.Meaning.Links.{is_part as is_part_of, object_links, links};
 
 use cj_geometry::rule::{
     add, check_array, check_names, check_names_unless, check_object, check_text, check_there,

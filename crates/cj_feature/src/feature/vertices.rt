@@ -3,8 +3,9 @@ ghost use Rattle.std.specs.Prelude.{◌≡◌, ◌∷◌, ◌<◌, ℕ, true, po
 ghost use Rattle.std.specs.List.{list_all};
 ghost use Rattle.cj_spans.specs.View.{tree, items_left};
 ghost use Rattle.cj_decimal.specs.Word.{IsWordOf};
-ghost use Rattle.cj_geometry.specs.Rule.{whole_of};
-ghost use Rattle.cj_feature.specs.Typed.{vertex_of, is_vertex, begins_whole, number_on};
+ghost use Rattle.cj_geometry.specs.Meaning.Numbers.{whole_of};
+ghost use Rattle.cj_feature.specs.Meaning.CityObject.{vertex_of, number_on};
+ghost use Rattle.cj_feature.specs.inner.Typed.{is_vertex, begins_whole};
 
 use cj_geometry::rule::{read_whole, read_whole_word};
 use cj_spans::{Items, Node};
@@ -58,7 +59,7 @@ fn read_word_on(node: Node, axis: u32) -> Option<u64>
 
 impl<'a> Vertices<'a> {
     ghost use Rattle.std.specs.Prelude.{◌≡◌, ◌∷◌, [], ℤ, List, Option, IfSome, IsTrue, drop};
-    ghost use Rattle.cj_spans.specs.Parts.{items_of};
+    ghost use Rattle.cj_spans.specs.Meaning.Parts.{items_of};
     ghost use Rattle.cj_feature.specs.Walks.{vertices_left};
 
     /// Returns a walk over items that are vertices.

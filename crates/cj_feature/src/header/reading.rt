@@ -5,16 +5,19 @@ ghost use Rattle.std.specs.Option.{ForSome};
 ghost use Rattle.std.specs.Str.{chars};
 ghost use Rattle.cj_spans.specs.declared.reason.Reason.TheVariants.{NotThree};
 ghost use Rattle.cj_spans.specs.declared.token.Kind.TheVariants.{Array};
-ghost use Rattle.cj_spans.specs.Tree.{Tree};
-ghost use Rattle.cj_spans.specs.Parts.{kind_of, items_of, member_of};
+ghost use Rattle.cj_spans.specs.Meaning.Tree.{Tree};
+ghost use Rattle.cj_spans.specs.Meaning.Parts.{kind_of, items_of, member_of, items_if};
 ghost use Rattle.cj_spans.specs.View.{tree, items_left, line_of};
-ghost use Rattle.cj_geometry.specs.Geometry.{listed, empty, list_of, parts_of};
+ghost use Rattle.cj_geometry.specs.Meaning.Geometry.{listed, empty};
+ghost use Rattle.cj_geometry.specs.Given.{list_of};
 ghost use Rattle.cj_geometry.specs.ListSteps.{AreStepsOf};
-ghost use Rattle.cj_geometry.specs.Rule.{number, needs, of_length};
-ghost use Rattle.cj_feature.specs.Feature.{templates_of};
-ghost use Rattle.cj_feature.specs.Header.{is_fixed, units_of, header};
-ghost use Rattle.cj_feature.specs.Members.{items_if};
-ghost use Rattle.cj_feature.specs.Shown.{value_of, first_maps, are_fixed, parts_box, ArePartsOf};
+ghost use Rattle.cj_geometry.specs.Meaning.Numbers.{number, value_of};
+ghost use Rattle.cj_geometry.specs.Meaning.Rule.{needs, of_length};
+ghost use Rattle.cj_feature.specs.Meaning.Feature.{templates_of};
+ghost use Rattle.cj_decimal.specs.Meaning.Number.{is_fixed, units_of};
+ghost use Rattle.cj_feature.specs.Meaning.Header.{header};
+ghost use Rattle.cj_feature.specs.Meaning.Transform.{first_maps};
+ghost use Rattle.cj_feature.specs.Shown.{are_fixed, parts_box, ArePartsOf};
 
 use cj_decimal::{Affine, Decimal};
 use cj_geometry::Steps;
@@ -125,7 +128,7 @@ pub fn template_list(root: Node) -> Option<Node>
 /// Returns the steps of the list of templates of a header, if it has one, by a walk over it.
 fn template_steps(root: Node) -> Option<Steps>
     ensures listed { is_some result ≡ is_some (list_of (templates_of (tree root.entry))) }
-    ensures steps { ForSome result (AreStepsOf (parts_of (list_of (templates_of (tree root.entry))))) }
+    ensures steps { ForSome result (AreStepsOf (items_if (list_of (templates_of (tree root.entry))))) }
 {
     match template_list(root) {
         Some(list) => Some(Steps::of(list)),

@@ -2,13 +2,16 @@
 ghost use Rattle.std.specs.Prelude.{◌≡◌, [], Some, MatchResult, IfOk, cond, codes};
 ghost use Rattle.std.specs.Str.{chars};
 ghost use Rattle.cj_spans.specs.declared.reason.Reason.TheVariants.{NotThree, TransformNotFixed};
-ghost use Rattle.cj_spans.specs.Finding.{least, IsLeast};
+ghost use Rattle.cj_spans.specs.Meaning.Finding.{least};
+ghost use Rattle.cj_spans.specs.Meaning.Least.{IsLeast};
 ghost use Rattle.cj_spans.specs.View.{tree, document, document_line};
-ghost use Rattle.cj_geometry.specs.Rule.{one, needs, may_have, number, of_length};
-ghost use Rattle.cj_geometry.specs.Geometry.{count_of};
-ghost use Rattle.cj_spans.specs.Parts.{items_of, member_of};
-ghost use Rattle.cj_feature.specs.Header.{fixed, first_two, three_numbers, transform, no_members, empty_object};
-ghost use Rattle.cj_feature.specs.Header.{empty_array, template_vertices, template_list, geometry_templates, header};
+ghost use Rattle.cj_geometry.specs.Meaning.Rule.{one, needs, may_have, of_length};
+ghost use Rattle.cj_geometry.specs.Meaning.Numbers.{number};
+ghost use Rattle.cj_geometry.specs.Meaning.Geometry.{count_of};
+ghost use Rattle.cj_spans.specs.Meaning.Parts.{items_of, member_of};
+ghost use Rattle.cj_feature.specs.Meaning.Header.{fixed, first_two, three_numbers, transform, no_members, empty_object};
+ghost use Rattle.cj_feature.specs.Meaning.Header.{empty_array, template_vertices, template_list, geometry_templates};
+ghost use Rattle.cj_feature.specs.Meaning.Header.{header};
 ghost use Rattle.cj_feature.specs.HeaderView.{header_tree, header_line, has_box};
 
 use crate::header::Header;

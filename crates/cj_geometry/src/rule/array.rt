@@ -1,10 +1,10 @@
 //! Arrays: how many items they have.
 ghost use Rattle.std.specs.Prelude.{◌≡◌, length};
-ghost use Rattle.cj_spans.specs.Finding.{least};
-ghost use Rattle.cj_spans.specs.Kinds.{is_array};
-ghost use Rattle.cj_spans.specs.Parts.{items_of};
+ghost use Rattle.cj_spans.specs.Meaning.Finding.{least};
+ghost use Rattle.cj_spans.specs.Meaning.Kinds.{is_array};
+ghost use Rattle.cj_spans.specs.Meaning.Parts.{items_of};
 ghost use Rattle.cj_spans.specs.View.{tree};
-ghost use Rattle.cj_geometry.specs.Rule.{of_kind, has_length};
+ghost use Rattle.cj_geometry.specs.Meaning.Rule.{of_kind, has_length};
 
 use crate::rule::{add, check_array};
 use cj_spans::{Least, Node, Reason};

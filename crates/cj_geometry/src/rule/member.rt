@@ -1,11 +1,11 @@
 //! Members of an object.
 ghost use Rattle.std.specs.Prelude.{◌≡◌, ℕ, List, option_map, IfSome};
 ghost use Rattle.std.specs.Str.{chars};
-ghost use Rattle.cj_spans.specs.Finding.{least};
-ghost use Rattle.cj_spans.specs.Kinds.{is_text};
-ghost use Rattle.cj_spans.specs.Parts.{member_of};
+ghost use Rattle.cj_spans.specs.Meaning.Finding.{least};
+ghost use Rattle.cj_spans.specs.Meaning.Kinds.{is_text};
+ghost use Rattle.cj_spans.specs.Meaning.Parts.{member_of};
 ghost use Rattle.cj_spans.specs.View.{tree, line_of};
-ghost use Rattle.cj_geometry.specs.Rule.{of_kind, nothing, missing, needs};
+ghost use Rattle.cj_geometry.specs.Meaning.Rule.{of_kind, nothing, missing, needs};
 
 use crate::rule::{add, check_text};
 use cj_spans::{Least, Node, Reason};

@@ -13,13 +13,14 @@
 //! for an object of up to 64 KiB, and 512 KiB for a longer one.
 ghost use Rattle.std.specs.Prelude.{◌≡◌, ◌<◌, ◌≤◌, ◌^◌, [], length, take, true, Some, IsSome, IfSome, All};
 ghost use Rattle.std.specs.List.Sorted.{IsPermutation};
-ghost use Rattle.cj_spans.specs.Finding.{least};
+ghost use Rattle.cj_spans.specs.Meaning.Finding.{least};
 ghost use Rattle.cj_spans.specs.Initials.{begin_apart};
-ghost use Rattle.cj_spans.specs.Parts.{members_of, AreInOrder};
+ghost use Rattle.cj_spans.specs.Meaning.Parts.{members_of};
+ghost use Rattle.cj_spans.specs.Places.{AreNamesInOrder};
 ghost use Rattle.cj_spans.specs.View.{tree, source_of, members_left};
-ghost use Rattle.cj_geometry.specs.Rule.{repeats_of, distinct};
-ghost use Rattle.cj_geometry.specs.Names.{is_above, is_below, Ascend, repeat_of, neighbours, last_of, names_of};
-ghost use Rattle.cj_geometry.specs.WordedNames.{IsWorded, name_in, names_in, limit_in, TakeOne, HoldNames};
+ghost use Rattle.cj_geometry.specs.Meaning.Rule.{repeats_of, distinct};
+ghost use Rattle.cj_geometry.specs.inner.Names.{is_above, is_below, Ascend, repeat_of, neighbours, last_of, names_of};
+ghost use Rattle.cj_geometry.specs.inner.WordedNames.{IsWorded, name_in, names_in, limit_in, TakeOne, HoldNames};
 
 use crate::rule::add;
 use crate::rule::order::{NO_NAME, WordedName, is_before, sort, take_least};
@@ -200,7 +201,7 @@ fn gather(
     ensures room { length room.new ≡ length room.old }
     ensures count { result.count < length room.new }
     ensures more { IsSome result.ceiling → 0 < result.count }
-    ensures order { AreInOrder (members_of (tree object.entry)) }
+    ensures order { AreNamesInOrder (members_of (tree object.entry)) }
     ensures names { let s = source_of object.entry in
         HoldNames s (names_of (members_of (tree object.entry))) [] (limit_in s floor) (limit_in s result.ceiling)
         (take result.count room.new) }

@@ -2,13 +2,14 @@
 ghost use Rattle.std.specs.Prelude.{◌≡◌, ℕ, ℤ, ◌<◌, ◌^◌, nat_lt, not, pos, Some, IfSome, IsTrue, length, take, []};
 ghost use Rattle.std.specs.List.{flat_map};
 ghost use Rattle.cj_spans.specs.declared.reason.Reason.{Reason as ReasonOf};
-ghost use Rattle.cj_spans.specs.Parts.{items_of};
+ghost use Rattle.cj_spans.specs.Meaning.Parts.{items_of};
 ghost use Rattle.cj_decimal.specs.Word.{IsWordOf, TellsBelow};
 ghost use Rattle.cj_geometry.specs.Lone.{AreLone};
-ghost use Rattle.cj_spans.specs.Finding.{least};
+ghost use Rattle.cj_spans.specs.Meaning.Finding.{least};
 ghost use Rattle.cj_spans.specs.View.{tree};
-ghost use Rattle.cj_geometry.specs.Rule.{number, index, whole_number, is_outside as is_outside_of, whole_of};
-ghost use Rattle.cj_geometry.specs.Rule.{fault_reason, of_length};
+ghost use Rattle.cj_geometry.specs.Meaning.Numbers.{number, index, whole_number, is_outside as is_outside_of, whole_of};
+ghost use Rattle.cj_geometry.specs.Meaning.Numbers.{fault_reason};
+ghost use Rattle.cj_geometry.specs.Meaning.Rule.{of_length};
 
 use crate::rule::{add, is_told_before};
 use cj_decimal::{Decimal, DecimalFault, digits_word};

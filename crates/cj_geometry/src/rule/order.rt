@@ -6,8 +6,8 @@
 ghost use Rattle.std.specs.Prelude.{◌≡◌, ◌<◌, length, All};
 ghost use Rattle.std.specs.List.Sorted.{IsPermutation};
 ghost use Rattle.cj_spans.specs.View.{tree, source_of};
-ghost use Rattle.cj_geometry.specs.Names.{compare_names, is_earlier, Ascend};
-ghost use Rattle.cj_geometry.specs.WordedNames.{IsWorded, word_in, name_in, names_in, compare_worded, AreLeast};
+ghost use Rattle.cj_geometry.specs.inner.Names.{compare_names, is_earlier, Ascend};
+ghost use Rattle.cj_geometry.specs.inner.WordedNames.{IsWorded, word_in, name_in, names_in, compare_worded, AreLeast};
 
 use cj_spans::Node;
 use std::cmp::Ordering;

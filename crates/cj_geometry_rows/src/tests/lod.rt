@@ -1,6 +1,6 @@
 //! The level of detail of a geometry. A row expects the byte and the spelling of the value that is
 //! returned.
-ghost use Rattle.cj_spans.specs.Parts.{items_of};
+ghost use Rattle.cj_spans.specs.Meaning.Parts.{items_of};
 ghost use Rattle.cj_spans.specs.View.{tree};
 ghost use Rattle.cj_geometry.specs.ListSteps.{AreStepsOf};
 

@@ -1,6 +1,6 @@
 //! How many templates can be named. A row expects whether there is none, and the numbers below 4
 //! that name one.
-ghost use Rattle.cj_spans.specs.Parts.{items_of};
+ghost use Rattle.cj_spans.specs.Meaning.Parts.{items_of};
 ghost use Rattle.cj_spans.specs.View.{tree};
 ghost use Rattle.cj_geometry.specs.ListSteps.{AreStepsOf};
 

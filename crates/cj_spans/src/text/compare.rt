@@ -1,9 +1,9 @@
 //! The order of texts, and whether two texts are the same. Both go by code points.
 ghost use Rattle.std.specs.Prelude.{◌≡◌, ◌+◌, ◌-◌, ◌<◌, ◌≤◌, length, nat_eq, true, false};
 ghost use Rattle.std.specs.Str.{chars};
-ghost use Rattle.cj_spans.specs.Decoding.{code_points_from, code_points_left, left, StartAlike};
+ghost use Rattle.cj_spans.specs.inner.Decoding.{code_points_from, code_points_left, left, StartAlike};
 ghost use Rattle.cj_spans.specs.Order.{compare};
-ghost use Rattle.cj_spans.specs.Text.{text, are_same};
+ghost use Rattle.cj_spans.specs.Meaning.Text.{text, are_same};
 
 use crate::lanes::{FEW_LANES, LANES, find_unlike, find_unlike_of_few};
 use crate::text::decode::{Characters, CodePoints};

@@ -7,10 +7,9 @@ ghost use Rattle.std.specs.Prelude.{IfSome, IsTrue, MatchOption, is_some, Some, 
 ghost use Rattle.std.specs.Str.{chars, chars_after};
 ghost use Rattle.std.specs.Char.{digit_value as digit_value_of};
 ghost use Rattle.std.specs.Char.Utf16.{is_high_surrogate as is_high_of, is_low_surrogate as is_low_of};
-ghost use Rattle.cj_spans.specs.Decoding.{left, after_read, ReadsCodePoint};
-ghost use Rattle.cj_spans.specs.Decoding.{code_points_left, characters_left};
-ghost use Rattle.cj_spans.specs.Text.{char_of, four_digits, escaped as escaped_of, is_escaped, is_unicode, unit};
-ghost use Rattle.cj_spans.specs.Text.{first_code_point, first_width, text};
+ghost use Rattle.cj_spans.specs.inner.Decoding.{left, after_read, ReadsCodePoint, code_points_left, characters_left};
+ghost use Rattle.cj_spans.specs.Meaning.Text.{char_of, four_digits, escaped as escaped_of, is_escaped, is_unicode};
+ghost use Rattle.cj_spans.specs.Meaning.Text.{unit, first_code_point, first_width, text};
 
 /// A code point, and the place after it.
 #[derive(Clone, Copy)]

@@ -1,11 +1,11 @@
 //! Numbers of texts: equal texts have equal numbers in any spelling.
 ghost use Rattle.std.specs.Prelude.{◌≡◌, ◌+◌, ◌^◌, ◌<◌, ◌≤◌, length, nat_eq, false, IsTrue, Some};
 ghost use Rattle.std.specs.Str.{chars};
-ghost use Rattle.cj_spans.specs.Decoding.{AreAlike, code_points_from, code_points_left};
+ghost use Rattle.cj_spans.specs.inner.Decoding.{AreAlike, code_points_from, code_points_left};
 ghost use Rattle.cj_spans.specs.Tail.{tail_step, tail_on, tail_of};
 ghost use Rattle.cj_spans.specs.Mix.{mix_step, mix_on};
 ghost use Rattle.cj_spans.specs.Order.{digits};
-ghost use Rattle.cj_spans.specs.Signs.{backslash};
+ghost use Rattle.cj_spans.specs.Meaning.Signs.{backslash};
 
 use crate::lanes::{FEW_LANES, find_unlike_of_few};
 use crate::text::decode::{Characters, CodePoints};

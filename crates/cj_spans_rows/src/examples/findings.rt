@@ -1,7 +1,7 @@
 //! The least of worked findings: each contract is a theorem.
 ghost use Rattle.std.specs.Prelude.{◌≡◌, ◌∷◌, [], Some, None};
 ghost use Rattle.cj_spans.specs.declared.reason.Reason.TheVariants.{WrongKind, MissingMember, VertexIndex};
-ghost use Rattle.cj_spans.specs.Finding.{least, found_at};
+ghost use Rattle.cj_spans.specs.Meaning.Finding.{least, found_at};
 
 /// Of two findings the one at the earlier byte is kept, and at one byte the one with the lesser
 /// code.

@@ -2,7 +2,7 @@
 //! over the tree.
 ghost use Rattle.std.specs.Prelude.{◌≡◌};
 ghost use Rattle.std.specs.Str.{chars};
-ghost use Rattle.cj_spans.specs.Finding.{least};
+ghost use Rattle.cj_spans.specs.Meaning.Finding.{least};
 ghost use Rattle.cj_spans.specs.View.{tree};
 ghost use Rattle.cj_spans_rows.specs.Examples.{not_number, not_numbers, not_lists_of_numbers, member_no_number};
 

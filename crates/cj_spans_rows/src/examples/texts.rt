@@ -1,7 +1,7 @@
 //! The texts of worked spellings: each contract is a theorem about one spelling.
 ghost use Rattle.std.specs.Prelude.{◌≡◌, ◌∷◌, [], codes, None, Some};
-ghost use Rattle.cj_spans.specs.Order.{word_of};
-ghost use Rattle.cj_spans.specs.Text.{text};
+ghost use Rattle.cj_spans.specs.Order.{front_word};
+ghost use Rattle.cj_spans.specs.Meaning.Text.{text};
 
 /// The empty string.
 pub fn empty_text()
@@ -56,10 +56,10 @@ pub fn longer_characters()
 /// The first eight code points as a number. The first one has the same weight in a shorter text. A
 /// code point from 255 on ends the number.
 pub fn words_of_texts()
-    ensures none { word_of None ≡ 0 }
-    ensures short { word_of (Some (codes "ab")) ≡ 0x6162_0000_0000_0000 }
-    ensures long { word_of (Some (codes "abcdefghi")) ≡ 0x6162_6364_6566_6768 }
-    ensures cut { word_of (Some (97 ∷ 8364 ∷ 98 ∷ [])) ≡ 0x61FF_0000_0000_0000 }
-    ensures edge { word_of (Some (97 ∷ 255 ∷ 98 ∷ [])) ≡ 0x61FF_0000_0000_0000 }
-    ensures below { word_of (Some (97 ∷ 254 ∷ 98 ∷ [])) ≡ 0x61FE_6200_0000_0000 }
+    ensures none { front_word None ≡ 0 }
+    ensures short { front_word (Some (codes "ab")) ≡ 0x6162_0000_0000_0000 }
+    ensures long { front_word (Some (codes "abcdefghi")) ≡ 0x6162_6364_6566_6768 }
+    ensures cut { front_word (Some (97 ∷ 8364 ∷ 98 ∷ [])) ≡ 0x61FF_0000_0000_0000 }
+    ensures edge { front_word (Some (97 ∷ 255 ∷ 98 ∷ [])) ≡ 0x61FF_0000_0000_0000 }
+    ensures below { front_word (Some (97 ∷ 254 ∷ 98 ∷ [])) ≡ 0x61FE_6200_0000_0000 }
 {}

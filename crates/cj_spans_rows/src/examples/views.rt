@@ -1,11 +1,13 @@
 //! Views of worked trees: each contract is a theorem about one tree.
 ghost use Rattle.std.specs.Prelude.{◌≡◌, ◌∷◌, [], codes, Some, None, true, false};
 ghost use Rattle.cj_spans.specs.declared.token.Kind.TheVariants.{Text, Number, Object};
-ghost use Rattle.cj_spans.specs.Tree.{scalar, array, object, item, no_items, member, no_members};
-ghost use Rattle.cj_spans.specs.Json.{atom_at};
+ghost use Rattle.cj_spans.specs.Meaning.Tree.{scalar, array, object, item, no_items, member, no_members};
+ghost use Rattle.cj_spans.specs.Meaning.Json.{atom_at};
 ghost use Rattle.cj_spans.specs.Forest.{forest};
 ghost use Rattle.cj_spans.specs.Preorder.{span_at, preorder};
-ghost use Rattle.cj_spans.specs.Parts.{kind_of, items_of, members_of, member_of, has_text, first_code_of, spelling_of};
+ghost use Rattle.cj_spans.specs.Meaning.Parts.{kind_of, items_of, members_of, member_of, has_text};
+ghost use Rattle.cj_spans.specs.Initials.{first_code_of};
+ghost use Rattle.cj_spans.specs.Places.{spelling_of};
 ghost use Rattle.cj_spans_rows.specs.Examples.{line, seven, named_line, named};
 
 /// The member of a name is the first one whose name has that text, in any spelling.

@@ -2,16 +2,14 @@
 use Rattle.std.specs.Prelude.{ℕ, List, Bool, true, false, ◌&&◌, Option, Some, None, ℤ, pos, int_le, get_or, map, codes}
 use Rattle.std.specs.List.{list_any, flat_map}
 use Rattle.std.specs.Str.{chars}
-use Rattle.cj_decimal.specs.Affine.{AffineMap, image}
-use Rattle.cj_spans.specs.Tree.{Tree}
-use Rattle.cj_spans.specs.Parts.{member_of, has_text}
-use Rattle.cj_geometry.specs.Lod.{lod}
-use Rattle.cj_geometry.specs.ObjectTypes.{ObjectRow}
-use Rattle.cj_feature.specs.Feature.{templates_of}
-use Rattle.cj_feature.specs.Members.{items_if}
-use Rattle.cj_feature.specs.Shown.{maps_of}
-use Rattle.cj_feature.specs.Typed.{type_row, members_if, vertex_of, number_on}
-use Rattle.cj_feature.specs.Walks.{object_geometries}
+use Rattle.cj_decimal.specs.Meaning.Affine.{AffineMap, image}
+use Rattle.cj_spans.specs.Meaning.Tree.{Tree}
+use Rattle.cj_spans.specs.Meaning.Parts.{member_of, has_text, items_if, members_if}
+use Rattle.cj_geometry.specs.Meaning.Lod.{lod}
+use Rattle.cj_geometry.specs.Meaning.ObjectTypes.{ObjectRow}
+use Rattle.cj_feature.specs.Meaning.Feature.{templates_of}
+use Rattle.cj_feature.specs.Meaning.Transform.{maps_of}
+use Rattle.cj_feature.specs.Meaning.CityObject.{type_row, vertex_of, number_on, object_geometries}
 
 -- a box in the plane, in units of 10^-18
 pub record Box : Type 0 where

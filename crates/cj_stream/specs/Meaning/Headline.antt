@@ -1,7 +1,7 @@
 -- The headline.
 use Rattle.std.specs.Prelude.{◌≡◌, ℕ, List, [], ◌∷◌, true}
 use Rattle.std.specs.Io.KnownBytes.{Appends, Keeps}
-use Rattle.cj_budget.specs.Counts.{HasRisen}
+use Rattle.cj_budget.specs.Meaning.Counts.{HasRisen}
 use Rattle.cj_budget.specs.declared.limits.Peaks.{Peaks}
 use Rattle.cj_stream.specs.declared.ending.End.{End}
 use Rattle.cj_stream.specs.declared.ending.End.TheVariants.{Complete, Refused, ReadFault, ReadLimit, WriteFault, Memory}

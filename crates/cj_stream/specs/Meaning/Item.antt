@@ -1,6 +1,6 @@
 -- What is put to a sink: a header, or a feature beside its header.
 use Rattle.std.specs.Prelude.{ℕ, List, Bool, Option, is_some}
-use Rattle.cj_spans.specs.Tree.{Tree}
+use Rattle.cj_spans.specs.Meaning.Tree.{Tree}
 use Rattle.cj_stream.specs.Meaning.Lines.{Line, raw}
 
 -- a line, the tree that it spells, and, if it is a feature, the tree of its header

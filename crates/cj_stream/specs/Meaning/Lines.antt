@@ -1,6 +1,6 @@
 -- The lines of a stream.
 use Rattle.std.specs.Prelude.{ℕ, List, [], ◌∷◌, ◌++◌, Bool, true, false, ◌==◌, if◌then◌else◌, map}
-pub use Rattle.cj_spans.specs.Signs.{newline}
+pub use Rattle.cj_spans.specs.Meaning.Signs.{newline}
 
 -- a line: its content, and whether LF ended it
 pub record Line : Type 0 where

@@ -1,5 +1,5 @@
 -- What lines are judged by.
-use Rattle.cj_budget.specs.Limits.{LimitPair}
+use Rattle.cj_budget.specs.Meaning.Limits.{LimitPair}
 use Rattle.cj_stream.specs.Meaning.Criteria.{Criteria}
 use Rattle.cj_stream.specs.Meaning.Options.{OptionSet}
 

@@ -7,13 +7,13 @@ use Rattle.std.specs.Str.Lossy.{utf8_valid_len}
 use Rattle.cj_spans.specs.declared.reason.Reason.{Reason}
 use Rattle.cj_spans.specs.declared.reason.Reason.TheVariants.{LineTooLong, NotUtf8, Syntax, TooDeep}
 use Rattle.cj_spans.specs.declared.finding.Finding.{Finding}
-use Rattle.cj_spans.specs.Signs.{carriage_return, space, tab}
-use Rattle.cj_spans.specs.Finding.{least}
-use Rattle.cj_spans.specs.Front.{SyntaxAt, DeepAt, NowhereDeep}
-use Rattle.cj_spans.specs.Json.{Json}
-use Rattle.cj_spans.specs.Tree.{Tree, nest}
-use Rattle.cj_feature.specs.Header.{header as header_findings}
-use Rattle.cj_feature.specs.Feature.{feature as feature_findings}
+use Rattle.cj_spans.specs.Meaning.Signs.{carriage_return, space, tab}
+use Rattle.cj_spans.specs.Meaning.Finding.{least}
+use Rattle.cj_spans.specs.Meaning.Prefix.{SyntaxAt, DeepAt, NowhereDeep}
+use Rattle.cj_spans.specs.Meaning.Json.{Json}
+use Rattle.cj_spans.specs.Meaning.Tree.{Tree, nest}
+use Rattle.cj_feature.specs.Meaning.Header.{header as header_findings}
+use Rattle.cj_feature.specs.Meaning.Feature.{feature as feature_findings}
 use Rattle.cj_stream.specs.Meaning.Criteria.{needs_box, holds}
 use Rattle.cj_stream.specs.Meaning.Rules.{Rules}
 

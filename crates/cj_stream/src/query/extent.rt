@@ -1,6 +1,6 @@
 //! Whether a feature is in a box.
 ghost use Rattle.std.specs.Prelude.{◌≡◌, ◌<◌, ◌||◌, ◌∷◌, [], true, int_le, List, ℤ, Some};
-ghost use Rattle.cj_decimal.specs.Affine.{image};
+ghost use Rattle.cj_decimal.specs.Meaning.Affine.{image};
 ghost use Rattle.cj_feature.specs.HeaderView.{header_tree, has_box};
 ghost use Rattle.cj_feature.specs.View.{feature_tree};
 ghost use Rattle.cj_feature.specs.Walks.{coordinates_left};

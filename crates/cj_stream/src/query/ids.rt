@@ -25,7 +25,7 @@ ghost use Rattle.std.specs.Prelude.{IfSome};
 ghost use Rattle.std.specs.List.{list_any};
 ghost use Rattle.std.specs.List.Sorted.{IsNonDecreasingBy, IsPermutation};
 ghost use Rattle.std.specs.Ordering.{is_eq};
-ghost use Rattle.cj_spans.specs.Parts.{text_of};
+ghost use Rattle.cj_spans.specs.Meaning.Parts.{text_of};
 ghost use Rattle.cj_spans.specs.View.{tree};
 ghost use Rattle.cj_stream.specs.Adding.{with_text};
 ghost use Rattle.cj_stream.specs.Meaning.Criteria.{is_one_of as is_one};

@@ -2,7 +2,8 @@ use Rattle.std.proofs.Common.{◌≡◌, ◌∙◌, List, ◌∷◌, ℕ, ◌+�
 use Rattle.std.specs.Prelude.{MatchOption, option_and_then, slice_set, unwrap_or, is_err, false}
 use Rattle.std.proofs.lemmas.Iterator.Consumers.{YieldsList-turn, YieldsList-end}
 use Rattle.std.proofs.lemmas.List.{at_drop_more, at_drop_all, length_push}
-use Rattle.cj_geometry.specs.ObjectTypes.{ObjectRow, row_named}
+use Rattle.cj_geometry.specs.Meaning.ObjectTypes.{ObjectRow}
+use Rattle.cj_geometry.specs.ObjectTypes.{row_named}
 use Rattle.cj_stream.specs.Meaning.Criteria.{Criteria}
 use Rattle.cj_stream.specs.Adding.{flags_with, no_types, with_type}
 use Rattle.cj_stream.specs.Query.{criteria}

@@ -1,5 +1,5 @@
 use Rattle.std.proofs.Common.{refl, inl, inr}
-use Rattle.cj_geometry.specs.ObjectTypes.{object_types}
+use Rattle.cj_geometry.specs.Meaning.ObjectTypes.{object_types}
 use Rattle.cityseq_command.proofs.end_laws.declines_compute.Goals as goal
 
 pub returns : goal.returns

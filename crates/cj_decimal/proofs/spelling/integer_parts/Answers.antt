@@ -1,7 +1,6 @@
 use Rattle.std.proofs.Common.{ap, sym, ◌∙◌, refl}
 use Rattle.std.proofs.lemmas.Bool.{false≢true}
-use Rattle.cj_decimal.specs.Reading.{is_int, digits_front, digits_rest, written_of}
-use Rattle.cj_decimal.specs.Spelling.{digits_value}
+use Rattle.cj_decimal.specs.Meaning.Reading.{is_int, digits_front, digits_rest, written_of, digits_value}
 use Rattle.cj_decimal.proofs.Parts.{not_int, integer_spells, integer_read, nothing_follows}
 use Rattle.cj_decimal.proofs.spelling.integer_parts.Goals as goal
 

@@ -1,5 +1,5 @@
 use Rattle.std.proofs.Common.{arith, sym, ◌∙◌, drop, length-drop, true, false}
-use Rattle.cj_decimal.specs.Spelling.{digits_value}
+use Rattle.cj_decimal.specs.Meaning.Reading.{digits_value}
 use Rattle.std.proofs.lemmas.Int.{ints}
 use Rattle.cj_decimal.proofs.Ways.{drop_all}
 use Rattle.cj_decimal.proofs.Parts.{exp_none, exp_unmarked, marked_at, saturates_read}

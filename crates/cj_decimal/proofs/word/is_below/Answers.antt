@@ -1,7 +1,7 @@
 use Rattle.std.proofs.Common.{◌<◌, ℕ, nat_lt, refl, arith}
 use Rattle.std.specs.Prelude.{slice_range, IsTrue}
 use Rattle.std.proofs.lemmas.Bool.Decides.{nat_tests}
-use Rattle.cj_decimal.specs.Spelling.{digits_value}
+use Rattle.cj_decimal.specs.Meaning.Reading.{digits_value}
 use Rattle.cj_decimal.proofs.Below.{told_below, word_below, word_short}
 use Rattle.cj_decimal.proofs.word.is_below.Goals as goal
 

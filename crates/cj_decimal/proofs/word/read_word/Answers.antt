@@ -1,6 +1,6 @@
 use Rattle.std.proofs.Common.{refl}
 use Rattle.std.specs.Prelude.{slice_range}
-use Rattle.cj_decimal.specs.Spelling.{digits_value}
+use Rattle.cj_decimal.specs.Meaning.Reading.{digits_value}
 use Rattle.cj_decimal.proofs.Below.{word_short}
 use Rattle.cj_decimal.proofs.word.read_word.Goals as goal
 

@@ -1,11 +1,11 @@
 //! The two kinds of links between city objects: what one lists has to list it too.
 ghost use Rattle.std.specs.Prelude.{◌≡◌, false};
 ghost use Rattle.std.specs.Str.{chars};
-ghost use Rattle.cj_spans.specs.Finding.{least};
-ghost use Rattle.cj_spans.specs.Parts.{members_of};
+ghost use Rattle.cj_spans.specs.Meaning.Finding.{least};
+ghost use Rattle.cj_spans.specs.Meaning.Parts.{members_of};
 ghost use Rattle.cj_spans.specs.View.{tree};
-ghost use Rattle.cj_feature.specs.Links.{is_known};
-ghost use Rattle.cj_feature.specs.Kin.{list_of, back_of, exempts, linked};
+ghost use Rattle.cj_feature.specs.Meaning.Links.{is_known};
+ghost use Rattle.cj_feature.specs.inner.Kin.{list_of, back_of, exempts, linked};
 
 use crate::feature::links::{check_child, check_parent, is_group};
 use cj_spans::{Least, Node};

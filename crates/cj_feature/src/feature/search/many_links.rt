@@ -4,12 +4,13 @@
 ghost use Rattle.std.specs.Prelude.{◌≡◌, ◌<◌, ◌^◌, [], ◌++◌, true, codes};
 ghost use Rattle.std.specs.List.{flat_map, list_any};
 ghost use Rattle.std.specs.Str.{chars};
-ghost use Rattle.cj_spans.specs.Finding.{least};
-ghost use Rattle.cj_spans.specs.Parts.{items_of, members_of};
+ghost use Rattle.cj_spans.specs.Meaning.Finding.{least};
+ghost use Rattle.cj_spans.specs.Meaning.Parts.{items_of, members_of};
 ghost use Rattle.cj_spans.specs.View.{tree, items_left, source_of, tree_in};
-ghost use Rattle.cj_feature.specs.Kin.{list_of, back_of, linked, all_linked};
-ghost use Rattle.cj_feature.specs.Links.{is_known as is_known_in, listed_in, children, parents, part, object_links};
-ghost use Rattle.cj_feature.specs.Questions.{noted_in, AreAnswered};
+ghost use Rattle.cj_feature.specs.inner.Kin.{list_of, back_of, linked, all_linked};
+ghost use Rattle.cj_feature.specs.Meaning.Links.{is_known as is_known_in, listed_in, children, parents, part};
+ghost use Rattle.cj_feature.specs.Meaning.Links.{object_links};
+ghost use Rattle.cj_feature.specs.inner.Questions.{noted_in, AreAnswered};
 
 use crate::feature::ids::is_known;
 use crate::feature::links::{SHORT, has_as_many, parents_of_part};

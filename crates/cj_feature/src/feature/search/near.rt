@@ -38,15 +38,15 @@ pub struct Near<const OBJECTS: usize, const LISTS: usize, const PENDING: usize> 
 impl<const OBJECTS: usize, const LISTS: usize, const PENDING: usize> Near<OBJECTS, LISTS, PENDING> {
     ghost use Rattle.std.specs.Prelude.{◌≡◌, Some, length, List, ℕ, ◌^◌, codes};
     ghost use Rattle.std.specs.Str.{chars};
-    ghost use Rattle.cj_spans.specs.Json.{Json};
-    ghost use Rattle.cj_spans.specs.Parts.{member_of};
+    ghost use Rattle.cj_spans.specs.Meaning.Json.{Json};
+    ghost use Rattle.cj_spans.specs.Meaning.Parts.{member_of};
     ghost use Rattle.cj_spans.specs.Preorder.{spans_of};
     ghost use Rattle.cj_spans.specs.Sound.{AreOf};
-    ghost use Rattle.cj_spans.specs.Tree.{Tree};
+    ghost use Rattle.cj_spans.specs.Meaning.Tree.{Tree};
     ghost use Rattle.cj_spans.specs.View.{tree, line_of, tree_at, document, document_line, document_source, tokens_in};
-    ghost use Rattle.cj_feature.specs.Marking.{AllReached, OnlyMarks, ReachesName, Knows, WaitsFor, AddsNone, IsGuide};
-    ghost use Rattle.cj_feature.specs.Marking.{spans_by};
-    ghost use Rattle.cj_feature.specs.Reached.{IsReachedObject};
+    ghost use Rattle.cj_feature.specs.inner.Marking.{AllReached, OnlyMarks, ReachesName, Knows, WaitsFor, AddsNone};
+    ghost use Rattle.cj_feature.specs.inner.Marking.{IsGuide, spans_by};
+    ghost use Rattle.cj_feature.specs.Meaning.Reachable.{IsReachedObject};
 
     /// Finishes the city object at this place, if it has this name and is not finished. Then it
     /// waits if it has no mark. Returns whether it was finished here.

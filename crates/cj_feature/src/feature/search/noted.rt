@@ -2,11 +2,11 @@
 //! tag by code points. So most comparisons compare two numbers.
 ghost use Rattle.std.specs.Prelude.{◌≡◌, true, false};
 ghost use Rattle.cj_spans.specs.Order.{compare_texts};
-ghost use Rattle.cj_spans.specs.Parts.{text_of};
+ghost use Rattle.cj_spans.specs.Meaning.Parts.{text_of};
 ghost use Rattle.cj_spans.specs.View.{tree, source_of, tree_in};
-ghost use Rattle.cj_feature.specs.Links.{same_text};
-ghost use Rattle.cj_feature.specs.Tag.{tag_of as tag_of_text};
-ghost use Rattle.cj_feature.specs.Questions.{compare_sides, text_side, noted_in, side_in};
+ghost use Rattle.cj_feature.specs.Meaning.Links.{same_text};
+ghost use Rattle.cj_feature.specs.inner.Tag.{tag_of as tag_of_text};
+ghost use Rattle.cj_feature.specs.inner.Questions.{compare_sides, text_side, noted_in, side_in};
 
 use crate::feature::search::tagged::{Text, tag_of};
 use cj_spans::{Kind, Node};

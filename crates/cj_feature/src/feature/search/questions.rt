@@ -79,12 +79,12 @@ fn clear(flags: &mut [bool])
 impl<const ROOM: usize, const KEPT: usize> Questions<ROOM, KEPT> {
     ghost use Rattle.std.specs.Prelude.{List, [], ◌∷◌, Some, IfSome};
     ghost use Rattle.std.specs.Str.{chars};
-    ghost use Rattle.cj_spans.specs.Tree.{Tree};
-    ghost use Rattle.cj_spans.specs.Parts.{members_of};
+    ghost use Rattle.cj_spans.specs.Meaning.Tree.{Tree};
+    ghost use Rattle.cj_spans.specs.Meaning.Parts.{members_of};
     ghost use Rattle.cj_spans.specs.View.{tree, trees, members_left};
-    ghost use Rattle.cj_feature.specs.Links.{same_text, listed_in, has_item as has_item_of, lists as lists_of};
-    ghost use Rattle.cj_feature.specs.Kin.{back_of};
-    ghost use Rattle.cj_feature.specs.Questions.{noted_in, AreAnswered, IsAnswer};
+    ghost use Rattle.cj_feature.specs.Meaning.Links.{same_text, listed_in, has_item as has_item_of, lists as lists_of};
+    ghost use Rattle.cj_feature.specs.inner.Kin.{back_of};
+    ghost use Rattle.cj_feature.specs.inner.Questions.{noted_in, AreAnswered, IsAnswer};
 
     /// Returns an empty set of questions.
     pub fn new() -> Self

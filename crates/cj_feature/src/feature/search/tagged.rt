@@ -1,9 +1,9 @@
 //! Texts with tags. They are ordered by tag first.
 ghost use Rattle.std.specs.Prelude.{◌≡◌, ◌%◌};
 ghost use Rattle.cj_spans.specs.Mix.{mix_of};
-ghost use Rattle.cj_spans.specs.Parts.{text_of};
+ghost use Rattle.cj_spans.specs.Meaning.Parts.{text_of};
 ghost use Rattle.cj_spans.specs.View.{tree};
-ghost use Rattle.cj_feature.specs.Tag.{tag_of as tag_of_text};
+ghost use Rattle.cj_feature.specs.inner.Tag.{tag_of as tag_of_text};
 
 use cj_spans::Node;
 

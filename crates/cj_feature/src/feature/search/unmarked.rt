@@ -3,7 +3,7 @@
 ghost use Rattle.std.specs.Prelude.{◌≡◌, ◌<◌, ◌≤◌, ◌+◌, [], false, length, slice_set, take};
 ghost use Rattle.std.specs.List.Sorted.{IsPermutation};
 ghost use Rattle.cj_spans.specs.View.{tree, line_of, source_of, members_left, members_line, members_source};
-ghost use Rattle.cj_feature.specs.Unmarked.{AreInNameOrder, IsNoted, ArePassed, AreSearchable, IsSought};
+ghost use Rattle.cj_feature.specs.inner.Unmarked.{AreInNameOrder, IsNoted, ArePassed, AreSearchable, IsSought};
 
 use crate::feature::search::noted::Noted;
 use crate::feature::search::tagged::Text;

@@ -1,7 +1,7 @@
 use Rattle.std.proofs.Common.{refl}
 use Rattle.std.specs.Str.{chars}
-use Rattle.cj_spans.specs.Text.{text, code_points_after, first_code_point, first_width}
-use Rattle.cj_geometry.specs.ObjectTypes.{object_types}
+use Rattle.cj_spans.specs.Meaning.Text.{text, code_points_after, first_code_point, first_width}
+use Rattle.cj_geometry.specs.Meaning.ObjectTypes.{object_types}
 use Rattle.cj_feature_rows.proofs.examples.parts.Goals as goal
 
 pub returns : goal.returns

@@ -1,6 +1,6 @@
 use Rattle.std.proofs.Common.{◌≡◌, ◌∙◌, sym, ap, codes, true, false, Some}
 use Rattle.std.specs.Str.{chars}
-use Rattle.cj_spans.specs.Parts.{has_text}
+use Rattle.cj_spans.specs.Meaning.Parts.{has_text}
 use Rattle.cj_spans.specs.View.{tree}
 use Rattle.cj_geometry.proofs.Texts.{other_text}
 use Rattle.cj_geometry.proofs.form.form_of.Goals as goal

@@ -1,9 +1,9 @@
 use Rattle.std.proofs.Common.{sym, ◌++◌}
 use Rattle.cj_spans.specs.View.{tree}
-use Rattle.cj_spans.specs.Kinds.{is_object}
+use Rattle.cj_spans.specs.Meaning.Kinds.{is_object}
 use Rattle.cj_geometry.specs.Given.{given}
-use Rattle.cj_geometry.specs.Rule.{distinct}
-use Rattle.cj_geometry.specs.Geometry.{typed_rules}
+use Rattle.cj_geometry.specs.Meaning.Rule.{distinct}
+use Rattle.cj_geometry.specs.Meaning.Geometry.{typed_rules}
 use Rattle.cj_spans.proofs.Findings.{least-two}
 use Rattle.cj_geometry.proofs.OfKind.{of_kind-then}
 use Rattle.cj_geometry.proofs.geometry.check_geometry.Goals as goal

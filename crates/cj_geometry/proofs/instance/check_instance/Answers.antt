@@ -2,7 +2,8 @@ use Rattle.std.proofs.Common.{codes, Some}
 use Rattle.std.specs.Str.{chars}
 use Rattle.cj_spans.specs.declared.reason.Reason.TheVariants.{TemplateIndex, VertexIndex, BadInstance}
 use Rattle.cj_spans.specs.View.{tree}
-use Rattle.cj_geometry.specs.Rule.{needs, index, number, of_length}
+use Rattle.cj_geometry.specs.Meaning.Rule.{needs, of_length}
+use Rattle.cj_geometry.specs.Meaning.Numbers.{index, number}
 use Rattle.cj_spans.proofs.Findings.{least-three}
 use Rattle.cj_geometry.proofs.instance.check_instance.Goals as goal
 

@@ -1,8 +1,9 @@
 use Rattle.std.proofs.Common.{◌≡◌, ◌-◌, ◌<◌, arith, sym, ap, ◌∙◌, option_map, rules}
 use Rattle.std.specs.List.{flat_map}
 use Rattle.cj_spans.specs.View.{tree, items_left}
-use Rattle.cj_spans.specs.Parts.{items_of}
-use Rattle.cj_geometry.specs.Geometry.{values, entry, beside, other_count, parts_of, left_of}
+use Rattle.cj_spans.specs.Meaning.Parts.{items_of, items_if}
+use Rattle.cj_geometry.specs.Meaning.Geometry.{values, entry, paired, other_count}
+use Rattle.cj_geometry.specs.ListSteps.{left_of}
 use Rattle.cj_spans.proofs.Findings.{least-two, least-swap}
 use Rattle.cj_geometry.proofs.Sequences.{beside-on}
 use Rattle.cj_geometry.proofs.Shapes.{values-array, values-one}
@@ -29,9 +30,9 @@ returns-in-None t c =
     ap items_left c.into_iter-item-iterator.ensures.into_iter_gives ∙ c.items-item-items.ensures.items in
     let done = rw (c.in-None.ensures.steps.0.0, walked, c.walk-parts.ensures) at c.loop-item.invariant.found in
     rw (values-array c.args.surfaces.count c.args.depth n part some kind)
-    (least-two c.args.found.now c.loop-item.found c.check_evenness.new.found (beside rule (items_of n) (parts_of part))
+    (least-two c.args.found.now c.loop-item.found c.check_evenness.new.found (paired rule (items_of n) (items_if part))
     (other_count n part) done c.check_evenness.ensures
-    ∙ least-swap c.args.found.now (beside rule (items_of n) (parts_of part)) (other_count n part))
+    ∙ least-swap c.args.found.now (paired rule (items_of n) (items_if part)) (other_count n part))
 
 pub returns-then-depth-eq1 : goal.returns-then-depth-eq1
 returns-then-depth-eq1 t c =

@@ -1,5 +1,5 @@
 use Rattle.std.proofs.Common.{◌∙◌, refl}
-use Rattle.cj_spans.specs.Parts.{items_of}
+use Rattle.cj_spans.specs.Meaning.Parts.{items_of}
 use Rattle.cj_spans.specs.View.{tree, items_left}
 use Rattle.cj_geometry.proofs.ListSteps.{found_item}
 use Rattle.cj_geometry.proofs.steps.item_behind.Goals as goal

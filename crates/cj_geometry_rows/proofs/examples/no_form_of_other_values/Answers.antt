@@ -1,6 +1,6 @@
 use Rattle.std.proofs.Common.{refl}
 use Rattle.std.specs.Str.{chars}
-use Rattle.cj_spans.specs.Text.{text, code_points_after, first_code_point, first_width}
+use Rattle.cj_spans.specs.Meaning.Text.{text, code_points_after, first_code_point, first_width}
 use Rattle.cj_geometry_rows.proofs.examples.no_form_of_other_values.Goals as goal
 
 pub returns : goal.returns

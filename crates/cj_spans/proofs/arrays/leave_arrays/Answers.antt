@@ -4,9 +4,9 @@ use Rattle.cj_spans.specs.declared.token.Token.{Token}
 use Rattle.cj_spans.specs.declared.step.Mode.TheVariants.{After}
 use Rattle.cj_spans.specs.declared.step.Inner.{Inner}
 use Rattle.cj_spans.specs.declared.step.Next.{Next}
-use Rattle.cj_spans.specs.Json.{byte}
-use Rattle.cj_spans.specs.Machine.{MayCloseArray}
-use Rattle.cj_spans.specs.Pass.{EndsItems, Standing}
+use Rattle.cj_spans.specs.Meaning.Json.{byte}
+use Rattle.cj_spans.specs.inner.Machine.{MayCloseArray}
+use Rattle.cj_spans.specs.inner.Pass.{EndsItems, Standing}
 use Rattle.cj_spans.proofs.Nested.{stands_on, stands_small, standing_closed, standing_comma}
 use Rattle.cj_spans.proofs.arrays.leave_arrays.Goals as goal
 

@@ -4,8 +4,8 @@ use Rattle.cj_spans.specs.declared.token.Kind.TheVariants.{Array}
 use Rattle.cj_spans.specs.declared.token.Token.{Token}
 use Rattle.cj_spans.specs.declared.step.Mode.TheVariants.{FirstItem, After}
 use Rattle.cj_spans.specs.Preorder.{token_at}
-use Rattle.cj_spans.specs.Machine.{InArray}
-use Rattle.cj_spans.specs.Pass.{Standing}
+use Rattle.cj_spans.specs.inner.Machine.{InArray}
+use Rattle.cj_spans.specs.inner.Pass.{Standing}
 use Rattle.cj_spans.proofs.Nested.{stands_on, stands_small, stands_room, stands_within}
 use Rattle.cj_spans.proofs.Leads.{in_small, flat_stands, flat_read, flat_innermost, flat_inside, flat_closed, standing_stack, outer_stays, kept_all, kept_more, top_there, index_within, with_top}
 use Rattle.cj_spans.proofs.arrays.read_array.Goals as goal

@@ -1,5 +1,5 @@
 use Rattle.std.proofs.Common.{◌-◌, length}
-use Rattle.cj_spans.specs.Atom.{GoesTo}
+use Rattle.cj_spans.specs.inner.Atom.{GoesTo}
 use Rattle.cj_spans.proofs.atom.read_on.Given as goal
 
 abbrev pub invariant-loop-stop : goal.invariant-loop-stop

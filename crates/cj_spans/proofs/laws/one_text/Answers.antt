@@ -1,6 +1,7 @@
 use Rattle.std.proofs.Common.{sym, subst}
 use Rattle.std.specs.Str.{chars}
-use Rattle.cj_spans.specs.Text.{text, body_of, StandFor}
+use Rattle.cj_spans.specs.Meaning.Text.{text, body_of}
+use Rattle.cj_spans.specs.Meaning.StandFor.{StandFor}
 use Rattle.cj_spans.proofs.Texts.{stands_once}
 use Rattle.cj_spans.proofs.Strings.{text_told}
 use Rattle.cj_spans.proofs.laws.one_text.Goals as goal

@@ -2,7 +2,7 @@ use Rattle.std.proofs.Common.{◌+◌, arith, refl, subst, sym}
 use Rattle.cj_spans.specs.declared.token.Kind.TheVariants.{Array, Object}
 use Rattle.cj_spans.specs.declared.step.Mode.TheVariants.{Ready, FirstItem, FirstName}
 use Rattle.cj_spans.specs.declared.step.Inner.{Inner}
-use Rattle.cj_spans.specs.Pass.{Standing, IsInside}
+use Rattle.cj_spans.specs.inner.Pass.{Standing, IsInside}
 use Rattle.cj_spans.proofs.Nested.{stands_on, stands_small, stands_within, stands_room, stands_reserved, opens_array, opens_object, standing_opened, opened_in, standing_refused}
 use Rattle.cj_spans.proofs.Leads.{leads_from, stands_from, innermost_from, stands_inside}
 use Rattle.cj_spans.proofs.members.read_members.Goals as goal

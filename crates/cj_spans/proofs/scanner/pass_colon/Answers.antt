@@ -1,5 +1,5 @@
 use Rattle.std.proofs.Common.{subst}
-use Rattle.cj_spans.specs.Machine.{state, between, ComesTo}
+use Rattle.cj_spans.specs.inner.Machine.{state, between, ComesTo}
 use Rattle.cj_spans.proofs.Signs.{colon_read}
 use Rattle.cj_spans.proofs.scanner.pass_colon.Goals as goal
 

@@ -1,5 +1,5 @@
 use Rattle.std.proofs.Common.{arith, suc, subst, sym}
-use Rattle.cj_spans.specs.Machine.{InArray, InObject}
+use Rattle.cj_spans.specs.inner.Machine.{InArray, InObject}
 use Rattle.cj_spans.proofs.Standing.{standing_first, standing_small, standing_room, standing_step, standing_law, standing_fault, stepped_small, stepped_room, followed, stepped_law, stepped_fault, ended_law, ended_fault, not_so}
 use Rattle.cj_spans.proofs.Signs.{array_next, object_next, values_next, names_next}
 use Rattle.cj_spans.proofs.scanner.run.Goals as goal

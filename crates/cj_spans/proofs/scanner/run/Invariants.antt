@@ -1,5 +1,5 @@
 use Rattle.std.proofs.Common.{◌-◌, length}
-use Rattle.cj_spans.specs.Pass.{Standing}
+use Rattle.cj_spans.specs.inner.Pass.{Standing}
 use Rattle.cj_spans.proofs.scanner.run.Given as goal
 
 abbrev pub invariant-loop-place : goal.invariant-loop-place

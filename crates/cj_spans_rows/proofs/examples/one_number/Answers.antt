@@ -1,7 +1,7 @@
 use Rattle.std.proofs.Common.{[], ◌∷◌, refl, inl, lit<, lit≤}
 use Rattle.cj_spans.specs.declared.token.Kind.TheVariants.{Number}
-use Rattle.cj_spans.specs.Tree.{no_items}
-use Rattle.cj_spans.specs.Json.{padded, full_array, no_led, atom}
+use Rattle.cj_spans.specs.Meaning.Tree.{no_items}
+use Rattle.cj_spans.specs.Meaning.Json.{padded, full_array, no_led, atom}
 use Rattle.cj_spans.proofs.Sound.{no_white}
 use Rattle.cj_spans_rows.proofs.examples.one_number.Goals as goal
 

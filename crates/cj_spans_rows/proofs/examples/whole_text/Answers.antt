@@ -1,5 +1,5 @@
 use Rattle.std.proofs.Common.{refl}
-use Rattle.cj_spans.specs.Json.{padded, empty_object}
+use Rattle.cj_spans.specs.Meaning.Json.{padded, empty_object}
 use Rattle.cj_spans.proofs.Sound.{no_white}
 use Rattle.cj_spans.proofs.Endings.{text_no_fault}
 use Rattle.cj_spans_rows.proofs.examples.whole_text.Goals as goal

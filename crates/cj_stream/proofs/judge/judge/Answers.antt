@@ -1,6 +1,6 @@
 use Rattle.std.proofs.Common.{rules, ◌≡◌, false, refl, sym, subst, ◌∙◌, ap, Err}
 use Rattle.std.specs.Prelude.{IsUtf8}
-use Rattle.cj_spans.specs.Json.{Json}
+use Rattle.cj_spans.specs.Meaning.Json.{Json}
 use Rattle.cj_spans.proofs.Judgements.{judgement}
 use Rattle.std.specs.Str.{IsValidUpTo, is_utf8}
 use Rattle.std.proofs.lemmas.Str.{utf8_valid_len-IsValidUpTo, is_utf8-from_IsUtf8, IsUtf8-from_is_utf8}

@@ -2,12 +2,12 @@ use Rattle.std.proofs.Common.{◌≡◌, ℕ, ◌<◌, ◌∙◌, ap, arith, get
 use Rattle.std.specs.Prelude.{nat_lt, option_and_then, replicate}
 use Rattle.std.specs.List.{flat_map}
 use Rattle.std.proofs.lemmas.List.{get_or-replicate}
-use Rattle.cj_spans.specs.Tree.{Tree}
-use Rattle.cj_spans.specs.Parts.{first_code_of}
-use Rattle.cj_geometry.specs.Lod.{lod}
-use Rattle.cj_feature.specs.Feature.{templates_of}
+use Rattle.cj_spans.specs.Meaning.Tree.{Tree}
+use Rattle.cj_spans.specs.Initials.{first_code_of}
+use Rattle.cj_geometry.specs.Meaning.Lod.{lod}
+use Rattle.cj_feature.specs.Meaning.Feature.{templates_of}
 use Rattle.cj_feature.specs.View.{feature_header, feature_tree}
-use Rattle.cj_feature.specs.Walks.{object_geometries}
+use Rattle.cj_feature.specs.Meaning.CityObject.{object_geometries}
 use Rattle.cj_stream.specs.Meaning.Criteria.{objects_of}
 use Rattle.cj_stream.specs.Tallied.{capped, class_of, lod_classes}
 use Rattle.cityseq_c.specs.Features.{bits}

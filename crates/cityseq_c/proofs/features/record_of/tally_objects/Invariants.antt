@@ -1,5 +1,5 @@
 use Rattle.std.proofs.Common.{◌≡◌, ◌+◌, ◌^◌, ◌<◌, length, map}
-use Rattle.cj_feature.specs.Typed.{type_row}
+use Rattle.cj_feature.specs.Meaning.CityObject.{type_row}
 use Rattle.cj_feature.specs.View.{feature_tree}
 use Rattle.cj_feature.specs.Walks.{objects_left}
 use Rattle.cj_stream.specs.Meaning.Criteria.{objects_of}

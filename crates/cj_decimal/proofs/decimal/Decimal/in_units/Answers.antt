@@ -1,7 +1,7 @@
 use Rattle.std.proofs.Common.{arith, ℕ, pos, neg_ℤ, ◌+ℤ◌, ◌<ℤ◌, ◌≤ℤ◌, sym}
 use Rattle.std.proofs.lemmas.Int.{ints}
 use Rattle.std.specs.Int.{int_gap}
-use Rattle.cj_decimal.specs.Number.{number}
+use Rattle.cj_decimal.specs.Meaning.Number.{scaled}
 use Rattle.cj_decimal.proofs.Scales.{units_below, far_units, value_in_units, none_in_units}
 use Rattle.cj_decimal.proofs.Values.{gap_is, coefficient_same, coefficient_cast}
 use Rattle.cj_decimal.proofs.decimal.Decimal.in_units.Goals as goal
@@ -12,7 +12,7 @@ returns-then-power-lt0-clause-none c = λ u same.
     let range = c.self.invariant.1 in
     let low : inside.power <ℤ neg_ℤ (pos c.args.after_point) =
     omega (arith, ints, range.power_low, range.power_high, c.requires.bounded, c.requires.apart) in
-    absurd (units_below (number inside.coefficient inside.power) u (neg_ℤ (pos c.args.after_point)) c.self.invariant.0
+    absurd (units_below (scaled inside.coefficient inside.power) u (neg_ℤ (pos c.args.after_point)) c.self.invariant.0
     (rw c.self.view_is same) low (omega (arith, ints)))
 
 pub returns-then-power-digits-clause-none : goal.returns-then-power-digits-clause-none
@@ -23,28 +23,28 @@ returns-then-power-digits-clause-none c = λ u same.
     omega (arith, ints, range.power_low, range.power_high, c.requires.bounded, c.requires.apart) in
     let k : ℕ = int_gap (neg_ℤ (pos c.args.after_point)) inside.power in
     let at = gap_is (neg_ℤ (pos c.args.after_point)) inside.power (omega (arith, ints, high)) in
-    far_units (number inside.coefficient inside.power) u c.args.after_point c.args.digits k c.self.invariant.0
+    far_units (scaled inside.coefficient inside.power) u c.args.after_point c.args.digits k c.self.invariant.0
     (sym at) c.requires.apart (omega (arith, ints, at, high)) (rw c.self.view_is same)
 
 pub with_zeros-requires-clause-fits : goal.with_zeros-requires-clause-fits
 with_zeros-requires-clause-fits c =
     let inside = c.self.inside in
-    coefficient_cast (number inside.coefficient inside.power) c.self.invariant.1
+    coefficient_cast (scaled inside.coefficient inside.power) c.self.invariant.1
 
 pub returns-clause-value : goal.returns-clause-value
 returns-clause-value c =
     let inside = c.self.inside in
     let range = c.self.invariant.1 in
-    value_in_units c.with_zeros.result (number inside.coefficient inside.power) c.args.self
+    value_in_units c.with_zeros.result (scaled inside.coefficient inside.power) c.args.self
     (neg_ℤ (pos c.args.after_point)) _ c.args.digits _ c.with_zeros.ensures.value c.self.view_is
-    (coefficient_same (number inside.coefficient inside.power) range)
+    (coefficient_same (scaled inside.coefficient inside.power) range)
     (omega (arith, ints, range.power_low, range.power_high, c.requires.bounded, c.requires.apart))
 
 pub returns-clause-none : goal.returns-clause-none
 returns-clause-none c =
     let inside = c.self.inside in
     let range = c.self.invariant.1 in
-    none_in_units c.with_zeros.result (number inside.coefficient inside.power) c.args.self
+    none_in_units c.with_zeros.result (scaled inside.coefficient inside.power) c.args.self
     (neg_ℤ (pos c.args.after_point)) _ c.args.digits _ c.with_zeros.ensures.none c.self.view_is
-    (coefficient_same (number inside.coefficient inside.power) range)
+    (coefficient_same (scaled inside.coefficient inside.power) range)
     (omega (arith, ints, range.power_low, range.power_high, c.requires.bounded, c.requires.apart))

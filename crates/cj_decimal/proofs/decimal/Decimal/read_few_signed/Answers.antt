@@ -2,8 +2,9 @@ use Rattle.std.proofs.Common.{◌≡◌, ℕ, ◌-◌, List, take, drop, length,
 use Rattle.std.proofs.lemmas.Bool.{false≢true}
 use Rattle.std.proofs.lemmas.Int.{ints}
 use Rattle.std.proofs.lemmas.Grind.{common_steps}
-use Rattle.cj_decimal.specs.Reading.{body, IsShort}
-use Rattle.cj_decimal.specs.Spelling.{IsFewDigits}
+use Rattle.cj_decimal.specs.Meaning.Reading.{body}
+use Rattle.cj_decimal.specs.inner.Reading.{IsShort}
+use Rattle.cj_decimal.specs.FewDigits.{IsFewDigits}
 use Rattle.cj_decimal.proofs.Wholes.{signed_answer, signed_from_body, body_of_signed}
 use Rattle.cj_decimal.proofs.decimal.Decimal.read_few_signed.Goals as goal
 

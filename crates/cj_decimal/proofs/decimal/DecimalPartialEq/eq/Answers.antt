@@ -1,4 +1,4 @@
-use Rattle.cj_decimal.specs.Number.{number}
+use Rattle.cj_decimal.specs.Meaning.Number.{scaled}
 use Rattle.cj_decimal.proofs.Values.{same_by_power, apart_by_coefficient, turned}
 use Rattle.cj_decimal.proofs.decimal.DecimalPartialEq.eq.Goals as goal
 
@@ -7,8 +7,8 @@ returns-then-other-self-clause-same_value c =
     let mine = c.self.inside in
     let theirs = c.other.inside in
     rw (← c.self.view_is, ← c.other.view_is)
-    (turned _ (number mine.coefficient mine.power) (number theirs.coefficient theirs.power)
-    (same_by_power (number theirs.coefficient theirs.power) (number mine.coefficient mine.power) c.other.invariant
+    (turned _ (scaled mine.coefficient mine.power) (scaled theirs.coefficient theirs.power)
+    (same_by_power (scaled theirs.coefficient theirs.power) (scaled mine.coefficient mine.power) c.other.invariant
     c.self.invariant c.if-other-self.true))
 
 pub returns-else-other-self-clause-same_value : goal.returns-else-other-self-clause-same_value
@@ -16,6 +16,6 @@ returns-else-other-self-clause-same_value c =
     let mine = c.self.inside in
     let theirs = c.other.inside in
     rw (← c.self.view_is, ← c.other.view_is)
-    (turned _ (number mine.coefficient mine.power) (number theirs.coefficient theirs.power)
-    (apart_by_coefficient (number theirs.coefficient theirs.power) (number mine.coefficient mine.power)
+    (turned _ (scaled mine.coefficient mine.power) (scaled theirs.coefficient theirs.power)
+    (apart_by_coefficient (scaled theirs.coefficient theirs.power) (scaled mine.coefficient mine.power)
     c.other.invariant c.self.invariant c.if-other-self.false))

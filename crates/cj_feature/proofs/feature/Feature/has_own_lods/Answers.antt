@@ -1,7 +1,7 @@
 use Rattle.std.proofs.Common.{◌≡◌, ◌∙◌, ap, sym, ℕ, nat_eq, arith}
 use Rattle.std.specs.Prelude.{IsTrue}
 use Rattle.std.proofs.lemmas.Bool.Decides.{nat_tests}
-use Rattle.cj_geometry.specs.Geometry.{template_count}
+use Rattle.cj_geometry.specs.Meaning.Geometry.{template_count}
 use Rattle.cj_spans.specs.View.{document}
 use Rattle.cj_feature.specs.View.{feature_tree, feature_header}
 use Rattle.cj_feature.proofs.OwnLods.{valid-lods}

@@ -1,12 +1,11 @@
 use Rattle.std.proofs.Common.{◌∙◌, sym, ap, codes, Some, refl}
 use Rattle.std.specs.Str.{chars}
 use Rattle.std.specs.List.{list_all}
-use Rattle.cj_spans.specs.Parts.{member_of}
+use Rattle.cj_spans.specs.Meaning.Parts.{member_of}
 use Rattle.cj_spans.specs.View.{document, tree}
-use Rattle.cj_geometry.specs.Geometry.{count_of}
-use Rattle.cj_feature.specs.Feature.{templates_of}
-use Rattle.cj_feature.specs.Feature.{city_objects}
-use Rattle.cj_feature.specs.Typed.{is_typed}
+use Rattle.cj_geometry.specs.Meaning.Geometry.{count_of}
+use Rattle.cj_feature.specs.Meaning.Feature.{templates_of, city_objects}
+use Rattle.cj_feature.specs.inner.Typed.{is_typed}
 use Rattle.cj_feature.proofs.None.{then-none}
 use Rattle.cj_feature.proofs.Valid.{has-objects}
 use Rattle.cj_feature.proofs.Typed.{all-typed}

@@ -1,7 +1,7 @@
 use Rattle.std.proofs.Common.{◌≡◌}
-use Rattle.cj_spans.specs.Parts.{members_of}
+use Rattle.cj_spans.specs.Meaning.Parts.{members_of}
 use Rattle.cj_spans.specs.View.{tree, members_left}
-use Rattle.cj_feature.specs.Links.{is_known}
+use Rattle.cj_feature.specs.Meaning.Links.{is_known}
 use Rattle.cj_feature.proofs.feature.ids.is_known.Given as goal
 
 abbrev pub invariant-loop-name : goal.invariant-loop-name

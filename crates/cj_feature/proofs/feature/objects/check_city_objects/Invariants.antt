@@ -1,12 +1,12 @@
 use Rattle.std.proofs.Common.{◌≡◌, List, false}
 use Rattle.std.specs.List.{flat_map}
-use Rattle.cj_spans.specs.Finding.{least}
-use Rattle.cj_spans.specs.Tree.{Tree}
-use Rattle.cj_spans.specs.Parts.{members_of}
+use Rattle.cj_spans.specs.Meaning.Finding.{least}
+use Rattle.cj_spans.specs.Meaning.Tree.{Tree}
+use Rattle.cj_spans.specs.Meaning.Parts.{members_of}
 use Rattle.cj_spans.specs.View.{tree, members_left}
 use Rattle.cj_geometry.specs.Given.{given}
-use Rattle.cj_feature.specs.Feature.{city_object}
-use Rattle.cj_feature.specs.Links.{object_links}
+use Rattle.cj_feature.specs.Meaning.Feature.{city_object}
+use Rattle.cj_feature.specs.Meaning.Links.{object_links}
 use Rattle.cj_feature.proofs.feature.objects.check_city_objects.Given as goal
 
 abbrev pub invariant-loop-object : goal.invariant-loop-object

@@ -1,10 +1,10 @@
 use Rattle.std.proofs.Common.{◌≡◌}
 use Rattle.std.specs.List.{flat_map}
-use Rattle.cj_spans.specs.Finding.{least}
-use Rattle.cj_spans.specs.Parts.{items_of}
+use Rattle.cj_spans.specs.Meaning.Finding.{least}
+use Rattle.cj_spans.specs.Meaning.Parts.{items_of}
 use Rattle.cj_spans.specs.View.{tree, items_left}
 use Rattle.cj_geometry.specs.Given.{given}
-use Rattle.cj_geometry.specs.Geometry.{geometry}
+use Rattle.cj_geometry.specs.Meaning.Geometry.{geometry}
 use Rattle.cj_feature.proofs.feature.objects.check_geometries.Given as goal
 
 abbrev pub invariant-loop-item : goal.invariant-loop-item

@@ -1,8 +1,9 @@
 use Rattle.std.proofs.Common.{◌≡◌, [], false, Option, sym, subst}
 use Rattle.cj_spans.specs.declared.finding.Finding.{Finding}
-use Rattle.cj_spans.specs.Finding.{least, IsLeast}
+use Rattle.cj_spans.specs.Meaning.Finding.{least}
+use Rattle.cj_spans.specs.Meaning.Least.{IsLeast}
 use Rattle.cj_spans.specs.View.{document}
-use Rattle.cj_feature.specs.Feature.{feature, templates_of}
+use Rattle.cj_feature.specs.Meaning.Feature.{feature, templates_of}
 use Rattle.cj_feature.specs.HeaderView.{header_tree}
 use Rattle.cj_feature.proofs.Valid.{valid-without}
 use Rattle.cj_feature.proofs.Verdict.{only-findings}

@@ -1,18 +1,18 @@
 use Rattle.std.proofs.Common.{sym, codes, ◌++◌, ◌∙◌, ap, append_assoc}
 use Rattle.std.specs.Str.{chars}
 use Rattle.cj_spans.specs.declared.reason.Reason.TheVariants.{WrongType}
-use Rattle.cj_spans.specs.Finding.{least}
-use Rattle.cj_spans.specs.Kinds.{is_object}
-use Rattle.cj_spans.specs.Parts.{member_of}
+use Rattle.cj_spans.specs.Meaning.Finding.{least}
+use Rattle.cj_spans.specs.Meaning.Kinds.{is_object}
+use Rattle.cj_spans.specs.Meaning.Parts.{member_of}
 use Rattle.cj_spans.specs.View.{tree}
 use Rattle.cj_spans.proofs.Findings.{least-two, least-three, least-swap}
-use Rattle.cj_geometry.specs.Geometry.{count_of}
+use Rattle.cj_geometry.specs.Meaning.Geometry.{count_of}
 use Rattle.cj_geometry.specs.Given.{given}
-use Rattle.cj_geometry.specs.Rule.{needs, distinct}
+use Rattle.cj_geometry.specs.Meaning.Rule.{needs, distinct}
 use Rattle.cj_geometry.proofs.OfKind.{of_kind-then}
-use Rattle.cj_feature.specs.Header.{has_member_named}
-use Rattle.cj_feature.specs.Feature.{id_rule, city_objects, vertex_list, reach_if, feature_rules}
-use Rattle.cj_feature.specs.Links.{links}
+use Rattle.cj_feature.specs.Meaning.Header.{has_member_named}
+use Rattle.cj_feature.specs.Meaning.Feature.{id_rule, city_objects, vertex_list, reach_if, feature_rules}
+use Rattle.cj_feature.specs.Meaning.Links.{links}
 use Rattle.cj_feature.proofs.feature.rules.check_root.Goals as goal
 
 pub returns-then-check_object : goal.returns-then-check_object

@@ -1,9 +1,10 @@
 use Rattle.cj_spans.specs.declared.reason.Reason.TheVariants.{NotThree}
-use Rattle.cj_spans.specs.Parts.{items_of}
+use Rattle.cj_spans.specs.Meaning.Parts.{items_of}
 use Rattle.cj_spans.specs.View.{tree}
 use Rattle.cj_spans.proofs.Findings.{least-two}
-use Rattle.cj_geometry.specs.Rule.{number, of_length}
-use Rattle.cj_feature.specs.Header.{fixed, first_two}
+use Rattle.cj_geometry.specs.Meaning.Numbers.{number}
+use Rattle.cj_geometry.specs.Meaning.Rule.{of_length}
+use Rattle.cj_feature.specs.Meaning.Header.{fixed, first_two}
 use Rattle.cj_feature.proofs.header.rules.check_axes.Goals as goal
 
 pub returns-then-with_box : goal.returns-then-with_box

@@ -1,4 +1,4 @@
-use Rattle.cj_geometry.specs.Geometry.{geometry, itself}
+use Rattle.cj_geometry.specs.Meaning.Geometry.{geometry, itself}
 use Rattle.cj_spans.proofs.Findings.{least_on}
 use Rattle.cj_feature.proofs.header.rules.check_template_list.Goals as goal
 

@@ -1,6 +1,6 @@
 use Rattle.std.proofs.Common.{◌≡◌, ◌∙◌, sym, ap, true}
-use Rattle.cj_spans.specs.Kinds.{is_number}
-use Rattle.cj_spans.specs.Parts.{kind_of}
+use Rattle.cj_spans.specs.Meaning.Kinds.{is_number}
+use Rattle.cj_spans.specs.Meaning.Parts.{kind_of}
 use Rattle.cj_spans.specs.View.{tree, line_of}
 use Rattle.cj_feature.proofs.Fixed.{test-decides}
 use Rattle.cj_feature.proofs.FixedRule.{fixed-read, fixed-unread, by-answer}

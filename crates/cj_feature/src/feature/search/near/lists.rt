@@ -87,11 +87,11 @@ fn add_up(lengths: &mut [u32]) {
 impl<const OBJECTS: usize, const LISTS: usize> Lists<OBJECTS, LISTS> {
     ghost use Rattle.std.specs.Prelude.{ℕ};
     ghost use Rattle.std.specs.List.{Contains};
-    ghost use Rattle.cj_spans.specs.Parts.{members_of};
+    ghost use Rattle.cj_spans.specs.Meaning.Parts.{members_of};
     ghost use Rattle.cj_spans.specs.View.{tree};
     ghost use Rattle.cj_feature.specs.declared.feature.search.near.slot.Slot.{Slot};
-    ghost use Rattle.cj_feature.specs.Slots.{IsReady};
-    ghost use Rattle.cj_feature.specs.Marking.{Knows, AddsNone, IsBeside};
+    ghost use Rattle.cj_feature.specs.inner.Slots.{IsReady};
+    ghost use Rattle.cj_feature.specs.inner.Marking.{Knows, AddsNone, IsBeside};
 
     /// Returns lists that hold no city object.
     pub fn new() -> Self

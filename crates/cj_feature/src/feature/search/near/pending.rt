@@ -22,10 +22,10 @@ fn number_at(numbers: &[u32], place: usize) -> u32
 impl<const PENDING: usize> Pending<PENDING> {
     ghost use Rattle.std.specs.Prelude.{IfSome, List, ℕ};
     ghost use Rattle.cj_spans.specs.Preorder.{Span};
-    ghost use Rattle.cj_spans.specs.Tree.{Tree};
+    ghost use Rattle.cj_spans.specs.Meaning.Tree.{Tree};
     ghost use Rattle.cj_spans.specs.View.{tree_at};
-    ghost use Rattle.cj_feature.specs.Marking.{WaitsFor};
-    ghost use Rattle.cj_feature.specs.Reached.{IsReachedObject};
+    ghost use Rattle.cj_feature.specs.inner.Marking.{WaitsFor};
+    ghost use Rattle.cj_feature.specs.Meaning.Reachable.{IsReachedObject};
 
     /// Returns a list where none waits.
     pub fn new() -> Self

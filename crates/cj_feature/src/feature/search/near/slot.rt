@@ -1,7 +1,7 @@
 //! The places of the guide's lists.
 ghost use Rattle.std.specs.Prelude.{◌⊎◌, ◌<◌};
 ghost use Rattle.cj_feature.specs.declared.feature.search.near.slot.Held.TheVariants.{Nothing, Ready, Finished};
-ghost use Rattle.cj_feature.specs.Slots.{IsHeld};
+ghost use Rattle.cj_feature.specs.inner.Slots.{SlotHolds};
 
 /// What a slot holds: a city object, by its number. One that is finished was found in the guide.
 #[derive(Clone, Copy)]
@@ -26,7 +26,7 @@ pub const EMPTY: Slot = Slot { packed: 0 };
 impl Slot {
     /// Returns a slot that holds this city object, or nothing if the number is 0 or too large.
     pub fn ready(number: u32) -> Slot
-        ensures { IsHeld result (Ready number) ⊎ IsHeld result Nothing }
+        ensures { SlotHolds result (Ready number) ⊎ SlotHolds result Nothing }
     {
         if number < FINISHED {
             Slot { packed: number }
@@ -38,7 +38,7 @@ impl Slot {
     /// Returns a slot that holds this city object, which is finished.
     pub fn finished(number: u32) -> Slot
         requires { number < 2147483648 }
-        ensures { IsHeld result (Finished number) }
+        ensures { SlotHolds result (Finished number) }
     {
         Slot {
             packed: number + FINISHED,
@@ -47,7 +47,7 @@ impl Slot {
 
     /// Returns what it holds.
     pub fn held(self) -> Held
-        ensures { IsHeld self result }
+        ensures { SlotHolds self result }
     {
         if self.packed == 0 {
             Held::Nothing

@@ -3,7 +3,7 @@
 //!
 //! This is only a guess from the lists that follow, and no answer depends on the guess.
 ghost use Rattle.std.specs.Prelude.{◌≡◌, ◌<◌, ◌≤◌, length, take};
-ghost use Rattle.cj_feature.specs.Questions.{AreInOrder};
+ghost use Rattle.cj_feature.specs.inner.Questions.{AreQuestionsInOrder};
 
 use crate::feature::search::link::Link;
 use crate::feature::search::noted::Noted;
@@ -30,7 +30,8 @@ fn are_same(objects: Node, first: Question, second: Question) -> bool {
 fn take_out_repeated(objects: Node, questions: &mut [Question]) -> usize
     ensures few { result ≤ length questions.new }
     ensures length { length questions.new ≡ length questions.old }
-    ensures order { AreInOrder objects.entry questions.old → AreInOrder objects.entry (take result questions.new) }
+    ensures order { AreQuestionsInOrder objects.entry questions.old
+        → AreQuestionsInOrder objects.entry (take result questions.new) }
 {
     let mut kept = 0;
     for i in 0..questions.len() {
@@ -46,7 +47,7 @@ fn take_out_repeated(objects: Node, questions: &mut [Question]) -> usize
 pub fn gather(objects: Node, questions: &mut [Question]) -> usize
     ensures few { result ≤ length questions.new }
     ensures length { length questions.new ≡ length questions.old }
-    ensures order { AreInOrder objects.entry (take result questions.new) }
+    ensures order { AreQuestionsInOrder objects.entry (take result questions.new) }
 {
     sort(objects, questions);
     take_out_repeated(objects, questions)

@@ -2,7 +2,8 @@
 ghost use Rattle.std.specs.Prelude.{◌≡◌, ℕ, Some, IfSome, slice_get};
 ghost use Rattle.std.specs.Ordering.{is_lt};
 ghost use Rattle.cj_spans.specs.View.{tree};
-ghost use Rattle.cj_feature.specs.Questions.{pair_key, key_in, compare_keys, AreInOrder, IsPlaceOf, IsFirstOn};
+ghost use Rattle.cj_feature.specs.inner.Questions.{pair_key, key_in, compare_keys, AreQuestionsInOrder, IsPlaceOf};
+ghost use Rattle.cj_feature.specs.inner.Questions.{IsFirstOn};
 
 use crate::feature::search::noted::Noted;
 use crate::feature::search::tagged::Text;
@@ -45,14 +46,14 @@ fn is_before(objects: Node, question: Question, pair: Pair) -> bool
 
 /// Sorts questions.
 pub fn sort(objects: Node, questions: &mut [Question])
-    ensures { AreInOrder objects.entry questions.new }
+    ensures { AreQuestionsInOrder objects.entry questions.new }
 {
     questions.sort_unstable_by(|a, b| compare(objects, *a, *b));
 }
 
 /// Returns how many questions come before these texts.
 fn place_of(objects: Node, questions: &[Question], pair: Pair) -> usize
-    requires { AreInOrder objects questions.now }
+    requires { AreQuestionsInOrder objects questions.now }
     ensures { IsPlaceOf objects.entry (pair_key pair.entry) questions.now result }
 {
     questions.partition_point(|question| is_before(objects, *question, pair))
@@ -72,7 +73,7 @@ pub fn question_at(questions: &[Question], place: usize) -> Option<Question>
 /// Returns the place of the first question on a text, if there is one. A node that is no text comes
 /// before all texts. So the city objects serve as a second text before all others.
 pub fn first_on(objects: Node, questions: &[Question], from: Text) -> Option<usize>
-    requires { AreInOrder objects questions.now }
+    requires { AreQuestionsInOrder objects questions.now }
     ensures first { IfSome result (IsFirstOn objects.entry questions.now (tree from.entry.node)) }
     ensures only { (i : ℕ) → IsFirstOn objects.entry questions.now (tree from.entry.node) i → result ≡ Some i }
 {

@@ -1,7 +1,7 @@
 //! Runs of questions: those on one first text stand one after another.
 ghost use Rattle.std.specs.Prelude.{◌≡◌, ◌+◌, ◌≤◌, ◌<◌, IfSome, length};
 ghost use Rattle.cj_spans.specs.View.{tree};
-ghost use Rattle.cj_feature.specs.Questions.{noted_in, IsQuestion};
+ghost use Rattle.cj_feature.specs.inner.Questions.{noted_in, IsQuestion};
 
 use crate::feature::search::noted::Noted;
 use crate::feature::search::questions::order::{Pair, Question, question_at};

@@ -1,6 +1,6 @@
 use Rattle.std.proofs.Common.{sym, subst, ◌∙◌}
 use Rattle.cj_spans.specs.View.{document, document_source, tokens_in}
-use Rattle.cj_feature.specs.Reached.{AreMarks}
+use Rattle.cj_feature.specs.ReachedMarks.{AreMarks}
 use Rattle.cj_feature_rows.proofs.tests.reached.tree_finding.Goals as goal
 
 pub check_feature-requires : goal.check_feature-requires

@@ -2,22 +2,21 @@ use Rattle.std.proofs.Common.{◌≡◌, Option, Some, sym, ap, ◌∙◌, subst
 use Rattle.std.specs.Option.{ForSome}
 use Rattle.std.specs.Str.{chars}
 use Rattle.cj_spans.specs.declared.node.Node.{Node}
-use Rattle.cj_spans.specs.Parts.{member_of}
+use Rattle.cj_spans.specs.Meaning.Parts.{member_of, items_if}
 use Rattle.cj_spans.specs.View.{source_of}
-use Rattle.cj_geometry.specs.Geometry.{list_of, parts_of}
-use Rattle.cj_geometry.specs.Given.{given, given_source}
+use Rattle.cj_geometry.specs.Given.{list_of, given, given_source}
 use Rattle.cj_geometry.proofs.TemplateLods.{answer-right, if_some, kept-found}
 use Rattle.cj_geometry.proofs.lods.Lods.lod_at.Goals as goal
 
 pub returns-in-Some-clause-lod : goal.returns-in-Some-clause-lod
 returns-in-Some-clause-lod c =
     let self = c.args.self.now in
-    let trees = parts_of (list_of (given self.templates)) in
+    let trees = items_if (list_of (given self.templates)) in
     let kept = c.in-Some.ensures.kept in
     answer-right trees self.answers kept.0 c.in-Some.answer self.answered kept.1
     ∙ ap (λ n. option_and_then (member_of (chars (codes "lod"))) (slice_get trees n)) c.in-Some.ensures.number
     ∙ ap (λ ts. option_and_then (member_of (chars (codes "lod"))) (slice_get ts c.args.number))
-    (sym (ap parts_of c.requires.list))
+    (sym (ap items_if c.requires.list))
 
 pub returns-in-Some-clause-source : goal.returns-in-Some-clause-source
 returns-in-Some-clause-source c =

@@ -2,22 +2,21 @@ use Rattle.std.proofs.Common.{◌≡◌, ℕ, List, Option, Some, sym, ap, ◌�
 use Rattle.std.specs.Option.{ForSome}
 use Rattle.std.specs.Str.{chars}
 use Rattle.cj_spans.specs.declared.node.Node.{Node}
-use Rattle.cj_spans.specs.Parts.{member_of}
+use Rattle.cj_spans.specs.Meaning.Parts.{member_of, items_if}
 use Rattle.cj_spans.specs.View.{source_of}
 use Rattle.cj_geometry.specs.declared.lods.TemplateLod.{TemplateLod}
-use Rattle.cj_geometry.specs.Geometry.{list_of, parts_of}
-use Rattle.cj_geometry.specs.Given.{given, given_source}
-use Rattle.cj_geometry.specs.TemplateLods.{AreAnswersIn, kept_at}
+use Rattle.cj_geometry.specs.Given.{list_of, given, given_source}
+use Rattle.cj_geometry.specs.inner.TemplateLods.{AreAnswersIn, kept_at}
 use Rattle.cj_geometry.proofs.TemplateLods.{answer-kept, for_some, kept-set}
 use Rattle.cj_geometry.proofs.lods.Lods.note.Goals as goal
 
 pub invariant_of-self-clause-answered : goal.invariant_of-self-clause-answered
 invariant_of-self-clause-answered c =
     let self = c.args.self.now in
-    let trees = parts_of (list_of (given self.templates)) in
+    let trees = items_if (list_of (given self.templates)) in
     let right = c.requires.right
     ∙ ap (λ ts. option_and_then (member_of (chars (codes "lod"))) (slice_get ts c.args.answer.number))
-    (ap parts_of c.requires.list) in
+    (ap items_if c.requires.list) in
     let kept = answer-kept trees self.answers (self.oldest % 64) c.args.answer self.answered right in
     subst (AreAnswersIn trees) (sym c.with_answer-self.ensures) kept
 

@@ -1,6 +1,7 @@
 use Rattle.std.proofs.Common.{◌≡◌, drop, map}
 use Rattle.cj_spans.specs.View.{tree}
-use Rattle.cj_geometry.specs.ObjectTypes.{row_in, row_of, row_at}
+use Rattle.cj_geometry.specs.Meaning.ObjectTypes.{row_in, row_of}
+use Rattle.cj_geometry.specs.ObjectTypes.{row_at}
 use Rattle.cj_geometry.proofs.object_type.ObjectType.of_other.Given as goal
 
 abbrev pub invariant-loop-object_type : goal.invariant-loop-object_type

@@ -1,7 +1,7 @@
 use Rattle.std.proofs.Common.{◌≡◌}
-use Rattle.cj_spans.specs.Finding.{least}
+use Rattle.cj_spans.specs.Meaning.Finding.{least}
 use Rattle.cj_spans.specs.View.{tree, members_left}
-use Rattle.cj_geometry.specs.Rule.{repeats_of}
+use Rattle.cj_geometry.specs.Meaning.Rule.{repeats_of}
 use Rattle.cj_geometry.proofs.rule.names.check_later.Given as goal
 
 abbrev pub invariant-loop-later : goal.invariant-loop-later

@@ -1,5 +1,5 @@
 use Rattle.std.proofs.Common.{ap, sym}
-use Rattle.cj_spans.specs.Finding.{least}
+use Rattle.cj_spans.specs.Meaning.Finding.{least}
 use Rattle.cj_spans.specs.View.{tree}
 use Rattle.cj_geometry.proofs.Lone.{index-none}
 use Rattle.cj_geometry.proofs.Numbers.{index-told}

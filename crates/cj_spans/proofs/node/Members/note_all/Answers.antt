@@ -1,9 +1,9 @@
 use Rattle.std.proofs.Common.{◌+◌, ◌∙◌, map, ap, sym, subst, arith}
 use Rattle.std.proofs.lemmas.Bool.{false≢true}
 use Rattle.cj_spans.specs.Initials.{are_apart}
-use Rattle.cj_spans.specs.Noted.{AreNoted, IsPlace, is_noted, members_from}
+use Rattle.cj_spans.specs.inner.Noted.{AreNoted, IsPlace, is_noted, members_from}
 use Rattle.cj_spans.specs.Preorder.{spans_of}
-use Rattle.cj_spans.specs.Tree.{Tree}
+use Rattle.cj_spans.specs.Meaning.Tree.{Tree}
 use Rattle.cj_spans.specs.View.{tree, tree_at, members_left, pairs_of}
 use Rattle.cj_spans.proofs.Noted.{noted_on, apart_on, noted_none}
 use Rattle.cj_spans.proofs.Walks.{at_name, member_on, shown_none, whole_later, number_linked}

@@ -1,6 +1,6 @@
 use Rattle.std.proofs.Common.{◌≡◌, ◌<◌, ◌-◌, true, map}
 use Rattle.cj_spans.specs.Initials.{are_apart, begin_apart}
-use Rattle.cj_spans.specs.Noted.{AreNoted, members_from, is_noted}
+use Rattle.cj_spans.specs.inner.Noted.{AreNoted, members_from, is_noted}
 use Rattle.cj_spans.specs.Sound.{AreWhole, ShowMembers}
 use Rattle.cj_spans.specs.View.{members_left}
 use Rattle.cj_spans.proofs.node.Members.note_all.Given as goal

@@ -2,7 +2,7 @@ use Rattle.std.proofs.Common.{◌≡◌, refl, ◌∙◌, ap}
 use Rattle.std.specs.Ordering.{nat_cmp}
 use Rattle.std.proofs.lemmas.Iterator.Consumers.{YieldsList-from_first}
 use Rattle.std.proofs.lemmas.Iterator.Search.{cmp_from_yields_List}
-use Rattle.cj_spans.specs.Decoding.{characters_left}
+use Rattle.cj_spans.specs.inner.Decoding.{characters_left}
 use Rattle.cj_spans.proofs.text.compare.compare_strings.Goals as goal
 
 pub returns : goal.returns

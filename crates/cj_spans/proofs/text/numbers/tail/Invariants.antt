@@ -1,5 +1,5 @@
 use Rattle.std.proofs.Common.{◌≡◌}
-use Rattle.cj_spans.specs.Decoding.{code_points_left}
+use Rattle.cj_spans.specs.inner.Decoding.{code_points_left}
 use Rattle.cj_spans.specs.Tail.{tail_on}
 use Rattle.cj_spans.proofs.text.numbers.tail.Given as goal
 

@@ -1,6 +1,6 @@
 use Rattle.std.proofs.Common.{◌≡◌}
 use Rattle.std.specs.Prelude.{flat_map}
-use Rattle.cj_spans.specs.Finding.{least}
+use Rattle.cj_spans.specs.Meaning.Finding.{least}
 use Rattle.cj_spans.specs.View.{tree, items_left}
 use Rattle.cj_spans_rows.specs.Examples.{not_numbers, not_lists_of_numbers}
 use Rattle.cj_spans_rows.proofs.examples.rules.are_lists_of_numbers.Given as goal

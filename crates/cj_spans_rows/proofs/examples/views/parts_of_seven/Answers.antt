@@ -1,7 +1,7 @@
 use Rattle.std.proofs.Common.{refl}
 use Rattle.std.specs.Str.{chars}
 use Rattle.cj_spans.specs.Forest.{forest}
-use Rattle.cj_spans.specs.Text.{text, code_points_after, first_code_point, first_width}
+use Rattle.cj_spans.specs.Meaning.Text.{text, code_points_after, first_code_point, first_width}
 use Rattle.cj_spans_rows.proofs.examples.views.parts_of_seven.Goals as goal
 
 pub returns-clause-first : goal.returns-clause-first

@@ -1,7 +1,7 @@
 use Rattle.std.proofs.Common.{◌≡◌, ◌∙◌, refl, sym, subst, Some}
-use Rattle.cj_spans.specs.Finding.{IsLeast}
+use Rattle.cj_spans.specs.Meaning.Least.{IsLeast}
 use Rattle.cj_spans.specs.View.{document}
-use Rattle.cj_feature.specs.Header.{header as header_findings}
+use Rattle.cj_feature.specs.Meaning.Header.{header as header_findings}
 use Rattle.cj_stream.specs.Item.{tree_of}
 use Rattle.cj_stream.specs.Meaning.Criteria.{needs_box}
 use Rattle.cj_stream.specs.Query.{rules_for}

@@ -1,7 +1,7 @@
 use Rattle.std.proofs.Common.{◌≡◌, ◌∙◌, refl, sym, eqb, ltb, true, false, arith, Some}
 use Rattle.std.specs.List.{list_all}
 use Rattle.std.proofs.lemmas.Bool.Decides.{nat_tests}
-use Rattle.cj_spans.specs.Finding.{IsLeast}
+use Rattle.cj_spans.specs.Meaning.Least.{IsLeast}
 use Rattle.cj_spans.specs.View.{document}
 use Rattle.cj_feature.specs.HeaderView.{header_tree}
 use Rattle.cj_stream.specs.Item.{tree_of}

@@ -1,8 +1,7 @@
 use Rattle.std.proofs.Common.{◌≡◌, ◌∙◌, List, [], ◌∷◌, Some, sym, ap, codes, rules}
 use Rattle.std.specs.Str.{chars}
-use Rattle.cj_spans.specs.Tree.{Tree}
-use Rattle.cj_spans.specs.Parts.{member_of}
-use Rattle.cj_feature.specs.Members.{items_if}
+use Rattle.cj_spans.specs.Meaning.Tree.{Tree}
+use Rattle.cj_spans.specs.Meaning.Parts.{member_of, items_if}
 use Rattle.cj_feature.specs.View.{feature_tree}
 use Rattle.cj_feature.specs.Walks.{coordinates_left}
 use Rattle.cj_stream.specs.Extent.{alone, widened, range_of, meets}

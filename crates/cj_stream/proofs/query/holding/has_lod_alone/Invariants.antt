@@ -1,7 +1,7 @@
 use Rattle.std.proofs.Common.{◌≡◌, map, string_bytes}
 use Rattle.std.specs.List.{list_any}
 use Rattle.cj_geometry.specs.Given.{given}
-use Rattle.cj_geometry.specs.Lod.{lod}
+use Rattle.cj_geometry.specs.Meaning.Lod.{lod}
 use Rattle.cj_feature.specs.Walks.{geometries_left}
 use Rattle.cj_feature.specs.HeaderView.{header_tree}
 use Rattle.cj_feature.specs.View.{feature_tree}

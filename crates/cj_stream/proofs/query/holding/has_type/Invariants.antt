@@ -1,7 +1,7 @@
 use Rattle.std.proofs.Common.{◌≡◌, false, get_or}
 use Rattle.std.specs.List.{list_any}
-use Rattle.cj_geometry.specs.ObjectTypes.{ObjectRow}
-use Rattle.cj_feature.specs.Typed.{type_row}
+use Rattle.cj_geometry.specs.Meaning.ObjectTypes.{ObjectRow}
+use Rattle.cj_feature.specs.Meaning.CityObject.{type_row}
 use Rattle.cj_feature.specs.Walks.{objects_left}
 use Rattle.cj_feature.specs.View.{feature_tree}
 use Rattle.cj_stream.specs.Meaning.Criteria.{there_is, has_type}

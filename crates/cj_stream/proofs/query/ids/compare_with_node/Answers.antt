@@ -3,7 +3,7 @@ use Rattle.std.specs.Ordering.{nat_cmp, ordering_reverse}
 use Rattle.std.specs.Str.{chars}
 use Rattle.std.specs.declared.cmp.Ordering.TheVariants.{Equal}
 use Rattle.cj_spans.specs.Order.{compare_texts}
-use Rattle.cj_spans.specs.Parts.{text_of}
+use Rattle.cj_spans.specs.Meaning.Parts.{text_of}
 use Rattle.cj_spans.specs.View.{tree}
 use Rattle.cj_stream.specs.Ids.{piece}
 use Rattle.cj_stream.proofs.IdLemmas.{compare_turned}

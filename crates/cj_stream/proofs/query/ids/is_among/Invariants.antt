@@ -1,7 +1,7 @@
 use Rattle.std.proofs.Common.{◌≡◌, drop}
 use Rattle.std.specs.List.{list_any}
 use Rattle.std.specs.Ordering.{is_eq}
-use Rattle.cj_spans.specs.Parts.{text_of}
+use Rattle.cj_spans.specs.Meaning.Parts.{text_of}
 use Rattle.cj_spans.specs.View.{tree}
 use Rattle.cj_stream.specs.Ids.{compare_keys, keys_at}
 use Rattle.cj_stream.proofs.query.ids.is_among.Given as goal

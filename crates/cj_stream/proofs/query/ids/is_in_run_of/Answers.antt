@@ -1,5 +1,5 @@
 use Rattle.std.proofs.Common.{◌∙◌}
-use Rattle.cj_spans.specs.Parts.{text_of}
+use Rattle.cj_spans.specs.Meaning.Parts.{text_of}
 use Rattle.cj_spans.specs.View.{tree}
 use Rattle.cj_stream.specs.Ids.{Key, key_at}
 use Rattle.cj_stream.proofs.IdLemmas.{numbers_rise, part_keys}

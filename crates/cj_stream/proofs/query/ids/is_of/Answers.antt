@@ -1,7 +1,7 @@
 use Rattle.std.proofs.Common.{◌≡◌, Some, ◌∙◌, ap}
 use Rattle.std.specs.Ordering.{is_eq}
 use Rattle.std.specs.Str.{chars}
-use Rattle.cj_spans.specs.Parts.{text_of, are_same_texts}
+use Rattle.cj_spans.specs.Meaning.Parts.{text_of, are_same_texts}
 use Rattle.cj_spans.specs.View.{tree}
 use Rattle.cj_stream.specs.Ids.{compare_keys, key_at, piece}
 use Rattle.cj_stream.proofs.IdLemmas.{same_beside}

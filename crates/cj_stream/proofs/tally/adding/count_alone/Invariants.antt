@@ -1,6 +1,7 @@
 use Rattle.std.specs.List.{flat_map}
 use Rattle.cj_feature.specs.View.{feature_tree}
-use Rattle.cj_feature.specs.Walks.{geometries_left, object_geometries}
+use Rattle.cj_feature.specs.Walks.{geometries_left}
+use Rattle.cj_feature.specs.Meaning.CityObject.{object_geometries}
 use Rattle.cj_stream.specs.Meaning.Criteria.{objects_of}
 use Rattle.cj_stream.specs.Tallied.{own_classes}
 use Rattle.cj_stream.proofs.Counted.{Counting}

@@ -1,8 +1,7 @@
 use Rattle.std.proofs.Common.{codes}
 use Rattle.std.specs.Str.{chars}
-use Rattle.cj_spans.specs.Parts.{member_of}
+use Rattle.cj_spans.specs.Meaning.Parts.{member_of, items_if}
 use Rattle.cj_spans.specs.View.{tree, items_left}
-use Rattle.cj_feature.specs.Members.{items_if}
 use Rattle.cj_stream.specs.Tallied.{own_classes}
 use Rattle.cj_stream.proofs.Counted.{Counting}
 use Rattle.cj_stream.proofs.tally.adding.count_own.Given as goal

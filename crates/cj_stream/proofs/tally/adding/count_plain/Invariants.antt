@@ -1,8 +1,8 @@
 use Rattle.std.proofs.Common.{map}
 use Rattle.std.specs.List.{flat_map}
-use Rattle.cj_feature.specs.Typed.{type_row}
+use Rattle.cj_feature.specs.Meaning.CityObject.{type_row, object_geometries}
 use Rattle.cj_feature.specs.View.{feature_tree}
-use Rattle.cj_feature.specs.Walks.{object_geometries, objects_left}
+use Rattle.cj_feature.specs.Walks.{objects_left}
 use Rattle.cj_stream.specs.Meaning.Criteria.{objects_of}
 use Rattle.cj_stream.specs.Tallied.{own_classes, row_number, type_numbers}
 use Rattle.cj_stream.proofs.Counted.{Counting}

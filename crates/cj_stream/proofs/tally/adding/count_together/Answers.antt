@@ -1,8 +1,8 @@
 use Rattle.std.proofs.Common.{◌∷◌, sym, ap, ◌∙◌, map}
-use Rattle.cj_spans.specs.Tree.{Tree}
+use Rattle.cj_spans.specs.Meaning.Tree.{Tree}
 use Rattle.cj_spans.specs.View.{tree}
-use Rattle.cj_geometry.specs.Lod.{lod}
-use Rattle.cj_feature.specs.Feature.{templates_of}
+use Rattle.cj_geometry.specs.Meaning.Lod.{lod}
+use Rattle.cj_feature.specs.Meaning.Feature.{templates_of}
 use Rattle.cj_feature.specs.View.{feature_header}
 use Rattle.cj_feature.specs.Walks.{geometries_left}
 use Rattle.cj_stream.specs.Tallied.{class_of}

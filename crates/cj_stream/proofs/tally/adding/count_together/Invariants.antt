@@ -1,7 +1,7 @@
 use Rattle.std.proofs.Common.{◌≡◌, map}
-use Rattle.cj_geometry.specs.Lod.{lod}
+use Rattle.cj_geometry.specs.Meaning.Lod.{lod}
 use Rattle.cj_geometry.specs.Lods.{given_to}
-use Rattle.cj_feature.specs.Feature.{templates_of}
+use Rattle.cj_feature.specs.Meaning.Feature.{templates_of}
 use Rattle.cj_feature.specs.View.{feature_tree, feature_header}
 use Rattle.cj_feature.specs.Walks.{geometries_left}
 use Rattle.cj_stream.specs.Tallied.{class_of, lod_classes}

@@ -1,5 +1,5 @@
 use Rattle.std.proofs.Common.{[], ap, get_or, length, None, refl, ◌∙◌}
-use Rattle.cj_spans.specs.Parts.{spelling_of}
+use Rattle.cj_spans.specs.Places.{spelling_of}
 use Rattle.cj_spans.specs.View.{tree}
 use Rattle.cityseq_c.proofs.RangeLemmas.{nothing-ranged, ranges-told}
 use Rattle.cityseq_c.proofs.features.record_of.FeatureRecord.of.Goals as goal

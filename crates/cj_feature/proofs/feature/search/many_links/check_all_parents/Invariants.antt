@@ -2,10 +2,10 @@ use Rattle.std.proofs.Common.{◌≡◌, [], length}
 use Rattle.std.specs.Prelude.{codes}
 use Rattle.std.specs.List.{flat_map}
 use Rattle.std.specs.Str.{chars}
-use Rattle.cj_spans.specs.Finding.{least}
-use Rattle.cj_spans.specs.Parts.{members_of}
+use Rattle.cj_spans.specs.Meaning.Finding.{least}
+use Rattle.cj_spans.specs.Meaning.Parts.{members_of}
 use Rattle.cj_spans.specs.View.{tree, members_left, members_source, source_of}
-use Rattle.cj_feature.specs.Questions.{AreAnswered}
+use Rattle.cj_feature.specs.inner.Questions.{AreAnswered}
 use Rattle.cj_feature.proofs.Passes.{parents_and_part}
 use Rattle.cj_feature.proofs.feature.search.many_links.check_all_parents.Given as goal
 

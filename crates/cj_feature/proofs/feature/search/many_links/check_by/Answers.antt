@@ -1,7 +1,7 @@
 use Rattle.std.proofs.Common.{rules, ◌∙◌, ap}
 use Rattle.std.specs.List.{flat_map}
-use Rattle.cj_spans.specs.Finding.{least}
-use Rattle.cj_spans.specs.Parts.{members_of}
+use Rattle.cj_spans.specs.Meaning.Finding.{least}
+use Rattle.cj_spans.specs.Meaning.Parts.{members_of}
 use Rattle.cj_spans.specs.View.{tree}
 use Rattle.cj_feature.proofs.Passes.{parents_and_part, walks}
 use Rattle.cj_feature.proofs.feature.search.many_links.check_by.Goals as goal

@@ -1,12 +1,13 @@
 use Rattle.std.proofs.Common.{◌≡◌, [], cond, true, false, sym, ap, ◌∙◌, subst}
 use Rattle.cj_spans.specs.declared.reason.Reason.TheVariants.{NotReached}
-use Rattle.cj_spans.specs.Finding.{least}
-use Rattle.cj_spans.specs.Parts.{AreInValueOrder, members_of}
+use Rattle.cj_spans.specs.Meaning.Finding.{least}
+use Rattle.cj_spans.specs.Places.{AreValuesInOrder}
+use Rattle.cj_spans.specs.Meaning.Parts.{members_of}
 use Rattle.cj_spans.specs.View.{tree, line_of, source_of}
 use Rattle.cj_spans.proofs.Findings.{least_on}
-use Rattle.cj_geometry.specs.Rule.{one}
-use Rattle.cj_feature.specs.Feature.{unreached}
-use Rattle.cj_feature.specs.Reached.{is_reached}
+use Rattle.cj_geometry.specs.Meaning.Rule.{one}
+use Rattle.cj_feature.specs.Meaning.Feature.{unreached}
+use Rattle.cj_feature.specs.Meaning.Reached.{is_reached}
 use Rattle.cj_feature.proofs.Fitting.{marked-reached, unmarked-unreached}
 use Rattle.cj_feature.proofs.Walking.{first-among, later-among, marked-beside}
 use Rattle.cj_feature.proofs.feature.search.reached.check_marks.Goals as goal
@@ -46,8 +47,8 @@ loop-object-preserved c =
     let line : line_of n ≡ line_of objects = steps.2.1 ∙ walk.line in
     let source : source_of n ≡ source_of objects = steps.4.1 ∙ walk.source in
     let held = first-among objects c.loop-object.object-iterator c.next.new.self _ walk steps.0 in
-    let order : AreInValueOrder all =
-    subst AreInValueOrder c.members-object-items.ensures.members c.members-object-items.ensures.values in
+    let order : AreValuesInOrder all =
+    subst AreValuesInOrder c.members-object-items.ensures.members c.members-object-items.ensures.values in
     let reached_here : is_reached all id name ≡ true =
     marked-reached objects id name (tree n) c.requires held order
     (marked-beside objects n line source (tree n) (c.marked.ensures.yes c.if-not-marked.false)) in

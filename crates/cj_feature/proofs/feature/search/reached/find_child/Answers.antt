@@ -1,11 +1,11 @@
 use Rattle.std.proofs.Common.{◌≡◌, true, sym, subst}
 use Rattle.std.specs.List.{Contains}
-use Rattle.cj_spans.specs.Tree.{Tree}
-use Rattle.cj_spans.specs.Parts.{members_of}
+use Rattle.cj_spans.specs.Meaning.Tree.{Tree}
+use Rattle.cj_spans.specs.Meaning.Parts.{members_of}
 use Rattle.cj_spans.specs.View.{tree, items_left}
-use Rattle.cj_feature.specs.Links.{same_text}
-use Rattle.cj_feature.specs.Marking.{IsMarkedBy}
-use Rattle.cj_feature.specs.Unmarked.{IsSought}
+use Rattle.cj_feature.specs.Meaning.Links.{same_text}
+use Rattle.cj_feature.specs.inner.Marking.{IsMarkedBy}
+use Rattle.cj_feature.specs.inner.Unmarked.{IsSought}
 use Rattle.cj_feature.proofs.LinkFaults.{here, there}
 use Rattle.cj_feature.proofs.NameLemmas.{sought-same}
 use Rattle.cj_feature.proofs.Walking.{each-more}

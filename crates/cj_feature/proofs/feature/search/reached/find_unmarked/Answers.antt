@@ -1,8 +1,8 @@
 use Rattle.std.proofs.Common.{◌≡◌, ◌<◌, length, true, sym, ◌∙◌, subst}
-use Rattle.cj_spans.specs.Tree.{Tree}
+use Rattle.cj_spans.specs.Meaning.Tree.{Tree}
 use Rattle.cj_spans.specs.View.{tree, line_of, source_of, tokens_in, members_left}
-use Rattle.cj_feature.specs.Links.{same_text}
-use Rattle.cj_feature.specs.Marking.{IsMarkedBy}
+use Rattle.cj_feature.specs.Meaning.Links.{same_text}
+use Rattle.cj_feature.specs.inner.Marking.{IsMarkedBy}
 use Rattle.cj_feature.proofs.Walking.{first-among, later-among, each-more, marked-beside, shown-beside}
 use Rattle.cj_feature.proofs.feature.search.reached.find_unmarked.Goals as goal
 use Rattle.cj_feature.proofs.feature.search.reached.find_unmarked.Goals.{else-not-marked-via-then-not-marked+else-same_text, else-not-marked-via-else-not-marked}

@@ -5,8 +5,8 @@ use Rattle.cj_spans.specs.Marks.{is_marked_at, IsMarked}
 use Rattle.cj_spans.specs.Sound.{AreOf}
 use Rattle.cj_spans.specs.View.{document, document_source, tokens_in}
 use Rattle.cj_spans.proofs.Marking.{spans_kept, length_kept, of_kept}
-use Rattle.cj_feature.specs.Marking.{IsToMark}
-use Rattle.cj_feature.specs.Reached.{IsReachedObject}
+use Rattle.cj_feature.specs.inner.Marking.{IsToMark}
+use Rattle.cj_feature.specs.Meaning.Reachable.{IsReachedObject}
 use Rattle.cj_feature.proofs.LinkFaults.{not-so}
 use Rattle.cj_feature.proofs.MarkLemmas.{count-less, marked-more}
 use Rattle.cj_feature.proofs.feature.search.reached.mark_reached.Goals as goal

@@ -1,8 +1,8 @@
 use Rattle.std.proofs.Common.{◌≡◌}
-use Rattle.cj_spans.specs.Tree.{Tree}
-use Rattle.cj_spans.specs.Json.{Json}
+use Rattle.cj_spans.specs.Meaning.Tree.{Tree}
+use Rattle.cj_spans.specs.Meaning.Json.{Json}
 use Rattle.cj_spans.specs.Marks.{IsMarked, bare}
-use Rattle.cj_feature.specs.Reached.{IsReachedObject}
+use Rattle.cj_feature.specs.Meaning.Reachable.{IsReachedObject}
 use Rattle.cj_feature.proofs.feature.search.reached.mark_reached.Given as goal
 use Rattle.cj_feature.proofs.MarkLemmas.{unmarked_count}
 

@@ -2,7 +2,7 @@ use Rattle.std.proofs.Common.{◌≡◌, ℕ, List, ◌∙◌, sym, ap, Bool, st
 use Rattle.std.specs.List.{list_any}
 use Rattle.std.specs.Ordering.{is_eq}
 use Rattle.std.proofs.lemmas.List.Sorted.{list_any-IsPermutation}
-use Rattle.cj_spans.specs.Parts.{text_of}
+use Rattle.cj_spans.specs.Meaning.Parts.{text_of}
 use Rattle.cj_spans.specs.View.{tree}
 use Rattle.cj_stream.specs.Ids.{Key, key_of, compare_keys, pieces, keys_at, keys_of}
 use Rattle.cj_stream.specs.Meaning.Criteria.{is_one_of}

@@ -2,7 +2,7 @@ use Rattle.std.proofs.Common.{rules, ◌≡◌, Some, sym, ap, subst, ◌∙◌,
 use Rattle.std.specs.Prelude.{codes}
 use Rattle.std.specs.Str.{chars}
 use Rattle.cj_spans.specs.Marks.{IsMarked}
-use Rattle.cj_spans.specs.Parts.{member_of}
+use Rattle.cj_spans.specs.Meaning.Parts.{member_of}
 use Rattle.cj_spans.specs.View.{tree, source_of, document, document_line, document_source, tokens_in}
 use Rattle.cj_spans.proofs.Marking.{the-document, the-json, line-of-document}
 use Rattle.cj_feature.proofs.NearLemmas.{guide-on, known-here, waits-here, waits-there}

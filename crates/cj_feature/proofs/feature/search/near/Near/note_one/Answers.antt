@@ -2,9 +2,9 @@ use Rattle.std.proofs.Common.{◌≡◌, ◌-◌, true, sym, subst, ◌∙◌, a
 use Rattle.cj_spans.specs.View.{tree, line_of, source_of, tokens_in, tree_at}
 use Rattle.cj_spans.proofs.Marking.{found_at-number}
 use Rattle.cj_spans.proofs.Scanned.{length-spans_of}
-use Rattle.cj_feature.specs.Links.{same_text}
-use Rattle.cj_feature.specs.Marking.{spans_by}
-use Rattle.cj_feature.specs.Slots.{IsHeld, IsReady}
+use Rattle.cj_feature.specs.Meaning.Links.{same_text}
+use Rattle.cj_feature.specs.inner.Marking.{spans_by}
+use Rattle.cj_feature.specs.inner.Slots.{SlotHolds, IsReady}
 use Rattle.cj_feature.proofs.feature.search.near.Near.note_one.Goals as goal
 
 pub returns-then-not-marked-clause-pending : goal.returns-then-not-marked-clause-pending
@@ -14,7 +14,7 @@ returns-then-not-marked-clause-pending g c = λ f reaches waits.
     let line = line_of o in
     let spans = spans_by o in
     let same_length = length-spans_of (tokens_in (source_of o)) in
-    let ready : IsReady c.slot.result n = subst (IsHeld c.slot.result) c.in-Ready.is c.held.ensures in
+    let ready : IsReady c.slot.result n = subst (SlotHolds c.slot.result) c.in-Ready.is c.held.ensures in
     let named = c.requires.known c.args.place n c.slot.result c.slot.ensures ready in
     let shown : tree c.at.result ≡ tree_at line spans (n - 1) = c.at.ensures.tree
     ∙ found_at-number o (n - 1) (omega (arith, named.0, same_length)) in

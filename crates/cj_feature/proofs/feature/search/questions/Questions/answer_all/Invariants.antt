@@ -1,10 +1,10 @@
 use Rattle.std.proofs.Common.{◌≡◌, length, true}
 use Rattle.std.specs.Str.{chars}
-use Rattle.cj_spans.specs.Tree.{Tree}
-use Rattle.cj_spans.specs.Parts.{members_of}
+use Rattle.cj_spans.specs.Meaning.Tree.{Tree}
+use Rattle.cj_spans.specs.Meaning.Parts.{members_of}
 use Rattle.cj_spans.specs.View.{tree, members_left}
-use Rattle.cj_feature.specs.Links.{lists}
-use Rattle.cj_feature.specs.Questions.{AreAnswered}
+use Rattle.cj_feature.specs.Meaning.Links.{lists}
+use Rattle.cj_feature.specs.inner.Questions.{AreAnswered}
 use Rattle.cj_feature.proofs.feature.search.questions.Questions.answer_all.Given as goal
 
 -- what the city objects that are left list, all list

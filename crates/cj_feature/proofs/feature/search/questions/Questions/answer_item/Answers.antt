@@ -1,7 +1,7 @@
 use Rattle.std.proofs.Common.{sym, subst}
 use Rattle.std.specs.Str.{chars}
 use Rattle.cj_spans.specs.View.{tree}
-use Rattle.cj_feature.specs.Questions.{AreListed, noted}
+use Rattle.cj_feature.specs.inner.Questions.{AreListed, noted}
 use Rattle.cj_feature.proofs.Questions.{listed_on}
 use Rattle.cj_feature.proofs.feature.search.questions.Questions.answer_item.Goals as goal
 

@@ -2,8 +2,8 @@ use Rattle.std.proofs.Common.{◌≡◌, ◌<◌, true, length, arith, rules, sy
 use Rattle.std.proofs.lemmas.Grind.{common_steps}
 use Rattle.std.proofs.lemmas.Option.{slice_get_within}
 use Rattle.cj_spans.specs.View.{trees, members_left}
-use Rattle.cj_feature.specs.Links.{same_text}
-use Rattle.cj_feature.specs.Questions.{AreLeft, IsFirstOn, noted}
+use Rattle.cj_feature.specs.Meaning.Links.{same_text}
+use Rattle.cj_feature.specs.inner.Questions.{AreLeft, IsFirstOn, noted}
 use Rattle.cj_feature.proofs.Questions.{left_unasked, left_flagged}
 use Rattle.cj_feature.proofs.feature.search.questions.Questions.answer_object.Goals as goal
 

@@ -2,7 +2,7 @@ use Rattle.std.proofs.Common.{arith, rules, refl, sym, subst}
 use Rattle.std.specs.Str.{chars}
 use Rattle.std.proofs.lemmas.Grind.{common_steps}
 use Rattle.std.proofs.lemmas.List.{take-append-le}
-use Rattle.cj_feature.specs.Questions.{AreInOrder}
+use Rattle.cj_feature.specs.inner.Questions.{AreQuestionsInOrder}
 use Rattle.cj_feature.proofs.Questions.{none_listed}
 use Rattle.cj_feature.proofs.feature.search.questions.Questions.ask.Goals as goal
 
@@ -11,7 +11,7 @@ answer_all-requires g c = (
   search rules,
   record {
     few = grind (arith, common_steps);
-    order = subst (AreInOrder c.args.objects)
+    order = subst (AreQuestionsInOrder c.args.objects)
         (sym (take-append-le c.gather-self.result c.gather-self.new.questions _ c.gather-self.ensures.few))
         c.gather-self.ensures.order;
     listed = none_listed c.args.objects _ (chars c.args.list.now) _ c.clear-2.ensures;

@@ -2,7 +2,7 @@ use Rattle.std.proofs.Common.{◌+◌, ◌<◌, ◌≤◌, ◌++◌, List, lengt
 use Rattle.std.proofs.lemmas.List.{append-nil, drop_all}
 use Rattle.std.proofs.lemmas.List.Sorted.{ranks_by}
 use Rattle.cj_feature.specs.declared.feature.search.questions.order.Question.{Question}
-use Rattle.cj_feature.specs.Questions.{AreInOrder, key_in}
+use Rattle.cj_feature.specs.inner.Questions.{AreQuestionsInOrder, key_in}
 use Rattle.cj_feature.proofs.Questions.{keys_total, next_one, one_less, one_more}
 use Rattle.cj_feature.proofs.feature.search.questions.gathering.take_out_repeated.Goals as goal
 use Rattle.cj_feature.proofs.feature.search.questions.gathering.take_out_repeated.Goals.{then-kept-eq0, else-kept-eq0+else-not-are_same}
@@ -14,7 +14,7 @@ loop-i-preserved c =
     let i = c.loop-i.i in
     let inv = c.loop-i.invariant in
     let below : i < length qs = omega arith in
-    let InOrder : List Question → Type 0 = AreInOrder c.args.objects in
+    let InOrder : List Question → Type 0 = AreQuestionsInOrder c.args.objects in
     elim c.if-kept-eq0.branch [
       | then-kept-eq0 w ↦ record {
         few = search rules;
@@ -42,6 +42,6 @@ returns-clause-order c = λ up.
     let qs = c.loop-i.questions in
     let kept = c.loop-i.kept in
     let end : length qs ≤ c.loop-i.i = omega arith in
-    subst (AreInOrder c.args.objects)
+    subst (AreQuestionsInOrder c.args.objects)
     (ap (λ l. take kept qs ++ l) (drop_all c.loop-i.i qs end) ∙ append-nil (take kept qs))
     (c.loop-i.invariant.order up)

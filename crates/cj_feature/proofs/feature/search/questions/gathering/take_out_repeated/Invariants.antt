@@ -1,5 +1,5 @@
 use Rattle.std.proofs.Common.{◌≡◌, ◌≤◌, ◌++◌, length, take, drop}
-use Rattle.cj_feature.specs.Questions.{AreInOrder}
+use Rattle.cj_feature.specs.inner.Questions.{AreQuestionsInOrder}
 use Rattle.cj_feature.proofs.feature.search.questions.gathering.take_out_repeated.Given as goal
 
 -- those that are kept and those to come stand in order
@@ -7,6 +7,6 @@ abbrev pub invariant-loop-i : goal.invariant-loop-i
 invariant-loop-i l = record {
   few : l.kept ≤ l.i;
   length : length l.questions ≡ length l.initial.questions;
-  order : AreInOrder l.objects l.initial.questions
-      → AreInOrder l.objects (take l.kept l.questions ++ drop l.i l.questions);
+  order : AreQuestionsInOrder l.objects l.initial.questions
+      → AreQuestionsInOrder l.objects (take l.kept l.questions ++ drop l.i l.questions);
 }

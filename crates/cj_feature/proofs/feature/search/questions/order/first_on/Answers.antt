@@ -1,9 +1,9 @@
 use Rattle.std.proofs.Common.{◌≡◌, false, Some, sym, ap, ◌∙◌, subst}
-use Rattle.cj_spans.specs.Parts.{text_of}
+use Rattle.cj_spans.specs.Meaning.Parts.{text_of}
 use Rattle.cj_spans.specs.View.{tree}
-use Rattle.cj_feature.specs.Links.{same_text}
-use Rattle.cj_feature.specs.Tag.{tag_of}
-use Rattle.cj_feature.specs.Questions.{from_in}
+use Rattle.cj_feature.specs.Meaning.Links.{same_text}
+use Rattle.cj_feature.specs.inner.Tag.{tag_of}
+use Rattle.cj_feature.specs.inner.Questions.{from_in}
 use Rattle.cj_feature.proofs.Questions.{only_here, none_here, place_by_texts}
 use Rattle.cj_feature.proofs.feature.search.questions.order.first_on.Goals as goal
 

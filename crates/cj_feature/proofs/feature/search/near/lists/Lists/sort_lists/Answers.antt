@@ -1,5 +1,5 @@
 use Rattle.std.proofs.Common.{sym, subst}
-use Rattle.cj_feature.specs.Marking.{AddsNone}
+use Rattle.cj_feature.specs.inner.Marking.{AddsNone}
 use Rattle.cj_feature.proofs.NearLemmas.{among-moved, more-hand}
 use Rattle.cj_feature.proofs.feature.search.near.lists.Lists.sort_lists.Goals as goal
 use Rattle.cj_feature.proofs.feature.search.near.lists.Lists.sort_lists.Goals.{then-end-start-gt-LONG, else-end-start-gt-LONG}

@@ -1,0 +1,9 @@
+pub mod Kin
+pub mod Marking
+pub mod Part
+pub mod Questions
+pub mod RootMembers
+pub mod Slots
+pub mod Tag
+pub mod Typed
+pub mod Unmarked

@@ -1,8 +1,0 @@
--- What a form of the code says.
-use Rattle.cj_geometry.specs.declared.form.Form.{Form as FormOf}
-use Rattle.cj_geometry.specs.declared.form.Form.TheVariants.{Parts, Instance}
-use Rattle.cj_geometry.specs.Table.{Form, parts, instance}
-
-abbrev pub form_value : FormOf → Form
-form_value (Parts depth values) = parts depth values
-form_value Instance = instance

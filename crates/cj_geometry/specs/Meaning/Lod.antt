@@ -1,0 +1,36 @@
+-- The level of detail of a geometry (RULES, geometries and queries).
+use Rattle.std.specs.Prelude.{List, Bool, false, cond, Option, Some, None, ℤ, pos, negsuc, codes, option_and_then}
+use Rattle.std.specs.Prelude.{slice_get}
+use Rattle.std.specs.Str.{chars}
+use Rattle.cj_spans.specs.Meaning.Tree.{Tree}
+use Rattle.cj_spans.specs.Meaning.Parts.{items_of, member_of, has_text}
+use Rattle.cj_geometry.specs.Meaning.Numbers.{whole_of}
+use Rattle.cj_geometry.specs.Meaning.Geometry.{Given, listed, empty, itself}
+
+-- the tree at an index that counts from 0
+abbrev pub at_index : List Tree → ℤ → Option Tree
+at_index ts (pos k) = slice_get ts k
+at_index ts (negsuc k) = None
+
+-- the template that an index chooses, if there is one
+abbrev pub chosen : Given → Tree → Option Tree
+chosen (listed l) t = option_and_then (at_index (items_of l)) (whole_of t)
+chosen empty t = None
+chosen itself t = None
+
+-- the geometry is an instance of a template
+abbrev pub names_instance : Option Tree → Bool
+names_instance None = false
+names_instance (Some t) = has_text (chars (codes "GeometryInstance")) t
+
+abbrev pub is_instance : Tree → Bool
+is_instance g = names_instance (member_of (chars (codes "type")) g)
+
+-- the level of detail of an instance's template
+abbrev pub template_lod : Given → Tree → Option Tree
+template_lod templates g = option_and_then (member_of (chars (codes "lod")))
+    (option_and_then (chosen templates) (member_of (chars (codes "template")) g))
+
+-- the level of detail: that of the geometry, or of its template
+abbrev pub lod : Given → Tree → Option Tree
+lod templates g = cond (is_instance g) (template_lod templates g) (member_of (chars (codes "lod")) g)

@@ -1,0 +1,76 @@
+-- The rules on numbers: in range, whole, an index (RULES, numbers and terms).
+use Rattle.std.specs.Prelude.{ℕ, List, [], Bool, true, false, not, cond, nat_lt, Option, Some, None, Result, Ok, Err}
+use Rattle.std.specs.Prelude.{option_and_then, ℤ, pos, negsuc}
+use Rattle.cj_spans.specs.declared.reason.Reason.{Reason}
+use Rattle.cj_spans.specs.declared.reason.Reason.TheVariants.{WrongKind, NumberRange, NotWhole}
+use Rattle.cj_spans.specs.declared.finding.Finding.{Finding}
+use Rattle.cj_spans.specs.Meaning.Tree.{Tree, scalar, array, object}
+use Rattle.cj_spans.specs.Meaning.Kinds.{is_number}
+use Rattle.cj_spans.specs.Meaning.Parts.{kind_of}
+use Rattle.cj_decimal.specs.declared.decimal.DecimalFault.{DecimalFault}
+use Rattle.cj_decimal.specs.declared.decimal.DecimalFault.TheVariants.{NotANumber, NumberRange as OutOfRange}
+use Rattle.cj_decimal.specs.Meaning.Number.{Number, as_whole}
+use Rattle.cj_decimal.specs.Meaning.Decimal.{decimal_of}
+use Rattle.cj_geometry.specs.Meaning.Rule.{one, of_kind}
+
+-- the bytes of a scalar
+abbrev pub spelling : Tree → List ℕ
+spelling (scalar k a) = a.spelling
+spelling (array i j ts) = []
+spelling (object i j ms) = []
+
+-- the reason of a number that is not in range; what is no number at all is of the wrong kind
+abbrev pub fault_reason : DecimalFault → Reason
+fault_reason NotANumber = WrongKind
+fault_reason OutOfRange = NumberRange
+
+-- what a rule finds of a number in range, else the reason why there is none
+abbrev pub value_findings : (Number → List Finding) → Tree → Result Number DecimalFault → List Finding
+value_findings rule t (Ok v) = rule v
+value_findings rule t (Err e) = one (fault_reason e) t
+
+-- the value is a number in range, and what a rule finds of it
+abbrev pub of_number : (Number → List Finding) → Tree → List Finding
+of_number rule t = of_kind is_number (λ u. value_findings rule u (decimal_of (spelling u))) t
+
+-- what a rule finds of a whole number, else that it is none
+abbrev pub whole_findings : (ℤ → List Finding) → Tree → Option ℤ → List Finding
+whole_findings rule t (Some w) = rule w
+whole_findings rule t None = one NotWhole t
+
+-- the value is a number in range and whole, and what a rule finds of it
+abbrev pub of_whole : (ℤ → List Finding) → Tree → List Finding
+of_whole rule t = of_number (λ v. whole_findings rule t (as_whole v)) t
+
+-- a number in range
+abbrev pub number : Tree → List Finding
+number t = of_number (λ v. []) t
+
+-- a whole number
+abbrev pub whole_number : Tree → List Finding
+whole_number t = of_whole (λ w. []) t
+
+-- a whole number is below 0, or not below a count that is known
+abbrev pub is_outside : Option ℕ → ℤ → Bool
+is_outside None w = false
+is_outside (Some n) (pos k) = not (nat_lt k n)
+is_outside (Some n) (negsuc k) = true
+
+-- an index: a whole number from 0, below the count if that is known
+abbrev pub index : Reason → Option ℕ → Tree → List Finding
+index reason count t = of_whole (λ w. cond (is_outside count w) (one reason t) []) t
+
+-- ---- values
+
+-- a number, if there is one
+abbrev pub value_if : Result Number DecimalFault → Option Number
+value_if (Ok v) = Some v
+value_if (Err e) = None
+
+-- the value of a number in range; of any other value none
+abbrev pub value_of : Tree → Option Number
+value_of t = cond (is_number (kind_of t)) (value_if (decimal_of (spelling t))) None
+
+-- the value of a number that is in range and whole
+abbrev pub whole_of : Tree → Option ℤ
+whole_of t = option_and_then as_whole (value_of t)

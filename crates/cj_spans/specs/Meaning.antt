@@ -1,0 +1,15 @@
+pub mod Begins
+pub mod Finding
+pub mod Json
+pub mod Judgement
+pub mod Kinds
+pub mod Least
+pub mod Parts
+pub mod Prefix
+pub mod Reason
+pub mod ReasonWords
+pub mod Signs
+pub mod Spelling
+pub mod StandFor
+pub mod Text
+pub mod Tree
