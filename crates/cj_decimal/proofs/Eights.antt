@@ -25,8 +25,8 @@ copies (suc n) c = c ∷ copies n c
 
 -- ---- bits, byte by byte
 
-and_same : (c : ℕ) → c < 256 → (s : List ℕ) → AllBelow 256 s → bit_and (little_endian s) (little_endian (copies (length s) c))
-    ≡ little_endian (map (λ b. bit_and b c) s)
+and_same : (c : ℕ) → c < 256 → (s : List ℕ) → AllBelow 256 s
+    → bit_and (little_endian s) (little_endian (copies (length s) c)) ≡ little_endian (map (λ b. bit_and b c) s)
 unfolding copies
 and_same c l [] h = refl
 and_same c l (b ∷ s) h =
@@ -37,8 +37,8 @@ and_same c l (b ∷ s) h =
     let rest = and_same c l s h.1 in
     ap (λ n. bit_and n (c + 256 * v)) p ∙ ap (bit_and (w * 2 ^ 8 + b)) q ∙ omega (arith, block, rest)
 
-xor_same : (c : ℕ) → c < 256 → (s : List ℕ) → AllBelow 256 s → bit_xor (little_endian s) (little_endian (copies (length s) c))
-    ≡ little_endian (map (λ b. bit_xor b c) s)
+xor_same : (c : ℕ) → c < 256 → (s : List ℕ) → AllBelow 256 s
+    → bit_xor (little_endian s) (little_endian (copies (length s) c)) ≡ little_endian (map (λ b. bit_xor b c) s)
 unfolding copies
 xor_same c l [] h = refl
 xor_same c l (b ∷ s) h =
@@ -58,13 +58,14 @@ all_high [] h z = tt
 all_high (b ∷ s) h z = (high_of b h.0 (omega (arith, z)), all_high s h.1 (omega (arith, z)))
 
 -- the high half of each byte is 0
-nibbles : (s : List ℕ) → length s ≡ 8 → AllBelow 256 s → bit_and (little_endian s) 0xf0f0f0f0f0f0f0f0 ≡ 0 → AllBelow 16 s
+nibbles : (s : List ℕ) → length s ≡ 8 → AllBelow 256 s → bit_and (little_endian s) 0xf0f0f0f0f0f0f0f0 ≡ 0
+    → AllBelow 16 s
 unfolding copies
 nibbles s e h z =
     let high : little_endian (copies 8 240) ≡ 0xf0f0f0f0f0f0f0f0 = refl in
     let same = and_same 240 (omega arith) s h in
-    all_high s h (sym same ∙ ap (λ n. bit_and (little_endian s) (little_endian (copies n 240))) e ∙ ap (bit_and (little_endian s)) high
-    ∙ z)
+    all_high s h (sym same ∙ ap (λ n. bit_and (little_endian s) (little_endian (copies n 240))) e
+    ∙ ap (bit_and (little_endian s)) high ∙ z)
 
 length_map : (f : ℕ → ℕ) (s : List ℕ) → length (map f s) ≡ length s
 length_map f [] = refl
@@ -143,7 +144,8 @@ nothing_shifted k = let h = shr_le 0 k in let e : 0 / 2 ^ k ≡ 0 = omega arith 
     none : (p : ℕ) → 0 * p ≡ 0
     none p = grind (arith)
 
-clear_word : (j : ℕ) (s : List ℕ) → AllBelow 256 s → little_endian s / 2 ^ (8 * j) * 2 ^ (8 * j) ≡ little_endian (clear j s)
+clear_word : (j : ℕ) (s : List ℕ) → AllBelow 256 s → little_endian s / 2 ^ (8 * j) * 2 ^ (8 * j)
+    ≡ little_endian (clear j s)
 unfolding clear
 clear_word zero s h = omega arith
 clear_word (suc j) [] h = nothing_shifted (8 * suc j)

@@ -50,7 +50,8 @@ below-none : (k : ℕ) → nat_lt k 0 ≡ false
 below-none k = grind (arith, nat_tests)
 
 no-index : (t : Tree) (r : Result Number DecimalFault)
-    → value_findings (λ v. whole_findings (λ w. cond (is_outside (Some 0) w) (one TemplateIndex t) []) t (as_whole v)) t r
+    → value_findings (λ v. whole_findings (λ w. cond (is_outside (Some 0) w) (one TemplateIndex t) []) t (as_whole v))
+    t r
     ≡ [] → ⊥
 no-index t (Ok v) h = go (as_whole v) h
   where
@@ -69,7 +70,8 @@ module _ (vertices : Option ℕ) (templates : Given) (empty : template_count tem
       (none-both _ _ (none-both _ _ none).0).0 in
       no-index found.0 (decimal_of (spelling found.0))
       (of_kind-none (λ u. value_findings (λ v. whole_findings
-      (λ w. cond (is_outside (Some 0) w) (one TemplateIndex found.0) []) found.0 (as_whole v)) u (decimal_of (spelling u)))
+      (λ w. cond (is_outside (Some 0) w) (one TemplateIndex found.0) []) found.0 (as_whole v))
+      u (decimal_of (spelling u)))
       found.0 is_number found.2).1
 
   no-form : (b : Bool) (g t : Tree) → cond b (one BadInstance t) (instance_rules vertices (template_count templates) g)

@@ -100,7 +100,8 @@ pub in_order : (objects : Node) {F : Type 0} {g : Mut F (Bor Question × (Bor Qu
     (qs : List Question) → ((lt : Question → Question → Bool) → IsStrictWeakOrder lt → ComparesAs g lt f
     → IsSortedBy lt qs)
     → ((a : Bor Question × (Bor Question × Unit {0})) (r : Ordering) (f' : F) → Called g f a r f'
-    → (r ≡ compare_keys (key_in objects a.0.now) (key_in objects a.1.0.now)) × (f' ≡ f)) → AreQuestionsInOrder objects qs
+    → (r ≡ compare_keys (key_in objects a.0.now) (key_in objects a.1.0.now)) × (f' ≡ f))
+    → AreQuestionsInOrder objects qs
 in_order objects {g = g} {f = f} qs sorted each =
     let key = key_in objects in
     sorted (λ x y. is_lt (compare_keys (key x) (key y))) (ranks_by keys_total key)

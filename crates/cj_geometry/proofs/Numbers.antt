@@ -81,7 +81,8 @@ abbrev pub whole-if : Result (Option ℤ) DecimalFault → Option ℤ
 whole-if (Ok o) = o
 whole-if (Err e) = None
 
-whole-class : (s : List ℕ) (c : Class s) → option_and_then as_whole (value_if (decimal_of s)) ≡ whole-if (whole_answer c)
+whole-class : (s : List ℕ) (c : Class s) → option_and_then as_whole (value_if (decimal_of s))
+    ≡ whole-if (whole_answer c)
 whole-class s c = by_value (decimal_of s) ∙ ap whole-if (whole_class s c)
   where
     by_value : (r : Result DecimalNumber DecimalFault) → option_and_then as_whole (value_if r)

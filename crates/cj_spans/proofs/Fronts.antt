@@ -113,8 +113,8 @@ front_white {i = i} v (in_object j k l m n us w o ld f) = in_object i k l m n us
 front_n : {b : List ℕ} {i j : ℕ} (m n : ℕ) → m ≡ n → JsonPrefix b i j m → JsonPrefix b i j n
 front_n {b} {i} {j} m n e f = subst (λ k. JsonPrefix b i j k) e f
 
-context_front : {b : List ℕ} {e : ℕ} {ks : List ℕ} {ts : List Token} → Context b e ks ts → (j n : ℕ) → JsonPrefix b e j n
-    → JsonPrefix b 0 j (n + length ks)
+context_front : {b : List ℕ} {e : ℕ} {ks : List ℕ} {ts : List Token} → Context b e ks ts → (j n : ℕ)
+    → JsonPrefix b e j n → JsonPrefix b 0 j (n + length ks)
 context_front {b} (root e w) j n f = front_n _ _ (omega arith) (front_white w f)
 context_front {b} (in_array e0 j0 e ks ts us c o l w) j n f =
     front_n _ _ (omega arith)

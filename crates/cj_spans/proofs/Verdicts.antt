@@ -150,8 +150,8 @@ sticks_syntax b i a =
     ]
 
 -- no state that the machine comes to on its way has more containers open
-pub not_deeper : (b : List ℕ) (s : State) (d i n : ℕ) → Reaches b start s → s.deepest ≤ d → i ≤ s.place → JsonPrefix b 0 i n
-    → d < n → ⊥
+pub not_deeper : (b : List ℕ) (s : State) (d i n : ℕ) → Reaches b start s → s.deepest ≤ d → i ≤ s.place
+    → JsonPrefix b 0 i n → d < n → ⊥
 not_deeper b s d i n r h l f g =
     let v = live_at b i n f in
     let w = state_before b s i r l in

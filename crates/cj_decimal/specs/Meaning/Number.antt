@@ -1,4 +1,4 @@
--- Numbers c * 10^p, over whole numbers of any size, and how they are read as whole numbers.
+-- Numbers c * 10^p, over whole numbers of any size: their range, and their values as whole numbers.
 use Rattle.std.specs.Prelude.{ℕ, Bool, true, false, cond, Option, Some, None, ℤ, pos, negsuc, neg_ℤ, ◌+ℤ◌, ◌*ℤ◌, ◌*◌}
 use Rattle.std.specs.Prelude.{◌^◌, ◌&&◌, nat_lt, nat_le, unsigned_abs}
 
@@ -16,17 +16,17 @@ abbrev pub signed : Bool → ℕ → ℤ
 signed false n = pos n
 signed true n = neg_ℤ (pos n)
 
--- ---- of numbers in normal form, whose coefficients do not end in 0
+-- ---- the number is in normal form: its coefficient does not end in 0, or it is 0 with power 0
 
--- at most 36 digits, and a power from -1,000,000 to 1,000,000
+-- in range: at most 36 digits, and a power from -1,000,000 to 1,000,000
 abbrev pub is_in_range : Number → Bool
 is_in_range n = nat_lt (unsigned_abs n.coefficient) (10 ^ 36) && nat_le (unsigned_abs n.power) 1000000
 
--- this whole number, if it is below 10^18 in size
+-- a whole number, if it is below 10^18 in size
 abbrev pub small_whole : ℤ → Option ℤ
 small_whole w = cond (nat_lt (unsigned_abs w) (10 ^ 18)) (Some w) None
 
--- a number as a whole number below 10^18 in size, if it is one: its power is 0 or more
+-- the number as a whole number below 10^18 in size, if it is one. Its power is then 0 or more
 abbrev pub whole_by : ℤ → ℤ → Option ℤ
 whole_by c (pos k) = small_whole (c *ℤ pos (10 ^ k))
 whole_by c (negsuc k) = None
@@ -34,7 +34,7 @@ whole_by c (negsuc k) = None
 abbrev pub as_whole : Number → Option ℤ
 as_whole n = whole_by n.coefficient n.power
 
--- a number is a multiple of 10^-18 and below 10^18 in size: its power is -18 or more, and it is below 10^36 units of
+-- fixed: a multiple of 10^-18, below 10^18 in size. So its power is -18 or more, and it is below 10^36 units of
 -- 10^-18
 abbrev pub is_fixed_by : ℤ → ℤ → Bool
 is_fixed_by (pos shift) c = nat_lt (unsigned_abs c * 10 ^ shift) (10 ^ 36)
@@ -43,7 +43,7 @@ is_fixed_by (negsuc shift) c = false
 abbrev pub is_fixed : Number → Bool
 is_fixed n = is_fixed_by (n.power +ℤ pos 18) n.coefficient
 
--- the number of units of 10^-18 that it is then
+-- how many units of 10^-18 a fixed number is
 abbrev pub units_by : ℤ → ℤ → ℤ
 units_by (pos shift) c = c *ℤ pos (10 ^ shift)
 units_by (negsuc shift) c = pos 0

@@ -18,6 +18,6 @@ vertex_of t = map whole_of (items_of t)
 abbrev pub number_on : ℕ → List (Option ℤ) → ℤ
 number_on axis v = unwrap_or (get_or v axis None) (pos 0)
 
--- those of a city object
+-- the geometries of a city object
 abbrev pub object_geometries : Tree × Tree → List Tree
 object_geometries m = items_if (member_of (chars (codes "geometry")) m.1)

@@ -22,7 +22,7 @@ abbrev pub given_list : Option Tree → Given
 given_list None = empty
 given_list (Some t) = cond (is_array (kind_of t)) (listed t) empty
 
--- the list of the header of this tree, or none at all
+-- the templates of the header of this tree
 abbrev pub templates_of : Tree → Given
 templates_of header = given_list
     (member_if (chars (codes "templates")) (member_of (chars (codes "geometry-templates")) header))
@@ -96,7 +96,7 @@ reach_rule (Some id) None = []
 reach_rule (Some id) (Some t) =
     cond (is_known (members_of t) id) (flat_map (unreached (members_of t) id) (members_of t)) []
 
--- the rule, where it is asked for
+-- rule 7, if it applies
 abbrev pub reach_if : Bool → Tree → List Finding
 reach_if tree u = cond tree (reach_rule (member_of (chars (codes "id")) u)
     (member_of (chars (codes "CityObjects")) u)) []

@@ -15,7 +15,7 @@ use Rattle.cj_geometry.specs.Meaning.Numbers.{number, value_of}
 use Rattle.cj_geometry.specs.Meaning.Geometry.{itself, geometry, count_of}
 use Rattle.cj_decimal.specs.Meaning.Number.{Number, is_fixed}
 
--- a text is this one, else it has the reason
+-- a text is this one, else the reason
 abbrev pub is_named : Reason → List ℕ → Tree → List Finding
 is_named reason name t = cond (has_text name t) [] (one reason t)
 
@@ -25,7 +25,7 @@ has_member_named name reason text u = needs name (of_kind is_text (is_named reas
 
 -- ---- the transform
 
--- a number in range is fixed; what is no such number has a finding before
+-- a number in range is fixed (RULES, headers, 4). Another value has a finding of its own
 abbrev pub fixed_findings : Tree → Option Number → List Finding
 fixed_findings t None = []
 fixed_findings t (Some v) = cond (is_fixed v) [] (one TransformNotFixed t)
@@ -33,13 +33,13 @@ fixed_findings t (Some v) = cond (is_fixed v) [] (one TransformNotFixed t)
 abbrev pub fixed : Tree → List Finding
 fixed t = fixed_findings t (value_of t)
 
--- a rule for the first two of these values
+-- a rule for the first two values
 abbrev pub first_two : (Tree → List Finding) → List Tree → List Finding
 first_two rule [] = []
 first_two rule (x ∷ []) = rule x
 first_two rule (x ∷ y ∷ ts) = rule x ++ rule y
 
--- with a box, the first two of these values are fixed (RULES, headers, 4)
+-- with a box, the first two values are fixed (RULES, headers, 4)
 abbrev pub fixed_if : Bool → List Tree → List Finding
 fixed_if false ts = []
 fixed_if true ts = first_two fixed ts

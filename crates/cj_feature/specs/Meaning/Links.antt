@@ -11,15 +11,15 @@ use Rattle.cj_spans.specs.Meaning.Parts.{items_if}
 use Rattle.cj_geometry.specs.Meaning.Rule.{one}
 use Rattle.cj_geometry.specs.Meaning.ObjectTypes.{is_second_level}
 
--- both have one text
+-- both have a text, the same
 abbrev pub same_text : Tree → Tree → Bool
 same_text t u = are_same_texts (text_of t) (text_of u)
 
--- what a city object lists in its member of this name
+-- the items of a member of a city object
 abbrev pub listed_in : List ℕ → Tree → List Tree
 listed_in list o = items_if (member_of list o)
 
--- what a test says of the type of a city object, if it has one
+-- a city object has a type, and the test holds for it
 abbrev pub type_is : (Tree → Bool) → Option Tree → Bool
 type_is test None = false
 type_is test (Some t) = test t
@@ -30,21 +30,21 @@ is_group o = type_is (has_text (chars (codes "CityObjectGroup"))) (member_of (ch
 abbrev pub is_part : Tree → Bool
 is_part o = type_is is_second_level (member_of (chars (codes "type")) o)
 
--- ---- the city objects are these members
+-- ---- `objects` are the city objects of a feature, with their names
 
--- the text is an id in the feature: that of a member's name
+-- the id is in the feature: some city object has it as its name
 abbrev pub is_known : List (Tree × Tree) → Tree → Bool
 is_known objects id = list_any (λ m. same_text m.0 id) objects
 
--- a value is an array with an item of the text
+-- some item has the text of the id
 abbrev pub has_item : List Tree → Tree → Bool
 has_item items id = list_any (λ x. same_text x id) items
 
--- a city object with the name of the text `from` has the text `to` in its member of the name `list`
+-- `from` lists `to`: some city object with the name `from` has `to` in its member `list`
 abbrev pub lists : List ℕ → List (Tree × Tree) → Tree → Tree → Bool
 lists list objects from to = list_any (λ m. same_text m.0 from && has_item (listed_in list m.1) to) objects
 
--- what is listed back, or has a finding
+-- the other city object lists this one back, else a finding at the item
 abbrev pub answered : Bool → Tree → List Finding
 answered back item = cond back [] (one LinkNotMutual item)
 
@@ -81,7 +81,7 @@ part_of objects o (Some t) = has_parent objects o t
 abbrev pub part : List (Tree × Tree) → Tree × Tree → List Finding
 part objects m = cond (is_part m.1) (part_of objects m.1 (member_of (chars (codes "parents")) m.1)) []
 
--- the links of a city object among these
+-- all rules on the links of a city object
 abbrev pub object_links : List (Tree × Tree) → Tree × Tree → List Finding
 object_links objects m = children objects m ++ parents objects m ++ part objects m
 

@@ -1,26 +1,26 @@
--- Which city objects are reached from the main one, which the feature's id names: by the children that each lists
--- (RULES, what is reached). The relation in Reachable says the same, by the law `reached_is_the_least_set`.
+-- Which city objects are reached, by the children that each lists (RULES, what is reached). The first one has the id of
+-- the feature as its name. The relation in Reachable says the same, by the law `reached_is_the_least_set`.
 use Rattle.std.specs.Prelude.{ℕ, zero, suc, List, ◌++◌, Bool, not, filter, length, codes}
 use Rattle.std.specs.List.{list_any}
 use Rattle.std.specs.Str.{chars}
 use Rattle.cj_spans.specs.Meaning.Tree.{Tree}
 use Rattle.cj_feature.specs.Meaning.Links.{same_text, listed_in, has_item}
 
--- some of these city objects lists the name of the other as a child
+-- one of these city objects lists the other as a child
 abbrev pub list_child : List (Tree × Tree) → Tree × Tree → Bool
 list_child parents m = list_any (λ p. has_item (listed_in (chars (codes "children")) p.1) m.0) parents
 
--- the city objects that are taken, and in n rounds those of the others that the ones taken last list
+-- n rounds: each takes those of the others that the last ones list
 unfoldable pub reached_from : ℕ → List (Tree × Tree) → List (Tree × Tree) → List (Tree × Tree)
 reached_from zero taken others = taken
 reached_from (suc n) taken others =
     taken ++ reached_from n (filter (list_child taken) others) (filter (λ m. not (list_child taken m)) others)
 
--- those that are reached from the id: with each round one is taken, or none is left to take
+-- the city objects that are reached from the id. Each round takes one at least, or it is the last
 abbrev pub reached_of : List (Tree × Tree) → Tree → List (Tree × Tree)
 reached_of objects id = reached_from (length objects) (filter (λ m. same_text m.0 id) objects)
     (filter (λ m. not (same_text m.0 id)) objects)
 
--- whether a name is one of theirs
+-- one of them has this name
 unfoldable pub is_reached : List (Tree × Tree) → Tree → Tree → Bool
 is_reached objects id name = list_any (λ m. same_text m.0 name) (reached_of objects id)

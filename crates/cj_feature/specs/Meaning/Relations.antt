@@ -1,4 +1,4 @@
--- Links between city objects as relations between ids, which are texts: who lists whom, and what is wrong by that.
+-- Links between city objects as relations between ids: who lists whom, and which links break a rule.
 use Rattle.std.specs.Prelude.{◌≡◌, ℕ, List, Some, false, true, codes}
 use Rattle.std.specs.List.{Contains}
 use Rattle.std.specs.Str.{chars}

@@ -13,7 +13,7 @@ use Rattle.cj_spans.specs.Meaning.Kinds.{is_null, is_text, is_array, is_object}
 use Rattle.cj_geometry.specs.Meaning.Rule.{one, of_kind, nothing, needs, may_have, distinct, of_length}
 use Rattle.cj_geometry.specs.Meaning.Numbers.{number, index}
 
--- the templates that a geometry may name: those of a list, none, or the mark that it is one itself
+-- the templates that a geometry may name: those of a list, or none; or the geometry is a template itself
 pub data Given : Type 0 where
   listed : Tree → Given
   empty : Given
@@ -36,13 +36,13 @@ abbrev pub shape : Option ℕ → ℕ → Tree → List Finding
 shape vertices zero t = index VertexIndex vertices t
 shape vertices (suc depth) t = of_kind is_array (λ u. flat_map (shape vertices depth) (items_of u)) t
 
--- an array has as many items as the part of the boundaries beside it, if that is an array
+-- an array has as many items as its part of the boundaries, if that is an array (RULES, geometries, 4)
 abbrev pub other_count : Tree → Option Tree → List Finding
 other_count v None = []
 other_count v (Some b) = cond (is_array (kind_of b) && not (nat_eq (length (items_of v)) (length (items_of b))))
     (one SemanticsCount v) []
 
--- the first of some parts, and the others
+-- the first part, and the others
 abbrev pub first_part : List Tree → Option Tree
 first_part [] = None
 first_part (b ∷ bs) = Some b
@@ -51,7 +51,7 @@ abbrev pub other_parts : List Tree → List Tree
 other_parts [] = []
 other_parts (b ∷ bs) = bs
 
--- each value with the part of its number, if there is one
+-- each value with the part at its place, if there is one
 abbrev pub zip_pad : List Tree → List Tree → List (Tree × Option Tree)
 zip_pad [] bs = []
 zip_pad (v ∷ vs) bs = (v, first_part bs) ∷ zip_pad vs (other_parts bs)
@@ -68,8 +68,8 @@ unless_null rule v = cond (is_null (kind_of v)) [] (rule v)
 abbrev pub entry : Option ℕ → Tree → List Finding
 entry surfaces v = unless_null (index SemanticsIndex surfaces) v
 
--- semantic values of some depth beside a part of the boundaries: null at every level; arrays, as long as the part
--- beside them; and below them indices of surfaces (RULES, geometries, 4)
+-- semantic values of some depth, with their part of the boundaries: null at every level, or arrays as long as their
+-- part, and below them indices of surfaces (RULES, geometries, 4)
 abbrev pub values : Option ℕ → ℕ → Tree → Option Tree → List Finding
 values surfaces zero v b = entry surfaces v
 values surfaces (suc depth) v b =
@@ -84,7 +84,7 @@ surface t = of_kind is_object (λ u. distinct u ++ needs (chars (codes "type")) 
 abbrev pub surfaces : Tree → List Finding
 surfaces t = of_kind is_array (λ v. flat_map surface (items_of v)) t
 
--- how many items an array has; of nothing, and of another value, nothing is known
+-- how many items an array has; not known for another value, or for none
 abbrev pub count_if : Tree → Option ℕ
 count_if t = cond (is_array (kind_of t)) (Some (length (items_of t))) None
 
@@ -92,7 +92,7 @@ abbrev pub count_of : Option Tree → Option ℕ
 count_of None = None
 count_of (Some t) = count_if t
 
--- semantics of some depth beside boundaries
+-- the rules on semantics whose values have some depth, with the boundaries (RULES, geometries, 4)
 abbrev pub semantics : ℕ → Option Tree → Tree → List Finding
 semantics depth boundaries t =
     of_kind is_object (λ u.

@@ -19,26 +19,26 @@ spelling (scalar k a) = a.spelling
 spelling (array i j ts) = []
 spelling (object i j ms) = []
 
--- the reason of a number that is not in range; what is no number at all is of the wrong kind
+-- the reason for a fault of a number. A value that is no number has the wrong kind
 abbrev pub fault_reason : DecimalFault → Reason
 fault_reason NotANumber = WrongKind
 fault_reason OutOfRange = NumberRange
 
--- what a rule finds of a number in range, else the reason why there is none
+-- a rule for a number in range; another spelling has the reason of its fault
 abbrev pub value_findings : (Number → List Finding) → Tree → Result Number DecimalFault → List Finding
 value_findings rule t (Ok v) = rule v
 value_findings rule t (Err e) = one (fault_reason e) t
 
--- the value is a number in range, and what a rule finds of it
+-- a value that is a number in range, and a rule for the number
 abbrev pub of_number : (Number → List Finding) → Tree → List Finding
 of_number rule t = of_kind is_number (λ u. value_findings rule u (decimal_of (spelling u))) t
 
--- what a rule finds of a whole number, else that it is none
+-- a rule for a whole number; another number has a finding
 abbrev pub whole_findings : (ℤ → List Finding) → Tree → Option ℤ → List Finding
 whole_findings rule t (Some w) = rule w
 whole_findings rule t None = one NotWhole t
 
--- the value is a number in range and whole, and what a rule finds of it
+-- a value that is a whole number in range, and a rule for the number
 abbrev pub of_whole : (ℤ → List Finding) → Tree → List Finding
 of_whole rule t = of_number (λ v. whole_findings rule t (as_whole v)) t
 
@@ -62,7 +62,7 @@ index reason count t = of_whole (λ w. cond (is_outside count w) (one reason t) 
 
 -- ---- values
 
--- a number, if there is one
+-- the number, if there is one
 abbrev pub value_if : Result Number DecimalFault → Option Number
 value_if (Ok v) = Some v
 value_if (Err e) = None

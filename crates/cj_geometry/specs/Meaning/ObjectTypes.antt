@@ -54,20 +54,20 @@ object_types =
     ∷ second_level (codes "TunnelPart") 32
     ∷ []
 
--- the row, of these, of the type whose name is the tree's text
+-- the row among these whose name is the text of the tree
 abbrev pub row_in : List ObjectRow → Tree → Option ObjectRow
 row_in [] t = None
 row_in (r ∷ rs) t = cond (has_text (chars r.name) t) (Some r) (row_in rs t)
 
--- the row of the type whose name is the tree's text; none for any other tree
+-- the row of the table whose name is the text of the tree, if there is one
 abbrev pub row_of : Tree → Option ObjectRow
 row_of t = row_in object_types t
 
--- the row is of the second level
+-- there is a row, of the second level
 abbrev pub is_second : Option ObjectRow → Bool
 is_second None = false
 is_second (Some r) = r.is_second
 
--- the tree's text is the name of a type of the second level
+-- the text of the tree is the name of a type of the second level
 abbrev pub is_second_level : Tree → Bool
 is_second_level t = is_second (row_of t)

@@ -14,29 +14,29 @@ use Rattle.cj_spans.specs.Meaning.Parts.{kind_of, items_of, members_of, member_o
 abbrev pub one : Reason → Tree → List Finding
 one reason t = found_at (start_of t) reason ∷ []
 
--- the value is of the kind, else a finding at it; and where it is, what a rule says of it
+-- a value of another kind has a finding; one of the kind has those of a rule
 abbrev pub of_kind : (Kind → Bool) → (Tree → List Finding) → Tree → List Finding
 of_kind is rule t = cond (is (kind_of t)) (rule t) (one WrongKind t)
 
--- a rule that says nothing
+-- a rule without findings
 abbrev pub nothing : Tree → List Finding
 nothing t = []
 
--- a finding at the object where a member is missing
+-- an object has a finding if a member is missing
 abbrev pub missing : Tree → Option Tree → List Finding
 missing g None = one MissingMember g
 missing g (Some t) = []
 
--- what a rule says of a member, where it is there
+-- a rule for a member that may be missing
 abbrev pub if_there : (Tree → List Finding) → Option Tree → List Finding
 if_there rule None = []
 if_there rule (Some t) = rule t
 
--- the object may have the member, by a rule
+-- the object may have a member of this name, which follows a rule
 abbrev pub may_have : List ℕ → (Tree → List Finding) → Tree → List Finding
 may_have name rule g = if_there rule (member_of name g)
 
--- the object needs the member, by a rule
+-- the object needs a member of this name, which follows a rule
 abbrev pub needs : List ℕ → (Tree → List Finding) → Tree → List Finding
 needs name rule g = missing g (member_of name g) ++ may_have name rule g
 
@@ -53,10 +53,10 @@ repeats (m ∷ ms) = repeats_of m.0 ms ++ repeats ms
 abbrev pub distinct : Tree → List Finding
 distinct g = repeats (members_of g)
 
--- an array has just so many items
+-- an array has exactly n items
 abbrev pub has_length : Reason → ℕ → Tree → List Finding
 has_length reason n t = cond (nat_eq (length (items_of t)) n) [] (one reason t)
 
--- an array of just so many items, each by a rule
+-- an array of exactly n items, and a rule for each
 abbrev pub of_length : Reason → ℕ → (Tree → List Finding) → Tree → List Finding
 of_length reason n rule t = of_kind is_array (λ u. has_length reason n u ++ flat_map rule (items_of u)) t

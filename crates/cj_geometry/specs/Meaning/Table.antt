@@ -4,7 +4,7 @@ use Rattle.std.specs.Str.{chars}
 use Rattle.cj_spans.specs.Meaning.Tree.{Tree}
 use Rattle.cj_spans.specs.Meaning.Parts.{has_text}
 
--- boundaries of some depth, with semantic values of a depth or unread ones; or an instance of a template
+-- lists of some depth, with semantic values of a depth or with none; or an instance of a template
 pub data TypeForm : Type 0 where
   parts : (depth : ℕ) → (values : Option ℕ) → TypeForm
   instance : TypeForm
@@ -30,11 +30,11 @@ table =
     ∷ row (codes "GeometryInstance") instance
     ∷ []
 
--- the form that these rows give a type's name
+-- the form of the row among these whose name is the text of the tree
 abbrev pub form_in : List Row → Tree → Option TypeForm
 form_in [] t = None
 form_in (r ∷ rs) t = cond (has_text r.name t) (Some r.form) (form_in rs t)
 
--- the form of a type
+-- the form of the row of the table whose name is the text of the tree, if there is one
 abbrev pub form_of : Tree → Option TypeForm
 form_of t = form_in table t

@@ -11,7 +11,7 @@ kind_of (scalar k a) = k
 kind_of (array i j ts) = Array
 kind_of (object i j ms) = Object
 
--- items as a list
+-- the items as a list
 abbrev pub list_items : Items → List Tree
 list_items no_items = []
 list_items (item t ts) = t ∷ list_items ts
@@ -22,7 +22,7 @@ items_of (scalar k a) = []
 items_of (array i j ts) = list_items ts
 items_of (object i j ms) = []
 
--- members as a list of names with their values
+-- the members as a list of names with their values
 abbrev pub list_members : Members → List (Tree × Tree)
 list_members no_members = []
 list_members (member n t ms) = (scalar Text n, t) ∷ list_members ms
@@ -44,13 +44,13 @@ text_of (scalar k a) = text_if k a.spelling
 text_of (array i j ts) = None
 text_of (object i j ms) = None
 
--- whether there are two texts, and they are the same
+-- there are two texts, and they are the same
 abbrev pub are_same_texts : Option (List ℕ) → Option (List ℕ) → Bool
 are_same_texts None o = false
 are_same_texts (Some s) None = false
 are_same_texts (Some s) (Some t) = are_same s t
 
--- whether the tree is a string or a name with this text
+-- the tree is a string or a name with this text
 abbrev pub has_text : List ℕ → Tree → Bool
 has_text s t = are_same_texts (text_of t) (Some s)
 
@@ -63,7 +63,7 @@ first_named s (m ∷ ms) = cond (has_text s m.0) (Some m.1) (first_named s ms)
 abbrev pub member_of : List ℕ → Tree → Option Tree
 member_of s t = first_named s (members_of t)
 
--- the same of a tree that may be there
+-- the same of a tree that may be missing: nothing if it is
 
 abbrev pub items_if : Option Tree → List Tree
 items_if None = []

@@ -7,7 +7,7 @@ use Rattle.cj_spans.specs.Meaning.Spelling.{IsScalar}
 use Rattle.cj_spans.specs.Meaning.Json.{byte, White, IsAtom, Padded, LedItems, LedMembers, Named, Json}
 use Rattle.cj_spans.specs.Meaning.Signs.{left_brace, left_bracket}
 
--- a prefix of the spelling of a scalar, not empty
+-- a prefix of the spelling of a scalar, of one byte at least
 pub record Begun (b : List ℕ) (k : Kind) (i j : ℕ) : Type 0 where
   pub order : i < j
   pub within : j ≤ length b

@@ -9,7 +9,7 @@ use Rattle.cj_spans.specs.declared.reason.Reason.TheVariants.{LinkNotMutual, NoP
 use Rattle.cj_spans.specs.declared.reason.Reason.TheVariants.{SemanticsCount, SemanticsIndex, TemplateIndex}
 use Rattle.cj_spans.specs.declared.reason.Reason.TheVariants.{BadInstance, TransformNotFixed, NotReached}
 
--- the number that stands for a reason
+-- the code of a reason
 abbrev pub code_of : Reason → ℕ
 code_of NoHeader = 1
 code_of LineTooLong = 2

@@ -1,4 +1,4 @@
--- Placed JSON trees: each value and each name with where it starts and stops, scalars and names with their spelling.
+-- JSON trees with places: each value and each name has its start and its stop. Scalars and names have their bytes.
 use Rattle.std.specs.Prelude.{ℕ, suc, ◌+◌, max, List}
 use Rattle.cj_spans.specs.declared.token.Kind.{Kind}
 
