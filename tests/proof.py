@@ -22,7 +22,7 @@ TOOL = ROOT / "tools" / "base.py"
 HEADLINE = "cj_stream/specs/Meaning/Headline"
 PAGE = "\n".join(
     f"<!-- {part}: made by tools/base.py -->\nold\n<!-- {part}: end -->"
-    for part in ("headline", "files", "types", "words", "rules")
+    for part in ("headline", "contract", "files", "types", "words", "rules")
 )
 # a headline with a definition of its own crate, one of the crate below, and a plain type
 SMALL = {

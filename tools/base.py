@@ -15,9 +15,9 @@ nor `use`, its kind and the first sentence of its first comment. The kinds are:
     proofs   a file of proofs/
 
 With --check the status is 1 if the closure has a file of the last three kinds. With --write the
-text between two marker comments in FILE is replaced, for each part: the headline, the files, the
-plain types, the words of the standard library and the table of rules. With both, FILE is compared
-and not written.
+text between two marker comments in FILE is replaced, for each part: the headline, the contract that
+promises it, the files, the plain types, the words of the standard library and the table of rules.
+With both, FILE is compared and not written.
 """
 
 import argparse
@@ -48,6 +48,7 @@ PLAIN = {
     "WriteFault",
 }
 FORBIDDEN = "state", "specs", "proofs"
+CLAUSES = "headline", "growth"  # of the contract, beside its conditions
 
 
 @dataclass
@@ -219,6 +220,20 @@ def headline_part() -> str:
     return "\n".join(["```text", *lines[start:end], "```"])
 
 
+def contract_part() -> str:
+    """Returns the function that promises the headline, with its conditions and these clauses."""
+    path = ROOT / "crates" / "cj_stream" / "src" / "pieces.rt"
+    text = path.read_text(encoding="utf-8") if path.exists() else ""
+    found = re.search(r"^pub fn headline\b.*?^\{$", text, re.M | re.S)
+    head, *clauses = re.split(r"^ {4}(?=requires |ensures )", found[0] if found else "", flags=re.M)
+    shown = [
+        f"    {clause.removesuffix('{')}"
+        for clause in clauses
+        if clause.startswith("requires ") or clause.split()[1] in CLAUSES
+    ]
+    return f"```text\n{head}{''.join(shown).rstrip()}\n```"
+
+
 def rules_cited(text: str) -> list[str]:
     """Returns the rules that a comment cites, such as `links, 4`."""
     found = []
@@ -354,6 +369,7 @@ def page_of(text: str, closure: Closure) -> str:
     """Returns the page with all its parts made anew."""
     parts = {
         "headline": headline_part(),
+        "contract": contract_part(),
         "files": files_part(closure),
         "types": data_part(closure),
         "words": words_part(closure),
