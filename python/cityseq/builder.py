@@ -16,6 +16,7 @@ from ._library import LOD_CLASSES, library
 from .bulk import Same, insert, same_if_equal
 from .extents import World, wider
 from .faults import WriteFault, write_fault
+from .full_disk import database_fault
 from .geopackage import (
     FID_BITS,
     MOST_FEATURES,
@@ -134,7 +135,7 @@ def telling_of(name: str) -> Iterator[None]:
     try:
         yield
     except sqlite3.Error as fault:
-        raise write_fault(fault, name) from fault
+        raise database_fault(fault, name) from fault
 
 
 def _filled(values: Optional[Iterable[Any]], some: Iterable[int]) -> Iterator[Any]:

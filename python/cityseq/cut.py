@@ -62,11 +62,13 @@ class _Cut:
         index: The index.
         work: The query.
         jobs: How many threads judge. None is one for each processor.
+        writer: Makes the writer of an output.
     """
 
     index: "Index"
     work: Work
     jobs: Optional[int]
+    writer: Callable[..., Writer] = Writer
 
     def written(self, name: str, selections: Selections, writer: Writer) -> Result:
         """Judges the selected lines again, and writes those that are kept."""
@@ -82,7 +84,7 @@ class _Cut:
         whole."""
         import tempfile  # a cut to a path does not need it
 
-        target = Writer(output)
+        target = self.writer(output)
         try:
             with tempfile.SpooledTemporaryFile(HELD) as spool:
                 result = self.written(name, selections, Writer(spool))
@@ -141,8 +143,15 @@ def _counted(result: Result, streams: Iterable[IndexedStream]) -> Result:
     )
 
 
-def cut(index: "Index", work: Work, output: Target, jobs: Optional[int]) -> Result:
+def cut(
+    index: "Index",
+    work: Work,
+    output: Target,
+    jobs: Optional[int],
+    writer: Callable[..., Writer] = Writer,
+) -> Result:
     """Writes what a query keeps of all streams of an index. They have one header and one output.
+    `writer` makes the writer of an output.
 
     Raises:
         CityseqError: As `Index.filter` does.
@@ -153,9 +162,10 @@ def cut(index: "Index", work: Work, output: Target, jobs: Optional[int]) -> Resu
             "each stream has its own header, and so its own output: name a folder by --output-dir"
         )
     index.check()
-    made, name, selections = _Cut(index, work, jobs), streams[0].path, index.selections(work)
+    made = _Cut(index, work, jobs, writer)
+    name, selections = streams[0].path, index.selections(work)
     if is_path(output):
-        return _counted(made.written(name, selections, Writer(output)), streams)
+        return _counted(made.written(name, selections, writer(output)), streams)
     return _counted(made.written_whole(name, selections, output), streams)
 
 
@@ -164,19 +174,20 @@ def cut_each(
     work: Work,
     output_of: Callable[[IndexedStream], str],
     jobs: Optional[int],
+    writer: Callable[..., Writer] = Writer,
 ) -> List[Result]:
     """Writes what a query keeps of each stream to an output of its own. The outputs get their names
-    when all are whole.
+    when all are whole. `writer` makes the writer of an output.
 
     Raises:
         CityseqError: As `Index.filter` does. No output is there then.
     """
     index.check()
-    made, results = _Cut(index, work, jobs), []
+    made, results = _Cut(index, work, jobs, writer), []
     with Batch() as batch:
         for stream, rows in index.selections(work):
-            writer = Writer(output_of(stream), batch=batch)
-            result = made.written(stream.path, [(stream, rows)], writer)
+            target = writer(output_of(stream), batch=batch)
+            result = made.written(stream.path, [(stream, rows)], target)
             results.append(_counted(result, [stream]))
         batch.replace()
     return results

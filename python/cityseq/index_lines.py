@@ -6,7 +6,7 @@ from typing import TYPE_CHECKING, Any, Dict, Iterator, List, Optional, Sequence
 from .database import INDEX_CHANGED
 from .faults import OutOfDate, ReadFault
 from .fetching import IndexedStream, check_file
-from .shown import quoted, shown
+from .escape import quoted, shown
 
 if TYPE_CHECKING:
     from .lookup import Index
@@ -77,7 +77,7 @@ def lines(index: "Index") -> Iterator[str]:
 
 def shown_object(index: "Index", program: str) -> Dict[str, Any]:
     """Returns the same as a JSON object."""
-    from .objects import object_of
+    from .json_objects import object_of
 
     return object_of(
         "index",

@@ -4,13 +4,14 @@ from __future__ import annotations
 
 import io
 import os
+import select
 import stat
 import sys
 from contextlib import suppress
-from typing import IO, Any, List, Optional, Tuple, Union
+from typing import IO, Any, Callable, List, Optional, Tuple, Union
 
 from .faults import RequestError, write_fault
-from .packed import Packer, Packing, packing_by_name, require
+from .packed import LEVEL, Packer, Packing, Text, pack, packing_by_name, require
 from .sources import is_path, name_of
 
 Target = Union[str, bytes, "os.PathLike[Any]", IO[bytes]]
@@ -153,15 +154,79 @@ class Batch:
                 raise write_fault(fault, name) from fault
 
 
+def _wait(file: Any) -> None:
+    """Waits until a file that does not block may take more."""
+    poll = select.poll()
+    poll.register(file.fileno(), select.POLLOUT)
+    poll.poll()
+
+
+def _write_some(file: Any, text: memoryview) -> int:
+    """Writes some of a text, and returns how many bytes the file took. Waits if it took none.
+
+    A raw file that does not block returns None if it takes nothing, and a buffered one raises
+    `BlockingIOError`. Any other file that returns None has taken all."""
+    try:
+        written = file.write(text)
+    except BlockingIOError as fault:
+        _wait(file)
+        return int(getattr(fault, "characters_written", 0))
+    if written is None and isinstance(file, io.RawIOBase):
+        _wait(file)
+        return 0
+    return written if isinstance(written, int) else len(text)
+
+
+def write_all(file: Any, text: Text) -> None:
+    """Writes all of a text to a binary file, which may take only a part of it at a time.
+
+    Raises:
+        OSError: A write failed.
+    """
+    rest = memoryview(text)
+    try:
+        while rest:
+            rest = rest[_write_some(file, rest) :]
+    finally:
+        rest.release()
+
+
+def flush_all(file: Any) -> None:
+    """Flushes a binary file, which may take only a part at a time.
+
+    Raises:
+        OSError: A write failed.
+    """
+    while hasattr(file, "flush"):
+        try:
+            file.flush()
+            return
+        except BlockingIOError:
+            _wait(file)
+
+
 class Writer:
     """Writes to a target: a path, `-` for standard output, or a binary file. A path is opened at
     the first call of `write` or `close`. So the file exists even if nothing is kept."""
 
     def __init__(
-        self, target: Target, keep_partial: bool = False, batch: Optional[Batch] = None
+        self,
+        target: Target,
+        keep_partial: bool = False,
+        batch: Optional[Batch] = None,
+        *,
+        level: int = LEVEL,
+        see: Optional[Callable[[Text], None]] = None,
     ) -> None:
-        """Takes the target. With `keep_partial` a path that is not whole is left as `NAME.part`. If
-        there is a batch, it gives a whole path its name."""
+        """Makes a writer of a target.
+
+        Args:
+            target: A path, `-` for standard output, or a binary file.
+            keep_partial: Whether a path that is not whole is left as `NAME.part`.
+            batch: Gives a whole path its name, if it is there.
+            level: How well an output is packed, from 1 to 9.
+            see: Is called with each text before it is packed, in any thread.
+        """
         if isinstance(target, io.TextIOBase) or not (
             isinstance(target, (str, bytes, os.PathLike)) or hasattr(target, "write")
         ):
@@ -172,7 +237,7 @@ class Writer:
         self._path = os.fsdecode(target) if is_path(target) else None  # type: ignore[arg-type]
         self._part: Optional[Part] = None  # where the path is written until it is whole
         self._file: Any = target if hasattr(target, "write") else None
-        self._keep_partial, self._batch = keep_partial, batch
+        self._keep_partial, self._batch, self._level, self._see = keep_partial, batch, level, see
         if self.packing is not None:
             try:
                 require(self.packing)
@@ -184,25 +249,28 @@ class Writer:
         """How the output is packed, or None."""
         return None if self._path is None else packing_by_name(self._path)
 
+    def pack(self, text: Text) -> bytes:
+        """Returns a text packed as the output is. Any thread may call it."""
+        assert self.packing is not None
+        if self._see is not None:
+            self._see(text)
+        return pack(text, self.packing, self._level)
+
     def write_packed(self, text: bytes) -> None:
-        """Writes packed bytes."""
+        """Writes bytes that `pack` returned."""
         try:
             self._opened().write_packed(text)
         except (OSError, ValueError) as fault:
             raise write_fault(fault, self.name) from fault
 
-    def write(self, text: Union[bytes, bytearray, memoryview]) -> None:
+    def write(self, text: Text) -> None:
         """Writes all of these bytes. Packs them if the output is packed."""
-        rest = memoryview(text)
+        if self._see is not None:
+            self._see(text)
         try:
-            file = self._opened()
-            while rest:
-                written = file.write(rest)
-                rest = rest[written:] if isinstance(written, int) else rest[len(rest) :]
+            write_all(self._opened(), text)
         except (OSError, ValueError) as fault:
             raise write_fault(fault, self.name) from fault
-        finally:
-            rest.release()
 
     def close(self, whole: bool) -> None:
         """Flushes the output, and closes a file that was opened here. Renames the file if it is
@@ -212,8 +280,8 @@ class Writer:
                 file = self._opened()
                 if isinstance(file, Packer):
                     file.finish()
-                elif hasattr(file, "flush"):
-                    file.flush()
+                else:
+                    flush_all(file)
                 if self._path is not None:
                     file.close()
             if whole and self._part is not None:
@@ -249,7 +317,9 @@ class Writer:
         elif self._file is None:
             assert self._path is not None
             file = self._made(self._path)
-            self._file = file if self.packing is None else Packer(file, self.packing)
+            self._file = file
+            if self.packing is not None:
+                self._file = Packer(file, self.packing, self._level)
         return self._file
 
     def _made(self, path: str) -> Any:

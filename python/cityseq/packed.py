@@ -18,7 +18,7 @@ Text = Union[bytes, bytearray, memoryview]
 READ = 1 << 17  # bytes of an archive that are read at once
 READ_ZSTD = 1 << 11  # fewer, since all that they unpack to is in memory
 BLOCK = 65_280  # bytes of a text in a block of BGZF
-LEVEL = 6  # of gzip
+LEVEL = 4  # how well a text is packed, from 1 to 9
 # The last block of an archive. It is empty, and shows that nothing was cut off.
 LAST = bytes.fromhex("1f8b08040000000000ff0600424302001b0003000000000000000000")
 
@@ -194,10 +194,10 @@ class Unpacker(io.RawIOBase):
         return True
 
 
-def _block(text: Text) -> bytes:
+def _block(text: Text, level: int) -> bytes:
     """Returns a block of BGZF: a member of gzip with its own length in an extra field."""
-    for level in (LEVEL, 0):
-        deflate = zlib.compressobj(level, zlib.DEFLATED, -15)
+    for each in (level, 0):
+        deflate = zlib.compressobj(each, zlib.DEFLATED, -15)
         packed = deflate.compress(text) + deflate.flush()
         if len(packed) + 26 <= 1 << 16:
             break
@@ -213,22 +213,23 @@ def require(packing: Packing) -> None:
         _zstandard()
 
 
-def pack(text: Text, packing: Packing) -> bytes:
+def pack(text: Text, packing: Packing, level: int = LEVEL) -> bytes:
     """Packs a text by itself. Packed texts that follow one another are unpacked together."""
     if packing is Packing.ZSTD:
-        packed: bytes = _zstandard().ZstdCompressor(write_checksum=True).compress(text)
+        packed: bytes = _zstandard().ZstdCompressor(level, write_checksum=True).compress(text)
         return packed
     view = memoryview(text)
-    return b"".join(_block(view[begin : begin + BLOCK]) for begin in range(0, len(view), BLOCK))
+    begins = range(0, len(view), BLOCK)
+    return b"".join(_block(view[begin : begin + BLOCK], level) for begin in begins)
 
 
 class Packer(io.RawIOBase):
     """Packs what is written to it into a file. Short texts are gathered first. Packed bytes are
     written unchanged."""
 
-    def __init__(self, file: IO[bytes], packing: Packing) -> None:
+    def __init__(self, file: IO[bytes], packing: Packing, level: int = LEVEL) -> None:
         super().__init__()
-        self._file, self._packing = file, packing
+        self._file, self._packing, self._level = file, packing, level
         self._gathered: List[bytes] = []
         self._size = 0
 
@@ -251,7 +252,7 @@ class Packer(io.RawIOBase):
     def _write_gathered(self) -> None:
         text, self._gathered, self._size = b"".join(self._gathered), [], 0
         if text:
-            self._file.write(pack(text, self._packing))
+            self._file.write(pack(text, self._packing, self._level))
 
     def flush(self) -> None:
         """Writes nothing. Gathered texts are written when they fill a block, or at the end."""

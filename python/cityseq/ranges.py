@@ -8,7 +8,7 @@ from typing import Iterator, Optional, Tuple
 
 from ._library import RawAnswer
 from .faults import ReadFault, read_fault
-from .hints import HEAD
+from .file_hints import HEAD
 from .packed import Unpacker
 from .parts import Answer, judge, read_header, whole_lines
 from .places import Placed, given

@@ -9,7 +9,7 @@ import unicodedata
 from dataclasses import dataclass, replace
 from typing import Any, Dict, Iterable, Iterator, Optional, Tuple, Union
 
-from .met import LONGEST, met
+from .place_hints import LONGEST, met
 
 Text = Union[bytes, bytearray]
 

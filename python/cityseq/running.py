@@ -34,10 +34,10 @@ from .faults import (
     Status,
     WriteFault,
 )
-from .hints import HEAD, hints_for
+from .file_hints import HEAD, hints_for
 from .ids import part_size_for
 from .outputs import Writer
-from .packed import BLOCK, Packing, Unpacker, pack
+from .packed import BLOCK, Text, Unpacker
 from .parts import PART, Answer, Cutter, read_header
 from .places import SMALL, Placed, Places, given, judge_placed, judge_read, placed
 from .query import Work
@@ -226,10 +226,9 @@ class Stream:
     def _packing(self, task: Task) -> Task:
         """Returns a task that packs its output too if the output is packed. So all threads
         pack."""
-        how = None if self._output is None else self._output.packing
-        if how is None:
+        if self._output is None or self._output.packing is None:
             return task
-        return partial(_packed, task, how)
+        return partial(_packed, task, self._output.pack)
 
     def _parts(self, reader: Reader, header: bytes, rest: bytearray) -> Iterator[Optional[Judged]]:
         """Yields a call that judges each part after the header. The thread that judges a part of a
@@ -381,11 +380,11 @@ class Stream:
         info.lods, info.unasked = tally.lods, tuple(sorted(tally.unasked))
 
 
-def _packed(task: Task, how: Packing) -> Answer:
+def _packed(task: Task, pack: Callable[[Text], bytes]) -> Answer:
     """Returns the answer of a task, with its output packed unless that is short."""
     answer = task()
     if len(answer.output) >= BLOCK:
-        answer.output, answer.is_packed = pack(answer.output, how), True
+        answer.output, answer.is_packed = pack(answer.output), True
     return answer
 
 

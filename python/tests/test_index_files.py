@@ -349,15 +349,16 @@ class Hostile(InFolder):
     def test_a_signal_ends_a_long_query(self):
         """SQLite asks Python, so that it can run the handler of the signal."""
         code = (
-            "import sys; from cityseq import commands, database\n"
+            "import sys; from cityseq import database\n"
+            "from cityseq.cli.main import end_by_signals, main\n"
             "def check(self, total):\n"
             "    with self.reading():\n"
             "        print('begun', flush=True)\n"
             "        self.execute('WITH RECURSIVE n(i) AS (SELECT 1 UNION ALL SELECT i + 1 FROM n)"
             " SELECT max(i) FROM n').fetchall()\n"
             "database.Database.check = check\n"
-            "commands.end_by_signals()\n"
-            "sys.exit(commands.main(['filter', '--index', sys.argv[1]]))\n"
+            "end_by_signals()\n"
+            "sys.exit(main(['filter', '--index', sys.argv[1]]))\n"
         )
         for number, words in ((signal.SIGTERM, b"stopped by SIGTERM\n"),
                               (signal.SIGINT, b"interrupted\n")):

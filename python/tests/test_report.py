@@ -148,7 +148,7 @@ class Command(InFolder):
         for name in extras.PACKAGES:
             code = (
                 f"import sys; sys.modules[{name!r}] = None\n"
-                "from cityseq import commands; sys.exit(commands.main(sys.argv[1:]))"
+                "from cityseq.cli.main import main; sys.exit(main(sys.argv[1:]))"
             )
             ran = subprocess.run(
                 [sys.executable, "-c", code, "report", "--output", self.page, self.good],

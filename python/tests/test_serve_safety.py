@@ -273,7 +273,7 @@ class Safety(Served):
         for text, wanted in (("raise ImportError('none')", "there is no aiohttp for Python: install python3-aiohttp"),
                              ("web = None", "this version of aiohttp cannot be used: ")):
             (self.folder / "aiohttp.py").write_text(text)
-            code = f"import sys; sys.path.insert(0, {str(self.folder)!r}); from cityseq.commands import main; sys.exit(main(['serve']))"
+            code = f"import sys; sys.path.insert(0, {str(self.folder)!r}); from cityseq.cli.main import main; sys.exit(main(['serve']))"
             ran = subprocess.run([sys.executable, "-c", code], stderr=subprocess.PIPE, timeout=30,
                                  env={**os.environ, "PYTHONPATH": os.path.join(ROOT, "python")})
             (self.folder / "aiohttp.py").unlink()

@@ -13,7 +13,7 @@ from ..faults import RequestError, WriteFault
 from ..indexing import by_threads, is_special
 from ..outputs import Writer, part_of
 from ..query import Work
-from ..record import sha256_of, time_now
+from ..file_state import sha256_of, time_now
 from ..running import Result, usual_jobs
 from ..same import refuse_same
 from ..sources import is_path, size_of

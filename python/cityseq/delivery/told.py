@@ -4,7 +4,7 @@ from __future__ import annotations
 from decimal import Decimal
 from typing import Any, Dict, List, Optional
 
-from ..objects import exact, report_object
+from ..json_objects import exact, report_object
 from .facts import Area, Contents, Delivery, File, Reason, Repeated
 
 VERSION = 1  # it changes if a member is removed, renamed or changes its meaning

@@ -22,7 +22,7 @@ from ..faults import RequestError
 if TYPE_CHECKING:
     from aiohttp import web
 
-    from ..words import Asked
+    from ..cli.requests import Serve
     from .settings import Settings
 
 __all__ = ["app", "runner"]
@@ -111,7 +111,7 @@ def runner(
     return make
 
 
-def run(wanted: "Asked") -> int:
+def run(wanted: "Serve") -> int:
     """Runs the command `serve`, and returns the status."""
     _require()
     try:

@@ -11,7 +11,7 @@ from urllib.parse import urlsplit
 
 from aiohttp import web
 
-from ..console import say
+from ..cli.output import say
 from ..faults import CityseqError
 from . import bodies, items, openapi, resources
 from .answers import dumped, send

@@ -7,18 +7,18 @@ from __future__ import annotations
 import asyncio
 import json
 from collections import deque
-from typing import Any, Deque, Dict, List, Optional, Tuple
+from typing import Any, Deque, Dict, List, Optional, Tuple, Union
 
 from aiohttp import web
 
 from .. import __version__
 from .._library import USUAL_DEPTH, USUAL_LINE, Text
-from ..objects import reasons_object, report_object, result_object
+from ..cli.requests import Check, Filter
+from ..json_objects import reasons_object, report_object, result_object
 from ..parts import Answer
 from ..places import SMALL
 from ..query import asked
 from ..running import Result, Task
-from ..words import Asked
 from .answers import begin, write
 from .bounds import Pace
 from .calls import Calls
@@ -32,17 +32,17 @@ SEQUENCE = "application/city+json-seq"
 GO_ON = "100-continue"
 JUDGED_BY = ("line_limit", "depth", "keep_going", "tree", "max_reports")
 CHECK = (*JUDGED_BY, "summary")
+Wanted = Union[Check, Filter]
 FILTER = (*JUDGED_BY, "exclude", "id", "type", "lod", "bbox", "verdict")
 
 
-def asked_of(command: str, query: Query, limits: Limits) -> Asked:
+def asked_of(command: str, query: Query, limits: Limits) -> Wanted:
     """Returns what a request asks for, as the command line would have it.
 
     Raises:
         Problem: A parameter has a value that it may not have.
     """
-    wanted = Asked(
-        command,
+    common: Dict[str, Any] = dict(
         line_limit=query.number("line_limit", 1, limits.line_limit,
                                 min(USUAL_LINE, limits.line_limit)),
         depth=query.number("depth", 1, limits.depth, min(USUAL_DEPTH, limits.depth)),
@@ -51,22 +51,19 @@ def asked_of(command: str, query: Query, limits: Limits) -> Asked:
         max_reports=query.number("max_reports", 0, MOST_REPORTS, REPORTS),
     )
     if command == "filter":
-        wanted.exclude = query.flag("exclude")
-        wanted.id, wanted.type, wanted.lod, wanted.bbox = map(
-            query.text, ("id", "type", "lod", "bbox")
-        )
-    else:
-        wanted.summary = query.flag("summary")
-        if wanted.summary and "max_reports" not in query:
-            wanted.max_reports = 0
+        texts: Dict[str, Any] = {name: query.text(name) for name in ("id", "type", "lod", "bbox")}
+        return Filter(**common, **texts, exclude=query.flag("exclude"))
+    wanted = Check(**common, summary=query.flag("summary"))
+    if wanted.summary and "max_reports" not in query:
+        wanted.max_reports = 0
     return wanted
 
 
-def _fed(wanted: Asked, query: Query, packed: Optional[bool], limits: Limits) -> Fed:
+def _fed(wanted: Wanted, query: Query, packed: Optional[bool], limits: Limits) -> Fed:
     """Returns the stream that takes the body."""
     common: Dict[str, Any] = dict(line_limit=wanted.line_limit, depth=wanted.depth,
                                   keep_going=wanted.keep_going, tree=wanted.tree)
-    if wanted.command == "filter":
+    if isinstance(wanted, Filter):
         common.update(exclude=wanted.exclude, ids=query.texts("id"), types=query.texts("type"),
                       lods=query.texts("lod"), box=wanted.bbox)
     most = wanted.max_reports or 0
@@ -140,7 +137,7 @@ class Body:
 class Judgement:
     """A body that the threads judge."""
 
-    def __init__(self, request: web.Request, calls: Calls, limits: Limits, wanted: Asked,
+    def __init__(self, request: web.Request, calls: Calls, limits: Limits, wanted: Wanted,
                  query: Query) -> None:
         self._calls, self.wanted = calls, wanted
         self._fed = _fed(wanted, query, _is_packed(request, limits), limits)

@@ -5,7 +5,7 @@ import os
 from typing import Any, Dict, List, Optional, Sequence, Tuple
 
 from .. import __version__
-from ..shown import shown
+from ..escape import shown
 from .answers import item_path
 from .boxes import around
 from .pages import Found

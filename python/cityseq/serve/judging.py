@@ -8,7 +8,7 @@ from itertools import islice
 from typing import Any, Iterable, Iterator, List, Optional, Tuple
 
 from .._library import Text
-from ..hints import HEAD
+from ..file_hints import HEAD
 from ..packed import Gzip, Packing
 from ..parts import Answer
 from ..places import SMALL, given, judge_read

@@ -9,8 +9,8 @@ from typing import Any, Optional
 from aiohttp.abc import AbstractAccessLogger
 from aiohttp.http_exceptions import HttpProcessingError
 
-from ..console import say
-from ..shown import shown
+from ..cli.output import say
+from ..escape import shown
 
 LONGEST = 2_000  # characters of a part of a line that a client sent
 SENT = "sent"  # the item of an answer in pieces that has how many bytes were sent

@@ -17,7 +17,7 @@ from ..faults import (
     RequestError,
     why,
 )
-from ..shown import shown
+from ..escape import shown
 
 MEDIA_TYPE = "application/problem+json"
 LONGEST = 1_000  # characters of a detail: it may contain what a client sent

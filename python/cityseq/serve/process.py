@@ -9,10 +9,10 @@ from typing import Any, Dict, Sequence
 from aiohttp import web
 
 from .._library import library
-from ..console import say
+from ..cli.output import say
 from ..faults import ReadFault, why
-from ..shown import shown
-from ..words import Asked
+from ..escape import shown
+from ..cli.requests import Serve
 from .application import Server, application
 from .logs import Combined, fault_logger, request_logger
 from .settings import LOOPBACK, Limits, Settings
@@ -27,7 +27,7 @@ LOOK = 0.05  # seconds between two looks at open answers
 FILES = 512  # descriptors in addition to those of connections
 
 
-def settings_of(wanted: Asked) -> Settings:
+def settings_of(wanted: Serve) -> Settings:
     """Returns the settings that the command line asks for.
 
     Raises:
@@ -171,13 +171,13 @@ def _tell(_: asyncio.AbstractEventLoop, context: Dict[str, Any]) -> None:
         say(shown(f"{context['message']}: {context.get('exception')}"))
 
 
-async def _serve(wanted: Asked, settings: Settings) -> None:
+async def _serve(wanted: Serve, settings: Settings) -> None:
     server = Server(settings)
     server.calls.start()
     await Process(server, wanted.quiet).run(wanted.host, wanted.port)
 
 
-def run(wanted: Asked) -> int:
+def run(wanted: Serve) -> int:
     """Serves what the command line asks for, and returns the status.
 
     Raises:

@@ -7,7 +7,7 @@ from decimal import Decimal, InvalidOperation
 from typing import Dict, List, Optional, Tuple
 from urllib.parse import unquote_to_bytes
 
-from ..words import whole_number
+from ..cli.values import whole_number
 from .problems import Problem
 
 NUMBER = re.compile(r"[-+]?(?:\d+\.?\d*|\.\d+)(?:[eE][-+]?\d+)?\Z", re.ASCII)

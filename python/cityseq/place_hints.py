@@ -6,7 +6,7 @@ import json
 import re
 from typing import Any, Callable, Dict, Iterator, List, Optional, Tuple
 
-from .shown import quoted
+from .escape import quoted
 
 LONGEST = 1 << 20  # longer lines are not read as JSON
 VALUE = 256  # bytes of a value that are read
@@ -17,6 +17,10 @@ KINDS = {"{": "an object", "[": "an array", '"': "a string", "t": "true", "f": "
 SECOND_LEVEL = re.compile(
     r"(Bridge|Building|Tunnel)"
     r"(ConstructiveElement|Furniture|Installation|Part|Room|Storey|Unit|HollowSpace)\Z"
+)
+SECOND_HEADER = (
+    "the line is a second header, as where two streams were joined: remove it if both headers have"
+    " the same transform, and else keep the streams apart"
 )
 Needs = Tuple[
     str, Dict[str, Any], Tuple[str, ...]
@@ -90,6 +94,8 @@ def _missing(line: bytes, place: int, is_header: bool) -> Optional[str]:
     """Describes which member the object at a place lacks. It reads the whole line, because the
     place alone does not show what the object is."""
     root = _decoded(line)
+    if not is_header and root.get("type") == "CityJSON":
+        return SECOND_HEADER
     told, _ = json.JSONDecoder().raw_decode(line[place:].decode("utf-8"))
     for what, found, needed in _of_header(root) if is_header else _of_feature(root):
         lacking = [name for name in needed if name not in found]

@@ -3,12 +3,14 @@ from __future__ import annotations
 
 from typing import TYPE_CHECKING, Any, Counter, Dict, List, Optional, Union
 
+from .cli.requests import Request
 from .reports import Report, explain
 from .running import Info, Result
-from .words import Asked
 
 if TYPE_CHECKING:
     from decimal import Decimal
+
+    from .cli.printers import Reports
 
 VERSION = 1  # of the objects: it changes if a member is renamed, removed or changes its meaning
 LONGEST = 40  # digits before or after the point of a number that is written out
@@ -54,24 +56,6 @@ def report_object(report: Report) -> Object:
     )
 
 
-def options_object(asked: Asked) -> Object:
-    """Returns the options that affect the result of a file."""
-    options: Object = {
-        "line_limit": asked.line_limit,
-        "depth": asked.depth,
-        "tree": asked.tree,
-        "keep_going": asked.keep_going,
-    }
-    if asked.command == "filter":
-        options.update(
-            {
-                name: getattr(asked, name)
-                for name in ("exclude", "id", "ids_from", "type", "lod", "bbox")
-            }
-        )
-    return options
-
-
 def _counts(result: Result) -> Object:
     return {
         "status": result.status,
@@ -106,14 +90,14 @@ def _of_info(info: Info) -> Object:
 
 
 def result_object(
-    result: Result, asked: Asked, program: str, size: Optional[int], sha256: Optional[str]
+    result: Result, request: Request, program: str, size: Optional[int], sha256: Optional[str]
 ) -> Object:
     """Returns the object of a file's result, without the reports."""
     members = {
         "file": result.file,
-        "command": asked.command,
+        "command": request.command,
         "cityseq": program,
-        "options": options_object(asked),
+        "options": request.options,
         "size": size,
         "sha256": sha256,
         **_counts(result),
@@ -140,16 +124,23 @@ def reasons_object(codes: "Counter[int]") -> Object:
     )
 
 
-def record_object(result: Result, asked: Asked, program: str, state: Object) -> Object:
-    """Returns a line of a record: the state of a file, and its result."""
+def record_object(
+    result: Result, request: Request, program: str, invalid: "Reports", state: Object
+) -> Object:
+    """Returns a line of a record: the state of a file, its result, and its invalid lines."""
+    first = invalid.first
     return object_of(
         "record",
         {
             "file": result.file,
             **state,
-            "command": asked.command,
+            "command": request.command,
             "cityseq": program,
-            "options": options_object(asked),
+            "options": request.options,
             **_counts(result),
+            "line": None if first is None else first.line,
+            "byte": None if first is None else first.byte,
+            "code": None if first is None else first.code,
+            "codes": {str(code): invalid.codes[code] for code in sorted(invalid.codes)},
         },
     )
