@@ -80,6 +80,15 @@ class Ids(InFolder):
         self.assertEqual((status, said.count("500 ids matched no feature")), (0, 1))
         self.assertEqual(gzip.decompress(output.read_bytes()), HEADER + b"".join(lines[::2]))
 
+    def test_very_many_ids(self):
+        """Then only a list that matches nothing is reported."""
+        path, listed = self.file(GOOD), self.folder / "ids"
+        ids = "".join(f"{number}\n" for number in range(100_001))
+        for text, said in ((ids, "100,001 ids matched"), (ids + "a\n", "")):
+            listed.write_text(text)
+            _, told, status = command("filter", "--ids-from", listed, path)
+            self.assertEqual((status, said in told, bool(told)), (0, True, bool(said)))
+
     def test_where_nothing_is_said(self):
         path, broken = self.file(GOOD), self.file(HEADER + b"[]\n", "broken.jsonl")
         listed = self.file(b"none\n", "ids")

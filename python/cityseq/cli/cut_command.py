@@ -78,19 +78,19 @@ def _cut(request: Filter, index: Index) -> int:
     rules = {name: getattr(index, name) for name in RULES}
     judged = replace(request, **rules)  # as the lines were judged
     unmatched = unmatched_of(request, ids)
-    see = None if unmatched is None else unmatched.see
-    worst = 0
+    see = unmatched.see if unmatched is not None and unmatched.is_exact else None
+    worst = features = 0
     with Bar(None, False) as bar:
         printer = printer_for(judged, bar, len(index.streams) > 1)
         writer = partial(Writer, level=request.level or LEVEL, see=see)
         for result in _results(request, index, work, outputs, writer):
-            worst = max(worst, result.status)
+            worst, features = max(worst, result.status), features + result.features
             made = result_object(result, judged, __version__, size_of(result.file), None)
             printer.result(result, lambda made=made: made)  # type: ignore[misc]
     if not request.quiet and not request.json:
         _say_left_out(index)
     if unmatched is not None:
-        unmatched.print(request)
+        unmatched.print(request, features)
     return worst
 
 

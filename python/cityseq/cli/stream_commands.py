@@ -7,7 +7,7 @@ from collections import deque
 from collections.abc import Sequence
 from contextlib import closing
 from dataclasses import dataclass, field
-from functools import partial
+from functools import cached_property, partial
 from typing import TYPE_CHECKING, Any
 
 from .. import __version__
@@ -123,9 +123,10 @@ class Run:
             "command": self._request.command,
             "cityseq": __version__,
             "options": self._request.options,
-            "ids_sha256": self._ids_sha256(),
+            "ids_sha256": self._ids_sha256,
         }
 
+    @cached_property
     def _ids_sha256(self) -> str | None:
         """Returns the SHA-256 of the ids of a query, which may be those of a file."""
         if not isinstance(self._request, Filter) or self._request.ids_from is None:
@@ -188,7 +189,7 @@ class Run:
             **begun.state,
             "sha256": sha256,
             "time": time_now(),
-            "ids_sha256": self._ids_sha256(),
+            "ids_sha256": self._ids_sha256,
             **output_state(begun.output if is_whole else None),
         }
         line = record_object(result, self._request, __version__, begun.reports, state)
@@ -244,21 +245,34 @@ def unmatched_of(request: Filter, ids: list[str] | bytes | None) -> UnmatchedIds
     return UnmatchedIds(request.ids_from, ids)
 
 
-def _judge_all(request: Request, work: Work, files: Sequence[str], see: Any) -> tuple[int, bool]:
-    """Judges the files, in order. Returns the greatest status, and whether each was read to its
-    end."""
-    is_complete = True
+@dataclass
+class _Outcome:
+    """What came of all files: the greatest status, whether each was read to its end, and the number
+    of features."""
+
+    status: int
+    is_complete: bool
+    features: int = 0
+
+    def add(self, status: int, result: Result) -> None:
+        """Takes the result of the next file."""
+        self.status = max(self.status, status)
+        self.is_complete = self.is_complete and result.fault is None and result.end is None
+        self.features += result.features
+
+
+def _judge_all(request: Request, work: Work, files: Sequence[str], see: Any) -> _Outcome:
+    """Judges the files, in order."""
     total = total_of(files, request.progress)
     with Bar(total, request.progress) as bar, Run(request, work, files, bar) as run:
         rest, worst = run.skip(files)
-        writers = _writers(request, rest, see)
-        streams = map(run.stream, rest, writers)
+        outcome = _Outcome(worst, len(rest) == len(files))
+        streams = map(run.stream, rest, _writers(request, rest, see))
         with closing(threaded(streams, request.jobs)) as results:
             for result in results:
-                worst = max(worst, run.take(result))
-                is_complete = is_complete and result.fault is None and result.end is None
+                outcome.add(run.take(result), result)
         run.close()
-    return worst, is_complete and len(rest) == len(files)
+    return outcome
 
 
 def run(request: Request) -> int:
@@ -274,11 +288,11 @@ def run(request: Request) -> int:
         say("reading standard input; it ends with Ctrl-D")
     keep_room(request.jobs)
     unmatched = None if query is None else unmatched_of(query, ids)
-    see = None if unmatched is None else unmatched.see
-    worst, is_complete = _judge_all(request, work, files, see)
-    if query is not None and unmatched is not None and is_complete:
-        unmatched.print(query)
-    return worst
+    see = unmatched.see if unmatched is not None and unmatched.is_exact else None
+    outcome = _judge_all(request, work, files, see)
+    if query is not None and unmatched is not None and outcome.is_complete:
+        unmatched.print(query, outcome.features)
+    return outcome.status
 
 
 def explain_code(request: Explain) -> int:

@@ -12,6 +12,7 @@ from .output import put, say
 from .requests import Filter
 
 SHOWN = 5  # ids that are shown
+MOST = 100_000  # ids that are looked for in kept lines
 _BEGIN = re.compile(USUAL_BEGIN)
 
 
@@ -34,24 +35,32 @@ def ids_in(text: Text) -> set[bytes]:
 
 
 class UnmatchedIds:
-    """Finds which ids of a query matched no feature."""
+    """Finds which ids of a query matched no feature. Of very many ids it finds only whether none
+    matched, because to read the ids of all kept lines takes long."""
 
     def __init__(self, path: str, ids: list[str] | bytes) -> None:
         """Takes the name of the list, and the ids of the query. Bytes have one id on each line."""
         self._path, self._ids = path, ids
         self._found: set[bytes] = set()
+        lines = ids.count(b"\n") + 1 if isinstance(ids, bytes) else len(ids)
+        self._count = lines if ids else 0
+        self.is_exact = self._count <= MOST
 
     def see(self, text: Text) -> None:
         """Takes kept lines. Any thread may call it."""
-        self._found |= ids_in(text)
+        if self.is_exact:
+            self._found |= ids_in(text)
 
     def _missing(self) -> list[str]:
         ids = self._ids.split(b"\n") if isinstance(self._ids, bytes) else map(str.encode, self._ids)
         return [each.decode("utf-8") for each in dict.fromkeys(ids) if each not in self._found]
 
-    def print(self, request: Filter) -> None:
-        """Prints how many ids matched no feature, and the first of them, if there are any."""
-        missing = self._missing() if self._ids else []
+    def print(self, request: Filter, features: int) -> None:
+        """Prints how many ids matched no feature, and the first of them, if there are any.
+        `features` is the number of all kept features."""
+        if not self.is_exact and features:
+            return
+        missing = self._missing() if self._count else []
         if request.json:
             text = json.dumps(self._object(missing))
             if request.writes_to_standard_output:
