@@ -132,7 +132,7 @@ row_memory_that_is_not_enough_to_begin() {
 row_an_index_and_memory_that_is_not_enough_to_begin() {
   local size
   stream 100 > "$scratch/stream"
-  for size in 24000 26000 28000 30000 32000 34000 36000; do
+  for size in 22000 24000 26000 28000 30000 32000 34000 36000; do
     (ulimit -v $size && timeout 20 "$python" -m cityseq index --output "$scratch/it.gpkg" "$scratch/stream" \
       > "$scratch/out" 2> "$scratch/said")
     is_out_of_memory $? || return

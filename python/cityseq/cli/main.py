@@ -108,10 +108,19 @@ def _traced(fault: Exception) -> str:
 
 
 def _is_short_of_memory(fault: BaseException) -> bool:
-    """Whether a fault is that of the system's loader, which has no memory for a library."""
-    return isinstance(fault, ImportError) and any(
-        words in str(fault).lower() for words in SHORT_OF_MEMORY
-    )
+    """Whether a fault is that of the system's loader, which has no memory for a library, or one of
+    Python itself, whose calls sometimes do not say that memory is short."""
+    words = str(fault).lower()
+    if isinstance(fault, SystemError):
+        return "returned null without setting an exception" in words and _has_limit()
+    return isinstance(fault, ImportError) and any(each in words for each in SHORT_OF_MEMORY)
+
+
+def _has_limit() -> bool:
+    """Whether the memory of this process is limited."""
+    import resource  # few faults need it
+
+    return resource.getrlimit(resource.RLIMIT_AS)[0] != resource.RLIM_INFINITY
 
 
 def _status_of(fault: BaseException, request: Request | None) -> int:
