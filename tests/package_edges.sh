@@ -120,9 +120,13 @@ row_trees_and_any_limit_of_the_stack() {
 
 # ---- very little memory
 
+# Has Python compile the package before a limit is set. With less than 24 MB it cannot compile it, and ends before the command begins.
+compiled() { cityseq index --output "$scratch/other.gpkg" "$scratch/stream" > "$scratch/out"; }
+
 row_memory_that_is_not_enough_to_begin() {
   local size
   stream 100 > "$scratch/stream"
+  compiled
   for size in 20000 22000 24000 26000 28000 30000; do
     (ulimit -v $size && timeout 20 "$python" -m cityseq check "$scratch/stream" > "$scratch/out" 2> "$scratch/said")
     is_out_of_memory $? || return
@@ -132,6 +136,7 @@ row_memory_that_is_not_enough_to_begin() {
 row_an_index_and_memory_that_is_not_enough_to_begin() {
   local size
   stream 100 > "$scratch/stream"
+  compiled
   for size in 22000 24000 26000 28000 30000 32000 34000 36000; do
     (ulimit -v $size && timeout 20 "$python" -m cityseq index --output "$scratch/it.gpkg" "$scratch/stream" \
       > "$scratch/out" 2> "$scratch/said")
