@@ -10,17 +10,18 @@ from contextlib import closing
 from typing import Any, Deque, Dict, Iterable, List, NoReturn, Optional, Sequence, Tuple, Union
 
 from . import __version__
-from ._library import keep_room
+from .engine.memory import keep_room
 from .console import flush, put, say
 from .faults import CityseqError, RequestError, Status, write_fault
 from .outputs import Writer
 from .progress import Bar
-from .query import UnknownType, Work, asked
-from .reports import explain
-from .running import Result, Stream, threaded
+from .engine.query import UnknownType, Work, asked
+from .engine.reports import explain
+from .run.results import Result
+from .run.streams import Stream, results
 from .same import refuse_same, refuse_standard
 from .shown import shown
-from .sources import is_path, size_of
+from .sources.source import is_path, size_of
 from .telling import brief, is_terminal, teller_of
 from .words import Asked, Mistake, Told, read_words
 
@@ -176,9 +177,9 @@ class Run:
         self._hashes: Any = None
         self._record: Any = None
         if wanted.sha256 or wanted.record is not None:
-            from .threads import Crew  # few runs need threads that hash
+            from .run.pool import Pool  # few runs need threads that hash
 
-            self._hashes = Crew(HASHES)
+            self._hashes = Pool(HASHES)
         if wanted.record is not None:
             from .record import Record
 
@@ -280,8 +281,8 @@ def _run(wanted: Asked) -> int:
         streams = (
             run.stream(file, work, output) for file, output in zip(left, _outputs(wanted, left))
         )
-        with closing(threaded(streams, wanted.jobs)) as results:
-            for result in results:
+        with closing(results(streams, wanted.jobs)) as found:
+            for result in found:
                 worst = max(worst, run.take(result))
         run.close()
     return worst

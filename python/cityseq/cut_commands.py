@@ -7,7 +7,7 @@ from dataclasses import replace
 from typing import Iterator, List
 
 from . import __version__
-from ._library import USUAL_DEPTH, USUAL_LINE
+from .engine.structs import USUAL_DEPTH, USUAL_LINE
 from .commands import ids_of, make_folder, texts_of
 from .console import say
 from .cut import cut, cut_each
@@ -16,11 +16,11 @@ from .fetching import IndexedStream
 from .lookup import Index
 from .objects import result_object
 from .progress import Bar
-from .query import Work
-from .running import Result
+from .engine.query import Work
+from .run.results import Result
 from .same import refuse_same, refuse_standard
 from .shown import shown
-from .sources import size_of
+from .sources.source import size_of
 from .telling import teller_of
 from .words import Asked
 

@@ -5,7 +5,7 @@ import json
 from typing import Callable, Iterator, Sequence
 
 from . import __version__
-from ._library import keep_room
+from .engine.memory import keep_room
 from .builder import Builder
 from .commands import files_of
 from .console import put
@@ -15,10 +15,10 @@ from .indexing import Indexed, by_threads, checked, written
 from .lookup import Index
 from .objects import result_object
 from .progress import Bar
-from .query import Work, asked
-from .running import Result, Stream
+from .engine.query import Work, asked
+from .run.results import Result
 from .same import refuse_same, refuse_standard
-from .sources import size_of
+from .sources.source import size_of
 from .telling import Teller, teller_of
 from .words import Asked
 
@@ -90,7 +90,7 @@ def _build(wanted: Asked) -> int:
 
 def _streams(
     files: Sequence[str], work: Work, builder: Builder, wanted: Asked, teller: Teller, bar: Bar
-) -> Iterator[Stream]:
+) -> Iterator[Indexed]:
     def progress_of(file: str) -> Callable[[int], None]:
         return lambda size: bar.add(file, size)
 

@@ -10,7 +10,7 @@ from typing import Any, Callable, Dict, Optional, Tuple
 
 from .faults import RequestError, write_fault
 from .objects import Object, options_object
-from .sources import PIECE, is_path
+from .sources.source import PIECE, is_path
 from .words import Asked
 
 

@@ -10,8 +10,8 @@ from . import __version__
 from .console import put
 from .faults import RequestError
 from .progress import Bar
-from .reports import Report, explain
-from .running import Result
+from .engine.reports import Report, explain
+from .run.results import Result
 from .shown import quoted, shown
 from .telling import Object, Teller
 from .words import Asked

@@ -10,8 +10,8 @@ from typing import Any, Callable, Dict, Iterator, List
 
 from .console import encoding, put, say
 from .progress import Bar
-from .reports import Report, explain
-from .running import Info, Result
+from .engine.reports import Report, explain
+from .run.results import Info, Result
 from .shown import fitting, quoted, shown
 from .words import Asked
 
@@ -31,7 +31,7 @@ def is_terminal(output: Any) -> bool:
 def info_lines(info: Info, is_plain: bool) -> Iterator[str]:
     """Yields the summary of a stream: the lines that the program writes. A file also has the box
     in world coordinates. The texts of LoDs follow if they were counted."""
-    from .world import normal
+    from .engine.world import normal
 
     yield f"lines {info.lines}"
     yield f"features {info.features}"

@@ -6,7 +6,7 @@ from __future__ import annotations
 from dataclasses import dataclass, field
 from typing import Any, Callable, Dict, List, Optional, Sequence, Tuple
 
-from ._library import DEPTH_LIMITS, LINE_LIMITS, USUAL_DEPTH, USUAL_LINE
+from .engine.structs import DEPTH_LIMITS, LINE_LIMITS, USUAL_DEPTH, USUAL_LINE
 from .faults import RequestError
 from .shown import shown
 

@@ -4,16 +4,16 @@ from __future__ import annotations
 import json
 import shlex
 
-from .._library import keep_room
+from ..engine.memory import keep_room
 from ..commands import files_of
 from ..console import put, say
 from ..faults import RequestError
 from ..progress import Bar
-from ..query import asked
-from ..running import Result
+from ..engine.query import asked
+from ..run.results import Result
 from ..same import refuse_same, refuse_standard
 from ..shown import shown
-from ..sources import size_of
+from ..sources.source import size_of
 from ..words import COMMANDS, Asked
 from .making import How, checked, report
 

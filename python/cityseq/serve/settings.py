@@ -5,7 +5,7 @@ from dataclasses import dataclass, field
 from typing import Any, Optional, Tuple
 from urllib.parse import urlsplit
 
-from .._library import USUAL_DEPTH, USUAL_LINE
+from ..engine.structs import USUAL_DEPTH, USUAL_LINE
 from ..faults import RequestError
 from ..words import BODIES, BODY, FEATURES, IDLE, RATE, REQUESTS, SECONDS, STOP
 
