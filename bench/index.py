@@ -78,7 +78,7 @@ def cut(megabytes, rounds):
 
 def parts_of_records(count, header):
     """Made-up records, 4,000 at a time: each feature somewhere in a square of 100 km."""
-    from cityseq.records import RECORD, Records
+    from cityseq.engine.records import RECORD, Records
 
     chance, done, place = random.Random(1), 0, len(header)
     while done < count:
@@ -129,8 +129,8 @@ def written(count, path):
     of the processor."""
     import cityseq
     from cityseq.builder import Builder, File
-    from cityseq.query import asked
-    from cityseq.running import Result
+    from cityseq.engine.query import asked
+    from cityseq.run.results import Result
 
     builder, made, begun, processor = Builder(path), 0.0, time.monotonic(), time.process_time()
     builder.open()

@@ -54,7 +54,7 @@ def size(_megabytes, _rounds):
     from cityseq.delivery.areas import Place, np
     from cityseq.delivery.facts import Contents, Delivery, File, Reasons, Run
     from cityseq.delivery.page import html
-    from cityseq.reports import Report
+    from cityseq.engine.reports import Report
 
     count, chance, begun = (
         int(os.environ.get("FEATURES", 10_000_000)),

@@ -16,9 +16,13 @@ file that is packed by gzip or Zstandard is unpacked.
 from __future__ import annotations
 
 import os
-from typing import TYPE_CHECKING, Any, Callable, Dict, Iterable, Iterator, List, Optional, Union
+from collections.abc import Callable, Iterable, Iterator
+from dataclasses import replace
+from typing import TYPE_CHECKING, Any, Union
 
-from ._library import USUAL_DEPTH, USUAL_LINE
+from .engine.query import Box, Limits, Options, Query, Texts, Work, work_of
+from .engine.reports import Explanation, Report, explain
+from .engine.structs import USUAL_DEPTH, USUAL_LINE
 from .faults import (
     CityseqError,
     InvalidStream,
@@ -31,11 +35,11 @@ from .faults import (
     WriteFault,
 )
 from .outputs import Target, Writer
-from .query import Box, Texts, asked
-from .reports import Explanation, Report, explain
-from .running import Info, Result, Stream, threaded
+from .run.options import one_options, one_query, watched
+from .run.results import Info, Result
+from .run.streams import Stream, results
 from .same import refuse_same
-from .sources import Source
+from .sources.source import Source
 
 if TYPE_CHECKING:
     from .delivery.facts import Delivery
@@ -50,8 +54,11 @@ __all__ = [
     "Info",
     "InvalidStream",
     "LibraryMissing",
+    "Limits",
     "MemoryFault",
+    "Options",
     "OutOfDate",
+    "Query",
     "ReadFault",
     "Report",
     "RequestError",
@@ -69,38 +76,37 @@ __all__ = [
 ]
 __version__ = "0.2.0"
 
-OnReport = Optional[Callable[[Report], None]]
-Progress = Optional[Callable[[int], None]]
+OnReport = Callable[[Report], None] | None
+Progress = Callable[[int], None] | bool | None
+Path = Union[str, "os.PathLike[str]"]
 
 
-def _part_size(size: Optional[int]) -> Optional[int]:
-    if size is not None and (isinstance(size, bool) or not isinstance(size, int) or size < 1):
-        raise RequestError(f"a part has one byte or more: {size!r}")
-    return size
-
-
-def _only(stream: Stream, jobs: Optional[int]) -> Result:
+def _only(stream: Stream, jobs: int | None) -> Result:
     """Returns the result of one stream. All threads that judged it have ended then."""
-    (result,) = threaded([stream], jobs)
+    (result,) = results([stream], jobs)
     return result
 
 
 def check(
     source: Source,
     *,
-    jobs: Optional[int] = None,
+    options: Options | None = None,
+    jobs: int | None = None,
     line_limit: int = USUAL_LINE,
     depth: int = USUAL_DEPTH,
     keep_going: bool = False,
     tree: bool = False,
     on_report: OnReport = None,
     progress: Progress = None,
-    part_size: Optional[int] = None,
+    part_size: int | None = None,
 ) -> Result:
     """Checks whether a stream is valid, and counts its lines and features.
 
     Args:
-        source: A path, `-` for standard input, bytes that are the stream, or a binary file.
+        source: A path, `-` for standard input, bytes that are the stream, or a binary file. What is
+            packed by gzip or Zstandard is unpacked, but for bytes.
+        options: The options, in place of `jobs`, `line_limit`, `depth`, `keep_going`, `tree` and
+            `part_size`.
         jobs: How many threads judge parts of the stream. None is one for each processor.
         line_limit: The most bytes in a line, from 1 to 1 GiB.
         depth: The most arrays and objects that are open at once, from 1 to 1,024.
@@ -108,7 +114,7 @@ def check(
         tree: Whether the main city object has to reach each other one of its feature.
         on_report: Is called with each report as it comes. The result then has no list of them.
         progress: Is called with the number of bytes that were done since the call before. In a
-            packed file these are packed bytes.
+            packed file these are packed bytes. True shows a bar, by the package tqdm.
         part_size: How many bytes a part has. None is 4 MiB or less.
 
     Returns:
@@ -120,28 +126,32 @@ def check(
         RequestError: An argument has a value that it may not have.
         LibraryMissing: The library is not there, or it is another version.
     """
-    work = asked("check", line_limit=line_limit, depth=depth, keep_going=keep_going, tree=tree)
-    stream = Stream(source, work, _part_size(part_size), tell=on_report, progress=progress)
-    return _only(stream, jobs).raised()
+    made = Options(Limits(line_limit, depth), keep_going, tree, jobs, part_size)
+    how = one_options(options, made)
+    work = work_of("check", how)
+    with watched(progress, [source]) as done:
+        stream = Stream(source, work, how.part_size, tell=on_report, progress=done)
+        return _only(stream, how.jobs).raised()
 
 
 def check_files(
     sources: Iterable[Source],
     *,
-    jobs: Optional[int] = None,
+    options: Options | None = None,
+    jobs: int | None = None,
     line_limit: int = USUAL_LINE,
     depth: int = USUAL_DEPTH,
     keep_going: bool = False,
     tree: bool = False,
     on_report: OnReport = None,
     progress: Progress = None,
-    part_size: Optional[int] = None,
+    part_size: int | None = None,
 ) -> Iterator[Result]:
     """Checks many streams, by threads that they share.
 
     Args:
         sources: The streams, each as `check` takes one.
-        jobs: As for `check`, and so are all others.
+        options: As for `check`, and so are all others.
 
     Yields:
         The result of each stream, in order. A fault of one is in its result, and the others go on.
@@ -150,22 +160,32 @@ def check_files(
         RequestError: An argument has a value that it may not have.
         LibraryMissing: The library is not there, or it is another version.
     """
-    work = asked("check", line_limit=line_limit, depth=depth, keep_going=keep_going, tree=tree)
-    size = _part_size(part_size)
-    streams = (Stream(each, work, size, tell=on_report, progress=progress) for each in sources)
-    return threaded(streams, jobs)
+    made = Options(Limits(line_limit, depth), keep_going, tree, jobs, part_size)
+    how = one_options(options, made)
+    return _checked(sources, work_of("check", how), how, on_report, progress)
+
+
+def _checked(
+    sources: Iterable[Source], work: Work, how: Options, on_report: OnReport, progress: Progress
+) -> Iterator[Result]:
+    listed = list(sources) if progress is True else sources
+    with watched(progress, listed) as done:
+        streams = (Stream(each, work, how.part_size, None, on_report, done) for each in listed)
+        yield from results(streams, how.jobs)
 
 
 def filter(
     source: Source,
     output: Target,
+    query: Query | None = None,
     *,
-    ids: Optional[Texts] = None,
-    types: Optional[Texts] = None,
-    lods: Optional[Texts] = None,
-    box: Optional[Box] = None,
+    options: Options | None = None,
+    ids: Texts | None = None,
+    types: Texts | None = None,
+    lods: Texts | None = None,
+    box: Box | None = None,
     exclude: bool = False,
-    jobs: Optional[int] = None,
+    jobs: int | None = None,
     line_limit: int = USUAL_LINE,
     depth: int = USUAL_DEPTH,
     keep_going: bool = False,
@@ -173,7 +193,7 @@ def filter(
     keep_partial: bool = False,
     on_report: OnReport = None,
     progress: Progress = None,
-    part_size: Optional[int] = None,
+    part_size: int | None = None,
 ) -> Result:
     """Copies the header and the features that a query selects, byte for byte and in order.
 
@@ -185,6 +205,8 @@ def filter(
         output: A path, `-` for standard output, or a binary file. A path is written to a new file
             next to it, which is renamed when the whole stream was read and is valid. With
             `keep_going` a valid header is enough.
+        query: The query, in place of `ids`, `types`, `lods`, `box` and `exclude`.
+        options: As for `check`.
         ids: Keeps a feature whose id is one of these.
         types: Keeps a feature that has a city object of one of these types.
         lods: Keeps a feature that has a geometry of one of these LoDs.
@@ -205,35 +227,28 @@ def filter(
         RequestError: An argument has a value that it may not have, or the output is the source.
         LibraryMissing: The library is not there, or it is another version.
     """
-    work = asked(
-        "filter",
-        ids=ids,
-        types=types,
-        lods=lods,
-        box=box,
-        exclude=exclude,
-        line_limit=line_limit,
-        depth=depth,
-        keep_going=keep_going,
-        tree=tree,
-    )
+    made = Options(Limits(line_limit, depth), keep_going, tree, jobs, part_size)
+    how = one_options(options, made)
+    work = work_of("filter", how, one_query(query, Query(ids, types, lods, box, exclude)))
     refuse_same([source], [output])
-    writer = Writer(output, keep_partial)
-    stream = Stream(source, work, _part_size(part_size), writer, on_report, progress)
-    return _only(stream, jobs).raised_if_invalid(keep_going)
+    with watched(progress, [source]) as done:
+        writer = Writer(output, keep_partial)
+        stream = Stream(source, work, how.part_size, writer, on_report, done)
+        return _only(stream, how.jobs).raised_if_invalid(how.keep_going)
 
 
 def info(
     source: Source,
     *,
+    options: Options | None = None,
     exact_lods: bool = False,
-    jobs: Optional[int] = None,
+    jobs: int | None = None,
     line_limit: int = USUAL_LINE,
     depth: int = USUAL_DEPTH,
     tree: bool = False,
     on_report: OnReport = None,
     progress: Progress = None,
-    part_size: Optional[int] = None,
+    part_size: int | None = None,
 ) -> Info:
     """Summarises a valid stream: transform, types, LoDs, ranges of vertices, and their box.
 
@@ -254,20 +269,25 @@ def info(
         RequestError: An argument has a value that it may not have.
         LibraryMissing: The library is not there, or it is another version.
     """
-    work = asked("info", exact_lods=exact_lods, line_limit=line_limit, depth=depth, tree=tree)
-    stream = Stream(source, work, _part_size(part_size), tell=on_report, progress=progress)
-    result = _only(stream, jobs).raised()
+    made = Options(Limits(line_limit, depth), False, tree, jobs, part_size)
+    how = one_options(options, made)
+    work = work_of("info", how, exact_lods=exact_lods)
+    with watched(progress, [source]) as done:
+        stream = Stream(source, work, how.part_size, tell=on_report, progress=done)
+        result = _only(stream, how.jobs).raised()
     assert isinstance(result, Info)
     return result
 
 
 def features(
     source: Source,
+    query: Query | None = None,
     *,
-    ids: Optional[Texts] = None,
-    types: Optional[Texts] = None,
-    lods: Optional[Texts] = None,
-    box: Optional[Box] = None,
+    options: Options | None = None,
+    ids: Texts | None = None,
+    types: Texts | None = None,
+    lods: Texts | None = None,
+    box: Box | None = None,
     exclude: bool = False,
     line_limit: int = USUAL_LINE,
     depth: int = USUAL_DEPTH,
@@ -289,54 +309,59 @@ def features(
     """
     from .listing import features as listed  # few runs need it
 
-    work = asked(
-        "filter",
-        ids=ids,
-        types=types,
-        lods=lods,
-        box=box,
-        exclude=exclude,
-        line_limit=line_limit,
-        depth=depth,
-        keep_going=keep_going,
-        tree=tree,
-    )
+    how = one_options(options, Options(Limits(line_limit, depth), keep_going, tree))
+    work = work_of("filter", how, one_query(query, Query(ids, types, lods, box, exclude)))
     return listed(source, work)
 
 
-def table(source: Source, **query: Any) -> Dict[str, Any]:
-    """Returns the features that a query selects as columns, which `pandas.DataFrame` takes.
-
-    Args:
-        source: The stream, as `check` takes it.
-        **query: The arguments of `features`.
+def table(
+    source: Source,
+    query: Query | None = None,
+    *,
+    options: Options | None = None,
+    ids: Texts | None = None,
+    types: Texts | None = None,
+    lods: Texts | None = None,
+    box: Box | None = None,
+    exclude: bool = False,
+    line_limit: int = USUAL_LINE,
+    depth: int = USUAL_DEPTH,
+    keep_going: bool = False,
+    tree: bool = False,
+) -> dict[str, Any]:
+    """Returns the features that a query selects as columns, which `pandas.DataFrame` takes. The
+    arguments are those of `features`.
 
     Returns:
         A column for each of `id`, `line`, `length` in bytes, `objects`, `geometries`, `types`,
         `lods`, and `xmin`, `xmax`, `ymin`, `ymax`, `zmin`, `zmax`. The last six are world
-            coordinates as the nearest floats, and NaN if a feature has no vertex.
+            coordinates as the nearest floats, and NaN if a feature has no vertex. A coordinate that
+            is greater than all floats is infinite.
 
     Raises:
         CityseqError: As `features` does.
     """
     from .listing import table as tabled  # few runs need it
 
-    return tabled(source, asked("filter", **query))
+    how = one_options(options, Options(Limits(line_limit, depth), keep_going, tree))
+    work = work_of("filter", how, one_query(query, Query(ids, types, lods, box, exclude)))
+    return tabled(source, work)
 
 
 def index(
-    paths: Union[str, "os.PathLike[str]", Iterable[Union[str, "os.PathLike[str]"]]],
-    output: Union[str, "os.PathLike[str]"],
+    paths: Path | Iterable[Path],
+    output: Path,
     *,
-    jobs: Optional[int] = None,
+    options: Options | None = None,
+    jobs: int | None = None,
     line_limit: int = USUAL_LINE,
     depth: int = USUAL_DEPTH,
     keep_going: bool = False,
     tree: bool = False,
     on_report: OnReport = None,
     progress: Progress = None,
-    part_size: Optional[int] = None,
-) -> List[Result]:
+    part_size: int | None = None,
+) -> list[Result]:
     """Writes an index of streams. `Index` uses it to cut the streams without reading them whole.
 
     The index is a GeoPackage, which docs/geopackage.md describes. It is written to a new file next
@@ -361,24 +386,28 @@ def index(
             another file that is no index.
         LibraryMissing: The library is not there, or it is another version.
     """
-    from .indexing import checked, index as indexed  # few runs need it
+    from .indexing import checked  # few runs need it
+    from .indexing import index as indexed
 
-    work = asked("check", line_limit=line_limit, depth=depth, keep_going=keep_going, tree=tree)
-    named = checked(paths, output)
-    return indexed(named, output, work, jobs, _part_size(part_size), on_report, progress)
+    made = Options(Limits(line_limit, depth), keep_going, tree, jobs, part_size)
+    how = one_options(options, made)
+    work, named = work_of("check", how), checked(paths, output)
+    with watched(progress, named) as done:
+        return indexed(named, output, work, how.jobs, how.part_size, on_report, done)
 
 
 def report(
-    paths: Union[str, "os.PathLike[str]", Iterable[Union[str, "os.PathLike[str]"]]],
-    output: Optional[Union[str, "os.PathLike[str]"]] = None,
+    paths: Path | Iterable[Path],
+    output: Path | None = None,
     *,
-    title: Optional[str] = None,
-    jobs: Optional[int] = None,
+    options: Options | None = None,
+    title: str | None = None,
+    jobs: int | None = None,
     line_limit: int = USUAL_LINE,
     depth: int = USUAL_DEPTH,
     tree: bool = False,
     progress: Progress = None,
-    part_size: Optional[int] = None,
+    part_size: int | None = None,
 ) -> Delivery:
     """Writes a page about a delivery, and returns its facts.
 
@@ -403,11 +432,15 @@ def report(
         CityseqError: A package is missing that a page needs.
         LibraryMissing: The library is not there, or it is another version.
     """
-    from .delivery.making import How, of_bytes, report as made  # few runs need it
+    from .delivery.making import How, checked, of_bytes  # few runs need it
+    from .delivery.making import report as made
 
-    work = asked("check", line_limit=line_limit, depth=depth, keep_going=True, tree=tree)
-    how = How(jobs, _part_size(part_size), title, progress=progress and of_bytes(progress))
-    return made(paths, output, work, how)
+    given = Options(Limits(line_limit, depth), False, tree, jobs, part_size)
+    how = replace(one_options(options, given), keep_going=True)
+    work = work_of("check", how)
+    with watched(progress, checked(paths, output)[0]) as done:
+        by_file = None if done is None else of_bytes(done)
+        return made(paths, output, work, How(how.jobs, how.part_size, title, progress=by_file))
 
 
 def __getattr__(name: str) -> Any:
@@ -417,3 +450,8 @@ def __getattr__(name: str) -> Any:
 
         return Index
     raise AttributeError(f"module {__name__!r} has no attribute {name!r}")
+
+
+def __dir__() -> list[str]:
+    """Returns the public names."""
+    return sorted([*__all__, "__version__", "filter"])

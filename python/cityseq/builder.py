@@ -12,9 +12,10 @@ from itertools import compress
 from typing import Any, Callable, Dict, Iterable, Iterator, List, NamedTuple, Optional, Set, Tuple
 
 from . import geopackage
-from ._library import LOD_CLASSES, library
+from .engine.library import library
+from .engine.structs import LOD_CLASSES
 from .bulk import Same, insert, same_if_equal
-from .extents import World, wider
+from .engine.extents import World, wider
 from .faults import WriteFault, write_fault
 from .full_disk import database_fault
 from .geopackage import (
@@ -28,15 +29,15 @@ from .geopackage import (
     system_of,
 )
 from .outputs import Part, target_of
-from .query import Work
-from .records import Records, stored, stored_as_columns
+from .engine.query import Work
+from .engine.records import Records, stored, stored_as_columns
 from .replacing import replaceable
-from .reports import Report
+from .engine.reports import Report
 from .rtree import Tree, cells_of, keys_of
-from .running import Result
-from .sources import State
-from .tally import Range
-from .world import read_json
+from .run.results import Result
+from .sources.source import State
+from .engine.tally import Range
+from .engine.world import read_json
 
 CACHE = 8 << 20  # bytes of the database that are in memory, and bytes for a sort
 Ranges = Tuple[Range, Range, Range]

@@ -10,9 +10,10 @@ from typing import TYPE_CHECKING, Any, Callable, Iterable, Iterator, List, Optio
 from .faults import OutOfDate, RequestError, Status, write_fault
 from .fetching import OTHER_LINES, IndexedStream, Row, header_of, lines_of, placed
 from .outputs import Batch, Target, Writer
-from .query import Work
-from .running import Result, Stream, threaded
-from .sources import PIECE, is_path
+from .engine.query import Work
+from .run.results import Result
+from .run.streams import Stream, results
+from .sources.source import PIECE, is_path
 
 if TYPE_CHECKING:
     from .lookup import Index
@@ -74,7 +75,7 @@ class _Cut:
         """Judges the selected lines again, and writes those that are kept."""
         with closing(self._texts(selections)) as texts:  # type: ignore[type-var]
             source: Any = _Lines(name, texts)
-            (result,) = threaded([Stream(source, self.work, output=writer)], self.jobs)
+            (result,) = results([Stream(source, self.work, output=writer)], self.jobs)
         if result.end is not None and result.end.line > 1 and result.fault is None:
             raise OutOfDate.because(OTHER_LINES, name)
         return result.raised_if_invalid(False)

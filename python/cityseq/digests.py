@@ -6,8 +6,8 @@ from functools import partial
 from typing import Any, Callable, NamedTuple, Optional
 from zlib import crc32
 
-from .sources import State, state_of
-from .threads import Crew, Job
+from .sources.source import State, state_of
+from .run.pool import Job, Pool
 
 BLOCK = 1 << 18  # bytes that have a CRC-32: they stay in the processor's cache
 SIZE = 16  # bytes of a hash
@@ -43,7 +43,7 @@ class Digests:
     """Makes the hashes of files in threads of their own. Leaving a `with` block ends them."""
 
     def __init__(self, jobs: int = 1) -> None:
-        self._crew, self._is_stopped = Crew(jobs), False
+        self._crew, self._is_stopped = Pool(jobs), False
 
     def __enter__(self) -> "Digests":
         return self

@@ -6,6 +6,7 @@ import enum
 from typing import Any, Optional, Type, TypeVar
 
 Fault = TypeVar("Fault", bound="CityseqError")
+READ_FAULTS = (OSError, EOFError, ValueError)  # what a read may raise
 
 
 class Status(enum.IntEnum):
@@ -77,6 +78,10 @@ class ReadFault(CityseqError, OSError):
     status = Status.READ_FAULT
 
 
+class MissingFile(ReadFault, FileNotFoundError):
+    """There is no file of this name."""
+
+
 class OutOfDate(ReadFault):
     """An index does not match the current state of a stream. It must be built again."""
 
@@ -106,7 +111,10 @@ def why(fault: BaseException) -> str:
 
 def read_fault(cause: BaseException, file: Optional[str]) -> ReadFault:
     """Returns the fault of a read with this cause."""
-    return cause if isinstance(cause, ReadFault) else ReadFault.of("read fault", cause, file)
+    if isinstance(cause, ReadFault):
+        return cause
+    kind = MissingFile if isinstance(cause, FileNotFoundError) else ReadFault
+    return kind.of("read fault", cause, file)
 
 
 def write_fault(cause: BaseException, file: Optional[str]) -> WriteFault:

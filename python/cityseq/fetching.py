@@ -9,12 +9,13 @@ from contextlib import contextmanager
 from dataclasses import dataclass
 from typing import Any, Iterable, Iterator, List, NamedTuple, Optional, Tuple
 
-from ._library import LINE_LIMITS
+from .engine.structs import LINE_LIMITS
 from .database import INDEX_CHANGED
 from .faults import OutOfDate, ReadFault, read_fault
-from .packed import Unpacker
-from .places import Placed
-from .sources import CHANGED, READ_FAULTS, Reader, opened, state_of
+from .sources.packed import Unpacker
+from .sources.regular import RegularFile
+from .faults import READ_FAULTS
+from .sources.source import CHANGED, Reader, opened, state_of
 
 NEAR = 1 << 16  # bytes: lines that are nearer than this are read together
 MOST = 4 << 20  # bytes that are read together, unless one line has more
@@ -86,7 +87,7 @@ class IndexedStream:
         """Whether a query may have a box: x and y of the transform are fixed numbers."""
         from decimal import Decimal, InvalidOperation  # few runs need it
 
-        from .extents import World
+        from .engine.extents import World
 
         try:
             told = (json.loads(text) for text in (self.scale, self.translate))
@@ -114,7 +115,7 @@ class FilePlace:
     def __init__(self, stream: IndexedStream, reader: Reader) -> None:
         self._stream, self._file = stream, reader.file
         stream.compare(*state_of(reader.file.fileno()))
-        self._placed = Placed(reader.file.fileno())
+        self._placed = RegularFile(reader.file.fileno())
 
     def read(self, begin: int, end: int) -> bytes:
         """Returns the bytes from one place to another, or as many as there are."""

@@ -3,7 +3,7 @@ from __future__ import annotations
 
 import re
 
-from .reports import Report
+from .engine.reports import Report
 
 HEAD = 65_536  # bytes that are read for a hint
 NO_HEADER, NOT_EMPTY, SYNTAX = 1, 16, 4

@@ -6,7 +6,7 @@ import time
 from collections.abc import Callable
 from typing import Any
 
-from .sources import PIECE
+from .sources.source import PIECE
 
 
 def sha256_of(path: str, is_stopped: Callable[[], bool] = lambda: False) -> str | None:

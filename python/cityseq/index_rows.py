@@ -5,7 +5,7 @@ import json
 import re
 from typing import Any, Callable, Dict, Sequence, Tuple
 
-from ._library import DEPTH_LIMITS, LINE_LIMITS
+from .engine.structs import DEPTH_LIMITS, LINE_LIMITS
 from .faults import ReadFault
 
 LONGEST = 4_096  # bytes of a path that a system can open

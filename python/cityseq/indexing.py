@@ -2,104 +2,29 @@
 from __future__ import annotations
 
 import os
+from collections import deque
+from collections.abc import Callable, Iterable, Iterator, Sequence
 from contextlib import closing
-from functools import partial
-from typing import Any, Callable, Iterable, Iterator, List, Optional, Sequence
+from dataclasses import replace
+from typing import Any, Protocol
 
 from .builder import Builder, Entry, File
 from .digests import Digest, Digests
-from .faults import CityseqError, MemoryFault, ReadFault, RequestError, WriteFault, read_fault
-from .packed import Packing, packing_of
-from .parts import Answer, Cutter
-from .places import SMALL, Placed, Places, given, placed
-from .query import Work
-from .records import Found, find_read
-from .reports import Report
-from .running import (
-    AHEAD,
-    Judged,
-    Result,
-    Results,
-    Stream,
-    Tasks,
-    in_turn,
-    results,
-    usual_jobs,
-)
+from .engine.judge import Answer
+from .engine.query import Work
+from .engine.reports import Report
+from .faults import CityseqError, MemoryFault, ReadFault, RequestError, read_fault
+from .run.results import Result
+from .run.streams import Results, Stream, results
 from .same import refuse_same
-from .sources import CHANGED, Reader, State, is_path
-from .threads import Crew
+from .sources.source import CHANGED, State, is_path
 
-Tell = Optional[Callable[[Report], None]]
-Progress = Optional[Callable[[int], None]]
-
-
-class _Counting(Reader):
-    """Reads as another reader does, and counts the bytes."""
-
-    def __init__(self, reader: Reader, taken: int) -> None:
-        super().__init__(reader.file, reader.name)
-        self.taken, self.fault = taken, reader.fault
-
-    def read(self, most: int) -> bytes:
-        piece = super().read(most)
-        self.taken += len(piece)
-        return piece
+Tell = Callable[[Report], None] | None
+Progress = Callable[[int], None] | None
 
 
-class Recorded(Stream):
-    """A stream whose parts answer with the records of their features."""
-
-    def take(self, found: Found, lines: int) -> None:
-        """Takes the answer for the next part. `lines` lines of the stream came before it.
-
-        Raises:
-            WriteFault: It cannot be written.
-        """
-        raise NotImplementedError
-
-    def _parts(self, reader: Reader, header: bytes, rest: bytearray) -> Iterator[Optional[Judged]]:
-        """Yields a call that judges each part after the header. The thread that judges a part of a
-        file also reads it, except at the end of the file."""
-        begin = len(header)
-        file = placed(reader.file)
-        if file is not None:
-            places = Places(file, begin, self._part_size(SMALL, header), self.work.line_limit)
-            for left, right in places.parts():
-                yield self._judged(header, partial(_of_thread, file, left, right), left)
-            if places.begin > begin:
-                begin, rest = places.begin, bytearray()
-                reader.go_to(begin)
-        counting = _Counting(reader, begin + len(rest))
-        cutter = Cutter(
-            counting,
-            rest,
-            self._part_size(SMALL, header),
-            self.work.line_limit,
-            self.work.keep_going,
-        )
-        for part in cutter.parts():
-            # the part of a line that is too long has only its beginning, and no record
-            left = counting.taken - cutter.left - len(part)
-            yield self._judged(header, partial(given, part), left) if part else None
-        reader.fault = counting.fault
-
-    def _judged(self, header: bytes, read: Any, begin: int) -> Judged:
-        return partial(find_read, self.work, self.file, header, read, begin)
-
-    def add(self, answer: Answer) -> None:
-        """Joins the answer of the next part, and passes its records to `take`."""
-        lines = self._joined.lines - min(self._joined.parts, 1)
-        try:
-            super().add(answer)
-            if isinstance(answer, Found) and self._fault is None:
-                self.take(answer, lines)
-        except WriteFault as fault:
-            self._fault = self._fault or fault
-
-
-class Indexed(Recorded):
-    """A stream whose records go to an index."""
+class Indexed:
+    """A stream whose records go to an index. Another thread hashes the file."""
 
     def __init__(
         self,
@@ -107,65 +32,58 @@ class Indexed(Recorded):
         path: str,
         work: Work,
         builder: Builder,
-        size: Optional[int] = None,
+        size: int | None = None,
         tell: Tell = None,
         progress: Progress = None,
+        **judged: Any,
     ) -> None:
         """Takes the number of the stream in the index, from 1. The others are those of `Stream`."""
-        super().__init__(path, work, size, None, tell, progress)
-        self._number, self._path, self._builder, self._then = number, path, builder, self._tell
-        self._tell = self._report
-        self._entry: Optional[Entry] = None
-        self._digest: Any = None  # of the file, when it is asked for
-
-    def tasks(self) -> Tasks:
-        """Yields a call for each part, in order, that judges it. Another thread hashes the file."""
-        self.hash()
-        return super().tasks()
-
-    def hash(self) -> None:
-        """Begins to make the hash of the file."""
-        self._digest = self._builder.digests.submit(self._path)
+        self._number, self._path, self._builder = number, path, builder
+        self._keep_going = work.keep_going
+        self._entry: Entry | None = None
+        self._digest: Any = builder.digests.submit(path)
+        self._then = tell
+        records = replace(work, kind="records")
+        self.stream = Stream(
+            path, records, size, None, self._report, progress, take=[self._take], **judged
+        )
+        self._fold = self.stream.fold
 
     def _report(self, report: Report) -> None:
-        self._then(report)
-        if self.work.keep_going and self._fault is None and report.line > 1:
+        if self._then is None:
+            self._fold.reports.append(report)
+        else:
+            self._then(report)
+        if self._keep_going and self._fold.fault is None and report.line > 1:
             self._builder.report(self._number, report)
 
-    def take(self, found: Found, lines: int) -> None:
-        """Writes the records of the next part. `lines` lines of the stream came before it.
+    def _take(self, answer: Answer, lines: int) -> None:
+        """Writes the records of the next chunk. `lines` lines came between it and the header.
 
         Raises:
             WriteFault: They cannot be written.
         """
-        if found.records.raw:
-            self._builder.add(self.entry(), found.records, lines)
+        for records in answer.records:
+            if records.raw:
+                self._builder.add(self._begun(), records, lines + records.lines)
 
-    def entry(self) -> Entry:
+    def _begun(self) -> Entry:
         """Returns the entry of the stream in the index. The header is valid."""
         if self._entry is None:
-            self._entry = self._builder.begin(self._number, self._header)
+            self._entry = self._builder.begin(self._number, self.stream.chunks.header)
         return self._entry
 
-    def finish(self) -> Result:
+    def end(self, result: Result) -> Result:
         """Returns the result of the stream. If the run reached its end, the index has it then."""
-        result = super().finish()
         if result.fault is None and result.end is None:
             try:
-                self._end(result)
+                unpacker = self.stream.chunks.unpacker
+                packing = None if unpacker is None else unpacker.packing.name.lower()
+                file = File(self._path, packing, self._state(), self._hash())
+                self._builder.end(self._begun(), file, result)
             except CityseqError as fault:
-                result.status, result.fault, result.fault_file = (
-                    fault.status,
-                    fault.words,
-                    fault.file,
-                )
-                result.raises = fault
+                result.fail(fault)
         return result
-
-    def _end(self, result: Result) -> None:
-        packing = None if self._unpacker is None else _packing_of(self._path)
-        file = File(self._path, packing, self.state(), self._hash())
-        self._builder.end(self.entry(), file, result)
 
     def _hash(self) -> str:
         """Returns the hash of the file. Raises `ReadFault` if the file has changed."""
@@ -175,26 +93,39 @@ class Indexed(Recorded):
             raise read_fault(fault, self._path) from fault
         except MemoryError as fault:
             raise MemoryFault("out of memory", None, self._path) from fault
-        if not digest.before == digest.after == self.state():
+        if not digest.before == digest.after == self._state():
             raise ReadFault(f"read fault: {CHANGED}", None, self._path)
         return digest.content
 
-    def state(self) -> State:
+    def _state(self) -> State:
         """Returns the size and the time of change that the file had at the beginning."""
-        assert self._watch is not None
-        return self._watch.state
+        state = self.stream.chunks.state
+        assert state is not None
+        return state
 
 
-def _packing_of(path: str) -> Optional[str]:
-    """Returns how a file is packed, by the word that the index uses."""
-    with open(path, "rb") as file:
-        packing = packing_of(file.read(len(Packing.ZSTD.mark)), path)
-    return None if packing is None else packing.name.lower()
+class Taker(Protocol):
+    """What takes all that comes of a stream."""
+
+    stream: Stream
+
+    def end(self, result: Result) -> Result:
+        """Takes the result of the stream, and returns it."""
 
 
-def _of_thread(file: Placed, begin: int, end: int) -> Any:
-    """Reads a part of a file into the memory that the thread keeps for this."""
-    return file.read(begin, end)
+def of_takers(takers: Iterable[Taker], run: Callable[[Iterator[Stream]], Results]) -> Results:
+    """Yields the result of each stream, in order, when its taker has it. `run` yields the results
+    of streams."""
+    begun: deque[Taker] = deque()
+
+    def streams() -> Iterator[Stream]:
+        for each in takers:
+            begun.append(each)
+            yield each.stream
+
+    with closing(run(streams())) as found:
+        for result in found:
+            yield begun.popleft().end(result)
 
 
 def is_special(path: Any) -> bool:
@@ -202,7 +133,7 @@ def is_special(path: Any) -> bool:
     return os.path.exists(path) and not (os.path.isfile(path) or os.path.isdir(path))
 
 
-def checked(paths: Any, output: Any) -> List[str]:
+def checked(paths: Any, output: Any) -> list[str]:
     """Returns the paths of the streams.
 
     Raises:
@@ -224,17 +155,9 @@ def checked(paths: Any, output: Any) -> List[str]:
     return named
 
 
-def by_threads(streams: Iterable[Stream], jobs: Optional[int]) -> Results:
-    """Yields the result of each stream, in order. `jobs` threads judge parts. The calling thread
-    joins the answers."""
-    jobs = usual_jobs() if jobs is None else jobs
-    if isinstance(jobs, bool) or not isinstance(jobs, int) or jobs < 1:
-        raise RequestError(f"jobs are a whole number from 1: {jobs!r}")
-    with Crew(jobs) as crew:
-        if jobs > 1:
-            yield from results(streams, crew.submit, jobs + AHEAD)
-        else:
-            yield from in_turn(streams, lambda made: crew.submit(made).result())
+def by_threads(takers: Iterable[Taker], jobs: int | None) -> Results:
+    """Yields the result of each stream, in order, by that number of threads."""
+    return of_takers(takers, lambda streams: results(streams, jobs))
 
 
 def written(
@@ -267,14 +190,14 @@ def index(
     paths: Sequence[str],
     output: Any,
     work: Work,
-    jobs: Optional[int],
-    size: Optional[int],
+    jobs: int | None,
+    size: int | None,
     tell: Tell,
     progress: Progress,
-) -> List[Result]:
+) -> list[Result]:
     """Writes an index of streams. The arguments are those of `cityseq.index`."""
     builder = Builder(os.fsdecode(output))
-    made: List[Result] = []
+    made: list[Result] = []
     streams = (
         Indexed(number, path, work, builder, size, tell, progress)
         for number, path in enumerate(paths, 1)

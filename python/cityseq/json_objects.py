@@ -4,8 +4,8 @@ from __future__ import annotations
 from typing import TYPE_CHECKING, Any, Counter, Dict, List, Optional, Union
 
 from .cli.requests import Request
-from .reports import Report, explain
-from .running import Info, Result
+from .engine.reports import Report, explain
+from .run.results import Info, Result
 
 if TYPE_CHECKING:
     from decimal import Decimal
@@ -26,7 +26,7 @@ def exact(number: "Decimal") -> Union[int, float, str]:
     """Returns a JSON number if each reader gets the exact value from it. Else returns its text."""
     from decimal import Decimal  # only `info` needs it, and it takes long to load
 
-    from .world import plain
+    from .engine.world import plain
 
     if number == 0:
         return 0

@@ -2,13 +2,13 @@
 from __future__ import annotations
 
 import os
-from contextlib import contextmanager
 from dataclasses import dataclass
 from itertools import chain, groupby
 from typing import Any, Dict, Iterator, List, Optional, Tuple, Union
 
 from . import geopackage
-from ._library import CallStatus, library
+from .engine.library import library
+from .engine.structs import CallStatus
 from .database import INDEX_CHANGED, Database
 from .faults import OutOfDate, ReadFault, RequestError
 from .fetching import AllLines, IndexedStream, Row, check_file, header_of, lines_of, placed
@@ -16,9 +16,9 @@ from .index_rows import OPTIONS, REPORTS, STREAMS, checked
 from .listing import Feature, fault_of, feature_of
 from .outputs import Target
 from .queries import ALIKE, SAME_ID, has_more, reads_all, terms_of, values_of_id, want
-from .query import Box, Texts, Work, asked
-from .records import id_of
-from .running import Result
+from .engine.query import Box, Texts, Work, asked
+from .engine.records import id_of
+from .run.results import Result
 
 COLUMNS = {
     "cityseq_index": ("version", *OPTIONS, "changed", "places"),
@@ -42,6 +42,23 @@ class RepeatedId:
 
     id: str
     places: Tuple[Tuple[str, int], ...]
+
+
+class Selection(Iterator[IndexedFeature]):
+    """The features that a query selects. Leaving a `with` block closes their streams."""
+
+    def __init__(self, features: Any) -> None:
+        self._features = features
+
+    def __enter__(self) -> "Selection":
+        return self
+
+    def __exit__(self, *_: Any) -> None:
+        self._features.close()
+
+    def __next__(self) -> IndexedFeature:
+        feature: IndexedFeature = next(self._features)
+        return feature
 
 
 class Index:
@@ -279,7 +296,6 @@ class Index:
 
     # ---- features
 
-    @contextmanager
     def select(
         self,
         *,
@@ -287,8 +303,9 @@ class Index:
         types: Optional[Texts] = None,
         ids: Optional[Texts] = None,
         lods: Optional[Texts] = None,
-    ) -> Iterator[Iterator[IndexedFeature]]:
-        """Gives the features that a query selects, in a `with` block.
+    ) -> Selection:
+        """Returns the features that a query selects. They can be iterated over once. To leave the
+        iteration early and close the streams at once, use it in a `with` block.
 
         The arguments are those of `cityseq.filter`. Each feature is judged again.
 
@@ -299,11 +316,7 @@ class Index:
             RequestError: An argument has a value that it may not have.
         """
         self.check()
-        features = self._features(self.work(ids, types, lods, box))
-        try:
-            yield features
-        finally:
-            features.close()
+        return Selection(self._features(self.work(ids, types, lods, box)))
 
     def _features(self, work: Work) -> Any:
         for stream, rows in self._selected(work):

@@ -11,8 +11,8 @@ from contextlib import suppress
 from typing import IO, Any, Callable, List, Optional, Tuple, Union
 
 from .faults import RequestError, write_fault
-from .packed import LEVEL, Packer, Packing, Text, pack, packing_by_name, require
-from .sources import is_path, name_of
+from .sources.packed import LEVEL, Packer, Packing, Text, pack, packing_by_name, require
+from .sources.source import is_path, name_of
 
 Target = Union[str, bytes, "os.PathLike[Any]", IO[bytes]]
 

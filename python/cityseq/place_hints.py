@@ -146,7 +146,7 @@ def _object_type(line: bytes, place: int, _: bool) -> Optional[str]:
         return None
     from difflib import get_close_matches  # only this function needs it
 
-    from ._library import library
+    from .engine.library import library
 
     near = get_close_matches(text, library().type_names(), 1)
     return f"the type is {quoted(text)}" + (f": is {near[0]} meant?" if near else "")

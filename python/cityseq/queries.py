@@ -3,12 +3,12 @@ from __future__ import annotations
 
 from typing import Any, List, Optional, Tuple
 
-from ._library import LOD_CLASSES
+from .engine.structs import LOD_CLASSES
 from .bulk import insert
-from .extents import box_of
+from .engine.extents import box_of
 from .geopackage import FID_BITS, MOST_FEATURES, TREE
-from .query import Work
-from .records import hash_of, stored
+from .engine.query import Work
+from .engine.records import hash_of, stored
 
 LINE = 2_048  # bytes of a stream that are judged in the time that it takes to find and read a line
 SMALL = 16 << 20  # bytes of streams that are not worth an estimate

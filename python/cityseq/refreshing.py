@@ -11,8 +11,8 @@ from .digests import Digest, Digests
 from .faults import OutOfDate, ReadFault, read_fault, write_fault
 from .fetching import IndexedStream
 from .lookup import Index
-from .running import usual_jobs
-from .sources import CHANGED
+from .run.streams import usual_jobs
+from .sources.source import CHANGED
 
 WAIT = 5  # seconds that another program may hold the file
 

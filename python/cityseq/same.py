@@ -8,7 +8,7 @@ from typing import Any, Iterable, Iterator, Optional, Set, Tuple
 
 from .faults import RequestError
 from .outputs import part_of
-from .sources import is_path, name_of
+from .sources.source import is_path, name_of
 
 Identity = Tuple[int, int]
 

@@ -18,6 +18,7 @@ from cityseq.delivery import extras
 try:
     extras.need_all()
     from cityseq.delivery import repeated, survey
+    from cityseq.engine.world import extent_of, transform_of
 
     MISSING = None
 except extras.PackageMissing as fault:
@@ -225,7 +226,10 @@ class Facts(InFolder):
             path = self.file(header + feature("a") + feature("b", x=-(2**53)))
             made = cityseq.report(path, self.folder / "page.html")
             try:
-                extents = [each.extent[0] for each in cityseq.features(path)]
+                extents = [
+                    extent_of(each.ranges, *transform_of(each.header))[0]
+                    for each in cityseq.features(path)
+                ]
                 wanted = min(low for low, _ in extents), max(high for _, high in extents)
             except DecimalException:  # of more than 200 digits
                 wanted = None

@@ -23,7 +23,7 @@ from .support import HEADER, PLAIN, ROOT, InFolder, command, feature
 
 import cityseq
 from cityseq import builder
-from cityseq.records import id_of
+from cityseq.engine.records import id_of
 
 TOWN, SAMPLE, BROKEN, DELIVERY = (
     f"{ROOT}/examples/{name}.city.jsonl" for name in ("town", "sample", "broken", "delivery")
@@ -597,7 +597,7 @@ class Trees(unittest.TestCase):
         self.assertEqual(list(keys_of([], [])), [])
 
     def test_rounding_is_outward(self):
-        from cityseq.extents import ceiling_of, floor_of
+        from cityseq.engine.extents import ceiling_of, floor_of
 
         chance = random.Random(2)
         for _ in range(5_000):
@@ -612,7 +612,7 @@ class Trees(unittest.TestCase):
             )
 
     def test_intervals_are_rounded_outward(self):
-        from cityseq.extents import Axis, ceiling_of, floor_of
+        from cityseq.engine.extents import Axis, ceiling_of, floor_of
 
         chance = random.Random(3)
         for _ in range(5_000):
@@ -627,7 +627,7 @@ class Trees(unittest.TestCase):
             )
 
     def test_columns_are_rounded_as_each_number_is(self):
-        from cityseq.extents import ceiling_of, ceilings_of, floor_of, floors_of
+        from cityseq.engine.extents import ceiling_of, ceilings_of, floor_of, floors_of
 
         chance = random.Random(5)
         for _ in range(3_000):

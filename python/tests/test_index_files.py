@@ -17,7 +17,7 @@ from .test_index import NOBODY
 
 import cityseq
 from cityseq import builder, replacing
-from cityseq.query import asked
+from cityseq.engine.query import asked
 
 EDITOR = """
 import os, sqlite3, sys

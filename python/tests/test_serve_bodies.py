@@ -16,8 +16,8 @@ from .serving import EXAMPLES, MISSING, Served, rest_of
 from .support import HEADER, command, feature
 
 import cityseq
-from cityseq.packed import Gzip
-from cityseq.query import asked
+from cityseq.sources.packed import Gzip
+from cityseq.engine.query import asked
 
 if not MISSING:
     from cityseq.serve.judging import Fed, Unpacking
@@ -28,7 +28,7 @@ class Counts(unittest.TestCase):
     def test_what_is_only_counted_is_not_described(self):
         """To describe 200,000 lines takes more than a minute."""
         fed = Fed(asked("check", keep_going=True), Unpacking(None, 1 << 20), 0, True)
-        with mock.patch("cityseq.reports.excerpt_of", side_effect=AssertionError):
+        with mock.patch("cityseq.engine.reports.excerpt_of", side_effect=AssertionError):
             fed.feed([HEADER + b"{}\n" * 300 + b"[\n"])
             for task in [*fed.parts(9), *fed.end()]:
                 fed.take(task())

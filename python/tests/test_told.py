@@ -15,10 +15,10 @@ from .support import HEADER, PLAIN, feature
 
 import cityseq
 from cityseq.place_hints import met
-from cityseq.query import asked
-from cityseq.reports import excerpt_of, find_id
+from cityseq.engine.query import asked
+from cityseq.engine.reports import excerpt_of, find_id
 from cityseq.escape import quoted, shown
-from cityseq.world import box_of, normal, plain
+from cityseq.engine.world import box_of, normal, plain
 
 sys.path.insert(0, os.path.join(support.ROOT, "python"))
 import make_reasons  # noqa: E402
@@ -52,7 +52,7 @@ class Explanations(unittest.TestCase):
             self.assertEqual(json.load(told), make_reasons.read_reasons())
 
     def test_the_library_has_the_same_words(self):
-        from cityseq._library import library
+        from cityseq.engine.library import library
         self.assertEqual(
             [library().reason_text(code) for code in range(1, 40)],
             [

@@ -9,7 +9,7 @@ from functools import partial
 from typing import Any
 
 from .. import __version__
-from .._library import USUAL_DEPTH, USUAL_LINE
+from ..engine.structs import USUAL_DEPTH, USUAL_LINE
 from ..cut import cut, cut_each
 from ..escape import shown
 from ..faults import RequestError
@@ -17,10 +17,10 @@ from ..fetching import IndexedStream
 from ..json_objects import result_object
 from ..lookup import Index
 from ..outputs import Writer
-from ..packed import LEVEL
-from ..query import Work
-from ..running import Result
-from ..sources import size_of
+from ..sources.packed import LEVEL
+from ..engine.query import Work
+from ..run.results import Result
+from ..sources.source import size_of
 from .lists import ids_of, texts_of
 from .output import say
 from .printers import printer_for

@@ -6,17 +6,17 @@ from collections.abc import Iterator, Sequence
 from functools import partial
 
 from .. import __version__
-from .._library import keep_room
+from ..engine.memory import keep_room
 from ..builder import Builder
 from ..faults import RequestError
 from ..index_lines import shown_object
 from ..indexing import Indexed, by_threads, checked, written
 from ..json_objects import result_object
 from ..lookup import Index
-from ..query import Work, asked
-from ..running import Result, Stream
+from ..engine.query import Work, asked
+from ..run.results import Result
 from ..same import refuse_same, refuse_standard
-from ..sources import size_of
+from ..sources.source import size_of
 from .lists import files_of
 from .output import put
 from .printers import Printer, printer_for
@@ -102,7 +102,7 @@ def _streams(
     builder: Builder,
     printer: Printer,
     bar: Bar,
-) -> Iterator[Stream]:
+) -> Iterator[Indexed]:
     for number, file in enumerate(files, 1):
         progress = partial(bar.add, file)
         yield Indexed(number, file, work, builder, request.part_size, printer.report, progress)

@@ -11,7 +11,7 @@ from typing import Any, NoReturn
 from .. import __version__
 from ..escape import shown
 from ..faults import CityseqError, Status, WriteFault
-from ..query import UnknownType
+from ..engine.query import UnknownType
 from .output import drop_output, flush, hold_descriptors, put, say, write_whole_outputs
 from .parser import Answered, Mistake, read_words
 from .requests import Check, Explain, Filter, Info, Request, Serve, WriteIndex, WriteReport

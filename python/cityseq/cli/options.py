@@ -5,7 +5,7 @@ from collections.abc import Callable
 from dataclasses import dataclass
 from typing import Any
 
-from .._library import DEPTH_LIMITS, LINE_LIMITS
+from ..engine.structs import DEPTH_LIMITS, LINE_LIMITS
 from .requests import Check, Explain, Filter, Info, Request, Serve, WriteIndex, WriteReport
 from .values import one_of, size, whole_number
 

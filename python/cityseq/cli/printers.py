@@ -11,8 +11,8 @@ from dataclasses import dataclass, field
 from typing import Any
 
 from ..escape import fitting, quoted, shown
-from ..reports import Report, explain
-from ..running import Info, Result
+from ..engine.reports import Report, explain
+from ..run.results import Info, Result
 from .output import encoding, is_terminal, put, say
 from .progress import Bar
 from .requests import Check, Filter
@@ -28,7 +28,7 @@ BOLD, RED, GREEN, PLAIN = "\x1b[1m", "\x1b[31m", "\x1b[32m", "\x1b[0m"
 def info_lines(info: Info, is_plain: bool) -> Iterator[str]:
     """Yields the summary of a stream: the lines that the program writes. A file also has the box
     in world coordinates. The texts of LoDs follow if they were counted."""
-    from ..world import normal
+    from ..engine.world import normal
 
     yield f"lines {info.lines}"
     yield f"features {info.features}"

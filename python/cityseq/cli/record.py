@@ -13,7 +13,7 @@ from typing import Any
 from ..faults import RequestError, write_fault
 from ..file_state import state_now
 from ..outputs import write_all
-from ..sources import is_path
+from ..sources.source import is_path
 from .requests import Check, Filter
 
 Object = dict[str, Any]

@@ -4,12 +4,12 @@ from __future__ import annotations
 import json
 import shlex
 
-from .._library import keep_room
+from ..engine.memory import keep_room
 from ..delivery.making import How, checked, report
 from ..escape import shown
 from ..faults import RequestError
-from ..query import asked
-from ..running import Result
+from ..engine.query import asked
+from ..run.results import Result
 from ..same import refuse_same, refuse_standard
 from .lists import files_of
 from .options import COMMANDS

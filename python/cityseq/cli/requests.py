@@ -7,7 +7,7 @@ from __future__ import annotations
 from dataclasses import dataclass, field
 from typing import Any, ClassVar
 
-from .._library import USUAL_DEPTH, USUAL_LINE
+from ..engine.structs import USUAL_DEPTH, USUAL_LINE
 
 RULES = ("line_limit", "depth", "tree", "keep_going")
 SELECTION = ("exclude", "id", "ids_from", "type", "lod", "bbox")

@@ -10,8 +10,8 @@ from urllib.parse import quote
 from .. import __version__
 from ..escape import quoted, shown
 from ..faults import RequestError
-from ..reports import Report, explain
-from ..running import Result
+from ..engine.reports import Report, explain
+from ..run.results import Result
 from .output import put
 from .printers import Object, Printer
 from .progress import Bar

@@ -11,14 +11,15 @@ from functools import cached_property, partial
 from typing import TYPE_CHECKING, Any
 
 from .. import __version__
-from .._library import keep_room
+from ..engine.memory import keep_room
 from ..faults import RequestError
 from ..outputs import Writer
-from ..packed import LEVEL
-from ..query import Work, asked
-from ..reports import Report, explain
-from ..running import Result, Stream, threaded
-from ..sources import is_path, size_of
+from ..sources.packed import LEVEL
+from ..engine.query import Work, asked
+from ..engine.reports import Report, explain
+from ..run.results import Result
+from ..run.streams import Stream, results
+from ..sources.source import is_path, size_of
 from .lists import files_of, ids_of, texts_of
 from .output import is_terminal, put, say
 from .printers import Reports, printer_for
@@ -81,9 +82,9 @@ class Run:
         self._hashes: Any = None
         self._record: Any = None
         if request.sha256 or request.record is not None:
-            from ..threads import Crew  # few runs need threads that hash
+            from ..run.pool import Pool  # few runs need threads that hash
 
-            self._hashes = Crew(HASHES)
+            self._hashes = Pool(HASHES)
         if request.record is not None:
             from .record import Record
 
@@ -268,8 +269,8 @@ def _judge_all(request: Request, work: Work, files: Sequence[str], see: Any) -> 
         rest, worst = run.skip(files)
         outcome = _Outcome(worst, len(rest) == len(files))
         streams = map(run.stream, rest, _writers(request, rest, see))
-        with closing(threaded(streams, request.jobs)) as results:
-            for result in results:
+        with closing(results(streams, request.jobs)) as found:
+            for result in found:
                 outcome.add(run.take(result), result)
         run.close()
     return outcome

@@ -236,7 +236,7 @@ def joined(boxes: List[Optional[str]]) -> Optional[str]:
     query cannot have one of them."""
     from decimal import Decimal
 
-    from ..world import plain
+    from ..engine.world import plain
 
     if not boxes or None in boxes:
         return None

@@ -6,13 +6,13 @@ from dataclasses import dataclass, field
 from typing import TYPE_CHECKING, Dict, List, Optional, Tuple, TypeVar
 
 from ..faults import Status
-from ..reports import Explanation, Report, explain
-from ..tally import Range
+from ..engine.reports import Explanation, Report, explain
+from ..engine.tally import Range
 
 if TYPE_CHECKING:
     from decimal import Decimal
 
-    from ..world import Extent
+    from ..engine.world import Extent
 
 EXAMPLES = 3  # reports of each reason that are kept as examples
 Key = TypeVar("Key")

@@ -10,7 +10,7 @@ from typing import Any, List, Tuple
 
 from ..json_objects import report_object
 from ..outputs import Writer
-from ..reports import Report
+from ..engine.reports import Report
 from ..escape import shown
 
 COLUMNS = ("file", "line", "byte", "code", "reason", "feature", "hint", "excerpt", "fix")

@@ -12,12 +12,13 @@ from .. import __version__
 from ..faults import RequestError, WriteFault
 from ..indexing import by_threads, is_special
 from ..outputs import Writer, part_of
-from ..query import Work
+from ..engine.query import Work
 from ..file_state import sha256_of, time_now
-from ..running import Result, usual_jobs
+from ..run.results import Result
+from ..run.streams import usual_jobs
 from ..same import refuse_same
-from ..sources import is_path, size_of
-from ..threads import Crew, Job
+from ..sources.source import is_path, size_of
+from ..run.pool import Job, Pool
 from .extras import need_all, needed
 from .facts import Delivery, Run
 
@@ -81,7 +82,7 @@ class Hashes:
     """Hashes files while others are judged. Leaving a `with` block stops it."""
 
     def __init__(self, names: Sequence[str]) -> None:
-        self._crew, self._is_stopped = Crew(HASHES), False
+        self._crew, self._is_stopped = Pool(HASHES), False
         self._jobs: List[Job[Optional[str]]] = [
             self._crew.submit(partial(sha256_of, name, lambda: self._is_stopped)) for name in names
         ]
@@ -164,13 +165,13 @@ def _survey(
 
     clock = time.monotonic()
     with Survey(names, lists) as survey, Hashes(names) as hashes:
-        streams = (
+        surveyed = (
             Surveyed(number, name, work, survey, how)
             for number, name in enumerate(names)
         )
         for file in survey.files:
             file.size = _size(file.name)
-        with closing(by_threads(streams, how.jobs)) as results:
+        with closing(by_threads(surveyed, how.jobs)) as results:
             for result in results:
                 if isinstance(result.raises, WriteFault):
                     raise result.raises

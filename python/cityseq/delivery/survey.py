@@ -4,22 +4,34 @@ from __future__ import annotations
 
 import json
 from contextlib import ExitStack, suppress
-from dataclasses import dataclass, field
+from dataclasses import dataclass, field, replace
 from decimal import DecimalException
 from functools import partial
-from typing import TYPE_CHECKING, Any, Callable, Dict, Iterator, List, Optional, Sequence, Tuple
+from typing import (
+    TYPE_CHECKING,
+    Any,
+    Callable,
+    Dict,
+    Iterable,
+    Iterator,
+    List,
+    Optional,
+    Sequence,
+    Tuple,
+)
 
-from .._library import LOD_CLASSES, CallStatus, RawAnswer, Text, library
+from ..engine.judge import Answer, judge, refused_memory
+from ..engine.library import library
+from ..engine.query import Work
+from ..engine.records import Records, unescaped
+from ..engine.reports import Invalid, Report
+from ..engine.structs import LOD_CLASSES
+from ..engine.tally import Range
+from ..engine.world import box_of, extent_of, read_json
 from ..geopackage import system_of
-from ..indexing import Recorded
-from ..parts import Answer
-from ..places import Read
-from ..query import Work
-from ..records import Found, Records, find_read, unescaped
-from ..reports import Report
-from ..running import Judged, Result
-from ..tally import Range
-from ..world import box_of, extent_of, read_json
+from ..run.results import Result
+from ..run.streams import Stream
+from ..sources.chunks import Chunk
 from .areas import Place
 from .extras import needed
 from .facts import Area, Contents, File, Named, Point, Reasons, Repeated
@@ -48,8 +60,8 @@ Ranges = Tuple[Range, Range, Range]
 
 
 @dataclass
-class Marked(Found):
-    """The answer for a part, with the middle of the vertices of each invalid feature. A feature
+class Marked(Answer):
+    """The answer for some lines, with the middle of the vertices of each invalid feature. A feature
     that cannot be read has none."""
 
     middles: List[Point] = field(default_factory=list)
@@ -70,39 +82,26 @@ def middle_of(line: bytes) -> Optional[Point]:
     return sorted(x)[len(x) // 2], sorted(y)[len(y) // 2]
 
 
-def middles_of(reports: Sequence[Report], part: Any) -> Iterator[Point]:
-    """Yields the middle of each invalid feature of a part that has one. The lines of reports count
-    from 2, in ascending order."""
-    text, begin, number = bytes(part), 0, 2
-    for report in reports:
-        if report.line < 2:
-            continue
-        while number < report.line:
-            begin, number = text.find(b"\n", begin) + 1, number + 1
-        end = text.find(b"\n", begin)
-        middle = middle_of(text[begin : end if end >= 0 else len(text)])
-        if middle is not None:
-            yield middle
+def middles_of(invalid: Iterable[Invalid]) -> Iterator[Point]:
+    """Yields the middle of each invalid feature that has one."""
+    for lines in invalid:
+        for (line, _, _), content in lines.contents():
+            middle = middle_of(content) if line > 1 else None
+            if middle is not None:
+                yield middle
 
 
-def marked(find: Callable[[Read], Answer], is_marked: Callable[[], bool], read: Read) -> Answer:
-    """Returns the answer for a part, with the middles of its invalid features. The middles are left
-    out if the map has enough of them."""
-    parts: List[Text] = []
-
-    def kept() -> Any:
-        part, fault = read()
-        parts.append(part)
-        return part, fault
-
-    answer = find(kept)
-    if not isinstance(answer, Found) or answer.refused == 0 or is_marked():
+def marked(chunk: Chunk, work: Work, size: Optional[int], is_marked: Callable[[], bool]) -> Answer:
+    """Returns the answer for a chunk, with the middles of its invalid features. The middles are
+    left out if the map has enough of them."""
+    answer = judge(chunk, work, size)
+    if not answer.invalid or is_marked():
         return answer
     try:
-        answer.reports = list(answer.reports)  # they may be made only when they are read
-        middles = list(middles_of(answer.reports, parts[0]))
+        found = (lines for lines in answer.invalid if isinstance(lines, Invalid))
+        middles = list(middles_of(found))
     except MemoryError:
-        return Answer(RawAnswer(status=CallStatus.NO_MEMORY))
+        return refused_memory()
     return Marked(**vars(answer), middles=middles)
 
 
@@ -288,45 +287,50 @@ class Survey:
         return sorted(found, key=lambda area: -area.features)
 
 
-class Surveyed(Recorded):
+class Surveyed:
     """A file whose records go to a survey."""
 
     def __init__(self, number: int, path: str, work: Work, survey: Survey, how: "How") -> None:
         """Takes the number of the file, from 0, and the options of the run."""
-        progress = None if how.progress is None else partial(how.progress, path)
-        super().__init__(path, work, how.size, None, survey.report, progress)
         self._number, self._survey = number, survey
         self._entry: Optional[Entry] = None
+        progress = None if how.progress is None else partial(how.progress, path)
+        records = replace(work, kind="records")
+        self.stream = Stream(
+            path,
+            records,
+            how.size,
+            None,
+            survey.report,
+            progress,
+            take=[self._take],
+            judge_by=partial(marked, work=records, size=how.size, is_marked=self._is_marked),
+        )
 
-    def _judged(self, header: bytes, read: Read, begin: int) -> Judged:
-        def judged(first: bool) -> Answer:
-            return marked(
-                lambda kept: find_read(self.work, self.file, header, kept, begin, first),
-                lambda: self._entry is not None and self._entry.place.is_marked, read,
-            )
+    def _is_marked(self) -> bool:
+        return self._entry is not None and self._entry.place.is_marked
 
-        return judged
-
-    def take(self, found: Found, lines: int) -> None:
-        """Passes on the records of the next part. `lines` lines came before the part.
+    def _take(self, answer: Answer, lines: int) -> None:
+        """Passes on the records of the next chunk. `lines` lines came between it and the header.
 
         Raises:
             WriteFault: It cannot be written.
         """
-        if found.end is None:  # else the header is invalid
-            self._survey.add(self.entry(), found.records, lines)
-            if isinstance(found, Marked):
-                self._survey.mark(self.entry(), found.middles)
+        if not answer.parts or answer.end is not None:  # the header is not there, or invalid
+            return
+        for records in answer.records:
+            self._survey.add(self._begun(), records, lines + records.lines)
+        if isinstance(answer, Marked):
+            self._survey.mark(self._begun(), answer.middles)
 
-    def entry(self) -> Entry:
+    def _begun(self) -> Entry:
         """Returns the entry of the file in the survey. The header is valid."""
         if self._entry is None:
-            self._entry = self._survey.begin(self._number, self._header)
+            self._entry = self._survey.begin(self._number, self.stream.chunks.header)
         return self._entry
 
-    def finish(self) -> Result:
-        """Returns the result of the file."""
-        result = super().finish()
+    def end(self, result: Result) -> Result:
+        """Returns the result of the file, after the survey has it."""
         whole = result.fault is None and result.end is None
-        self._survey.end(self._number, result, self.entry() if whole else self._entry)
+        self._survey.end(self._number, result, self._begun() if whole else self._entry)
         return result

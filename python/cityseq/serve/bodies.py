@@ -12,17 +12,18 @@ from typing import Any, Deque, Dict, List, Optional, Tuple, Union
 from aiohttp import web
 
 from .. import __version__
-from .._library import USUAL_DEPTH, USUAL_LINE, Text
 from ..cli.requests import Check, Filter
+from ..engine.library import Text
+from ..engine.structs import USUAL_DEPTH, USUAL_LINE
 from ..json_objects import reasons_object, report_object, result_object
-from ..parts import Answer
-from ..places import SMALL
-from ..query import asked
-from ..running import Result, Task
+from ..engine.judge import Answer
+from ..engine.judge import SMALL
+from ..engine.query import asked
+from ..run.results import Result
 from .answers import begin, write
 from .bounds import Pace
 from .calls import Calls
-from .judging import Fed, Unpacking, too_long
+from .judging import Fed, Task, Unpacking, too_long
 from .problems import Problem, forget
 from .queries import Query
 from .settings import MOST_REPORTS, REPORTS, Limits

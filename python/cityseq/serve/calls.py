@@ -5,10 +5,10 @@ import asyncio
 from functools import partial
 from typing import Any, Callable, Optional, TypeVar
 
-from .._library import give_back
+from ..engine.memory import give_back
 from ..faults import MemoryFault
-from ..running import usual_jobs
-from ..threads import Crew
+from ..run.streams import usual_jobs
+from ..run.pool import Pool
 
 T = TypeVar("T")
 PAUSE = 1.0  # seconds after a body until free memory is given back
@@ -21,7 +21,7 @@ class Calls:
         """Takes the number of threads; None is one for each processor."""
         self.jobs: int = usual_jobs() if jobs is None else jobs
         self.bodies = 0  # those that are judged now
-        self._crew = Crew(self.jobs)
+        self._crew = Pool(self.jobs)
         self._ending: Optional[asyncio.TimerHandle] = None
 
     def start(self) -> None:

@@ -11,7 +11,7 @@ from hashlib import sha256
 from queue import Empty, LifoQueue
 from typing import Any, Dict, Iterator, List, Optional
 
-from ..extents import World
+from ..engine.extents import World
 from ..faults import RequestError
 from ..fetching import IndexedStream
 from ..lookup import Index

@@ -7,8 +7,8 @@ from typing import Any, Callable, Dict, List, NamedTuple, Optional, Tuple
 from aiohttp import web
 
 from ..faults import RequestError
-from ..query import Work
-from ..world import plain
+from ..engine.query import Work
+from ..engine.world import plain
 from .answers import FeatureCollection, Sequence, dumped, geojson_feature, item_path, send_page
 from .boxes import Extent
 from .calls import Calls

@@ -5,21 +5,23 @@ from __future__ import annotations
 from collections import Counter
 from functools import partial
 from itertools import islice
-from typing import Any, Iterable, Iterator, List, Optional, Tuple
+from typing import Any, Callable, Iterable, Iterator, List, Optional, Tuple
 
-from .._library import Text
-from ..file_hints import HEAD
-from ..packed import Gzip, Packing
-from ..parts import Answer
-from ..places import SMALL, given, judge_read
-from ..query import Work
-from ..reports import Report
-from ..running import Result, Stream, Task
+from ..engine.judge import SMALL, Answer, judge
+from ..engine.library import Text
+from ..engine.query import Work
+from ..engine.reports import Report
+from ..run.fold import Fold
+from ..run.results import Result
+from ..sources.chunks import Chunk
+from ..sources.cutter import Cutter
+from ..sources.packed import Gzip, Packing
 from .problems import Problem
 
 UNPACKED = 1 << 19  # bytes that are unpacked at once
 FEW, MANY = 1 << 9, 1 << 18  # packed bytes that a member gets at first, and at most
 BODY = "-"  # the name of a body in reports
+Task = Callable[[], Answer]
 
 
 class Unpacking:
@@ -100,15 +102,16 @@ def too_long(limit: int) -> Problem:
     return Problem(413, f"a body has at most {limit:,} bytes, also after it is unpacked")
 
 
-class Fed(Stream):
+class Fed:
     """A stream that receives its bytes in pieces. One thread after another may pass them.
 
-    The bytes are cut into parts, and any thread may judge a part. The answers are taken in order.
+    The bytes are cut into chunks, and any thread may judge a chunk. The answers are taken in order.
 
     Attributes:
+        work: What is asked of the stream.
         reports: The first reports, as many as are kept.
         codes: How often each reason occurred.
-        has_more: Whether there may be more parts in the received bytes.
+        has_more: Whether there may be more chunks in the received bytes.
     """
 
     def __init__(
@@ -124,33 +127,35 @@ class Fed(Stream):
             if len(reports) < most_reports:
                 reports.append(report)
 
-        super().__init__(BODY, work, tell=keep)
-        self.reports, self.codes = reports, codes
+        self.work, self.reports, self.codes = work, reports, codes
+        self._cutter = Cutter(BODY, work, SMALL)
+        self._fold = Fold(self._cutter, work, tell=keep)
         self._unpacking, self._most_reports = unpacking, most_reports
         self._counts_codes = counts_codes
-        self._rest = bytearray()
-        self._seen = 0  # bytes of the rest that have no LF
-        self._line: Optional[bytes] = None  # the first one, when it is whole
-        self._is_first = self._is_open = True
         self._coming: Iterator[Task] = iter(())
         self.has_more = False
-        self._too_long: Optional[bytearray] = None  # the beginning of a line that has no end yet
+
+    @property
+    def ended(self) -> bool:
+        """Whether the stream has ended, so that no later bytes count."""
+        return self._fold.has_ended
 
     @property
     def has_header(self) -> bool:
         """Whether the first line is known to be valid."""
-        return self._joined.parts > 0 and not self.ended
+        return self._fold.joined.parts > 0 and not self.ended
 
     def feed(self, pieces: Iterable[bytes]) -> None:
-        """Takes some more of the body, after all parts of the pieces before were made."""
+        """Takes some more of the body, after all chunks of the pieces before were made."""
         self._coming, self.has_more = self._cut(pieces), True
 
     def drop(self) -> None:
         """Drops the bytes that have come and were not judged."""
-        self._coming, self._rest, self._too_long = iter(()), bytearray(), None
+        self._coming = iter(())
+        self._cutter.drop()
 
     def parts(self, most: int) -> List[Task]:
-        """Returns calls that judge the next parts, at most `most` of them. Few packed bytes may
+        """Returns calls that judge the next chunks, at most `most` of them. Few packed bytes may
         have a long text, and only this much of it is unpacked.
 
         Raises:
@@ -163,9 +168,11 @@ class Fed(Stream):
     def _cut(self, pieces: Iterable[bytes]) -> Iterator[Task]:
         for piece in pieces:
             for text in self._unpacking.feed(piece):
-                if self._is_open and not self.ended:
-                    self._rest += text
-                    yield from self._parts_of_rest()
+                if not self.ended:
+                    yield from self._tasks(self._cutter.feed(text))
+
+    def _tasks(self, chunks: Iterable[Chunk]) -> Iterator[Task]:
+        return (partial(judge, chunk, self.work) for chunk in chunks)
 
     def end(self) -> List[Task]:
         """Returns calls that judge the rest.
@@ -173,80 +180,21 @@ class Fed(Stream):
         Raises:
             Problem: The body is cut short.
         """
-        self._rest += self._unpacking.end()
-        if self.ended or not self._is_open:
+        rest = self._unpacking.end()
+        if self.ended:
             return []
-        if self._line is None:
-            self._begin(bytes(self._rest), bytearray())
-        if self._too_long is not None:
-            self._rest, self._too_long = self._too_long, None
-        return [self._part(self._rest)] if self._rest or self._is_first else []
+        return [*self._tasks(self._cutter.feed(rest)), *self._tasks(self._cutter.end())]
 
     def take(self, answer: Answer) -> Text:
-        """Joins the answer of the next part, and returns its output."""
+        """Joins the answer of the next chunk, and returns its output."""
         if self.ended:
             return b""
         if len(self.reports) >= self._most_reports:  # there may be millions more
             if self._counts_codes:
                 self.codes.update(answer.codes)
-            answer.reports = ()
-        self.add(answer)
-        return answer.output
-
-    def _begin(self, line: bytes, rest: bytearray) -> None:
-        self._line, self._rest = line, rest
-        self.heads(line, bytes(rest[:HEAD]))
-
-    def _parts_of_rest(self) -> Iterator[Task]:
-        """Yields calls that judge the whole lines that have come, if they are enough."""
-        limit = self.work.line_limit
-        if self._line is None:
-            end = self._rest.find(b"\n", self._seen, limit + 1) + 1
-            if not end and len(self._rest) <= limit:
-                self._seen = len(self._rest)
-                return
-            line, rest = self._rest[: end or limit + 1], self._rest[end:] if end else bytearray()
-            self._begin(bytes(line), rest)
-            self._seen = 0
-            if not end:
-                self._is_open = False
-                yield self._part(rest)  # the first line is too long
-                return
-        if self._too_long is not None and not self._find_end():
-            return
-        if len(self._rest) >= self._part_size(SMALL, self._line or b""):
-            yield from self._lines_of_rest()
-
-    def _lines_of_rest(self) -> Iterator[Task]:
-        end = self._rest.rfind(b"\n", self._seen) + 1
-        if end:
-            part, self._rest = self._rest, self._rest[end:]
-            del part[end:]
-            yield self._part(part)
-        self._seen = len(self._rest)
-        if len(self._rest) > self.work.line_limit:
-            part, self._rest, self._seen = self._rest[: self.work.line_limit + 1], bytearray(), 0
-            if self.work.keep_going:
-                self._too_long = part
-            else:
-                self._is_open = False
-                yield self._part(part)
-
-    def _find_end(self) -> bool:
-        """Searches for the end of a line that is too long. Returns whether it is there."""
-        end = self._rest.find(b"\n") + 1
-        if not end or self._too_long is None:
-            self._rest.clear()
-            return False
-        self._rest = self._too_long + b"\n" + self._rest[end:]
-        self._too_long, self._seen = None, 0
-        return True
-
-    def _part(self, part: bytearray) -> Task:
-        is_first, self._is_first = self._is_first, False
-        return partial(
-            judge_read, self.work, self.file, self._line or b"", partial(given, part), is_first
-        )
+            answer.invalid = []
+        self._fold.add(answer)
+        return answer.output[0] if len(answer.output) == 1 else b"".join(answer.output)
 
     def result(self) -> Result:
         """Returns the result of the stream.
@@ -254,7 +202,7 @@ class Fed(Stream):
         Raises:
             CityseqError: A fault ended the run, such as refused memory.
         """
-        result = self.finish()
+        result = self._fold.finish()
         if result.raises is not None:
             raise result.raises
         return result

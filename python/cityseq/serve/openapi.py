@@ -4,7 +4,7 @@ from __future__ import annotations
 from typing import Any, Dict, List, Sequence
 
 from .. import __version__
-from .._library import USUAL_DEPTH, USUAL_LINE
+from ..engine.structs import USUAL_DEPTH, USUAL_LINE
 from .bodies import LINES, SEQUENCE
 from .catalogue import Catalogue
 from .formats import CITY_JSON_SEQ, HTML, OPENAPI, Format

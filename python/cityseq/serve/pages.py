@@ -9,13 +9,14 @@ from contextlib import suppress
 from dataclasses import dataclass, replace
 from typing import Callable, Generator, Iterator, List, NamedTuple, Optional, Tuple
 
-from .._library import CallStatus, RawFeature, library
+from ..engine.library import library
+from ..engine.structs import CallStatus, RawFeature
 from ..builder import names_of_lods, names_of_types
 from ..faults import OutOfDate
 from ..fetching import Row, header_of, lines_of, placed
 from ..listing import fault_of
-from ..query import Work
-from ..records import unescaped
+from ..engine.query import Work
+from ..engine.records import unescaped
 from .boxes import Extent
 from .catalogue import Collection
 

@@ -8,7 +8,7 @@ from typing import Any, Dict, Sequence
 
 from aiohttp import web
 
-from .._library import library
+from ..engine.library import library
 from ..cli.output import say
 from ..faults import ReadFault, why
 from ..escape import shown

@@ -2,11 +2,15 @@
 anything is read."""
 from __future__ import annotations
 
+from collections.abc import Iterable
 from dataclasses import dataclass
 from functools import lru_cache
-from typing import TYPE_CHECKING, Any, Iterable, Optional, Union
+from typing import TYPE_CHECKING, Any, Union
 
-from ._library import (
+from ..faults import RequestError
+from .ids import are_read, ids_for, in_order
+from .library import Text, library
+from .structs import (
     DEPTH_LIMITS,
     FAULTS,
     LINE_LIMITS,
@@ -14,11 +18,7 @@ from ._library import (
     USUAL_LINE,
     CallStatus,
     RawRequest,
-    Text,
-    library,
 )
-from .faults import RequestError
-from .ids import are_read, ids_for, in_order
 
 if TYPE_CHECKING:
     from decimal import Decimal
@@ -26,6 +26,58 @@ if TYPE_CHECKING:
 UNKNOWN_TYPE = 5  # the fault of a request for a type that does not exist
 Texts = Union[str, Iterable[str]]
 Box = Union[str, Iterable[Union[int, float, str, "Decimal"]]]
+
+
+@dataclass(frozen=True)
+class Limits:
+    """How long a line may be, and how deep its JSON.
+
+    Attributes:
+        line: The most bytes in a line, from 1 to 1 GiB.
+        depth: The most arrays and objects that are open at once, from 1 to 1,024.
+    """
+
+    line: int = USUAL_LINE
+    depth: int = USUAL_DEPTH
+
+
+@dataclass(frozen=True)
+class Query:
+    """Which features are selected: those that meet each condition. None sets no condition.
+
+    Attributes:
+        ids: The id of the feature is one of these.
+        types: A city object of the feature has one of these types.
+        lods: A geometry of the feature has one of these LoDs.
+        box: The vertices of the feature reach into this box: four numbers, or a text
+            minx,miny,maxx,maxy, in world coordinates.
+        exclude: Whether to select the other features.
+    """
+
+    ids: Texts | bytes | None = None
+    types: Texts | None = None
+    lods: Texts | None = None
+    box: Box | None = None
+    exclude: bool = False
+
+
+@dataclass(frozen=True)
+class Options:
+    """How a stream is judged.
+
+    Attributes:
+        limits: The limits of a line.
+        keep_going: Whether to report each invalid line, and not only the first.
+        tree: Whether the main city object has to reach each other one of its feature.
+        jobs: How many threads judge parts of the stream. None is one for each processor.
+        part_size: How many bytes a part has. None is 4 MiB or less.
+    """
+
+    limits: Limits = Limits()
+    keep_going: bool = False
+    tree: bool = False
+    jobs: int | None = None
+    part_size: int | None = None
 
 
 def lines_of(texts: Iterable[str]) -> bytes:
@@ -36,7 +88,7 @@ def lines_of(texts: Iterable[str]) -> bytes:
     return ("\n" * empty + "\n".join(filter(None, listed))).encode("utf-8")
 
 
-def _asked_lines(texts: Union[Texts, bytes, None], what: str) -> Optional[bytes]:
+def _asked_lines(texts: Texts | bytes | None, what: str) -> bytes | None:
     """Returns the texts of a query in UTF-8, one a line. Takes one text, several texts, or bytes
     that have this form already."""
     if texts is None or isinstance(texts, bytes):
@@ -55,7 +107,7 @@ def _asked_lines(texts: Union[Texts, bytes, None], what: str) -> Optional[bytes]
         raise RequestError(f"{FAULTS[4]}, among {what}") from fault
 
 
-def _box_of(box: Optional[Box]) -> Optional[bytes]:
+def _box_of(box: Box | None) -> bytes | None:
     """Returns a box as the library takes it: minx,miny,maxx,maxy."""
     if box is None:
         return None
@@ -71,7 +123,8 @@ def _limit(value: int, least: int, greatest: int, what: str) -> int:
 
 @dataclass(frozen=True)
 class Work:
-    """What to do with a stream: `check`, `filter` or `info`, with these options."""
+    """A request in the library's form, and the call that answers it. The kind is `check`, `filter`,
+    `info` or `records`."""
 
     kind: str
     line_limit: int = USUAL_LINE
@@ -79,16 +132,11 @@ class Work:
     keep_going: bool = False
     tree: bool = False
     exclude: bool = False
-    ids: Optional[bytes] = None
-    types: Optional[bytes] = None
-    lods: Optional[bytes] = None
-    box: Optional[bytes] = None
+    ids: bytes | None = None
+    types: bytes | None = None
+    lods: bytes | None = None
+    box: bytes | None = None
     exact_lods: bool = False
-
-    @property
-    def counts_alone(self) -> bool:
-        """Whether the answer for a valid part has only counts."""
-        return self.kind == "check" and not self.keep_going
 
     @property
     def reads_ids(self) -> bool:
@@ -104,7 +152,7 @@ class Work:
 
 
 @lru_cache(maxsize=8)
-def _request(work: Work, ids: Optional[bytes], line_limit: int) -> RawRequest:
+def _request(work: Work, ids: bytes | None, line_limit: int) -> RawRequest:
     """Returns a request. It is made once for many parts."""
     texts = (ids, work.types, work.lods, work.box)
     return RawRequest(
@@ -126,28 +174,38 @@ def asked(
     keep_going: bool = False,
     tree: bool = False,
     exclude: bool = False,
-    ids: Union[Texts, bytes, None] = None,
-    types: Optional[Texts] = None,
-    lods: Optional[Texts] = None,
-    box: Optional[Box] = None,
+    ids: Texts | bytes | None = None,
+    types: Texts | None = None,
+    lods: Texts | None = None,
+    box: Box | None = None,
     exact_lods: bool = False,
 ) -> Work:
     """Returns the work for these options. Raises `RequestError` if they are not allowed."""
-    if kind == "info" and keep_going:
+    options = Options(Limits(line_limit, depth), keep_going, tree)
+    return work_of(kind, options, Query(ids, types, lods, box, exclude), exact_lods)
+
+
+def work_of(kind: str, options: Options, query: Query = Query(), exact_lods: bool = False) -> Work:
+    """Returns the work for these options and this query.
+
+    Raises:
+        RequestError: They are not allowed.
+    """
+    if kind == "info" and options.keep_going:
         raise RequestError(
             "what is in a stream is told of a valid one: filter it first, with keep_going"
         )
     work = Work(
         kind,
-        _limit(line_limit, *LINE_LIMITS, "line limit"),
-        _limit(depth, *DEPTH_LIMITS, "depth"),
-        bool(keep_going),
-        bool(tree),
-        bool(exclude),
-        None if ids is None else in_order(_asked_lines(ids, "ids") or b""),
-        _asked_lines(types, "types"),
-        _asked_lines(lods, "LoDs"),
-        _box_of(box),
+        _limit(options.limits.line, *LINE_LIMITS, "line limit"),
+        _limit(options.limits.depth, *DEPTH_LIMITS, "depth"),
+        bool(options.keep_going),
+        bool(options.tree),
+        bool(query.exclude),
+        None if query.ids is None else in_order(_asked_lines(query.ids, "ids") or b""),
+        _asked_lines(query.types, "types"),
+        _asked_lines(query.lods, "LoDs"),
+        _box_of(query.box),
         bool(exact_lods),
     )
     answer = library().check(b"", b"", work.request(b"", b""), 0)[0]
@@ -170,7 +228,7 @@ class UnknownType(RequestError):
     def __reduce__(self) -> Any:
         return RequestError, (self.words,)
 
-    def alike(self) -> Optional[str]:
+    def alike(self) -> str | None:
         """Returns the type that the user may mean."""
         from difflib import get_close_matches  # only mistakes need it
 

@@ -9,8 +9,8 @@ from . import support
 from .support import HEADER, PLAIN
 
 import cityseq
-from cityseq import threads
-from cityseq.threads import STACK, Crew, in_thread
+from cityseq.run import pool as pool_of
+from cityseq.run.pool import STACK, Pool, in_thread
 
 START = _thread.start_new_thread
 
@@ -36,7 +36,7 @@ class Crews(unittest.TestCase):
 
     def test_calls_are_made_once_and_answered(self):
         for most in (1, 3):
-            with Crew(most) as crew:
+            with Pool(most) as crew:
                 jobs = [
                     crew.submit(lambda number=number: (number, threading.get_ident()))
                     for number in range(50)
@@ -48,21 +48,21 @@ class Crews(unittest.TestCase):
             self.assertFalse(crew.has_threads())
 
     def test_what_a_call_raises_is_raised(self):
-        with Crew(2) as crew:
+        with Pool(2) as crew:
             job = crew.submit(lambda: {}["x"])
             self.assertRaises(KeyError, job.result)
             self.assertRaises(KeyError, job.result)
 
     def test_never_more_threads_than_calls(self):
         patch, started = starting(99)
-        with patch, Crew(64) as crew:
+        with patch, Pool(64) as crew:
             for job in [crew.submit(lambda: None) for _ in range(3)]:
                 job.result()
         self.assertEqual(len(started), 3)
 
     def test_a_call_that_is_cancelled_is_not_made(self):
         made = []
-        with Crew(1) as crew:
+        with Pool(1) as crew:
             first = crew.submit(lambda: time.sleep(0.1))
             second = crew.submit(lambda: made.append(1))
             second.cancel()
@@ -73,25 +73,25 @@ class Crews(unittest.TestCase):
         for most, silent in ((1, False), (0, False), (1, True), (0, True)):
             patch, _ = starting(most, silent)
             with self.subTest(most=most, silent=silent), patch, mock.patch(
-                "cityseq.threads.PATIENCE", 0.05
+                "cityseq.run.pool.PATIENCE", 0.05
             ):
-                with Crew(4) as crew:
+                with Pool(4) as crew:
                     self.assertEqual(
                         [job.result() for job in [crew.submit(lambda n=n: n) for n in range(9)]],
                         list(range(9)),
                     )
 
     def test_a_thread_that_ends_early(self):
-        with mock.patch("cityseq.threads.PATIENCE", 0.05), Crew(1) as crew:
+        with mock.patch("cityseq.run.pool.PATIENCE", 0.05), Pool(1) as crew:
             crew.submit(lambda: None).result()
-            crew._jobs.put(None)
+            crew._calls.put(_thread.exit)
             self.assertEqual(crew.submit(lambda: 5).result(), 5)
 
     def test_an_interrupt_when_a_thread_was_just_started(self):
         """The crew does not know that thread, which takes the sign of the end before the other
         one."""
         started, ended = [], threading.Event()
-        start = threads._start
+        start = pool_of._start
 
         def interrupted(call, *given):
             start(call, *given)
@@ -100,12 +100,12 @@ class Crews(unittest.TestCase):
                 raise KeyboardInterrupt
 
         def run():
-            with self.assertRaises(KeyboardInterrupt), Crew(2) as crew:
+            with self.assertRaises(KeyboardInterrupt), Pool(2) as crew:
                 crew.submit(lambda: time.sleep(0.3))
                 crew.submit(lambda: None)
             ended.set()
 
-        with mock.patch("cityseq.threads._start", interrupted):
+        with mock.patch("cityseq.run.pool._start", interrupted):
             START(run, ())
             self.assertTrue(ended.wait(10))
 
@@ -126,7 +126,7 @@ class Crews(unittest.TestCase):
         for most, silent in ((2, False), (0, False), (0, True)):
             patch, _ = starting(most, silent)
             with self.subTest(most=most, silent=silent), patch, mock.patch(
-                "cityseq.threads.PATIENCE", 0.05
+                "cityseq.run.pool.PATIENCE", 0.05
             ):
                 self.assertEqual(
                     support.numbered(cityseq.check(text, jobs=4, part_size=1_000).reports),

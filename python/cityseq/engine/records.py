@@ -3,25 +3,23 @@ from __future__ import annotations
 
 import json
 import struct
-from dataclasses import dataclass, field
-from itertools import islice, starmap
-from typing import List, Optional, Sequence, Tuple
+from collections.abc import Sequence
+from dataclasses import dataclass, replace
+from itertools import starmap
 from zlib import crc32
 
-from ._library import CallStatus, RawAnswer, RawReports, Text, library
-from .bulk import Column, Same
-from .faults import CityseqError
-from .parts import ROOM, Answer, held
-from .places import Read, Room, judge_by
+from ..bulk import Column, Same
+from .library import FEATURE, Text, library
+from .memory import Room
 from .query import Work
-from .reports import describe
+from .structs import RawAnswer
 
 RECORD = struct.Struct("=9Q" + "Qqq" * 3)  # `struct cityseq_feature`
 MEMBERS = RECORD.size // 8  # each of 8 bytes, below 2^63
 SHORTEST = 64  # bytes: every feature is longer
 USUAL = 8_192  # features of a part that fit at first
 LONGEST = 1_024  # bytes of an id that is stored unchanged
-Id = Tuple[str, Optional[bytes]]
+Id = tuple[str, bytes | None]
 _room = Room()  # for the records of a thread's parts, one after another
 
 
@@ -33,25 +31,24 @@ class Records:
         begin: Where the part begins in the stream, in bytes.
         raw: The records, one after another, as the library writes them.
         ids: The id of each feature as its line spells it, without quotes.
+        lines: How many lines of the stream came between the header and the part.
     """
 
     begin: int
     raw: bytes
-    ids: List[bytes]
+    ids: list[bytes]
+    lines: int = 0
 
-    def columns(self) -> List[List[int]]:
+    def columns(self) -> list[list[int]]:
         """Returns the values of each member of the records."""
         return columns_of(self.raw)
 
-
-@dataclass
-class Found(Answer):
-    """The answer for a part, with its records."""
-
-    records: Records = field(default_factory=lambda: Records(0, b"", []))
+    def moved(self, lines: int) -> Records:
+        """Returns the same records with `lines` added to the lines before the part."""
+        return replace(self, lines=self.lines + lines)
 
 
-def columns_of(raw: bytes) -> List[List[int]]:
+def columns_of(raw: bytes) -> list[list[int]]:
     """Returns the values of each member of records."""
     numbers = memoryview(raw).cast("q")
     return [numbers[member::MEMBERS].tolist() for member in range(MEMBERS)]
@@ -74,7 +71,7 @@ def stored(text: str) -> Id:
     return json.dumps(text[:LONGEST])[1:-1], exact
 
 
-def id_of(text: str, exact: Optional[bytes]) -> str:
+def id_of(text: str, exact: bytes | None) -> str:
     """Returns the id that is stored in these two columns."""
     return text if exact is None else exact.decode("utf-8", "surrogatepass")
 
@@ -87,6 +84,14 @@ def unescaped(spelling: bytes) -> str:
     return text
 
 
+def all_unescaped(spellings: list[bytes]) -> list[str]:
+    """Returns the texts of JSON strings, from their spellings without quotes. Each is valid, so
+    none has an LF."""
+    if not spellings or b"\\" in b"".join(spellings):
+        return list(map(unescaped, spellings))
+    return b"\n".join(spellings).decode("utf-8").split("\n")
+
+
 def stored_as_spelled(spelling: bytes) -> Id:
     """Returns an id for two columns, from the JSON string that spells it, without quotes. A valid
     string without escapes has no NUL and no lone surrogate."""
@@ -95,15 +100,15 @@ def stored_as_spelled(spelling: bytes) -> Id:
     return stored(unescaped(spelling))
 
 
-def hash_of(text: str, exact: Optional[bytes]) -> int:
+def hash_of(text: str, exact: bytes | None) -> int:
     """Returns the hash of the id that is stored in these two columns: the upper 31 bits of the
     CRC-32 of its UTF-8."""
     return crc32(text.encode("utf-8") if exact is None else exact) >> 1
 
 
 def stored_as_columns(
-    spellings: List[bytes],
-) -> Tuple[Sequence[str], Column, List[int]]:
+    spellings: list[bytes],
+) -> tuple[Sequence[str], Column, list[int]]:
     """Returns ids, from the JSON strings that spell them, as two columns and the hash of each."""
     if b"\\" not in b"".join(spellings) and max(map(len, spellings)) <= LONGEST:
         texts = b"\n".join(spellings).decode("utf-8").split("\n")  # no valid string has an LF
@@ -112,21 +117,8 @@ def stored_as_columns(
     return [text for text, _ in both], [exact for _, exact in both], list(starmap(hash_of, both))
 
 
-def _called(
-    work: Work, header: bytes, part: Text, reports_room: int
-) -> Tuple[RawAnswer, RawReports, bytes]:
-    """Returns the library's answer. It calls again if records or reports do not fit."""
-    room = min(len(part) // SHORTEST, USUAL) + 1
-    while True:
-        answer, reports, raw = library().records(
-            header, part, work.request(header, part), _room.of(room * RECORD.size), reports_room
-        )
-        if answer.kept <= room and (answer.refused <= reports_room or not work.keep_going):
-            return answer, reports, raw
-        room, reports_room = max(room, answer.kept), max(reports_room, answer.refused)
-
-
-def _ids(part: Text, raw: bytes) -> List[bytes]:
+def ids_of(part: Text, raw: bytes) -> list[bytes]:
+    """Returns the id of each record of a part as its line spells it, without quotes."""
     numbers = memoryview(raw).cast("q")
     places = (numbers[member::MEMBERS].tolist() for member in (1, 3, 4))
     return [
@@ -135,25 +127,13 @@ def _ids(part: Text, raw: bytes) -> List[bytes]:
     ]
 
 
-def find(work: Work, file: str, header: bytes, part: Text, begin: int) -> Found:
-    """Judges a header and a part that begins at this byte, and returns records and reports."""
-    answer, reports, raw = _called(work, header, part, ROOM if work.keep_going else 0)
-    if answer.status not in (CallStatus.COMPLETE, CallStatus.REFUSED, CallStatus.NO_MEMORY):
-        raise CityseqError(f"the library answered {answer.status}, code {answer.code}")
-    is_ended = answer.status == CallStatus.REFUSED
-    text = held(part) if answer.refused or is_ended else b""
-    return Found(
-        told=answer,
-        end=next(describe([answer], header, text, file)) if is_ended else None,
-        # they are read only when they are joined, because there may be very many
-        reports=describe(islice(reports, answer.refused), header, text, file)
-        if answer.refused
-        else (),
-        size=len(part),
-        records=Records(begin, raw, _ids(part, raw)),
-    )
-
-
-def find_read(work: Work, file: str, header: bytes, read: Read, begin: int, _first: bool) -> Answer:
-    """Does the same with the part that a read gives."""
-    return judge_by(lambda part: find(work, file, header, part, begin), read, file)
+def call(work: Work, header: bytes, part: Text, room: int) -> tuple[RawAnswer, bytes, bytes]:
+    """Returns the library's answer, reports and records. There is room for so many reports. The
+    library is called again if the records do not fit."""
+    most = min(len(part) // SHORTEST, USUAL) + 1
+    while True:
+        request, memory = work.request(header, part), _room.of(most * FEATURE)
+        answer, reports, raw = library().records(header, part, request, memory, room)
+        if answer.kept <= most:
+            return answer, reports, raw
+        most = answer.kept

@@ -7,18 +7,25 @@ import os
 import select
 import stat
 import sys
-from typing import IO, Any, Iterator, Optional, Tuple, Union
+from collections.abc import Iterator
+from typing import IO, TYPE_CHECKING, Any, Union
 
-from .faults import ReadFault, RequestError, read_fault
-from .packed import Packing, Unpacker, packing_of
+from ..faults import READ_FAULTS, ReadFault, RequestError, read_fault
+from .packed import Packing, Unpacker, may_be_packed, packing_by_mark, packing_of
 
-Source = Union[str, "os.PathLike[Any]", bytes, bytearray, memoryview, IO[bytes]]
+if TYPE_CHECKING:
+    from array import array
+    from mmap import mmap
 
-State = Tuple[int, int]  # of a file
+    Buffer = Union[bytes, bytearray, memoryview, array[Any], mmap]
+
+Source = Union[str, "os.PathLike[Any]", "Buffer", IO[bytes]]
+
+State = tuple[int, int]  # of a file
 CHANGED = "changed while it was read"
 PIECE = 1 << 20  # the most bytes of one read
 IDLE = 50  # milliseconds to wait for more bytes before those that are there are judged
-READ_FAULTS = (OSError, EOFError, ValueError)  # what a read may raise
+LONGEST_PATH = 4_096  # bytes: a longer text is no path
 
 
 def is_path(source: Any) -> bool:
@@ -27,21 +34,33 @@ def is_path(source: Any) -> bool:
     return isinstance(source, (str, os.PathLike)) and os.fsdecode(source) != "-"
 
 
+def bytes_of(source: Any) -> memoryview | None:
+    """Returns the bytes of a source that is an object with bytes, such as `bytes` or an array. None
+    for other sources."""
+    if isinstance(source, (str, os.PathLike)) or hasattr(source, "read"):
+        return None
+    try:
+        return memoryview(source).cast("B")
+    except TypeError:
+        return None
+
+
 def name_of(source: Any) -> str:
     """Returns the name of a source in reports."""
     if isinstance(source, (str, os.PathLike)):
         return os.fsdecode(source)
-    if isinstance(source, (bytes, bytearray, memoryview)):
+    if bytes_of(source) is not None:
         return "<bytes>"
     name = getattr(source, "name", None)
     return name if isinstance(name, str) else "<stream>"
 
 
-def size_of(source: Any) -> Optional[int]:
+def size_of(source: Any) -> int | None:
     """Returns how many bytes a source has, or None if this is known only after reading. For a
     packed file these are packed bytes."""
-    if isinstance(source, (bytes, bytearray, memoryview)):
-        return memoryview(source).nbytes
+    held = bytes_of(source)
+    if held is not None:
+        return held.nbytes
     return os.path.getsize(source) if is_path(source) and os.path.isfile(source) else None
 
 
@@ -64,11 +83,14 @@ def _poll_of(file: Any) -> Any:
 class Reader:
     """Reads a file object. If a read fails, keeps the fault as `fault`, and the input ends."""
 
-    def __init__(self, file: IO[bytes], name: str = "<stream>") -> None:
+    def __init__(self, file: Any, name: str = "<stream>", is_text: bool = False) -> None:
+        """Takes a file object and its name. If it is not known to be a text, it is unpacked if its
+        first bytes show that it is packed."""
         self.file, self.name = file, name
         self._read: Any = getattr(file, "read1", None) or file.read
-        self.fault: Optional[ReadFault] = None
+        self.fault: ReadFault | None = None
         self._poll = _poll_of(file)
+        self._has_begun = is_text
 
     def is_idle(self) -> bool:
         """Whether no bytes have come for some time. False for a source that is not a pipe, a
@@ -80,32 +102,40 @@ class Reader:
         except (OSError, ValueError):
             return False
 
-    def go_to(self, place: int) -> None:
-        """Continues at this byte of the file."""
-        try:
-            self.file.seek(place)
-        except READ_FAULTS as fault:
-            self._fail(fault)
-
     def read(self, most: int) -> bytes:
         """Returns at most `most` bytes, and none at the end."""
         try:
-            piece = self._read(min(most, PIECE))
-            if isinstance(piece, (bytes, bytearray)):
-                return bytes(piece)
-            self._fail(
-                OSError(
-                    "the source gives text: open it as binary"
-                    if isinstance(piece, str)
-                    else "no bytes were ready"
-                )
-            )
+            piece = self._piece(most)
+            if not self._has_begun:
+                self._has_begun = True
+                piece = self._text_of(piece, most)
+            return piece
         except READ_FAULTS as fault:
-            self._fail(fault)
+            self.fault, self._read = read_fault(fault, self.name), io.BytesIO().read
         return b""
 
-    def _fail(self, cause: BaseException) -> None:
-        self.fault, self._read = read_fault(cause, self.name), io.BytesIO().read
+    def _piece(self, most: int) -> bytes:
+        piece = self._read(min(most, PIECE))
+        if isinstance(piece, (bytes, bytearray)):
+            return bytes(piece)
+        is_text = isinstance(piece, str)
+        raise OSError(
+            "the source gives text: open it as binary" if is_text else "no bytes were ready"
+        )
+
+    def _text_of(self, head: bytes, most: int) -> bytes:
+        """Returns the first text of a file with these first bytes."""
+        while head and may_be_packed(head):
+            more = self._piece(most)
+            if not more:
+                break
+            head += more
+        packing = packing_by_mark(head)
+        if packing is None:
+            return head
+        self.file = Unpacker(self.file, packing, head)
+        self._read, self._poll = self.file.read, None
+        return self._piece(most)
 
 
 def _open_path(path: str) -> Any:
@@ -119,12 +149,23 @@ def _open_path(path: str) -> Any:
         raise
 
 
+def _path_of(source: Any) -> str:
+    """Returns the path that a source is. Raises `RequestError` if it is a text and no path."""
+    path = os.fsdecode(source)
+    if "\n" in path and len(os.fsencode(path)) > LONGEST_PATH:
+        raise RequestError(
+            f"a source is a path, and no text of {len(path):,} characters: give a stream as bytes"
+        )
+    return path
+
+
 def _open(source: Source) -> Any:
     """Opens a source that is a path or bytes. The caller must close the file object."""
-    if isinstance(source, (bytes, bytearray, memoryview)):
-        return io.BytesIO(source)
     if isinstance(source, (str, os.PathLike)):
-        return _open_path(os.fsdecode(source))
+        return _open_path(_path_of(source))
+    held = bytes_of(source)
+    if held is not None:
+        return io.BytesIO(held)
     raise RequestError(
         f"a source is a path, bytes or a binary file, and no {type(source).__name__}"
     )
@@ -161,7 +202,7 @@ class Watch:
             os.close(self._descriptor)
 
     @classmethod
-    def of(cls, file: Any) -> Optional["Watch"]:
+    def of(cls, file: Any) -> Watch | None:
         """Returns a watch of the file of a file object. None if there is no regular file."""
         try:
             descriptor = file.fileno()
@@ -179,7 +220,7 @@ def opened(source: Source) -> Iterator[Reader]:
     """Yields a reader of a source, and closes what was opened for it."""
     name = name_of(source)
     if hasattr(source, "read"):
-        yield Reader(source, name)  # type: ignore[arg-type]
+        yield Reader(source, name)
         return
     if isinstance(source, str) and source == "-":
         if sys.stdin is None:
@@ -193,4 +234,4 @@ def opened(source: Source) -> Iterator[Reader]:
             raise
         raise read_fault(fault, name) from fault
     with file:
-        yield Reader(file, name)
+        yield Reader(file, name, is_text=True)

@@ -1,4 +1,4 @@
-"""Files that are read by their places, where their parts are judged: the same comes of them as of
+"""Files that are read by their places, where their chunks are judged: the same comes of them as of
 their bytes."""
 import io
 import os
@@ -11,10 +11,11 @@ from . import support
 from .support import HEADER, PLAIN, InFolder, feature
 
 import cityseq
-from cityseq.parts import read_header
-from cityseq.places import Places, placed
-from cityseq.query import asked
-from cityseq.sources import Reader
+from cityseq.engine.judge import judge, judge_lines
+from cityseq.engine.query import asked
+from cityseq.sources.chunks import FileChunk
+from cityseq.sources.reading import Chunks
+from cityseq.sources.regular import RegularFile, regular_file
 
 READ = os.preadv
 
@@ -31,60 +32,69 @@ def failing_at(place):
     return mock.patch("os.preadv", read)
 
 
-def cut(path, size, line_limit):
-    """The header, the parts that are found by their places, and what they leave."""
-    with open(path, "rb") as file:
-        header, _ = read_header(Reader(file), line_limit)
-        source = placed(file)
-        places = Places(source, len(header), size, line_limit)
-        found = places.parts() if header.endswith(b"\n") else ()
-        parts = [(bytes(part), fault) for part, fault in (source.read(*ends) for ends in found)]
-        file.seek(places.begin)
-        return header, parts, file.read()
+def few_at_once(test):
+    """Reads only a little before it knows the header, so that short files have chunks too."""
+    patch = mock.patch("cityseq.sources.reading.PIECE", 16)
+    patch.start()
+    test.addCleanup(patch.stop)
+
+
+def cut(path, size, line_limit, keep_going=False):
+    """The header, and the parts of each chunk."""
+    work = asked("check", line_limit=line_limit, keep_going=keep_going)
+    with mock.patch("cityseq.engine.judge.HEADERS", 0):
+        found = list(Chunks(str(path), work, size))
+    parts = [[bytes(part) for _, part in chunk.parts(size)] for chunk in found]
+    return found[0].header, [each for each in parts if each not in ([], [b""])]
 
 
 class Cuts(InFolder):
     """Where files are cut, without the library."""
 
+    def setUp(self):
+        super().setUp()
+        few_at_once(self)
+
     def test_parts_make_the_file_again(self):
         for seed in range(150):
             text = support.stream_by_chance(seed)
             path = self.file(text)
+            longest = max(map(len, text.split(b"\n"))) + 1
             for size in (1, 10, 300, 10_000):
-                header, parts, rest = cut(path, size, 5_000)
-                self.assertEqual(header + b"".join(part for part, _ in parts) + rest, text)
-                self.assertTrue(
-                    all(fault is None and part.endswith(b"\n") for part, fault in parts)
-                )
-                self.assertTrue(
-                    all(len(part) <= size or part.count(b"\n") == 1 for part, _ in parts)
-                )
-                if header.endswith(b"\n"):
-                    self.assertLessEqual(len(rest), max(size, 5_000))
+                header, found = cut(path, size, 5_000)
+                parts = [part for each in found for part in each]
+                self.assertEqual(header + b"".join(parts), text)
+                self.assertTrue(all(part.endswith(b"\n") for part in parts[:-1]))
+                most = 1.25 * max(size, 4 * longest)  # a short rest is not a part of its own
+                self.assertTrue(all(len(part) <= most for part in parts))
 
     def test_parts_are_as_long_as_asked(self):
-        path = self.file(b"h\n" + b"abcd\n" * 7 + b"ab")
-        parts = [b"abcd\n" * 2] * 3
-        self.assertEqual(
-            cut(path, 13, 50), (b"h\n", [(part, None) for part in parts], b"abcd\nab")
-        )
+        path, line = self.file(b"h\n" + b"abcd\n" * 7 + b"ab"), b"abcd\n"
+        lines = [[line * 3], [line * 3], [line + b"ab"]]
+        self.assertEqual(cut(path, 13, 50), (b"h\n", lines))
 
-    def test_parts_up_to_an_end(self):
-        path = self.file(b"a\n" * 5 + b"b" * 20 + b"\n" + b"c\n" * 10)
-        two, line = [b"a\n" * 2] * 2, b"b" * 20 + b"\n"
-        for end, wanted in (
-            (0, []),
-            (2, [b"a\n"]),
-            (8, two),
-            (10, two + [b"a\n"]),
-            (31, two + [b"a\n", line]),
-            (37, two + [b"a\n", line] + [b"c\n" * 2, b"c\n"]),
-        ):
-            with open(path, "rb") as file, self.subTest(end=end):
-                source = placed(file)
-                places = Places(source, 0, 4, 50, end)
-                parts = [bytes(source.read(*ends)[0]) for ends in places.parts()]
-                self.assertEqual((parts, places.begin), (wanted, end))
+    def test_lines_begin_between_the_places_of_a_chunk(self):
+        text = b"a\n" * 5 + b"b" * 20 + b"\n" + b"\n" + b"cd\n" * 5 + b"e"
+        path = self.file(text)
+        begins = [0, *(place + 1 for place, sign in enumerate(text) if sign == 10)]
+        with open(path, "rb") as file:
+            source = RegularFile(file.fileno())
+        for begin in range(len(text)):
+            for end in range(begin + 1, len(text) + 1):
+                for size in (1, 4, 100):
+                    chunk = FileChunk(
+                        "f", b"", begin, is_first=begin == 0, end=end, source=source, line_limit=50
+                    )
+                    first, last = (
+                        min((each for each in begins if each >= place), default=len(text))
+                        for place in (begin, end)
+                    )
+                    parts = [(place, bytes(part)) for place, part in chunk.parts(size)]
+                    told = begin, end, size
+                    self.assertEqual(b"".join(part for _, part in parts), text[first:last], told)
+                    for place, part in parts:
+                        self.assertEqual(text[place : place + len(part)], part, told)
+                        self.assertIn(place, begins, told)
 
     def test_a_text_of_its_own(self):
         """It has the same bytes, also by short reads, and those before a fault."""
@@ -97,14 +107,14 @@ class Cuts(InFolder):
             return look(descriptor, min(count, 7, 900 - begin), begin)
 
         with open(path, "rb") as file:
-            source = placed(file)
+            source = regular_file(file)
             for begin, end in ((0, 0), (0, 1_024), (3, 700), (1_000, 2_000), (2_000, 3_000)):
-                part, none = source.text(begin, end)
+                part, none = source.read_own(begin, end)
                 self.assertEqual((type(part), none), (bytes, None))
                 self.assertEqual(part, bytes(source.read(begin, end)[0]))
             with mock.patch("os.pread", short):
-                self.assertEqual(source.text(0, 800), (bytes(source.read(0, 800)[0]), None))
-                self.assertEqual(source.text(0, 901), (bytes(source.read(0, 900)[0]), fault))
+                self.assertEqual(source.read_own(0, 800), (bytes(source.read(0, 800)[0]), None))
+                self.assertEqual(source.read_own(0, 901), (bytes(source.read(0, 900)[0]), fault))
 
     def test_ends_far_from_where_they_are_looked_for(self):
         lines = [
@@ -129,75 +139,87 @@ class Cuts(InFolder):
         ]
         path = self.file(b"h\n" + b"".join(lines) + b"z" * 100)
         for size in (65_536, 300_000, 1_000_000):
-            _, parts, rest = cut(path, size, 8_388_608)
+            _, found = cut(path, size, 8_388_608)
+            parts = [part for each in found for part in each]
+            self.assertEqual(b"".join(parts), b"".join(lines) + b"z" * 100)
+            self.assertTrue(all(part.endswith(b"\n") for part in parts[:-1]))
+            self.assertTrue(all(len(part) <= 1.25 * max(size, 4 * 2_500_000) for part in parts))
+
+    def test_a_line_that_is_too_long_is_cut(self):
+        path = self.file(b"h\na\n" + b"b" * 200 + b"\nc\n")
+        self.assertEqual(cut(path, 4, 200)[1], [[b"a\n", b"b" * 200 + b"\n"], [b"c\n"]])
+        for limit, length in ((49, 52), (9, 12)):
+            (first, line), *others = cut(path, 4, limit)[1]
+            self.assertEqual((first, line, others), (b"a\n", b"b" * length, [[b"c\n"]]))
             self.assertEqual(
-                b"".join(part for part, _ in parts) + rest, b"".join(lines) + b"z" * 100
+                cut(path, 4, limit, True)[1], [[b"a\n", b"b" * length + b"\n"], [b"c\n"]]
             )
-            self.assertTrue(all(len(part) <= size or part.count(b"\n") == 1 for part, _ in parts))
-            self.assertLess(len(rest), size + 100)
 
-    def test_a_line_that_is_too_long_is_left(self):
-        path = self.file(b"h\na\n" + b"b" * 50 + b"\nc\n")
-        self.assertEqual(
-            cut(path, 4, 50), (b"h\n", [(b"a\n", None), (b"b" * 50 + b"\n", None)], b"c\n")
-        )
-        self.assertEqual(cut(path, 4, 49), (b"h\n", [(b"a\n", None)], b"b" * 50 + b"\nc\n"))
-
-    def test_a_place_that_cannot_be_read_is_left(self):
-        path, text = self.file(HEADER + PLAIN * 50), PLAIN * 50
+    def test_an_end_that_cannot_be_read(self):
+        path = self.file(HEADER + PLAIN * 50)
         with mock.patch("os.pread", side_effect=OSError(5, "Input/output error")):
-            self.assertEqual(cut(path, 1_000, 5_000), (HEADER, [], text))
             for jobs in (1, 2):
-                result = cityseq.check(path, part_size=1_000, jobs=jobs)
-                self.assertEqual((result.status, result.features), (0, 50))
+                with self.assertRaises(cityseq.ReadFault) as raised:
+                    cityseq.check(path, part_size=1_000, jobs=jobs)
+                self.assertEqual(raised.exception.result.lines, 1 + 1_000 // len(PLAIN))
 
     def test_what_has_no_places(self):
-        self.assertIsNone(placed(io.BytesIO(b"h\n")))
+        self.assertIsNone(regular_file(io.BytesIO(b"h\n")))
         left, right = os.pipe()
         os.close(right)
         with open(left, "rb") as pipe:
-            self.assertIsNone(placed(pipe))
+            self.assertIsNone(regular_file(pipe))
 
     def test_a_file_that_is_cut_short(self):
         path = self.file(b"h\n" + b"a\n" * 100)
         with open(path, "rb") as file:
-            held = placed(file)
+            held = regular_file(file)
             os.truncate(path, 50)
-            self.assertEqual([bytes(held.read(*ends)[0]) for ends in ((0, 10), (46, 60), (60, 70))],
-                             [b"h\n" + b"a\n" * 4, b"a\n" * 2, b""])
+            self.assertEqual(
+                [bytes(held.read(*ends)[0]) for ends in ((0, 10), (46, 60), (60, 70))],
+                [b"h\n" + b"a\n" * 4, b"a\n" * 2, b""],
+            )
 
 
 class Counted(InFolder):
-    """Parts of which nothing but counts is told."""
+    """Chunks that are judged in parts."""
 
-    def counted(self, text, size, most):
-        """What is told of parts, as long as something is."""
-        work, path = asked("check"), self.file(HEADER + text)
-        with open(path, "rb") as file:
-            places = Places(placed(file), len(HEADER), size, work.line_limit)
-            told = list(iter(lambda: places.counted(work, HEADER, most), None))
-        return [
-            (answer.lines, answer.kept, answer.size, answer.parts) for answer in told
-        ], places.begin - len(HEADER)
+    def setUp(self):
+        super().setUp()
+        few_at_once(self)
 
-    def test_valid_parts_are_joined(self):
-        length = len(PLAIN)
-        text = PLAIN * 10 + b"{"
-        self.assertEqual(
-            self.counted(text, 3 * length, 5 * length),
-            ([(7, 6, 6 * length, 1), (4, 3, 3 * length, 1)], 9 * length),
-        )
-        self.assertEqual(
-            self.counted(text, 3 * length, 1), ([(4, 3, 3 * length, 1)] * 3, 9 * length)
-        )
+    def test_the_answers_for_parts_are_joined(self):
+        broken, work = b"x" * (len(PLAIN) - 1) + b"\n", asked("check", keep_going=True)
+        for text in (
+            PLAIN * 10 + b"{",
+            PLAIN * 4 + broken + PLAIN * 5 + broken,
+            broken,
+            b"{" * 300,
+        ):
+            path = self.file(HEADER + text)
+            whole = judge_lines(work, "f", HEADER, text, True)
+            with open(path, "rb") as file:
+                chunk = FileChunk(
+                    "f",
+                    HEADER,
+                    len(HEADER),
+                    is_first=True,
+                    end=len(HEADER) + len(text),
+                    source=RegularFile(file.fileno()),
+                    line_limit=work.line_limit,
+                )
+            for size in (1, len(PLAIN), 3 * len(PLAIN), 5_000):
+                answer = judge(chunk, work, size)
+                self.assertEqual(bytes(answer.told), bytes(whole.told))
+                self.assertEqual(list(answer.reports), list(whole.reports))
+                self.assertEqual((list(answer.codes), answer.size), (list(whole.codes), len(text)))
 
-    def test_parts_that_are_not_valid_are_left(self):
-        length, broken = len(PLAIN), b"x" * (len(PLAIN) - 1) + b"\n"
-        self.assertEqual(
-            self.counted(PLAIN * 4 + broken + PLAIN * 5, 2 * length, 99 * length),
-            ([(5, 4, 4 * length, 1)], 4 * length),
-        )
-        self.assertEqual(self.counted(broken + PLAIN * 5, 2 * length, 99 * length), ([], 0))
+    def test_a_chunk_ends_with_the_first_line_that_is_not_valid(self):
+        text = PLAIN * 4 + b"x\n" + PLAIN * 5
+        path, work = self.file(HEADER + text), asked("check")
+        (chunk,) = Chunks(str(path), work)
+        answer = judge(chunk, work, 2 * len(PLAIN))
+        self.assertEqual((answer.status, answer.lines, answer.end.line), (1, 5, 6))
 
     def test_files_are_counted_as_their_bytes(self):
         for seed in range(200):
@@ -235,6 +257,10 @@ class Counted(InFolder):
 
 class Runs(InFolder):
     """What comes of files."""
+
+    def setUp(self):
+        super().setUp()
+        few_at_once(self)
 
     def filtered(self, source, **options):
         output = io.BytesIO()
@@ -278,8 +304,10 @@ class Runs(InFolder):
                     )
                     for source in (text, self.file(text))
                 )
-                self.assertEqual((one.lines, one.features, one.types, one.lods, one.box),
-                                 (many.lines, many.features, many.types, many.lods, many.box))
+                self.assertEqual(
+                    (one.lines, one.features, one.types, one.lods, one.box),
+                    (many.lines, many.features, many.types, many.lods, many.box),
+                )
 
     def test_lods_by_escapes(self):
         path = self.file(HEADER + feature("a").replace(b'"lod"', b'"l\\u006fd"') * 3)
@@ -297,7 +325,7 @@ class Runs(InFolder):
             len(HEADER) + 1_100 * length + 7,
             len(HEADER) + 3_000 * length + 7,
         ):
-            whole = text[:text.rfind(b"\n", 0, place) + 1]
+            whole = text[: text.rfind(b"\n", 0, place) + 1]
             for keep_going in (False, True):
                 wanted, result = self.filtered(whole, keep_going=keep_going)
                 for size, jobs in ((length * 500, 1), (length * 1_000, 3), (200_000, 2)):
@@ -332,7 +360,7 @@ class Runs(InFolder):
                 lambda *given, **options: cityseq.filter(*given, io.BytesIO(), **options),
             ):
                 with self.subTest(jobs=jobs, call=call), mock.patch(
-                    "cityseq.places.bytearray", refusing, create=True
+                    "cityseq.engine.memory.bytearray", refusing, create=True
                 ):
                     with self.assertRaises(cityseq.MemoryFault) as raised:
                         call(path, part_size=2 * len(PLAIN), jobs=jobs)

@@ -5,16 +5,16 @@ from __future__ import annotations
 import decimal
 import json
 import sys
+from collections.abc import Iterable, Iterator
 from decimal import Decimal
-from typing import Any, Iterator, List, Optional, Tuple
+from typing import Any
 
 from .tally import Range
 
-Extent = Optional[Tuple[Decimal, Decimal]]
-UNITS, GREATEST = (
-    -18,
-    Decimal(10) ** 18,
-)  # a box takes multiples of 10^-18, below 10^18 in size
+Extent = tuple[Decimal, Decimal] | None
+UNITS, GREATEST = -18, Decimal(10) ** 18  # a box takes multiples of 10^-18, below 10^18 in size
+DIGITS = 200  # of a world coordinate, at most
+ENOUGH = 800  # digits: more than a number in the middle between two floats has
 NESTED = 1_100  # more arrays and objects than a header may have open at once
 
 
@@ -41,7 +41,7 @@ def read_json(text: str) -> Any:
             sys.setrecursionlimit(limit)
 
 
-def transform_of(header: bytes) -> Tuple[List[Decimal], List[Decimal]]:
+def transform_of(header: bytes) -> tuple[list[Decimal], list[Decimal]]:
     """Returns the scale and the translation of a valid header."""
     transform = read_json(header.decode("utf-8"))["transform"]
     return transform["scale"], transform["translate"]
@@ -58,7 +58,7 @@ def normal(number: Decimal) -> str:
     return f"{'-' if sign else ''}{short}e{int(power) + len(text) - len(short)}"
 
 
-def _edges(vertices: Tuple[int, int], scale: Decimal, shift: Decimal) -> Iterator[Decimal]:
+def _edges(vertices: tuple[int, int], scale: Decimal, shift: Decimal) -> Iterator[Decimal]:
     """Yields the least and the greatest world coordinate, by exact sums. Raises `decimal.Inexact`
     if they are too long."""
     exact = decimal.Context(
@@ -70,8 +70,8 @@ def _edges(vertices: Tuple[int, int], scale: Decimal, shift: Decimal) -> Iterato
 
 
 def extent_of(
-    ranges: Tuple[Range, Range, Range], scale: List[Decimal], translate: List[Decimal]
-) -> Tuple[Extent, Extent, Extent]:
+    ranges: tuple[Range, Range, Range], scale: list[Decimal], translate: list[Decimal]
+) -> tuple[Extent, Extent, Extent]:
     """Returns the least and the greatest world coordinate on x, y and z, exactly. None if there is
     no vertex. Raises `decimal.DecimalException` if one has more than 200 digits."""
     extents = (
@@ -79,6 +79,37 @@ def extent_of(
         for axis, vertices in enumerate(ranges)
     )
     return tuple(extents)  # type: ignore[return-value]
+
+
+def _rounding(digits: int, rounding: str) -> decimal.Context:
+    """Returns a context that raises nothing: a number that is too great becomes infinite."""
+    least, greatest = decimal.MIN_EMIN, decimal.MAX_EMAX
+    return decimal.Context(digits, rounding, least, greatest, traps=[])
+
+
+def _outer(vertices: tuple[int, int], scale: Decimal, shift: Decimal) -> tuple[Decimal, Decimal]:
+    down, up = _rounding(DIGITS, decimal.ROUND_FLOOR), _rounding(DIGITS, decimal.ROUND_CEILING)
+    low, high = vertices if not scale.is_signed() else vertices[::-1]
+    return down.fma(Decimal(low), scale, shift), up.fma(Decimal(high), scale, shift)
+
+
+def outer_extent_of(
+    ranges: tuple[Range, Range, Range], scale: list[Decimal], translate: list[Decimal]
+) -> tuple[Extent, Extent, Extent]:
+    """Does the same as `extent_of`. A coordinate of more than 200 digits is rounded outward."""
+    x, y, z = (
+        None if vertices is None else _outer(vertices, scale[axis], translate[axis])
+        for axis, vertices in enumerate(ranges)
+    )
+    return x, y, z
+
+
+def nearest_floats(vertices: Iterable[int], scale: Decimal, shift: Decimal) -> list[float]:
+    """Returns the world coordinates of vertices as the nearest floats. A coordinate that is greater
+    than all floats is infinite."""
+    # this rounding leaves a digit that shows on which side of the middle of two floats a sum is
+    context = _rounding(ENOUGH, decimal.ROUND_05UP)
+    return [float(context.fma(Decimal(vertex), scale, shift)) for vertex in vertices]
 
 
 def plain(number: Decimal) -> str:
@@ -99,8 +130,8 @@ def _fits(number: Decimal) -> bool:
 
 
 def box_of(
-    ranges: Tuple[Range, Range, Range], scale: List[Decimal], translate: List[Decimal]
-) -> Optional[str]:
+    ranges: tuple[Range, Range, Range], scale: list[Decimal], translate: list[Decimal]
+) -> str | None:
     """Returns the box around all vertices, as `--bbox` takes it. None if there is no vertex, or if
     a query cannot have the box."""
     if ranges[0] is None or ranges[1] is None:

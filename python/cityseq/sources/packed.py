@@ -11,9 +11,9 @@ import io
 import struct
 import zlib
 from importlib import import_module
-from typing import IO, Any, List, Optional, Tuple, Type, Union
+from typing import IO, Any
 
-Text = Union[bytes, bytearray, memoryview]
+Text = bytes | bytearray | memoryview
 
 READ = 1 << 17  # bytes of an archive that are read at once
 READ_ZSTD = 1 << 11  # fewer, since all that they unpack to is in memory
@@ -35,24 +35,24 @@ class Packing(enum.Enum):
         return self.value[0]
 
 
-def packing_by_name(name: str) -> Optional[Packing]:
+def packing_by_name(name: str) -> Packing | None:
     """Returns how a file of this name is packed, or None."""
     return next((packing for packing in Packing if name.endswith(packing.value[1])), None)
 
 
-def packing_of(head: bytes, name: str) -> Optional[Packing]:
+def packing_by_mark(head: bytes) -> Packing | None:
+    """Returns how a file with these first bytes is packed, or None."""
+    return next((packing for packing in Packing if head.startswith(packing.mark)), None)
+
+
+def packing_of(head: bytes, name: str) -> Packing | None:
     """Returns how a file with these first bytes and this name is packed, or None."""
-    return next(
-        (packing for packing in Packing if head.startswith(packing.mark)), None
-    ) or packing_by_name(name)
+    return packing_by_mark(head) or packing_by_name(name)
 
 
-def _inflating() -> Any:
-    """Returns a module with `decompressobj`: isal if it is there, because it is faster."""
-    try:
-        return import_module("isal.isal_zlib")
-    except ImportError:
-        return zlib
+def may_be_packed(head: bytes) -> bool:
+    """Whether these first bytes are too few to show whether a file is packed."""
+    return any(packing.mark.startswith(head) and packing.mark != head for packing in Packing)
 
 
 def _zstandard() -> Any:
@@ -65,17 +65,13 @@ def _zstandard() -> Any:
 class Gzip:
     """Unpacks the members of a gzip archive."""
 
-    def __init__(self) -> None:
-        self._inflate = _inflating()
-        self.faults: Tuple[Type[Exception], ...] = (
-            zlib.error,
-            getattr(self._inflate, "error", zlib.error),
-        )
-        self.read = READ
+    faults: tuple[type[Exception], ...] = (zlib.error,)
+    read = READ
 
-    def member(self) -> Any:
+    @staticmethod
+    def member() -> Any:
         """Returns an object that unpacks one more member."""
-        return self._inflate.decompressobj(wbits=31)
+        return zlib.decompressobj(wbits=31)
 
     @staticmethod
     def more(member: Any, packed: bytes, most: int) -> bytes:
@@ -87,11 +83,12 @@ class Gzip:
 class _Zstd:
     """Unpacks the frames of a Zstandard archive."""
 
+    read = READ_ZSTD
+
     def __init__(self) -> None:
         zstandard = _zstandard()
         self._context = zstandard.ZstdDecompressor()
-        self.faults: Tuple[Type[Exception], ...] = (zstandard.ZstdError,)
-        self.read = READ_ZSTD
+        self.faults: tuple[type[Exception], ...] = (zstandard.ZstdError,)
 
     def member(self) -> Any:
         """Returns an object that unpacks one more frame."""
@@ -105,18 +102,24 @@ class _Zstd:
 
 
 class Unpacker(io.RawIOBase):
-    """The text of a packed file. One member of the file follows another. `taken` is the number of
-    bytes of the file that were read."""
+    """The text of a packed file. One member of the file follows another.
 
-    def __init__(self, file: IO[bytes], packing: Packing) -> None:
+    Attributes:
+        packing: How the file is packed.
+        taken: How many bytes of the file were read.
+    """
+
+    def __init__(self, file: IO[bytes], packing: Packing, head: bytes = b"") -> None:
+        """Takes the file, how it is packed, and the bytes of it that were read before."""
         super().__init__()
-        self._file, self._mark = file, packing.mark
-        self._kind: Union[Gzip, _Zstd] = Gzip() if packing is Packing.GZIP else _Zstd()
+        self._file, self._mark, self.packing = file, packing.mark, packing
+        self._read: Any = getattr(file, "read1", file.read)
+        self._kind: Gzip | _Zstd = Gzip() if packing is Packing.GZIP else _Zstd()
         self._member: Any = None
         self._has_begun = False
-        self._packed = b""
+        self._packed = head
         self._text = b""
-        self.taken = 0
+        self.taken = len(head)
 
     def fileno(self) -> int:
         """The descriptor of the packed file."""
@@ -173,7 +176,7 @@ class Unpacker(io.RawIOBase):
 
     def _fill(self) -> bool:
         """Reads some more. Returns False at the end of the file."""
-        piece = self._file.read(self._kind.read)
+        piece = self._read(self._kind.read)
         self._packed += piece
         self.taken += len(piece)
         return bool(piece)
@@ -230,7 +233,7 @@ class Packer(io.RawIOBase):
     def __init__(self, file: IO[bytes], packing: Packing, level: int = LEVEL) -> None:
         super().__init__()
         self._file, self._packing, self._level = file, packing, level
-        self._gathered: List[bytes] = []
+        self._gathered: list[bytes] = []
         self._size = 0
 
     def writable(self) -> bool:

@@ -2,11 +2,11 @@
 from __future__ import annotations
 
 from dataclasses import dataclass
-from typing import Dict, FrozenSet, Optional, Tuple
 
-from ._library import LOD_CLASSES, RawTally, library
+from .library import library
+from .structs import LOD_CLASSES, RawTally
 
-Range = Optional[Tuple[int, int]]
+Range = tuple[int, int] | None
 MOST_TEXTS = 4_096  # of LoDs
 MOST_UNASKED = 1_000  # after more than this many texts, none are added
 
@@ -23,21 +23,21 @@ class Tally:
     """
 
     told: RawTally
-    lods: Optional[Dict[str, int]] = None
-    unasked: FrozenSet[str] = frozenset()
+    lods: dict[str, int] | None = None
+    unasked: frozenset[str] = frozenset()
 
     @property
-    def types(self) -> Dict[str, int]:
+    def types(self) -> dict[str, int]:
         """City objects by type, in the order of the table. Types without any are there too."""
         return dict(zip(library().type_names(), self.told.types))
 
     @property
-    def classes(self) -> Dict[str, int]:
+    def classes(self) -> dict[str, int]:
         """Geometries by the class of their LoD. Classes without any are there too."""
         return dict(zip(LOD_CLASSES, self.told.lods))
 
     @property
-    def ranges(self) -> Tuple[Range, Range, Range]:
+    def ranges(self) -> tuple[Range, Range, Range]:
         """The least and the greatest vertex on x, y and z. None if there is no vertex."""
         x, y, z = ((each.least, each.greatest) if each.some else None for each in self.told.ranges)
         return x, y, z
@@ -54,7 +54,7 @@ class Tally:
         )
 
 
-def _added(one: Dict[str, int], other: Dict[str, int]) -> Dict[str, int]:
+def _added(one: dict[str, int], other: dict[str, int]) -> dict[str, int]:
     both = dict(one)
     for name, count in other.items():
         both[name] = both.get(name, 0) + count

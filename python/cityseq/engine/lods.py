@@ -13,11 +13,12 @@ from __future__ import annotations
 import json
 import re
 from collections import Counter
+from collections.abc import Iterable, Iterator
 from dataclasses import dataclass, field, replace
 from functools import lru_cache
-from typing import Any, Dict, FrozenSet, Iterable, Iterator, List, Optional, Tuple
+from typing import Any
 
-from ._library import Text, library, searchable
+from .library import Text, library, searchable
 from .query import Work, lines_of
 from .tally import MOST_TEXTS, Tally
 
@@ -56,10 +57,10 @@ class Found:
     """Members that may be an LoD: how many there are, and how many lines have each text."""
 
     members: int = 0
-    lines: Dict[str, int] = field(default_factory=dict)
+    lines: dict[str, int] = field(default_factory=dict)
 
 
-def _members(text: Any, begin: int, end: int) -> Iterator[Tuple[int, bytes]]:
+def _members(text: Any, begin: int, end: int) -> Iterator[tuple[int, bytes]]:
     """Yields the place of each member that may be an LoD, and what follows its name."""
     find, starts, value = text.find, text.startswith, b"\n"
     place, window = begin, WINDOWS[0]
@@ -83,11 +84,11 @@ def _members(text: Any, begin: int, end: int) -> Iterator[Tuple[int, bytes]]:
         yield name, value
 
 
-def _in_one_pass(text: Any, begin: int, end: int) -> Optional[Found]:
+def _in_one_pass(text: Any, begin: int, end: int) -> Found | None:
     """Finds all members that may be an LoD. Returns None if they have too many texts."""
     found, line_end = Found(), begin - 1
-    texts: Dict[bytes, str] = {}
-    counted_at: Dict[str, int] = {}  # the end of the line where a text was counted last
+    texts: dict[bytes, str] = {}
+    counted_at: dict[str, int] = {}  # the end of the line where a text was counted last
     for name, value in _members(text, begin, end):
         found.members += 1
         if name > line_end:
@@ -116,7 +117,7 @@ def _has_templates(header: bytes) -> bool:
     return "geometry-templates" in read_json(header.decode("utf-8"))
 
 
-def _passed(header: bytes, part: Text) -> Optional[Found]:
+def _passed(header: bytes, part: Text) -> Found | None:
     """Returns the members of a part. None if one pass cannot find them, or not count them."""
     text, begin, end = searchable(part)
     if text.find(b"\\", begin, end) >= 0 and ESCAPED_LETTER.search(text, begin, end):
@@ -135,7 +136,7 @@ def spelled(text: Text) -> "Counter[bytes]":
     return Counter(found.group(1) for found in pattern.finditer(text))
 
 
-def texts_of(spellings: Dict[bytes, int]) -> Tuple[List[str], FrozenSet[str]]:
+def texts_of(spellings: dict[bytes, int]) -> tuple[list[str], frozenset[str]]:
     """Returns the texts of spellings, the most frequent first. The second set has the texts that
     no query can ask for."""
     counts: "Counter[str]" = Counter()
@@ -148,23 +149,23 @@ def texts_of(spellings: Dict[bytes, int]) -> Tuple[List[str], FrozenSet[str]]:
     return list(filter(_can_be_asked, texts)), _unasked(texts)
 
 
-def _unasked(texts: Iterable[str]) -> FrozenSet[str]:
+def _unasked(texts: Iterable[str]) -> frozenset[str]:
     return frozenset(text for text in texts if not _can_be_asked(text))
 
 
-def _features_with(texts: List[str], work: Work, header: bytes, part: Text) -> int:
+def _features_with(texts: list[str], work: Work, header: bytes, part: Text) -> int:
     """Returns how many features have one of these LoDs."""
     request = replace(work, lods=lines_of(texts)).request(header, part)
     return int(library().tally(header, part, request, 0)[2].features)
 
 
-def _groups(texts: List[str]) -> List[List[str]]:
+def _groups(texts: list[str]) -> list[list[str]]:
     return [[text] for text in texts[:ALONE]] + ([texts[ALONE:]] if texts[ALONE:] else [])
 
 
 def _counted(
-    texts: List[str], work: Work, header: bytes, part: Text
-) -> Iterator[Optional[Tuple[str, int]]]:
+    texts: list[str], work: Work, header: bytes, part: Text
+) -> Iterator[tuple[str, int] | None]:
     """Yields each text that is an LoD, with its features. Yields None after too many calls."""
     groups, calls = _groups(texts), 0
     while groups:

@@ -2,41 +2,25 @@
 from __future__ import annotations
 
 import math
-import struct
-from math import gcd
-from typing import TYPE_CHECKING, Callable, Iterable, List, Optional, Sequence, Tuple
+from collections.abc import Iterable, Sequence
+from math import gcd, nextafter
+from typing import TYPE_CHECKING
 
 from .tally import Range
 
 if TYPE_CHECKING:
     from decimal import Decimal
 
-Interval = Tuple[float, float]
+Interval = tuple[float, float]
 DIGITS = 53  # of a float, as bits
 PLACES = 18  # a fixed number is a multiple of 10^-18 and below 10^18 in size
-_DOUBLE, _BITS = struct.Struct("<d"), struct.Struct("<q")
-
-
-def _below(value: float) -> float:
-    """Returns the greatest float that is less."""
-    if value == 0:
-        return -5e-324
-    bits: int = _BITS.unpack(_DOUBLE.pack(value))[0]
-    lower: float = _DOUBLE.unpack(_BITS.pack(bits + (-1 if value > 0 else 1)))[0]
-    return lower
-
-
-# Python 3.8 has no `nextafter`
-_next: Callable[[float, float], float] = getattr(
-    math, "nextafter", lambda value, to: _below(value) if to < 0 else -_below(-value)
-)
 
 
 def floor_of(count: int, unit: int) -> float:
     """Returns the greatest float that is at most `count / unit`, which is below 2^1000 in size."""
     value = count / unit  # Python rounds the quotient of two whole numbers to the nearest float
     numerator, denominator = value.as_integer_ratio()
-    return value if numerator * unit <= count * denominator else _below(value)
+    return value if numerator * unit <= count * denominator else nextafter(value, -math.inf)
 
 
 def ceiling_of(count: int, unit: int) -> float:
@@ -44,7 +28,7 @@ def ceiling_of(count: int, unit: int) -> float:
     return -floor_of(-count, unit)
 
 
-def _shift(counts: Sequence[int], unit: int) -> Optional[int]:
+def _shift(counts: Sequence[int], unit: int) -> int | None:
     """Returns by how many bits these counts of 1 / unit are shifted, so that each has as many bits
     before the point as a float has. None if they differ in that, or are not positive."""
     least, greatest = min(counts, default=0), max(counts, default=0)
@@ -58,7 +42,7 @@ def _shift(counts: Sequence[int], unit: int) -> Optional[int]:
     return None
 
 
-def floors_of(counts: Sequence[int], unit: int) -> List[float]:
+def floors_of(counts: Sequence[int], unit: int) -> list[float]:
     """Returns `floor_of` of each count."""
     shift = _shift(counts, unit)
     if shift is not None:
@@ -67,12 +51,12 @@ def floors_of(counts: Sequence[int], unit: int) -> List[float]:
     return [
         value
         if (ratio := (value := count / unit).as_integer_ratio())[0] * unit <= count * ratio[1]
-        else _next(value, -math.inf)
+        else nextafter(value, -math.inf)
         for count in counts
     ]
 
 
-def ceilings_of(counts: Sequence[int], unit: int) -> List[float]:
+def ceilings_of(counts: Sequence[int], unit: int) -> list[float]:
     """Returns `ceiling_of` of each count."""
     shift = _shift(counts, unit)
     if shift is not None:
@@ -81,12 +65,12 @@ def ceilings_of(counts: Sequence[int], unit: int) -> List[float]:
     return [
         value
         if (ratio := (value := count / unit).as_integer_ratio())[0] * unit >= count * ratio[1]
-        else _next(value, math.inf)
+        else nextafter(value, math.inf)
         for count in counts
     ]
 
 
-def units_of(number: "Decimal") -> Optional[int]:
+def units_of(number: "Decimal") -> int | None:
     """Returns how many times 10^-18 a fixed number is. None for any other number."""
     sign, digits, exponent = number.as_tuple()
     text = "".join(map(str, digits))
@@ -118,7 +102,7 @@ class Axis:
 
     def intervals(
         self, least: Iterable[int], greatest: Iterable[int]
-    ) -> Tuple[List[float], List[float]]:
+    ) -> tuple[list[float], list[float]]:
         """Returns the least and the greatest world coordinates of many pairs of vertices, rounded
         outward."""
         scale, shift = self._scale, self._shift
@@ -128,6 +112,12 @@ class Axis:
             low, high = high, low
         return floors_of(low, self._unit), ceilings_of(high, self._unit)
 
+    def nearest(self, vertices: Iterable[int]) -> list[float]:
+        """Returns the world coordinates of vertices as the nearest floats."""
+        scale, shift, unit = self._scale, self._shift, self._unit
+        # Python rounds the quotient of two whole numbers to the nearest float
+        return [(vertex * scale + shift) / unit for vertex in vertices]
+
 
 class World:
     """The map from vertices to world coordinates that a transform makes.
@@ -135,7 +125,7 @@ class World:
     An axis is None if its scale or translation is not a fixed number. No query can have a box then.
     """
 
-    def __init__(self, scale: List["Decimal"], translate: List["Decimal"]) -> None:
+    def __init__(self, scale: list["Decimal"], translate: list["Decimal"]) -> None:
         self.x, self.y, self.z = (
             None if None in units else Axis(*units)  # type: ignore[arg-type]
             for units in zip(map(units_of, scale), map(units_of, translate))
@@ -147,7 +137,7 @@ class World:
         return self.x is not None and self.y is not None
 
 
-def box_of(text: str) -> Optional[Tuple[Interval, Interval]]:
+def box_of(text: str) -> tuple[Interval, Interval] | None:
     """Returns a box `minx,miny,maxx,maxy` as two intervals, rounded outward, or None."""
     from decimal import Decimal, InvalidOperation
 

@@ -1,16 +1,17 @@
-"""Threads that judge parts. Each thread has a stack of a fixed size. Threads start one by one, when
-there is work for them.
+"""Threads that make calls. Each has a stack of a fixed size, and starts when there is work for it.
 
-Python's own pool gives a thread the stack that `ulimit -s` sets, which may be too small. It also
-waits for ever if memory is refused before a thread has begun. Here a thread that does not begin
-means fewer threads. If none begins, the thread that asks for an answer does the work."""
+`ThreadPoolExecutor` does not fit. It waits for ever if memory is refused before a thread has begun,
+and it makes no call if no thread begins. Here a thread that does not begin means fewer threads. If
+none begins, the thread that asks for an answer does the work."""
 from __future__ import annotations
 
 import _thread
+import atexit
 import resource
 import threading
-from queue import SimpleQueue
-from typing import Any, Callable, Generic, List, Optional, TypeVar
+from collections.abc import Callable
+from queue import Empty, SimpleQueue
+from typing import Any, Generic, TypeVar
 
 STACK = 4 << 20  # bytes: a call of the library takes up to 2 MB, and its callers in Python the rest
 PATIENCE = 2.0  # seconds that a thread has to begin, and between two looks whether one is alive
@@ -34,41 +35,35 @@ def _has_stack() -> bool:
     """Whether the calling thread surely has a stack of that size. It must be the first thread of
     the process, and the system must allow the size."""
     limit = resource.getrlimit(resource.RLIMIT_STACK)[0]
-    return threading.current_thread() is threading.main_thread() and (
-        limit == resource.RLIM_INFINITY or limit >= STACK
-    )
+    is_first = threading.current_thread() is threading.main_thread()
+    return is_first and (limit == resource.RLIM_INFINITY or limit >= STACK)
 
 
 class Job(Generic[T]):
-    """A call that a thread of a crew makes once, and its result."""
+    """A call that is made once, and its result. Its locks need no memory when the call ends."""
 
-    __slots__ = ("_call", "_crew", "_value", "_fault", "_taken", "_open")
-
-    def __init__(self, call: Callable[[], T], crew: "Crew") -> None:
-        self._call: Optional[Callable[[], T]] = call
-        self._crew = crew
+    def __init__(self, call: Callable[[], T], pool: Pool) -> None:
+        self._call, self._pool = call, pool
         self._value: Any = None
-        self._fault: Optional[BaseException] = None
+        self._fault: BaseException | None = None
         self._taken, self._open = _thread.allocate_lock(), _thread.allocate_lock()
         self._open.acquire()
 
-    def run(self) -> bool:
-        """Makes the call. Returns False if a thread has begun it before."""
+    def run(self) -> None:
+        """Makes the call, unless a thread has begun it before."""
         if not self._taken.acquire(False):
-            return False
+            return
         try:
-            if self._call is not None:
-                self._value = self._call()
+            self._value = self._call()
         except BaseException as fault:  # `result` raises it
             self._fault = fault
         finally:
-            self._call = None
+            del self._call
             self._open.release()
-        return True
 
-    def cancel(self) -> None:
-        """Keeps all threads from beginning the call."""
-        self._taken.acquire(False)
+    def cancel(self) -> bool:
+        """Keeps all threads from beginning the call. Returns whether none has begun it."""
+        return self._taken.acquire(False)
 
     def done(self) -> bool:
         """Whether the call has been made."""
@@ -77,41 +72,47 @@ class Job(Generic[T]):
     def result(self) -> T:
         """Returns what the call returns, or raises what it raises. If no thread is alive to make
         the call, this thread makes it."""
-        while not self._open.acquire(timeout=PATIENCE if self._crew.has_threads() else 0):
-            if not self._crew.has_threads():
-                self._run_here()
+        while not self._open.acquire(timeout=PATIENCE if self._pool.has_threads() else 0):
+            if not self._pool.has_threads():
+                if not _has_stack():
+                    raise MemoryError("no thread is there")
+                self.run()
         self._open.release()
         if self._fault is not None:
             raise self._fault
         value: T = self._value
         return value
 
-    def _run_here(self) -> None:
-        if not _has_stack() or not self.run():
-            raise MemoryError("no thread is there")
 
-
-class Crew:
+class Pool:
     """Threads that make calls: at most `most` of them, and never more than there are calls. Leaving
-    a `with` block ends them all."""
+    a `with` block ends them all, and so does the end of the process."""
 
     def __init__(self, most: int) -> None:
-        self._most = most
-        self._jobs: "SimpleQueue[Optional[Job[Any]]]" = SimpleQueue()
-        self._submitted = 0
-        # a lock for each thread that has begun; the thread holds it until it ends
-        self._ends: List[Any] = []
+        self._most, self._submitted = most, 0
+        self._calls: SimpleQueue[Callable[[], None]] = SimpleQueue()
+        self._ends: list[Any] = []  # a lock for each thread, which holds it until it ends
 
-    def __enter__(self) -> "Crew":
+    def __enter__(self) -> Pool:
         return self
 
     def __exit__(self, *_: Any) -> None:
+        """Ends the threads, after the calls that they have begun."""
+        self._drop_calls()
         # one more than there are threads: an interrupt may have come just after one was started,
         # before it was in the list
         for _sign in range(len(self._ends) + 1):
-            self._jobs.put(None)
+            self._calls.put(_thread.exit)
         while self._ends:
             self._ends.pop().acquire()
+        atexit.unregister(self.__exit__)
+
+    def _drop_calls(self) -> None:
+        try:
+            while True:
+                self._calls.get_nowait()
+        except Empty:
+            pass
 
     def has_threads(self) -> bool:
         """Whether a thread is alive."""
@@ -122,48 +123,46 @@ class Crew:
         self._have(1)
         return self.has_threads()
 
-    def _have(self, wanted: int) -> None:
-        """Starts one more thread if there are fewer than `wanted` and than allowed."""
-        if len(self._ends) < min(self._most, wanted) and not self._add():
-            self._most = len(self._ends)
-
-    def submit(self, call: Callable[[], T]) -> "Job[T]":
+    def submit(self, call: Callable[[], T]) -> Job[T]:
         """Passes the call to the threads, and returns its job."""
         job = Job(call, self)
-        self._jobs.put(job)
+        self._calls.put(job.run)
         self._submitted += 1
         self._have(self._submitted)
         return job
 
-    def _add(self) -> bool:
-        """Starts one more thread, and waits until it has begun. If memory is short, a thread may
-        end before that, without an error."""
+    def _have(self, wanted: int) -> None:
+        """Starts one more thread if there are fewer than `wanted` and than allowed. Waits until it
+        has begun: if memory is short, a thread may end before that, without an error."""
+        if len(self._ends) >= min(self._most, wanted):
+            return
+        if not self._ends:
+            # at its end Python stops these threads, and then nothing could wait for them
+            atexit.register(self.__exit__)
         begun, end = _thread.allocate_lock(), _thread.allocate_lock()
         begun.acquire()
         end.acquire()
         try:
             _start(self._work, begun, end)
         except (RuntimeError, MemoryError):
-            return False
-        if not begun.acquire(timeout=PATIENCE):
-            self._jobs.put(None)  # it ends if it begins later
-            return False
-        self._ends.append(end)
-        return True
+            self._most = len(self._ends)
+            return
+        if begun.acquire(timeout=PATIENCE):
+            self._ends.append(end)
+        else:
+            self._calls.put(_thread.exit)  # it ends if it begins later
+            self._most = len(self._ends)
 
     def _work(self, begun: Any, end: Any) -> None:
         begun.release()
         try:
             while True:
-                job = self._jobs.get()
-                if job is None:
-                    return
-                job.run()
+                self._calls.get()()
         finally:
             end.release()
 
 
 def in_thread(call: Callable[[], T]) -> T:
     """Makes a call in a thread with a stack of `STACK` bytes. Returns or raises what it does."""
-    with Crew(1) as crew:
-        return crew.submit(call).result()
+    with Pool(1) as pool:
+        return pool.submit(call).result()

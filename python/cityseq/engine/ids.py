@@ -11,11 +11,12 @@ import io
 import json
 import re
 import threading
+from collections.abc import Callable, Iterable, Iterator
 from functools import lru_cache
 from operator import itemgetter, le
-from typing import Callable, FrozenSet, Iterable, Iterator, List, Optional, Tuple, TypeVar
+from typing import TypeVar
 
-from ._library import Text, leave_untracked, sort_texts
+from .library import Text
 
 MANY = 2_000  # bytes of ids for which this is worthwhile
 LONGER = 32  # if a part is this many times as long as the ids, they take little of the time
@@ -26,9 +27,23 @@ ANYWHERE = re.compile(rb'"id"' + VALUE)
 ESCAPED = re.compile(rb'"(?:i|\\u0069)(?:d|\\u0064)"' + VALUE)
 # How most features begin, up to the id.
 BEGINNING = re.compile(
-    SPACE + rb"\{" + SPACE
-    + rb'(?:"type"' + SPACE + b":" + SPACE + b'"CityJSONFeature"' + SPACE + b"," + SPACE + b")?"
-    + b'"id"' + SPACE + b":" + SPACE + b'"'
+    SPACE
+    + rb"\{"
+    + SPACE
+    + rb'(?:"type"'
+    + SPACE
+    + b":"
+    + SPACE
+    + b'"CityJSONFeature"'
+    + SPACE
+    + b","
+    + SPACE
+    + b")?"
+    + b'"id"'
+    + SPACE
+    + b":"
+    + SPACE
+    + b'"'
 )
 UP_TO_QUOTE = re.compile(b"[\x00-!]")  # the signs that are less than a quote
 MORE = 4  # times as many ids as lines are not too many for a part
@@ -52,7 +67,7 @@ def _even(ids: bytes) -> int:
 
 
 @lru_cache(maxsize=2)
-def _lengths(ids: bytes) -> Tuple[int, bool]:
+def _lengths(ids: bytes) -> tuple[int, bool]:
     """Returns the length of the longest id of a query, and whether all have that length."""
     width = _even(ids)
     return (width or max(map(len, io.BytesIO(ids + b"\n")))) - 1, width > 0
@@ -62,22 +77,15 @@ def _lengths(ids: bytes) -> Tuple[int, bool]:
 def _sorted(ids: bytes) -> bytes:
     """Returns the ids of a query in the order of their bytes, with an LF after each. They are given
     one a line."""
-    width = _even(ids)
-    if width:  # C sorts texts of one length in half the time
-        texts = bytearray(ids + b"\n")
-        if sort_texts(texts, width):
-            return bytes(texts)
     # a character for each byte: Python sorts such texts faster than bytes
     listed = sorted(ids.decode("latin-1").split("\n"))
     return ("\n".join(listed) + "\n").encode("latin-1")
 
 
 @lru_cache(maxsize=2)
-def _listed(ids: bytes) -> FrozenSet[bytes]:
+def _listed(ids: bytes) -> frozenset[bytes]:
     """Returns the ids of a query as a set. They are given one a line."""
-    listed = frozenset(ids.split(b"\n"))
-    leave_untracked(listed)
-    return listed
+    return frozenset(ids.split(b"\n"))
 
 
 def _for_all(make: Callable[[bytes], Made], ids: bytes) -> Made:
@@ -126,7 +134,7 @@ def _place_of(ids: bytes, least: bytes) -> int:
     return low
 
 
-def _between(ids: bytes, lines: List[bytes], begin: int) -> Optional[bytes]:
+def _between(ids: bytes, lines: list[bytes], begin: int) -> bytes | None:
     """Returns the ids of a query that may be in lines that are sorted, begin alike up to their ids,
     and have no escape. None if they would be many more than the lines.
 
@@ -141,13 +149,13 @@ def _between(ids: bytes, lines: List[bytes], begin: int) -> Optional[bytes]:
     return found[:-1] if found and found != b"\n" else found
 
 
-def _are_sorted(texts: List[bytes]) -> bool:
+def _are_sorted(texts: list[bytes]) -> bool:
     """Returns whether texts are sorted. To sort them again is the fastest test if they are. If not,
     the first ones mostly tell."""
     return all(map(le, texts[:FIRST], texts[1:FIRST])) and texts == sorted(texts)
 
 
-def _usual(ids: bytes, heads: List[bytes], begin: int) -> List[bytes]:
+def _usual(ids: bytes, heads: list[bytes], begin: int) -> list[bytes]:
     """Returns the id of each line as it is spelled. Of an id that is longer than all ids of a query
     it returns some bytes, which may be one of these."""
     if _for_all(_lengths, ids)[1]:
@@ -169,7 +177,7 @@ def _ids_in(ids: bytes, text: bytes) -> bytes:
     if first is None:
         return _chosen(ids, _thorough(text))
     begin, chosen = first.group(), None
-    found: Optional[Iterable[bytes]] = None
+    found: Iterable[bytes] | None = None
     most = len(begin) + _for_all(_lengths, ids)[0]  # each id of the query ends before this byte
     heads = list(map(itemgetter(slice(most)), io.BytesIO(text)))
     together = b"\n".join([b"", *heads])
