@@ -202,10 +202,12 @@ class Full(InFolder):
         for words in rows:
             self.assertEqual(self.ran(words, 1 << 30, True)[0], 0, words)
             size = os.path.getsize(self.folder / "out")
+            is_timed = words[0] == "report"  # it has a time, which has more or fewer digits
             for is_unbuffered in (True, False):
-                status, said = self.ran(words, size - 3, is_unbuffered)
+                status, said = self.ran(words, size - (100 if is_timed else 3), is_unbuffered)
                 self.assertEqual((status, "write fault" in said), (4, True), (words, said))
-                self.assertEqual(self.ran(words, size, is_unbuffered), (0, ""), words)
+                enough = size + (100 if is_timed else 0)
+                self.assertEqual(self.ran(words, enough, is_unbuffered), (0, ""), words)
 
     def test_a_full_device(self):
         rows = (("filter", "-"), ("filter",), ("check", "-"), ("check",), ("info",), ("--help",))
