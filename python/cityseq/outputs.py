@@ -2,6 +2,7 @@
 incomplete file looks like a whole one, and two runs with the same output do not mix."""
 from __future__ import annotations
 
+import codecs
 import io
 import os
 import select
@@ -205,6 +206,19 @@ def flush_all(file: Any) -> None:
             _wait(file)
 
 
+class _Decoded:
+    """Writes UTF-8 to an output that takes text alone, such as that of a notebook."""
+
+    def __init__(self, output: Any) -> None:
+        self._output, self.flush = output, output.flush
+        self._decode = codecs.getincrementaldecoder("utf-8")("replace").decode
+
+    def write(self, text: Union[bytes, bytearray, memoryview]) -> int:
+        """Writes all of these bytes."""
+        self._output.write(self._decode(bytes(text)))
+        return len(text)
+
+
 class Writer:
     """Writes to a target: a path, `-` for standard output, or a binary file. A path is opened at
     the first call of `write` or `close`. So the file exists even if nothing is kept."""
@@ -313,7 +327,7 @@ class Writer:
         if self._file is None and self._path is None:
             if sys.stdout is None:
                 raise OSError("standard output is closed")
-            self._file = sys.stdout.buffer
+            self._file = getattr(sys.stdout, "buffer", None) or _Decoded(sys.stdout)
         elif self._file is None:
             assert self._path is not None
             file = self._made(self._path)

@@ -80,8 +80,9 @@ class Order(unittest.TestCase):
             found = asked("filter", ids=mixed).ids
             self.assertTrue(found == "\n".join(wanted).encode())
             self.assertTrue(in_order(found) == found)
-            _sorted.cache_clear()
-            self.assertTrue(in_order("\n".join(mixed).encode()) == found)
+            with mock.patch("cityseq.engine.ids.sort_texts", lambda *_: False):
+                _sorted.cache_clear()
+                self.assertTrue(in_order("\n".join(mixed).encode()) == found)
 
     def test_any_bytes_by_chance(self):
         """Ids of one length, which C sorts, and of several: some of them twice."""

@@ -12,17 +12,16 @@ from itertools import chain
 from typing import TYPE_CHECKING
 
 from ..faults import CityseqError, read_fault
-from . import records as records_of
 from .ids import part_size_for
 from .library import Text, library
 from .query import Work
-from .records import Records
 from .reports import Described, Invalid, Report, report_of_end
 from .structs import CallStatus, RawAnswer
 from .tally import Tally
 
 if TYPE_CHECKING:
     from ..sources.chunks import Chunk
+    from .records import Records
 
 SMALL = 1 << 19  # bytes that are judged by one call: they stay in the processor's cache
 HEADERS = 4  # a part is at least this many times as long as the header
@@ -154,8 +153,9 @@ def _call(work: Work, header: bytes, part: Text, room: int) -> tuple[Answer, byt
     reports that it wrote."""
     length = len(header)
     if work.kind == "records":
-        answer, reports, raw = records_of.call(work, header, part, room)
-        found = Records(0, raw, records_of.ids_of(part, raw))
+        from .records import found_in  # few runs need it
+
+        answer, reports, found = found_in(work, header, part, room)
         return Answer(answer, length, records=[found]), reports
     request = work.request(header, part)
     if work.kind == "filter":

@@ -127,6 +127,12 @@ def ids_of(part: Text, raw: bytes) -> list[bytes]:
     ]
 
 
+def found_in(work: Work, header: bytes, part: Text, room: int) -> tuple[RawAnswer, bytes, Records]:
+    """Does the same as `call`, and returns the records with their ids."""
+    answer, reports, raw = call(work, header, part, room)
+    return answer, reports, Records(0, raw, ids_of(part, raw))
+
+
 def call(work: Work, header: bytes, part: Text, room: int) -> tuple[RawAnswer, bytes, bytes]:
     """Returns the library's answer, reports and records. There is room for so many reports. The
     library is called again if the records do not fit."""

@@ -11,11 +11,11 @@ from collections.abc import Iterator
 from dataclasses import dataclass, field
 from typing import Any
 
-from ..place_hints import LONGEST, met
 from .library import library
 from .structs import RawAnswer
 
 TOO_LONG = 2
+LONGEST = 1 << 20  # bytes: a longer line is not read as JSON
 BESIDE = 40  # how many bytes an excerpt shows on each side of the place
 KEPT = 1_024  # bytes: a report keeps a line that is not longer, and describes it when it is asked
 RAW = struct.Struct("=4Q")  # `struct cityseq_report`: line, begin, place, code
@@ -98,6 +98,8 @@ class Report:
 
     def _describe(self) -> None:
         """Reads id, excerpt, column and hint from the line, which is then not kept."""
+        from ..place_hints import met  # few runs need it
+
         content = self.__dict__.pop("_content")
         is_header = self.line == 1
         excerpt, column = excerpt_of(content, self.byte)

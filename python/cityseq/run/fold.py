@@ -9,7 +9,6 @@ from ..engine.query import Work
 from ..engine.reports import Report
 from ..engine.structs import CallStatus
 from ..faults import CityseqError, MemoryFault, ReadFault, Status, WriteFault
-from ..file_hints import hints_for
 from ..outputs import Writer
 from ..sources.source import CHANGED
 from .results import Info, Result
@@ -109,13 +108,21 @@ class Fold:
             *joined.peaks,
             end=joined.end,
             reports=self.reports,
-            hints=hints_for(joined.end, origin.head) if joined.end is not None else [],
+            hints=self._hints(),
         )
         if self.fault is not None:
             result.fail(self.fault)
         elif isinstance(result, Info) and not self.has_ended and joined.tally is not None:
             result.fill(origin.header, joined.tally)
         return result
+
+    def _hints(self) -> list[str]:
+        """Returns what the file may be, if its first line ended the run."""
+        if self.joined.end is None:
+            return []
+        from ..file_hints import hints_for  # few runs need it
+
+        return hints_for(self.joined.end, self.origin.head)
 
     def _close(self, output: Writer, is_invalid: bool) -> None:
         """Closes the output, which is whole if the run came to its end."""

@@ -10,8 +10,9 @@ import atexit
 import resource
 import threading
 from collections.abc import Callable
-from queue import Empty, SimpleQueue
-from typing import Any, Generic, TypeVar
+from contextlib import suppress
+from queue import SimpleQueue
+from typing import Any, Generic, TypeVar, cast
 
 STACK = 4 << 20  # bytes: a call of the library takes up to 2 MB, and its callers in Python the rest
 PATIENCE = 2.0  # seconds that a thread has to begin, and between two looks whether one is alive
@@ -35,8 +36,8 @@ def _has_stack() -> bool:
     """Whether the calling thread surely has a stack of that size. It must be the first thread of
     the process, and the system must allow the size."""
     limit = resource.getrlimit(resource.RLIMIT_STACK)[0]
-    is_first = threading.current_thread() is threading.main_thread()
-    return is_first and (limit == resource.RLIM_INFINITY or limit >= STACK)
+    is_enough = limit == resource.RLIM_INFINITY or limit >= STACK
+    return is_enough and threading.current_thread() is threading.main_thread()
 
 
 class Job(Generic[T]):
@@ -80,8 +81,7 @@ class Job(Generic[T]):
         self._open.release()
         if self._fault is not None:
             raise self._fault
-        value: T = self._value
-        return value
+        return cast(T, self._value)
 
 
 class Pool:
@@ -92,13 +92,14 @@ class Pool:
         self._most, self._submitted = most, 0
         self._calls: SimpleQueue[Callable[[], None]] = SimpleQueue()
         self._ends: list[Any] = []  # a lock for each thread, which holds it until it ends
+        # at its end Python stops these threads, and then nothing could wait for them
+        atexit.register(self.__exit__)
 
     def __enter__(self) -> Pool:
         return self
 
     def __exit__(self, *_: Any) -> None:
-        """Ends the threads, after the calls that they have begun."""
-        self._drop_calls()
+        """Ends the threads, after all calls that were submitted and not cancelled."""
         # one more than there are threads: an interrupt may have come just after one was started,
         # before it was in the list
         for _sign in range(len(self._ends) + 1):
@@ -107,51 +108,33 @@ class Pool:
             self._ends.pop().acquire()
         atexit.unregister(self.__exit__)
 
-    def _drop_calls(self) -> None:
-        try:
-            while True:
-                self._calls.get_nowait()
-        except Empty:
-            pass
-
     def has_threads(self) -> bool:
         """Whether a thread is alive."""
         return any(end.locked() for end in self._ends)
-
-    def start(self) -> bool:
-        """Starts the first thread, if there is none yet. Returns whether a thread is alive then."""
-        self._have(1)
-        return self.has_threads()
 
     def submit(self, call: Callable[[], T]) -> Job[T]:
         """Passes the call to the threads, and returns its job."""
         job = Job(call, self)
         self._calls.put(job.run)
         self._submitted += 1
-        self._have(self._submitted)
+        if len(self._ends) < min(self._most, self._submitted):
+            self._add()
         return job
 
-    def _have(self, wanted: int) -> None:
-        """Starts one more thread if there are fewer than `wanted` and than allowed. Waits until it
-        has begun: if memory is short, a thread may end before that, without an error."""
-        if len(self._ends) >= min(self._most, wanted):
-            return
-        if not self._ends:
-            # at its end Python stops these threads, and then nothing could wait for them
-            atexit.register(self.__exit__)
+    def _add(self) -> None:
+        """Starts one more thread, and waits until it has begun. If memory is short, a thread may
+        end before that, without an error."""
         begun, end = _thread.allocate_lock(), _thread.allocate_lock()
         begun.acquire()
         end.acquire()
-        try:
+        most, self._most = self._most, len(self._ends)  # if no thread begins
+        with suppress(RuntimeError, MemoryError):
             _start(self._work, begun, end)
-        except (RuntimeError, MemoryError):
-            self._most = len(self._ends)
-            return
-        if begun.acquire(timeout=PATIENCE):
-            self._ends.append(end)
-        else:
-            self._calls.put(_thread.exit)  # it ends if it begins later
-            self._most = len(self._ends)
+            if begun.acquire(timeout=PATIENCE):
+                self._ends.append(end)
+                self._most = most
+            else:
+                self._calls.put(_thread.exit)  # it ends if it begins later
 
     def _work(self, begun: Any, end: Any) -> None:
         begun.release()

@@ -163,8 +163,8 @@ class _Run:
             self.close()
 
     def take(self, is_next: bool) -> None:
-        """Takes the answers of the first call. Reports and records wait until it is this stream's
-        turn."""
+        """Takes the answers of the first call. Reports and records wait until this stream is the
+        first one."""
         answers, is_last = self.calls.popleft().result()
         self.is_read = self.is_read or is_last
         waits = self.held or any(answer.refused or answer.records for answer in answers)

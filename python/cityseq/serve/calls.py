@@ -30,7 +30,8 @@ class Calls:
         Raises:
             MemoryFault: The system refuses it.
         """
-        if not self._crew.start():
+        self._crew.submit(lambda: None)
+        if not self._crew.has_threads():
             raise MemoryFault("out of memory: no thread is there")
 
     def close(self) -> None:
