@@ -9,7 +9,7 @@ from typing import Any, Callable, List, Optional, Sequence, Tuple
 from zlib import crc32
 
 from ._library import CallStatus, RawAnswer, RawReports, Text, library
-from .bulk import Column, Same
+from .bulk import Column, Same, same_if_equal
 from .faults import CityseqError
 from .parts import ROOM, Answer, held
 from .places import Read, Room, judge_by
@@ -108,7 +108,8 @@ def stored_as_columns(
         texts = b"\n".join(spellings).decode("utf-8").split("\n")  # no valid string has an LF
         return texts, Same(None), list(map(crc32, spellings))
     both = list(map(stored_as_spelled, spellings))
-    return [text for text, _ in both], [exact for _, exact in both], list(starmap(hash_of, both))
+    exact = same_if_equal([exact for _, exact in both])
+    return [text for text, _ in both], exact, list(starmap(hash_of, both))
 
 
 def _called(

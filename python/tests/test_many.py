@@ -204,8 +204,9 @@ class Uniform(InFolder):
         self.assertTrue(names.issuperset(UNIFORM))
 
     def test_they_take_no_bytes(self):
+        """Not even where ids have escapes."""
         def size(*kinds):
-            lines = [feature(f"b{number:05}", kind=kinds[number % len(kinds)])
+            lines = [feature(f"b\\u00{2 + number % 6}1{number:05}", kind=kinds[number % len(kinds)])
                      for number in range(20_000)]
             index, _ = self.built([HEADER + b"".join(lines)], size=100_000)
             (pages,) = query(index, "PRAGMA page_count")[0]
