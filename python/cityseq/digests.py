@@ -2,15 +2,20 @@
 from __future__ import annotations
 
 import hashlib
+from array import array
 from functools import partial
-from typing import Any, Callable, NamedTuple, Optional
+from typing import TYPE_CHECKING, Any, Callable, NamedTuple, Optional, Tuple
 from zlib import crc32
 
 from .sources import State, state_of
 from .threads import Crew, Job
 
-BLOCK = 1 << 18  # bytes that have a CRC-32: they stay in the processor's cache
+if TYPE_CHECKING:
+    from .places import Placed
+
+BLOCK = 1 << 16  # bytes that have a CRC-32: most lie in one part
 SIZE = 16  # bytes of a hash
+UNKNOWN = 1 << 32  # no CRC-32
 
 
 class Digest(NamedTuple):
@@ -37,6 +42,36 @@ def digest_of(path: str, is_stopped: Callable[[], bool] = lambda: False) -> Opti
                 return Digest(digest.hexdigest(), before, state_of(file.fileno()))
             digest.update(crc32(block).to_bytes(4, "little"))
     return None
+
+
+class Blocks:
+    """The blocks of a file that is judged. The threads that read its parts make the CRC-32s of the
+    blocks in them, while they have the bytes at hand."""
+
+    def __init__(self, file: "Placed", size: int) -> None:
+        """Takes a file, and how many bytes it has."""
+        self._file, self._size = file, size
+        self._sums = array("q", [UNKNOWN]) * -(-size // BLOCK)
+
+    def read(self, begin: int, end: int) -> Tuple[memoryview, Optional[OSError]]:
+        """Reads a part of the file, as `Placed.read` does."""
+        part, fault = self._file.read(begin, end)
+        first, after = -(-begin // BLOCK), min((begin + len(part)) // BLOCK, len(self._sums))
+        for number in range(first, after):
+            at = number * BLOCK - begin
+            self._sums[number] = crc32(part[at : at + BLOCK])
+        return part, fault
+
+    def content(self) -> str:
+        """Returns the hash of the file, as `digest_of` makes it. Raises `OSError` if the file
+        cannot be read."""
+        digest = hashlib.blake2b(digest_size=SIZE)
+        for number, known in enumerate(self._sums):
+            if known == UNKNOWN:
+                begin = number * BLOCK
+                known = crc32(self._file.whole(begin, min(begin + BLOCK, self._size)))
+            digest.update(known.to_bytes(4, "little"))
+        return digest.hexdigest()
 
 
 class Digests:

@@ -4,14 +4,14 @@ from __future__ import annotations
 import os
 from contextlib import closing
 from functools import partial
-from typing import Any, Callable, Iterable, Iterator, List, Optional, Sequence
+from typing import Any, Callable, Iterable, Iterator, List, Optional, Sequence, Tuple
 
 from .builder import Builder, Entry, File
-from .digests import Digest, Digests
+from .digests import Blocks, Digest, Digests
 from .faults import CityseqError, MemoryFault, ReadFault, RequestError, WriteFault, read_fault
 from .packed import Packing, packing_of
 from .parts import Answer, Cutter
-from .places import SMALL, Placed, Places, given, placed
+from .places import SMALL, Placed, Places, Read, given, placed
 from .query import Work
 from .records import Found, find_read
 from .reports import Report
@@ -21,7 +21,6 @@ from .running import (
     Result,
     Results,
     Stream,
-    Tasks,
     in_turn,
     results,
     usual_jobs,
@@ -66,7 +65,7 @@ class Recorded(Stream):
         if file is not None:
             places = Places(file, begin, self._part_size(SMALL, header), self.work.line_limit)
             for left, right in places.parts():
-                yield self._judged(header, partial(_of_thread, file, left, right), left)
+                yield self._judged(header, self._reading(file, left, right), left)
             if places.begin > begin:
                 begin, rest = places.begin, bytearray()
                 reader.go_to(begin)
@@ -83,6 +82,10 @@ class Recorded(Stream):
             left = counting.taken - cutter.left - len(part)
             yield self._judged(header, partial(given, part), left) if part else None
         reader.fault = counting.fault
+
+    def _reading(self, file: Placed, begin: int, end: int) -> Read:
+        """Returns a call that reads a part of a file into the memory that the thread keeps."""
+        return partial(file.read, begin, end)
 
     def _judged(self, header: bytes, read: Any, begin: int) -> Judged:
         return partial(find_read, self.work, self.file, header, read, begin)
@@ -116,15 +119,24 @@ class Indexed(Recorded):
         self._number, self._path, self._builder, self._then = number, path, builder, self._tell
         self._tell = self._report
         self._entry: Optional[Entry] = None
-        self._digest: Any = None  # of the file, when it is asked for
+        self._digest: Any = None  # of the file, when another thread makes it
+        self._blocks: Optional[Blocks] = None  # of the file, when those make it that judge
 
-    def tasks(self) -> Tasks:
-        """Yields a call for each part, in order, that judges it. Another thread hashes the file."""
-        self.hash()
-        return super().tasks()
+    def _parts(self, reader: Reader, header: bytes, rest: bytearray) -> Iterator[Optional[Judged]]:
+        file = placed(reader.file)
+        if file is None:
+            self.hash()
+        else:
+            self._blocks = Blocks(file, self.state()[0])
+        return super()._parts(reader, header, rest)
+
+    def _reading(self, file: Placed, begin: int, end: int) -> Read:
+        if self._blocks is None:
+            return super()._reading(file, begin, end)
+        return partial(self._blocks.read, begin, end)
 
     def hash(self) -> None:
-        """Begins to make the hash of the file."""
+        """Begins to make the hash of the file in another thread."""
         self._digest = self._builder.digests.submit(self._path)
 
     def _report(self, report: Report) -> None:
@@ -170,14 +182,25 @@ class Indexed(Recorded):
     def _hash(self) -> str:
         """Returns the hash of the file. Raises `ReadFault` if the file has changed."""
         try:
-            digest: Digest = self._digest.result()
+            content, is_changed = self._of_blocks() if self._blocks else self._of_digest()
         except OSError as fault:
             raise read_fault(fault, self._path) from fault
         except MemoryError as fault:
             raise MemoryFault("out of memory", None, self._path) from fault
-        if not digest.before == digest.after == self.state():
+        if is_changed:
             raise ReadFault(f"read fault: {CHANGED}", None, self._path)
-        return digest.content
+        return content
+
+    def _of_blocks(self) -> Tuple[str, bool]:
+        assert self._blocks is not None and self._watch is not None
+        return self._blocks.content(), self._watch.is_changed()
+
+    def _of_digest(self) -> Tuple[str, bool]:
+        if self._digest is None:  # no part was judged
+            self.hash()
+        made: Any = self._digest
+        digest: Digest = made.result()
+        return digest.content, not digest.before == digest.after == self.state()
 
     def state(self) -> State:
         """Returns the size and the time of change that the file had at the beginning."""
@@ -190,11 +213,6 @@ def _packing_of(path: str) -> Optional[str]:
     with open(path, "rb") as file:
         packing = packing_of(file.read(len(Packing.ZSTD.mark)), path)
     return None if packing is None else packing.name.lower()
-
-
-def _of_thread(file: Placed, begin: int, end: int) -> Any:
-    """Reads a part of a file into the memory that the thread keeps for this."""
-    return file.read(begin, end)
 
 
 def is_special(path: Any) -> bool:

@@ -5,11 +5,11 @@ import json
 import struct
 from dataclasses import dataclass, field
 from itertools import islice, starmap
-from typing import List, Optional, Sequence, Tuple
+from typing import Any, Callable, List, Optional, Sequence, Tuple
 from zlib import crc32
 
 from ._library import CallStatus, RawAnswer, RawReports, Text, library
-from .bulk import Column, Same
+from .bulk import Column, Same, same_if_equal
 from .faults import CityseqError
 from .parts import ROOM, Answer, held
 from .places import Read, Room, judge_by
@@ -96,9 +96,8 @@ def stored_as_spelled(spelling: bytes) -> Id:
 
 
 def hash_of(text: str, exact: Optional[bytes]) -> int:
-    """Returns the hash of the id that is stored in these two columns: the upper 31 bits of the
-    CRC-32 of its UTF-8."""
-    return crc32(text.encode("utf-8") if exact is None else exact) >> 1
+    """Returns the hash of the id that is stored in these two columns: the CRC-32 of its UTF-8."""
+    return crc32(text.encode("utf-8") if exact is None else exact)
 
 
 def stored_as_columns(
@@ -107,9 +106,10 @@ def stored_as_columns(
     """Returns ids, from the JSON strings that spell them, as two columns and the hash of each."""
     if b"\\" not in b"".join(spellings) and max(map(len, spellings)) <= LONGEST:
         texts = b"\n".join(spellings).decode("utf-8").split("\n")  # no valid string has an LF
-        return texts, Same(None), [crc32(spelling) >> 1 for spelling in spellings]
+        return texts, Same(None), list(map(crc32, spellings))
     both = list(map(stored_as_spelled, spellings))
-    return [text for text, _ in both], [exact for _, exact in both], list(starmap(hash_of, both))
+    exact = same_if_equal([exact for _, exact in both])
+    return [text for text, _ in both], exact, list(starmap(hash_of, both))
 
 
 def _called(
@@ -126,7 +126,8 @@ def _called(
         room, reports_room = max(room, answer.kept), max(reports_room, answer.refused)
 
 
-def _ids(part: Text, raw: bytes) -> List[bytes]:
+def spelled_ids(part: Text, raw: bytes) -> List[bytes]:
+    """Returns the ids of the features of a part, as the JSON strings spell them, without quotes."""
     numbers = memoryview(raw).cast("q")
     places = (numbers[member::MEMBERS].tolist() for member in (1, 3, 4))
     return [
@@ -135,8 +136,16 @@ def _ids(part: Text, raw: bytes) -> List[bytes]:
     ]
 
 
-def find(work: Work, file: str, header: bytes, part: Text, begin: int) -> Found:
-    """Judges a header and a part that begins at this byte, and returns records and reports."""
+def find(
+    work: Work,
+    file: str,
+    header: bytes,
+    part: Text,
+    begin: int,
+    ids_of: Callable[[Text, bytes], Any] = spelled_ids,
+) -> Found:
+    """Judges a header and a part that begins at this byte, and returns records and reports.
+    `ids_of` returns the ids, from the part and its records."""
     answer, reports, raw = _called(work, header, part, ROOM if work.keep_going else 0)
     if answer.status not in (CallStatus.COMPLETE, CallStatus.REFUSED, CallStatus.NO_MEMORY):
         raise CityseqError(f"the library answered {answer.status}, code {answer.code}")
@@ -150,7 +159,7 @@ def find(work: Work, file: str, header: bytes, part: Text, begin: int) -> Found:
         if answer.refused
         else (),
         size=len(part),
-        records=Records(begin, raw, _ids(part, raw)),
+        records=Records(begin, raw, ids_of(part, raw)),
     )
 
 
