@@ -8,23 +8,33 @@ import sqlite3
 from contextlib import contextmanager, suppress
 from dataclasses import dataclass, field
 from functools import lru_cache
-from itertools import compress
-from typing import Any, Callable, Dict, Iterable, Iterator, List, NamedTuple, Optional, Set, Tuple
+from typing import (
+    Any,
+    Callable,
+    Dict,
+    Iterable,
+    Iterator,
+    NamedTuple,
+    Optional,
+    Sequence,
+    Set,
+    Tuple,
+)
 
-from . import geopackage
+from . import columns, geopackage, id_table
 from .engine.library import library
 from .engine.structs import LOD_CLASSES
-from .bulk import Same, insert, same_if_equal
+from .arrays import vectors_for
+from .bulk import Column, Same, insert
+from .columns import NOWHERE, Ranges
 from .engine.extents import World, wider
 from .faults import WriteFault, write_fault
 from .full_disk import database_fault
 from .geopackage import (
-    FID_BITS,
     MOST_FEATURES,
     TREE,
     UNDEFINED,
     geometry_start,
-    polygons,
     readable,
     system_of,
 )
@@ -33,16 +43,14 @@ from .engine.query import Work
 from .engine.records import Records, stored, stored_as_columns
 from .replacing import replaceable
 from .engine.reports import Report
-from .rtree import Tree, cells_of, keys_of
+from .rtree import ROW, Tree
 from .run.results import Result
+from .sorting import Sorter
 from .sources.source import State
-from .engine.tally import Range
 from .engine.world import read_json
 
-CACHE = 8 << 20  # bytes of the database that are in memory, and bytes for a sort
-Ranges = Tuple[Range, Range, Range]
-Edges = List[List[int]]  # the least and the greatest x, then y and z, of each feature
-Box = Tuple[List[float], List[float], List[float], List[float]]  # the same on the map, without z
+PAGE = 1 << 14  # bytes of a page of the database: small ones leave more of them unused
+CACHE = 8 << 20  # bytes of the database that are in memory
 
 
 @lru_cache(maxsize=4_096)
@@ -90,7 +98,7 @@ class Entry:
     system: int = field(init=False)
     reference: Optional[str] = field(init=False)
     transform: Dict[str, Any] = field(init=False)
-    ranges: Ranges = (None, None, None)
+    ranges: Ranges = NOWHERE
 
     def __post_init__(self) -> None:
         told = read_json(self.header.decode("utf-8"))
@@ -98,25 +106,10 @@ class Entry:
         self.world = World(self.transform["scale"], self.transform["translate"])
         self.reference, self.system = system_of(told.get("metadata"))
 
-    def widen(self, edges: Edges) -> None:
-        """Takes the vertices of some more features."""
-        if edges[0]:
-            x, y, z = (
-                wider(before, (min(least), max(greatest)))
-                for before, least, greatest in zip(self.ranges, edges[::2], edges[1::2])
-            )
-            self.ranges = x, y, z
-
-    def box(self, edges: Edges) -> Optional[Box]:
-        """Returns the extents of features on the map. None if the stream has no place there."""
-        x, y = self.world.x, self.world.y
-        if x is None or y is None:
-            return None
-        return (*x.intervals(*edges[:2]), *y.intervals(*edges[2:4]))
-
-    def heights(self, edges: Edges) -> Optional[Tuple[List[float], List[float]]]:
-        """Returns the least and the greatest heights of features. None if there are none."""
-        return None if self.world.z is None else self.world.z.intervals(*edges[4:])
+    def widen(self, ranges: Ranges) -> None:
+        """Takes the ranges of some more features."""
+        x, y, z = map(wider, self.ranges, ranges)
+        self.ranges = x, y, z
 
     def extent(self) -> Tuple[Optional[float], ...]:
         """Returns the least and greatest x, y and z of the stream, or None for each."""
@@ -139,10 +132,25 @@ def telling_of(name: str) -> Iterator[None]:
         raise database_fault(fault, name) from fault
 
 
-def _filled(values: Optional[Iterable[Any]], some: Iterable[int]) -> Iterator[Any]:
-    """Yields the next value for each feature that has one, and None for others."""
-    given = iter(() if values is None else values)
-    return (next(given, None) if each else None for each in some)
+def _filled(values: Optional[Iterable[Any]], some: Optional[Iterable[bool]]) -> Column:
+    """Returns a column with the next value for each feature that has one, and None for others. If
+    `some` is None, all have one."""
+    if values is None:
+        return Same(None)
+    if some is None:
+        return values
+    given = iter(values)
+    return [next(given) if each else None for each in some]
+
+
+def _first(column: Column) -> Any:
+    """Returns the first value of a column that has one."""
+    return column.value if isinstance(column, Same) else next(iter(column))
+
+
+def _named(sets: Column, names: Callable[[int], str]) -> Column:
+    """Returns a column of the names of sets."""
+    return Same(names(sets.value)) if isinstance(sets, Same) else list(map(names, sets))
 
 
 class Builder:
@@ -157,6 +165,9 @@ class Builder:
         self.name, self._fid = path, 0
         self._systems: Set[int] = set()  # of coordinates
         self._opened: Optional[sqlite3.Connection] = None
+        self._usual: Optional[Tuple[Any, ...]] = None  # the uniform columns of the first feature
+        self._count = 0  # of the uniform columns that rows have
+        self._cells, self._ids = Sorter(ROW), Sorter(id_table.WHOLE)
         self.digests: Any = None  # makes the hashes of the streams
         target = target_of(path)
         if target is None:
@@ -185,18 +196,15 @@ class Builder:
         self._opened = sqlite3.connect(self._part.path, isolation_level=None)
         with telling_of(self.name):
             for setting in (
+                f"page_size = {PAGE}",
                 "journal_mode = OFF",
                 "synchronous = OFF",
                 "locking_mode = EXCLUSIVE",
                 f"cache_size = -{CACHE >> 10}",
-                f"temp.cache_size = -{CACHE >> 10}",
-                "temp_store = FILE",
             ):
                 self._base.execute(f"PRAGMA {setting}")
             self._base.execute("BEGIN")
             geopackage.create(self._base)
-            self._base.execute("CREATE TEMP TABLE cells (key INTEGER, cell BLOB)")
-            self._base.execute("CREATE TEMP TABLE id_keys (key INTEGER)")
 
     def begin(self, number: int, header: bytes) -> Entry:
         """Begins the next stream, whose header is valid."""
@@ -212,45 +220,44 @@ class Builder:
         if numbers.stop > MOST_FEATURES:
             raise WriteFault(f"write fault: more than {MOST_FEATURES:,} features", None, self.name)
         self._fid += len(numbers)
-        line, begin, length, _, _, objects, geometries, types, lods, *edges = records.columns()
+        made = (vectors_for(len(numbers)) or columns).columns_of(
+            records, lines, numbers, entry.world, geometry_start(entry.system)
+        )
+        entry.widen(made.ranges)
         names, exact, hashes = stored_as_columns(records.ids)
+        geometry, *heights = (
+            _filled(column, made.has_place) for column in (made.geometry, made.zmin, made.zmax)
+        )
+        uniform = (
+            _named(made.types, names_of_types),
+            _named(made.lods, names_of_lods),
+            made.objects,
+            made.geometries,
+            Same(entry.number),
+            exact,
+        )
+        others = (numbers, geometry, made.line, made.begin, made.length, names, *heights)
         with telling_of(self.name):
-            geometry, *heights = self._place(entry, numbers, edges)
-            insert(
-                self._base,
-                "features",
-                numbers,
-                geometry,
-                Same(entry.number),
-                [number + lines for number in line],
-                [place + records.begin for place in begin],
-                length,
-                names,
-                exact,
-                same_if_equal(objects),
-                same_if_equal(geometries),
-                same_if_equal(list(map(names_of_types, types))),
-                same_if_equal(list(map(names_of_lods, lods))),
-                *heights,
-            )
-            keys = [id_hash << FID_BITS | fid for id_hash, fid in zip(hashes, numbers)]
-            insert(self._base, "temp.id_keys", keys)
+            insert(self._base, "features", *others, *self._stored(uniform))
+        self._cells.add(made.cells)
+        self._ids.add(id_table.joined(hashes, numbers))
 
-    def _place(
-        self, entry: Entry, numbers: Iterable[int], vertices: List[List[int]]
-    ) -> List[Iterable[Any]]:
-        """Returns the polygon, and the least and the greatest height, of each feature, or None.
-        Adds their cells to those of the spatial index."""
-        some = vertices[0]
-        edges = [list(compress(vertices[place], some)) for place in (1, 2, 4, 5, 7, 8)]
-        entry.widen(edges)
-        box, heights = entry.box(edges), entry.heights(edges)
-        found: List[Optional[Iterable[Any]]] = [None, *(heights or (None, None))]
-        if box is not None:
-            found[0] = polygons(geometry_start(entry.system), *box)
-            cells = cells_of(compress(numbers, some), *box)
-            insert(self._base, "temp.cells", keys_of(box[0], box[2]), cells)
-        return [_filled(column, some) for column in found]
+    def _stored(self, columns: Sequence[Column]) -> Sequence[Column]:
+        """Returns those of the uniform columns that rows have from now on. The others have had one
+        value in all rows."""
+        if self._usual is None:
+            *others, _ = columns
+            self._usual = (*map(_first, others), None)  # few ids need `id_exact`
+        pairs = zip(columns, self._usual)
+        differing = [place for place, (column, usual) in enumerate(pairs) if column != Same(usual)]
+        self._add_columns(differing[-1] + 1 if differing else 0)
+        return columns[: self._count]
+
+    def _add_columns(self, count: int) -> None:
+        """Adds uniform columns to the table, until it has so many."""
+        usual = self._usual or geopackage.NO_FEATURE
+        geopackage.add_columns(self._base, self._count, count, usual)
+        self._count = max(self._count, count)
 
     def report(self, number: int, report: Report) -> None:
         """Writes that a line of a stream is invalid and left out.
@@ -302,10 +309,10 @@ class Builder:
         base = self._base
         with telling_of(self.name):
             system = self._one_system()
-            base.execute("INSERT INTO feature_ids SELECT key FROM temp.id_keys ORDER BY key")
-            (count,) = base.execute("SELECT count(*) FROM temp.cells").fetchone()
-            ordered = base.execute("SELECT cell FROM temp.cells ORDER BY key")
-            Tree(base, TREE).write((cell for cell, in ordered), count, self._fid)
+            id_table.write(base, self._ids.rows())
+            self._add_columns(len(geopackage.UNIFORM))
+            count = self._cells.count
+            Tree(base, TREE).write(self._cells.rows(), count, self._fid)
             geopackage.describe(base, system)
             options = (work.tree, work.keep_going, work.line_limit, work.depth)
             base.execute(
@@ -336,6 +343,8 @@ class Builder:
         if self._opened is not None:
             with suppress(sqlite3.Error):
                 self._opened.close()
+        self._cells.close()
+        self._ids.close()
         self._part.discard()
 
 

@@ -2,15 +2,18 @@
 from __future__ import annotations
 
 import hashlib
+from array import array
 from functools import partial
 from typing import Any, Callable, NamedTuple, Optional
 from zlib import crc32
 
-from .sources.source import State, state_of
 from .run.pool import Job, Pool
+from .sources.regular import RegularFile
+from .sources.source import State, state_of
 
-BLOCK = 1 << 18  # bytes that have a CRC-32: they stay in the processor's cache
+BLOCK = 1 << 16  # bytes that have a CRC-32: most lie in one part
 SIZE = 16  # bytes of a hash
+UNKNOWN = 1 << 32  # no CRC-32
 
 
 class Digest(NamedTuple):
@@ -37,6 +40,38 @@ def digest_of(path: str, is_stopped: Callable[[], bool] = lambda: False) -> Opti
                 return Digest(digest.hexdigest(), before, state_of(file.fileno()))
             digest.update(crc32(block).to_bytes(4, "little"))
     return None
+
+
+class HashedFile(RegularFile):
+    """A regular file that is judged. The threads that read its parts make the CRC-32s of the blocks
+    in them, while they have the bytes at hand."""
+
+    def __init__(self, descriptor: int) -> None:
+        super().__init__(descriptor)
+        self._sums = array("q", [UNKNOWN]) * -(-self.size // BLOCK)
+
+    def read(self, begin: int, end: int) -> tuple[memoryview, OSError | None]:
+        """Does the same as for any regular file, and notes the blocks between the places."""
+        part, fault = super().read(begin, end)
+        first, after = -(-begin // BLOCK), min((begin + len(part)) // BLOCK, len(self._sums))
+        for number in range(first, after):
+            at = number * BLOCK - begin
+            self._sums[number] = crc32(part[at : at + BLOCK])
+        return part, fault
+
+    def content(self) -> str:
+        """Returns the hash of the file, as `digest_of` makes it. Raises `OSError` if the file
+        cannot be read."""
+        digest = hashlib.blake2b(digest_size=SIZE)
+        for number, known in enumerate(self._sums):
+            if known == UNKNOWN:
+                begin = number * BLOCK
+                block, fault = self.read_own(begin, min(begin + BLOCK, self.size))
+                if fault is not None:
+                    raise fault
+                known = crc32(block)
+            digest.update(known.to_bytes(4, "little"))
+        return digest.hexdigest()
 
 
 class Digests:

@@ -14,11 +14,10 @@ from contextlib import suppress
 from itertools import repeat
 from typing import Any, Iterator, Optional, Sequence, Tuple
 
-VERSION = 2  # of the tables: it changes if a column is removed, renamed or changes its meaning
+VERSION = 3  # of the tables: it changes if a column is removed, renamed or changes its meaning
 APPLICATION = 0x47504B47  # "GPKG"
 GEOPACKAGE = 10_300  # GeoPackage 1.3
-FID_BITS = 32  # of a key in `feature_ids`: the number of the feature, below the hash of its id
-MOST_FEATURES = (1 << FID_BITS) - 1
+MOST_FEATURES = (1 << 32) - 1  # whose numbers fit in `feature_ids`
 UNDEFINED = -1  # the coordinate system is not known
 TABLE, COLUMN = "features", "geom"
 TREE = f"rtree_{TABLE}_{COLUMN}"
@@ -56,11 +55,9 @@ CREATE TABLE gpkg_extensions (
 
 OURS = """
 CREATE TABLE features (
-  fid INTEGER PRIMARY KEY NOT NULL, geom POLYGON, stream INTEGER NOT NULL, line INTEGER NOT NULL,
-  begin INTEGER NOT NULL, length INTEGER NOT NULL, id TEXT NOT NULL, id_exact BLOB,
-  objects INTEGER NOT NULL, geometries INTEGER NOT NULL, types TEXT NOT NULL, lods TEXT NOT NULL,
-  zmin REAL, zmax REAL);
-CREATE TABLE feature_ids (key INTEGER PRIMARY KEY NOT NULL);
+  fid INTEGER PRIMARY KEY NOT NULL, geom POLYGON, line INTEGER NOT NULL, begin INTEGER NOT NULL,
+  length INTEGER NOT NULL, id TEXT NOT NULL, zmin REAL, zmax REAL);
+CREATE TABLE feature_ids (key INTEGER PRIMARY KEY NOT NULL, entries BLOB NOT NULL);
 CREATE TABLE streams (
   fid INTEGER PRIMARY KEY NOT NULL, path TEXT NOT NULL, path_exact BLOB, packing TEXT,
   size INTEGER NOT NULL, mtime_ns INTEGER NOT NULL, content TEXT NOT NULL,
@@ -77,6 +74,17 @@ CREATE TABLE cityseq_index (
   keep_going INTEGER NOT NULL, line_limit INTEGER NOT NULL, depth INTEGER NOT NULL,
   changed INTEGER NOT NULL, places INTEGER NOT NULL);
 """
+
+# The other columns of `features`, whose last ones often have one value in all rows.
+UNIFORM = {
+    "types": "TEXT NOT NULL",
+    "lods": "TEXT NOT NULL",
+    "objects": "INTEGER NOT NULL",
+    "geometries": "INTEGER NOT NULL",
+    "stream": "INTEGER NOT NULL",
+    "id_exact": "BLOB",
+}
+NO_FEATURE = ("", "", 0, 0, 1, None)  # their values where there is no feature
 
 # They note that another program has changed what cuts rely on.
 GUARD = """
@@ -177,6 +185,15 @@ def create(base: sqlite3.Connection) -> None:
     for each in (STANDARD + OURS).split(";\n"):
         base.execute(each)
     base.execute(f"CREATE VIRTUAL TABLE {TREE} USING rtree(id, minx, maxx, miny, maxy)")
+
+
+def add_columns(base: sqlite3.Connection, begin: int, end: int, values: Sequence[Any]) -> None:
+    """Adds some of the uniform columns to `features`, by their places. All rows before have these
+    values, numbers or names, and take no bytes for them: if a row ends before a column, SQLite
+    reads the default of the column."""
+    for (name, kind), value in list(zip(UNIFORM.items(), values))[begin:end]:
+        default = "" if value is None else f" DEFAULT {value!r}"
+        base.execute(f"ALTER TABLE features ADD COLUMN {name} {kind}{default}")
 
 
 def describe(base: sqlite3.Connection, system: int) -> None:

@@ -9,22 +9,24 @@ from dataclasses import replace
 from typing import Any, Protocol
 
 from .builder import Builder, Entry, File
-from .digests import Digest, Digests
+from .digests import Digest, Digests, HashedFile
 from .engine.judge import Answer
 from .engine.query import Work
 from .engine.reports import Report
 from .faults import CityseqError, MemoryFault, ReadFault, RequestError, read_fault
 from .run.results import Result
-from .run.streams import Results, Stream, results
+from .run.streams import ChunkSource, Judge, Results, Stream, results
 from .same import refuse_same
-from .sources.source import CHANGED, State, is_path
+from .sources.reading import Chunks
+from .sources.source import CHANGED, State, is_packed, is_path
 
 Tell = Callable[[Report], None] | None
 Progress = Callable[[int], None] | None
 
 
 class Indexed:
-    """A stream whose records go to an index. Another thread hashes the file."""
+    """A stream whose records go to an index. The threads that judge a file also hash it. Another
+    thread hashes a packed file, or one that a cluster judges."""
 
     def __init__(
         self,
@@ -35,17 +37,28 @@ class Indexed:
         size: int | None = None,
         tell: Tell = None,
         progress: Progress = None,
-        **judged: Any,
+        *,
+        chunks: ChunkSource | None = None,
+        judge_by: Judge | None = None,
     ) -> None:
         """Takes the number of the stream in the index, from 1. The others are those of `Stream`."""
         self._number, self._path, self._builder = number, path, builder
         self._keep_going = work.keep_going
         self._entry: Entry | None = None
-        self._digest: Any = builder.digests.submit(path)
+        is_read_here = chunks is None and not is_packed(path)
+        self._digest: Any = None if is_read_here else builder.digests.submit(path)
         self._then = tell
         records = replace(work, kind="records")
         self.stream = Stream(
-            path, records, size, None, self._report, progress, take=[self._take], **judged
+            path,
+            records,
+            size,
+            None,
+            self._report,
+            progress,
+            take=[self._take],
+            judge_by=judge_by,
+            chunks=chunks or Chunks(path, records, size, HashedFile),
         )
         self._fold = self.stream.fold
 
@@ -88,14 +101,24 @@ class Indexed:
     def _hash(self) -> str:
         """Returns the hash of the file. Raises `ReadFault` if the file has changed."""
         try:
-            digest: Digest = self._digest.result()
+            content, is_changed = self._content()
         except OSError as fault:
             raise read_fault(fault, self._path) from fault
         except MemoryError as fault:
             raise MemoryFault("out of memory", None, self._path) from fault
-        if not digest.before == digest.after == self._state():
+        if is_changed:
             raise ReadFault(f"read fault: {CHANGED}", None, self._path)
-        return digest.content
+        return content
+
+    def _content(self) -> tuple[str, bool]:
+        """Returns the hash of the file, and whether the file has changed."""
+        chunks = self.stream.chunks
+        if self._digest is None and isinstance(chunks, Chunks):
+            if isinstance(chunks.regular, HashedFile):
+                return chunks.regular.content(), chunks.is_changed
+        job = self._digest or self._builder.digests.submit(self._path)
+        digest: Digest = job.result()
+        return digest.content, not digest.before == digest.after == self._state()
 
     def _state(self) -> State:
         """Returns the size and the time of change that the file had at the beginning."""

@@ -191,7 +191,7 @@ def table(source: Source, work: Work) -> dict[str, Any]:
 def _columns(part: Text, raw: bytes, lines: int, world: list[_World]) -> Iterator[Any]:
     """Yields the columns of the features of a part. `lines` lines came before the part."""
     line, _, length, _, _, objects, geometries, types, lods, *ranges = records_of.columns_of(raw)
-    yield records_of.all_unescaped(records_of.ids_of(part, raw))
+    yield records_of.all_unescaped(records_of.spelled_ids(part, raw))
     yield [number + lines for number in line]
     yield from (length, objects, geometries, map(_types_of, types), map(_lods_of, lods))
     for axis, first in zip(world, (0, 3, 6)):

@@ -12,18 +12,19 @@ from .engine.structs import CallStatus
 from .database import INDEX_CHANGED, Database
 from .faults import OutOfDate, ReadFault, RequestError
 from .fetching import AllLines, IndexedStream, Row, check_file, header_of, lines_of, placed
+from .id_table import SAME_ID, find_alike, want
 from .index_rows import OPTIONS, REPORTS, STREAMS, checked
 from .listing import Feature, fault_of, feature_of
 from .outputs import Target
-from .queries import ALIKE, SAME_ID, has_more, reads_all, terms_of, values_of_id, want
+from .queries import has_more, reads_all, terms_of
 from .engine.query import Box, Texts, Work, asked
-from .engine.records import id_of
+from .engine.records import hash_of, id_of
 from .run.results import Result
 
 COLUMNS = {
     "cityseq_index": ("version", *OPTIONS, "changed", "places"),
     "features": ("fid", "stream", "line", "begin", "length", "id", "id_exact", "types", "lods"),
-    "feature_ids": ("key",),
+    "feature_ids": ("key", "entries"),
     "streams": tuple(STREAMS),
     "reports": tuple(REPORTS),
 }
@@ -369,15 +370,16 @@ class Index:
         """Yields each id that more than one feature has, in the order of the ids."""
         paths = {stream.number: stream.path for stream in self.streams}
         with self._base.reading():
+            find_alike(self._base)
             found = self._base.execute(
-                f"SELECT id, id_exact FROM features WHERE fid IN ({ALIKE})"
+                "SELECT id, id_exact FROM features WHERE fid IN (SELECT fid FROM temp.alike)"
                 " GROUP BY id, id_exact HAVING count(*) > 1"
             )
             for text, exact in found:
                 try:
                     places = self._base.execute(
-                        f"SELECT stream, line FROM {SAME_ID} ORDER BY fid",
-                        values_of_id(text, exact),
+                        f"SELECT stream, line FROM {SAME_ID} ORDER BY alike.fid",
+                        (hash_of(text, exact), text, exact),
                     ).fetchall()
                     told = tuple((paths[number], int(line)) for number, line in places)
                     yield RepeatedId(id_of(text, exact), told)

@@ -4,32 +4,17 @@ from __future__ import annotations
 from typing import Any, List, Optional, Tuple
 
 from .engine.structs import LOD_CLASSES
-from .bulk import insert
 from .engine.extents import box_of
-from .geopackage import FID_BITS, MOST_FEATURES, TREE
+from .geopackage import TREE
+from .id_table import WANTED, want
 from .engine.query import Work
-from .engine.records import hash_of, stored
 
 LINE = 2_048  # bytes of a stream that are judged in the time that it takes to find and read a line
 SMALL = 16 << 20  # bytes of streams that are not worth an estimate
 SAMPLE = 500  # features that show how many of all a query selects
 BOX = "minx <= ? AND maxx >= ? AND miny <= ? AND maxy >= ?"
 IN_BOX = f"fid IN (SELECT id FROM {TREE} WHERE {BOX})"
-# The features that have an id, by its hash.
-_SAME_ID = (
-    f"feature_ids CROSS JOIN features ON fid = feature_ids.key & {MOST_FEATURES}"
-    f" WHERE feature_ids.key BETWEEN %s AND %s + {MOST_FEATURES}"
-    " AND features.id = %s AND features.id_exact IS %s"
-)
-SAME_ID = _SAME_ID % ("?", "?", "?", "?")
-WANTED = _SAME_ID % ("wanted.key", "wanted.key", "wanted.id", "wanted.exact")
-WITH_ID = f"fid IN (SELECT features.fid FROM temp.wanted CROSS JOIN {WANTED})"
-# The features whose id has the same hash as that of another feature.
-ALIKE = (
-    f"SELECT key & {MOST_FEATURES} FROM (SELECT key, lag(key) OVER near AS before,"
-    " lead(key) OVER near AS after FROM feature_ids WINDOW near AS (ORDER BY key))"
-    f" WHERE key >> {FID_BITS} IN (before >> {FID_BITS}, after >> {FID_BITS})"
-)
+WITH_ID = f"fid IN ({WANTED})"
 Terms = Tuple[List[str], List[Any]]  # conditions, and the values in them
 
 
@@ -74,21 +59,6 @@ def _classes(lods: Optional[bytes]) -> Optional[bytes]:
         for text in lods.decode("utf-8").split("\n")
     }
     return "\n".join(sorted(names)).encode("ascii")
-
-
-def values_of_id(text: str, exact: Optional[bytes]) -> Tuple[Any, ...]:
-    """Returns the values in `SAME_ID` for the id that is stored in two columns."""
-    key = hash_of(text, exact) << FID_BITS
-    return key, key, text, exact
-
-
-def want(base: Any, ids: bytes) -> None:
-    """Writes the ids of a query to a temporary table."""
-    base.execute("DROP TABLE IF EXISTS temp.wanted")
-    base.execute("CREATE TEMP TABLE wanted (key INTEGER, id TEXT, exact BLOB)")
-    texts = [stored(text.decode("utf-8")) for text in ids.split(b"\n")]
-    keys = [hash_of(*text) << FID_BITS for text in texts]
-    insert(base, "temp.wanted", keys, *zip(*texts))
 
 
 def has_more(base: Any, work: Work, fids: range, most: int) -> bool:

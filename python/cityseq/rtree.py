@@ -12,7 +12,7 @@ import sqlite3
 import struct
 from array import array
 from functools import lru_cache
-from itertools import compress, islice
+from itertools import compress
 from typing import Callable, Iterable, Iterator, List, Sequence, Tuple
 
 from .bulk import Same, insert
@@ -22,9 +22,10 @@ CELL = struct.Struct(">q4f")
 # A 32-bit float differs by less than this from the number that is rounded to it.
 INWARD, OUTWARD = 1 - 2.0**-23, 1 + 2.0**-23
 KEY = 8  # bytes
+ROW = KEY + CELL.size  # bytes of a key and its cell
 # Each half of a byte as a byte, with a zero between each two bits.
 _SPREAD = bytes(sum((half >> bit & 1) << 2 * bit for bit in range(4)) for half in range(16))
-_UPPER, _LOWER = bytes(_SPREAD[byte >> 4] for byte in range(256)), _SPREAD * 16
+UPPER, LOWER = bytes(_SPREAD[byte >> 4] for byte in range(256)), _SPREAD * 16
 
 
 def _down(numbers: Iterable[float]) -> List[float]:
@@ -63,8 +64,8 @@ def _spread(numbers: Sequence[float]) -> int:
     keys = bytearray(KEY * count)
     for place in range(3):
         column = ordered[place::4]
-        keys[2 + 2 * place :: KEY] = column.translate(_UPPER)
-        keys[3 + 2 * place :: KEY] = column.translate(_LOWER)
+        keys[2 + 2 * place :: KEY] = column.translate(UPPER)
+        keys[3 + 2 * place :: KEY] = column.translate(LOWER)
     return int.from_bytes(keys, "big")
 
 
@@ -100,18 +101,22 @@ class Tree:
         data = struct.pack(">HH", depth, len(cells) // CELL.size) + cells
         return data + bytes(self._size - len(data))
 
-    def _groups(self, cells: Iterator[bytes], count: int) -> Iterator[bytes]:
-        """Yields the cells of each node. All nodes have the same number of them, or one more."""
+    def _groups(self, pieces: Iterator[bytes], count: int, width: int) -> Iterator[bytes]:
+        """Yields the rows of each node, from pieces that hold many rows of so many bytes. All nodes
+        have the same number of rows, or one more."""
         nodes = -(-count // self._most)
+        held, begin = b"", 0
         for node in range(nodes):
             size = (node + 1) * count // nodes - node * count // nodes
-            yield b"".join(islice(cells, size))
+            end = begin + size * width
+            while end > len(held):
+                held, begin, end = held[begin:] + next(pieces), 0, end - begin
+            yield held[begin:end]
+            begin = end
 
-    def _level(
-        self, cells: Iterator[bytes], count: int, above: bytearray
-    ) -> Iterator[Tuple[int, bytes]]:
+    def _level(self, groups: Iterable[bytes], above: bytearray) -> Iterator[Tuple[int, bytes]]:
         """Yields each node of a level as its number and its cells, and adds its cell to `above`."""
-        for group in self._groups(cells, count):
+        for group in groups:
             self._last += 1
             above += CELL.pack(self._last, *_around(group))
             yield self._last, group
@@ -129,22 +134,30 @@ class Tree:
         """Writes the node of each node in a group of cells."""
         insert(self._base, f"{self._name}_parent", numbers_of(group), Same(number))
 
-    def write(self, cells: Iterator[bytes], count: int, last: int) -> None:
-        """Writes the index of `count` cells, which come in the order of the curve. No number of
-        theirs is greater than `last`."""
+    def write(self, rows: Iterator[bytes], count: int, last: int) -> None:
+        """Writes the index.
+
+        Args:
+            rows: The key of each cell, and then the cell, in the order of the keys. Each piece has
+                many.
+            count: How many cells there are.
+            last: A number that none of theirs is greater than.
+        """
         leaves = array("I", bytes(4 * (last + 1)))  # the node of each cell, by its number
 
         def note_leaves(number: int, group: bytes) -> None:
             for cell in numbers_of(group):
                 leaves[cell] = number
 
+        groups: Iterator[bytes] = map(_without_keys, self._groups(rows, count, ROW))
         depth, noted = 0, note_leaves
         while count > self._most:
             above = bytearray()
-            self._write(self._level(cells, count, above), noted)
-            cells, count = iter(_cells(above)), len(above) // CELL.size
+            self._write(self._level(groups, above), noted)
+            count = len(above) // CELL.size
+            groups = self._groups(iter([bytes(above)]), count, CELL.size)
             depth, noted = depth + 1, self._note_parents
-        root = b"".join(cells)
+        root = b"".join(groups)
         data = self._node(depth, root)
         self._base.execute(f"UPDATE {self._name}_node SET data = ? WHERE nodeno = {ROOT}", (data,))
         noted(ROOT, root)
@@ -163,6 +176,12 @@ def _numbers(count: int) -> struct.Struct:
     return struct.Struct(">" + "q16x" * count)
 
 
-def _cells(joined: bytearray) -> List[bytes]:
-    text = bytes(joined)
-    return [text[begin : begin + CELL.size] for begin in range(0, len(text), CELL.size)]
+@lru_cache(maxsize=64)
+def _rows(count: int) -> struct.Struct:
+    """Returns what reads so many cells that have keys."""
+    return struct.Struct(f"{KEY}x{CELL.size}s" * count)
+
+
+def _without_keys(rows: bytes) -> bytes:
+    """Returns the cells of rows."""
+    return b"".join(_rows(len(rows) // ROW).unpack(rows))

@@ -17,7 +17,7 @@ from cityseq.delivery import extras
 
 try:
     extras.need_all()
-    from cityseq.delivery import repeated, survey
+    from cityseq.delivery import hashing, repeated, survey
     from cityseq.engine.world import extent_of, transform_of
 
     MISSING = None
@@ -308,13 +308,17 @@ class Repeated(InFolder):
             [("i0", [2, 702]), ("i1", [3, 703])],
         )
 
+    def setUp(self):
+        super().setUp()
+        self.hash = hashing.Hash()
+
     def added(self, ids, count, at_once):
         """What is found among the ids of numbers, which come in pieces."""
         with repeated.Ids() as made, mock.patch.object(repeated, "AT_ONCE", at_once):
             for begin in range(0, count, 1_000):
                 numbers = range(begin, min(begin + 1_000, count))
                 lines = survey.np.array(numbers, "u8") + 2
-                made.add(0, lines, [ids(number) for number in numbers])
+                made.add(0, lines, self.hash.of_spellings([ids(number) for number in numbers]))
             with Reads(made) as reads:
                 return made.repeated(["f"]), reads.bytes
 
@@ -326,16 +330,58 @@ class Repeated(InFolder):
             self.assertEqual((found.ids, found.features), (10, 20))
             self.assertEqual(size, 5_000 * repeated.RECORD.itemsize)
 
-    def test_half_a_digest_is_not_enough(self):
-        def same_half(ids):
-            return b"".join(bytes(8) + each.ljust(8) for each in ids)
+    def test_a_part_of_a_hash_is_not_enough(self):
+        """Hashes are equal in the first 64 bits, or in the last 32."""
+        for high, low in (([7, 7, 7], [1, 2, 1]), ([1, 2, 1], [7, 7, 7])):
+            found = self.hash.of_spellings([b"a", b"b", b"a"])
+            found.high[:], found.low[:] = high, low
+            with repeated.Ids() as made:
+                made.add(0, survey.np.array([2, 3, 4]), found)
+                told = made.repeated(["f"])
+            self.assertEqual((told.ids, told.features), (1, 2))
+            self.assertEqual(
+                [(each.id, each.places) for each in told.first], [("a", [("f", 2), ("f", 4)])]
+            )
 
-        with mock.patch.object(repeated, "_digests", same_half):
-            found, _ = self.added(lambda number: [b"a", b"b", b"a"][number], 3, 1)
-        self.assertEqual((found.ids, found.features), (1, 2))
-        self.assertEqual(
-            [(each.id, each.places) for each in found.first], [("a", [("f", 2), ("f", 4)])]
-        )
+
+@unittest.skipIf(MISSING, MISSING)
+class Hashes(unittest.TestCase):
+    """Ids with and without escapes, wherever they lie in a part, have the hash of their text."""
+
+    def test_any_place(self):
+        chance, made = random.Random(1), hashing.Hash()
+        for _ in range(300):
+            ids = [
+                "".join(chance.choice("a\u00e9\u0000\ud800\U0001f3e0z") for _ in range(size))
+                for size in (chance.choice((0, 1, 7, 8, 9, 15, 60, 90, 300)) for _ in range(9))
+            ]
+            ids += [chance.choice(ids) for _ in range(5)]
+            part, begins, lengths = b"x" * chance.randrange(3), [], []
+            for name in ids:
+                is_plain = "\ud800" not in name and chance.random() < 0.5
+                spelled = json.dumps(name, ensure_ascii=not is_plain)[1:-1].encode()
+                begins.append(len(part))
+                lengths.append(len(spelled))
+                part += spelled + b"\\" * chance.randrange(2)
+            found = made.of(part, *(survey.np.array(each) for each in (begins, lengths)))
+            keys = list(zip(found.high.tolist(), found.low.tolist()))
+            for one, key in zip(ids, keys):
+                for other, its in zip(ids, keys):
+                    self.assertEqual(one == other, key == its)
+            for number, name in enumerate(ids):
+                text = name.encode("utf-8", "surrogatepass")[: hashing.LONGEST]
+                self.assertEqual(found.text(number), text)
+
+    def test_another_run_has_other_hashes(self):
+        one, other = (hashing.Hash().of_spellings([b"a", b"x" * 300]) for _ in "ab")
+        self.assertTrue((one.high != other.high).all())
+
+    def test_no_bit_is_always_the_same(self):
+        found = hashing.Hash().of_spellings([b"i%d" % number for number in range(5_000)])
+        for bits, values in ((64, found.high), (32, found.low)):
+            for bit in range(bits):
+                share = (values >> survey.np.uint64(bit) & survey.np.uint64(1)).mean()
+                self.assertTrue(0.3 < share < 0.7, (bits, bit, share))
 
 
 class Reads:

@@ -106,7 +106,7 @@ class Streams(InFolder):
     def test_a_change_while_a_server_answers(self):
         from cityseq.serve.catalogue import Catalogue
         from cityseq.serve.items import find
-        from cityseq.serve.pages import Page
+        from cityseq.index_pages import Page
         from cityseq.serve.settings import Settings
 
         path = self.file(self.text)

@@ -330,8 +330,10 @@ class Hostile(InFolder):
                 with self.assertRaises(cityseq.OutOfDate):
                     with cityseq.Index(self.index) as index:
                         index.filter(io.BytesIO())
+        # all have one hash
         self.made("UPDATE features SET id = x'00ff', line = 'x'",
-                  "UPDATE feature_ids SET key = key & 4294967295")
+                  "DELETE FROM feature_ids",
+                  "INSERT INTO feature_ids VALUES (0, x'000000000001000000000002')")
         with self.assertRaises(cityseq.OutOfDate):
             with cityseq.Index(self.index) as index:
                 index.show()

@@ -13,6 +13,7 @@ np: Any = needed("numpy")
 FEW = 1_500  # the most features that are drawn by their extents
 MOST_CELLS = 16_384  # in memory
 GRID = 72  # the most columns and rows of a map
+MOST_SUMS = 1 << 18  # cells in a rectangle whose counts are added up without sorting them
 TOGETHER = 65_536  # centres that are sorted into cells at once
 MOST_SPOTS = 2_000  # the most invalid features that are marked
 FINE = 40  # a cell is at least 2^-40 of the greatest coordinate
@@ -55,6 +56,23 @@ def _level(least: float) -> int:
     return max(LEAST, math.frexp(least)[1]) if least > 0 else LEAST
 
 
+def _added_up(columns: Any, rows: Any, counts: Any) -> Tuple[Any, Any, Any]:
+    """Returns each cell once, with the sum of its counts."""
+    if not len(columns):
+        return columns, rows, counts
+    left, low, height = int(columns.min()), int(rows.min()), int(np.ptp(rows)) + 1
+    if (int(columns.max()) - left + 1) * height <= MOST_SUMS:
+        sums = np.bincount((columns - left) * height + (rows - low), counts)
+        cells = np.flatnonzero(sums)
+        return cells // height + left, cells % height + low, sums[cells].astype("i8")
+    order = np.lexsort((rows, columns))
+    columns, rows, counts = columns[order], rows[order], counts[order]
+    first = np.ones(len(columns), bool)
+    first[1:] = (columns[1:] != columns[:-1]) | (rows[1:] != rows[:-1])
+    begins = np.flatnonzero(first)
+    return columns[begins], rows[begins], np.add.reduceat(counts, begins)
+
+
 class Grid:
     """Counts of centres by cells. The size of a cell is a power of two."""
 
@@ -92,13 +110,7 @@ class Grid:
         columns = np.concatenate((self._columns, columns))
         rows = np.concatenate((self._rows, rows))
         counts = np.concatenate((self._counts, counts))
-        order = np.lexsort((rows, columns))
-        columns, rows, counts = columns[order], rows[order], counts[order]
-        first = np.ones(len(columns), bool)
-        first[1:] = (columns[1:] != columns[:-1]) | (rows[1:] != rows[:-1])
-        begins = np.flatnonzero(first)
-        self._columns, self._rows = columns[begins], rows[begins]
-        self._counts = np.add.reduceat(counts, begins) if len(begins) else counts
+        self._columns, self._rows, self._counts = _added_up(columns, rows, counts)
 
     def _coarsen(self, level: int) -> None:
         """Makes cells as large as 2 to this level."""

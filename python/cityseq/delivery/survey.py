@@ -3,10 +3,12 @@ up."""
 from __future__ import annotations
 
 import json
+from bisect import bisect_right
 from contextlib import ExitStack, suppress
 from dataclasses import dataclass, field, replace
 from decimal import DecimalException
 from functools import partial
+from itertools import chain, groupby
 from typing import (
     TYPE_CHECKING,
     Any,
@@ -21,9 +23,9 @@ from typing import (
 )
 
 from ..engine.judge import Answer, judge, refused_memory
-from ..engine.library import library
+from ..engine.library import Text, library
 from ..engine.query import Work
-from ..engine.records import Records, unescaped
+from ..engine.records import IdsOf, Records, spelled_ids
 from ..engine.reports import Invalid, Report
 from ..engine.structs import LOD_CLASSES
 from ..engine.tally import Range
@@ -32,9 +34,11 @@ from ..geopackage import system_of
 from ..run.results import Result
 from ..run.streams import Stream
 from ..sources.chunks import Chunk
+from ..vectors import AXES, RECORD
 from .areas import Place
 from .extras import needed
 from .facts import Area, Contents, File, Named, Point, Reasons, Repeated
+from .hashing import Hash, Hashed
 from .lists import Lists
 from .repeated import Ids, text_of
 
@@ -43,14 +47,8 @@ if TYPE_CHECKING:
 
 np: Any = needed("numpy")
 
-AXES = ("x", "y", "z")
-RECORD = np.dtype(
-    [(name, "u8") for name in ("line", "begin", "length", "id_begin", "id_length", "objects",
-                               "geometries", "types", "lods")]
-    + [pair for axis in AXES
-       for pair in ((axis, "u8"), (f"{axis}min", "i8"), (f"{axis}max", "i8"))]
-)
 TOGETHER = 8_192  # records that are taken at once: a part may have only a few
+MANY = 256  # features of a part whose ids are hashed by the thread that judges it
 MOST_REPORTS = 10_000  # reports that are kept for the table in the page
 NEAR_THE_END = 16 << 20  # bytes at the end of an invalid line that are searched for vertices
 Ranges = Tuple[Range, Range, Range]
@@ -91,10 +89,12 @@ def middles_of(invalid: Iterable[Invalid]) -> Iterator[Point]:
                 yield middle
 
 
-def marked(chunk: Chunk, work: Work, size: Optional[int], is_marked: Callable[[], bool]) -> Answer:
+def marked(
+    chunk: Chunk, work: Work, size: Optional[int], ids_of: IdsOf, is_marked: Callable[[], bool]
+) -> Answer:
     """Returns the answer for a chunk, with the middles of its invalid features. The middles are
     left out if the map has enough of them."""
-    answer = judge(chunk, work, size)
+    answer = judge(chunk, work, size, ids_of)
     if not answer.invalid or is_marked():
         return answer
     try:
@@ -127,7 +127,7 @@ class Entry:
     features: int = 0
     longest: int = 0
     ranges: Ranges = (None, None, None)
-    waiting: List[Tuple[Records, int]] = field(default_factory=list)
+    waiting: List[Tuple[Records, int]] = field(default_factory=list)  # with ids as `ids_of` has
     waits: int = 0
 
     def world(self, axis: int, vertices: Any) -> Any:
@@ -143,15 +143,14 @@ class Entry:
         self.lods += _bits(records["lods"])
         self.lengths += np.bincount(np.frexp(records["length"].astype("f8"))[1], minlength=64)
         numbers = np.flatnonzero(records["x"])
-        some = records[numbers]
+        some = records if len(numbers) == len(records) else records[numbers]
         if not len(some):
             return
         x, y, z = (_wider(before, some, axis) for before, axis in zip(self.ranges, AXES))
         self.ranges = x, y, z
-        across, along = (
-            np.sort([self.world(n, some[f"{AXES[n]}{edge}"]) for edge in ("min", "max")], axis=0)
-            for n in (0, 1)
-        )
+        ends = [[self.world(n, some[f"{AXES[n]}{edge}"]) for edge in ("min", "max")]
+                for n in (0, 1)]
+        across, along = ((np.minimum(*axis), np.maximum(*axis)) for axis in ends)
         self.place.add(across[0], across[1], along[0], along[1],
                        lambda n, middle: named(int(numbers[n]), middle))
 
@@ -167,9 +166,11 @@ class Entry:
 
 
 def _bits(sets: Any) -> Any:
-    """Returns how many of these sets of bits have each bit set."""
-    flags = np.unpackbits(sets.astype("<u8").view("u1").reshape(-1, 8), axis=1, bitorder="little")
-    return flags.sum(axis=0, dtype="i8")
+    """Returns how many of these sets of bits have each bit set. There is at least one set."""
+    is_one = (sets == sets[0]).all()
+    some, counts = (sets[:1], len(sets)) if is_one else np.unique(sets, return_counts=True)
+    bits = np.unpackbits(some.astype("<u8").view("u1").reshape(-1, 8), axis=1, bitorder="little")
+    return (bits.T.astype("i8") * counts).sum(axis=1)
 
 
 def _wider(before: Range, records: Any, axis: str) -> Range:
@@ -192,13 +193,22 @@ class Survey:
         self._lists = lists
         self._places: Dict[Optional[str], Place] = {}
         self._stack = ExitStack()
-        self._ids = self._stack.enter_context(Ids())
+        self._ids, self._hash = self._stack.enter_context(Ids()), Hash()
 
     def __enter__(self) -> "Survey":
         return self
 
     def __exit__(self, *_: Any) -> None:
         self._stack.close()
+
+    def ids_of(self, part: Text, raw: bytes) -> Any:
+        """Returns the ids of the features of a part, from its records: with their hashes if they
+        are many, otherwise as they are spelled. Any thread may call this."""
+        if len(raw) < MANY * RECORD.itemsize:
+            return spelled_ids(part, raw)
+        records = np.frombuffer(raw, RECORD)
+        begins = records["begin"] + records["id_begin"] + 1  # after the quote
+        return self._hash.of(part, begins, records["id_length"] - 2)
 
     def begin(self, number: int, header: bytes) -> Entry:
         """Begins a file, by its number from 0. The header is valid."""
@@ -217,7 +227,7 @@ class Survey:
         Raises:
             WriteFault: The temporary folder is full.
         """
-        if records.ids:
+        if len(records.ids):
             entry.waiting.append((records, lines))
             entry.waits += len(records.ids)
         if entry.waits >= TOGETHER:
@@ -228,17 +238,32 @@ class Survey:
         waiting, entry.waiting, entry.waits = entry.waiting, [], 0
         if not waiting:
             return
-        found = np.frombuffer(b"".join(records.raw for records, _ in waiting), RECORD)
-        before = np.repeat(
-            np.array([lines for _, lines in waiting], "u8"), [len(each.ids) for each, _ in waiting]
-        )
-        lines, ids = found["line"] + before, [id for records, _ in waiting for id in records.ids]
-        if b"\\" in b"".join(ids):
-            ids = [unescaped(id).encode("utf-8", "surrogatepass") for id in ids]
-        self._ids.add(entry.number, lines, ids)
+        found = np.frombuffer(b"".join([records.raw for records, _ in waiting]), RECORD)
+        counts = [len(records.ids) for records, _ in waiting]
+        lines = found["line"] + np.repeat(np.array([lines for _, lines in waiting], "i8"), counts)
+        ends: List[int] = []
+        groups = list(self._hashed([records.ids for records, _ in waiting]))
+        for ids in groups:
+            begin = ends[-1] if ends else 0
+            ends.append(begin + len(ids))
+            self._ids.add(entry.number, lines[begin : ends[-1]], ids)
         name = self.files[entry.number].name
-        entry.add(found, lambda number, middle: Named(
-            name, int(lines[number]), text_of(ids[number]), middle))
+
+        def named(number: int, middle: Point) -> Named:
+            group = bisect_right(ends, number)
+            text = groups[group].text(number - ends[group])  # from the end
+            return Named(name, int(lines[number]), text_of(text), middle)
+
+        entry.add(found, named)
+
+    def _hashed(self, parts: Sequence[Any]) -> Iterator[Hashed]:
+        """Yields the ids of parts with their hashes, those of many small parts together."""
+        for is_made, group in groupby(parts, lambda ids: isinstance(ids, Hashed)):
+            if is_made:
+                yield from group
+            else:
+                spellings = list(chain.from_iterable(group))
+                yield self._hash.of_spellings(spellings)
 
     def mark(self, entry: Entry, middles: List[Point]) -> None:
         """Takes the middles of invalid features, as vertices of the file."""
@@ -304,7 +329,13 @@ class Surveyed:
             survey.report,
             progress,
             take=[self._take],
-            judge_by=partial(marked, work=records, size=how.size, is_marked=self._is_marked),
+            judge_by=partial(
+                marked,
+                work=records,
+                size=how.size,
+                ids_of=survey.ids_of,
+                is_marked=self._is_marked,
+            ),
         )
 
     def _is_marked(self) -> bool:

@@ -85,36 +85,39 @@ def units_of(number: "Decimal") -> int | None:
 
 
 class Axis:
-    """The map from the vertices of an axis to world coordinates."""
+    """The map from the vertices of an axis to world coordinates.
+
+    A vertex is at `(vertex * scale + shift) / unit`. All three are whole numbers.
+    """
 
     def __init__(self, scale: int, shift: int) -> None:
         """Takes scale and translation as counts of 10^-18."""
         common = gcd(gcd(scale, shift), 10**PLACES)
-        self._scale, self._shift = scale // common, shift // common
-        self._unit = 10**PLACES // common
+        self.scale, self.shift = scale // common, shift // common
+        self.unit = 10**PLACES // common
 
     def interval(self, least: int, greatest: int) -> Interval:
         """Returns the world coordinates of two vertices, rounded outward."""
-        low, high = least * self._scale + self._shift, greatest * self._scale + self._shift
-        if self._scale < 0:
+        low, high = least * self.scale + self.shift, greatest * self.scale + self.shift
+        if self.scale < 0:
             low, high = high, low
-        return floor_of(low, self._unit), ceiling_of(high, self._unit)
+        return floor_of(low, self.unit), ceiling_of(high, self.unit)
 
     def intervals(
         self, least: Iterable[int], greatest: Iterable[int]
     ) -> tuple[list[float], list[float]]:
         """Returns the least and the greatest world coordinates of many pairs of vertices, rounded
         outward."""
-        scale, shift = self._scale, self._shift
+        scale, shift = self.scale, self.shift
         low = [vertex * scale + shift for vertex in least]
         high = [vertex * scale + shift for vertex in greatest]
         if scale < 0:
             low, high = high, low
-        return floors_of(low, self._unit), ceilings_of(high, self._unit)
+        return floors_of(low, self.unit), ceilings_of(high, self.unit)
 
     def nearest(self, vertices: Iterable[int]) -> list[float]:
         """Returns the world coordinates of vertices as the nearest floats."""
-        scale, shift, unit = self._scale, self._shift, self._unit
+        scale, shift, unit = self.scale, self.shift, self.unit
         # Python rounds the quotient of two whole numbers to the nearest float
         return [(vertex * scale + shift) / unit for vertex in vertices]
 

@@ -21,7 +21,7 @@ from .tally import Tally
 
 if TYPE_CHECKING:
     from ..sources.chunks import Chunk
-    from .records import Records
+    from .records import IdsOf, Records
 
 SMALL = 1 << 19  # bytes that are judged by one call: they stay in the processor's cache
 HEADERS = 4  # a part is at least this many times as long as the header
@@ -148,14 +148,16 @@ def held(part: Text) -> bytes | bytearray:
     return bytes(part) if isinstance(part, memoryview) else part
 
 
-def _call(work: Work, header: bytes, part: Text, room: int) -> tuple[Answer, bytes]:
+def _call(
+    work: Work, header: bytes, part: Text, room: int, ids_of: IdsOf | None
+) -> tuple[Answer, bytes]:
     """Calls the function of the library that the work needs. Returns what it answers, and the
     reports that it wrote."""
     length = len(header)
     if work.kind == "records":
-        from .records import found_in  # few runs need it
+        from .records import found_in, spelled_ids  # few runs need it
 
-        answer, reports, found = found_in(work, header, part, room)
+        answer, reports, found = found_in(work, header, part, room, ids_of or spelled_ids)
         return Answer(answer, length, records=[found]), reports
     request = work.request(header, part)
     if work.kind == "filter":
@@ -169,15 +171,21 @@ def _call(work: Work, header: bytes, part: Text, room: int) -> tuple[Answer, byt
 
 
 def judge_lines(
-    work: Work, file: str, header: bytes, part: Text, is_first: bool, begin: int = 0
+    work: Work,
+    file: str,
+    header: bytes,
+    part: Text,
+    is_first: bool,
+    begin: int = 0,
+    ids_of: IdsOf | None = None,
 ) -> Answer:
     """Judges a header and the lines of a part that begins at a byte of the stream. Only the output
     of the first part has the header. If the reports do not fit, judges it again with enough memory
-    for them."""
+    for them. `ids_of` reads the ids of records, as their lines spell them if it is None."""
     room = len(part) // LINE + 1 if work.keep_going else 0
-    answer, reports = _call(work, header, part, room)
+    answer, reports = _call(work, header, part, room, ids_of)
     if answer.refused > room and work.keep_going:
-        answer, reports = _call(work, header, part, answer.refused)
+        answer, reports = _call(work, header, part, answer.refused, ids_of)
     if answer.status not in JUDGED:
         raise CityseqError(
             f"the library answered {answer.status}, code {answer.told.code},"
@@ -201,8 +209,11 @@ def judge_lines(
     return answer
 
 
-def judge(chunk: Chunk, work: Work, size: int | None = None) -> Answer:
-    """Judges a chunk of a stream, in parts of the given size, or as long as suits the work."""
+def judge(
+    chunk: Chunk, work: Work, size: int | None = None, ids_of: IdsOf | None = None
+) -> Answer:
+    """Judges a chunk of a stream, in parts of the given size, or as long as suits the work.
+    `ids_of` reads the ids of records, as their lines spell them if it is None."""
     joined = Answer(parts=0)
     if work.exact_lods:  # how many texts of LoDs are counted depends on the parts
         size = chunk.length
@@ -211,7 +222,7 @@ def judge(chunk: Chunk, work: Work, size: int | None = None) -> Answer:
     try:
         for begin, part in chunk.parts(step, work.reads_ids):
             is_first = chunk.is_first and not joined.parts
-            answer = judge_lines(work, chunk.file, chunk.header, part, is_first, begin)
+            answer = judge_lines(work, chunk.file, chunk.header, part, is_first, begin, ids_of)
             joined = joined.then(answer)
             if answer.status != CallStatus.COMPLETE:
                 break

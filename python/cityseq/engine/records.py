@@ -3,12 +3,13 @@ from __future__ import annotations
 
 import json
 import struct
-from collections.abc import Sequence
+from collections.abc import Callable, Sequence
 from dataclasses import dataclass, replace
 from itertools import starmap
+from typing import Any
 from zlib import crc32
 
-from ..bulk import Column, Same
+from ..bulk import Column, Same, same_if_equal
 from .library import FEATURE, Text, library
 from .memory import Room
 from .query import Work
@@ -20,6 +21,7 @@ SHORTEST = 64  # bytes: every feature is longer
 USUAL = 8_192  # features of a part that fit at first
 LONGEST = 1_024  # bytes of an id that is stored unchanged
 Id = tuple[str, bytes | None]
+IdsOf = Callable[[Text, bytes], Any]  # returns the ids of a part, from the part and its records
 _room = Room()  # for the records of a thread's parts, one after another
 
 
@@ -30,7 +32,8 @@ class Records:
     Attributes:
         begin: Where the part begins in the stream, in bytes.
         raw: The records, one after another, as the library writes them.
-        ids: The id of each feature as its line spells it, without quotes.
+        ids: The id of each feature as its line spells it, without quotes, or what else reads the
+            ids of a part returns.
         lines: How many lines of the stream came between the header and the part.
     """
 
@@ -101,9 +104,8 @@ def stored_as_spelled(spelling: bytes) -> Id:
 
 
 def hash_of(text: str, exact: bytes | None) -> int:
-    """Returns the hash of the id that is stored in these two columns: the upper 31 bits of the
-    CRC-32 of its UTF-8."""
-    return crc32(text.encode("utf-8") if exact is None else exact) >> 1
+    """Returns the hash of the id that is stored in these two columns: the CRC-32 of its UTF-8."""
+    return crc32(text.encode("utf-8") if exact is None else exact)
 
 
 def stored_as_columns(
@@ -112,13 +114,14 @@ def stored_as_columns(
     """Returns ids, from the JSON strings that spell them, as two columns and the hash of each."""
     if b"\\" not in b"".join(spellings) and max(map(len, spellings)) <= LONGEST:
         texts = b"\n".join(spellings).decode("utf-8").split("\n")  # no valid string has an LF
-        return texts, Same(None), [crc32(spelling) >> 1 for spelling in spellings]
+        return texts, Same(None), list(map(crc32, spellings))
     both = list(map(stored_as_spelled, spellings))
-    return [text for text, _ in both], [exact for _, exact in both], list(starmap(hash_of, both))
+    exact = same_if_equal([exact for _, exact in both])
+    return [text for text, _ in both], exact, list(starmap(hash_of, both))
 
 
-def ids_of(part: Text, raw: bytes) -> list[bytes]:
-    """Returns the id of each record of a part as its line spells it, without quotes."""
+def spelled_ids(part: Text, raw: bytes) -> list[bytes]:
+    """Returns the ids of the features of a part, as the JSON strings spell them, without quotes."""
     numbers = memoryview(raw).cast("q")
     places = (numbers[member::MEMBERS].tolist() for member in (1, 3, 4))
     return [
@@ -127,8 +130,11 @@ def ids_of(part: Text, raw: bytes) -> list[bytes]:
     ]
 
 
-def found_in(work: Work, header: bytes, part: Text, room: int) -> tuple[RawAnswer, bytes, Records]:
-    """Does the same as `call`, and returns the records with their ids."""
+def found_in(
+    work: Work, header: bytes, part: Text, room: int, ids_of: IdsOf = spelled_ids
+) -> tuple[RawAnswer, bytes, Records]:
+    """Does the same as `call`, and returns the records with their ids. `ids_of` returns these, from
+    the part and its records."""
     answer, reports, raw = call(work, header, part, room)
     return answer, reports, Records(0, raw, ids_of(part, raw))
 

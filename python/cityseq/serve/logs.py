@@ -81,6 +81,12 @@ class Combined(AbstractAccessLogger):
         version, headers = request.version, request.headers
         line = f"{request.method} {request.raw_path} HTTP/{version[0]}.{version[1]}"
         self.logger.info(
-            "%s - - [%s] %s %d %d %s %s", shown(str(request.remote or "-")), _when(clock.time()),
-            _quoted(line), response.status, body_size(request, response),
-            _quoted(headers.get("Referer")), _quoted(headers.get("User-Agent")))
+            "%s - - [%s] %s %d %d %s %s",
+            shown(str(request.remote or "-")),
+            _when(clock.time()),
+            _quoted(line),
+            response.status,
+            body_size(request, response),
+            _quoted(headers.get("Referer")),
+            _quoted(headers.get("User-Agent")),
+        )

@@ -34,14 +34,22 @@ def settings_of(wanted: Serve) -> Settings:
         RequestError: A URL is not valid.
     """
     limits = Limits(
-        requests=wanted.max_requests, bodies=wanted.max_bodies, connections=_connections(),
-        body=wanted.max_body, seconds=wanted.max_seconds, idle=wanted.idle_seconds,
-        rate=wanted.min_rate, stop=wanted.stop_seconds, features=wanted.max_features,
-        line_limit=wanted.line_limit, depth=wanted.depth,
+        requests=wanted.max_requests,
+        bodies=wanted.max_bodies,
+        connections=_connections(),
+        body=wanted.max_body,
+        seconds=wanted.max_seconds,
+        idle=wanted.idle_seconds,
+        rate=wanted.min_rate,
+        stop=wanted.stop_seconds,
+        features=wanted.max_features,
+        line_limit=wanted.line_limit,
+        depth=wanted.depth,
     )
     names = () if wanted.host in LOOPBACK else (wanted.host,)
-    return Settings(tuple(wanted.files), wanted.base, wanted.url, names, wanted.cors, wanted.jobs,
-                    limits)
+    return Settings(
+        tuple(wanted.files), wanted.base, wanted.url, names, wanted.cors, wanted.jobs, limits
+    )
 
 
 def _connections() -> int:
@@ -59,9 +67,14 @@ def _connections() -> int:
 def runner_of(server: Server, is_quiet: bool) -> web.AppRunner:
     """Returns what carries the application of a server."""
     return web.AppRunner(
-        application(server), logger=fault_logger(), access_log=request_logger(is_quiet),
-        access_log_class=Combined, auto_decompress=False, read_bufsize=READ,
-        lingering_time=LINGER, keepalive_timeout=server.limits.idle,
+        application(server),
+        logger=fault_logger(),
+        access_log=request_logger(is_quiet),
+        access_log_class=Combined,
+        auto_decompress=False,
+        read_bufsize=READ,
+        lingering_time=LINGER,
+        keepalive_timeout=server.limits.idle,
     )
 
 
@@ -142,8 +155,10 @@ class Process:
         for each in self.sockets:
             say(f"{url_of(each)} serves {what}, and checks files; Ctrl-C stops it")
         if host not in LOOPBACK:
-            say("anybody who reaches this address may read the collections and have files checked:"
-                " there is no password, and no encryption")
+            say(
+                "anybody who reaches this address may read the collections and have files checked:"
+                " there is no password, and no encryption"
+            )
 
     def _told_to_stop(self, number: int) -> None:
         if not self._stop.is_set():

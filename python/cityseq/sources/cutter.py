@@ -82,11 +82,6 @@ class Cutter:
         """False: the bytes that have come do not change."""
         return False
 
-    def drop(self) -> None:
-        """Drops the bytes that wait. None of those that follow counts."""
-        self.is_open = False
-        self._rest.clear()
-
     def _find_header(self) -> bool:
         """Finds the first line. Returns whether it has come, or is too long."""
         limit = self._work.line_limit

@@ -40,14 +40,22 @@ class Chunks:
         head: The first bytes.
         watch: Shows whether the file has changed. None if it is no regular file.
         unpacker: Unpacks the file. None if it is not packed.
+        regular: The file, which threads may read at any place. None if they may not.
     """
 
-    def __init__(self, source: Source, work: Work, size: int | None = None) -> None:
-        """Takes the size of chunks. None is the usual one."""
+    def __init__(
+        self,
+        source: Source,
+        work: Work,
+        size: int | None = None,
+        kind: type[RegularFile] = RegularFile,
+    ) -> None:
+        """Takes the size of chunks, and the class of a regular file. None is the usual size."""
         self.file, self.header, self.head = name_of(source), b"", b""
         self.watch: Watch | None = None
         self.unpacker: Unpacker | None = None
-        self._source, self._work, self._size = source, work, size
+        self.regular: RegularFile | None = None
+        self._source, self._work, self._size, self._kind = source, work, size, kind
         self._usual = SMALL if work.kind == "records" else PART
 
     @property
@@ -77,7 +85,8 @@ class Chunks:
         header, rest = read_header(reader, work.line_limit)
         self.unpacker = reader.file if isinstance(reader.file, Unpacker) else None
         self.header, self.head = header, header[:HEAD] + bytes(rest[:HEAD])
-        file = regular_file(reader.file) if is_path(self._source) else None
+        file = regular_file(reader.file, self._kind) if is_path(self._source) else None
+        self.regular = file
         has_more = file is not None and file.size > len(header) + len(rest)
         if file is not None and has_more and header.endswith(b"\n"):
             yield from self._of_file(file)

@@ -86,15 +86,15 @@ class RegularFile:
         return b"".join(pieces), None
 
 
-def regular_file(file: Any) -> RegularFile | None:
-    """Returns the regular file of a file object, or None if it has none."""
+def regular_file(file: Any, kind: type[RegularFile] = RegularFile) -> RegularFile | None:
+    """Returns the regular file of a file object, as one of this kind. None if it has none."""
     try:
         if (
             isinstance(file, io.BufferedReader)
             and hasattr(os, "preadv")
             and stat.S_ISREG(os.fstat(file.fileno()).st_mode)
         ):
-            return RegularFile(file.fileno())
+            return kind(file.fileno())
     except OSError:
         pass
     return None

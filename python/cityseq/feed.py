@@ -1,33 +1,54 @@
 """Streams that arrive piece by piece, as the body of a request does. Each piece is unpacked, cut
-and judged, and not kept."""
+into chunks of whole lines, judged, and not kept."""
 from __future__ import annotations
 
 from collections import Counter
+from collections.abc import Callable, Iterable, Iterator
 from functools import partial
-from itertools import islice
-from typing import Any, Callable, Iterable, Iterator, List, Optional, Tuple
+from typing import Any
 
-from ..engine.judge import SMALL, Answer, judge
-from ..engine.library import Text
-from ..engine.query import Work
-from ..engine.reports import Report
-from ..run.fold import Fold
-from ..run.results import Result
-from ..sources.chunks import Chunk
-from ..sources.cutter import Cutter
-from ..sources.packed import Gzip, Packing
-from .problems import Problem
+from .engine.judge import SMALL, Answer, judge
+from .engine.library import Text
+from .engine.query import Work
+from .engine.reports import Report
+from .faults import ReadFault
+from .run.fold import Fold
+from .run.results import Result
+from .sources.chunks import Chunk
+from .sources.cutter import Cutter
+from .sources.packed import Gzip, Packing
 
+BODY = "-"  # the name of a body in reports
 UNPACKED = 1 << 19  # bytes that are unpacked at once
 FEW, MANY = 1 << 9, 1 << 18  # packed bytes that a member gets at first, and at most
-BODY = "-"  # the name of a body in reports
 Task = Callable[[], Answer]
+
+
+class BodyFault(ReadFault):
+    """A stream that arrives, and cannot be taken."""
+
+
+class Broken(BodyFault):
+    """One whose archive is broken."""
+
+
+class OtherPacking(BodyFault):
+    """One that is packed in another way than by gzip."""
+
+
+class TooLong(BodyFault):
+    """One that is longer than its limit."""
+
+    @classmethod
+    def than(cls, limit: int) -> TooLong:
+        """Returns the fault of one that is longer than this."""
+        return cls(f"a body has at most {limit:,} bytes, also after it is unpacked")
 
 
 class Unpacking:
     """Unpacks a body that arrives piece by piece, if it is packed by gzip."""
 
-    def __init__(self, is_packed: Optional[bool], limit: int) -> None:
+    def __init__(self, is_packed: bool | None, limit: int) -> None:
         """Takes whether it is packed, and its greatest length. None: its first bytes show it."""
         self._is_packed, self._limit = is_packed, limit
         self._kind = Gzip()
@@ -40,7 +61,7 @@ class Unpacking:
         """Yields the text in the next piece.
 
         Raises:
-            Problem: It is broken, or too long.
+            BodyFault: It is broken, or too long.
         """
         if self._is_packed is None:
             piece, self._begin = self._begin + piece, b""
@@ -48,58 +69,47 @@ class Unpacking:
                 self._begin = piece
                 return
             if piece.startswith(Packing.ZSTD.mark):
-                raise Problem(415, "the body is packed by Zstandard: send it unpacked, or by gzip")
+                raise OtherPacking("the body is packed by Zstandard: send it unpacked, or by gzip")
             self._is_packed = piece.startswith(Packing.GZIP.mark)
-        for text in self._members(piece) if self._is_packed else (piece,):
+        for text in self._texts(piece) if self._is_packed else (piece,):
             self._length += len(text)
             if self._length > self._limit:
-                raise too_long(self._limit)
+                raise TooLong.than(self._limit)
             yield text
 
-    def _members(self, packed: bytes) -> Iterator[bytes]:
+    def _texts(self, packed: bytes) -> Iterator[bytes]:
         """Yields the text of some packed bytes. A member copies the bytes that follow its end, so
         it gets few of them until it has proved to be long."""
         at = 0
         while at < len(packed):
             part = packed[at : at + self._size]
-            if self._member is None:
-                part = part.lstrip(b"\0") if self._has_ended else part
-                at = min(at + self._size, len(packed)) - len(part)
-                self._member = self._kind.member() if part else None
-            text, left = self._more(part)
-            at += len(part) - left
+            zeros = len(part) - len(part.lstrip(b"\0"))
+            if self._member is None and self._has_ended and zeros:
+                at += zeros
+                continue
+            member = self._member = self._member or self._kind.member()
+            try:
+                text = self._kind.more(member, part, UNPACKED)
+            except self._kind.faults as fault:
+                raise Broken(f"the body is no archive of gzip: {fault}") from None
+            if member.eof:
+                at += len(part) - len(member.unused_data)
+                self._member, self._size, self._has_ended = None, FEW, True
+            else:
+                at += len(part) - len(member.unconsumed_tail)
+                self._size = min(2 * self._size, MANY)
             if text:
                 yield text
-
-    def _more(self, part: bytes) -> Tuple[bytes, int]:
-        """Returns some text of a member, and how many of its packed bytes are left."""
-        if self._member is None:
-            return b"", 0
-        try:
-            text = self._kind.more(self._member, part, UNPACKED)
-        except self._kind.faults as fault:
-            raise Problem(400, f"the body is no archive of gzip: {fault}") from None
-        if not self._member.eof:
-            self._size = min(2 * self._size, MANY)
-            return text, len(self._member.unconsumed_tail)
-        left = len(self._member.unused_data)
-        self._member, self._size, self._has_ended = None, FEW, True
-        return text, left
 
     def end(self) -> bytes:
         """Returns the rest.
 
         Raises:
-            Problem: The archive is cut short.
+            Broken: The archive is cut short.
         """
         if self._member is not None:
-            raise Problem(400, "the body is a gzip archive that is cut short")
+            raise Broken("the body is a gzip archive that is cut short")
         return self._begin
-
-
-def too_long(limit: int) -> Problem:
-    """Returns the problem of a body that is too long."""
-    return Problem(413, f"a body has at most {limit:,} bytes, also after it is unpacked")
 
 
 class Fed:
@@ -111,7 +121,6 @@ class Fed:
         work: What is asked of the stream.
         reports: The first reports, as many as are kept.
         codes: How often each reason occurred.
-        has_more: Whether there may be more chunks in the received bytes.
     """
 
     def __init__(
@@ -119,8 +128,8 @@ class Fed:
     ) -> None:
         """Takes the work, the unpacking, and how many reports are kept. `counts_codes` is whether
         the reasons of all other reports are counted too."""
-        reports: List[Report] = []
-        codes: "Counter[int]" = Counter()
+        reports: list[Report] = []
+        codes: Counter[int] = Counter()
 
         def keep(report: Report) -> None:  # no method: the stream would hold itself
             codes[report.code] += 1
@@ -132,8 +141,6 @@ class Fed:
         self._fold = Fold(self._cutter, work, tell=keep)
         self._unpacking, self._most_reports = unpacking, most_reports
         self._counts_codes = counts_codes
-        self._coming: Iterator[Task] = iter(())
-        self.has_more = False
 
     @property
     def ended(self) -> bool:
@@ -145,45 +152,28 @@ class Fed:
         """Whether the first line is known to be valid."""
         return self._fold.joined.parts > 0 and not self.ended
 
-    def feed(self, pieces: Iterable[bytes]) -> None:
-        """Takes some more of the body, after all chunks of the pieces before were made."""
-        self._coming, self.has_more = self._cut(pieces), True
-
-    def drop(self) -> None:
-        """Drops the bytes that have come and were not judged."""
-        self._coming = iter(())
-        self._cutter.drop()
-
-    def parts(self, most: int) -> List[Task]:
-        """Returns calls that judge the next chunks, at most `most` of them. Few packed bytes may
-        have a long text, and only this much of it is unpacked.
+    def cut(self, pieces: Iterable[bytes]) -> Iterator[Task]:
+        """Yields calls that judge the whole lines in some more of the body, where they are enough.
+        Few packed bytes may have a long text. Only what is in the calls is unpacked.
 
         Raises:
-            Problem: The body is broken, or too long.
+            BodyFault: The body is broken, or too long.
         """
-        found = list(islice(self._coming, most))
-        self.has_more = len(found) == most
-        return found
-
-    def _cut(self, pieces: Iterable[bytes]) -> Iterator[Task]:
         for piece in pieces:
             for text in self._unpacking.feed(piece):
                 if not self.ended:
                     yield from self._tasks(self._cutter.feed(text))
 
-    def _tasks(self, chunks: Iterable[Chunk]) -> Iterator[Task]:
-        return (partial(judge, chunk, self.work) for chunk in chunks)
-
-    def end(self) -> List[Task]:
-        """Returns calls that judge the rest.
+    def end(self) -> Iterator[Task]:
+        """Yields calls that judge the rest.
 
         Raises:
-            Problem: The body is cut short.
+            Broken: The body is cut short.
         """
         rest = self._unpacking.end()
-        if self.ended:
-            return []
-        return [*self._tasks(self._cutter.feed(rest)), *self._tasks(self._cutter.end())]
+        if not self.ended:
+            yield from self._tasks(self._cutter.feed(rest))
+            yield from self._tasks(self._cutter.end())
 
     def take(self, answer: Answer) -> Text:
         """Joins the answer of the next chunk, and returns its output."""
@@ -206,3 +196,6 @@ class Fed:
         if result.raises is not None:
             raise result.raises
         return result
+
+    def _tasks(self, chunks: Iterable[Chunk]) -> Iterator[Task]:
+        return (partial(judge, chunk, self.work) for chunk in chunks)
