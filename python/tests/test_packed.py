@@ -310,6 +310,16 @@ class Wholes(InFolder):
                 [numbered(one.reports) for one in wanted],
             )
 
+    def test_reports_come_in_the_order_of_the_files(self):
+        """Also that of a file whose header is invalid, which ends before the files before it."""
+        first = self.file(HEADER + b"[]\n" * 50_000, "first.gz")
+        paths = [first, *(self.file(b"[]\n", f"{number}.gz") for number in range(3))]
+        told = []
+        for _ in cityseq.check_files(paths, jobs=4, keep_going=True, on_report=told.append):
+            pass
+        self.assertEqual([report.file for report in told],
+                         [str(first)] * 50_000 + list(map(str, paths[1:])))
+
     def test_several_are_unpacked_at_once(self):
         import threading
         threads, read = set(), Unpacker.read

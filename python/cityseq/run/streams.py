@@ -167,7 +167,9 @@ class _Run:
         first one."""
         answers, is_last = self.calls.popleft().result()
         self.is_read = self.is_read or is_last
-        waits = self.held or any(answer.refused or answer.records for answer in answers)
+        waits = self.held or any(
+            answer.refused or answer.end is not None or answer.records for answer in answers
+        )
         if is_next or not waits:
             self.add(answers)
         else:
