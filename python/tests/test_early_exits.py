@@ -45,8 +45,42 @@ def environment():
     return {**os.environ, "PYTHONPATH": os.path.join(support.ROOT, "python")}
 
 
+FORKED = """
+import os, sys, cityseq
+results = cityseq.check_files([sys.argv[1]] * 5, jobs=JOBS)
+print(next(results).features, flush=True)
+if os.fork() == 0:
+    LEAVE
+print(os.waitstatus_to_exitcode(os.wait()[1]))
+print(sum(each.features for each in results))
+"""
+
+
 class Exits(InFolder):
     """`check_files` whose results nobody wants any more."""
+
+    def test_processes_that_are_forked_during_a_run(self):
+        """They have no thread that they could wait for."""
+        path = self.file(HEADER + PLAIN * 20_000)
+        for leave, wanted in (
+            ("sys.exit(3)", 3),
+            ("results.close(); sys.exit(3)", 3),
+            ("raise KeyError", 1),
+            ("next(results)", 1),
+            ("sys.exit(cityseq.check(sys.argv[1]).features // 10_000)", 2),
+        ):
+            for jobs in (1, 4):
+                script = FORKED.replace("JOBS", str(jobs)).replace("LEAVE", leave)
+                with self.subTest(leave, jobs=jobs):
+                    ran = subprocess.run(
+                        [sys.executable, "-c", script, str(path)],
+                        stdout=subprocess.PIPE,
+                        stderr=subprocess.DEVNULL,
+                        timeout=30,
+                        env=environment(),
+                    )
+                    self.assertEqual((ran.stdout.split(), ran.returncode),
+                                     ([b"20000", str(wanted).encode(), b"80000"], 0))
 
     def test_scripts(self):
         plain = self.file(HEADER + PLAIN * 20_000)

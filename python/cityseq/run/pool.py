@@ -7,6 +7,7 @@ from __future__ import annotations
 
 import _thread
 import atexit
+import os
 import resource
 import threading
 from collections.abc import Callable
@@ -89,7 +90,7 @@ class Pool:
     a `with` block ends them all, and so does the end of the process."""
 
     def __init__(self, most: int) -> None:
-        self._most, self._submitted = most, 0
+        self._most, self._submitted, self._process = most, 0, os.getpid()
         self._calls: SimpleQueue[Callable[[], None]] = SimpleQueue()
         self._ends: list[Any] = []  # a lock for each thread, which holds it until it ends
         # at its end Python stops these threads, and then nothing could wait for them
@@ -99,17 +100,26 @@ class Pool:
         return self
 
     def __exit__(self, *_: Any) -> None:
-        """Ends the threads, after all calls that were submitted and not cancelled."""
+        """Ends the threads, after all calls that were submitted and not cancelled. A process that
+        was forked has none of them, and so it waits for none."""
+        atexit.unregister(self.__exit__)
+        if self._is_forked:
+            return
         # one more than there are threads: an interrupt may have come just after one was started,
         # before it was in the list
         for _sign in range(len(self._ends) + 1):
             self._calls.put(_thread.exit)
         while self._ends:
             self._ends.pop().acquire()
-        atexit.unregister(self.__exit__)
+
+    @property
+    def _is_forked(self) -> bool:
+        return os.getpid() != self._process
 
     def has_threads(self) -> bool:
-        """Whether a thread is alive."""
+        """Whether a thread is alive. Raises `RuntimeError` in a process that was forked since."""
+        if self._is_forked:
+            raise RuntimeError("a run does not go on in a process that was forked during it")
         return any(end.locked() for end in self._ends)
 
     def submit(self, call: Callable[[], T]) -> Job[T]:
