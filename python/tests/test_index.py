@@ -851,7 +851,7 @@ class BadInput(InFolder):
         with self.assertRaises(cityseq.ReadFault) as caught:
             cityseq.Index(self.index)
         self.assertIn(
-            "it is an index of version 1, and not of version 3: build it again",
+            "it is an index of version 1, and not of version 4: build it again",
             str(caught.exception),
         )
 
