@@ -10,20 +10,22 @@ from typing import Any, Callable, Dict, Optional, Tuple
 
 from .faults import RequestError, write_fault
 from .objects import Object, options_object
-from .sources import PIECE, is_path
+from .sources import is_path
 from .words import Asked
+
+HASHED = 1 << 17  # bytes that are hashed at once, while the cache of a processor has them
 
 
 def sha256_of(path: str, is_stopped: Callable[[], bool] = lambda: False) -> Optional[str]:
     """Returns the SHA-256 of a file, as sha256sum prints it. Returns None if the file cannot be
     read, or as soon as `is_stopped` returns true."""
-    digest = hashlib.sha256()
+    digest, room = hashlib.sha256(), memoryview(bytearray(HASHED))
     try:
         with open(path, "rb", buffering=0) as file:
-            for piece in iter(lambda: file.read(PIECE), b""):
+            for count in iter(lambda: file.readinto(room), 0):
                 if is_stopped():
                     return None
-                digest.update(piece)
+                digest.update(room[:count])
     except OSError:
         return None
     return digest.hexdigest()
