@@ -25,7 +25,7 @@ from . import columns, geopackage, id_table
 from .engine.library import library
 from .engine.structs import LOD_CLASSES
 from .arrays import vectors_for
-from .bulk import Column, Same, insert
+from .bulk import Column, Same, insert, same_if_equal
 from .columns import NOWHERE, Ranges
 from .engine.extents import World, wider
 from .faults import WriteFault, write_fault
@@ -148,6 +148,10 @@ def _first(column: Column) -> Any:
     return column.value if isinstance(column, Same) else next(iter(column))
 
 
+def _same_if_equal(column: Column) -> Column:
+    return column if isinstance(column, Same) else same_if_equal(list(column))
+
+
 def _named(sets: Column, names: Callable[[int], str]) -> Column:
     """Returns a column of the names of sets."""
     return Same(names(sets.value)) if isinstance(sets, Same) else list(map(names, sets))
@@ -225,10 +229,12 @@ class Builder:
         )
         entry.widen(made.ranges)
         names, exact, hashes = stored_as_columns(records.ids)
-        geometry, *heights = (
+        geometry, zmin, zmax = (
             _filled(column, made.has_place) for column in (made.geometry, made.zmin, made.zmax)
         )
         uniform = (
+            _same_if_equal(zmin),
+            _same_if_equal(zmax),
             _named(made.types, names_of_types),
             _named(made.lods, names_of_lods),
             made.objects,
@@ -236,7 +242,7 @@ class Builder:
             Same(entry.number),
             exact,
         )
-        others = (numbers, geometry, made.line, made.begin, made.length, names, *heights)
+        others = (numbers, geometry, made.line, made.begin, made.length, names)
         with telling_of(self.name):
             insert(self._base, "features", *others, *self._stored(uniform))
         self._cells.add(made.cells)
@@ -246,8 +252,9 @@ class Builder:
         """Returns those of the uniform columns that rows have from now on. The others have had one
         value in all rows."""
         if self._usual is None:
-            *others, _ = columns
-            self._usual = (*map(_first, others), None)  # few ids need `id_exact`
+            zmin, zmax, *others, _ = map(_first, columns)
+            heights = (geopackage.as_default(self._base, height) for height in (zmin, zmax))
+            self._usual = (*heights, *others, None)  # few ids need `id_exact`
         pairs = zip(columns, self._usual)
         differing = [place for place, (column, usual) in enumerate(pairs) if column != Same(usual)]
         self._add_columns(differing[-1] + 1 if differing else 0)

@@ -6,7 +6,7 @@ import time
 from collections.abc import Callable
 from typing import Any
 
-from .sources.source import PIECE
+HASHED = 1 << 17  # bytes that are hashed at once, while the cache of a processor has them
 
 
 def sha256_of(path: str, is_stopped: Callable[[], bool] = lambda: False) -> str | None:
@@ -14,13 +14,13 @@ def sha256_of(path: str, is_stopped: Callable[[], bool] = lambda: False) -> str 
     read, or as soon as `is_stopped` returns true."""
     import hashlib  # few runs need it
 
-    digest = hashlib.sha256()
+    digest, room = hashlib.sha256(), memoryview(bytearray(HASHED))
     try:
         with open(path, "rb", buffering=0) as file:
-            for piece in iter(lambda: file.read(PIECE), b""):
+            for count in iter(lambda: file.readinto(room), 0):
                 if is_stopped():
                     return None
-                digest.update(piece)
+                digest.update(room[:count])
     except OSError:
         return None
     return digest.hexdigest()

@@ -7,6 +7,7 @@ were judged. docs/geopackage.md describes every column.
 from __future__ import annotations
 
 import json
+import math
 import re
 import sqlite3
 import struct
@@ -14,7 +15,7 @@ from contextlib import suppress
 from itertools import repeat
 from typing import Any, Iterator, Optional, Sequence, Tuple
 
-VERSION = 3  # of the tables: it changes if a column is removed, renamed or changes its meaning
+VERSION = 4  # of the tables: it changes if a column is removed, renamed or changes its meaning
 APPLICATION = 0x47504B47  # "GPKG"
 GEOPACKAGE = 10_300  # GeoPackage 1.3
 MOST_FEATURES = (1 << 32) - 1  # whose numbers fit in `feature_ids`
@@ -56,7 +57,7 @@ CREATE TABLE gpkg_extensions (
 OURS = """
 CREATE TABLE features (
   fid INTEGER PRIMARY KEY NOT NULL, geom POLYGON, line INTEGER NOT NULL, begin INTEGER NOT NULL,
-  length INTEGER NOT NULL, id TEXT NOT NULL, zmin REAL, zmax REAL);
+  length INTEGER NOT NULL, id TEXT NOT NULL);
 CREATE TABLE feature_ids (key INTEGER PRIMARY KEY NOT NULL, entries BLOB NOT NULL);
 CREATE TABLE streams (
   fid INTEGER PRIMARY KEY NOT NULL, path TEXT NOT NULL, path_exact BLOB, packing TEXT,
@@ -77,6 +78,8 @@ CREATE TABLE cityseq_index (
 
 # The other columns of `features`, whose last ones often have one value in all rows.
 UNIFORM = {
+    "zmin": "REAL",
+    "zmax": "REAL",
     "types": "TEXT NOT NULL",
     "lods": "TEXT NOT NULL",
     "objects": "INTEGER NOT NULL",
@@ -84,7 +87,7 @@ UNIFORM = {
     "stream": "INTEGER NOT NULL",
     "id_exact": "BLOB",
 }
-NO_FEATURE = ("", "", 0, 0, 1, None)  # their values where there is no feature
+NO_FEATURE = (None, None, "", "", 0, 0, 1, None)  # their values where there is no feature
 
 # They note that another program has changed what cuts rely on.
 GUARD = """
@@ -187,12 +190,26 @@ def create(base: sqlite3.Connection) -> None:
     base.execute(f"CREATE VIRTUAL TABLE {TREE} USING rtree(id, minx, maxx, miny, maxy)")
 
 
+def _literal(value: Any) -> str:
+    """Returns a number or a name as SQL. SQLite keeps up to 19 digits when it reads a float."""
+    return f"{value:.20g}" if isinstance(value, float) else repr(value)
+
+
+def as_default(base: sqlite3.Connection, height: Optional[float]) -> Optional[float]:
+    """Returns a height if SQLite reads it unchanged from the text of a default, and else None. The
+    text of a float with a very large or small exponent may be read as its neighbour."""
+    if height is None or not math.isfinite(height):
+        return None
+    (told,) = base.execute(f"SELECT CAST({_literal(height)} AS REAL)").fetchone()
+    return height if told == height else None
+
+
 def add_columns(base: sqlite3.Connection, begin: int, end: int, values: Sequence[Any]) -> None:
     """Adds some of the uniform columns to `features`, by their places. All rows before have these
     values, numbers or names, and take no bytes for them: if a row ends before a column, SQLite
     reads the default of the column."""
     for (name, kind), value in list(zip(UNIFORM.items(), values))[begin:end]:
-        default = "" if value is None else f" DEFAULT {value!r}"
+        default = "" if value is None else f" DEFAULT {_literal(value)}"
         base.execute(f"ALTER TABLE features ADD COLUMN {name} {kind}{default}")
 
 

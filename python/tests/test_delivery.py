@@ -2,7 +2,9 @@
 import csv
 import gzip
 import json
+import operator
 import random
+import struct
 import subprocess
 import unittest
 from collections import Counter
@@ -372,13 +374,33 @@ class Hashes(unittest.TestCase):
                 text = name.encode("utf-8", "surrogatepass")[: hashing.LONGEST]
                 self.assertEqual(found.text(number), text)
 
+    def test_the_sums(self):
+        """Each is the upper half of a sum of products, as Python makes it."""
+        chance, made = random.Random(2), hashing.Hash()
+        first, of_length, *others = made._factors.tolist()
+        for size in (0, 1, 4, 8, 9, 31, 250):
+            ids = [chance.randbytes(size).replace(b"\\", b"x") for _ in range(5)]
+            found = made.of_spellings(ids)
+            for id, high, low in zip(ids, found.high.tolist(), found.low.tolist()):
+                text = id + bytes(-len(id) % 8)
+                halves = struct.unpack(f"<{len(text) // 4}I", text)
+                sums = [
+                    one + len(id) * other + sum(map(operator.mul, halves, factors))
+                    for one, other, *factors in zip(first, of_length, *others)
+                ]
+                whole = [each % (1 << 64) >> 32 for each in sums]
+                self.assertEqual((high, low), (whole[0] << 32 | whole[1], whole[2]))
+
     def test_another_run_has_other_hashes(self):
         one, other = (hashing.Hash().of_spellings([b"a", b"x" * 300]) for _ in "ab")
         self.assertTrue((one.high != other.high).all())
 
     def test_no_bit_is_always_the_same(self):
-        found = hashing.Hash().of_spellings([b"i%d" % number for number in range(5_000)])
-        for bits, values in ((64, found.high), (32, found.low)):
+        ids = [b"i%d" % number for number in range(1_000)]
+        # one hash of a hundred hardly changes a bit where ids are so alike
+        made = [hashing.Hash().of_spellings(ids) for _ in range(20)]
+        high, low = (survey.np.concatenate(each) for each in zip(*((m.high, m.low) for m in made)))
+        for bits, values in ((64, high), (32, low)):
             for bit in range(bits):
                 share = (values >> survey.np.uint64(bit) & survey.np.uint64(1)).mean()
                 self.assertTrue(0.3 < share < 0.7, (bits, bit, share))

@@ -25,7 +25,7 @@ from .support import HEADER, PLAIN, ROOT, InFolder, command, feature
 import cityseq
 from cityseq import builder
 from cityseq.engine.records import id_of
-from cityseq.sources.source import regular
+from cityseq.sources import regular
 
 TOWN, SAMPLE, BROKEN, DELIVERY = (
     f"{ROOT}/examples/{name}.city.jsonl" for name in ("town", "sample", "broken", "delivery")
@@ -852,7 +852,7 @@ class BadInput(InFolder):
         with self.assertRaises(cityseq.ReadFault) as caught:
             cityseq.Index(self.index)
         self.assertIn(
-            "it is an index of version 1, and not of version 3: build it again",
+            "it is an index of version 1, and not of version 4: build it again",
             str(caught.exception),
         )
 

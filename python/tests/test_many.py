@@ -1,5 +1,7 @@
 """Indexes of many features: sorted rows, columns by numpy, columns that rows lack, and hashes."""
+import math
 import random
+import re
 import sqlite3
 import struct
 import tempfile
@@ -14,7 +16,7 @@ from .support import HEADER, InFolder, feature
 from .test_index import dump, query, with_id
 
 import cityseq
-from cityseq import arrays, builder, columns, id_table, sorting
+from cityseq import arrays, builder, columns, geopackage, id_table, sorting
 from cityseq.engine.extents import Axis, World, ceiling_of, floor_of
 from cityseq.faults import WriteFault
 from cityseq.geopackage import UNIFORM, geometry_start
@@ -214,6 +216,62 @@ class Uniform(InFolder):
 
         same, mixed = size("Building"), size("Building", "SolitaryVegetationObject")
         self.assertGreater(mixed - same, 15)  # half of the names, and five bytes
+
+    def high(self, heights, shift=b"0"):
+        """An index of features with these heights, as counts of millimetres above a shift."""
+        lines = [
+            re.sub(rb",[05]\]", b",%d]" % height, feature(f"b{number}"))
+            for number, height in enumerate(heights)
+        ]
+        header = HEADER.replace(b"[10,20,0]", b"[10,20,%s]" % shift)
+        return self.built([header + b"".join(lines)], size=4_000)[0]
+
+    def test_heights(self):
+        """They are the doubles next to the exact heights, whether rows have them or not."""
+        chance = random.Random(5)
+        for _ in range(25):
+            shift = f"{chance.uniform(-999, 999):.{chance.randrange(9)}f}"
+            heights = [chance.randrange(-9_999, 9_999)] * chance.randrange(1, 40)
+            heights += heights[:1] if chance.random() < 0.5 else [4]
+            index = self.high(heights, shift.encode())
+            wanted = []
+            for height in heights:
+                exact = Fraction(shift) + Fraction(height, 1_000)
+                near = float(exact)
+                low = near if near <= exact else math.nextafter(near, -math.inf)
+                high = near if near >= exact else math.nextafter(near, math.inf)
+                wanted.append((low, high, "real", "real"))
+            select = "SELECT zmin, zmax, typeof(zmin), typeof(zmax) FROM features ORDER BY fid"
+            self.assertEqual(query(index, select), wanted)
+
+    def test_equal_heights_take_no_bytes(self):
+        def size(heights):
+            (pages,) = query(self.high(heights), "PRAGMA page_count")[0]
+            return pages * builder.PAGE / len(heights)
+
+        flat, hilly = [7] * 10_000, [*range(7, 10_007)]
+        self.assertGreater(size(hilly) - size(flat), 17)  # two doubles, and a byte for each
+
+    def test_heights_that_a_default_may_change(self):
+        """SQLite reads the text of some floats as another one."""
+        chance = random.Random(6)
+        numbers = [struct.unpack("<d", chance.randbytes(8))[0] for _ in range(2_000)]
+        numbers += [0.0, -0.0, 5.0, -0.452, 1e300, math.inf, -math.inf, math.nan]
+        kept = 0
+        with closing(sqlite3.connect(":memory:")) as base:
+            for number in numbers:
+                default = geopackage.as_default(base, number)
+                if default is None:
+                    continue
+                kept += 1
+                base.execute("CREATE TABLE features (fid INTEGER)")
+                base.execute("INSERT INTO features VALUES (1)")
+                geopackage.add_columns(base, 0, 1, (default,))
+                self.assertEqual(base.execute("SELECT zmin FROM features").fetchone(), (number,))
+                base.execute("DROP TABLE features")
+            self.assertIsNone(geopackage.as_default(base, None))
+            self.assertIsNone(geopackage.as_default(base, math.inf))
+        self.assertGreater(kept, 1_900)
 
     def test_another_program_adds_a_row(self):
         """A row that it adds has the defaults, and the index notes that it was changed."""

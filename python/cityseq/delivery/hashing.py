@@ -6,6 +6,7 @@ from dataclasses import dataclass
 from hashlib import blake2b
 from typing import Any, List
 
+from ..engine.library import Text, searchable
 from ..engine.records import unescaped
 from .extras import needed
 
@@ -15,7 +16,7 @@ LONGEST = 256  # bytes of an id that are kept
 WORD = 8  # bytes
 SUMS = 3  # of 32 bits each
 BACKSLASH = 92
-HALF = np.uint64(32)
+HALF, LOWER = np.uint64(32), np.uint64((1 << 32) - 1)
 _KEPT = np.array([(1 << 8 * count) - 1 for count in range(WORD + 1)], "u8")  # the first bytes
 
 
@@ -62,7 +63,7 @@ class Hash:
         self._first, self._of_length, *_ = self._factors = random.reshape(count, SUMS)
         self._key = os.urandom(WORD)
 
-    def of(self, part: Any, begins: Any, lengths: Any) -> Hashed:
+    def of(self, part: Text, begins: Any, lengths: Any) -> Hashed:
         """Returns the hashes of ids, which JSON strings in a part spell.
 
         Args:
@@ -72,7 +73,8 @@ class Hash:
         """
         text = np.frombuffer(part, "u1")
         found = self._of(text, begins, lengths)
-        if b"\\" in bytes(part):
+        whole, first, end = searchable(part)
+        if whole.find(b"\\", first, end) >= 0:
             escapes = np.flatnonzero(text == BACKSLASH)
             before, after = (np.searchsorted(escapes, edge) for edge in (begins, begins + lengths))
             rows = np.flatnonzero(before < after)
@@ -105,11 +107,19 @@ class Hash:
 
     def _sums(self, words: Any, lengths: Any) -> Any:
         """Returns the first and the last bits of the hashes."""
-        halves = words.view("<u4").astype("u8")
-        sums = halves @ self._factors[2 : 2 + halves.shape[1]]
-        sums += lengths.astype("u8")[:, None] * self._of_length + self._first
-        first, second, third = (sums >> HALF).T
+        sums = np.multiply.outer(self._of_length, lengths.astype("u8"))
+        sums += self._first[:, None]
+        for number, column in enumerate(words.T):
+            # one product after another: numpy takes several times as long to multiply matrices
+            for half, factors in zip((column & LOWER, column >> HALF), self._of_word(number)):
+                for own, factor in zip(sums, factors):
+                    own += half * factor
+        first, second, third = sums >> HALF
         return first << HALF | second, third
+
+    def _of_word(self, number: int) -> Any:
+        """Returns the factors of the lower half of a word, and of its upper half."""
+        return self._factors[2 + 2 * number : 4 + 2 * number]
 
 
 def _words(text: Any, begins: Any, lengths: Any) -> Any:
@@ -122,6 +132,6 @@ def _words(text: Any, begins: Any, lengths: Any) -> Any:
     if count:
         at = np.ndarray(len(text) - WORD + 1, "<u8", text, strides=(1,))  # the word at each byte
         for number in range(count):
-            left = np.clip(lengths - number * WORD, 0, WORD)
+            left = np.minimum(np.maximum(lengths - number * WORD, 0), WORD)  # `clip` takes longer
             words[:, number] = at[begins + number * WORD] & _KEPT[left]
     return words
