@@ -75,7 +75,7 @@ def tiny(megabytes, rounds):
 # `index` whose threads make no hash
 WITHOUT_HASH = """
 import sys
-from cityseq import digests
+from cityseq.indexes import digests
 from cityseq.cli.main import main
 from cityseq.sources.regular import RegularFile
 digests.HashedFile.read = RegularFile.read
@@ -161,7 +161,7 @@ def written(count, path):
     """Writes an index of made-up records, and returns the seconds that this took, by the clock and
     of the processor."""
     import cityseq
-    from cityseq.builder import Builder, File
+    from cityseq.indexes.builder import Builder, File
     from cityseq.engine.query import asked
     from cityseq.run.results import Result
 

@@ -27,22 +27,22 @@ if TYPE_CHECKING:
     from .calls import info as info
     from .calls import report as report
     from .calls import table as table
+    from .engine.faults import CityseqError as CityseqError
+    from .engine.faults import InvalidStream as InvalidStream
+    from .engine.faults import LibraryMissing as LibraryMissing
+    from .engine.faults import MemoryFault as MemoryFault
+    from .engine.faults import OutOfDate as OutOfDate
+    from .engine.faults import ReadFault as ReadFault
+    from .engine.faults import RequestError as RequestError
+    from .engine.faults import Status as Status
+    from .engine.faults import WriteFault as WriteFault
     from .engine.query import Limits as Limits
     from .engine.query import Options as Options
     from .engine.query import Query as Query
     from .engine.reports import Explanation as Explanation
     from .engine.reports import Report as Report
     from .engine.reports import explain as explain
-    from .faults import CityseqError as CityseqError
-    from .faults import InvalidStream as InvalidStream
-    from .faults import LibraryMissing as LibraryMissing
-    from .faults import MemoryFault as MemoryFault
-    from .faults import OutOfDate as OutOfDate
-    from .faults import ReadFault as ReadFault
-    from .faults import RequestError as RequestError
-    from .faults import Status as Status
-    from .faults import WriteFault as WriteFault
-    from .lookup import Index as Index
+    from .indexes.lookup import Index as Index
     from .run.results import Info as Info
     from .run.results import Result as Result
 
@@ -68,7 +68,7 @@ _MODULES = {
         "Report",
         "explain",
     ),
-    "faults": (
+    "engine.faults": (
         "CityseqError",
         "InvalidStream",
         "LibraryMissing",
@@ -79,7 +79,7 @@ _MODULES = {
         "Status",
         "WriteFault",
     ),
-    "lookup": ("Index",),
+    "indexes.lookup": ("Index",),
     "run.results": (
         "Info",
         "Result",

@@ -9,16 +9,16 @@ from typing import TYPE_CHECKING, Any, Union
 from .engine.query import Box, Limits, Options, Query, Texts, Work, work_of
 from .engine.reports import Report
 from .engine.structs import USUAL_DEPTH, USUAL_LINE
-from .outputs import Target, Writer
-from .run.options import one_options, one_query, watched
+from .run.arguments import one_options, one_query, watched
 from .run.results import Info, Result
 from .run.streams import Stream, results
-from .same import refuse_same
+from .sources.outputs import Target, Writer
+from .sources.same_file import refuse_same
 from .sources.source import Source
 
 if TYPE_CHECKING:
     from .delivery.facts import Delivery
-    from .listing import Feature
+    from .run.features import Feature
 
 
 OnReport = Callable[[Report], None] | None
@@ -252,7 +252,7 @@ def features(
         RequestError: An argument has a value that it may not have.
         LibraryMissing: The library is not there, or it is another version.
     """
-    from .listing import features as listed  # few runs need it
+    from .run.features import features as listed  # few runs need it
 
     how = one_options(options, Options(Limits(line_limit, depth), keep_going, tree))
     work = work_of("filter", how, one_query(query, Query(ids, types, lods, box, exclude)))
@@ -286,7 +286,7 @@ def table(
     Raises:
         CityseqError: As `features` does.
     """
-    from .listing import table as tabled  # few runs need it
+    from .run.features import table as tabled  # few runs need it
 
     how = one_options(options, Options(Limits(line_limit, depth), keep_going, tree))
     work = work_of("filter", how, one_query(query, Query(ids, types, lods, box, exclude)))
@@ -331,8 +331,8 @@ def index(
             another file that is no index.
         LibraryMissing: The library is not there, or it is another version.
     """
-    from .indexing import checked  # few runs need it
-    from .indexing import index as indexed
+    from .indexes.index_run import checked  # few runs need it
+    from .indexes.index_run import index as indexed
 
     made = Options(Limits(line_limit, depth), keep_going, tree, jobs, part_size)
     how = one_options(options, made)
@@ -367,8 +367,8 @@ def report(
 
     Returns:
         What is in the files and what is invalid, with `status` and `files`. A fault of one file is
-        in its entry, and the others go on. `cityseq.delivery.told.delivery_object` makes one object
-        of JSON of it, which docs/report.schema.json describes.
+        in its entry, and the others go on. `json_object` returns all that as one object of JSON,
+        which docs/report.schema.json describes.
 
     Raises:
         WriteFault: The page, the reports or a temporary file cannot be written.
@@ -377,8 +377,8 @@ def report(
         CityseqError: A package is missing that a page needs.
         LibraryMissing: The library is not there, or it is another version.
     """
-    from .delivery.making import How, checked, of_bytes  # few runs need it
-    from .delivery.making import report as made
+    from .delivery.report_run import How, checked, of_bytes  # few runs need it
+    from .delivery.report_run import report as made
 
     given = Options(Limits(line_limit, depth), False, tree, jobs, part_size)
     how = replace(one_options(options, given), keep_going=True)

@@ -18,21 +18,21 @@ from functools import partial
 from itertools import islice
 from typing import Any
 
-from .builder import Builder
-from .digests import digest_of
+from .engine.faults import CityseqError, RequestError
 from .engine.query import Box, Limits, Options, Query, Texts, Work, work_of
 from .engine.reports import Report
 from .engine.structs import USUAL_DEPTH, USUAL_LINE
-from .faults import CityseqError, RequestError
-from .indexing import Indexed, checked, of_takers, written
-from .outputs import Target, Writer
-from .run.options import one_options, one_query
+from .indexes.builder import Builder
+from .indexes.digests import digest_of
+from .indexes.index_run import Indexed, checked, of_takers, written
+from .run.arguments import one_options, one_query
 from .run.pool import in_thread
 from .run.results import Info, Result
 from .run.streams import Results, Stream, results_by
-from .same import refuse_same
+from .sources.outputs import Target, Writer
 from .sources.packed import packing_by_name
 from .sources.ranges import RangeChunks, Seen, judge_range, look
+from .sources.same_file import refuse_same
 from .sources.source import is_packed, is_path
 
 PART = 32 << 20  # bytes of a part

@@ -19,7 +19,7 @@ from cityseq.delivery import extras
 
 try:
     extras.need_all()
-    from cityseq.delivery import hashing, repeated, survey
+    from cityseq.delivery import id_hashes, repeated, survey
     from cityseq.engine.world import extent_of, transform_of
 
     MISSING = None
@@ -312,7 +312,7 @@ class Repeated(InFolder):
 
     def setUp(self):
         super().setUp()
-        self.hash = hashing.Hash()
+        self.hash = id_hashes.Hash()
 
     def added(self, ids, count, at_once):
         """What is found among the ids of numbers, which come in pieces."""
@@ -351,7 +351,7 @@ class Hashes(unittest.TestCase):
     """Ids with and without escapes, wherever they lie in a part, have the hash of their text."""
 
     def test_any_place(self):
-        chance, made = random.Random(1), hashing.Hash()
+        chance, made = random.Random(1), id_hashes.Hash()
         for _ in range(300):
             ids = [
                 "".join(chance.choice("a\u00e9\u0000\ud800\U0001f3e0z") for _ in range(size))
@@ -371,12 +371,12 @@ class Hashes(unittest.TestCase):
                 for other, its in zip(ids, keys):
                     self.assertEqual(one == other, key == its)
             for number, name in enumerate(ids):
-                text = name.encode("utf-8", "surrogatepass")[: hashing.LONGEST]
+                text = name.encode("utf-8", "surrogatepass")[: id_hashes.LONGEST]
                 self.assertEqual(found.text(number), text)
 
     def test_the_sums(self):
         """Each is the upper half of a sum of products, as Python makes it."""
-        chance, made = random.Random(2), hashing.Hash()
+        chance, made = random.Random(2), id_hashes.Hash()
         first, of_length, *others = made._factors.tolist()
         for size in (0, 1, 4, 8, 9, 31, 250):
             ids = [chance.randbytes(size).replace(b"\\", b"x") for _ in range(5)]
@@ -392,13 +392,13 @@ class Hashes(unittest.TestCase):
                 self.assertEqual((high, low), (whole[0] << 32 | whole[1], whole[2]))
 
     def test_another_run_has_other_hashes(self):
-        one, other = (hashing.Hash().of_spellings([b"a", b"x" * 300]) for _ in "ab")
+        one, other = (id_hashes.Hash().of_spellings([b"a", b"x" * 300]) for _ in "ab")
         self.assertTrue((one.high != other.high).all())
 
     def test_no_bit_is_always_the_same(self):
         ids = [b"i%d" % number for number in range(1_000)]
         # one hash of a hundred hardly changes a bit where ids are so alike
-        made = [hashing.Hash().of_spellings(ids) for _ in range(20)]
+        made = [id_hashes.Hash().of_spellings(ids) for _ in range(20)]
         high, low = (survey.np.concatenate(each) for each in zip(*((m.high, m.low) for m in made)))
         for bits, values in ((64, high), (32, low)):
             for bit in range(bits):

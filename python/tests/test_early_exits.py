@@ -110,7 +110,7 @@ class Exits(InFolder):
         script = (
             "import sys, cityseq\n"
             "from cityseq.engine.query import asked\n"
-            "from cityseq.outputs import Writer\n"
+            "from cityseq.sources.outputs import Writer\n"
             "from cityseq.run.streams import Stream, results\n"
             "streams = (Stream(sys.argv[1], asked('filter'), output=Writer(name))"
             " for name in ('a.jsonl', 'b.jsonl', 'c.jsonl'))\n"

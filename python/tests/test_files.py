@@ -14,7 +14,7 @@ import cityseq
 from cityseq.engine.judge import judge, judge_lines
 from cityseq.engine.query import asked
 from cityseq.sources.chunks import FileChunk
-from cityseq.sources.reading import Chunks
+from cityseq.sources.chunk_reader import Chunks
 from cityseq.sources.regular import RegularFile, regular_file
 
 READ = os.preadv
@@ -34,7 +34,7 @@ def failing_at(place):
 
 def few_at_once(test):
     """Reads only a little before it knows the header, so that short files have chunks too."""
-    patch = mock.patch("cityseq.sources.reading.PIECE", 16)
+    patch = mock.patch("cityseq.sources.chunk_reader.PIECE", 16)
     patch.start()
     test.addCleanup(patch.stop)
 

@@ -23,7 +23,7 @@ from . import support
 from .support import HEADER, PLAIN, ROOT, InFolder, command, feature
 
 import cityseq
-from cityseq import builder
+from cityseq.indexes import builder
 from cityseq.engine.records import id_of
 from cityseq.sources import regular
 
@@ -489,7 +489,7 @@ class Refreshed(InFolder):
 
     def test_the_hash(self):
         """The BLAKE2b of the CRC-32s of all blocks, whoever reads them."""
-        from cityseq.digests import digest_of
+        from cityseq.indexes.digests import digest_of
 
         lines = [feature(f"b{number}") for number in range(2_000)]
         for name, text in (
@@ -514,7 +514,7 @@ class Refreshed(InFolder):
 
     def test_the_judging_threads_hash(self):
         """They have nearly all blocks at hand. Only the others are read again."""
-        from cityseq import digests
+        from cityseq.indexes import digests
 
         lines = [feature(f"b{number}") for number in range(20_000)]
         path, read = self.file(HEADER + b"".join(lines), "many.jsonl"), []
@@ -530,7 +530,7 @@ class Refreshed(InFolder):
         self.assertLess(sum(read), path.stat().st_size / 4)
 
     def test_a_stream_that_changes_while_it_is_hashed(self):
-        from cityseq import digests, indexing
+        from cityseq.indexes import digests, index_run
 
         before = self.index.read_bytes()
         content, path = digests.HashedFile.content, self.paths[0]
@@ -545,7 +545,7 @@ class Refreshed(InFolder):
         told.submit.return_value.result.return_value = digests.Digest("", (1, 2), (1, 3))
         with mock.patch.object(digests.HashedFile, "content", changed):
             self.refused_as_changed(path)
-        with mock.patch.object(indexing, "Digests") as made:
+        with mock.patch.object(index_run, "Digests") as made:
             made.return_value.__enter__.return_value = told
             self.refused_as_changed(packed)
         self.assertEqual(self.index.read_bytes(), before)
@@ -591,7 +591,7 @@ class Trees(unittest.TestCase):
     """The spatial index, which is written at once, as SQLite itself checks it."""
 
     def test_any_number_of_features(self):
-        from cityseq.rtree import Tree, cells_of, keys_of
+        from cityseq.indexes.rtree import Tree, cells_of, keys_of
 
         chance = random.Random(1)
         for count in (0, 1, 50, 51, 52, 103, 51 * 51, 51 * 51 + 1, 9_000):
@@ -628,7 +628,7 @@ class Trees(unittest.TestCase):
 
     def test_keys(self):
         """The bits of both numbers as 32-bit floats, in the order of the floats, in turn."""
-        from cityseq.rtree import keys_of
+        from cityseq.indexes.rtree import keys_of
 
         def ordered(number):
             (bits,) = struct.unpack(">I", struct.pack(">f", number))

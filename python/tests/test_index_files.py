@@ -16,7 +16,7 @@ from .test_cut import SAMPLE, TOWN, cut
 from .test_index import NOBODY
 
 import cityseq
-from cityseq import builder, replacing
+from cityseq.indexes import builder, replacement
 from cityseq.engine.query import asked
 
 EDITOR = """
@@ -50,7 +50,7 @@ class Replaced(InFolder):
         super().setUp()
         self.index = self.folder / "it.gpkg"
         self.path = self.file(HEADER + b"".join(feature(f"b{i}", "Tunnel") for i in range(50)))
-        patch = mock.patch.object(replacing, "WAIT", 0.05)
+        patch = mock.patch.object(replacement, "WAIT", 0.05)
         patch.start()
         self.addCleanup(patch.stop)
 
@@ -351,7 +351,7 @@ class Hostile(InFolder):
     def test_a_signal_ends_a_long_query(self):
         """SQLite asks Python, so that it can run the handler of the signal."""
         code = (
-            "import sys; from cityseq import database\n"
+            "import sys; from cityseq.indexes import database\n"
             "from cityseq.cli.main import end_by_signals, main\n"
             "def check(self, total):\n"
             "    with self.reading():\n"

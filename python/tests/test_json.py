@@ -12,7 +12,7 @@ from .test_sources import GOOD
 from .test_told import example
 
 import cityseq
-from cityseq.json_objects import exact
+from cityseq.cli.json_objects import exact
 
 TYPES = {
     "string": str,

@@ -16,10 +16,10 @@ from .support import HEADER, InFolder, feature
 from .test_index import dump, query, with_id
 
 import cityseq
-from cityseq import arrays, builder, columns, geopackage, id_table, sorting
+from cityseq.indexes import arrays, builder, columns, geopackage, id_table, sorting
 from cityseq.engine.extents import Axis, World, ceiling_of, floor_of
-from cityseq.faults import WriteFault
-from cityseq.geopackage import UNIFORM, geometry_start
+from cityseq.engine.faults import WriteFault
+from cityseq.indexes.geopackage import UNIFORM, geometry_start
 from cityseq.engine.records import RECORD, Records, id_of
 
 HAS_NUMPY = arrays.vectors_for(arrays.MANY) is not None
@@ -97,7 +97,7 @@ class Vectors(InFolder):
         }
 
     def test_the_columns_of_any_part(self):
-        from cityseq import vectors
+        from cityseq.indexes import vectors
 
         chance = random.Random(1)
         for _ in range(400):
@@ -116,7 +116,7 @@ class Vectors(InFolder):
             self.assertEqual(self.told(plain), self.told(fast))
 
     def test_rounding(self):
-        from cityseq.vectors import EXACT, _rounded, np
+        from cityseq.indexes.vectors import EXACT, _rounded, np
 
         chance = random.Random(2)
         for _ in range(3_000):

@@ -14,7 +14,7 @@ from .support import HEADER, PLAIN, in_one, numbered
 
 import cityseq
 from cityseq.engine.query import asked
-from cityseq.sources.reading import Chunks
+from cityseq.sources.chunk_reader import Chunks
 
 
 def parts_of(text, size, line_limit=1_000, keep_going=False, piece=7):

@@ -18,7 +18,7 @@ from .support import HEADER, command, feature
 
 import cityseq
 from cityseq.engine.query import asked
-from cityseq.feed import Fed, Unpacking
+from cityseq.run.feed import Fed, Unpacking
 from cityseq.sources.packed import Gzip
 
 
@@ -87,7 +87,7 @@ class Verdicts(Served):
             except cityseq.InvalidStream as fault:
                 wanted = fault.result
             body = gzip.compress(text) if seed % 3 == 0 else text
-            with mock.patch("cityseq.feed.SMALL", chance.choice((1, 300, 1 << 19))):
+            with mock.patch("cityseq.run.feed.SMALL", chance.choice((1, 300, 1 << 19))):
                 fed = Fed(asked("filter", **options), Unpacking(None, 1 << 30), 1_000, False)
                 kept = b""
                 while body:
@@ -137,7 +137,7 @@ class Verdicts(Served):
         text = os.urandom(1 << 18)
         for packed, most in ((gzip.compress(b"") * 20_000, 32), (gzip.compress(text) + bytes(1 << 18), 4)):
             given.clear()
-            with mock.patch("cityseq.feed.Gzip", Counted):
+            with mock.patch("cityseq.run.feed.Gzip", Counted):
                 unpacking = Unpacking(True, 1 << 30)
             found = b"".join(piece for begin in range(0, len(packed), 1 << 17) for piece in unpacking.feed(packed[begin : begin + (1 << 17)]))
             self.assertEqual((found, unpacking.end()), (b"" if most == 32 else text, b""))

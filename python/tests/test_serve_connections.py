@@ -13,7 +13,7 @@ from .serving import MISSING, Served, Serving, Within, rest_of
 from .support import HEADER, command, feature
 
 if not MISSING:
-    from cityseq.feed import Fed
+    from cityseq.run.feed import Fed
     from cityseq.serve.bodies import Body, Judgement
     from cityseq.serve.bounds import Pace, Places
     from cityseq.serve.problems import Problem

@@ -28,7 +28,7 @@ MODULE = pathlib.Path("/usr/lib/nginx/modules/ngx_stream_module.so")
 
 if not MISSING:
     import aiohttp.web
-    from cityseq.cityjson import whole
+    from cityseq.engine.cityjson import whole
     from cityseq.coordinates.systems import System
     from cityseq.serve.formats import CITY_JSON_SEQ, GEOJSON, HTML, choose
     from cityseq.serve.links import is_known

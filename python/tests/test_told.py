@@ -14,10 +14,10 @@ from . import support
 from .support import HEADER, PLAIN, feature
 
 import cityseq
-from cityseq.place_hints import met
+from cityseq.engine.place_hints import met
 from cityseq.engine.query import asked
 from cityseq.engine.reports import excerpt_of, find_id
-from cityseq.escape import quoted, shown
+from cityseq.engine.escape import quoted, shown
 from cityseq.engine.world import box_of, normal, plain
 
 sys.path.insert(0, os.path.join(support.ROOT, "python"))

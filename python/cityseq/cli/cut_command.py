@@ -10,18 +10,18 @@ from typing import Any
 
 from .. import __version__
 from ..engine.structs import USUAL_DEPTH, USUAL_LINE
-from ..cut import cut, cut_each
-from ..escape import shown
-from ..faults import RequestError
-from ..fetching import IndexedStream
-from ..json_objects import result_object
-from ..lookup import Index
-from ..outputs import Writer
+from ..indexes.cut import cut, cut_each
+from ..engine.escape import shown
+from ..engine.faults import RequestError
+from ..indexes.line_reader import IndexedStream
+from .json_objects import result_object
+from ..indexes.lookup import Index
+from ..sources.outputs import Writer
 from ..sources.packed import LEVEL
 from ..engine.query import Work
 from ..run.results import Result
 from ..sources.source import size_of
-from .lists import ids_of, texts_of
+from .file_lists import ids_of, texts_of
 from .output import say
 from .printers import printer_for
 from .progress import Bar

@@ -7,17 +7,17 @@ from functools import partial
 
 from .. import __version__
 from ..engine.memory import keep_room
-from ..builder import Builder
-from ..faults import RequestError
-from ..index_lines import shown_object
-from ..indexing import Indexed, by_threads, checked, written
-from ..json_objects import result_object
-from ..lookup import Index
+from ..indexes.builder import Builder
+from ..engine.faults import RequestError
+from ..indexes.index_lines import shown_object
+from ..indexes.index_run import Indexed, by_threads, checked, written
+from .json_objects import result_object
+from ..indexes.lookup import Index
 from ..engine.query import Work, asked
 from ..run.results import Result
-from ..same import refuse_same, refuse_standard
+from ..sources.same_file import refuse_same, refuse_standard
 from ..sources.source import size_of
-from .lists import files_of
+from .file_lists import files_of
 from .output import put
 from .printers import Printer, printer_for
 from .progress import Bar
@@ -44,7 +44,7 @@ def _show(request: WriteIndex) -> int:
 
 def _refresh(request: WriteIndex) -> int:
     """Writes the new times of streams with the same content into an index."""
-    from ..refreshing import refresh  # few runs need it
+    from ..indexes.refresh import refresh  # few runs need it
 
     if request.json:
         raise RequestError("--refresh writes no JSON: leave --json out")

@@ -9,8 +9,8 @@ from contextlib import suppress
 from typing import Any, NoReturn
 
 from .. import __version__
-from ..escape import shown
-from ..faults import CityseqError, Status, WriteFault
+from ..engine.escape import shown
+from ..engine.faults import CityseqError, Status, WriteFault
 from ..engine.query import UnknownType
 from .output import drop_output, flush, hold_descriptors, put, say, write_whole_outputs
 from .parser import Answered, Mistake, read_words

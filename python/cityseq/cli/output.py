@@ -8,8 +8,8 @@ import sys
 from contextlib import suppress
 from typing import Any, TextIO
 
-from ..faults import write_fault
-from ..outputs import write_all
+from ..engine.faults import write_fault
+from ..sources.outputs import write_all
 
 
 class Descriptor(io.RawIOBase):

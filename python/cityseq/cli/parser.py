@@ -6,8 +6,8 @@ from collections.abc import Callable, Sequence
 from functools import partial
 from typing import Any, NoReturn
 
-from ..escape import shown
-from ..faults import RequestError
+from ..engine.escape import shown
+from ..engine.faults import RequestError
 from .help import command_help, program_help, usage
 from .options import COMMANDS, Command
 from .requests import Request

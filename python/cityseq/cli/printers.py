@@ -10,7 +10,7 @@ from collections.abc import Callable, Iterator
 from dataclasses import dataclass, field
 from typing import Any
 
-from ..escape import fitting, quoted, shown
+from ..engine.escape import fitting, quoted, shown
 from ..engine.reports import Report, explain
 from ..run.results import Info, Result
 from .output import encoding, is_terminal, put, say
@@ -243,7 +243,7 @@ class JsonPrinter(Printer):
             put(text)
 
     def print_report(self, report: Report) -> None:
-        from ..json_objects import report_object  # text does not need it
+        from .json_objects import report_object  # text does not need it
 
         self._print(report_object(report))
 
@@ -257,7 +257,7 @@ class JsonPrinter(Printer):
         self._print(recorded)
 
     def print_summary(self, codes: Counter[int]) -> None:
-        from ..json_objects import reasons_object
+        from .json_objects import reasons_object
 
         self._print(reasons_object(codes))
 

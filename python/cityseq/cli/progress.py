@@ -5,7 +5,7 @@ import sys
 import time
 from typing import Any
 
-from ..escape import shown
+from ..engine.escape import shown
 from .output import is_terminal, say
 
 ELSEWHERE = 10.0  # seconds between two lines where tqdm is missing, or the output is a file

@@ -10,9 +10,9 @@ from collections.abc import Iterable
 from contextlib import suppress
 from typing import Any
 
-from ..faults import RequestError, write_fault
-from ..file_state import state_now
-from ..outputs import write_all
+from ..engine.faults import RequestError, write_fault
+from ..sources.file_state import state_now
+from ..sources.outputs import write_all
 from ..sources.source import is_path
 from .requests import Check, Filter
 

@@ -5,13 +5,13 @@ import json
 import shlex
 
 from ..engine.memory import keep_room
-from ..delivery.making import How, checked, report
-from ..escape import shown
-from ..faults import RequestError
+from ..delivery.report_run import How, checked, report
+from ..engine.escape import shown
+from ..engine.faults import RequestError
 from ..engine.query import asked
 from ..run.results import Result
-from ..same import refuse_same, refuse_standard
-from .lists import files_of
+from ..sources.same_file import refuse_same, refuse_standard
+from .file_lists import files_of
 from .options import COMMANDS
 from .output import put, say
 from .printers import counts
@@ -50,9 +50,7 @@ def run(request: WriteReport, program: str) -> int:
         how = How(request.jobs, request.part_size, request.title, words, bar.add, take)
         delivery = report(files, output, work, how)
     if request.json:
-        from ..delivery.told import delivery_object
-
-        put(json.dumps(delivery_object(delivery)))
+        put(json.dumps(delivery.json_object()))
     return delivery.status
 
 

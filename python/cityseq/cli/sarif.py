@@ -8,8 +8,8 @@ from typing import Any
 from urllib.parse import quote
 
 from .. import __version__
-from ..escape import quoted, shown
-from ..faults import RequestError
+from ..engine.escape import quoted, shown
+from ..engine.faults import RequestError
 from ..engine.reports import Report, explain
 from ..run.results import Result
 from .output import put

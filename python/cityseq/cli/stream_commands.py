@@ -12,15 +12,15 @@ from typing import TYPE_CHECKING, Any
 
 from .. import __version__
 from ..engine.memory import keep_room
-from ..faults import RequestError
-from ..outputs import Writer
+from ..engine.faults import RequestError
+from ..sources.outputs import Writer
 from ..sources.packed import LEVEL
 from ..engine.query import Work, asked
 from ..engine.reports import Report, explain
 from ..run.results import Result
 from ..run.streams import Stream, results
 from ..sources.source import is_path, size_of
-from .lists import files_of, ids_of, texts_of
+from .file_lists import files_of, ids_of, texts_of
 from .output import is_terminal, put, say
 from .printers import Reports, printer_for
 from .progress import Bar
@@ -117,7 +117,7 @@ class Run:
 
     def _state_of(self, file: str) -> dict[str, Any]:
         """Returns what must be the same for a file to be skipped."""
-        from ..file_state import state_now
+        from ..sources.file_state import state_now
 
         return {
             **state_now(file),
@@ -140,7 +140,7 @@ class Run:
         """Returns a file as a stream, and notes the state of the file."""
         begun = _Begun(None if writer is None else writer.name)
         if self._hashes is not None:
-            from ..file_state import sha256_of, state_now
+            from ..sources.file_state import sha256_of, state_now
 
             begun.state = state_now(file)
             begun.digest = self._hashes.submit(partial(sha256_of, file)) if is_path(file) else None
@@ -169,7 +169,7 @@ class Run:
         return result.status
 
     def _object(self, result: Result, sha256: str | None) -> dict[str, Any]:
-        from ..json_objects import result_object
+        from .json_objects import result_object
 
         size = size_of(result.file)
         sha256 = sha256 if self._request.sha256 else None
@@ -177,8 +177,8 @@ class Run:
 
     def _line(self, result: Result, begun: _Begun, sha256: str | None) -> dict[str, Any]:
         """Returns the line of a record for a file."""
-        from ..file_state import time_now
-        from ..json_objects import record_object
+        from ..sources.file_state import time_now
+        from .json_objects import record_object
         from .record import output_state
 
         is_whole = (

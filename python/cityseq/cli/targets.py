@@ -4,8 +4,8 @@ from __future__ import annotations
 import os
 from collections.abc import Iterable, Sequence
 
-from ..faults import RequestError, write_fault
-from ..same import refuse_same, refuse_standard
+from ..engine.faults import RequestError, write_fault
+from ..sources.same_file import refuse_same, refuse_standard
 from .requests import Filter
 
 

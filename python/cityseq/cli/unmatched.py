@@ -5,7 +5,7 @@ import json
 import re
 from typing import Any
 
-from ..escape import quoted, shown
+from ..engine.escape import quoted, shown
 from ..sources.packed import Text
 from ..engine.reports import USUAL_BEGIN, find_id
 from .output import put, say
@@ -73,7 +73,7 @@ class UnmatchedIds:
             say(f"{shown(self._path)}: {count} matched no feature: {ids}")
 
     def _object(self, missing: list[str]) -> dict[str, Any]:
-        from ..json_objects import object_of  # text does not need it
+        from .json_objects import object_of  # text does not need it
 
         members = {"ids_from": self._path, "unmatched": len(missing), "first": missing[:SHOWN]}
         return object_of("ids", members)

@@ -6,8 +6,8 @@ import re
 from functools import cached_property
 from typing import Any, Sequence
 
-from ..faults import RequestError
-from ..geopackage import SYSTEM
+from ..engine.faults import RequestError
+from ..indexes.geopackage import SYSTEM
 from .boxes import Extent, around, meet, pieces
 from .projection import Facts, Projection, Reach, facts_of, has_pyproj
 

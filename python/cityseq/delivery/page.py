@@ -8,7 +8,7 @@ import os
 from typing import Any, Dict, Iterator, List, Optional, Sequence, Tuple
 
 from ..engine.reports import Report, explain
-from ..escape import shown
+from ..engine.escape import shown
 from ..engine.world import plain
 from .charts import Map, coarse, histogram, map_of, size_of_power
 from .extras import needed

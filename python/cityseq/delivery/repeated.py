@@ -9,10 +9,10 @@ from __future__ import annotations
 import tempfile
 from typing import IO, Any, Iterator, List, Tuple
 
-from ..faults import write_fault
+from ..engine.faults import write_fault
 from .extras import needed
 from .facts import Repeated, RepeatedId
-from .hashing import LONGEST, WORD, Hashed
+from .id_hashes import LONGEST, WORD, Hashed
 
 np: Any = needed("numpy")
 

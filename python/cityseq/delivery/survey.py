@@ -30,20 +30,20 @@ from ..engine.reports import Invalid, Report
 from ..engine.structs import LOD_CLASSES
 from ..engine.tally import Range
 from ..engine.world import box_of, extent_of, read_json
-from ..geopackage import system_of
+from ..indexes.geopackage import system_of
+from ..indexes.vectors import AXES, RECORD
 from ..run.results import Result
 from ..run.streams import Stream
 from ..sources.chunks import Chunk
-from ..vectors import AXES, RECORD
 from .areas import Place
 from .extras import needed
 from .facts import Area, Contents, File, Named, Point, Reasons, Repeated
-from .hashing import Hash, Hashed
+from .id_hashes import Hash, Hashed
 from .lists import Lists
 from .repeated import Ids, text_of
 
 if TYPE_CHECKING:
-    from .making import How
+    from .report_run import How
 
 np: Any = needed("numpy")
 

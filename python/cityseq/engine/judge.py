@@ -11,7 +11,7 @@ from dataclasses import dataclass, field, replace
 from itertools import chain
 from typing import TYPE_CHECKING
 
-from ..faults import CityseqError, read_fault
+from .faults import CityseqError, read_fault
 from .ids import part_size_for
 from .library import Text, library
 from .query import Work

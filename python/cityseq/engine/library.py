@@ -9,7 +9,7 @@ from collections.abc import Sequence
 from ctypes import POINTER, c_char_p, c_size_t, c_uint32, c_uint64
 from typing import Any
 
-from ..faults import LibraryMissing
+from .faults import LibraryMissing
 from .memory import Room
 from .structs import INTERFACE, TYPES, RawAnswer, RawFeature, RawReport, RawRequest, RawTally
 

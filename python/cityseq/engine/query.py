@@ -7,7 +7,7 @@ from dataclasses import dataclass
 from functools import lru_cache
 from typing import TYPE_CHECKING, Any, Union
 
-from ..faults import RequestError
+from .faults import RequestError
 from .ids import are_read, ids_for, in_order
 from .library import Text, library
 from .structs import (

@@ -9,7 +9,7 @@ from itertools import starmap
 from typing import Any
 from zlib import crc32
 
-from ..bulk import Column, Same, same_if_equal
+from ..indexes.bulk import Column, Same, same_if_equal
 from .library import FEATURE, Text, library
 from .memory import Room
 from .query import Work

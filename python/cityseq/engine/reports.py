@@ -98,7 +98,7 @@ class Report:
 
     def _describe(self) -> None:
         """Reads id, excerpt, column and hint from the line, which is then not kept."""
-        from ..place_hints import met  # few runs need it
+        from .place_hints import met  # few runs need it
 
         content = self.__dict__.pop("_content")
         is_header = self.line == 1

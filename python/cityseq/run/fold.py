@@ -4,12 +4,12 @@ from __future__ import annotations
 from collections.abc import Callable, Iterable
 from typing import Protocol
 
+from ..engine.faults import CityseqError, MemoryFault, ReadFault, Status, WriteFault
 from ..engine.judge import Answer
 from ..engine.query import Work
 from ..engine.reports import Report
 from ..engine.structs import CallStatus
-from ..faults import CityseqError, MemoryFault, ReadFault, Status, WriteFault
-from ..outputs import Writer
+from ..sources.outputs import Writer
 from ..sources.source import CHANGED
 from .results import Info, Result
 
@@ -120,7 +120,7 @@ class Fold:
         """Returns what the file may be, if its first line ended the run."""
         if self.joined.end is None:
             return []
-        from ..file_hints import hints_for  # few runs need it
+        from ..sources.file_hints import hints_for  # few runs need it
 
         return hints_for(self.joined.end, self.origin.head)
 

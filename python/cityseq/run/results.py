@@ -4,9 +4,9 @@ from __future__ import annotations
 from dataclasses import dataclass, field
 from typing import TYPE_CHECKING
 
+from ..engine.faults import CityseqError, InvalidStream, Status
 from ..engine.reports import Report
 from ..engine.tally import Range, Tally
-from ..faults import CityseqError, InvalidStream, Status
 
 if TYPE_CHECKING:
     from decimal import Decimal

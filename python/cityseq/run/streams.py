@@ -10,14 +10,14 @@ from functools import partial
 from itertools import chain, islice
 from typing import Any, Protocol
 
+from ..engine.faults import RequestError
 from ..engine.judge import Answer, judge
 from ..engine.query import Work
 from ..engine.structs import CallStatus
-from ..faults import RequestError
-from ..outputs import Writer
+from ..sources.chunk_reader import PART, Chunks
 from ..sources.chunks import Chunk
+from ..sources.outputs import Writer
 from ..sources.packed import BLOCK, Unpacker
-from ..sources.reading import PART, Chunks
 from ..sources.source import Source, is_packed
 from .fold import Fold, Origin, Progress, Take, Tell
 from .pool import Pool

@@ -17,7 +17,7 @@ from __future__ import annotations
 
 from typing import TYPE_CHECKING, Any, Awaitable, Callable, Optional
 
-from ..faults import RequestError
+from ..engine.faults import RequestError
 
 if TYPE_CHECKING:
     from aiohttp import web

@@ -9,11 +9,11 @@ from typing import Callable, Iterator
 
 from aiohttp import web
 
-from ..index_pages import Page
+from ..indexes.index_pages import Page
 from .bounds import Pace
-from .calls import Calls
 from .formats import accepted
 from .logs import SENT
+from .threads import Calls
 
 WHOLE = 1 << 20  # bytes: a shorter answer has its length in its head
 PIECE = 1 << 16  # bytes that are written at once

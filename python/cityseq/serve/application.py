@@ -13,11 +13,10 @@ from urllib.parse import urlsplit
 from aiohttp import web
 
 from ..cli.output import say
-from ..faults import CityseqError
+from ..engine.faults import CityseqError
 from . import bodies
 from .answers import send
 from .bounds import Pace, Places
-from .calls import Calls
 from .catalogue import Catalogue
 from .context import Context, Resource, accept_of
 from .formats import HTML, PROBLEM, choose, dumped
@@ -27,6 +26,7 @@ from .problems import Problem, forget, logged, problem_of
 from .queries import Query
 from .resources import table
 from .settings import Settings
+from .threads import Calls
 
 Handler = Callable[[web.Request], Awaitable[web.StreamResponse]]
 POLICY = (

@@ -14,12 +14,12 @@ from typing import Any, AsyncGenerator, Iterable
 from aiohttp import web
 
 from .. import __version__
+from ..cli.json_objects import reasons_object, report_object, result_object
 from ..cli.requests import Check, Filter
 from ..engine.judge import SMALL, Answer
 from ..engine.library import Text
 from ..engine.query import Work, asked
-from ..feed import Fed, OtherPacking, Task, TooLong, Unpacking
-from ..json_objects import reasons_object, report_object, result_object
+from ..run.feed import Fed, OtherPacking, Task, TooLong, Unpacking
 from .answers import write
 from .bounds import Pace
 from .context import Context

@@ -9,9 +9,9 @@ from hashlib import sha256
 from typing import Iterator
 
 from ..coordinates.systems import System
-from ..faults import RequestError
-from ..fetching import IndexedStream
-from ..index_pages import OpenStream, Pool
+from ..engine.faults import RequestError
+from ..indexes.index_pages import OpenStream, Pool
+from ..indexes.line_reader import IndexedStream
 from .links import segment
 from .problems import Problem
 from .settings import Settings

@@ -6,7 +6,7 @@ from typing import Any
 from ..coordinates.boxes import Extent, pieces
 from ..coordinates.digits import edges, short
 from ..coordinates.systems import System
-from ..index_pages import Found
+from ..indexes.index_pages import Found
 
 
 def _ring(box: Extent) -> list[list[list[float]]]:

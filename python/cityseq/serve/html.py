@@ -8,8 +8,8 @@ import jinja2
 
 from .. import __version__
 from ..coordinates.boxes import around
-from ..index_pages import Found
-from ..escape import shown
+from ..indexes.index_pages import Found
+from ..engine.escape import shown
 from .problems import Problem
 
 FOLDER = os.path.dirname(os.path.abspath(__file__))

@@ -8,11 +8,11 @@ from typing import Any, Callable, Iterator, NamedTuple
 
 from aiohttp import web
 
-from ..cityjson import whole
+from ..engine.cityjson import whole
 from ..coordinates.boxes import Extent
 from ..coordinates.systems import may_be_degrees
-from ..faults import RequestError
-from ..index_pages import Block, Found, Page
+from ..engine.faults import RequestError
+from ..indexes.index_pages import Block, Found, Page
 from ..engine.world import plain
 from .answers import send_page
 from .catalogue import Collection, name_of

@@ -10,7 +10,7 @@ from aiohttp.abc import AbstractAccessLogger
 from aiohttp.http_exceptions import HttpProcessingError
 
 from ..cli.output import say
-from ..escape import shown
+from ..engine.escape import shown
 
 LONGEST = 2_000  # characters of a part of a line that a client sent
 SENT = "sent"  # the item of an answer in pieces that has how many bytes were sent

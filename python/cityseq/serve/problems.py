@@ -5,7 +5,7 @@ import errno
 from http import HTTPStatus
 from typing import Any
 
-from ..faults import (
+from ..engine.faults import (
     CityseqError,
     InvalidStream,
     MemoryFault,
@@ -14,9 +14,9 @@ from ..faults import (
     RequestError,
     why,
 )
-from ..feed import BodyFault, OtherPacking, TooLong
-from ..index_pages import Replaced
-from ..escape import shown
+from ..run.feed import BodyFault, OtherPacking, TooLong
+from ..indexes.index_pages import Replaced
+from ..engine.escape import shown
 
 LONGEST = 1_000  # characters of a detail: it may contain what a client sent
 NO_DESCRIPTOR = (errno.EMFILE, errno.ENFILE)

@@ -10,8 +10,8 @@ from aiohttp import web
 
 from ..engine.library import library
 from ..cli.output import say
-from ..faults import ReadFault, why
-from ..escape import shown
+from ..engine.faults import ReadFault, why
+from ..engine.escape import shown
 from ..cli.requests import Serve
 from .application import Server, application
 from .logs import Combined, fault_logger, request_logger

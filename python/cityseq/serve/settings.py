@@ -6,7 +6,7 @@ from typing import Any, Optional, Tuple
 from urllib.parse import urlsplit
 
 from ..cli.requests import Serve
-from ..faults import RequestError
+from ..engine.faults import RequestError
 
 CONNECTIONS = 1_000
 REPORTS, MOST_REPORTS = 1_000, 10_000  # in an answer: the default, and the most

@@ -4,8 +4,8 @@ from __future__ import annotations
 from collections.abc import Iterator
 from dataclasses import dataclass
 
+from ..engine.faults import CityseqError
 from ..engine.library import Text, library
-from ..faults import CityseqError
 from .regular import RegularFile
 
 

@@ -3,10 +3,10 @@ from __future__ import annotations
 
 from collections.abc import Iterator
 
+from ..engine.faults import CityseqError
 from ..engine.judge import part_size
 from ..engine.library import library
 from ..engine.query import Work
-from ..faults import CityseqError
 from .chunks import Chunk, whole_lines
 
 HEAD = 65_536  # bytes at the beginning of a stream that are kept, to say what it may be

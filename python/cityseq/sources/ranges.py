@@ -4,14 +4,14 @@ from __future__ import annotations
 from collections.abc import Generator
 from dataclasses import dataclass, replace
 
+from ..engine.faults import ReadFault, read_fault
 from ..engine.judge import Answer, judge, part_size
 from ..engine.query import Work
 from ..engine.reports import Described
-from ..faults import ReadFault, read_fault
+from .chunk_reader import read_header
 from .chunks import Chunk, FileChunk
 from .cutter import HEAD
 from .packed import Unpacker
-from .reading import read_header
 from .regular import RegularFile
 from .source import CHANGED, State, opened, size_of, state_of
 

@@ -10,7 +10,7 @@ import sys
 from collections.abc import Iterator
 from typing import IO, TYPE_CHECKING, Any, Union
 
-from ..faults import READ_FAULTS, ReadFault, RequestError, read_fault
+from ..engine.faults import READ_FAULTS, ReadFault, RequestError, read_fault
 from .packed import Packing, Unpacker, may_be_packed, packing_by_mark, packing_of
 
 if TYPE_CHECKING:
