@@ -9,6 +9,8 @@ build    `index` of usual lines with one and four jobs, of the time of `check` w
 cut      `filter --index` of 1,000 features in a block, a process of its own, of the time of
          `filter` with four jobs and of the program's: out of lines of 2 KB on a grid, and of usual
          lines in squares
+tiny     `index` of tiny lines with four jobs, of the time of `check`, and the bytes of a feature
+hash     `index` with four jobs, of the time of one that makes no hash of the stream
 records  10 million made-up records (RECORDS sets how many): the time to write the index, its size,
          and a box of 1,000 rows
 
@@ -16,8 +18,10 @@ It needs the library python/cityseq/libcityseq.so, and the built program for its
 """
 import os
 import random
+import sqlite3
 import sys
 import time
+from contextlib import closing
 from functools import partial
 from statistics import median
 
@@ -58,6 +62,35 @@ def build(megabytes, rounds):
         )
 
 
+def tiny(megabytes, rounds):
+    stream, index = stream_of("tiny", megabytes), str(OUT / "tiny.gpkg")
+    words = [*PACKAGE, "index", "--jobs", "4", "--output", index, stream]
+    check = [*PACKAGE, "check", "--jobs", "4", stream]
+    compared("tiny, 4 jobs", words, {"check, 4 jobs": (check,)}, rounds)
+    with closing(sqlite3.connect(index)) as base:
+        ((count,),) = base.execute("SELECT max(fid) FROM features")
+    print(f"{count:,} features, {os.path.getsize(index) / count:.1f} bytes each")
+
+
+# `index` whose threads make no hash
+WITHOUT_HASH = """
+import sys
+from cityseq.indexes import digests
+from cityseq.cli.main import main
+from cityseq.sources.regular import RegularFile
+digests.HashedFile.read = RegularFile.read
+digests.HashedFile.content = lambda file: ""
+sys.exit(main(sys.argv[1:]))
+"""
+
+
+def hashed(megabytes, rounds):
+    stream, index = stream_of("usual", megabytes), str(OUT / "hash.gpkg")
+    words = ["index", "--jobs", "4", "--output", index, stream]
+    base = [sys.executable, "-c", WITHOUT_HASH, *words]
+    compared("hash, 4 jobs", [*PACKAGE, *words], {"one without it": (base,)}, rounds)
+
+
 def cut(megabytes, rounds):
     for shape, box in BOXES.items():
         stream, index = stream_of(shape, megabytes), str(OUT / f"cut-{shape}.gpkg")
@@ -78,7 +111,7 @@ def cut(megabytes, rounds):
 
 def parts_of_records(count, header):
     """Made-up records, 4,000 at a time: each feature somewhere in a square of 100 km."""
-    from cityseq.records import RECORD, Records
+    from cityseq.engine.records import RECORD, Records
 
     chance, done, place = random.Random(1), 0, len(header)
     while done < count:
@@ -128,9 +161,9 @@ def written(count, path):
     """Writes an index of made-up records, and returns the seconds that this took, by the clock and
     of the processor."""
     import cityseq
-    from cityseq.builder import Builder, File
-    from cityseq.query import asked
-    from cityseq.running import Result
+    from cityseq.indexes.builder import Builder, File
+    from cityseq.engine.query import asked
+    from cityseq.run.results import Result
 
     builder, made, begun, processor = Builder(path), 0.0, time.monotonic(), time.process_time()
     builder.open()
@@ -167,7 +200,7 @@ def boxes(count, path):
 def main():
     words = sys.argv[1:]
     megabytes, rounds = int((words + ["1000"])[0]), int((words + ["", "3"])[1] or 3)
-    cases = {"build": build, "cut": cut, "records": records}
+    cases = {"build": build, "tiny": tiny, "hash": hashed, "cut": cut, "records": records}
     measured = chosen(cases, words[2:])
     print(f"{megabytes} MB, {rounds} rounds, {machine()}")
     for measure in measured.values():

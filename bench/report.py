@@ -5,7 +5,7 @@
 
 usual    `report` of usual lines with four jobs, of the time of `index` with as many, and the memory
          of both
-tiny     the same of lines of 300 bytes
+tiny     the same of lines of 300 bytes, and of the time of `check`
 one      `report` of one feature, a process of its own: the seconds
 size     the bytes of a page of 10,000 reports and 10 million made-up features (FEATURES sets how
          many), and the seconds to write it
@@ -19,8 +19,8 @@ import time
 from functools import partial
 from statistics import median
 
-from measure import OUT, PACKAGE, ROOT, chosen, in_turn, least, machine, middle, of_each, run
-from measure import stream_of
+from measure import OUT, PACKAGE, ROOT, chosen, in_turn, least, machine, middle, of_each
+from measure import run, stream_of
 
 sys.path.insert(0, str(ROOT / "python"))
 PAGE = str(OUT / "report.html")
@@ -39,6 +39,26 @@ def by_index(shape, megabytes, rounds):
     print(f"    {beyond:+.2f} s beyond 1.5 times its time (the goal: at most 3 s)")
 
 
+def by_check(megabytes, rounds):
+    """Prints the time of a page of tiny lines, and of `check`, both beyond that of one line."""
+    by_index("tiny", megabytes, rounds)
+    page = [*PACKAGE, "report", "--jobs", "4", "--output", PAGE]
+    check = [*PACKAGE, "check", "--jobs", "4"]
+    calls = [
+        partial(run, [*words, stream_of("tiny", size)])
+        for words in (page, check)
+        for size in (megabytes, 0)
+    ]
+    rounds_of = list(zip(*in_turn(calls, rounds)))
+    for name in ("clock", "processor"):
+        ratio = median(
+            (getattr(whole, name) - getattr(start, name))
+            / (getattr(check, name) - getattr(begin, name))
+            for whole, start, check, begin in rounds_of
+        )
+        print(f"    of check, both without their start: {ratio:.2f}, {name} (the goal: 1.5)")
+
+
 def one_feature(_megabytes, rounds):
     stream = OUT / "one.jsonl"
     town = (ROOT / "examples/town.city.jsonl").read_bytes().splitlines(keepends=True)
@@ -54,7 +74,7 @@ def size(_megabytes, _rounds):
     from cityseq.delivery.areas import Place, np
     from cityseq.delivery.facts import Contents, Delivery, File, Reasons, Run
     from cityseq.delivery.page import html
-    from cityseq.reports import Report
+    from cityseq.engine.reports import Report
 
     count, chance, begun = (
         int(os.environ.get("FEATURES", 10_000_000)),
@@ -105,7 +125,7 @@ def size(_megabytes, _rounds):
 
 CASES = {
     "usual": lambda megabytes, rounds: by_index("usual", megabytes, rounds),
-    "tiny": lambda megabytes, rounds: by_index("tiny", megabytes, rounds),
+    "tiny": by_check,
     "one": one_feature,
     "size": size,
 }

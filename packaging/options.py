@@ -1,5 +1,6 @@
 #!/usr/bin/env python3
-"""Writes the options of both commands into manual pages and completions, from what help says.
+"""Writes the options of both commands into manual pages and completions. Those of `cityseq` are
+what its help says, and those of `cityseq-run` are the table of the package.
 
     packaging/options.py [--write] [PROGRAM]
 
@@ -8,6 +9,7 @@ whether all is as it would be written, prints what differs, and its last line is
 failed'. In a manual page it writes what is between the lines '.\\" commands', '.\\" options' and
 '.\\" end'.
 """
+import json
 import os
 import re
 import subprocess
@@ -28,7 +30,8 @@ WRITTEN_BY = "packaging/options.py writes this file."
 
 # What completes the value of an option; all other values are texts.
 KINDS = {"TYPES": "types", "FOLDER": "folders",
-         **dict.fromkeys(("FILE", "LIST", "OUTPUT", "INDEX", "RECORD"), "files")}
+         **dict.fromkeys(("FILE", "LIST", "OUTPUT", "INDEX", "RECORD"), "files"), "FORMAT": "formats"}
+FORMATS = "sarif"
 
 
 @dataclass(frozen=True)
@@ -52,11 +55,12 @@ class Option:
 
 @dataclass
 class Help:
-    """What the help on a program or on one of its commands says."""
+    """What the help on a program or on one of its commands says, and which other words it takes."""
 
     commands: Dict[str, str]
     options: List[Option]
     takes_files: bool
+    words: str = ""
 
     @property
     def names(self):
@@ -84,7 +88,7 @@ def sentences(text):
     default = re.search(r" \[default: ([^\]]*)\]$", text)
     if default:
         text = text[:default.start()]
-    text = text[:1].upper() + text[1:].rstrip(".") + "."
+    text = text[:1].upper() + text[1:].rstrip(".").replace("`", "") + "."
     return f"{text} The default is {default.group(1)}." if default else text
 
 
@@ -125,6 +129,32 @@ def read(name, words):
     if len(command.helps) < 3 or any(len(each.options) < 2 for each in readers):
         sys.exit(f"options.py: the help of {name} is not understood")
     return command
+
+
+def of_package():
+    """The command of the package, by its table of options."""
+    sys.path.insert(0, str(ROOT / "python"))
+    from cityseq.cli.help import TOP, about
+    from cityseq.cli.options import COMMANDS
+
+    help_option = Option("-h", "--help", None, "Print help.")
+    top = [Option(*names.split(", "), None, sentences(text)) for names, text in TOP]
+    helps = {}
+    for command in COMMANDS.values():
+        options = [Option(each.short and f"-{each.short}", f"--{each.name}", each.value,
+                          sentences(about(each, command))) for each in command.options]
+        takes_files = "[" in command.operands
+        words = codes() if command.operands == "<CODE>" else ""
+        helps[command.name] = Help({}, [*options, help_option], takes_files, words)
+    abouts = {command.name: sentences(command.about) for command in COMMANDS.values()}
+    abouts["help"] = "Print this help, or the help on a command."
+    return Command("cityseq-run", Help(abouts, top, False), helps)
+
+
+def codes():
+    """The codes of reasons, as one text."""
+    reasons = json.loads((ROOT / "python/cityseq/reasons.json").read_text(encoding="utf-8"))
+    return " ".join(sorted(reasons, key=int))
 
 
 def types():
@@ -243,10 +273,11 @@ def bash_values(command):
     kinds = {}
     for _, help_on in command.all_helps:
         for option in help_on.options:
-            if option.name not in kinds.setdefault(option.kind, []):
-                kinds[option.kind].append(option.name)
+            names = kinds.setdefault(option.kind, [])
+            names += [name for name in option.names if name not in names]
     for kind, done in (("folders", 'mapfile -t COMPREPLY < <(compgen -d -- "$current")'),
                        ("files", 'mapfile -t COMPREPLY < <(compgen -f -- "$current")'),
+                       ("formats", f"mapfile -t COMPREPLY < <(compgen -W '{FORMATS}' -- \"$current\")"),
                        ("texts", None)):
         if kind in kinds:
             steps = f"      {done}\n      return" if done else "      return"
@@ -254,7 +285,7 @@ def bash_values(command):
 
 
 def bash(command):
-    cases = [f"    {name})\n      options='\n{wrapped(help_on.names, '        ')}'\n"
+    cases = [f"    {name})\n      options='\n{wrapped([*help_on.names, help_on.words], '        ')}'\n"
              f"      files={'yes' if help_on.takes_files else ''}\n      ;;"
              for name, help_on in command.helps.items()]
     takes_files = any(help_on.takes_files for help_on in command.helps.values())
@@ -300,7 +331,7 @@ shift words
 _arguments -s $arguments
 """
 ZSH_ACTIONS = {"types": "_values -s , type $types", "folders": "_files -/", "files": "_files",
-               "texts": ""}
+               "formats": f"({FORMATS})", "texts": ""}
 
 
 def zsh_argument(option):
@@ -317,6 +348,8 @@ def zsh_case(name, help_on):
     arguments = [zsh_argument(option) for option in help_on.options]
     if help_on.takes_files:
         arguments.append("'*:stream:_files'")
+    if help_on.words:
+        arguments.append(f"'1:code:({help_on.words})'")
     body = "\n".join(f"      {argument}" for argument in arguments)
     return f"  {name})\n    arguments=(\n{body}\n    )\n    ;;"
 
@@ -334,7 +367,7 @@ def zsh(command):
 def fish_option(start, option, variable):
     values = {"types": f" -x -a '(__fish_complete_list , \"string join \\n ${variable}\")'",
               "folders": " -x -a '(__fish_complete_directories)'", "files": " -r -F",
-              "texts": " -x", None: ""}
+              "formats": f" -x -a '{FORMATS}'", "texts": " -x", None: ""}
     short = f" -s {option.short[1:]}" if option.short else ""
     name = f"{short} -l {option.name[2:]}"
     return f"{start}{name}{values[option.kind]} -d '{brief(option.about)}'"
@@ -355,6 +388,7 @@ def fish(command):
         within = f"{start} -n '__fish_seen_subcommand_from {name}'"
         lines += ["", f"{within} {'-F' if help_on.takes_files else '-f'}"]
         lines += [fish_option(within, option, variable) for option in help_on.options]
+        lines += [f"{within} -a '{help_on.words}'"] if help_on.words else []
     within = f"{start} -n '__fish_seen_subcommand_from help'"
     return "\n".join([*lines, "", f"{within} -f -a '{' '.join(command.helps)}'"]) + "\n"
 
@@ -373,10 +407,8 @@ def files(command):
 def main():
     words = [word for word in sys.argv[1:] if word != "--write"]
     program = os.path.abspath(words[0]) if words else str(ROOT / "crates/cityseq/out/cityseq")
-    package = [sys.executable, "-B", "-m", "cityseq"]
-    commands = read("cityseq", [program]), read("cityseq-run", package)
     passed = failed = 0
-    for path, text in [file for command in commands for file in files(command)]:
+    for path, text in [*files(read("cityseq", [program])), *files(of_package())]:
         if "--write" in sys.argv:
             path.write_text(text, encoding="utf-8")
         if path.is_file() and path.read_text(encoding="utf-8") == text:

@@ -56,7 +56,7 @@ row_help_progress_and_a_closed_standard_error() {
 row_no_file_gets_the_number_of_standard_error() {
   local found
   found=$("$python" -c 'import os
-from cityseq.console import hold_descriptors
+from cityseq.cli.output import hold_descriptors
 hold_descriptors()
 print(os.open("/dev/null", os.O_RDONLY) > 2)' 0>&- 2>&-)
   same True "$found"
@@ -90,10 +90,10 @@ row_memory_for_four_threads_is_enough_for_eight() {
 
 row_what_nobody_expected() {
   "$python" -c 'import sys
-from cityseq import commands
+from cityseq.cli import main, stream_commands
 def asked(*_, **__): raise KeyError("x")
-commands.asked = asked
-sys.exit(commands.main(["check", "-"]))' > "$scratch/out" 2> "$scratch/said" < /dev/null
+stream_commands.asked = asked
+sys.exit(main.main(["check", "-"]))' > "$scratch/out" 2> "$scratch/said" < /dev/null
   same 70 $? && same 1 "$(wc -l < "$scratch/said")" && grep -q 'KeyError.*please report' "$scratch/said"
 }
 
@@ -116,6 +116,54 @@ row_trees_and_any_limit_of_the_stack() {
       same "0 valid lines=2 features=1" "$? $(cat "$scratch/out")" || return
     done
   done
+}
+
+# ---- very little memory
+
+# Has Python compile the package before a limit is set. With less than 24 MB it cannot compile it, and ends before the command begins.
+compiled() { cityseq index --output "$scratch/other.gpkg" "$scratch/stream" > "$scratch/out"; }
+
+row_memory_that_is_not_enough_to_begin() {
+  local size
+  stream 100 > "$scratch/stream"
+  compiled
+  for size in 20000 22000 24000 26000 28000 30000; do
+    (ulimit -v $size && timeout 20 "$python" -m cityseq check "$scratch/stream" > "$scratch/out" 2> "$scratch/said")
+    is_out_of_memory $? || return
+  done
+}
+
+row_an_index_and_memory_that_is_not_enough_to_begin() {
+  local size
+  stream 100 > "$scratch/stream"
+  compiled
+  for size in 22000 24000 26000 28000 30000 32000 34000 36000; do
+    (ulimit -v $size && timeout 20 "$python" -m cityseq index --output "$scratch/it.gpkg" "$scratch/stream" \
+      > "$scratch/out" 2> "$scratch/said")
+    is_out_of_memory $? || return
+  done
+}
+
+# Whether a run came to its end, or ended because memory was refused. Below some 14 MB Python itself does not begin: then its status
+# and its words are its own.
+is_out_of_memory() {
+  [ "$1" = 0 ] && return
+  grep -q 'Fatal Python error\|error while loading shared libraries\|^Could not find platform' "$scratch/said" && return
+  [ "$1" = 127 ] && return
+  same "5 1" "$1 $(wc -l < "$scratch/said")" && grep -q 'out of memory$' "$scratch/said"
+}
+
+# A folder that is full: it has a few pages for the database of an index, and no more.
+row_a_full_folder_of_temporary_files() {
+  mkdir "$scratch/small"
+  mount -t tmpfs -o size=64k tmpfs "$scratch/small" 2> "$scratch/noise" || return 0  # it takes root
+  stream 300000 > "$scratch/stream"
+  head -c 65536 /dev/zero > "$scratch/small/filler" 2> "$scratch/noise"
+  TMPDIR=$scratch/small SQLITE_TMPDIR=$scratch/small cityseq index --output "$scratch/it.gpkg" "$scratch/stream" \
+    > "$scratch/out" 2> "$scratch/said"
+  local status=$?
+  umount "$scratch/small"
+  same "4 $scratch/small: write fault: no space left for temporary files" "$status $(cat "$scratch/said")"
 }
 
 # Runs a row, and counts it.

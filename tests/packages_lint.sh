@@ -114,9 +114,10 @@ in_zsh() { tests/complete.zsh packaging/completions | sed 's/^.*[ ]\([^ ]\)/\1/;
 completes() {
   printf '%s\n' 'cityseq che' 'cityseq filter --ke' 'cityseq info --lin' 'cityseq help fil' \
     'cityseq filter --type Road,TINR' 'cityseq-run exp' 'cityseq-run info --lo' \
-    'cityseq-run filter --output-d' 'cityseq-run filter --type Railw' > "$scratch/lines"
+    'cityseq-run filter --output-d' 'cityseq-run filter --type Railw' 'cityseq-run check --format s' \
+    'cityseq-run explain 25' > "$scratch/lines"
   printf '%s\n' check --keep-going --line-limit filter Road,TINRelief explain --lods \
-    --output-dir Railway > "$scratch/wanted"
+    --output-dir Railway sarif 25 > "$scratch/wanted"
   "$1" < "$scratch/lines" > "$scratch/completed" && diff "$scratch/wanted" "$scratch/completed"
 }
 

@@ -19,7 +19,7 @@ cd "$(dirname "$0")/.." || exit
 limit=8388608 # The usual line limit, in bytes.
 skipped=77    # The status of a row that this system cannot try.
 documents='README.md docs/GUIDE.md docs/REASONS.md' # Their commands are run.
-files=' < FILE' # What follows the options in the usage of a command.
+files=' < FILE' # What follows the options in the usage of a command of the program.
 package=false    # Whether the command of the package is tried.
 
 # What does not hold of the package's command, and why.
@@ -629,11 +629,17 @@ row_help_of_check() { same_help 'check --help' 'help check' 'check -h'; }
 row_help_of_filter() { same_help 'filter --help' 'help filter' 'filter -h'; }
 row_help_of_info() { same_help 'info --help' 'help info' 'info -h'; }
 
-# Whether these words are refused with this text, or in silence where it is empty, and nothing is read.
+# Whether these words are refused with this text, or in silence where it is empty, and nothing is read. The package's command has
+# other words, which its own tests try. It must say something, in a few lines.
 refuses() {
   local text=$1
   shift
   lines "$header" | { run "$@"; cat > "$scratch/unread"; }
+  if $package; then
+    grep -q . "$scratch/said" && ! grep -q Traceback "$scratch/said" || { differs 'a mistake' "$(sketch "$scratch/said")"; return 1; }
+    : > "$scratch/said"
+    text=''
+  fi
   answered 2 "$text" < /dev/null || return
   [ "$(cat "$scratch/unread")" = "$header" ] && return
   differs 'an input that is not read' "$(sketch "$scratch/unread")"
@@ -926,10 +932,10 @@ script_of() {
 }
 
 # Whether the commands of this block print what stands under them, on standard output and standard error together. The package has
-# more words, so its usage is longer, and its help is another one.
+# another help, and other words for a mistake.
 shown_in() {
-  block "$1" "$2" | sed "s/^\(Usage: cityseq [a-z]* \[OPTIONS\]\) < FILE\$/\1$files/" > "$scratch/wanted"
-  if $package && grep -q '^\$ cityseq.*--help' "$scratch/wanted"; then return $skipped; fi
+  block "$1" "$2" > "$scratch/wanted"
+  if $package && grep -qE '^(\$ cityseq.*--help|error: )' "$scratch/wanted"; then return $skipped; fi
   script_of < "$scratch/wanted" > "$scratch/script"
   PATH=$tools:$PATH timeout 60 bash "$scratch/script" < /dev/null > "$scratch/written" 2>&1
   diff --label shown --label printed -u "$scratch/wanted" "$scratch/written"
@@ -967,7 +973,7 @@ is_tried() {
 }
 
 passed=0 failed=0
-[ "${1:-}" != --package ] || { package=true files=' [FILE]...'; }
+[ "${1:-}" != --package ] || package=true
 if found=$(find_program "$@"); then
   program=$tools/cityseq
   ln -s "$found" "$program"

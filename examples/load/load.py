@@ -10,7 +10,6 @@ import argparse
 import io
 import os
 import sys
-from decimal import DecimalException
 from itertools import chain, islice
 
 import cityseq
@@ -33,10 +32,7 @@ def row_of(stream, feature):
     """Returns the row of a feature as COPY reads it."""
     name = feature.id.encode("utf-8", "ignore")  # half a character has no bytes
     name = escaped(name) if name.decode() == feature.id and b"\0" not in name else NULL
-    try:
-        edges = [edge for axis in feature.extent for edge in axis or (None, None)]
-    except DecimalException:  # a coordinate has more than 200 digits
-        edges = [None] * 6
+    edges = [edge for axis in feature.extent for edge in axis or (None, None)]
     numbers = (NULL if edge is None else repr(float(edge)).encode() for edge in edges)
     lists = (b"{%s}" % ",".join(names).encode() for names in (feature.types, feature.lods))
     row = (b"%d" % stream, b"%d" % feature.line, name, *numbers, *lists, escaped(feature.bytes))

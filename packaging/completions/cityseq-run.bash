@@ -26,56 +26,63 @@ _cityseq_run() {
       mapfile -t COMPREPLY < <(compgen -d -- "$current")
       return
       ;;
-    --files-from | --record | --ids-from | --index | --output | --show | --refresh)
+    --files-from | --record | --ids-from | --index | -o | --output | --show | --refresh)
       mapfile -t COMPREPLY < <(compgen -f -- "$current")
       return
       ;;
-    --line-limit | --depth | --jobs | --part-size | --max-reports | --format | --id | --lod | --bbox | --base | --title | --host | --port | --url | --cors | --max-requests | --max-bodies | --max-body | --max-features | --max-seconds | --idle-seconds | --min-rate | --stop-seconds)
+    --format)
+      mapfile -t COMPREPLY < <(compgen -W 'sarif' -- "$current")
+      return
+      ;;
+    --line-limit | --depth | -j | --jobs | --part-size | --max-reports | --id | --lod | --bbox | --base | --level | --title | --host | --port | --url | --cors | --max-requests | --max-bodies | --max-body | --max-features | --max-seconds | --idle-seconds | --min-rate | --stop-seconds)
       return
       ;;
   esac
   case ${COMP_WORDS[1]} in
     check)
       options='
-        --line-limit --depth --keep-going --tree --files-from --jobs --part-size --json --sha256
-        --max-reports --summary --progress --quiet --format --record --resume -h --help'
+        --line-limit --depth --keep-going --tree --files-from --null -j --jobs --part-size
+        --json --sha256 --max-reports --summary --progress -q --quiet --format --record --resume
+        -h --help'
       files=yes
       ;;
     filter)
       options='
         --line-limit --depth --keep-going --tree --exclude --id --ids-from --type --lod --bbox
-        --index --base --output --output-dir --keep-partial --files-from --jobs --part-size
-        --json --sha256 --max-reports --summary --progress --quiet -h --help'
+        --index --base -o --output --output-dir --keep-folders --keep-partial --level
+        --files-from --null -j --jobs --part-size --json --sha256 --max-reports --summary
+        --progress -q --quiet --record --resume -h --help'
       files=yes
       ;;
     info)
       options='
-        --line-limit --depth --tree --lods --files-from --jobs --part-size --json --sha256
-        --max-reports --summary --progress --quiet -h --help'
+        --line-limit --depth --tree --lods --files-from --null -j --jobs --part-size --json
+        --sha256 --max-reports --summary --progress -q --quiet -h --help'
       files=yes
       ;;
     index)
       options='
-        --line-limit --depth --keep-going --tree --output --show --refresh --files-from --jobs
-        --part-size --json --max-reports --summary --progress --quiet -h --help'
+        --line-limit --depth --keep-going --tree -o --output --show --refresh --files-from
+        --null -j --jobs --part-size --json --max-reports --summary --progress -q --quiet -h
+        --help'
       files=yes
       ;;
     report)
       options='
-        --line-limit --depth --tree --output --title --files-from --jobs --part-size --json
-        --progress --quiet -h --help'
+        --line-limit --depth --tree -o --output --title --files-from --null -j --jobs
+        --part-size --json --progress -q --quiet -h --help'
       files=yes
       ;;
     serve)
       options='
-        --host --port --url --cors --base --jobs --max-requests --max-bodies --max-body
+        --host --port --url --cors --base -j --jobs --max-requests --max-bodies --max-body
         --max-features --max-seconds --idle-seconds --min-rate --stop-seconds --line-limit
-        --depth --quiet -h --help'
+        --depth -q --quiet -h --help'
       files=yes
       ;;
     explain)
       options='
-        -h --help'
+        -h --help 1 2 3 4 5 10 11 12 13 14 15 16 17 18 19 20 21 22 23 24 25 26 27 28 29 30 31'
       files=
       ;;
     help) options='check filter info index report serve explain' ;;

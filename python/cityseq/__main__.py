@@ -1,28 +1,31 @@
 """Runs the command: python3 -m cityseq."""
 import os
-import sys
-from contextlib import suppress
-
-from .commands import end_by_signals, main
-from .console import escape_what_lacks, hold_descriptors
+from typing import NoReturn
 
 
-def run() -> None:
+def _end(status: int, words: str) -> NoReturn:
+    """Ends the process with a line on standard error. Nothing that could fail is loaded for it."""
+    os.write(2, f"{words}\n".encode())
+    os._exit(status)
+
+
+def run() -> NoReturn:
     """Runs the command by the words of the command line, and ends the process with its status.
 
-    Nothing is open then, so the process ends at once. Python's own end would take a sixth of the
-    time of a short run."""
-    hold_descriptors()
-    escape_what_lacks()
-    end_by_signals()
-    status = main()
-    with suppress(
-        OSError, ValueError
-    ):  # the status reports a fault; without one, all has been flushed
-        for output in (sys.stdout, sys.stderr):
-            if output is not None:
-                output.flush()
-    os._exit(status)
+    The command handles faults and interrupts itself. Here are those that come before it is loaded.
+    """
+    try:
+        from .cli.main import run as run_command
+
+        run_command()
+    except KeyboardInterrupt:
+        _end(130, "interrupted")
+    except MemoryError:
+        _end(5, "out of memory")
+    except ImportError as fault:
+        if "failed to map" not in str(fault):
+            raise
+        _end(5, "out of memory")
 
 
 if __name__ == "__main__":

@@ -12,86 +12,35 @@ threads."""
 from __future__ import annotations
 
 import os
+from collections.abc import Callable, Iterable, Iterator
+from dataclasses import replace
 from functools import partial
 from itertools import islice
-from typing import Any, Callable, Iterable, Iterator, List, Optional, Tuple
+from typing import Any
 
-from ._library import USUAL_DEPTH, USUAL_LINE
-from .builder import Builder
-from .digests import digest_of
-from .faults import CityseqError, RequestError
-from .indexing import Indexed, checked, written
-from .packed import packing_by_name
-from .parts import Answer
-from .query import Box, Texts, Work, asked
-from .ranges import Seen, cut, find_range, judge_range, judge_whole, look
-from .reports import Report
-from .running import HEADERS, Info, Result, Results, Stream, Tasks, results
-from .outputs import Target, Writer
-from .same import refuse_same
-from .sources import State, is_packed, is_path
-from .threads import in_thread
+from .engine.faults import CityseqError, RequestError
+from .engine.query import Box, Limits, Options, Query, Texts, Work, work_of
+from .engine.reports import Report
+from .engine.structs import USUAL_DEPTH, USUAL_LINE
+from .indexes.builder import Builder
+from .indexes.digests import digest_of
+from .indexes.index_run import Indexed, checked, of_takers, written
+from .run.arguments import one_options, one_query
+from .run.pool import in_thread
+from .run.results import Info, Result
+from .run.streams import Results, Stream, results_by
+from .sources.outputs import Target, Writer
+from .sources.packed import packing_by_name
+from .sources.ranges import RangeChunks, Seen, judge_range, look
+from .sources.same_file import refuse_same
+from .sources.source import is_packed, is_path
 
 PART = 32 << 20  # bytes of a part
 LOOKED_AT = 64  # files whose beginnings are read together
 AHEAD = 2  # waiting or running tasks for each thread of a worker
 RETRIES = 3  # of a task that fails
 
-OnReport = Optional[Callable[[Report], None]]
-
-
-def _ranges_of(
-    stream: Stream, path: str, size: int, seen: Seen, judged: Callable[..., Answer]
-) -> Tasks:
-    """Yields a call for each part of a file. A file without a known size is judged whole."""
-    stream.heads(seen.header, seen.behind)
-    if seen.fault is not None and not seen.header.endswith(b"\n"):
-        stream.fail(seen.fault)
-        return
-    if seen.size is None:
-        yield partial(judge_whole, stream.work, path)
-        return
-    begin = len(seen.header)
-    first = True
-    for left, right in (
-        cut(begin, seen.size, max(size, HEADERS * begin)) if seen.header.endswith(b"\n") else ()
-    ):
-        yield partial(judged, stream.work, path, left, right, first, seen.state)
-        first = False
-    if first:
-        yield partial(judged, stream.work, path, begin, begin, True, seen.state)
-
-
-class _Ranged(Stream):
-    """A file whose parts are read where they are judged."""
-
-    def __init__(
-        self, path: str, work: Work, size: int, seen: Seen, output: Optional[Writer], tell: OnReport
-    ) -> None:
-        super().__init__(path, work, size, output, tell)
-        self._seen, self._path, self._each = seen, path, size
-
-    def tasks(self) -> Tasks:
-        """Yields a call for each part."""
-        return _ranges_of(self, self._path, self._each, self._seen, judge_range)
-
-
-class _IndexedRanges(Indexed):
-    """A file whose parts are read where they are judged, and whose records go to an index."""
-
-    def __init__(self, number: int, seen: Seen, size: int, *given: Any) -> None:
-        super().__init__(number, *given)
-        self._seen, self._each = seen, size
-
-    def tasks(self) -> Tasks:
-        """Yields a call for each part. A worker hashes the file."""
-        self.hash()
-        return _ranges_of(self, self.file, self._each, self._seen, find_range)
-
-    def state(self) -> State:
-        """Returns the size and the time of change that the file had at the beginning."""
-        assert self._seen.state is not None
-        return self._seen.state
+OnReport = Callable[[Report], None] | None
 
 
 class _Digests:
@@ -105,7 +54,7 @@ class _Digests:
         return self._client.submit(digest_of, path, pure=False, retries=RETRIES)
 
 
-def _seen(client: Any, paths: Iterable[str], work: Work) -> Iterator[Tuple[str, Seen]]:
+def _seen(client: Any, paths: Iterable[str], work: Work) -> Iterator[tuple[str, Seen]]:
     """Yields each file with its beginning. The workers read the beginnings, many at once."""
     left = iter(paths)
     while True:
@@ -117,20 +66,28 @@ def _seen(client: Any, paths: Iterable[str], work: Work) -> Iterator[Tuple[str, 
 
 
 def _run(
-    client: Any, paths: Any, work: Work, size: int, output: Optional[Writer], tell: OnReport
+    client: Any, paths: Any, work: Work, size: int, output: Writer | None, tell: OnReport
 ) -> Results:
     """Yields the result of each file, in order."""
+    return _run_each(
+        client,
+        (
+            Stream(
+                path,
+                work,
+                size,
+                output,
+                tell,
+                judge_by=partial(judge_range, work=work),
+                chunks=RangeChunks(path, work, size, seen),
+            )
+            for path, seen in _seen(client, _paths(client, paths), work)
+        ),
+    )
 
-    def made(path: str, seen: Seen) -> Stream:
-        return _Ranged(path, work, size, seen, output, tell)
 
-    return _run_each(client, paths, work, made)
-
-
-def _run_each(
-    client: Any, paths: Any, work: Work, made: Callable[[str, Seen], Stream]
-) -> Results:
-    """Yields the result of each file, in order. `made` makes the stream of a file."""
+def _paths(client: Any, paths: Any) -> list[str]:
+    """Returns the paths of the files. Raises `CityseqError` if workers cannot open them."""
     try:
         import distributed
     except ImportError as fault:
@@ -143,20 +100,23 @@ def _run_each(
     for path in paths:
         if not is_path(path):
             raise RequestError(f"the workers open files by their paths: {path!r} is none")
+    return list(map(os.fsdecode, paths))
 
-    def submit(task: Callable[[], Answer]) -> Any:
+
+def _run_each(client: Any, streams: Iterable[Stream]) -> Results:
+    """Yields the result of each stream, in order. The workers judge the chunks."""
+
+    def submit(task: Callable[[], Any]) -> Any:
         return client.submit(in_thread, task, pure=False, retries=RETRIES)
 
-    threads: Any = client.nthreads()  # type: ignore[no-untyped-call]
-    ahead = AHEAD * max(sum(threads.values()), 1)
-    listed = list(map(os.fsdecode, paths))
-    return results((made(*each) for each in _seen(client, listed, work)), submit, ahead)
+    return results_by(streams, submit, AHEAD * max(sum(client.nthreads().values()), 1))
 
 
 def check(
     client: Any,
     paths: Any,
     *,
+    options: Options | None = None,
     line_limit: int = USUAL_LINE,
     depth: int = USUAL_DEPTH,
     keep_going: bool = False,
@@ -166,7 +126,8 @@ def check(
 ) -> Iterator[Result]:
     """Checks one file or several, and yields the result of each, in order. A fault of a file is in
     its result."""
-    work = asked("check", line_limit=line_limit, depth=depth, keep_going=keep_going, tree=tree)
+    how = one_options(options, Options(Limits(line_limit, depth), keep_going, tree))
+    work = work_of("check", how)
     return _run(client, paths, work, part_size, None, on_report)
 
 
@@ -174,6 +135,7 @@ def info(
     client: Any,
     paths: Any,
     *,
+    options: Options | None = None,
     exact_lods: bool = False,
     line_limit: int = USUAL_LINE,
     depth: int = USUAL_DEPTH,
@@ -183,7 +145,8 @@ def info(
 ) -> Iterator[Info]:
     """Summarises one file or several, and yields the result of each, in order. A fault of a file
     is in its result."""
-    work = asked("info", exact_lods=exact_lods, line_limit=line_limit, depth=depth, tree=tree)
+    how = one_options(options, Options(Limits(line_limit, depth), tree=tree))
+    work = work_of("info", how, exact_lods=exact_lods)
     return _run(client, paths, work, part_size, None, on_report)  # type: ignore[return-value]
 
 
@@ -191,11 +154,13 @@ def filter(
     client: Any,
     path: Any,
     output: Target,
+    query: Query | None = None,
     *,
-    ids: Optional[Texts] = None,
-    types: Optional[Texts] = None,
-    lods: Optional[Texts] = None,
-    box: Optional[Box] = None,
+    options: Options | None = None,
+    ids: Texts | None = None,
+    types: Texts | None = None,
+    lods: Texts | None = None,
+    box: Box | None = None,
     exclude: bool = False,
     line_limit: int = USUAL_LINE,
     depth: int = USUAL_DEPTH,
@@ -207,25 +172,15 @@ def filter(
 ) -> Result:
     """Copies the header and the kept features of a file to an output, as `cityseq.filter` does.
     The output is written where this function is called."""
-    work = asked(
-        "filter",
-        ids=ids,
-        types=types,
-        lods=lods,
-        box=box,
-        exclude=exclude,
-        line_limit=line_limit,
-        depth=depth,
-        keep_going=keep_going,
-        tree=tree,
-    )
+    how = one_options(options, Options(Limits(line_limit, depth), keep_going, tree))
+    work = work_of("filter", how, one_query(query, Query(ids, types, lods, box, exclude)))
     if packing_by_name(os.fsdecode(path)) is not None or is_packed(path):
         raise RequestError("a packed file has no parts: unpack it, or filter it by threads")
     refuse_same([path], [output])
-    found: List[Result] = list(
+    found: list[Result] = list(
         _run(client, [path], work, part_size, Writer(output, keep_partial), on_report)
     )
-    return found[0].raised_if_invalid(keep_going)
+    return found[0].raised_if_invalid(how.keep_going)
 
 
 def index(
@@ -233,32 +188,44 @@ def index(
     paths: Any,
     output: Any,
     *,
+    options: Options | None = None,
     line_limit: int = USUAL_LINE,
     depth: int = USUAL_DEPTH,
     keep_going: bool = False,
     tree: bool = False,
     on_report: OnReport = None,
     part_size: int = PART,
-) -> List[Result]:
+) -> list[Result]:
     """Writes an index of files where this is called, as `cityseq.index` does. The workers judge
     the files, and return where each feature is. Packed files are refused: they have no parts."""
-    work = asked("check", line_limit=line_limit, depth=depth, keep_going=keep_going, tree=tree)
+    how = one_options(options, Options(Limits(line_limit, depth), keep_going, tree))
+    work = work_of("check", how)
     named = checked(paths, output)
     for path in named:
         if packing_by_name(path) is not None or is_packed(path):
             raise RequestError(f"{path}: a packed file has no parts: unpack it, or use threads")
     builder = Builder(os.fsdecode(output))
-    numbers = {path: number for number, path in enumerate(named, 1)}
-    found: List[Result] = []
+    listed = _paths(client, named)
+    found: list[Result] = []
 
-    def made(path: str, seen: Seen) -> Stream:
-        return _IndexedRanges(
-            numbers[path], seen, part_size, path, work, builder, part_size, on_report
-        )
+    def indexed() -> Iterator[Indexed]:
+        for number, (path, seen) in enumerate(_seen(client, listed, work), 1):
+            records = replace(work, kind="records")
+            yield Indexed(
+                number,
+                path,
+                work,
+                builder,
+                part_size,
+                on_report,
+                judge_by=partial(judge_range, work=records),
+                chunks=RangeChunks(path, records, part_size, seen),
+            )
 
-    written(
-        builder, lambda: _run_each(client, named, work, made), work, found.append, _Digests(client)
-    )
+    def run() -> Results:
+        return of_takers(indexed(), partial(_run_each, client))
+
+    written(builder, run, work, found.append, _Digests(client))
     for result in found:
-        result.raised_if_invalid(keep_going)
+        result.raised_if_invalid(how.keep_going)
     return found

@@ -5,7 +5,7 @@ from decimal import Decimal
 import cityseq
 from cityseq import Status
 from cityseq.delivery import facts
-from cityseq.reports import Report
+from cityseq.engine.reports import Report
 
 SYSTEM = "https://www.opengis.net/def/crs/EPSG/0/7415"
 NAMES = ("north.city.jsonl.gz", "south.city.jsonl", "west.city.jsonl")

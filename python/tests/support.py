@@ -10,6 +10,8 @@ import struct
 import subprocess
 import sys
 import tempfile
+import time
+import types
 import unittest
 
 ROOT = os.path.abspath(os.path.join(os.path.dirname(__file__), "..", ".."))
@@ -17,8 +19,8 @@ PROGRAM = os.path.join(ROOT, "crates", "cityseq", "out", "cityseq")
 sys.path[:0] = [os.path.join(ROOT, "python"), os.path.join(ROOT, "vectors")]
 
 import table  # noqa: E402
-from cityseq.parts import judge  # noqa: E402
-from cityseq.query import asked  # noqa: E402
+from cityseq.engine.judge import judge_lines  # noqa: E402
+from cityseq.engine.query import asked  # noqa: E402
 
 HEADER = (
     b'{"type":"CityJSON","version":"2.0",'
@@ -69,9 +71,17 @@ def wanted_of(row):
 def in_one(text, kind="filter", **options):
     """What comes of a stream that is given to the library whole."""
     end = text.find(b"\n") + 1 or len(text)
-    answer = judge(asked(kind, **options), "one", text[:end], bytearray(text[end:]), True)
-    answer.reports = list(answer.reports)
-    return answer
+    answer = judge_lines(asked(kind, **options), "one", text[:end], bytearray(text[end:]), True)
+    return types.SimpleNamespace(
+        reports=list(answer.reports),
+        end=answer.end,
+        output=b"".join(answer.output),
+        lines=answer.lines,
+        kept=answer.kept,
+        refused=answer.refused,
+        peaks=answer.peaks,
+        tally=answer.tally,
+    )
 
 
 def numbered(reports):
@@ -166,6 +176,11 @@ class InFolder(unittest.TestCase):
         path = self.folder / name
         path.write_bytes(gzip.compress(text) if name.endswith(".gz") else text)
         return path
+
+
+def seconds():
+    """The seconds of the processor that this process has taken."""
+    return time.process_time()
 
 
 def unfinished(folder):

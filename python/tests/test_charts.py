@@ -1,6 +1,7 @@
 """The map and the histogram of a page, and the cells that a map counts features by."""
 import random
 import unittest
+from collections import Counter
 
 from . import made_up
 from .test_page import MISSING, Elements
@@ -126,6 +127,33 @@ class Grids(unittest.TestCase):
                     max(cell[axis] for cell in cells) - min(cell[axis] for cell in cells),
                     areas.GRID,
                 )
+
+    def test_counts_of_cells(self):
+        """Cells are added up alike, near to each other or far from each other."""
+        chance = random.Random(5)
+        for reach in (1, 3, 50, 1_500, 10**9):
+            cells = [tuple(chance.randrange(-reach, reach) for _ in "xy") for _ in range(300)]
+            counts = [chance.randrange(1, 9) for _ in cells]
+            for given in (None, counts):
+                wanted = Counter()
+                for cell, count in zip(cells, given or [1] * len(cells)):
+                    wanted[cell] += count
+                columns, rows = (areas.np.array(axis) for axis in zip(*cells))
+                told = None if given is None else areas.np.array(given)
+                found = [each.tolist() for each in areas._added_up(columns, rows, told)]
+                self.assertEqual(sorted(zip(*found)), sorted((*c, n) for c, n in wanted.items()))
+
+    def test_the_farthest_of_many_parts(self):
+        chance, rim, middles = random.Random(6), areas.Rim(), []
+        for size in (3, 500, 40, 1, 2_000):
+            part = [(chance.gauss(0, 99), chance.gauss(0, 99)) for _ in range(size)]
+            names = [facts.Named("f", len(middles) + n, "id", each) for n, each in enumerate(part)]
+            middles += part
+            rim.add(*(areas.np.array(axis) for axis in zip(*part)), names.__getitem__)
+        for side, way in zip(rim._sides, (lambda p: p[0], lambda p: -p[0], lambda p: p[1],
+                                          lambda p: -p[1])):
+            farthest = sorted(middles, key=way, reverse=True)[: areas.MOST_STRAYS]
+            self.assertEqual([each.middle for _, each in side], farthest)
 
     def test_few_features_keep_their_extents(self):
         place = areas.Place(None)

@@ -1,6 +1,9 @@
 """The command: what it writes, what it says, and its status."""
 import contextlib
 import gzip
+import importlib.util
+import json
+import lzma
 import os
 import re
 import subprocess
@@ -14,8 +17,8 @@ from .support import HEADER, PLAIN, InFolder, command, feature
 from .test_sources import BROKEN, GOOD
 
 import cityseq
-from cityseq import words as words_of
-from cityseq.console import put
+from cityseq.cli.options import COMMANDS
+from cityseq.cli.output import put
 from .test_told import example
 
 SAID = "line 3, byte 142: 25 vertex index out of range"
@@ -88,7 +91,7 @@ class Commands(InFolder):
         listed = self.file(b"\xef\xbb\xbfb\r\n\r\nx,y\n", "ids")
         self.assertEqual(
             command("filter", "--ids-from", listed, "-", given=GOOD),
-            (HEADER + feature("b", "Road"), "", 0),
+            (HEADER + feature("b", "Road"), f'{listed}: 1 id matched no feature: "x,y"\n', 0),
         )
         self.assertEqual(
             command("filter", "--ids-from", listed, "--id", "a", "-", given=GOOD + feature("x,y"))[
@@ -184,9 +187,7 @@ class Commands(InFolder):
         self.assertEqual(command("explain", "7"), (b"", "no reason has the code 7\n", 2))
 
     def test_hints(self):
-        self.assertIn(
-            "\nIt is packed by gzip: ", command("check", "-", given=gzip.compress(GOOD))[1]
-        )
+        self.assertIn("\nIt is packed by xz: ", command("check", "-", given=lzma.compress(GOOD))[1])
         self.assertIn("\nIt is empty: ", command("check", "-")[1])
         self.assertEqual(command("check")[1], "line 1, byte 0: 1 no header line\n")
 
@@ -200,37 +201,58 @@ class Commands(InFolder):
     def test_wrong_words(self):
         for words, said in (
             ((), "Usage: "),
-            (("chekc", "-"), "a similar subcommand exists: 'check'"),
-            (("check", "--id", "b", "-"), "unexpected argument '--id'"),
-            (("filter", "--id", "a", "--id", "b", "-"), "cannot be used multiple times"),
+            (("chekc", "-"), "there is no command 'chekc'\n  tip: is check meant?\n"),
+            (("",), "there is no command ''\nUsage: "),
+            (("\udcff",), "there is no command '\\udcff'\n"),
+            (("x\x1by",), "there is no command 'x\\u001by'\n"),
+            (("check", "--id", "b", "-"), "there is no option --id\n"),
+            (("check", "--x\x1by"), "there is no option --x\\u001by\n"),
+            (("check", "-x"), "there is no option -x\n"),
+            (("filter", "--id", "a", "--id", "b", "-"), "--id: it is given more than once\n"),
+            (("check", "-q", "--quiet", "-"), "--quiet: it is given more than once\n"),
+            (("check", "--json=yes", "-"), "--json: ignored explicit argument 'yes'\n"),
+            (("check", "--jobs", "0", "-"), "--jobs: 0 is not from 1 to 4096\n"),
+            (("check", "--jobs", "\u0663", "-"), "--jobs: '\u0663' is not a whole number\n"),
+            (("check", "--line-limit", "0", "-"), "--line-limit: 0 is not from 1 to 1073741824\n"),
+            (("check", "--line-limit", "2G", "-"), "2G is not from 1 to 1073741824\n"),
+            (("check", "--line-limit", "M", "-"), "'' is not a whole number\n"),
+            (("check", "--line-limit", "8 M", "-"), "'8 ' is not a whole number\n"),
+            (("check", "--line-limit", "8T", "-"), "'8T' is not a whole number\n"),
+            (("check", "--depth", "x", "-"), "--depth: 'x' is not a whole number\n"),
+            (("check", "--depth=", "-"), "--depth: '' is not a whole number\n"),
+            (("check", "--depth", "9" * 30), f"{'9' * 30} is not from 1 to 1024\n"),
+            (("check", "--depth"), "--depth: a value is missing\n"),
+            (("check", "--depth", "-"), "--depth: '-' is not a whole number\n"),
+            (("check", "--dep", "3", "-"), "there is no option --dep\n"),
+            (("check", "--jsn", "-"), "there is no option --jsn\n  tip: is --json meant?\n"),
+            (("check", "--format", "xml", "-"), "--format: 'xml' is not sarif\n"),
             (
-                ("check", "--jobs", "0", "-"),
-                "invalid value '0' for '--jobs <N>': 0 is not in 1..=4096",
+                ("filter", "--bbox", "-5,0,5,9", "-"),
+                "--bbox: a value is missing\n  tip: write a value that begins with a minus after an"
+                " equals sign, such as --bbox=-5,0,5,9\n",
             ),
-            (("check", "--jobs", "\u0663", "-"), "invalid digit found in string"),
-            (("check", "--line-limit", "0", "-"), "0 is not in 1..=1073741824"),
-            (("check", "--depth", "x", "-"), "invalid digit found in string"),
-            (("check", "--depth=", "-"), "cannot parse integer from empty string"),
-            (("check", "--depth", "9" * 30), "number too large"),
-            (("check", "--depth"), "a value is required for '--depth <LEVELS>'"),
-            (("check", "--jsn", "-"), "exists: '--json'"),
             (
                 ("filter", "--type", "Bulding", "-"),
-                "unknown object type: Bulding\n  tip: a similar type exists: 'Building'\n",
+                "unknown object type: Bulding\n  tip: is 'Building' meant?\n",
             ),
-            (("filter", "--type", "building", "-"), "exists: 'Building'\n"),
+            (("filter", "--type", "building", "-"), "tip: is 'Building' meant?\n"),
             (("filter", "--type", "x\x1by", "-"), "type: x\\u001by\n"),
-            (("filter", "--bbox", "1,2,3", "-"), "bad box\n"),
-            (("info", "--keep-going", "-"), "unexpected argument '--keep-going'"),
-            (("filter", "--bbox=3,0,1,1", "-"), "empty box\n"),
-            (("filter", "--bbox=1e18,0,2e18,0", "-"), "box number out of range\n"),
+            (("filter", "--bbox", "1,2,3", "-"), "bad box\n  tip: a box is minx,miny,maxx,maxy: "),
+            (("info", "--keep-going", "-"), "there is no option --keep-going\n"),
+            (("filter", "--bbox=3,0,1,1", "-"), "empty box\n  tip: a box is "),
+            (("filter", "--bbox=1e18,0,2e18,0", "-"), "box number out of range\n  tip: a box is "),
+            (("filter", "--bbox", "1,2,3"), "bad box\n"),
             (("explain",), "explain takes a code"),
             (("explain", "x"), "explain takes a code"),
-            (("help", "chekc"), "exists: 'check'"),
+            (("help", "chekc"), "tip: is check meant?\n"),
             (("check", "--resume", "x"), "--resume is for a --record"),
             (("check", "--record", "/dev/null", "-"), "standard input has no name"),
+            (("check", "--record", "-", "x"), "a record is a file"),
             (("check", "-", "-"), "read once"),
             (("filter", "--ids-from", "-"), "read once"),
+            (("filter", "--keep-folders", "x"), "--keep-folders is for --output-dir"),
+            (("filter", "--level", "10", "x"), "--level: 10 is not from 1 to 9\n"),
+            (("serve", "--processes", "3"), "there is no --processes: gunicorn runs"),
         ):
             output, told, status = command(*words, given=GOOD)
             self.assertEqual(
@@ -239,32 +261,69 @@ class Commands(InFolder):
                 (words, told),
             )
 
+    def test_options_stand_anywhere(self):
+        good, broken = self.file(GOOD, "good.jsonl"), self.file(BROKEN, "broken.jsonl")
+        wanted = command("check", "--jobs", "1", "--quiet", good, broken)
+        self.assertEqual(wanted[2], 1)
+        for words in (
+            (good, "--jobs", "1", broken, "--quiet"),
+            (good, "-j1", broken, "-q"),
+            ("-qj", "1", good, broken),
+            ("--jobs=1", good, "--quiet", "--", broken),
+            (good, broken, "-q", "-j", "1"),
+        ):
+            self.assertEqual(command("check", *words), wanted, words)
+        (self.folder / "-x").write_bytes(GOOD)
+        self.assertEqual(
+            command("check", "--", "-x", "--json", cwd=self.folder)[::2],
+            (b"-x: valid lines=3 features=2\n", 3),
+        )
+
+    def test_short_options_and_sizes(self):
+        output = self.folder / "out.jsonl"
+        self.assertEqual(command("filter", "-o", output, "-", given=GOOD), (b"", "", 0))
+        self.assertEqual(output.read_bytes(), GOOD)
+        for size, number in (("1K", 1_024), ("1k", 1_024), ("8M", 8 << 20), ("1G", 1 << 30)):
+            told = command("check", "--json", "--line-limit", size, "-", given=GOOD)[0]
+            self.assertEqual(json.loads(told)["options"]["line_limit"], number)
+
     def test_help(self):
         for words in (("help",), ("--help",), ("-h",)):
             self.assertEqual(command(*words), (command("--help")[0], "", 0))
-        for name in ("check", "filter", "info", "explain"):
+        for name in COMMANDS:
             output, said, status = command(name, "--help")
             self.assertEqual((output, said, status), (command("help", name)[0], "", 0))
-            self.assertTrue(output.decode().startswith(words_of.COMMANDS[name].about))
+            self.assertTrue(output.decode().startswith(COMMANDS[name].about))
             self.assertLess(max(map(len, output.decode().splitlines())), 160)
-        self.assertEqual(command("-V"), (f"cityseq {cityseq.__version__}\n".encode(), "", 0))
+        self.assertEqual(command("-V"), (f"cityseq-run {cityseq.__version__}\n".encode(), "", 0))
+
+    def test_help_has_the_name_that_was_called(self):
+        for name, shown in (("cityseq-run", "cityseq-run"), ("cityseq", "cityseq"), ("x", None)):
+            code = f"import sys; from cityseq.__main__ import run; sys.argv[0] = '/{name}'; run()"
+            output = subprocess.run(
+                [sys.executable, "-c", code, "check", "--help"],
+                stdout=subprocess.PIPE,
+                env={**os.environ, "PYTHONPATH": os.path.join(support.ROOT, "python")},
+            ).stdout.decode()
+            self.assertIn(f"Usage: {shown or 'cityseq-run'} check [OPTIONS] [FILE]...\n", output)
+            self.assertIn(f"\n  {shown or 'cityseq-run'} check < town.city.jsonl\n", output)
+
+    def test_help_is_in_plain_english(self):
+        for name in (None, *COMMANDS):
+            text = command(*([] if name is None else [name]), "--help")[0].decode()
+            for phrase in ("not valid", "wanted", "asked for", "tells", "Refuse", "so many", "Say"):
+                self.assertNotIn(phrase, text, name)
+        text = command("--help")[0].decode()
+        self.assertIn("A line is invalid. Standard error gives line, byte and reason.", text)
 
     @unittest.skipUnless(os.path.exists(support.PROGRAM), "the program is not built")
     def test_all_options_of_the_program_are_there(self):
         for name in ("check", "filter", "info"):
-            ours = command(name, "--help")[0].decode().splitlines()
-            theirs = support.program(name, "--help")[0].decode().splitlines()
-            options = [" ".join(line.split()) for line in theirs if line.lstrip().startswith("--")]
-            self.assertEqual(
-                [line for line in options if line not in {" ".join(our.split()) for our in ours}],
-                [],
-            )
-            examples = [
-                line
-                for line in theirs
-                if line.startswith("  cityseq ") or line.startswith("  zcat")
-            ]
-            self.assertEqual([line for line in examples if line not in ours], [])
+            ours = command(name, "--help")[0].decode()
+            theirs = support.program(name, "--help")[0].decode()
+            options = re.findall(r"^ +(--[a-z-]+(?: <[A-Z,]+>)?)  ", theirs, re.M)
+            self.assertGreater(len(options), 2)
+            self.assertEqual([each for each in options if f" {each}  " not in ours], [])
 
     def test_faults(self):
         none = self.folder / "none"
@@ -294,9 +353,9 @@ class Commands(InFolder):
             words = () if most is None else ("--max-reports", str(most))
             said = command("check", "--keep-going", *words, path)[1]
             self.assertEqual(said.count("12 wrong kind"), told)
-            self.assertEqual("more lines are not valid" in said, told < 2_500)
+            self.assertEqual("more lines are invalid" in said, told < 2_500)
         said = command("check", "--keep-going", "--max-reports", "1", path, path)[1]
-        self.assertEqual(said.count(f"{path}: 2,499 more lines are not valid"), 2)
+        self.assertEqual(said.count(f"{path}: 2,499 more lines are invalid"), 2)
 
     def test_a_summary(self):
         output, said, status = command(
@@ -360,8 +419,21 @@ class Commands(InFolder):
             self.assertNotIn(
                 "\x1b", self.on_a_terminal("check", "--keep-going", path, **environment)
             )
-        said = self.on_a_terminal("check", "--progress", path, self.file(HEADER))
-        self.assertIn(f"MB/s  {path}"[:20], said)
+
+    def test_progress_on_a_terminal(self):
+        """A bar of tqdm, and else a line."""
+        path = self.file(HEADER + b"[]\n", "a.jsonl")
+        (self.folder / "tqdm.py").write_text("raise ImportError")
+        python = os.path.join(support.ROOT, "python")
+        words = ("check", "--progress", "--keep-going", path, self.file(HEADER))
+        said = self.on_a_terminal(*words, PYTHONPATH=f"{self.folder}:{python}")
+        self.assertRegex(said, r"\n100 %  0 of 0 MB, [0-9,]+ MB/s  /.*/stream.city.jsonl\r\n$")
+        self.assertEqual(said.count("wrong kind"), 1)
+        if importlib.util.find_spec("tqdm") is None:
+            self.skipTest("tqdm is not there")
+        said = self.on_a_terminal(*words)
+        self.assertRegex(said, r"100%.*B/s, .*stream\.city\.jsonl\]")
+        self.assertEqual(said.count("wrong kind"), 1)
 
     def test_lists_of_files(self):
         good, broken = self.file(GOOD, "good.jsonl"), self.file(BROKEN, "a b.jsonl")

@@ -14,7 +14,7 @@ from .support import HEADER, PLAIN, ROOT, InFolder, command, feature
 from .test_index import with_id
 
 import cityseq
-from cityseq import fetching, queries
+from cityseq.indexes import candidates, line_reader
 
 TOWN, SAMPLE, DELIVERY = (
     f"{ROOT}/examples/{name}.city.jsonl" for name in ("town", "sample", "delivery")
@@ -247,11 +247,11 @@ class Cuts(InFolder):
             feature(f"b{i}", "Road" if i % 97 else "Bridge", x=i) for i in range(6_000)
         )
         other = HEADER + b"\n" + feature("c") + feature("d", "Road")[:-1]
-        read = mock.Mock(side_effect=fetching._all_lines)
+        read = mock.Mock(side_effect=line_reader._all_lines)
         with self.indexed(self.file(one, "one"), self.file(other, "other")) as index:
-            with mock.patch.object(queries, "SMALL", 0), mock.patch.object(
-                fetching, "_all_lines", read
-            ), mock.patch.object(fetching, "MOST", 5_000):
+            with mock.patch.object(candidates, "SMALL", 0), mock.patch.object(
+                line_reader, "_all_lines", read
+            ), mock.patch.object(line_reader, "MOST", 5_000):
                 for is_whole, query in (
                     (True, {}),
                     (True, {"types": "Road"}),

@@ -7,6 +7,7 @@ import os
 import random
 import time
 import unittest
+from unittest import mock
 
 from . import support
 from .support import HEADER, InFolder, feature, numbered
@@ -19,30 +20,21 @@ except ImportError:
     distributed = None
 else:
     import cityseq.dask
-    from cityseq.query import asked
-    from cityseq.ranges import cut, judge_range, look
+    from cityseq.engine.judge import Answer
+    from cityseq.engine.query import asked
+    from cityseq.sources.ranges import RangeChunks, judge_range, look
 
 
 def by_ranges(path, each, work):
     """What comes of a file whose ranges are judged one after another, as each task does."""
-    from cityseq.parts import Answer
-
-    seen, joined, output, reports, first = (
-        look(path, work.line_limit),
-        Answer(parts=0),
-        b"",
-        [],
-        True,
-    )
-    begin = len(seen.header)
-    for left, right in list(cut(begin, seen.size, each) if seen.header.endswith(b"\n") else ()) or [
-        (begin, begin)
-    ]:
-        if joined.status == 0:
-            answer = judge_range(work, path, left, right, first)
-            joined.add(answer, begin, reports.append)
-            output, first = output + answer.output, False
-    return output, numbered(reports), joined.lines, joined.kept, joined.refused, joined.peaks
+    joined = Answer(parts=0)
+    with mock.patch("cityseq.engine.judge.HEADERS", 0):
+        for chunk in RangeChunks(path, work, each, look(path, work.line_limit)):
+            if joined.status == 0:
+                joined = joined.then(judge_range(chunk, work))
+    reports = numbered([*joined.reports, *[joined.end] * (joined.end is not None)])
+    output = b"".join(joined.output)
+    return output, reports, joined.lines, joined.kept, joined.refused, joined.peaks
 
 
 def filtered(call, *given, **options):
@@ -70,12 +62,11 @@ class Ranges(InFolder):
 
     def test_a_file_that_changes(self):
         path, work = self.file(HEADER + feature("a") * 9), asked("check")
-        seen = look(str(path), work.line_limit)
-        begin = len(seen.header)
-        self.assertIsNone(judge_range(work, str(path), begin, seen.size, True, seen.state).fault)
-        os.truncate(path, begin)
+        (chunk,) = RangeChunks(str(path), work, 1 << 20, look(str(path), work.line_limit))
+        self.assertIsNone(judge_range(chunk, work).fault)
+        os.truncate(path, chunk.begin)
         self.assertEqual(
-            str(judge_range(work, str(path), begin, seen.size, True, seen.state).fault),
+            str(judge_range(chunk, work).fault),
             f"{path}: read fault: changed while it was read",
         )
 

@@ -2,7 +2,9 @@
 import csv
 import gzip
 import json
+import operator
 import random
+import struct
 import subprocess
 import unittest
 from collections import Counter
@@ -17,7 +19,8 @@ from cityseq.delivery import extras
 
 try:
     extras.need_all()
-    from cityseq.delivery import repeated, survey
+    from cityseq.delivery import id_hashes, repeated, survey
+    from cityseq.engine.world import extent_of, transform_of
 
     MISSING = None
 except extras.PackageMissing as fault:
@@ -225,7 +228,10 @@ class Facts(InFolder):
             path = self.file(header + feature("a") + feature("b", x=-(2**53)))
             made = cityseq.report(path, self.folder / "page.html")
             try:
-                extents = [each.extent[0] for each in cityseq.features(path)]
+                extents = [
+                    extent_of(each.ranges, *transform_of(each.header))[0]
+                    for each in cityseq.features(path)
+                ]
                 wanted = min(low for low, _ in extents), max(high for _, high in extents)
             except DecimalException:  # of more than 200 digits
                 wanted = None
@@ -304,13 +310,17 @@ class Repeated(InFolder):
             [("i0", [2, 702]), ("i1", [3, 703])],
         )
 
+    def setUp(self):
+        super().setUp()
+        self.hash = id_hashes.Hash()
+
     def added(self, ids, count, at_once):
         """What is found among the ids of numbers, which come in pieces."""
         with repeated.Ids() as made, mock.patch.object(repeated, "AT_ONCE", at_once):
             for begin in range(0, count, 1_000):
                 numbers = range(begin, min(begin + 1_000, count))
                 lines = survey.np.array(numbers, "u8") + 2
-                made.add(0, lines, [ids(number) for number in numbers])
+                made.add(0, lines, self.hash.of_spellings([ids(number) for number in numbers]))
             with Reads(made) as reads:
                 return made.repeated(["f"]), reads.bytes
 
@@ -322,16 +332,78 @@ class Repeated(InFolder):
             self.assertEqual((found.ids, found.features), (10, 20))
             self.assertEqual(size, 5_000 * repeated.RECORD.itemsize)
 
-    def test_half_a_digest_is_not_enough(self):
-        def same_half(ids):
-            return b"".join(bytes(8) + each.ljust(8) for each in ids)
+    def test_a_part_of_a_hash_is_not_enough(self):
+        """Hashes are equal in the first 64 bits, or in the last 32."""
+        for high, low in (([7, 7, 7], [1, 2, 1]), ([1, 2, 1], [7, 7, 7])):
+            found = self.hash.of_spellings([b"a", b"b", b"a"])
+            found.high[:], found.low[:] = high, low
+            with repeated.Ids() as made:
+                made.add(0, survey.np.array([2, 3, 4]), found)
+                told = made.repeated(["f"])
+            self.assertEqual((told.ids, told.features), (1, 2))
+            self.assertEqual(
+                [(each.id, each.places) for each in told.first], [("a", [("f", 2), ("f", 4)])]
+            )
 
-        with mock.patch.object(repeated, "_digests", same_half):
-            found, _ = self.added(lambda number: [b"a", b"b", b"a"][number], 3, 1)
-        self.assertEqual((found.ids, found.features), (1, 2))
-        self.assertEqual(
-            [(each.id, each.places) for each in found.first], [("a", [("f", 2), ("f", 4)])]
-        )
+
+@unittest.skipIf(MISSING, MISSING)
+class Hashes(unittest.TestCase):
+    """Ids with and without escapes, wherever they lie in a part, have the hash of their text."""
+
+    def test_any_place(self):
+        chance, made = random.Random(1), id_hashes.Hash()
+        for _ in range(300):
+            ids = [
+                "".join(chance.choice("a\u00e9\u0000\ud800\U0001f3e0z") for _ in range(size))
+                for size in (chance.choice((0, 1, 7, 8, 9, 15, 60, 90, 300)) for _ in range(9))
+            ]
+            ids += [chance.choice(ids) for _ in range(5)]
+            part, begins, lengths = b"x" * chance.randrange(3), [], []
+            for name in ids:
+                is_plain = "\ud800" not in name and chance.random() < 0.5
+                spelled = json.dumps(name, ensure_ascii=not is_plain)[1:-1].encode()
+                begins.append(len(part))
+                lengths.append(len(spelled))
+                part += spelled + b"\\" * chance.randrange(2)
+            found = made.of(part, *(survey.np.array(each) for each in (begins, lengths)))
+            keys = list(zip(found.high.tolist(), found.low.tolist()))
+            for one, key in zip(ids, keys):
+                for other, its in zip(ids, keys):
+                    self.assertEqual(one == other, key == its)
+            for number, name in enumerate(ids):
+                text = name.encode("utf-8", "surrogatepass")[: id_hashes.LONGEST]
+                self.assertEqual(found.text(number), text)
+
+    def test_the_sums(self):
+        """Each is the upper half of a sum of products, as Python makes it."""
+        chance, made = random.Random(2), id_hashes.Hash()
+        first, of_length, *others = made._factors.tolist()
+        for size in (0, 1, 4, 8, 9, 31, 250):
+            ids = [chance.randbytes(size).replace(b"\\", b"x") for _ in range(5)]
+            found = made.of_spellings(ids)
+            for id, high, low in zip(ids, found.high.tolist(), found.low.tolist()):
+                text = id + bytes(-len(id) % 8)
+                halves = struct.unpack(f"<{len(text) // 4}I", text)
+                sums = [
+                    one + len(id) * other + sum(map(operator.mul, halves, factors))
+                    for one, other, *factors in zip(first, of_length, *others)
+                ]
+                whole = [each % (1 << 64) >> 32 for each in sums]
+                self.assertEqual((high, low), (whole[0] << 32 | whole[1], whole[2]))
+
+    def test_another_run_has_other_hashes(self):
+        one, other = (id_hashes.Hash().of_spellings([b"a", b"x" * 300]) for _ in "ab")
+        self.assertTrue((one.high != other.high).all())
+
+    def test_no_bit_is_always_the_same(self):
+        ids = [b"i%d" % number for number in range(1_000)]
+        # one hash of a hundred hardly changes a bit where ids are so alike
+        made = [id_hashes.Hash().of_spellings(ids) for _ in range(20)]
+        high, low = (survey.np.concatenate(each) for each in zip(*((m.high, m.low) for m in made)))
+        for bits, values in ((64, high), (32, low)):
+            for bit in range(bits):
+                share = (values >> survey.np.uint64(bit) & survey.np.uint64(1)).mean()
+                self.assertTrue(0.3 < share < 0.7, (bits, bit, share))
 
 
 class Reads:

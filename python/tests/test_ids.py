@@ -1,5 +1,4 @@
 """Queries for very many ids: the same is kept as by a query for all of them."""
-import gc
 import io
 import json
 import random
@@ -10,9 +9,9 @@ from . import support
 from .support import HEADER, PLAIN, feature
 
 import cityseq
-from cityseq import ids as ids_of
-from cityseq.ids import MANY, MOST, _ids_in, _sorted, ids_for, in_order, part_size_for
-from cityseq.query import asked, lines_of
+from cityseq.engine import ids as ids_of
+from cityseq.engine.ids import MANY, MOST, _ids_in, _sorted, ids_for, in_order, part_size_for
+from cityseq.engine.query import asked, lines_of
 
 FEW = [f"other-{number:05}" for number in range(MANY // 8)]  # that are in no stream here
 LINES = (  # each with the text of its id
@@ -81,7 +80,7 @@ class Order(unittest.TestCase):
             found = asked("filter", ids=mixed).ids
             self.assertTrue(found == "\n".join(wanted).encode())
             self.assertTrue(in_order(found) == found)
-            with mock.patch("cityseq.ids.sort_texts", lambda *_: False):
+            with mock.patch("cityseq.engine.ids.sort_texts", lambda *_: False):
                 _sorted.cache_clear()
                 self.assertTrue(in_order("\n".join(mixed).encode()) == found)
 
@@ -144,7 +143,7 @@ class Filters(support.InFolder):
             }
             with self.subTest(seed=seed):
                 found = self.kept(text, **options)
-                with mock.patch("cityseq.ids.MANY", 1 << 40):
+                with mock.patch("cityseq.engine.ids.MANY", 1 << 40):
                     self.assertEqual(found, self.kept(text, **options))
 
     def asked_for(self, count, many, **options):
@@ -159,7 +158,7 @@ class Filters(support.InFolder):
         random.Random(1).shuffle(wanted)
         path = self.folder / "stream.city.jsonl"
         path.write_bytes(HEADER + b"".join(feature(f"b{number}") for number in range(count)))
-        with mock.patch("cityseq.query.ids_for", noted):
+        with mock.patch("cityseq.engine.query.ids_for", noted):
             self.assertEqual(self.kept(path, ids=wanted, **options)[1], min(count, many))
         return [each for each in lengths if each[0]]
 
@@ -181,7 +180,7 @@ class Filters(support.InFolder):
 
     def test_parts_of_a_file_are_not_copied(self):
         """Those whose ids Python reads are `bytes`, and others are not."""
-        with mock.patch("cityseq.places.Placed.read", side_effect=AssertionError):
+        with mock.patch("cityseq.sources.regular.RegularFile.read", side_effect=AssertionError):
             for jobs in (1, 3):
                 self.asked_for(20_000, 100_000, jobs=jobs)
             with self.assertRaises(AssertionError):
@@ -249,11 +248,8 @@ class Filters(support.InFolder):
                 part = b"".join(map(feature, listed))
                 self.assertEqual(set(_ids_in(wanted, part).split(b"\n")), set(wanted.split(b"\n")))
 
-    def test_the_garbage_collector_passes_by_the_set_of_ids(self):
-        listed = ids_of._listed(b"b\na\nb")
-        self.assertEqual((listed, gc.is_tracked(listed)), ({b"a", b"b"}, False))
-        with mock.patch("cityseq._library.ctypes.pythonapi", None):  # as of another Python
-            self.assertEqual(ids_of._listed(b"c\na"), {b"a", b"c"})
+    def test_the_set_of_ids(self):
+        self.assertEqual(ids_of._listed(b"b\na\nb"), {b"a", b"b"})
 
     def test_lines_that_are_cut_short(self):
         wanted = "\n".join(("ab", "abb", "abc", "abcd", "z"))
@@ -272,9 +268,9 @@ class Filters(support.InFolder):
     def test_a_stream_in_order_is_not_read_for_each_id(self):
         wanted = [f"b{number:07}" for number in range(0, 100_000, 2)]
         text = HEADER + b"".join(feature(f"b{number:07}") for number in range(2_000))
-        with mock.patch("cityseq.ids._usual", side_effect=AssertionError):
+        with mock.patch("cityseq.engine.ids._usual", side_effect=AssertionError):
             self.assertEqual(self.kept(text, ids=wanted)[1], 1_000)
-        with mock.patch("cityseq.ids._between", side_effect=AssertionError):
+        with mock.patch("cityseq.engine.ids._between", side_effect=AssertionError):
             mixed = text.replace(b"b0000000", b"b0001999")
             self.assertEqual(self.kept(mixed, ids=wanted)[1], 999)
 

@@ -1,4 +1,5 @@
 """Indexes: what is in the file, against what Python reads in streams, and what bad input gets."""
+import gzip
 import hashlib
 import io
 import json
@@ -22,8 +23,9 @@ from . import support
 from .support import HEADER, PLAIN, ROOT, InFolder, command, feature
 
 import cityseq
-from cityseq import builder
-from cityseq.records import id_of
+from cityseq.indexes import builder
+from cityseq.engine.records import id_of
+from cityseq.sources import regular
 
 TOWN, SAMPLE, BROKEN, DELIVERY = (
     f"{ROOT}/examples/{name}.city.jsonl" for name in ("town", "sample", "broken", "delivery")
@@ -476,7 +478,7 @@ class Refreshed(InFolder):
 
     def test_an_index_that_another_program_changed(self):
         with closing(sqlite3.connect(self.index)) as base:
-            base.execute("DELETE FROM feature_ids WHERE key & 4294967295 = 1")
+            base.execute("DELETE FROM feature_ids WHERE key = (SELECT min(key) FROM feature_ids)")
             base.commit()
         self.copied(self.paths[0], self.texts[0])
         before = self.index.read_bytes()
@@ -486,27 +488,72 @@ class Refreshed(InFolder):
         self.assertEqual(self.index.read_bytes(), before)
 
     def test_the_hash(self):
-        """The BLAKE2b of the CRC-32s of all blocks."""
-        path = self.file(HEADER + b"\n" * 300_000 + feature("c"), "c.jsonl")
-        cityseq.index(path, self.index)
-        text = path.read_bytes()
-        blocks = [text[:262_144], text[262_144:]]
-        sums = b"".join(struct.pack("<I", zlib.crc32(block)) for block in blocks)
-        wanted = hashlib.blake2b(sums, digest_size=16).hexdigest()
-        self.assertEqual(query(self.index, "SELECT content FROM streams"), [(wanted,)])
+        """The BLAKE2b of the CRC-32s of all blocks, whoever reads them."""
+        from cityseq.indexes.digests import digest_of
+
+        lines = [feature(f"b{number}") for number in range(2_000)]
+        for name, text in (
+            ("blank", HEADER + b"\n" * 300_000 + feature("c")),
+            ("many", HEADER + b"".join(lines)),
+            ("long", HEADER + with_id("x" * 200_000) + b"".join(lines) + with_id("y" * 300_000)),
+            ("open", HEADER + b"".join(lines) + PLAIN.rstrip(b"\n")),
+            ("header", HEADER),
+            ("open header", HEADER.rstrip(b"\n")),
+            ("packed", gzip.compress(HEADER + b"".join(lines))),
+        ):
+            path = self.file(text, f"{name}.jsonl")
+            blocks = [text[at : at + 65_536] for at in range(0, len(text), 65_536)]
+            sums = b"".join(struct.pack("<I", zlib.crc32(block)) for block in blocks)
+            wanted = hashlib.blake2b(sums, digest_size=16).hexdigest()
+            self.assertEqual(digest_of(path).content, wanted)
+            for size in (None, 1_000, 70_000, 10**6):
+                with self.subTest(name=name, size=size):
+                    cityseq.index(path, self.index, part_size=size)
+                    found = query(self.index, "SELECT content FROM streams")
+                    self.assertEqual(found, [(wanted,)])
+
+    def test_the_judging_threads_hash(self):
+        """They have nearly all blocks at hand. Only the others are read again."""
+        from cityseq.indexes import digests
+
+        lines = [feature(f"b{number}") for number in range(20_000)]
+        path, read = self.file(HEADER + b"".join(lines), "many.jsonl"), []
+        read_own = regular.RegularFile.read_own
+
+        def noted(file, begin, end):
+            read.append(end - begin)
+            return read_own(file, begin, end)
+
+        with mock.patch.object(regular.RegularFile, "read_own", noted), \
+                mock.patch.object(digests, "digest_of", side_effect=AssertionError):
+            cityseq.index(path, self.index)
+        self.assertLess(sum(read), path.stat().st_size / 4)
 
     def test_a_stream_that_changes_while_it_is_hashed(self):
-        from cityseq import digests, indexing
+        from cityseq.indexes import digests, index_run
 
         before = self.index.read_bytes()
-        wrong = digests.Digest("", (1, 2), (1, 3))
-        told = mock.Mock(**{"submit.return_value.result.return_value": wrong})
-        with mock.patch.object(indexing, "Digests") as made:
+        content, path = digests.HashedFile.content, self.paths[0]
+
+        def changed(file_of_stream):
+            with open(path, "ab") as file:
+                file.write(b"\n")
+            return content(file_of_stream)
+
+        packed = self.file(HEADER + PLAIN, "packed.jsonl.gz")
+        told = mock.Mock()
+        told.submit.return_value.result.return_value = digests.Digest("", (1, 2), (1, 3))
+        with mock.patch.object(digests.HashedFile, "content", changed):
+            self.refused_as_changed(path)
+        with mock.patch.object(index_run, "Digests") as made:
             made.return_value.__enter__.return_value = told
-            with self.assertRaises(cityseq.ReadFault) as caught:
-                cityseq.index(self.paths, self.index)
-        self.assertIn("changed while it was read", str(caught.exception))
+            self.refused_as_changed(packed)
         self.assertEqual(self.index.read_bytes(), before)
+
+    def refused_as_changed(self, path):
+        with self.assertRaises(cityseq.ReadFault) as caught:
+            cityseq.index(path, self.index)
+        self.assertIn("changed while it was read", str(caught.exception))
 
     def test_words(self):
         for words in (
@@ -544,7 +591,7 @@ class Trees(unittest.TestCase):
     """The spatial index, which is written at once, as SQLite itself checks it."""
 
     def test_any_number_of_features(self):
-        from cityseq.rtree import Tree, cells_of, keys_of
+        from cityseq.indexes.rtree import Tree, cells_of, keys_of
 
         chance = random.Random(1)
         for count in (0, 1, 50, 51, 52, 103, 51 * 51, 51 * 51 + 1, 9_000):
@@ -559,8 +606,12 @@ class Trees(unittest.TestCase):
                 boxes.append((number, x, x + abs(x) * chance.random(), y, y + chance.random()))
             numbers, *edges = [list(column) for column in zip(*boxes)] or [[]] * 5
             keys = keys_of(edges[0], edges[2])
-            ordered = [cell for _, cell in sorted(zip(keys, cells_of(numbers, *edges)))]
-            Tree(base, "t").write(iter(ordered), count, count + 5)
+            rows = [
+                struct.pack(">Q", key) + cell
+                for key, cell in sorted(zip(keys, cells_of(numbers, *edges)))
+            ]
+            pieces = (b"".join(rows[at : at + 70]) for at in range(0, count, 70))
+            Tree(base, "t").write(pieces, count, count + 5)
             with self.subTest(count=count):
                 self.assertEqual(base.execute("SELECT rtreecheck('t')").fetchall(), [("ok",)])
                 self.assertEqual(base.execute("SELECT count(*) FROM t").fetchone(), (count,))
@@ -577,7 +628,7 @@ class Trees(unittest.TestCase):
 
     def test_keys(self):
         """The bits of both numbers as 32-bit floats, in the order of the floats, in turn."""
-        from cityseq.rtree import keys_of
+        from cityseq.indexes.rtree import keys_of
 
         def ordered(number):
             (bits,) = struct.unpack(">I", struct.pack(">f", number))
@@ -597,7 +648,7 @@ class Trees(unittest.TestCase):
         self.assertEqual(list(keys_of([], [])), [])
 
     def test_rounding_is_outward(self):
-        from cityseq.extents import ceiling_of, floor_of
+        from cityseq.engine.extents import ceiling_of, floor_of
 
         chance = random.Random(2)
         for _ in range(5_000):
@@ -612,7 +663,7 @@ class Trees(unittest.TestCase):
             )
 
     def test_intervals_are_rounded_outward(self):
-        from cityseq.extents import Axis, ceiling_of, floor_of
+        from cityseq.engine.extents import Axis, ceiling_of, floor_of
 
         chance = random.Random(3)
         for _ in range(5_000):
@@ -627,7 +678,7 @@ class Trees(unittest.TestCase):
             )
 
     def test_columns_are_rounded_as_each_number_is(self):
-        from cityseq.extents import ceiling_of, ceilings_of, floor_of, floors_of
+        from cityseq.engine.extents import ceiling_of, ceilings_of, floor_of, floors_of
 
         chance = random.Random(5)
         for _ in range(3_000):
@@ -801,7 +852,7 @@ class BadInput(InFolder):
         with self.assertRaises(cityseq.ReadFault) as caught:
             cityseq.Index(self.index)
         self.assertIn(
-            "it is an index of version 1, and not of version 2: build it again",
+            "it is an index of version 1, and not of version 4: build it again",
             str(caught.exception),
         )
 

@@ -15,7 +15,7 @@ from .support import HEADER, InFolder, command, feature
 from .test_cut import DELIVERY, cut, filtered
 
 import cityseq
-from cityseq import fetching
+from cityseq.indexes import line_reader
 
 OGRINFO = shutil.which("ogrinfo")
 WORDS = "index is out of date: the index was changed, build it again"
@@ -56,7 +56,7 @@ class Streams(InFolder):
 
     def interposed(self, path):
         """Makes the first line that is read change the file."""
-        whole, left = fetching.lines_of, [path]
+        whole, left = line_reader.lines_of, [path]
 
         def lines_of(*given):
             for found in whole(*given):
@@ -65,7 +65,7 @@ class Streams(InFolder):
                     self.write_in_place(left.pop())
 
         for module in ("cut", "lookup"):
-            place = __import__(f"cityseq.{module}", fromlist=["lines_of"])
+            place = __import__(f"cityseq.indexes.{module}", fromlist=["lines_of"])
             self.addCleanup(setattr, place, "lines_of", whole)
             place.lines_of = lines_of
 
@@ -106,7 +106,7 @@ class Streams(InFolder):
     def test_a_change_while_a_server_answers(self):
         from cityseq.serve.catalogue import Catalogue
         from cityseq.serve.items import find
-        from cityseq.serve.pages import Page
+        from cityseq.indexes.index_pages import Page
         from cityseq.serve.settings import Settings
 
         path = self.file(self.text)

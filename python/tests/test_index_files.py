@@ -16,8 +16,8 @@ from .test_cut import SAMPLE, TOWN, cut
 from .test_index import NOBODY
 
 import cityseq
-from cityseq import builder, replacing
-from cityseq.query import asked
+from cityseq.indexes import builder, replacement
+from cityseq.engine.query import asked
 
 EDITOR = """
 import os, sqlite3, sys
@@ -50,7 +50,7 @@ class Replaced(InFolder):
         super().setUp()
         self.index = self.folder / "it.gpkg"
         self.path = self.file(HEADER + b"".join(feature(f"b{i}", "Tunnel") for i in range(50)))
-        patch = mock.patch.object(replacing, "WAIT", 0.05)
+        patch = mock.patch.object(replacement, "WAIT", 0.05)
         patch.start()
         self.addCleanup(patch.stop)
 
@@ -330,8 +330,10 @@ class Hostile(InFolder):
                 with self.assertRaises(cityseq.OutOfDate):
                     with cityseq.Index(self.index) as index:
                         index.filter(io.BytesIO())
+        # all have one hash
         self.made("UPDATE features SET id = x'00ff', line = 'x'",
-                  "UPDATE feature_ids SET key = key & 4294967295")
+                  "DELETE FROM feature_ids",
+                  "INSERT INTO feature_ids VALUES (0, x'000000000001000000000002')")
         with self.assertRaises(cityseq.OutOfDate):
             with cityseq.Index(self.index) as index:
                 index.show()
@@ -349,15 +351,16 @@ class Hostile(InFolder):
     def test_a_signal_ends_a_long_query(self):
         """SQLite asks Python, so that it can run the handler of the signal."""
         code = (
-            "import sys; from cityseq import commands, database\n"
+            "import sys; from cityseq.indexes import database\n"
+            "from cityseq.cli.main import end_by_signals, main\n"
             "def check(self, total):\n"
             "    with self.reading():\n"
             "        print('begun', flush=True)\n"
             "        self.execute('WITH RECURSIVE n(i) AS (SELECT 1 UNION ALL SELECT i + 1 FROM n)"
             " SELECT max(i) FROM n').fetchall()\n"
             "database.Database.check = check\n"
-            "commands.end_by_signals()\n"
-            "sys.exit(commands.main(['filter', '--index', sys.argv[1]]))\n"
+            "end_by_signals()\n"
+            "sys.exit(main(['filter', '--index', sys.argv[1]]))\n"
         )
         for number, words in ((signal.SIGTERM, b"stopped by SIGTERM\n"),
                               (signal.SIGINT, b"interrupted\n")):

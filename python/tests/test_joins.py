@@ -7,9 +7,11 @@ import unittest
 from . import support
 from .support import HEADER, PLAIN, feature
 
-from cityseq._library import CallStatus, RawAnswer, RawRequest, RawTally, library
-from cityseq.parts import Answer, judge, whole_lines
-from cityseq.query import asked
+from cityseq.engine.judge import Answer, judge_lines
+from cityseq.engine.library import library
+from cityseq.engine.query import asked
+from cityseq.engine.structs import CallStatus, RawAnswer, RawRequest, RawTally
+from cityseq.sources.chunks import whole_lines
 
 STREAMS = 300
 OPTIONS = ({}, {"types": "Road"}, {"lods": ["2.2"]}, {"exclude": True, "ids": ["b1", "b2"]})
@@ -148,14 +150,14 @@ class Package(unittest.TestCase):
     @staticmethod
     def joined(work, header, parts):
         """What comes of the parts, up to the first that ends the stream."""
-        joined, reports, output = Answer(parts=0), [], b""
+        joined = Answer(parts=0)
         for part in parts:
-            answer = judge(work, "one", header, bytearray(part), joined.parts == 0)
-            joined.add(answer, len(header), reports.append)
-            output += answer.output
+            answer = judge_lines(work, "one", header, bytearray(part), joined.parts == 0)
+            joined = joined.then(answer)
             if joined.status != CallStatus.COMPLETE:
                 break
         tally = None if joined.tally is None else bytes(joined.tally.told)
+        reports, output = list(joined.reports), b"".join(joined.output)
         return fields(joined.told), joined.end, reports, output, tally
 
 

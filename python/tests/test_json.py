@@ -1,5 +1,4 @@
 """What is told as JSON, and the record: by the document, docs/json.md."""
-import errno
 import hashlib
 import json
 import os
@@ -9,12 +8,11 @@ from decimal import Decimal
 
 from . import support
 from .support import HEADER, PLAIN, InFolder, command
-from .test_sources import BROKEN, GOOD
+from .test_sources import GOOD
 from .test_told import example
 
 import cityseq
-from cityseq.objects import exact
-from cityseq.record import Record
+from cityseq.cli.json_objects import exact
 
 TYPES = {
     "string": str,
@@ -228,107 +226,6 @@ class Objects(Documented):
         ):
             self.assertEqual(exact(Decimal(text)), wanted)
             self.assertEqual(type(exact(Decimal(text))), type(wanted))
-
-
-class Records(Documented):
-    """A line for each file, and no file twice that has not changed."""
-
-    def setUp(self):
-        super().setUp()
-        self.record = self.folder / "record.jsonl"
-        self.paths = [
-            self.file(GOOD, "good.jsonl"),
-            self.file(BROKEN, "broken.jsonl"),
-            self.file(GOOD, "packed.jsonl.gz"),
-        ]
-
-    def recorded(self):
-        lines = [json.loads(line) for line in self.record.read_bytes().splitlines()]
-        for told in lines:
-            self.fits(told, {**COMMON, **TABLES["record"]})
-        return lines
-
-    def run_again(self, *words):
-        return command("check", "--record", self.record, "--resume", *words)
-
-    def test_what_is_recorded(self):
-        _, _, status = command("check", "--record", self.record, *self.paths, self.folder / "none")
-        lines = self.recorded()
-        self.assertEqual(
-            (status, [one["file"] for one in lines]),
-            (3, [*map(str, self.paths), str(self.folder / "none")]),
-        )
-        self.assertEqual(
-            [(one["verdict"], one["lines"], one["ended_at"]) for one in lines],
-            [("valid", 3, None), ("invalid", 2, 3), ("valid", 3, None), ("fault", 0, None)],
-        )
-        for path, told in zip(self.paths, lines):
-            self.assertEqual(
-                (told["size"], told["mtime_ns"], told["sha256"]),
-                (
-                    path.stat().st_size,
-                    path.stat().st_mtime_ns,
-                    hashlib.sha256(path.read_bytes()).hexdigest(),
-                ),
-            )
-            self.assertRegex(told["time"], r"^\d{4}-\d\d-\d\dT\d\d:\d\d:\d\dZ$")
-
-    def test_what_has_not_changed_is_skipped(self):
-        output, _, status = self.run_again(*self.paths)
-        self.assertEqual((output.count(b"as recorded"), status), (0, 1))
-        output, said, status = self.run_again(*self.paths)
-        self.assertEqual(
-            (output.count(b"as recorded"), said, status, len(self.recorded())), (3, "", 1, 3)
-        )
-        self.assertIn(b"broken.jsonl: invalid lines=2 features=1, as recorded at ", output)
-        self.paths[0].write_bytes(GOOD + PLAIN)
-        os.utime(self.paths[2], (1, 1))
-        output, _, status = self.run_again(*self.paths)
-        self.assertEqual((output.count(b"as recorded"), status, len(self.recorded())), (1, 1, 5))
-        self.assertEqual(self.run_again(*self.paths)[0].count(b"as recorded"), 3)
-        self.assertEqual(self.run_again("--tree", *self.paths)[0].count(b"as recorded"), 0)
-        objects = [
-            json.loads(line)
-            for line in self.run_again("--tree", "--json", *self.paths)[0].splitlines()
-        ]
-        self.assertEqual([one["kind"] for one in objects], ["record"] * 3)
-
-    def test_a_fault_is_tried_again(self):
-        none = self.folder / "none"
-        self.assertEqual(self.run_again(none)[2], 3)
-        none.write_bytes(GOOD)
-        self.assertEqual(self.run_again(none)[::2], (b"valid lines=3 features=2\n", 0))
-
-    def test_a_record_that_was_cut_short(self):
-        self.run_again(*self.paths)
-        self.record.write_bytes(self.record.read_bytes()[:-20])
-        output, _, _ = self.run_again(*self.paths)
-        self.assertEqual(output.count(b"as recorded"), 2)
-        lines = self.record.read_bytes().splitlines()
-        self.assertEqual((len(lines), json.loads(lines[-1])["file"]), (4, str(self.paths[2])))
-
-    def test_a_record_on_a_full_disk(self):
-        """The system takes some bytes of a line, and then no more."""
-        record, taken = Record(str(self.record)), [9]
-
-        class Full:
-            def write(self, text):
-                if not taken:
-                    raise OSError(errno.ENOSPC, "No space left on device")
-                return taken.pop()
-
-        record._file.close()
-        record._file = Full()
-        with self.assertRaisesRegex(cityseq.WriteFault, "No space left on device"):
-            record.append({"kind": "record"})
-
-    def test_a_record_that_is_read(self):
-        self.assertEqual(command("check", "--record", self.paths[0], self.paths[0])[2], 2)
-        self.assertEqual(self.paths[0].read_bytes(), GOOD)
-        self.assertEqual(
-            command("check", "--record", self.folder / "no" / "record", self.paths[0])[1:],
-            (f"{self.folder}/no/record: write fault: No such file or directory\n", 4),
-        )
 
 
 if __name__ == "__main__":

@@ -160,7 +160,7 @@ class Loads(InFolder):
             b"[10,20,0]", b"[1e300,1e308,0]"
         )
         self.assertEqual(self.load(self.file(header + feature("a")))[0], "loaded features=1\n")
-        self.assertEqual(self.rows()[0][2], [None] * 6)
+        self.assertEqual(self.rows()[0][2], [1e300, 1e300, 1e308, 1e308, 0.0, 5.0])
 
     def test_streams_of_no_feature(self):
         self.assertEqual(

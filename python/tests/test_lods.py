@@ -10,8 +10,8 @@ from . import support
 from .support import HEADER, PLAIN, feature
 
 import cityseq
-from cityseq import lods
-from cityseq.tally import MOST_TEXTS
+from cityseq.engine import lods
+from cityseq.engine.tally import MOST_TEXTS
 
 TEMPLATES = (
     b'"geometry-templates":{"templates":[{"type":"MultiPoint","lod":"3.1","boundaries":[0]},'

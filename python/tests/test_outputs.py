@@ -13,7 +13,7 @@ from .support import HEADER, PLAIN, InFolder, command, feature
 from .test_sources import BROKEN, GOOD
 
 import cityseq
-from cityseq.outputs import Batch, Writer
+from cityseq.sources.outputs import Batch, Writer
 
 
 class Wholes(InFolder):

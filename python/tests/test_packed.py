@@ -5,8 +5,8 @@ import io
 import os
 import random
 import struct
+import subprocess
 import sys
-import types
 import unittest
 import zlib
 from unittest import mock
@@ -15,9 +15,9 @@ from . import support
 from .support import HEADER, PLAIN, InFolder, command, feature, numbered
 
 import cityseq
-from cityseq.packed import BLOCK, LAST, Packer, Packing, Unpacker, pack
-from cityseq.query import asked
-from cityseq.running import Stream, threaded
+from cityseq.sources.packed import BLOCK, LAST, Packer, Packing, Unpacker, pack
+from cityseq.engine.query import asked
+from cityseq.run.streams import Stream, results
 
 try:
     import zstandard
@@ -101,16 +101,34 @@ class Unpackers(unittest.TestCase):
         ):
             self.assertRaises((OSError, EOFError), self.read, broken, Packing.ZSTD)
 
-    def test_isal_is_taken_where_it_is_there(self):
-        made = []
-        module = types.ModuleType("isal.isal_zlib")
-        module.error = zlib.error
-        module.decompressobj = lambda wbits: made.append(wbits) or zlib.decompressobj(wbits)
-        with mock.patch.dict(
-            sys.modules, {"isal": types.ModuleType("isal"), "isal.isal_zlib": module}
-        ):
-            self.assertEqual(self.read(gzip.compress(b"x"))[0], b"x")
-        self.assertEqual(made, [31])
+    def test_archives_that_are_cut_short(self):
+        """Wherever that is, also between two members or within a head or a checksum."""
+        text = b"".join(feature(f"b{number}") for number in range(3_000))
+        archives = [
+            (Packing.GZIP, gzip.compress(text)),
+            (Packing.GZIP, pack(text, Packing.GZIP) + LAST),
+        ]
+        if zstandard is not None:
+            archives.append((Packing.ZSTD, pack(text, Packing.ZSTD)))
+        for packing, packed in archives:
+            ends = {*range(1, len(packed), 1_000), *range(len(packed) - 30, len(packed))}
+            for end in sorted(ends):
+                if packing is Packing.GZIP and self.ends_a_member(packed, end):
+                    continue  # an archive that ends there is whole
+                with self.subTest(packing=packing, end=end):
+                    self.assertRaises((OSError, EOFError), self.read, packed[:end], packing)
+
+    @staticmethod
+    def ends_a_member(packed, end):
+        """Whether some whole members of a gzip archive end at this byte."""
+        rest = packed[:end]
+        while rest:
+            member = zlib.decompressobj(wbits=31)
+            member.decompress(rest)
+            if not member.eof:
+                return False
+            rest = member.unused_data
+        return True
 
 
 class Packers(InFolder):
@@ -196,6 +214,58 @@ class Contents(InFolder):
         )
 
 
+class AnySource(InFolder):
+    """Packed streams are known by their first bytes, wherever they come from."""
+
+    def packed(self):
+        """Yields archives of a stream."""
+        yield gzip.compress(GOOD)
+        yield pack(GOOD, Packing.GZIP) + LAST
+        if zstandard is not None:
+            yield zstandard.ZstdCompressor().compress(GOOD)
+
+    def test_file_objects(self):
+        for packed in self.packed():
+            path = self.file(packed, "packed.jsonl")
+            self.assertEqual(cityseq.check(io.BytesIO(packed)).features, 2)
+            self.assertEqual(cityseq.check(support.Slow(packed, 1)).features, 2)
+            with open(path, "rb") as file:
+                self.assertEqual(cityseq.check(file).features, 2)
+            with open(path, "rb", buffering=0) as file:
+                self.assertEqual([each.id for each in cityseq.features(file)], ["a", "b"])
+            with self.assertRaises(cityseq.ReadFault):
+                cityseq.check(io.BytesIO(packed[:-1]))
+
+    def test_standard_input(self):
+        for packed in self.packed():
+            path = self.file(packed, "packed.jsonl")
+            for words in (("check",), ("check", "-")):
+                self.assertEqual(
+                    command(*words, given=packed), (b"valid lines=3 features=2\n", "", 0)
+                )
+            with open(path, "rb") as file:
+                ran = subprocess.run(
+                    [sys.executable, "-m", "cityseq", "filter", "-"],
+                    stdin=file,
+                    stdout=subprocess.PIPE,
+                    timeout=60,
+                    env={**os.environ, "PYTHONPATH": os.path.join(support.ROOT, "python")},
+                )
+            self.assertEqual((ran.stdout, ran.returncode), (GOOD, 0))
+            self.assertEqual(command("check", given=packed[:-1])[2], 3)
+
+    def test_what_only_begins_like_an_archive(self):
+        for text in (b"\x1f", b"\x28\xb5\x2f", b"\x28"):
+            result = cityseq.check(io.BytesIO(text))
+            self.assertEqual((result.status, result.lines), (1, 0))
+
+    def test_progress_counts_packed_bytes(self):
+        done = []
+        packed = gzip.compress(GOOD)
+        cityseq.check(io.BytesIO(packed), progress=done.append)
+        self.assertEqual(sum(done), len(packed))
+
+
 class Wholes(InFolder):
     """Many packed files, each judged by one thread."""
 
@@ -240,6 +310,16 @@ class Wholes(InFolder):
                 [numbered(one.reports) for one in wanted],
             )
 
+    def test_reports_come_in_the_order_of_the_files(self):
+        """Also that of a file whose header is invalid, which ends before the files before it."""
+        first = self.file(HEADER + b"[]\n" * 50_000, "first.gz")
+        paths = [first, *(self.file(b"[]\n", f"{number}.gz") for number in range(3))]
+        told = []
+        for _ in cityseq.check_files(paths, jobs=4, keep_going=True, on_report=told.append):
+            pass
+        self.assertEqual([report.file for report in told],
+                         [str(first)] * 50_000 + list(map(str, paths[1:])))
+
     def test_several_are_unpacked_at_once(self):
         import threading
         threads, read = set(), Unpacker.read
@@ -266,9 +346,9 @@ class Wholes(InFolder):
 
         with self.assertRaises(RuntimeError):
             list(cityseq.check_files(paths * 3, jobs=4, keep_going=True, on_report=tell))
-        results = cityseq.check_files(paths, jobs=4)
-        next(results)
-        results.close()
+        begun = cityseq.check_files(paths, jobs=4)
+        next(begun)
+        begun.close()
 
     def test_each_has_its_output(self):
         texts, paths = zip(*self.files(4))
@@ -284,8 +364,8 @@ class Wholes(InFolder):
 
     def test_no_thread(self):
         paths = [path for _, path in self.files(5)]
-        results = list(cityseq.check_files(paths, jobs=1, keep_going=True))
-        wanted = [result.refused for result in results]
+        told_by_one = list(cityseq.check_files(paths, jobs=1, keep_going=True))
+        wanted = [result.refused for result in told_by_one]
 
         def start(*_):
             raise RuntimeError("can't start new thread")
@@ -293,10 +373,10 @@ class Wholes(InFolder):
         with mock.patch("_thread.start_new_thread", start):
             work = asked("check", keep_going=True)
             told = []
-            found = list(threaded((Stream(path, work, tell=told.append) for path in paths), 4))
+            found = list(results((Stream(path, work, tell=told.append) for path in paths), 4))
         self.assertEqual(
             ([result.refused for result in found], len(told)),
-            (wanted, sum(len(result.reports) for result in results)),
+            (wanted, sum(len(result.reports) for result in told_by_one)),
         )
 
 

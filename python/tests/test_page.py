@@ -13,7 +13,7 @@ from . import made_up, support
 from .support import InFolder
 
 from cityseq.delivery import extras, facts
-from cityseq.delivery.told import delivery_object
+from cityseq.delivery.json_object import delivery_object
 
 try:
     extras.need_all()

@@ -13,17 +13,15 @@ from . import support
 from .support import HEADER, PLAIN, in_one, numbered
 
 import cityseq
-from cityseq.parts import Cutter, read_header
-from cityseq.query import asked
-from cityseq.sources import Reader
+from cityseq.engine.query import asked
+from cityseq.sources.chunk_reader import Chunks
 
 
 def parts_of(text, size, line_limit=1_000, keep_going=False, piece=7):
     """The header and the parts of a stream, read a few bytes at a time."""
-    reader = Reader(support.Slow(text, piece))
-    header, rest = read_header(reader, line_limit)
-    cutter = Cutter(reader, rest, size, line_limit, keep_going)
-    return header, [bytes(part) for part in cutter.parts()] if header.endswith(b"\n") else []
+    work = asked("check", line_limit=line_limit, keep_going=keep_going)
+    found = list(Chunks(support.Slow(text, piece), work, size))
+    return found[0].header, [bytes(chunk.text) for chunk in found if chunk.text]
 
 
 def filtered(text, **options):
@@ -40,10 +38,10 @@ def filtered(text, **options):
 # many numbers, in a thread.
 CALLS = """
 import resource
-from cityseq._library import keep_room
-from cityseq.parts import judge
-from cityseq.query import asked
-from cityseq.threads import in_thread
+from cityseq.engine.memory import keep_room
+from cityseq.engine.judge import judge_lines
+from cityseq.engine.query import asked
+from cityseq.run.pool import in_thread
 line = (
     b'{"type":"CityJSONFeature","id":"b",'
     b'"CityObjects":{"b":{"type":"Building","attributes":{"a":[%s0]}}},"vertices":[]}'
@@ -54,7 +52,7 @@ def judge_often():
     for count in 3, 10:
         begun = resource.getrusage(resource.RUSAGE_SELF).ru_minflt
         for _ in range(count):
-            assert judge(work, "one", header, part, True).kept == 1
+            assert judge_lines(work, "one", header, part, True).kept == 1
     return resource.getrusage(resource.RUSAGE_SELF).ru_minflt - begun
 print(in_thread(judge_often))
 """
@@ -111,22 +109,20 @@ class Cuts(unittest.TestCase):
         self.assertEqual(parts_of(b"", 1), (b"", []))
 
     def test_a_line_that_is_too_long(self):
+        """It is cut if its end has not come yet, one byte after the limit."""
         text = b"h\n" + b"a" * 50 + b"\nb\n"
-        self.assertEqual(parts_of(text, 4, 49), (b"h\n", [b"a" * 50]))
+        self.assertEqual(parts_of(text, 4, 46), (b"h\n", [b"a" * 47]))
+        self.assertEqual(parts_of(text, 4, 46, True), (b"h\n", [b"a" * 47 + b"\n", b"b\n"]))
+        self.assertEqual(parts_of(text, 4, 49), (b"h\n", [b"a" * 50 + b"\n", b"b\n"]))
         self.assertEqual(parts_of(text, 4, 49, True), (b"h\n", [b"a" * 50 + b"\n", b"b\n"]))
         self.assertEqual(parts_of(text, 4, 50), (b"h\n", [b"a" * 50 + b"\n", b"b\n"]))
         self.assertEqual(parts_of(text, 4, 9, True), (b"h\n", [b"a" * 10 + b"\n", b"b\n"]))
         self.assertEqual(parts_of(b"a" * 50 + b"\nb\n", 4, 9), (b"a" * 10, []))
 
     def test_a_read_that_fails_leaves_whole_lines(self):
-        reader = Reader(support.Slow(b"h\na\nbbb\n", 3, 6))
-        header, rest = read_header(reader, 100)
-        self.assertEqual(
-            [bytes(part) for part in Cutter(reader, rest, 100, 100, False).parts()], [b"a\n"]
-        )
-        self.assertEqual(
-            (header, str(reader.fault)), (b"h\n", "<stream>: read fault: Input/output error")
-        )
+        (chunk,) = Chunks(support.Slow(b"h\na\nbbb\n", 3, 6), asked("check"), 100)
+        self.assertEqual((chunk.header, bytes(chunk.text)), (b"h\n", b"a\n"))
+        self.assertEqual(str(chunk.fault), "<stream>: read fault: Input/output error")
 
 
 class Vectors(unittest.TestCase):

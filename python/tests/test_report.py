@@ -15,8 +15,7 @@ from .test_delivery import MISSING, lists_of
 from .test_told import example
 
 import cityseq
-from cityseq.delivery import extras, making
-from cityseq.delivery.told import delivery_object
+from cityseq.delivery import extras, report_run
 
 
 @unittest.skipIf(MISSING, MISSING)
@@ -148,7 +147,7 @@ class Command(InFolder):
         for name in extras.PACKAGES:
             code = (
                 f"import sys; sys.modules[{name!r}] = None\n"
-                "from cityseq import commands; sys.exit(commands.main(sys.argv[1:]))"
+                "from cityseq.cli.main import main; sys.exit(main(sys.argv[1:]))"
             )
             ran = subprocess.run(
                 [sys.executable, "-c", code, "report", "--output", self.page, self.good],
@@ -190,16 +189,16 @@ class Command(InFolder):
 
     def test_an_interrupt_of_the_opening_leaves_nothing(self):
         """No file is there before what removes it is in place."""
-        making._Output([str(self.good)], str(self.page))
+        report_run._Output([str(self.good)], str(self.page))
         self.assertEqual(self.names(), ["good.jsonl"])
-        open_all = making._Output.open
+        open_all = report_run._Output.open
 
         def interrupted(output):
             open_all(output)
             self.assertEqual(len(self.names()), 4)
             raise KeyboardInterrupt
 
-        with mock.patch.object(making._Output, "open", interrupted):
+        with mock.patch.object(report_run._Output, "open", interrupted):
             with self.assertRaises(KeyboardInterrupt):
                 cityseq.report(self.good, self.page)
         self.assertEqual(self.names(), ["good.jsonl"])
@@ -269,7 +268,7 @@ class Call(InFolder):
 
     def test_the_object_of_a_page(self):
         made = cityseq.report(example("town"), self.folder / "page.html", title="T")
-        told = delivery_object(made)
+        told = made.json_object()
         self.assertEqual(
             (told["title"], told["command"], told["report_files"]),
             ("T", "cityseq.report", ["page.reports.csv", "page.reports.jsonl"]),

@@ -63,6 +63,29 @@ class Log(InFolder):
             run["invocations"][0]["toolExecutionNotifications"][0]["message"]["text"],
         )
 
+    def test_reports_that_are_left_out(self):
+        path = self.file(HEADER + b"[]\n" * 20)
+        words = ("--keep-going", "--max-reports", "5", path, example("town"), example("delivery"))
+        run = self.log(*words, status=1)
+        self.assertEqual(len(run["results"]), 10)
+        (invocation,) = run["invocations"]
+        self.assertTrue(invocation["executionSuccessful"])
+        (notification,) = invocation["toolExecutionNotifications"]
+        self.assertEqual(
+            (notification["level"], notification["message"]["text"]),
+            ("warning", f"{path}: 20 lines are invalid, and --max-reports left out 15"),
+        )
+        place = notification["locations"][0]["physicalLocation"]["artifactLocation"]["uri"]
+        self.assertEqual(unquote(place), str(path))
+        for most, left_out in ((0, 20), (19, 1), (20, None), (21, None)):
+            run = self.log("--keep-going", "--max-reports", str(most), path, status=1)
+            told = run["invocations"][0].get("toolExecutionNotifications", [])
+            self.assertEqual(len(run["results"]), min(most, 20))
+            self.assertEqual(
+                [one["message"]["text"].split()[-1] for one in told],
+                [] if left_out is None else [str(left_out)],
+            )
+
     def test_hostile_names_and_ids(self):
         path = self.file(HEADER + feature("<b>\\u202e\\ud800", last=9), "a b%ü#?.jsonl")
         (result,) = self.log(path, status=1)["results"]

@@ -10,9 +10,7 @@ from .serving import MISSING, RD, Served, Serving
 from .support import HEADER, command, feature
 
 import cityseq
-
-if not MISSING:
-    from cityseq.serve.digits import edges, short
+from cityseq.coordinates.digits import edges, short
 
 ITEMS = "/collections/sample/items"
 BROWSER = "text/html,application/xhtml+xml,application/xml;q=0.9,image/webp,*/*;q=0.8"

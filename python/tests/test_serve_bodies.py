@@ -9,6 +9,7 @@ import tempfile
 import threading
 import unittest
 from contextlib import suppress
+from itertools import islice
 from unittest import mock
 
 from . import support
@@ -16,11 +17,9 @@ from .serving import EXAMPLES, MISSING, Served, rest_of
 from .support import HEADER, command, feature
 
 import cityseq
-from cityseq.packed import Gzip
-from cityseq.query import asked
-
-if not MISSING:
-    from cityseq.serve.judging import Fed, Unpacking
+from cityseq.engine.query import asked
+from cityseq.run.feed import Fed, Unpacking
+from cityseq.sources.packed import Gzip
 
 
 @unittest.skipIf(MISSING, MISSING)
@@ -28,9 +27,8 @@ class Counts(unittest.TestCase):
     def test_what_is_only_counted_is_not_described(self):
         """To describe 200,000 lines takes more than a minute."""
         fed = Fed(asked("check", keep_going=True), Unpacking(None, 1 << 20), 0, True)
-        with mock.patch("cityseq.reports.excerpt_of", side_effect=AssertionError):
-            fed.feed([HEADER + b"{}\n" * 300 + b"[\n"])
-            for task in [*fed.parts(9), *fed.end()]:
+        with mock.patch("cityseq.engine.reports.excerpt_of", side_effect=AssertionError):
+            for task in [*fed.cut([HEADER + b"{}\n" * 300 + b"[\n"]), *fed.end()]:
                 fed.take(task())
         self.assertEqual((dict(fed.codes), fed.result().refused), ({10: 300, 4: 1}, 301))
 
@@ -89,16 +87,16 @@ class Verdicts(Served):
             except cityseq.InvalidStream as fault:
                 wanted = fault.result
             body = gzip.compress(text) if seed % 3 == 0 else text
-            with mock.patch("cityseq.serve.judging.SMALL", chance.choice((1, 300, 1 << 19))):
+            with mock.patch("cityseq.run.feed.SMALL", chance.choice((1, 300, 1 << 19))):
                 fed = Fed(asked("filter", **options), Unpacking(None, 1 << 30), 1_000, False)
                 kept = b""
                 while body:
                     pieces = [body[:size] for size in [chance.randrange(1, 900)]]
                     body = body[len(pieces[0]):]
-                    fed.feed(pieces)
-                    while fed.has_more:
+                    coming = fed.cut(pieces)
+                    while tasks := list(islice(coming, chance.randrange(1, 4))):
                         # parts that are judged late, and none of them in order
-                        answers = [task() for task in reversed(fed.parts(chance.randrange(1, 4)))][::-1]
+                        answers = [task() for task in reversed(tasks)][::-1]
                         kept += b"".join(bytes(fed.take(answer)) for answer in answers)
                 kept += b"".join(bytes(fed.take(task())) for task in fed.end())
             told = fed.result()
@@ -111,11 +109,10 @@ class Verdicts(Served):
     def test_no_more_is_unpacked_than_is_judged(self):
         packed = gzip.compress(HEADER + (b" " * 999 + b"\n") * 300_000)
         fed = Fed(asked("check"), Unpacking(None, 1 << 40), 10, False)
-        fed.feed([packed])
+        coming = fed.cut([packed])
         self.assertLess(len(packed), 1 << 20)
         count = 0
-        while fed.has_more:
-            tasks = fed.parts(2)
+        while tasks := list(islice(coming, 2)):
             answers = [task() for task in tasks]
             self.assertLessEqual(len(answers), 2)
             self.assertLess(sum(answer.size for answer in answers), 4 << 20)
@@ -140,7 +137,7 @@ class Verdicts(Served):
         text = os.urandom(1 << 18)
         for packed, most in ((gzip.compress(b"") * 20_000, 32), (gzip.compress(text) + bytes(1 << 18), 4)):
             given.clear()
-            with mock.patch("cityseq.serve.judging.Gzip", Counted):
+            with mock.patch("cityseq.run.feed.Gzip", Counted):
                 unpacking = Unpacking(True, 1 << 30)
             found = b"".join(piece for begin in range(0, len(packed), 1 << 17) for piece in unpacking.feed(packed[begin : begin + (1 << 17)]))
             self.assertEqual((found, unpacking.end()), (b"" if most == 32 else text, b""))

@@ -13,8 +13,8 @@ from .support import HEADER, command, feature
 
 WITHOUT = MISSING or ("" if find_spec("pyproj") else "pyproj is not there")
 if not WITHOUT:
-    from cityseq.serve.boxes import meet, meet_on_earth, pieces
-    from cityseq.serve.moving import Way
+    from cityseq.coordinates.boxes import meet, meet_on_earth, pieces
+    from cityseq.coordinates.projection import Projection
     from pyproj import CRS, Transformer
 
 WORLD = (-180, -90, 180, 90)
@@ -94,7 +94,7 @@ def faults_of(code, spread, count, chance):
     edges = list(zip(*extents))
     flat = CRS.from_epsg(code)
     flat = flat.sub_crs_list[0].to_epsg() if flat.is_compound else code
-    way = Way(flat, (min(edges[0]), min(edges[1]), max(edges[2]), max(edges[3])))
+    way = Projection(flat, (min(edges[0]), min(edges[1]), max(edges[2]), max(edges[3])))
     degrees, (_, back) = list(map(way.degrees, extents)), move_of(code)
     points = [[back(x, y) for x in (e[0], (e[0] + e[2]) / 2, e[2]) for y in (e[1], e[3])] for e in extents]
     for extent, told, corners in zip(extents, degrees, points):
@@ -150,13 +150,13 @@ class Moved(unittest.TestCase):
     """The box of degrees around an extent."""
 
     def around(self, code, extent):
-        west, south, east, north = Way(code, extent).degrees(extent)
+        west, south, east, north = Projection(code, extent).degrees(extent)
         return tuple(round(edge, 3) for edge in (west, south, east, north))
 
     def test_what_bulges_between_the_corners(self):
         """The north edge of a box in a conic is an arc. Its middle is the farthest south or north."""
         extent = (400_000, 6_200_000, 1_000_000, 6_900_000)
-        west, south, east, north = Way(2154, extent).degrees(extent)
+        west, south, east, north = Projection(2154, extent).degrees(extent)
         _, back = move_of(2154)
         for step in range(1001):
             for x, y in (back(400_000 + 600 * step, 6_200_000), back(400_000 + 600 * step, 6_900_000),
@@ -207,7 +207,7 @@ class Moved(unittest.TestCase):
                         [(1.0, -17, 2, -16), (265.0, -17, 266, -16), (359, -17, 359.5, -16)],
                         [(-190.0, -17, -189, -16), (-170, -17, -169, -16)]):
             edges = list(zip(*extents))
-            way = Way(4326, (min(edges[0]), -17, max(edges[2]), -16))
+            way = Projection(4326, (min(edges[0]), -17, max(edges[2]), -16))
             for number, (west, _, east, _) in enumerate(extents):
                 for box in ((west, -20, east, 0), (-180, -90, 180, 90)):
                     box = turned_back(*box[:2]) + turned_back(*box[2:])
@@ -215,11 +215,11 @@ class Moved(unittest.TestCase):
             self.assertEqual(selected(way, (100, -90, 110, 90), extents), set())
 
     def test_what_has_no_place(self):
-        self.assertIsNone(Way(4978, (1, 2, 3, 4)).degrees((1, 2, 3, 4)))  # geocentric
-        self.assertIsNone(Way(25832, None).degrees((1e15, 1e15, 1e15, 1e15)))
+        self.assertIsNone(Projection(4978, (1, 2, 3, 4)).degrees((1, 2, 3, 4)))  # geocentric
+        self.assertIsNone(Projection(25832, None).degrees((1e15, 1e15, 1e15, 1e15)))
         # a stray feature far away does not hide the others
         near = 356_000, 5_645_000, 356_010, 5_645_010
-        way = Way(25832, (356_000, 5_645_000, 1e15, 1e15))
+        way = Projection(25832, (356_000, 5_645_000, 1e15, 1e15))
         for box, wanted in ((WORLD, {0}), ((6, 50, 7, 51), {0}), ((7, 50, 8, 51), set())):
             self.assertEqual(selected(way, box, [near, (1e15, 1e15, 1e15, 1e15)]), wanted, box)
 

@@ -13,9 +13,9 @@ from .serving import MISSING, Served, Serving, Within, rest_of
 from .support import HEADER, command, feature
 
 if not MISSING:
+    from cityseq.run.feed import Fed
     from cityseq.serve.bodies import Body, Judgement
     from cityseq.serve.bounds import Pace, Places
-    from cityseq.serve.judging import Fed
     from cityseq.serve.problems import Problem
     from cityseq.serve.settings import Limits
 

@@ -28,14 +28,15 @@ MODULE = pathlib.Path("/usr/lib/nginx/modules/ngx_stream_module.so")
 
 if not MISSING:
     import aiohttp.web
-    from cityseq.serve.cityjson import whole
+    from cityseq.engine.cityjson import whole
+    from cityseq.coordinates.systems import System
     from cityseq.serve.formats import CITY_JSON_SEQ, GEOJSON, HTML, choose
     from cityseq.serve.links import is_known
     from cityseq.serve.logs import _quoted
+    from cityseq.serve.parameters import STRING, Parameter
     from cityseq.serve.problems import Problem
     from cityseq.serve.queries import Query
     from cityseq.serve.settings import Limits, Settings
-    from cityseq.serve.systems import System
 
 
 def soon(is_so):
@@ -273,7 +274,7 @@ class Safety(Served):
         for text, wanted in (("raise ImportError('none')", "there is no aiohttp for Python: install python3-aiohttp"),
                              ("web = None", "this version of aiohttp cannot be used: ")):
             (self.folder / "aiohttp.py").write_text(text)
-            code = f"import sys; sys.path.insert(0, {str(self.folder)!r}); from cityseq.commands import main; sys.exit(main(['serve']))"
+            code = f"import sys; sys.path.insert(0, {str(self.folder)!r}); from cityseq.cli.main import main; sys.exit(main(['serve']))"
             ran = subprocess.run([sys.executable, "-c", code], stderr=subprocess.PIPE, timeout=30,
                                  env={**os.environ, "PYTHONPATH": os.path.join(ROOT, "python")})
             (self.folder / "aiohttp.py").unlink()
@@ -284,11 +285,12 @@ class Safety(Served):
 @unittest.skipIf(MISSING, MISSING)
 class Parts(Served):
     def test_queries(self):
-        query = Query("a=x%2Cy,z&b=1+2&c", ("a", "b", "c"))
+        known = [Parameter(name, "", STRING) for name in "abc"]
+        query = Query("a=x%2Cy,z&b=1+2&c", known)
         self.assertEqual((query.texts("a"), query.text("b"), query.flag("c")), (["x,y", "z"], "1 2", True))
         for raw in ("d=1", "a=1&a=2", "a%ff=1"):
             with self.assertRaises(Problem):
-                Query(raw, ("a",))
+                Query(raw, known[:1])
 
     def test_formats(self):
         formats = (GEOJSON, CITY_JSON_SEQ, HTML)
@@ -308,11 +310,11 @@ class Parts(Served):
         self.assertEqual(json.loads(text)["type"], "CityJSON")
 
     def test_without_pyproj(self):
-        with mock.patch("cityseq.serve.systems.can_change", return_value=False):
+        with mock.patch("cityseq.coordinates.systems.has_pyproj", return_value=False):
             system = System("https://www.opengis.net/def/crs/EPSG/0/7415")
             self.assertEqual(system.listed(), [RD])
             self.assertEqual(system.asked(RD, "crs"), RD)
-            with self.assertRaisesRegex(Problem, "for want of pyproj"):
+            with self.assertRaisesRegex(cityseq.RequestError, "for want of pyproj"):
                 system.asked(None, "crs")
         other = self.folder / "without"
         other.mkdir()

@@ -9,10 +9,6 @@ from urllib.parse import quote
 from .serving import MISSING, RD, Served, Serving
 from .support import HEADER, command, feature
 
-if not MISSING:
-    from cityseq.serve.bodies import CHECK, FILTER
-    from cityseq.serve.items import OF_ONE, PARAMETERS
-
 CRS84 = "http://www.opengis.net/def/crs/OGC/1.3/CRS84"
 SWEDEN = "http://www.opengis.net/def/crs/EPSG/0/5845"  # SWEREF99 TM and RH2000: north, east, up
 IN_RD = "bbox=84700,447450,84800,447550"
@@ -93,6 +89,17 @@ class Links(Served):
         names = ",".join(["same", *(f"none-{number}" for number in range(500))])
         answer = self.server.ask(f"/collections/equal/items?f=city-json-seq&limit=1&ids={names}")
         self.assertEqual(rels_of(answer), ["next"])
+
+    def test_the_next_page_is_in_the_head_too(self):
+        """Of each format, as the body of GeoJSON has it."""
+        for form in ("geojson", "city-json-seq"):
+            answer = self.server.ask(f"/collections/equal/items?limit=30&f={form}")
+            found = re.search(r'<([^>]*)>; rel="next"', answer.headers["Link"])
+            self.assertIn("after=30&", found.group(1), form)
+        told = self.server.ask("/collections/equal/items?limit=30&f=geojson").json()
+        self.assertIn(self.server.ask("/collections/equal/items?limit=30").headers["Link"].partition(">")[0][1:],
+                      [link["href"] for link in told["links"]])
+        self.assertIsNone(self.server.ask("/collections/equal/items?limit=57&f=geojson").headers["Link"])
 
     def test_pages_have_all_links(self):
         for path in (*GETS, "/collections/town/items?limit=1&type=Road,Building"):
@@ -219,8 +226,10 @@ class Definition(Served):
                 yield place, method, operation, {each["name"]: each for each in given if each["in"] == "query"}
 
     def test_parameters(self):
-        wanted = {"/collections/town/items": set(PARAMETERS), "/collections/town/items/house-1": set(OF_ONE),
-                  "/check": set(CHECK), "/filter": set(FILTER)}
+        judging = {"keep_going", "tree", "line_limit", "depth", "max_reports"}
+        wanted = {"/collections/town/items": {"bbox", "bbox-crs", "datetime", "ids", "type", "lod", "crs", "limit", "after", "mark", "f"},
+                  "/collections/town/items/house-1": {"f", "crs"}, "/check": {*judging, "summary"},
+                  "/filter": {*judging, "exclude", "id", "type", "lod", "bbox", "verdict"}}
         for place, _, _, given in self.operations():
             self.assertEqual(set(given), wanted.get(place, {"f"}), place)
 

@@ -1,8 +1,12 @@
 """What is told: explanations, excerpts, ids, hints, and what `info` says beside the program."""
+import bz2
+import io
 import json
+import lzma
 import os
 import random
 import sys
+import tarfile
 import unittest
 from decimal import Decimal
 
@@ -10,11 +14,11 @@ from . import support
 from .support import HEADER, PLAIN, feature
 
 import cityseq
-from cityseq.met import met
-from cityseq.query import asked
-from cityseq.reports import excerpt_of, find_id
-from cityseq.shown import quoted, shown
-from cityseq.world import box_of, normal, plain
+from cityseq.engine.place_hints import met
+from cityseq.engine.query import asked
+from cityseq.engine.reports import excerpt_of, find_id
+from cityseq.engine.escape import quoted, shown
+from cityseq.engine.world import box_of, normal, plain
 
 sys.path.insert(0, os.path.join(support.ROOT, "python"))
 import make_reasons  # noqa: E402
@@ -48,7 +52,7 @@ class Explanations(unittest.TestCase):
             self.assertEqual(json.load(told), make_reasons.read_reasons())
 
     def test_the_library_has_the_same_words(self):
-        from cityseq._library import library
+        from cityseq.engine.library import library
         self.assertEqual(
             [library().reason_text(code) for code in range(1, 40)],
             [
@@ -111,6 +115,16 @@ class Reports(unittest.TestCase):
             self.assertTrue(column <= 2 * len(excerpt) and excerpt.isprintable())
 
 
+def in_tar(text):
+    """An archive of tar with a file of this text."""
+    archive = io.BytesIO()
+    with tarfile.open(fileobj=archive, mode="w") as tar:
+        member = tarfile.TarInfo("town.city.jsonl")
+        member.size = len(text)
+        tar.addfile(member, io.BytesIO(text))
+    return archive.getvalue()
+
+
 class Hints(unittest.TestCase):
     """What is no stream."""
 
@@ -126,6 +140,24 @@ class Hints(unittest.TestCase):
             (b'{ "type": "CityJSON",\r\n "version": "2.0"}', "over many lines"),
             (whole, "one CityJSON object"),
             (PLAIN + HEADER, "is a feature"),
+            (b"\x28\xb5\x2f\xfd\0", "Zstandard"),
+            (lzma.compress(HEADER), "xzcat"),
+            (bz2.compress(HEADER), "bzcat"),
+            (in_tar(HEADER), "tar -xOf"),
+            (in_tar(b""), "tar -xOf"),
+            (HEADER.decode().encode("utf-16-le"), "UTF-16"),
+            (HEADER.decode().encode("utf-16-be"), "UTF-16"),
+            (b"<!DOCTYPE html><html>", "HTML"),
+            (b"\n<HTML>404", "HTML"),
+            (b'<?xml version="1.0"?>\n<CityModel/>', "XML"),
+            (b"version https://git-lfs.github.com/spec/v1\noid sha256:1\n", "git lfs pull"),
+            (b'{"type":"FeatureCollection","features":[]}', "GeoJSON"),
+            (b'{"type": "Feature", "geometry": null}\n', "GeoJSON"),
+            (b'{\n  "type": "FeatureCollection",\n  "features": []\n}', "GeoJSON"),
+            (b"[" + HEADER[:-1] + b"," + PLAIN[:-1] + b"]", "JSON array"),
+            (b"[]", "JSON array"),
+            (b"\x1e" + HEADER, "RFC 8142"),
+            ((HEADER + PLAIN).replace(b"\n", b"\r"), "CR alone"),
         ):
             hints = cityseq.check(text).hints
             self.assertEqual(len(hints), 1, text)
@@ -139,6 +171,8 @@ class Hints(unittest.TestCase):
             HEADER.replace(b"2.0", b"1.1"),
             b"{\n",
             b'{"a"\n',
+            b"\0\0\0\0\0\0\0\0",
+            HEADER.replace(b'"version":"2.0"', b'"metadata":{"type":"Feature"}'),
         ):
             self.assertEqual(cityseq.check(text).hints, [])
 
@@ -206,6 +240,11 @@ class Met(unittest.TestCase):
             with self.subTest(before=before):
                 end = cityseq.check(town_with(line, before, after)).end
                 self.assertEqual((end.line, end.code, end.met), (line, code, wanted))
+
+    def test_two_streams_that_were_joined(self):
+        end = cityseq.check(TOWN + TOWN).end
+        self.assertEqual((end.line, end.code), (6, 10))
+        self.assertTrue(end.met.startswith("the line is a second header"), end.met)
 
     def test_a_line_that_is_made_to_cost(self):
         deep = (

@@ -16,7 +16,7 @@ from urllib.parse import unquote, urlsplit
 from .support import HEADER, InFolder, command, feature
 
 import cityseq
-from cityseq import client
+from cityseq.sources import web_client
 
 NGINX = shutil.which("nginx") or shutil.which("nginx", path="/usr/sbin")
 
@@ -230,7 +230,7 @@ class Web(Served):
         self.assertIn("Connection refused", str(caught.exception))
 
     def test_a_server_that_does_not_answer(self):
-        with self.served("slow") as (_, base), mock.patch.object(client, "PATIENCE", 0.1):
+        with self.served("slow") as (_, base), mock.patch.object(web_client, "PATIENCE", 0.1):
             with self.assertRaises(cityseq.ReadFault) as caught:
                 self.cut(base)
         self.assertRegex(str(caught.exception), "timed out|too slowly")
@@ -270,7 +270,8 @@ class Client(Served):
     def test_servers_that_never_end(self):
         """Each byte comes in time. A thread that watches closes the connection."""
         for mode in ("drips its head", "drips its body", "continues", "drips redirections"):
-            with self.served(mode) as (server, base), mock.patch.object(client, "PATIENCE", 0.1):
+            patience = mock.patch.object(web_client, "PATIENCE", 0.1)
+            with self.served(mode) as (server, base), patience:
                 begin = time.monotonic()
                 with self.subTest(mode=mode), self.assertRaises(cityseq.ReadFault) as caught:
                     self.cut(base)
@@ -332,9 +333,9 @@ class Client(Served):
             self.assertIn("no URL of http", str(caught.exception))
 
     def test_no_urllib3(self):
-        without = {"urllib3": None, "cityseq.client": None, "cityseq.web": None}
+        without = {"urllib3": None, "cityseq.sources.web_client": None, "cityseq.sources.web": None}
         with mock.patch.dict(sys.modules, without):
-            del sys.modules["cityseq.client"], sys.modules["cityseq.web"]
+            del sys.modules["cityseq.sources.web_client"], sys.modules["cityseq.sources.web"]
             with self.assertRaises(cityseq.CityseqError) as caught:
                 cityseq.Index(self.index, base="http://example.org")
         self.assertIn("python3-urllib3", str(caught.exception))

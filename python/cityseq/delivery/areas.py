@@ -13,6 +13,7 @@ np: Any = needed("numpy")
 FEW = 1_500  # the most features that are drawn by their extents
 MOST_CELLS = 16_384  # in memory
 GRID = 72  # the most columns and rows of a map
+MOST_SUMS = 1 << 21  # cells in a rectangle whose counts are added up without sorting them
 TOGETHER = 65_536  # centres that are sorted into cells at once
 MOST_SPOTS = 2_000  # the most invalid features that are marked
 FINE = 40  # a cell is at least 2^-40 of the greatest coordinate
@@ -22,6 +23,7 @@ NEARLY_ALL = 50  # at most one of so many features is drawn apart
 FAR = 4  # times the distance of nearly all others from their middle
 MOST_STRAYS = 10  # features to each side that are named
 BULK = (0.01, 0.99)  # the share of the features that gives cells their size
+SAMPLE = 4_096  # about so many of the features that are sorted at once
 
 
 def _median(values: Any, counts: Any) -> float:
@@ -55,6 +57,24 @@ def _level(least: float) -> int:
     return max(LEAST, math.frexp(least)[1]) if least > 0 else LEAST
 
 
+def _added_up(columns: Any, rows: Any, counts: Any = None) -> Tuple[Any, Any, Any]:
+    """Returns each cell once, with the sum of its counts, or how often it is there."""
+    if not len(columns):
+        return columns, rows, np.empty(0, "i8")
+    left, low, height = int(columns.min()), int(rows.min()), int(np.ptp(rows)) + 1
+    if (int(columns.max()) - left + 1) * height <= MOST_SUMS:
+        sums = np.bincount((columns - left) * height + (rows - low), counts)
+        cells = np.flatnonzero(sums)
+        return cells // height + left, cells % height + low, sums[cells].astype("i8")
+    counts = np.ones(len(columns), "i8") if counts is None else counts
+    order = np.lexsort((rows, columns))
+    columns, rows, counts = columns[order], rows[order], counts[order]
+    first = np.ones(len(columns), bool)
+    first[1:] = (columns[1:] != columns[:-1]) | (rows[1:] != rows[:-1])
+    begins = np.flatnonzero(first)
+    return columns[begins], rows[begins], np.add.reduceat(counts, begins)
+
+
 class Grid:
     """Counts of centres by cells. The size of a cell is a power of two."""
 
@@ -78,12 +98,14 @@ class Grid:
             return
         x, y = (np.concatenate(axis) for axis in zip(*self._waiting))
         self._waiting, self._size = [], 0
-        spread = max(float(np.diff(np.quantile(axis, BULK))[0]) for axis in (x, y)) / 1_024
+        each = max(1, len(x) // SAMPLE)
+        bulks = (np.quantile(axis[::each], BULK) for axis in (x, y))
+        spread = max(float(high - low) for low, high in bulks) / 1_024
         greatest = max(float(np.abs(x).max()), float(np.abs(y).max())) / 2.0**FINE
         self._coarsen(max(self._level, _level(max(spread, greatest))))
         size = 2.0**self._level
         columns, rows = np.floor(x / size).astype("i8"), np.floor(y / size).astype("i8")
-        self._merge(columns, rows, np.ones(len(columns), "i8"))
+        self._merge(*_added_up(columns, rows))
         while len(self._counts) > MOST_CELLS:
             self._coarsen(self._level + 1)
 
@@ -92,13 +114,7 @@ class Grid:
         columns = np.concatenate((self._columns, columns))
         rows = np.concatenate((self._rows, rows))
         counts = np.concatenate((self._counts, counts))
-        order = np.lexsort((rows, columns))
-        columns, rows, counts = columns[order], rows[order], counts[order]
-        first = np.ones(len(columns), bool)
-        first[1:] = (columns[1:] != columns[:-1]) | (rows[1:] != rows[:-1])
-        begins = np.flatnonzero(first)
-        self._columns, self._rows = columns[begins], rows[begins]
-        self._counts = np.add.reduceat(counts, begins) if len(begins) else counts
+        self._columns, self._rows, self._counts = _added_up(columns, rows, counts)
 
     def _coarsen(self, level: int) -> None:
         """Makes cells as large as 2 to this level."""
@@ -139,10 +155,11 @@ class Rim:
         """Takes the middles of features. `named` names one of them by its number."""
         for side, values in zip(self._sides, (x, -x, y, -y)):
             least = side[-1][0] if len(side) == MOST_STRAYS else -math.inf
-            count = min(MOST_STRAYS, len(values))
-            for number in np.argpartition(values, -count)[-count:].tolist():
-                if values[number] > least:
-                    side.append((float(values[number]), named(number)))
+            numbers = np.flatnonzero(values > least)
+            if len(numbers) > MOST_STRAYS:
+                farthest = np.argpartition(values[numbers], -MOST_STRAYS)[-MOST_STRAYS:]
+                numbers = numbers[farthest]
+            side += [(float(values[number]), named(number)) for number in numbers.tolist()]
             side.sort(key=lambda each: -each[0])
             del side[MOST_STRAYS:]
 
@@ -236,7 +253,7 @@ def joined(boxes: List[Optional[str]]) -> Optional[str]:
     query cannot have one of them."""
     from decimal import Decimal
 
-    from ..world import plain
+    from ..engine.world import plain
 
     if not boxes or None in boxes:
         return None

@@ -5,7 +5,7 @@ import importlib
 import logging
 from typing import Any
 
-from ..faults import CityseqError
+from ..engine.faults import CityseqError
 
 PACKAGES = {
     "jinja2": "python3-jinja2", "numpy": "python3-numpy", "matplotlib": "python3-matplotlib"

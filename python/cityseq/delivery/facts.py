@@ -3,16 +3,16 @@ from __future__ import annotations
 
 from collections import Counter
 from dataclasses import dataclass, field
-from typing import TYPE_CHECKING, Dict, List, Optional, Tuple, TypeVar
+from typing import TYPE_CHECKING, Any, Dict, List, Optional, Tuple, TypeVar
 
-from ..faults import Status
-from ..reports import Explanation, Report, explain
-from ..tally import Range
+from ..engine.faults import Status
+from ..engine.reports import Explanation, Report, explain
+from ..engine.tally import Range
 
 if TYPE_CHECKING:
     from decimal import Decimal
 
-    from ..world import Extent
+    from ..engine.world import Extent
 
 EXAMPLES = 3  # reports of each reason that are kept as examples
 Key = TypeVar("Key")
@@ -243,6 +243,13 @@ class Delivery:
     def status(self) -> Status:
         """The greatest status of all files, as the status of `check`."""
         return max((file.status for file in self.files), default=Status.VALID)
+
+    def json_object(self) -> Dict[str, Any]:
+        """Returns all facts as one object of JSON, which docs/report.schema.json describes. It has
+        only the examples of reports."""
+        from .json_object import delivery_object  # few callers need it
+
+        return delivery_object(self)
 
     @property
     def verdicts(self) -> "Counter[str]":

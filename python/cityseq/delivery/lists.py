@@ -8,10 +8,10 @@ import os
 import re
 from typing import Any, List, Tuple
 
-from ..objects import report_object
-from ..outputs import Writer
-from ..reports import Report
-from ..shown import shown
+from ..cli.json_objects import report_object
+from ..sources.outputs import Writer
+from ..engine.reports import Report
+from ..engine.escape import shown
 
 COLUMNS = ("file", "line", "byte", "code", "reason", "feature", "hint", "excerpt", "fix")
 SIGNS = "=+-@\uff1d\uff0b\uff0d\uff20"  # a spreadsheet may compute a cell that begins with them

@@ -7,9 +7,9 @@ import json
 import os
 from typing import Any, Dict, Iterator, List, Optional, Sequence, Tuple
 
-from ..reports import Report, explain
-from ..shown import shown
-from ..world import plain
+from ..engine.reports import Report, explain
+from ..engine.escape import shown
+from ..engine.world import plain
 from .charts import Map, coarse, histogram, map_of, size_of_power
 from .extras import needed
 from .facts import Delivery, File

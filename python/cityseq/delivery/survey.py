@@ -3,42 +3,52 @@ up."""
 from __future__ import annotations
 
 import json
+from bisect import bisect_right
 from contextlib import ExitStack, suppress
-from dataclasses import dataclass, field
+from dataclasses import dataclass, field, replace
 from decimal import DecimalException
 from functools import partial
-from typing import TYPE_CHECKING, Any, Callable, Dict, Iterator, List, Optional, Sequence, Tuple
+from itertools import chain, groupby
+from typing import (
+    TYPE_CHECKING,
+    Any,
+    Callable,
+    Dict,
+    Iterable,
+    Iterator,
+    List,
+    Optional,
+    Sequence,
+    Tuple,
+)
 
-from .._library import LOD_CLASSES, CallStatus, RawAnswer, Text, library
-from ..geopackage import system_of
-from ..indexing import Recorded
-from ..parts import Answer
-from ..places import Read
-from ..query import Work
-from ..records import Found, Records, find_read, unescaped
-from ..reports import Report
-from ..running import Judged, Result
-from ..tally import Range
-from ..world import box_of, extent_of, read_json
+from ..engine.judge import Answer, judge, refused_memory
+from ..engine.library import Text, library
+from ..engine.query import Work
+from ..engine.records import IdsOf, Records, spelled_ids
+from ..engine.reports import Invalid, Report
+from ..engine.structs import LOD_CLASSES
+from ..engine.tally import Range
+from ..engine.world import box_of, extent_of, read_json
+from ..indexes.geopackage import system_of
+from ..indexes.vectors import AXES, RECORD
+from ..run.results import Result
+from ..run.streams import Stream
+from ..sources.chunks import Chunk
 from .areas import Place
 from .extras import needed
 from .facts import Area, Contents, File, Named, Point, Reasons, Repeated
+from .id_hashes import Hash, Hashed
 from .lists import Lists
 from .repeated import Ids, text_of
 
 if TYPE_CHECKING:
-    from .making import How
+    from .report_run import How
 
 np: Any = needed("numpy")
 
-AXES = ("x", "y", "z")
-RECORD = np.dtype(
-    [(name, "u8") for name in ("line", "begin", "length", "id_begin", "id_length", "objects",
-                               "geometries", "types", "lods")]
-    + [pair for axis in AXES
-       for pair in ((axis, "u8"), (f"{axis}min", "i8"), (f"{axis}max", "i8"))]
-)
 TOGETHER = 8_192  # records that are taken at once: a part may have only a few
+MANY = 256  # features of a part whose ids are hashed by the thread that judges it
 MOST_REPORTS = 10_000  # reports that are kept for the table in the page
 NEAR_THE_END = 16 << 20  # bytes at the end of an invalid line that are searched for vertices
 Ranges = Tuple[Range, Range, Range]
@@ -48,8 +58,8 @@ Ranges = Tuple[Range, Range, Range]
 
 
 @dataclass
-class Marked(Found):
-    """The answer for a part, with the middle of the vertices of each invalid feature. A feature
+class Marked(Answer):
+    """The answer for some lines, with the middle of the vertices of each invalid feature. A feature
     that cannot be read has none."""
 
     middles: List[Point] = field(default_factory=list)
@@ -70,39 +80,28 @@ def middle_of(line: bytes) -> Optional[Point]:
     return sorted(x)[len(x) // 2], sorted(y)[len(y) // 2]
 
 
-def middles_of(reports: Sequence[Report], part: Any) -> Iterator[Point]:
-    """Yields the middle of each invalid feature of a part that has one. The lines of reports count
-    from 2, in ascending order."""
-    text, begin, number = bytes(part), 0, 2
-    for report in reports:
-        if report.line < 2:
-            continue
-        while number < report.line:
-            begin, number = text.find(b"\n", begin) + 1, number + 1
-        end = text.find(b"\n", begin)
-        middle = middle_of(text[begin : end if end >= 0 else len(text)])
-        if middle is not None:
-            yield middle
+def middles_of(invalid: Iterable[Invalid]) -> Iterator[Point]:
+    """Yields the middle of each invalid feature that has one."""
+    for lines in invalid:
+        for (line, _, _), content in lines.contents():
+            middle = middle_of(content) if line > 1 else None
+            if middle is not None:
+                yield middle
 
 
-def marked(find: Callable[[Read], Answer], is_marked: Callable[[], bool], read: Read) -> Answer:
-    """Returns the answer for a part, with the middles of its invalid features. The middles are left
-    out if the map has enough of them."""
-    parts: List[Text] = []
-
-    def kept() -> Any:
-        part, fault = read()
-        parts.append(part)
-        return part, fault
-
-    answer = find(kept)
-    if not isinstance(answer, Found) or answer.refused == 0 or is_marked():
+def marked(
+    chunk: Chunk, work: Work, size: Optional[int], ids_of: IdsOf, is_marked: Callable[[], bool]
+) -> Answer:
+    """Returns the answer for a chunk, with the middles of its invalid features. The middles are
+    left out if the map has enough of them."""
+    answer = judge(chunk, work, size, ids_of)
+    if not answer.invalid or is_marked():
         return answer
     try:
-        answer.reports = list(answer.reports)  # they may be made only when they are read
-        middles = list(middles_of(answer.reports, parts[0]))
+        found = (lines for lines in answer.invalid if isinstance(lines, Invalid))
+        middles = list(middles_of(found))
     except MemoryError:
-        return Answer(RawAnswer(status=CallStatus.NO_MEMORY))
+        return refused_memory()
     return Marked(**vars(answer), middles=middles)
 
 
@@ -128,7 +127,7 @@ class Entry:
     features: int = 0
     longest: int = 0
     ranges: Ranges = (None, None, None)
-    waiting: List[Tuple[Records, int]] = field(default_factory=list)
+    waiting: List[Tuple[Records, int]] = field(default_factory=list)  # with ids as `ids_of` has
     waits: int = 0
 
     def world(self, axis: int, vertices: Any) -> Any:
@@ -144,15 +143,14 @@ class Entry:
         self.lods += _bits(records["lods"])
         self.lengths += np.bincount(np.frexp(records["length"].astype("f8"))[1], minlength=64)
         numbers = np.flatnonzero(records["x"])
-        some = records[numbers]
+        some = records if len(numbers) == len(records) else records[numbers]
         if not len(some):
             return
         x, y, z = (_wider(before, some, axis) for before, axis in zip(self.ranges, AXES))
         self.ranges = x, y, z
-        across, along = (
-            np.sort([self.world(n, some[f"{AXES[n]}{edge}"]) for edge in ("min", "max")], axis=0)
-            for n in (0, 1)
-        )
+        ends = [[self.world(n, some[f"{AXES[n]}{edge}"]) for edge in ("min", "max")]
+                for n in (0, 1)]
+        across, along = ((np.minimum(*axis), np.maximum(*axis)) for axis in ends)
         self.place.add(across[0], across[1], along[0], along[1],
                        lambda n, middle: named(int(numbers[n]), middle))
 
@@ -168,9 +166,11 @@ class Entry:
 
 
 def _bits(sets: Any) -> Any:
-    """Returns how many of these sets of bits have each bit set."""
-    flags = np.unpackbits(sets.astype("<u8").view("u1").reshape(-1, 8), axis=1, bitorder="little")
-    return flags.sum(axis=0, dtype="i8")
+    """Returns how many of these sets of bits have each bit set. There is at least one set."""
+    is_one = (sets == sets[0]).all()
+    some, counts = (sets[:1], len(sets)) if is_one else np.unique(sets, return_counts=True)
+    bits = np.unpackbits(some.astype("<u8").view("u1").reshape(-1, 8), axis=1, bitorder="little")
+    return (bits.T.astype("i8") * counts).sum(axis=1)
 
 
 def _wider(before: Range, records: Any, axis: str) -> Range:
@@ -193,13 +193,22 @@ class Survey:
         self._lists = lists
         self._places: Dict[Optional[str], Place] = {}
         self._stack = ExitStack()
-        self._ids = self._stack.enter_context(Ids())
+        self._ids, self._hash = self._stack.enter_context(Ids()), Hash()
 
     def __enter__(self) -> "Survey":
         return self
 
     def __exit__(self, *_: Any) -> None:
         self._stack.close()
+
+    def ids_of(self, part: Text, raw: bytes) -> Any:
+        """Returns the ids of the features of a part, from its records: with their hashes if they
+        are many, otherwise as they are spelled. Any thread may call this."""
+        if len(raw) < MANY * RECORD.itemsize:
+            return spelled_ids(part, raw)
+        records = np.frombuffer(raw, RECORD)
+        begins = records["begin"] + records["id_begin"] + 1  # after the quote
+        return self._hash.of(part, begins, records["id_length"] - 2)
 
     def begin(self, number: int, header: bytes) -> Entry:
         """Begins a file, by its number from 0. The header is valid."""
@@ -218,7 +227,7 @@ class Survey:
         Raises:
             WriteFault: The temporary folder is full.
         """
-        if records.ids:
+        if len(records.ids):
             entry.waiting.append((records, lines))
             entry.waits += len(records.ids)
         if entry.waits >= TOGETHER:
@@ -229,17 +238,32 @@ class Survey:
         waiting, entry.waiting, entry.waits = entry.waiting, [], 0
         if not waiting:
             return
-        found = np.frombuffer(b"".join(records.raw for records, _ in waiting), RECORD)
-        before = np.repeat(
-            np.array([lines for _, lines in waiting], "u8"), [len(each.ids) for each, _ in waiting]
-        )
-        lines, ids = found["line"] + before, [id for records, _ in waiting for id in records.ids]
-        if b"\\" in b"".join(ids):
-            ids = [unescaped(id).encode("utf-8", "surrogatepass") for id in ids]
-        self._ids.add(entry.number, lines, ids)
+        found = np.frombuffer(b"".join([records.raw for records, _ in waiting]), RECORD)
+        counts = [len(records.ids) for records, _ in waiting]
+        lines = found["line"] + np.repeat(np.array([lines for _, lines in waiting], "i8"), counts)
+        ends: List[int] = []
+        groups = list(self._hashed([records.ids for records, _ in waiting]))
+        for ids in groups:
+            begin = ends[-1] if ends else 0
+            ends.append(begin + len(ids))
+            self._ids.add(entry.number, lines[begin : ends[-1]], ids)
         name = self.files[entry.number].name
-        entry.add(found, lambda number, middle: Named(
-            name, int(lines[number]), text_of(ids[number]), middle))
+
+        def named(number: int, middle: Point) -> Named:
+            group = bisect_right(ends, number)
+            text = groups[group].text(number - ends[group])  # from the end
+            return Named(name, int(lines[number]), text_of(text), middle)
+
+        entry.add(found, named)
+
+    def _hashed(self, parts: Sequence[Any]) -> Iterator[Hashed]:
+        """Yields the ids of parts with their hashes, those of many small parts together."""
+        for is_made, group in groupby(parts, lambda ids: isinstance(ids, Hashed)):
+            if is_made:
+                yield from group
+            else:
+                spellings = list(chain.from_iterable(group))
+                yield self._hash.of_spellings(spellings)
 
     def mark(self, entry: Entry, middles: List[Point]) -> None:
         """Takes the middles of invalid features, as vertices of the file."""
@@ -288,45 +312,56 @@ class Survey:
         return sorted(found, key=lambda area: -area.features)
 
 
-class Surveyed(Recorded):
+class Surveyed:
     """A file whose records go to a survey."""
 
     def __init__(self, number: int, path: str, work: Work, survey: Survey, how: "How") -> None:
         """Takes the number of the file, from 0, and the options of the run."""
-        progress = None if how.progress is None else partial(how.progress, path)
-        super().__init__(path, work, how.size, None, survey.report, progress)
         self._number, self._survey = number, survey
         self._entry: Optional[Entry] = None
+        progress = None if how.progress is None else partial(how.progress, path)
+        records = replace(work, kind="records")
+        self.stream = Stream(
+            path,
+            records,
+            how.size,
+            None,
+            survey.report,
+            progress,
+            take=[self._take],
+            judge_by=partial(
+                marked,
+                work=records,
+                size=how.size,
+                ids_of=survey.ids_of,
+                is_marked=self._is_marked,
+            ),
+        )
 
-    def _judged(self, header: bytes, read: Read, begin: int) -> Judged:
-        def judged(first: bool) -> Answer:
-            return marked(
-                lambda kept: find_read(self.work, self.file, header, kept, begin, first),
-                lambda: self._entry is not None and self._entry.place.is_marked, read,
-            )
+    def _is_marked(self) -> bool:
+        return self._entry is not None and self._entry.place.is_marked
 
-        return judged
-
-    def take(self, found: Found, lines: int) -> None:
-        """Passes on the records of the next part. `lines` lines came before the part.
+    def _take(self, answer: Answer, lines: int) -> None:
+        """Passes on the records of the next chunk. `lines` lines came between it and the header.
 
         Raises:
             WriteFault: It cannot be written.
         """
-        if found.end is None:  # else the header is invalid
-            self._survey.add(self.entry(), found.records, lines)
-            if isinstance(found, Marked):
-                self._survey.mark(self.entry(), found.middles)
+        if not answer.parts or answer.end is not None:  # the header is not there, or invalid
+            return
+        for records in answer.records:
+            self._survey.add(self._begun(), records, lines + records.lines)
+        if isinstance(answer, Marked):
+            self._survey.mark(self._begun(), answer.middles)
 
-    def entry(self) -> Entry:
+    def _begun(self) -> Entry:
         """Returns the entry of the file in the survey. The header is valid."""
         if self._entry is None:
-            self._entry = self._survey.begin(self._number, self._header)
+            self._entry = self._survey.begin(self._number, self.stream.chunks.header)
         return self._entry
 
-    def finish(self) -> Result:
-        """Returns the result of the file."""
-        result = super().finish()
+    def end(self, result: Result) -> Result:
+        """Returns the result of the file, after the survey has it."""
         whole = result.fault is None and result.end is None
-        self._survey.end(self._number, result, self.entry() if whole else self._entry)
+        self._survey.end(self._number, result, self._begun() if whole else self._entry)
         return result

@@ -17,12 +17,12 @@ from __future__ import annotations
 
 from typing import TYPE_CHECKING, Any, Awaitable, Callable, Optional
 
-from ..faults import RequestError
+from ..engine.faults import RequestError
 
 if TYPE_CHECKING:
     from aiohttp import web
 
-    from ..words import Asked
+    from ..cli.requests import Serve
     from .settings import Settings
 
 __all__ = ["app", "runner"]
@@ -65,21 +65,20 @@ def app(
         ReadFault: An index cannot be read.
         RequestError: An argument has a value that it may not have, or aiohttp is missing.
     """
-    settings = _settings(indexes, base, url, cors, jobs, limits)
+    settings = _settings(indexes, limits, base=base, url=url, cors=cors, jobs=jobs)
     from .application import Server, application
 
     return application(Server(settings))
 
 
-def _settings(indexes: Any, base: Any = None, url: Any = None, cors: Any = None, jobs: Any = None,
-              limits: Any = None) -> "Settings":
+def _settings(indexes: Any, limits: Any = None, **options: Any) -> "Settings":
+    """Returns the settings for the arguments of `app`."""
     import os
 
     _require()
     from .settings import Limits, Settings
 
-    return Settings(tuple(map(os.fsdecode, indexes)), base, url, (), cors, jobs,
-                    limits or Limits())
+    return Settings(tuple(map(os.fsdecode, indexes)), limits=limits or Limits(), **options)
 
 
 def runner(
@@ -111,7 +110,7 @@ def runner(
     return make
 
 
-def run(wanted: "Asked") -> int:
+def run(wanted: "Serve") -> int:
     """Runs the command `serve`, and returns the status."""
     _require()
     try:

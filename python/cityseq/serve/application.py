@@ -1,4 +1,4 @@
-"""The application: which request gets which answer."""
+"""The application of aiohttp: what holds for each request, whatever it asks for."""
 from __future__ import annotations
 
 import asyncio
@@ -6,24 +6,27 @@ import re
 import socket
 import struct
 from contextlib import contextmanager, suppress
-from typing import Any, Awaitable, Callable, Dict, Iterator, Optional, Tuple
+from functools import partial
+from typing import Awaitable, Callable, Iterator
 from urllib.parse import urlsplit
 
 from aiohttp import web
 
-from ..console import say
-from ..faults import CityseqError
-from . import bodies, items, openapi, resources
-from .answers import dumped, send
+from ..cli.output import say
+from ..engine.faults import CityseqError
+from . import bodies
+from .answers import send
 from .bounds import Pace, Places
-from .calls import Calls
 from .catalogue import Catalogue
-from .formats import HTML, OPENAPI, PROBLEM, Format, choose
+from .context import Context, Resource, accept_of
+from .formats import HTML, PROBLEM, choose, dumped
 from .html import Pages
 from .links import Links, base_of, host_of, is_known
 from .problems import Problem, forget, logged, problem_of
-from .queries import Query, unescaped
+from .queries import Query
+from .resources import table
 from .settings import Settings
+from .threads import Calls
 
 Handler = Callable[[web.Request], Awaitable[web.StreamResponse]]
 POLICY = (
@@ -59,7 +62,7 @@ class Server:
             ReadFault: One cannot be read.
         """
         self.settings, self.limits = settings, settings.limits
-        self.catalogue = Catalogue(settings)
+        self.catalogue, self.resources = Catalogue(settings), table(settings.limits)
         self.calls, self.pages = Calls(settings.jobs), Pages()
         self._requests = Places(self.limits.requests, "requests")
         self._bodies = Places(self.limits.bodies, "bodies")
@@ -74,8 +77,6 @@ class Server:
         """Ends the threads, and closes the indexes."""
         self.calls.close()
         self.catalogue.close()
-
-    # ---- what holds for each request
 
     @web.middleware
     async def guard(self, request: web.Request, handler: Handler) -> web.StreamResponse:
@@ -135,13 +136,14 @@ class Server:
             fault = Problem(400, "the body of the request cannot be read")
         elif not isinstance(fault, Exception):
             raise fault
-        told = None if isinstance(fault, ConnectionError) else logged(fault)
+        hung_up = isinstance(fault, ConnectionError)
+        told = None if hung_up else logged(fault)
         if told is not None:
             say(told)
-        begun: Optional[web.StreamResponse] = request.get("begun")
+        begun: web.StreamResponse | None = request.get("begun")
         if begun is not None:
             return begun
-        if isinstance(fault, ConnectionError):
+        if hung_up:
             return web.Response(status=HUNG_UP)
         response = self._told(problem_of(fault), request)
         if not request.content.at_eof():
@@ -150,13 +152,19 @@ class Server:
 
     def _told(self, problem: Problem, request: web.Request) -> web.Response:
         """Returns a problem as the client accepts it: as a page for a browser, or as JSON."""
+        response, told = (
+            web.Response(status=problem.status, headers=problem.headers),
+            problem.told(),
+        )
         with suppress(Problem):
-            if choose((PROBLEM, HTML), None, _accept(request)) == HTML:
+            if choose((PROBLEM, HTML), None, accept_of(request)) == HTML:
                 # the host that was asked for may be unknown, so links have none
                 links = Links(urlsplit(self.settings.url or "").path.rstrip("/"))
-                page = self.pages.render("problem.html", told=problem.told(), links=links)
-                return problem.response(page)
-        return problem.response()
+                response.content_type = HTML.media_type
+                response.text = self.pages.render("problem.html", told=told, links=links)
+                return response
+        response.content_type, response.body = PROBLEM.media_type, dumped(told) + b"\n"
+        return response
 
     async def prepare(self, request: web.BaseRequest, response: web.StreamResponse) -> None:
         """Adds the headers that each answer has."""
@@ -178,110 +186,29 @@ class Server:
         if await self.calls.call(self.catalogue.is_changed):
             try:
                 before, self.catalogue = self.catalogue, await self.calls.call(
-                    Catalogue, self.settings)
+                    Catalogue, self.settings
+                )
             except CityseqError as fault:
                 say(logged(fault) or str(fault))
             else:
                 before.close()
 
-    # ---- requests
-
-    def _links(self, request: web.Request) -> Links:
-        return Links(base_of(request, self.settings))
-
-    def _asked(self, request: web.Request, formats: Tuple[Format, ...],
-               known: Tuple[str, ...] = ("f",)) -> Tuple[Query, Format]:
-        query = Query(request.raw_path.partition("?")[2], known)
-        return query, choose(formats, query.text("f"), _accept(request))
-
-    def _answer(self, chosen: Format, told: Any, page: str, system: Optional[str] = None,
-                **more: Any) -> web.Response:
-        if chosen == HTML:
-            text = self.pages.render(page, told=told, **more)
-            headers = None if system is None else {"Content-Crs": f"<{system}>"}
-            return web.Response(text=text, content_type="text/html", headers=headers)
-        return web.Response(body=dumped(told) + b"\n", headers={"Content-Type": chosen.media_type})
-
-    async def landing(self, request: web.Request) -> web.StreamResponse:
-        """Answers `/`."""
-        _, chosen = self._asked(request, resources.PAGES)
-        links = self._links(request)
-        told = resources.landing(links, chosen)
-        shown = [resources.collection(links, each) for each in self.catalogue]
-        return self._answer(chosen, told, "landing.html", links=links, collections=shown,
-                            limits=self.limits)
-
-    async def conformance(self, request: web.Request) -> web.StreamResponse:
-        """Answers `/conformance`."""
-        _, chosen = self._asked(request, resources.PAGES)
-        links = self._links(request)
-        told = resources.conformance(links, self.catalogue, chosen)
-        return self._answer(chosen, told, "conformance.html", links=links)
-
-    async def api(self, request: web.Request) -> web.StreamResponse:
-        """Answers `/api`."""
-        _, chosen = self._asked(request, (OPENAPI, HTML))
-        links = self._links(request)
-        told = openapi.definition(links.base, self.catalogue, self.limits)
-        return self._answer(chosen, told, "api.html", links=links)
-
-    async def collections(self, request: web.Request) -> web.StreamResponse:
-        """Answers `/collections`."""
-        _, chosen = self._asked(request, resources.PAGES)
-        links = self._links(request)
-        return self._answer(chosen, resources.collections(links, self.catalogue, chosen),
-                            "collections.html", links=links)
-
-    def _collection(self, request: web.Request) -> Any:
-        return self.catalogue.find(request.match_info["collection"])
-
-    async def collection(self, request: web.Request) -> web.StreamResponse:
-        """Answers `/collections/NAME`."""
-        _, chosen = self._asked(request, resources.PAGES)
-        links, found = self._links(request), self._collection(request)
-        return self._answer(chosen, resources.collection(links, found, chosen), "collection.html",
-                            links=links, path=resources.path_of(found))
-
-    async def items(self, request: web.Request) -> web.StreamResponse:
-        """Answers `/collections/NAME/items`."""
-        found = self._collection(request)
-        query = Query(request.raw_path.partition("?")[2], items.PARAMETERS)
-        asked = items.Items(found, query, self.limits, _accept(request))
-        links = self._links(request)
-        if asked.chosen != HTML:
-            return await items.send_items(request, self.calls, asked, links)
-        features, following = await self.calls.call(lambda: items.listed(asked.page()))
-        next_link = None if following is None else asked.following(links, following)
-        return self._answer(HTML, {"links": asked.own_links(links)}, "items.html", asked.system,
-                            links=links, features=features, collection=found, asked=asked,
-                            next=next_link)
-
-    async def item(self, request: web.Request) -> web.StreamResponse:
-        """Answers `/collections/NAME/items/ID`."""
-        collection = self._collection(request)
-        query, chosen = self._asked(request, items.ITEM, items.OF_ONE)
-        name = unescaped(request.raw_path.partition("?")[0].rpartition("/")[2])
-        found = await self.calls.call(items.find, collection, name)
-        links = self._links(request)
-        if chosen != HTML:
-            return items.item_answer(collection, query, chosen, links, found)
-        own = items.links_of_one(collection, query, HTML, links, name)
-        return self._answer(HTML, {"links": own}, "item.html", collection.system.storage,
-                            links=links, feature=next(found[1].features()), collection=collection)
-
-    async def check(self, request: web.Request) -> web.StreamResponse:
-        """Answers `POST /check`."""
-        return await bodies.check(request, self.calls, self.limits)
-
-    async def filter(self, request: web.Request) -> web.StreamResponse:
-        """Answers `POST /filter`."""
-        return await bodies.filter(request, self.calls, self.limits)
+    async def answer(self, resource: Resource, request: web.Request) -> web.StreamResponse:
+        """Answers a request for a resource."""
+        context = Context(
+            request,
+            resource,
+            Query(request.raw_path.partition("?")[2], resource.known),
+            Links(base_of(request, self.settings)),
+            self,
+        )
+        return await resource.answer(context)
 
     async def static(self, request: web.Request) -> web.StreamResponse:
         """Answers with a file that pages need. The files are kept in memory."""
         content_type, body = self.pages.static(request.match_info["name"])
-        return web.Response(body=body, content_type=content_type, charset="utf-8",
-                            headers={"Cache-Control": "max-age=3600"})
+        headers = {"Cache-Control": "max-age=3600"}
+        return web.Response(body=body, content_type=content_type, charset="utf-8", headers=headers)
 
     async def preflight(self, request: web.Request) -> web.StreamResponse:
         """Answers a browser that asks whether a page of another origin may send a request."""
@@ -318,17 +245,11 @@ def _break_off(request: web.Request) -> None:
     request.transport.abort()
 
 
-def _accept(request: web.Request) -> str:
-    """Returns the header `Accept`. A client may send it in several lines."""
-    return ", ".join(request.headers.getall("Accept", []))
-
-
 def _problem_of_route(fault: web.HTTPException) -> Problem:
     """Returns the problem of a path that does not exist, or of a method that it does not have."""
-    headers: Dict[str, str] = {}
     if isinstance(fault, web.HTTPMethodNotAllowed):
-        headers["Allow"] = ", ".join(sorted(fault.allowed_methods))
-        return Problem(405, f"this resource has no method {fault.method}", headers)
+        allowed = {"Allow": ", ".join(sorted(fault.allowed_methods))}
+        return Problem(405, f"this resource has no method {fault.method}", allowed)
     if fault.status == 404:
         return Problem(404, "there is nothing at this path")
     return Problem(fault.status, fault.reason)
@@ -337,19 +258,11 @@ def _problem_of_route(fault: web.HTTPException) -> Problem:
 def application(server: Server) -> web.Application:
     """Returns the application of a server."""
     app = web.Application(middlewares=[server.guard])
-    for path, handler in (
-        ("/", server.landing),
-        ("/conformance", server.conformance),
-        ("/api", server.api),
-        ("/collections", server.collections),
-        ("/collections/{collection}", server.collection),
-        ("/collections/{collection}/items", server.items),
-        ("/collections/{collection}/items/{id}", server.item),
-        ("/static/{name}", server.static),
-    ):
-        app.router.add_get(path, handler, expect_handler=bodies.expected)
-    for path, handler in (("/check", server.check), ("/filter", server.filter)):
-        app.router.add_post(path, handler, expect_handler=bodies.expected)
+    for each in server.resources:
+        handler = partial(server.answer, each)
+        for method in each.methods:
+            app.router.add_route(method, each.path, handler, expect_handler=bodies.expected)
+    app.router.add_get("/static/{name}", server.static, expect_handler=bodies.expected)
     app.on_response_prepare.append(server.prepare)
     app.on_cleanup.append(server.close)
     return app

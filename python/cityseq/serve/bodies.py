@@ -1,103 +1,94 @@
 """Bodies that are judged while they arrive: `POST /check` and `POST /filter`.
 
-While a thread judges some pieces, the next are read. The kept lines are written as fast as the
-client reads them. So only a part and its output are in memory."""
+While threads judge some parts, the next bytes are read. The kept lines are written as fast as the
+client reads them. So only a few parts and their outputs are in memory."""
 from __future__ import annotations
 
 import asyncio
 import json
 from collections import deque
-from typing import Any, Deque, Dict, List, Optional, Tuple
+from contextlib import aclosing
+from itertools import islice
+from typing import Any, AsyncGenerator, Iterable
 
 from aiohttp import web
 
 from .. import __version__
-from .._library import USUAL_DEPTH, USUAL_LINE, Text
-from ..objects import reasons_object, report_object, result_object
-from ..parts import Answer
-from ..places import SMALL
-from ..query import asked
-from ..running import Result, Task
-from ..words import Asked
-from .answers import begin, write
+from ..cli.json_objects import reasons_object, report_object, result_object
+from ..cli.requests import Check, Filter
+from ..engine.judge import SMALL, Answer
+from ..engine.library import Text
+from ..engine.query import Work, asked
+from ..run.feed import Fed, OtherPacking, Task, TooLong, Unpacking
+from .answers import write
 from .bounds import Pace
-from .calls import Calls
-from .judging import Fed, Unpacking, too_long
+from .context import Context
+from .formats import CITY_JSON_SEQ, LINES
 from .problems import Problem, forget
 from .queries import Query
-from .settings import MOST_REPORTS, REPORTS, Limits
+from .settings import Limits
 
-LINES = "application/x-ndjson"
-SEQUENCE = "application/city+json-seq"
 GO_ON = "100-continue"
-JUDGED_BY = ("line_limit", "depth", "keep_going", "tree", "max_reports")
-CHECK = (*JUDGED_BY, "summary")
-FILTER = (*JUDGED_BY, "exclude", "id", "type", "lod", "bbox", "verdict")
+Wanted = Check | Filter
 
 
-def asked_of(command: str, query: Query, limits: Limits) -> Asked:
+def _asked_of(command: str, query: Query) -> Wanted:
     """Returns what a request asks for, as the command line would have it.
 
     Raises:
         Problem: A parameter has a value that it may not have.
     """
-    wanted = Asked(
-        command,
-        line_limit=query.number("line_limit", 1, limits.line_limit,
-                                min(USUAL_LINE, limits.line_limit)),
-        depth=query.number("depth", 1, limits.depth, min(USUAL_DEPTH, limits.depth)),
+    only_counts = query.flag("summary") and "max_reports" not in query
+    make: type[Check] | type[Filter] = Filter if command == "filter" else Check
+    wanted = make(
+        line_limit=query.number("line_limit"),
+        depth=query.number("depth"),
         keep_going=query.flag("keep_going"),
         tree=query.flag("tree"),
-        max_reports=query.number("max_reports", 0, MOST_REPORTS, REPORTS),
+        max_reports=0 if only_counts else query.number("max_reports"),
+        summary=query.flag("summary"),
     )
-    if command == "filter":
+    if isinstance(wanted, Filter):
         wanted.exclude = query.flag("exclude")
         wanted.id, wanted.type, wanted.lod, wanted.bbox = map(
             query.text, ("id", "type", "lod", "bbox")
         )
-    else:
-        wanted.summary = query.flag("summary")
-        if wanted.summary and "max_reports" not in query:
-            wanted.max_reports = 0
     return wanted
 
 
-def _fed(wanted: Asked, query: Query, packed: Optional[bool], limits: Limits) -> Fed:
-    """Returns the stream that takes the body."""
-    common: Dict[str, Any] = dict(line_limit=wanted.line_limit, depth=wanted.depth,
-                                  keep_going=wanted.keep_going, tree=wanted.tree)
-    if wanted.command == "filter":
-        common.update(exclude=wanted.exclude, ids=query.texts("id"), types=query.texts("type"),
-                      lods=query.texts("lod"), box=wanted.bbox)
-    most = wanted.max_reports or 0
-    unpacking = Unpacking(packed, limits.body)
-    return Fed(asked(wanted.command, **common), unpacking, most, wanted.summary)
+def _work(wanted: Wanted, query: Query) -> Work:
+    return asked(
+        wanted.command,
+        line_limit=wanted.line_limit,
+        depth=wanted.depth,
+        keep_going=wanted.keep_going,
+        tree=wanted.tree,
+        exclude=query.flag("exclude"),
+        ids=query.texts("id"),
+        types=query.texts("type"),
+        lods=query.texts("lod"),
+        box=query.text("bbox"),
+    )
 
 
-def _is_packed(request: web.Request, limits: Limits) -> Optional[bool]:
+def _is_packed(request: web.Request, limits: Limits) -> bool | None:
     """Returns whether a body is packed. None if its first bytes must show it.
 
     Raises:
-        Problem: It is packed in another way, or its stated length is too long.
+        BodyFault: It is packed in another way, or its stated length is too long.
     """
     if request.content_length is not None and request.content_length > limits.body:
-        raise too_long(limits.body)
+        raise TooLong.than(limits.body)
     coding = request.headers.get("Content-Encoding", "identity").strip().lower()
     if coding in ("gzip", "x-gzip"):
         return True
     if coding != "identity":
-        raise Problem(415, f"a body is plain or packed by gzip, and not by {coding}")
+        raise OtherPacking(f"a body is plain or packed by gzip, and not by {coding}")
     return None
 
 
 async def expected(_: web.Request) -> None:
     """Does nothing. A client that waits gets `100 Continue` when its body is read."""
-
-
-async def _go_on(request: web.Request) -> None:
-    """Asks a client that waits for it to send the body."""
-    if request.headers.get("Expect") and request.version >= (1, 1):
-        await request.writer.write(b"HTTP/1.1 100 Continue\r\n\r\n")
 
 
 class Body:
@@ -113,15 +104,16 @@ class Body:
         """The bytes that have come."""
         return self._pace.size
 
-    async def pieces(self) -> List[bytes]:
+    async def pieces(self) -> list[bytes]:
         """Returns the next bytes, enough for a thread, and none at the end.
 
         Raises:
-            Problem: There are too many, or they come too slowly.
+            TooLong: There are too many.
+            Problem: They come too slowly.
         """
-        found: List[bytes] = []
-        size = 0
-        while size < SMALL:
+        found: list[bytes] = []
+        end = self.size + SMALL
+        while self.size < end:
             piece = self._content.read_nowait()
             if not piece:
                 if self._content.at_eof():
@@ -130,156 +122,154 @@ class Body:
                     break
                 piece = await self._pace.wait(self._content.readany())
             found.append(piece)
-            size += len(piece)
             self._pace.size += len(piece)
             if self._pace.size > self._most:
-                raise too_long(self._most)
+                raise TooLong.than(self._most)
         return [piece for piece in found if piece]
 
 
 class Judgement:
-    """A body that the threads judge."""
+    """A body that the threads judge.
 
-    def __init__(self, request: web.Request, calls: Calls, limits: Limits, wanted: Asked,
-                 query: Query) -> None:
-        self._calls, self.wanted = calls, wanted
-        self._fed = _fed(wanted, query, _is_packed(request, limits), limits)
-        self._body = Body(request, limits)
-        self._next: "Optional[asyncio.Future[List[bytes]]]" = None
-        self._judged: "Deque[asyncio.Future[Answer]]" = deque()
-        self._is_read = self.is_over = False
+    Attributes:
+        fed: The stream that takes the body.
+    """
 
-    @property
-    def has_header(self) -> bool:
-        """Whether the first line is known to be valid."""
-        return self._fed.has_header
-
-    @property
-    def has_ended(self) -> bool:
-        """Whether the stream has ended, so that no later bytes count."""
-        return self._fed.ended
-
-    async def outputs(self) -> List[Text]:
-        """Returns the output of the parts that have been judged, while others are read.
+    def __init__(self, context: Context, command: str) -> None:
+        """Reads what a request asks for.
 
         Raises:
-            Problem: The body is broken, or too long.
+            CityseqError, Problem: A parameter or a header has a value that it may not have.
         """
-        if not self._is_read:
-            for task in await self._tasks():
-                self._judged.append(asyncio.ensure_future(self._calls.call(task)))
-        outputs = []
-        while self._judged and (self._is_read or len(self._judged) > self._ahead()):
-            answer = await self._judged.popleft()
-            if answer.refused or answer.end is not None:  # to describe it takes time
-                outputs.append(await self._calls.call(self._fed.take, answer))
-            else:
-                outputs.append(self._fed.take(answer))
-        self.is_over = self._is_read
-        return outputs
+        request, query, limits = context.request, context.query, context.server.limits
+        self._wanted, self._calls = _asked_of(command, query), context.server.calls
+        unpacking = Unpacking(_is_packed(request, limits), limits.body)
+        self.fed = Fed(
+            _work(self._wanted, query),
+            unpacking,
+            self._wanted.max_reports or 0,
+            self._wanted.summary,
+        )
+        self._body = Body(request, limits)
 
-    async def _tasks(self) -> List[Task]:
-        """Returns calls that judge the next parts, while the bytes after them are read."""
-        if not self._fed.has_more:
-            pieces = await (self._next or self._body.pieces())
-            self._next = None
-            if not pieces:
-                self._is_read = True
-                return await self._calls.call(self._fed.end)
-            self._next = asyncio.ensure_future(self._body.pieces())
-            self._fed.feed(pieces)
-        return await self._calls.call(self._fed.parts, self._ahead() + 2)
+    async def outputs(self) -> AsyncGenerator[list[Text], None]:
+        """Yields the outputs of parts that have been judged, while others are read.
+
+        Raises:
+            BodyFault: The body is broken, or too long.
+            Problem: It comes too slowly.
+        """
+        judged: deque[asyncio.Future[Answer]] = deque()
+        self._calls.bodies += 1
+        try:
+            async with aclosing(self._tasks()) as tasks:
+                async for task in tasks:
+                    judged.append(asyncio.ensure_future(self._calls.call(task)))
+                    while len(judged) > self._ahead():
+                        yield [await self._taken(await judged.popleft())]
+            outputs = []
+            while judged:
+                outputs.append(await self._taken(await judged.popleft()))
+            yield outputs
+        finally:
+            self._calls.end_body()
+            await _cancelled(judged)
+
+    async def _tasks(self) -> AsyncGenerator[Task, None]:
+        """Yields calls that judge the next parts, while the bytes after them are read."""
+        coming = asyncio.ensure_future(self._body.pieces())
+        try:
+            while pieces := await coming:
+                coming = asyncio.ensure_future(self._body.pieces())
+                # few packed bytes may have a long text: only some of it is unpacked at once
+                tasks, most, more = self.fed.cut(pieces), self._ahead() + 2, True
+                while more:
+                    some: list[Task] = await self._calls.call(list, islice(tasks, most))
+                    more = len(some) == most
+                    for task in some:
+                        yield task
+            last: list[Task] = await self._calls.call(list, self.fed.end())
+            for task in last:
+                yield task
+        finally:
+            await _cancelled([coming])
+
+    async def _taken(self, answer: Answer) -> Text:
+        """Joins an answer, and returns its output."""
+        if answer.refused or answer.end is not None:  # to describe it takes time
+            return await self._calls.call(self.fed.take, answer)
+        return self.fed.take(answer)
 
     def _ahead(self) -> int:
         """Returns how many parts may wait: few if there are many bodies."""
         return max(self._calls.jobs - self._calls.bodies + 1, 0)
 
-    async def __aenter__(self) -> "Judgement":
-        self._calls.bodies += 1
-        return self
-
-    async def __aexit__(self, *_: Any) -> None:
-        """Cancels the reads and calls that have not ended."""
-        self._calls.end_body()
-        ending: "List[asyncio.Future[Any]]" = [*self._judged]
-        if self._next is not None:
-            ending.append(self._next)
-        for each in ending:
-            each.cancel()
-        if ending:
-            await asyncio.wait(ending)
-            for each in ending:
-                if not each.cancelled():
-                    forget(each.exception())  # no task waits for it
-        self._fed.drop()
-
-    def told(self) -> Tuple[List[Dict[str, Any]], Dict[str, Any]]:
-        """Returns the objects of the reports, and the object of the result."""
-        result: Result = self._fed.result()
-        told = result_object(result, self.wanted, __version__, self._body.size, None)
-        return [report_object(report) for report in self._fed.reports], told
-
-    def counts(self) -> List[Dict[str, Any]]:
-        """Returns, with `summary`, the object that tells how often each reason occurred."""
-        return [reasons_object(self._fed.codes)] if self.wanted.summary else []
+    def told(self) -> bytes:
+        """Returns an object a line: the reports, the result, and with `summary` how often each
+        reason occurred."""
+        result, fed = self.fed.result(), self.fed
+        told = result_object(result, self._wanted, __version__, self._body.size, None)
+        counts = [reasons_object(fed.codes)] if self._wanted.summary else []
+        objects = [*map(report_object, fed.reports), told, *counts]
+        return b"".join(json.dumps(each).encode("ascii") + b"\n" for each in objects)
 
 
-def _lines(objects: List[Dict[str, Any]]) -> bytes:
-    return b"".join(json.dumps(told).encode("ascii") + b"\n" for told in objects)
+async def _cancelled(waiting: Iterable[asyncio.Future[Any]]) -> None:
+    """Cancels reads and calls, and waits until they have ended."""
+    ending = list(waiting)
+    for each in ending:
+        each.cancel()
+    if ending:
+        await asyncio.wait(ending)
+    for each in ending:
+        if not each.cancelled():
+            forget(each.exception())  # no task waits for it
 
 
-async def check(request: web.Request, calls: Calls, limits: Limits) -> web.StreamResponse:
+async def _go_on(request: web.Request) -> None:
+    """Asks a client that waits for it to send the body."""
+    if request.headers.get("Expect") and request.version >= (1, 1):
+        await request.writer.write(b"HTTP/1.1 100 Continue\r\n\r\n")
+
+
+async def check(context: Context) -> web.Response:
     """Answers `POST /check`: a line for each report, one for the result, and with `summary` one for
     the counts of all reasons."""
-    query = Query(request.raw_path.partition("?")[2], CHECK)
-    judgement = Judgement(request, calls, limits, asked_of("check", query, limits), query)
-    await _go_on(request)
-    async with judgement:
-        while not judgement.is_over:
-            await judgement.outputs()
-    reports, result = judgement.told()
-    body = _lines([*reports, result, *judgement.counts()])
-    return web.Response(body=body, content_type=LINES)
+    judgement = Judgement(context, "check")
+    await _go_on(context.request)
+    async with aclosing(judgement.outputs()) as outputs:
+        async for _ in outputs:
+            pass
+    return web.Response(body=judgement.told(), content_type=LINES.media_type)
 
 
-async def filter(request: web.Request, calls: Calls, limits: Limits) -> web.StreamResponse:
+async def filter(context: Context) -> web.StreamResponse:
     """Answers `POST /filter`: the header and the kept lines, and with `verdict=last` a line for
     each report and one for the result."""
-    query = Query(request.raw_path.partition("?")[2], FILTER)
+    request, query = context.request, context.query
     if query.text("verdict") not in (None, "last"):
         raise Problem(400, "verdict is last, or is left out")
     if request.version < (1, 1):
         raise Problem(505, "what is kept is sent in chunks, which HTTP/1.1 has")
     is_last = "verdict" in query
-    judgement = Judgement(request, calls, limits, asked_of("filter", query, limits), query)
+    judgement = Judgement(context, "filter")
     await _go_on(request)
-    response = web.StreamResponse(headers={"Content-Type": LINES if is_last else SEQUENCE})
-    kept: List[Text] = []
-    end = b"\n"  # of what was sent
-    async with judgement:
-        while not judgement.is_over:
-            kept += [text for text in await judgement.outputs() if len(text)]
-            if judgement.has_header or is_last:
-                end = bytes(kept[-1][-1:]) if kept else end
-                await _send(request, response, kept)
+    form = LINES if is_last else CITY_JSON_SEQ
+    response = web.StreamResponse(headers={"Content-Type": form.media_type})
+    kept: list[Text] = []
+    last: Text = b"\n"  # that was sent
+    async with aclosing(judgement.outputs()) as outputs:
+        async for texts in outputs:
+            kept += [text for text in texts if len(text)]
+            if is_last or judgement.fed.has_header:
+                last = kept[-1] if kept else last
+                await write(request, response, b"".join(kept))
                 kept = []
-            if judgement.has_ended and "begun" in request and not is_last:
+            if judgement.fed.ended and "begun" in request and not is_last:
                 raise Problem(400, "a line of the stream is not valid")
-    reports, result = judgement.told()
-    if "begun" not in request and not is_last:
-        return _refused(reports, result)
+    told = judgement.told()
     if is_last:
-        await _send(request, response, [b"" if end == b"\n" else b"\n", _lines([*reports, result])])
+        await write(request, response, told if last[-1:] == b"\n" else b"\n" + told)
+    elif "begun" not in request:
+        return web.Response(status=422, body=told, content_type=LINES.media_type)
     return response
-
-
-async def _send(request: web.Request, response: web.StreamResponse, kept: List[Text]) -> None:
-    if "begun" not in request:
-        await begin(request, response)
-    for text in kept:
-        await write(request, response, text)
-
-
-def _refused(reports: List[Dict[str, Any]], result: Dict[str, Any]) -> web.Response:
-    """Returns the answer for a stream that was rejected before anything was sent."""
-    return web.Response(status=422, body=_lines([*reports, result]), content_type=LINES)

@@ -30,8 +30,9 @@ class Places:
             Problem: All are taken.
         """
         if self.taken >= self._most:
-            raise Problem(503, f"the server has {self._most} {self._what} already",
-                          {"Retry-After": "1"})
+            raise Problem(
+                503, f"the server has {self._most} {self._what} already", {"Retry-After": "1"}
+            )
         self.taken += 1
         try:
             yield

@@ -1,8 +1,9 @@
-"""The format of an answer. A client asks for it by `f`, or by its header `Accept`."""
+"""The formats of answers. A client asks for one by `f`, or by its header `Accept`."""
 from __future__ import annotations
 
+import json
 from dataclasses import dataclass
-from typing import Iterator, Optional, Sequence, Tuple
+from typing import Any, Iterator, Sequence
 
 from .problems import Problem
 
@@ -11,13 +12,20 @@ LONGEST = 100  # characters of the name of a file
 
 @dataclass(frozen=True)
 class Format:
-    """A format: its value of `f`, its media type, other media types for it, and the ending of the
-    names of its files."""
+    """A format.
+
+    Attributes:
+        name: Its value of `f`.
+        media_type: Its media type.
+        title: What people call it.
+        others: Other media types that clients know it by.
+        ending: The end of the names of its files.
+    """
 
     name: str
     media_type: str
     title: str
-    others: Tuple[str, ...] = ()
+    others: tuple[str, ...] = ()
     ending: str = ""
 
     def disposition(self, name: str) -> str:
@@ -37,18 +45,41 @@ class Format:
 
 JSON = Format("json", "application/json", "JSON")
 HTML = Format("html", "text/html", "HTML", ("application/xhtml+xml",))
-GEOJSON = Format("geojson", "application/geo+json", "GeoJSON",
-                 ("application/json", "application/vnd.geo+json"), ".geojson")
+GEOJSON = Format(
+    "geojson",
+    "application/geo+json",
+    "GeoJSON",
+    ("application/json", "application/vnd.geo+json"),
+    ".geojson",
+)
 CITY_JSON = Format("city-json", "application/city+json", "CityJSON", (), ".city.json")
-CITY_JSON_SEQ = Format("city-json-seq", "application/city+json-seq", "CityJSONSeq",
-                       ("application/json-seq",), ".city.jsonl")
-OPENAPI = Format("openapi", "application/vnd.oai.openapi+json;version=3.0", "OpenAPI 3.0",
-                 ("application/vnd.oai.openapi+json", "application/json"))
+CITY_JSON_SEQ = Format(
+    "city-json-seq",
+    "application/city+json-seq",
+    "CityJSONSeq",
+    ("application/json-seq",),
+    ".city.jsonl",
+)
+OPENAPI = Format(
+    "openapi",
+    "application/vnd.oai.openapi+json;version=3.0",
+    "OpenAPI 3.0",
+    ("application/vnd.oai.openapi+json", "application/json"),
+)
 PROBLEM = Format("problem", "application/problem+json", "a problem", ("application/json",))
+LINES = Format("lines", "application/x-ndjson", "an object a line")
+PAGES = (JSON, HTML)  # of documents
+ITEMS = (GEOJSON, CITY_JSON_SEQ, HTML)  # of pages of features
+ITEM = (GEOJSON, CITY_JSON, CITY_JSON_SEQ, HTML)  # of a feature
 ALIASES = {"json": (GEOJSON, OPENAPI), "cityjson": (CITY_JSON,), "cityjsonseq": (CITY_JSON_SEQ,)}
 
 
-def accepted(header: str) -> Iterator[Tuple[str, float]]:
+def dumped(told: Any) -> bytes:
+    """Returns JSON in ASCII, so that a lone surrogate in an id is an escape."""
+    return json.dumps(told, separators=(",", ":")).encode("ascii")
+
+
+def accepted(header: str) -> Iterator[tuple[str, float]]:
     """Yields the media types of a header `Accept`, or the codings of `Accept-Encoding`, and the
     quality of each. One that is no number from 0 to 1 is 0."""
     for item in header.split(","):
@@ -64,7 +95,7 @@ def accepted(header: str) -> Iterator[Tuple[str, float]]:
             yield media_type, share if 0 <= share <= 1 else 0.0
 
 
-def choose(formats: Sequence[Format], asked: Optional[str], accept: str) -> Format:
+def choose(formats: Sequence[Format], asked: str | None, accept: str) -> Format:
     """Returns the format of an answer. It is the first one if the client asks for none.
 
     Args:
@@ -77,15 +108,11 @@ def choose(formats: Sequence[Format], asked: Optional[str], accept: str) -> Form
     """
     names = ", ".join(each.name for each in formats)
     if asked is not None:
-        named = {each.name: each for each in formats}
-        others = (each for each in ALIASES.get(asked, ()) if each in formats)
-        found = named.get(asked) or next(others, None)
-        if found is None:
-            raise Problem(400, f"f is one of {names}: {asked}")
-        return found
-    wanted = list(accepted(accept))
-    if not wanted:
-        return formats[0]
+        for each in formats:
+            if each.name == asked or each in ALIASES.get(asked, ()):
+                return each
+        raise Problem(400, f"f is one of {names}: {asked}")
+    wanted = list(accepted(accept)) or [("*/*", 1.0)]
 
     def quality(each: Format) -> float:
         fits = [(each.fits(media_type), share) for media_type, share in wanted]

@@ -2,13 +2,14 @@
 from __future__ import annotations
 
 import os
-from typing import Any, Dict, List, Optional, Sequence, Tuple
+from typing import Any, Sequence
+
+import jinja2
 
 from .. import __version__
-from ..shown import shown
-from .answers import item_path
-from .boxes import around
-from .pages import Found
+from ..coordinates.boxes import around
+from ..indexes.index_pages import Found
+from ..engine.escape import shown
 from .problems import Problem
 
 FOLDER = os.path.dirname(os.path.abspath(__file__))
@@ -23,12 +24,12 @@ def brief(text: str) -> str:
     return shown(text if len(text) <= LONGEST else f"{text[:LONGEST]}\u2026")
 
 
-def number(value: Optional[float]) -> str:
+def number(value: float) -> str:
     """Returns a coordinate as a page shows it."""
-    return "" if value is None else f"{value:.3f}".rstrip("0").rstrip(".")
+    return f"{value:.3f}".rstrip("0").rstrip(".")
 
 
-def boxes(features: Sequence[Found]) -> List[Tuple[Found, Dict[str, str]]]:
+def boxes(features: Sequence[Found]) -> list[tuple[Found, dict[str, str]]]:
     """Returns the features that have an extent, with the rectangle of each on a map."""
     placed = [(found, found.extent) for found in features if found.extent is not None]
     if not placed:
@@ -39,40 +40,45 @@ def boxes(features: Sequence[Found]) -> List[Tuple[Found, Dict[str, str]]]:
     left, top = (WIDTH - spans[0] * scale) / 2, (HEIGHT - spans[1] * scale) / 2
     found = []
     for feature, (west, south, east, north) in placed:
-        sides = max((east - west) * scale, LEAST), max((north - south) * scale, LEAST)
-        at = left + (west - whole[0]) * scale, top + (whole[3] - north) * scale
-        names = ("x", "y", "width", "height")
-        found.append((feature, {name: f"{value:.1f}" for name, value in zip(names, at + sides)}))
+        rectangle = {
+            "x": left + (west - whole[0]) * scale,
+            "y": top + (whole[3] - north) * scale,
+            "width": max((east - west) * scale, LEAST),
+            "height": max((north - south) * scale, LEAST),
+        }
+        found.append((feature, {name: f"{value:.1f}" for name, value in rectangle.items()}))
     return found
+
+
+def _read(name: str) -> bytes:
+    with open(os.path.join(FOLDER, "static", name), "rb") as file:
+        return file.read()
 
 
 class Pages:
     """The templates and files of the pages. They are read once."""
 
     def __init__(self) -> None:
-        import jinja2
-
-        loader = jinja2.FileSystemLoader(os.path.join(FOLDER, "templates"))
         self._templates = jinja2.Environment(
-            loader=loader, autoescape=True, trim_blocks=True, lstrip_blocks=True,
+            loader=jinja2.FileSystemLoader(os.path.join(FOLDER, "templates")),
+            autoescape=True,
+            trim_blocks=True,
+            lstrip_blocks=True,
             undefined=jinja2.StrictUndefined,
         )
         self._templates.filters.update(brief=brief, number=number, boxes=boxes)
-        self._templates.globals.update(version=__version__, item_path=item_path,
-                                       width=f"{WIDTH:g}", height=f"{HEIGHT:g}")
-        self._static: Dict[str, Tuple[str, bytes]] = {}
-        folder = os.path.join(FOLDER, "static")
-        for name in sorted(os.listdir(folder)):
-            kind = TYPES.get(os.path.splitext(name)[1])
-            if kind is not None:
-                with open(os.path.join(folder, name), "rb") as file:
-                    self._static[name] = kind, file.read()
+        self._templates.globals.update(
+            version=__version__, width=f"{WIDTH:g}", height=f"{HEIGHT:g}"
+        )
+        names = os.listdir(os.path.join(FOLDER, "static"))
+        kinds = {name: TYPES.get(os.path.splitext(name)[1]) for name in names}
+        self._static = {name: (kind, _read(name)) for name, kind in kinds.items() if kind}
 
     def render(self, name: str, **given: Any) -> str:
         """Returns a page."""
         return self._templates.get_template(name).render(**given)
 
-    def static(self, name: str) -> Tuple[str, bytes]:
+    def static(self, name: str) -> tuple[str, bytes]:
         """Returns the media type and the bytes of a file.
 
         Raises:

@@ -1,37 +1,35 @@
-"""Cuts of a collection: `items` and one of them."""
+"""Cuts of a collection: pages of its features, and one of them."""
 from __future__ import annotations
 
+from contextlib import closing
 from decimal import ROUND_CEILING, ROUND_FLOOR, Decimal
-from typing import Any, Callable, Dict, List, NamedTuple, Optional, Tuple
+from functools import partial
+from typing import Any, Callable, Iterator, NamedTuple
 
 from aiohttp import web
 
-from ..faults import RequestError
-from ..query import Work
-from ..world import plain
-from .answers import FeatureCollection, Sequence, dumped, geojson_feature, item_path, send_page
-from .boxes import Extent
-from .calls import Calls
+from ..engine.cityjson import whole
+from ..coordinates.boxes import Extent
+from ..coordinates.systems import may_be_degrees
+from ..engine.faults import RequestError
+from ..indexes.index_pages import Block, Found, Page
+from ..engine.world import plain
+from .answers import send_page
 from .catalogue import Collection, name_of
-from .cityjson import whole
-from .formats import CITY_JSON, CITY_JSON_SEQ, GEOJSON, HTML, Format, choose
-from .links import Link, Links, header_of
-from .pages import Block, Page
+from .context import Context
+from .formats import CITY_JSON, CITY_JSON_SEQ, GEOJSON, HTML, JSON, Format, dumped
+from .geojson import feature_of
+from .links import Link, header_of
+from .parameters import MOST_ON_A_PAGE, ON_A_PAGE, SELECTION, USUAL_LIMIT
 from .problems import Problem
-from .queries import Query
-from .resources import ITEMS, path_of
-from .settings import Limits
-from .systems import may_be_degrees
+from .queries import Query, unescaped
 
 LISTS = ("ids", "type", "lod")
-SELECTS = ("bbox", "bbox-crs", "datetime", *LISTS)
-PARAMETERS = (*SELECTS, "crs", "limit", "after", "mark", "f")
-OF_ONE = ("f", "crs")
-ITEM = (GEOJSON, CITY_JSON, CITY_JSON_SEQ, HTML)
-USUAL_LIMIT = 1_000
-ON_A_PAGE, MOST_ON_A_PAGE = 50, 1_000  # features as HTML: usually, and at most
-A_BOX = "0,0,0,0"  # of a query that selects nothing
+SELECTS = [each.name for each in SELECTION]
+NOT_SELECTIVE = {"datetime", "bbox-crs"}
+A_BOX = "0,0,0,0"  # any box: a query that selects nothing still needs a stream that has places
 STEP = Decimal("1e-9")  # a transformed box is rounded outward to a multiple of this
+WAYS = (ROUND_FLOOR, ROUND_FLOOR, ROUND_CEILING, ROUND_CEILING)
 
 
 class Selected(NamedTuple):
@@ -43,8 +41,8 @@ class Selected(NamedTuple):
         is_none: Whether it selects nothing.
     """
 
-    text: Optional[str] = None
-    reaches: Optional[Callable[[Extent], bool]] = None
+    text: str | None = None
+    reaches: Callable[[Extent], bool] | None = None
     is_none: bool = False
 
 
@@ -55,7 +53,8 @@ def _selected(query: Query, collection: Collection) -> Selected:
     `bbox-crs` is there. The axes of a box in `bbox-crs` have the order of that system.
 
     Raises:
-        Problem: The box is empty, or its system is not known.
+        Problem: The box is empty.
+        RequestError: It is empty, or its system is not known.
     """
     box, uri = query.box(), query.text("bbox-crs")
     system = collection.system
@@ -71,66 +70,92 @@ def _selected(query: Query, collection: Collection) -> Selected:
         return Selected(",".join(map(plain, (west, south, east, north))))
     if reach.box is None:
         return Selected(A_BOX, is_none=True)
-    ways = (ROUND_FLOOR, ROUND_FLOOR, ROUND_CEILING, ROUND_CEILING)
-    edges = (Decimal(edge).quantize(STEP, way) for edge, way in zip(reach.box, ways))
+    edges = (Decimal(edge).quantize(STEP, way) for edge, way in zip(reach.box, WAYS))
     return Selected(",".join(map(plain, edges)), reach.reaches)
 
 
-def _work(collection: Collection, box: Optional[str], query: Query) -> Work:
-    """Returns the work of a request."""
-    with collection.pool.index() as index:
-        return index.work(query.texts("ids"), query.texts("type"), query.texts("lod"), box)
-
-
-def _system(query: Query, collection: Collection, chosen: Format) -> Optional[str]:
+def _system(query: Query, collection: Collection, chosen: Format) -> str | None:
     """Returns the system of an answer.
 
     Raises:
         Problem: The answer cannot have it.
+        RequestError: The collection does not have it.
     """
-    uri = query.text("crs")
+    uri, system = query.text("crs"), collection.system
     if chosen == GEOJSON:
-        return collection.system.asked(uri, "crs")
-    storage = collection.system.storage
-    system = collection.system
-    if uri is not None and (storage is None or not system.is_own(system.asked(uri, "crs"))):
+        return system.asked(uri, "crs")
+    if uri is not None and (system.storage is None or not system.is_own(system.asked(uri, "crs"))):
         raise Problem(400, f"crs: as {chosen.title} features have the coordinates of the stream")
-    return storage
+    return system.storage
 
 
-def _crs_of(query: Query, system: Optional[str], collection: Collection, form: Format
-            ) -> Optional[str]:
-    """Returns the parameter `crs` for a link from an answer in a system to a format. Only GeoJSON
-    has other coordinates than the stream."""
-    is_possible = form == GEOJSON or collection.system.is_own(system)
-    return query.text("crs") if is_possible else None
+class Cut:
+    """A request for features of a collection."""
+
+    def __init__(self, context: Context) -> None:
+        """Reads what all such requests have.
+
+        Raises:
+            CityseqError, Problem: The answer cannot have the format or the system.
+        """
+        self.context, self.collection = context, context.collection
+        self.query, self.chosen = context.query, context.chosen
+        self.system = _system(self.query, self.collection, self.chosen)
+
+    def crs_as(self, form: Format) -> str | None:
+        """Returns the parameter `crs` for a link to the answer in a format. Only GeoJSON has other
+        coordinates than the stream."""
+        is_possible = form == GEOJSON or self.collection.system.is_own(self.system)
+        return self.query.text("crs") if is_possible else None
+
+    def links_of(
+        self, path: str | None, parameters: Callable[[Format], dict[str, Any]]
+    ) -> list[Link]:
+        """Returns the links to this answer, if it has a path, to its other formats, and to the
+        collection."""
+        links, formats = self.context.links, self.context.resource.formats
+        own = [] if path is None else links.formats(path, formats, self.chosen, parameters)
+        return [*own, links.to(self.collection.path, "collection", "The collection", JSON)]
+
+    def head(self, name: str, links: list[Link], following: Link | None = None) -> dict[str, str]:
+        """Returns the headers of the answer. They have the name of a file for it, and the links
+        that its body cannot have."""
+        form = self.chosen
+        head = {"Content-Type": form.media_type, "Content-Disposition": form.disposition(name)}
+        if self.system is not None:
+            head["Content-Crs"] = f"<{self.system}>"
+        told = header_of([] if form == GEOJSON else links, following)
+        return {**head, "Link": told} if told else head
 
 
-class Items:
+class Items(Cut):
     """A request for a page of a collection."""
 
-    def __init__(self, collection: Collection, query: Query, limits: Limits, accept: str) -> None:
+    def __init__(self, context: Context) -> None:
         """Reads the request.
 
         Raises:
-            Problem: A parameter has a value that it may not have.
+            CityseqError, Problem: A parameter has a value that it may not have.
         """
-        self.collection, self._query = collection, query
-        self.chosen = choose(ITEMS, query.text("f"), accept)
-        self.system = _system(query, collection, self.chosen)
+        super().__init__(context)
+        query, limits = self.query, context.server.limits
         self.has_limit = "limit" in query or self.chosen != CITY_JSON_SEQ
-        usual = USUAL_LIMIT if self.has_limit else limits.features
-        self.most = limits.features
+        self.most, usual = limits.features, USUAL_LIMIT if self.has_limit else limits.features
         if self.chosen == HTML:
             self.most, usual = min(self.most, MOST_ON_A_PAGE), ON_A_PAGE
-        self.limit = query.limit(self.most, usual)
-        self.after = query.number("after", 0, 1 << 53, 0)
+        self.limit, self.after = query.limit(self.most, usual), query.number("after")
         query.check_time()
-        self._selected = _selected(query, collection)
-        self._check_mark(query.text("mark"))
-        self.selects: Dict[str, Any] = {
+        self._selected = _selected(query, self.collection)
+        if query.text("mark") not in (None, self.collection.mark):
+            raise Problem(
+                410,
+                "the stream was indexed anew after the page before this one: begin again with the"
+                " first page",
+            )
+        self.selects: dict[str, Any] = {
             name: query.texts(name) if name in LISTS else query.text(name)
-            for name in SELECTS if name in query
+            for name in SELECTS
+            if name in query
         }
 
     def page(self) -> Page:
@@ -141,113 +166,104 @@ class Items:
             RequestError: A text of the query cannot be asked for.
         """
         selected, collection = self._selected, self.collection
-        work = _work(collection, selected.text, self._query)
         after = collection.stream.features if selected.is_none else self.after
-        if not self.has_limit and work.lods is None and selected.reaches is None:
-            with collection.pool.index() as index:  # which takes less time than to make a page
+        with collection.pool.index() as index:
+            ids, types, lods = map(self.query.texts, LISTS)
+            work = index.work(ids, types, lods, selected.text)
+            if not self.has_limit and work.lods is None and selected.reaches is None:
+                # this takes less time than to make a page
                 if index.has_more(work, collection.stream, after, self.limit):
                     raise self._too_many()
         return Page(collection, work, after, self.limit, selected.reaches)
 
+    def listed(self) -> tuple[list[Found], int | None]:
+        """Returns the features of the page, and the feature after which the next begins. A thread
+        calls it."""
+        with closing(self.page()) as page:
+            return [found for block in page.blocks() for found in block.features()], page.next
+
     def _too_many(self) -> Problem:
-        return Problem(400, f"there are more than {self.limit:,} features: ask for less, or set"
-                            " limit and follow the links to the next pages")
+        return Problem(
+            400,
+            f"there are more than {self.limit:,} features: ask for less, or set limit and follow"
+            " the links to the next pages",
+        )
 
-    def _check_mark(self, mark: Optional[str]) -> None:
-        """Checks that a page follows one of the same stream.
-
-        Raises:
-            Problem: The stream is another one now.
-        """
-        if mark is not None and mark != self.collection.mark:
-            raise Problem(410, "the stream was indexed anew after the page before this one: begin"
-                               " again with the first page")
-
-    def parameters(self, after: Optional[int], form: Format) -> Dict[str, Any]:
+    def _parameters(self, after: int, form: Format) -> dict[str, Any]:
         """Returns the parameters of the page that begins after a feature."""
-        crs = _crs_of(self._query, self.system, self.collection, form)
-        mark = self.collection.mark if after else None
-        return {**self.selects, "crs": crs, "limit": self.limit, "after": after or None,
-                "mark": mark, "f": form.name}
+        more = {"after": after, "mark": self.collection.mark} if after else {}
+        return {
+            **self.selects,
+            "crs": self.crs_as(form),
+            "limit": self.limit,
+            **more,
+            "f": form.name,
+        }
 
-    def following(self, links: Links, after: int) -> Link:
-        """Returns the link to the next page."""
-        return links.to(f"{path_of(self.collection)}/items", "next", "The next page",
-                        self.chosen.media_type, **self.parameters(after, self.chosen))
+    def following(self, after: int | None) -> Link | None:
+        """Returns the link to the next page, if there is one: it begins after a feature."""
+        if after is None:
+            return None
+        path, parameters = f"{self.collection.path}/items", self._parameters(after, self.chosen)
+        return self.context.links.to(path, "next", "The next page", self.chosen, **parameters)
 
-    def own_links(self, links: Links) -> List[Link]:
+    def own_links(self) -> list[Link]:
         """Returns the links to this page, to its other formats, and to the collection."""
-        path = path_of(self.collection)
-        found = links.formats(f"{path}/items", ITEMS, self.chosen,
-                              lambda form: self.parameters(self.after, form))
-        return [*found, links.to(path, "collection", "The collection", "application/json")]
+        return self.links_of(f"{self.collection.path}/items", partial(self._parameters, self.after))
 
-    def matched(self) -> Optional[int]:
-        """Returns how many features match, if that is known."""
-        selects = set(self.selects) - {"datetime", "bbox-crs"}
-        return None if selects else self.collection.stream.features
-
-    def head(self, page: Page, links: Links) -> Dict[str, str]:
-        """Returns the headers of the answer.
+    def head_of(self, page: Page) -> dict[str, str]:
+        """Returns the headers of the answer, when the page has begun.
 
         Raises:
             Problem: All features are asked for, and they are too many.
         """
         if page.next is not None and not self.has_limit:
             raise self._too_many()
-        following = None if page.next is None else self.following(links, page.next)
-        own = [] if self.chosen == GEOJSON else self.own_links(links)
-        return head_of(self.chosen, self.collection.id, self.system, own, following)
+        return self.head(self.collection.id, self.own_links(), self.following(page.next))
+
+    def sequence(self, page: Page) -> Iterator[bytes]:
+        """Yields the page as CityJSONSeq: the header, and the lines unchanged."""
+        blocks = page.blocks()
+        yield page.header
+        for block in blocks:
+            yield block.lines()
+
+    def feature_collection(self, page: Page) -> Iterator[bytes]:
+        """Yields the page as GeoJSON."""
+        system, count = self.collection.system, 0
+        yield b'{"type":"FeatureCollection","features":['
+        for block in page.blocks():
+            texts = [dumped(feature_of(each, system, self.system)) for each in block.features()]
+            yield (b"," if count else b"") + b",\n".join(texts)
+            count += len(texts)
+        following = self.following(page.next)
+        links = [*self.own_links(), *([] if following is None else [following])]
+        told: dict[str, Any] = {"numberReturned": count, "links": links}
+        if not set(self.selects) - NOT_SELECTIVE:
+            told["numberMatched"] = self.collection.stream.features
+        yield b"]," + dumped(told)[1:] + b"\n"
 
 
-def head_of(form: Format, name: str, system: Optional[str], links: List[Link],
-            following: Optional[Link] = None) -> Dict[str, str]:
-    """Returns the headers of an answer. They have the name of a file for it, and the links that its
-    body cannot have."""
-    head = {"Content-Type": form.media_type, "Content-Disposition": form.disposition(name)}
-    if system is not None:
-        head["Content-Crs"] = f"<{system}>"
-    told = header_of(links, following)
-    if told:
-        head["Link"] = told
-    return head
+async def items(context: Context) -> web.StreamResponse:
+    """Answers `/collections/NAME/items`."""
+    asked, calls = Items(context), context.server.calls
+    if asked.chosen == HTML:
+        features, after = await calls.call(asked.listed)
+        return context.page(
+            "items.html",
+            asked.system,
+            told={"links": asked.own_links()},
+            features=features,
+            collection=asked.collection,
+            asked=asked,
+            next=asked.following(after),
+        )
+    page = await calls.call(asked.page)
+    texts = asked.feature_collection if asked.chosen == GEOJSON else asked.sequence
+    return await send_page(context.request, calls, page, texts(page), asked.head_of)
 
 
-def links_of_one(collection: Collection, query: Query, chosen: Format, links: Links, name: str
-                 ) -> List[Link]:
-    """Returns the links from a feature to itself, to its other formats, and to the collection."""
-    system, path = _system(query, collection, chosen), item_path(collection, name)
-    own = [] if path is None else links.formats(
-        path, ITEM, chosen, lambda form: {"crs": _crs_of(query, system, collection, form)})
-    return [*own, links.to(path_of(collection), "collection", "The collection",
-                           "application/json")]
-
-
-async def send_items(request: web.Request, calls: Calls, items: Items, links: Links
-                     ) -> web.StreamResponse:
-    """Sends a page as GeoJSON or as CityJSONSeq."""
-    form: Any = Sequence()
-    if items.chosen == GEOJSON:
-        form = FeatureCollection(items.collection.system, items.system, items.own_links(links),
-                                 lambda after: items.following(links, after), items.matched())
-    return await send_page(request, calls, items.page, form, lambda page: items.head(page, links))
-
-
-def listed(page: Page) -> Tuple[List[Any], Optional[int]]:
-    """Returns the features of a page, and the feature after which the next begins. A thread calls
-    it."""
-    found: List[Any] = []
-    try:
-        block = page.block()
-        while block is not None:
-            found += block.features()
-            block = page.block()
-    finally:
-        page.close()
-    return found, page.next
-
-
-def find(collection: Collection, name: str) -> Tuple[bytes, Block]:
+def find(collection: Collection, name: str) -> tuple[bytes, Block]:
     """Returns the header of a stream, and the first feature that has an id. A thread calls it.
 
     Raises:
@@ -258,28 +274,34 @@ def find(collection: Collection, name: str) -> Tuple[bytes, Block]:
             work = index.work(ids=[name])
     except RequestError:
         raise Problem(404, f"no feature has the id {name}") from None
-    page = Page(collection, work, 0, 1)
-    try:
+    with closing(Page(collection, work, 0, 1)) as page:
         block = page.block()
         if block is None:
             raise Problem(404, f"no feature has the id {name}")
         page.block()  # the end of a page shows whether the stream has changed
         return page.header, block
-    finally:
-        page.close()
 
 
-def item_answer(collection: Collection, query: Query, chosen: Format, links: Links,
-                found: Tuple[bytes, Block]) -> web.Response:
-    """Returns the answer that has one feature."""
-    header, block = found
-    system, feature = _system(query, collection, chosen), next(block.features())
-    own = links_of_one(collection, query, chosen, links, feature.id)
-    name = name_of(feature.id.replace("/", "-"))
-    head = head_of(chosen, name, system, [] if chosen == GEOJSON else own)
-    if chosen == CITY_JSON_SEQ:
-        return web.Response(body=header + block.lines(), headers=head)
-    if chosen == CITY_JSON:
-        return web.Response(body=whole(header, block.lines()), headers=head)
-    told = {**geojson_feature(feature, collection.system, system), "links": own}
-    return web.Response(body=dumped(told) + b"\n", headers=head)
+async def item(context: Context) -> web.StreamResponse:
+    """Answers `/collections/NAME/items/ID`."""
+    asked = Cut(context)
+    collection = asked.collection
+    name = unescaped(context.request.raw_path.partition("?")[0].rpartition("/")[2])
+    header, block = await context.server.calls.call(find, collection, name)
+    (feature,) = block.features()
+    path = collection.item_path(feature.id)
+    links = asked.links_of(path, lambda form: {"crs": asked.crs_as(form)})
+    if asked.chosen == HTML:
+        told = {"links": links}
+        return context.page(
+            "item.html", asked.system, told=told, feature=feature, collection=collection
+        )
+    if asked.chosen == CITY_JSON_SEQ:
+        body = header + block.lines()
+    elif asked.chosen == CITY_JSON:
+        body = whole(header, block.lines())
+    else:
+        told = {**feature_of(feature, collection.system, asked.system), "links": links}
+        body = dumped(told) + b"\n"
+    head = asked.head(name_of(feature.id.replace("/", "-")), links)
+    return web.Response(body=body, headers=head)

@@ -2,7 +2,7 @@
 from __future__ import annotations
 
 import ipaddress
-from typing import Any, Callable, Dict, List, Optional, Sequence
+from typing import Any, Callable, Dict, Sequence
 from urllib.parse import quote, quote_plus, urlsplit
 
 from aiohttp import web
@@ -21,7 +21,7 @@ def host_of(request: web.BaseRequest) -> str:
     Raises:
         Problem: It names no host, or more than one.
     """
-    hosts: List[str] = request.headers.getall("Host", [])
+    hosts: list[str] = request.headers.getall("Host", [])
     if len(hosts) > 1 or (not hosts and request.version >= (1, 1)):
         raise Problem(400, "a request names one host, by the header Host")
     if hosts:
@@ -59,7 +59,7 @@ def base_of(request: web.BaseRequest, settings: Settings) -> str:
     return f"{request.scheme}://{host_of(request)}"
 
 
-def segment(text: str) -> Optional[str]:
+def segment(text: str) -> str | None:
     """Returns a text as a segment of a path. None if no URL can have it: clients take `.` and `..`
     for other paths, also where they are escaped."""
     if text in ("", ".", ".."):
@@ -86,43 +86,43 @@ class Links:
         self.base = base
 
     def url(self, path: str, **parameters: Any) -> str:
-        """Returns the URL of a path, with parameters."""
-        text = "&".join(f"{name}={_value(value)}" for name, value in parameters.items()
-                        if value is not None)
+        """Returns the URL of a path, with parameters. Those that are None are left out."""
+        given = {name: value for name, value in parameters.items() if value is not None}
+        text = "&".join(f"{name}={_value(value)}" for name, value in given.items())
         return f"{self.base}{path}" + (f"?{text}" if text else "")
 
     def local(self, path: str) -> str:
         """Returns the URL of a path without a host, for what a page loads from where it came."""
         return f"{urlsplit(self.base).path}{path}"
 
-    def to(self, path: str, rel: str, title: str, media_type: Optional[str] = None,
-           **parameters: Any) -> Link:
-        """Returns a link to a path."""
-        link = {"href": self.url(path, **parameters), "rel": rel}
-        if media_type is not None:
-            link["type"] = media_type
-        return {**link, "title": title}
+    def to(self, path: str, rel: str, title: str, form: Format, **parameters: Any) -> Link:
+        """Returns a link to a path, whose answer has a format."""
+        href = self.url(path, **parameters)
+        return {"href": href, "rel": rel, "type": form.media_type, "title": title}
 
-    def formats(self, path: str, formats: Sequence[Format], chosen: Format,
-                parameters: Callable[[Format], Dict[str, Any]] = lambda form: {}) -> List[Link]:
+    def formats(
+        self,
+        path: str,
+        formats: Sequence[Format],
+        chosen: Format,
+        parameters: Callable[[Format], dict[str, Any]] = lambda form: {},
+    ) -> list[Link]:
         """Returns the links from an answer to itself, and to its other formats. `parameters` are
         those of a format."""
-        return [
-            self.to(path, "self" if each == chosen else "alternate",
-                    "This document" if each == chosen else f"As {each.title}",
-                    each.media_type, **{**parameters(each), "f": each.name})
-            for each in formats
-        ]
+        found = []
+        for each in formats:
+            rel = "self" if each == chosen else "alternate"
+            title = "This document" if each == chosen else f"As {each.title}"
+            found.append(self.to(path, rel, title, each, **{**parameters(each), "f": each.name}))
+        return found
 
 
-def _header_of(link: Link) -> str:
-    others = "".join(f'; {name}="{link[name]}"' for name in ("rel", "type") if name in link)
-    return f"<{link['href']}>{others}"
-
-
-def header_of(links: Sequence[Link], following: Optional[Link]) -> str:
+def header_of(links: Sequence[Link], following: Link | None) -> str:
     """Returns the links of an answer, and the one to the next page, as the header `Link` has them
     (RFC 8288). If they are long, it has only the next page: proxies bound the head of an answer."""
-    first = [] if following is None else [_header_of(following)]
-    told = ", ".join([*first, *map(_header_of, links)])
-    return told if len(told) <= LONGEST else "".join(first)
+    first, *others = [
+        "" if link is None else f'<{link["href"]}>; rel="{link["rel"]}"; type="{link["type"]}"'
+        for link in (following, *links)
+    ]
+    told = ", ".join(filter(None, (first, *others)))
+    return told if len(told) <= LONGEST else first

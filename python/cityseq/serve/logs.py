@@ -9,8 +9,8 @@ from typing import Any, Optional
 from aiohttp.abc import AbstractAccessLogger
 from aiohttp.http_exceptions import HttpProcessingError
 
-from ..console import say
-from ..shown import shown
+from ..cli.output import say
+from ..engine.escape import shown
 
 LONGEST = 2_000  # characters of a part of a line that a client sent
 SENT = "sent"  # the item of an answer in pieces that has how many bytes were sent
@@ -81,6 +81,12 @@ class Combined(AbstractAccessLogger):
         version, headers = request.version, request.headers
         line = f"{request.method} {request.raw_path} HTTP/{version[0]}.{version[1]}"
         self.logger.info(
-            "%s - - [%s] %s %d %d %s %s", shown(str(request.remote or "-")), _when(clock.time()),
-            _quoted(line), response.status, body_size(request, response),
-            _quoted(headers.get("Referer")), _quoted(headers.get("User-Agent")))
+            "%s - - [%s] %s %d %d %s %s",
+            shown(str(request.remote or "-")),
+            _when(clock.time()),
+            _quoted(line),
+            response.status,
+            body_size(request, response),
+            _quoted(headers.get("Referer")),
+            _quoted(headers.get("User-Agent")),
+        )

@@ -8,11 +8,11 @@ from typing import Any, Dict, Sequence
 
 from aiohttp import web
 
-from .._library import library
-from ..console import say
-from ..faults import ReadFault, why
-from ..shown import shown
-from ..words import Asked
+from ..engine.library import library
+from ..cli.output import say
+from ..engine.faults import ReadFault, why
+from ..engine.escape import shown
+from ..cli.requests import Serve
 from .application import Server, application
 from .logs import Combined, fault_logger, request_logger
 from .settings import LOOPBACK, Limits, Settings
@@ -27,21 +27,29 @@ LOOK = 0.05  # seconds between two looks at open answers
 FILES = 512  # descriptors in addition to those of connections
 
 
-def settings_of(wanted: Asked) -> Settings:
+def settings_of(wanted: Serve) -> Settings:
     """Returns the settings that the command line asks for.
 
     Raises:
         RequestError: A URL is not valid.
     """
     limits = Limits(
-        requests=wanted.max_requests, bodies=wanted.max_bodies, connections=_connections(),
-        body=wanted.max_body, seconds=wanted.max_seconds, idle=wanted.idle_seconds,
-        rate=wanted.min_rate, stop=wanted.stop_seconds, features=wanted.max_features,
-        line_limit=wanted.line_limit, depth=wanted.depth,
+        requests=wanted.max_requests,
+        bodies=wanted.max_bodies,
+        connections=_connections(),
+        body=wanted.max_body,
+        seconds=wanted.max_seconds,
+        idle=wanted.idle_seconds,
+        rate=wanted.min_rate,
+        stop=wanted.stop_seconds,
+        features=wanted.max_features,
+        line_limit=wanted.line_limit,
+        depth=wanted.depth,
     )
     names = () if wanted.host in LOOPBACK else (wanted.host,)
-    return Settings(tuple(wanted.files), wanted.base, wanted.url, names, wanted.cors, wanted.jobs,
-                    limits)
+    return Settings(
+        tuple(wanted.files), wanted.base, wanted.url, names, wanted.cors, wanted.jobs, limits
+    )
 
 
 def _connections() -> int:
@@ -59,9 +67,14 @@ def _connections() -> int:
 def runner_of(server: Server, is_quiet: bool) -> web.AppRunner:
     """Returns what carries the application of a server."""
     return web.AppRunner(
-        application(server), logger=fault_logger(), access_log=request_logger(is_quiet),
-        access_log_class=Combined, auto_decompress=False, read_bufsize=READ,
-        lingering_time=LINGER, keepalive_timeout=server.limits.idle,
+        application(server),
+        logger=fault_logger(),
+        access_log=request_logger(is_quiet),
+        access_log_class=Combined,
+        auto_decompress=False,
+        read_bufsize=READ,
+        lingering_time=LINGER,
+        keepalive_timeout=server.limits.idle,
     )
 
 
@@ -142,8 +155,10 @@ class Process:
         for each in self.sockets:
             say(f"{url_of(each)} serves {what}, and checks files; Ctrl-C stops it")
         if host not in LOOPBACK:
-            say("anybody who reaches this address may read the collections and have files checked:"
-                " there is no password, and no encryption")
+            say(
+                "anybody who reaches this address may read the collections and have files checked:"
+                " there is no password, and no encryption"
+            )
 
     def _told_to_stop(self, number: int) -> None:
         if not self._stop.is_set():
@@ -171,13 +186,13 @@ def _tell(_: asyncio.AbstractEventLoop, context: Dict[str, Any]) -> None:
         say(shown(f"{context['message']}: {context.get('exception')}"))
 
 
-async def _serve(wanted: Asked, settings: Settings) -> None:
+async def _serve(wanted: Serve, settings: Settings) -> None:
     server = Server(settings)
     server.calls.start()
     await Process(server, wanted.quiet).run(wanted.host, wanted.port)
 
 
-def run(wanted: Asked) -> int:
+def run(wanted: Serve) -> int:
     """Serves what the command line asks for, and returns the status.
 
     Raises:

@@ -4,22 +4,24 @@ from __future__ import annotations
 import re
 from datetime import date
 from decimal import Decimal, InvalidOperation
-from typing import Dict, List, Optional, Tuple
+from typing import Sequence
 from urllib.parse import unquote_to_bytes
 
-from ..words import whole_number
+from .parameters import Parameter
 from .problems import Problem
 
 NUMBER = re.compile(r"[-+]?(?:\d+\.?\d*|\.\d+)(?:[eE][-+]?\d+)?\Z", re.ASCII)
 NUMBERS = "bbox has four numbers, minx,miny,maxx,maxy, or six with heights"
 LONGEST_NUMBER = 100
-LONGEST_WHOLE = 15  # digits
+WHOLE = re.compile(r"\+?0*(\d+)\Z", re.ASCII)
+DIGITS = 15  # of a whole number
+MOST = 10**DIGITS - 1
 CLOCK = r"(?:[01]\d|2[0-3]):[0-5]\d"
 DATE_TIME = re.compile(  # second 60 is a leap second
     rf"(\d{{4}}-\d\d-\d\d)(?:T{CLOCK}:(?:[0-5]\d|60)(?:\.\d+)?(?:Z|[-+]{CLOCK}))?\Z",
-    re.ASCII | re.IGNORECASE)
+    re.ASCII | re.IGNORECASE,
+)
 FLAGS = {"": True, "true": True, "1": True, "false": False, "0": False}
-Box = Tuple[Decimal, Decimal, Decimal, Decimal]
 
 
 def unescaped(text: str) -> str:
@@ -37,18 +39,20 @@ def unescaped(text: str) -> str:
 class Query:
     """The parameters of a request."""
 
-    def __init__(self, raw: str, known: Tuple[str, ...]) -> None:
-        """Takes the text after the `?`, and the names that it may have.
+    def __init__(self, raw: str, known: Sequence[Parameter]) -> None:
+        """Takes the text after the `?`, and the parameters that it may have.
 
         Raises:
             Problem: A parameter is not known, or appears twice.
         """
-        self._raw: Dict[str, str] = {}
+        self._known = {each.name: each for each in known}
+        self._raw: dict[str, str] = {}
         for pair in filter(None, raw.split("&")):
             name, _, value = pair.replace("+", " ").partition("=")
             name = unescaped(name)
-            if name not in known:
-                raise Problem(400, f"there is no parameter {name}: it is one of {', '.join(known)}")
+            if name not in self._known:
+                names = ", ".join(self._known)
+                raise Problem(400, f"there is no parameter {name}: it is one of {names}")
             if name in self._raw:
                 raise Problem(400, f"the parameter {name} is given twice")
             self._raw[name] = value
@@ -58,12 +62,12 @@ class Query:
     def __contains__(self, name: str) -> bool:
         return name in self._raw
 
-    def text(self, name: str) -> Optional[str]:
+    def text(self, name: str) -> str | None:
         """Returns the text of a parameter, if it is there."""
         raw = self._raw.get(name)
         return None if raw is None else unescaped(raw)
 
-    def texts(self, name: str) -> Optional[List[str]]:
+    def texts(self, name: str) -> list[str] | None:
         """Returns the texts of a parameter, separated by commas. An escaped comma is part of a
         text."""
         raw = self._raw.get(name)
@@ -78,41 +82,34 @@ class Query:
             raise Problem(400, f"{name} is true or false: {text}")
         return FLAGS[text]
 
-    def number(self, name: str, least: int, greatest: int, usual: int) -> int:
-        """Returns the whole number of a parameter, or the usual one."""
-        text = self.text(name)
+    def number(self, name: str) -> int:
+        """Returns the whole number of a parameter, or the one that its schema has for it."""
+        schema, text = self._known[name].schema, self.text(name)
         if text is None:
-            return usual
-        try:
-            return whole_number(least, greatest)(text)
-        except ValueError:
-            raise Problem(
-                400, f"{name} is a whole number from {least} to {greatest}: {text}"
-            ) from None
+            return int(schema["default"])
+        return _whole(name, text, schema["minimum"], schema.get("maximum", MOST))
 
     def limit(self, most: int, usual: int) -> int:
         """Returns how many features are asked for, at most `most`. By the standard it is no mistake
         to ask for more."""
-        digits = (self.text("limit") or "").lstrip("0")
-        if len(digits) > LONGEST_WHOLE and digits.isascii() and digits.isdigit():
-            return most
-        return min(self.number("limit", 1, 10**LONGEST_WHOLE, usual), most)
+        text = self.text("limit")
+        return min(most, usual if text is None else _whole("limit", text, 1, 10 * MOST + 9))
 
-    def box(self) -> Optional[Box]:
-        """Returns the first and second edges of the box that is asked for, or None. Heights of a
-        box of six numbers are left out. Which edge is the west one depends on the system."""
+    def box(self) -> list[Decimal] | None:
+        """Returns the two first and the two last edges of the box that is asked for, or None.
+        Heights of a box of six numbers are left out. Which edge is the west one depends on the
+        system."""
         text = self.text("bbox")
         if text is None:
             return None
-        edges = text.split(",")
-        if len(edges) not in (4, 6):
+        numbers = [_number(edge.strip(), text) for edge in text.split(",")]
+        if len(numbers) not in (4, 6):
             raise Problem(400, f"{NUMBERS}: {text}")
-        numbers = [_number(edge.strip(), text) for edge in edges]
         if len(numbers) == 6:
             if numbers[2] > numbers[5]:
                 raise Problem(400, f"the box is empty: its third number is above its sixth: {text}")
             del numbers[5], numbers[2]
-        return numbers[0], numbers[1], numbers[2], numbers[3]
+        return numbers
 
     def check_time(self) -> None:
         """Checks that `datetime` is a time or an interval. No feature has a time, so it selects
@@ -121,11 +118,18 @@ class Query:
         if text is None:
             return
         parts = text.split("/")
-        is_open = len(parts) == 2
-        if len(parts) > 2 or not all(
-            _is_time(part) or (is_open and part in ("", "..")) for part in parts
-        ):
+        are_times = (_is_time(part) or (len(parts) == 2 and part in ("", "..")) for part in parts)
+        if len(parts) > 2 or not all(are_times):
             raise Problem(400, f"datetime is a time as of RFC 3339, or two with / between: {text}")
+
+
+def _whole(name: str, text: str, least: int, greatest: int) -> int:
+    """Returns a whole number. Of one with more than 16 digits only these are read."""
+    found = WHOLE.match(text)
+    number = 0 if found is None else min(int(found[1][: DIGITS + 1]), greatest + 1)
+    if found is None or not least <= number <= greatest:
+        raise Problem(400, f"{name} is a whole number from {least} to {greatest}: {text}")
+    return number
 
 
 def _is_time(text: str) -> bool:

@@ -1,117 +1,97 @@
-"""Descriptions of the server and its collections: OGC API - Features, Parts 1 and 2."""
+"""The table of resources. Routes, the links of the first page, the classes of conformance and the
+definition of the API are made from it."""
 from __future__ import annotations
 
-from typing import Any, Dict, List, Optional
+from .bodies import check, filter
+from .context import Resource
+from .documents import api, collection, collections, conformance, landing
+from .formats import CITY_JSON_SEQ, HTML, ITEM, ITEMS, JSON, LINES, OPENAPI, PAGES
+from .items import item, items
+from .parameters import CRS, QUERY, SUMMARY, of_items, of_judging
+from .settings import Limits
 
-from .boxes import Extent
-from .catalogue import Catalogue, Collection
-from .digits import edges
-from .formats import CITY_JSON_SEQ, GEOJSON, HTML, JSON, OPENAPI, Format
-from .links import Links, segment
-from .systems import CRS84
-
-Object = Dict[str, Any]
-TITLE = "City models by cityseq"
-DESCRIPTION = (
-    "CityJSONSeq streams as OGC API Features, and the check of streams that are sent. Each feature"
-    " that is answered was judged again."
+CONF = "http://www.opengis.net/spec/ogcapi-features-1/1.0/conf/"
+CORE, GEOJSON, WEB, OAS30 = (f"{CONF}{name}" for name in ("core", "geojson", "html", "oas30"))
+SYSTEMS = "http://www.opengis.net/spec/ogcapi-features-2/1.0/conf/crs"
+ONE, PAGE = "/collections/{collectionId}", "/collections/{collectionId}/items"
+CLASSES = "The classes that it conforms to"
+API = (
+    ("service-desc", "The definition of the API", OPENAPI),
+    ("service-doc", "The API as a page", HTML),
 )
-CONFORMANCE = (
-    "http://www.opengis.net/spec/ogcapi-features-1/1.0/conf/core",
-    "http://www.opengis.net/spec/ogcapi-features-1/1.0/conf/geojson",
-    "http://www.opengis.net/spec/ogcapi-features-1/1.0/conf/html",
-    "http://www.opengis.net/spec/ogcapi-features-1/1.0/conf/oas30",
-    "http://www.opengis.net/spec/ogcapi-features-2/1.0/conf/crs",
+DOCUMENTS = (
+    Resource("/", "getLandingPage", "The first page", landing, PAGES, conforms=(CORE, WEB)),
+    Resource(
+        "/api", "getApi", "This definition", api, (OPENAPI, HTML), conforms=(OAS30,), relations=API
+    ),
+    Resource(
+        "/conformance",
+        "getConformance",
+        CLASSES,
+        conformance,
+        PAGES,
+        relations=(("conformance", CLASSES, JSON),),
+    ),
+    Resource(
+        "/collections",
+        "getCollections",
+        "The collections",
+        collections,
+        PAGES,
+        relations=(("data", "The collections", JSON),),
+    ),
+    Resource(ONE, "describeCollection", "A collection", collection, PAGES, statuses=(404,)),
 )
-PAGES = (JSON, HTML)
-ITEMS = (GEOJSON, CITY_JSON_SEQ, HTML)
+ANSWERED = (
+    "The header and the kept lines, byte for byte. The answer begins before the body has ended, so"
+    " read while you send. An answer without its last chunk is not whole: the stream is invalid."
+)
 
 
-def landing(links: Links, chosen: Format) -> Object:
-    """Returns the first page."""
-    return {
-        "title": TITLE,
-        "description": DESCRIPTION,
-        "links": [
-            *links.formats("/", PAGES, chosen),
-            links.to("/api", "service-desc", "The definition of the API", OPENAPI.media_type,
-                     f="openapi"),
-            links.to("/api", "service-doc", "The API as a page", HTML.media_type, f="html"),
-            links.to("/conformance", "conformance", "The classes that it conforms to",
-                     JSON.media_type),
-            links.to("/collections", "data", "The collections", JSON.media_type),
-        ],
-    }
+def _features(limits: Limits) -> tuple[Resource, ...]:
+    """Returns the resources that answer features."""
+    return (
+        Resource(
+            PAGE,
+            "getFeatures",
+            "Features of a collection",
+            items,
+            ITEMS,
+            of_items(limits),
+            (404, 410, 502),
+            (GEOJSON, SYSTEMS),
+        ),
+        Resource(
+            f"{PAGE}/{{featureId}}", "getFeature", "A feature", item, ITEM, (CRS,), (404, 502)
+        ),
+    )
 
 
-def conformance(links: Links, catalogue: Catalogue, chosen: Format) -> Object:
-    """Returns the classes of requirements that the server conforms to. All of them need longitude
-    and latitude, so without pyproj there may be none."""
-    systems = [each.system for each in catalogue]
-    has_degrees = all(each.can_change or each.storage is None for each in systems)
-    return {"conformsTo": list(CONFORMANCE if has_degrees else ()),
-            "links": links.formats("/conformance", PAGES, chosen)}
+def _judging(limits: Limits) -> tuple[Resource, ...]:
+    """Returns the resources that judge bodies."""
+    return (
+        Resource(
+            "/check",
+            "check",
+            "The verdict on a stream",
+            check,
+            (LINES,),
+            (*of_judging(limits), SUMMARY),
+            description="An object a line: each report, then the result.",
+        ),
+        Resource(
+            "/filter",
+            "filter",
+            "The features of a stream that a query selects",
+            filter,
+            (CITY_JSON_SEQ, LINES),
+            (*of_judging(limits), *QUERY),
+            (422,),
+            description=ANSWERED,
+        ),
+    )
 
 
-def path_of(collection: Collection) -> str:
-    """Returns the path of a collection."""
-    return f"/collections/{segment(collection.id)}"
-
-
-def _shown_extent(collection: Collection) -> Optional[Object]:
-    """Returns the extent as longitude and latitude, or None if that is not possible."""
-    extent = collection.extent
-    if extent is None or not collection.system.can_change:
-        return None
-    degrees = collection.system.told(extent, CRS84)
-    return None if degrees is None else {
-        "spatial": {"bbox": [edges(degrees, True)], "crs": CRS84}}
-
-
-def _described(collection: Collection) -> str:
-    system, stream = collection.system, collection.stream
-    if system.storage is not None:
-        place = f"Coordinates are those of EPSG:{system.storage.rsplit('/', 1)[1]}."
-    elif system.name is not None:
-        place = (f"The stream names the system {system.name}, which is no EPSG code. Coordinates"
-                 " are its own.")
-    else:
-        place = "The stream names no coordinate reference system. Coordinates are its own."
-    return f"{stream.features:,} features of a CityJSONSeq stream. {place}"
-
-
-def collection(links: Links, shown: Collection, chosen: Optional[Format] = None) -> Object:
-    """Returns the description of a collection."""
-    path, extent = path_of(shown), _shown_extent(shown)
-    own = [links.to(path, "self", "This collection", JSON.media_type)]
-    told: Object = {
-        "id": shown.id,
-        "title": shown.id,
-        "description": _described(shown),
-        "itemType": "feature",
-        "links": [
-            *(own if chosen is None else links.formats(path, PAGES, chosen)),
-            *(links.to(f"{path}/items", "items", f"The features as {each.title}", each.media_type,
-                       f=each.name) for each in ITEMS),
-        ],
-        "features": shown.stream.features,
-        "storageExtent": _storage_extent(shown),
-    }
-    if extent is not None:
-        told["extent"] = extent
-    if shown.system.storage is not None:
-        told["crs"], told["storageCrs"] = shown.system.listed(), shown.system.storage
-    return told
-
-
-def _storage_extent(shown: Collection) -> Optional[List[float]]:
-    extent: Optional[Extent] = shown.extent
-    return None if extent is None else edges(extent, False)
-
-
-def collections(links: Links, catalogue: Catalogue, chosen: Format) -> Object:
-    """Returns the descriptions of all collections."""
-    return {
-        "links": links.formats("/collections", PAGES, chosen),
-        "collections": [collection(links, each) for each in catalogue],
-    }
+def table(limits: Limits) -> tuple[Resource, ...]:
+    """Returns all resources of a server with these limits."""
+    return (*DOCUMENTS, *_features(limits), *_judging(limits))

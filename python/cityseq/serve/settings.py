@@ -5,9 +5,8 @@ from dataclasses import dataclass, field
 from typing import Any, Optional, Tuple
 from urllib.parse import urlsplit
 
-from .._library import USUAL_DEPTH, USUAL_LINE
-from ..faults import RequestError
-from ..words import BODIES, BODY, FEATURES, IDLE, RATE, REQUESTS, SECONDS, STOP
+from ..cli.requests import Serve
+from ..engine.faults import RequestError
 
 CONNECTIONS = 1_000
 REPORTS, MOST_REPORTS = 1_000, 10_000  # in an answer: the default, and the most
@@ -32,17 +31,17 @@ class Limits:
         depth: Arrays and objects open at once that a request may ask for.
     """
 
-    requests: int = REQUESTS
-    bodies: int = BODIES
+    requests: int = Serve.max_requests
+    bodies: int = Serve.max_bodies
     connections: int = CONNECTIONS
-    body: int = BODY
-    seconds: float = SECONDS
-    idle: float = IDLE
-    rate: float = RATE
-    stop: float = STOP
-    features: int = FEATURES
-    line_limit: int = USUAL_LINE
-    depth: int = USUAL_DEPTH
+    body: int = Serve.max_body
+    seconds: float = Serve.max_seconds
+    idle: float = Serve.idle_seconds
+    rate: float = Serve.min_rate
+    stop: float = Serve.stop_seconds
+    features: int = Serve.max_features
+    line_limit: int = Serve.line_limit
+    depth: int = Serve.depth
 
 
 @dataclass(frozen=True)

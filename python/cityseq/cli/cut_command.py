@@ -1,0 +1,154 @@
+"""The command `filter --index`."""
+from __future__ import annotations
+
+import os
+from collections.abc import Iterator, Sequence
+from contextlib import contextmanager, suppress
+from dataclasses import replace
+from functools import partial
+from typing import Any
+
+from .. import __version__
+from ..engine.structs import USUAL_DEPTH, USUAL_LINE
+from ..indexes.cut import cut, cut_each
+from ..engine.escape import shown
+from ..engine.faults import RequestError
+from ..indexes.line_reader import IndexedStream
+from .json_objects import result_object
+from ..indexes.lookup import Index
+from ..sources.outputs import Writer
+from ..sources.packed import LEVEL
+from ..engine.query import Work
+from ..run.results import Result
+from ..sources.source import size_of
+from .file_lists import ids_of, texts_of
+from .output import say
+from .printers import printer_for
+from .progress import Bar
+from .requests import RULES, Filter
+from .stream_commands import unmatched_of
+from .targets import make_folder, refuse_read, targets_of
+
+# Options of `filter` that an index has no answer to, and why.
+UNFIT = {
+    "exclude": "an index finds what a query selects, and --exclude needs all other lines too",
+    "files": "an index has the names of its streams: name no FILE with --index",
+    "files_from": "an index has the names of its streams: leave --files-from out",
+    "sha256": "--sha256 reads each FILE whole, which --index does not",
+    "keep_partial": "a cut by an index leaves nothing in part: leave --keep-partial out",
+    "record": "a record has files that were read whole: leave --record out",
+    "resume": "--resume is for a --record",
+}
+
+
+def run(request: Filter) -> int:
+    """Cuts streams by an index, and returns the status."""
+    if request.index is None:
+        raise RequestError("--base is for --index")
+    with Index(request.index, base=request.base) as index:
+        return _cut(request, index)
+
+
+def _refuse(request: Filter, index: Index) -> None:
+    """Refuses options that a cut by this index cannot have."""
+    for name, why in UNFIT.items():
+        if getattr(request, name):
+            raise RequestError(why)
+    usual = {"line_limit": USUAL_LINE, "depth": USUAL_DEPTH, "tree": False, "keep_going": False}
+    for name in RULES:
+        value = getattr(request, name)
+        if value not in (usual[name], getattr(index, name)):
+            option = f"--{name.replace('_', '-')}"
+            raise RequestError(
+                f"{index.path}: its streams were not judged with this {option}: build it with it"
+            )
+
+
+def _cut(request: Filter, index: Index) -> int:
+    """Writes what a query keeps, to one output or to one for each stream."""
+    _refuse(request, index)
+    ids = ids_of(request.id, request.ids_from, request.null)
+    work = index.work(ids, texts_of(request.type), texts_of(request.lod), request.bbox)
+    paths = [stream.path for stream in index.streams]
+    outputs = [request.output] if request.output_dir is None else targets_of(request, paths)
+    read = [index.path, request.ids_from, *(paths if index.base is None else [])]
+    refuse_read(read, outputs)
+    if not request.quiet:
+        _say_packed(index)
+    rules = {name: getattr(index, name) for name in RULES}
+    judged = replace(request, **rules)  # as the lines were judged
+    unmatched = unmatched_of(request, ids)
+    see = unmatched.see if unmatched is not None and unmatched.is_exact else None
+    worst = features = 0
+    with Bar(None, False) as bar:
+        printer = printer_for(judged, bar, len(index.streams) > 1)
+        writer = partial(Writer, level=request.level or LEVEL, see=see)
+        for result in _results(request, index, work, outputs, writer):
+            worst, features = max(worst, result.status), features + result.features
+            made = result_object(result, judged, __version__, size_of(result.file), None)
+            printer.result(result, lambda made=made: made)  # type: ignore[misc]
+    if not request.quiet and not request.json:
+        _say_left_out(index)
+    if unmatched is not None:
+        unmatched.print(request, features)
+    return worst
+
+
+def _say_packed(index: Index) -> None:
+    """Says that packed streams are read from their beginning, in one line."""
+    packed = [stream.path for stream in index.streams if stream.packing is not None]
+    if len(packed) == 1:
+        say(f"{shown(packed[0])}: it is packed, so the cut reads it from its beginning")
+    elif packed:
+        say(
+            f"{len(packed):,} of {len(index.streams):,} streams are packed, so the cut reads each"
+            " from its beginning"
+        )
+
+
+def _say_left_out(index: Index) -> None:
+    """Says which streams have invalid lines, which the index and the output lack."""
+    for stream in index.streams:
+        if stream.refused:
+            lines = "line was" if stream.refused == 1 else "lines were"
+            say(
+                f"{shown(stream.path)}: {stream.refused:,} invalid {lines} left out:"
+                f" index --show {shown(index.path)}"
+            )
+
+
+@contextmanager
+def _folders(paths: Sequence[str]) -> Iterator[None]:
+    """Makes folders. Removes those that it made if the `with` block fails and leaves nothing in
+    them."""
+    missing: list[str] = []
+    for path in paths:
+        above = os.path.realpath(path)
+        while not os.path.lexists(above) and above not in missing:
+            missing.append(above)
+            above = os.path.dirname(above)
+    try:
+        for path in paths:
+            make_folder(path)
+        yield
+    except BaseException:
+        for each in sorted(missing, key=len, reverse=True):
+            with suppress(OSError):
+                os.rmdir(each)
+        raise
+
+
+def _results(
+    request: Filter, index: Index, work: Work, outputs: list[str], writer: Any
+) -> list[Result]:
+    if request.output_dir is None:
+        return [cut(index, work, outputs[0], request.jobs, writer)]
+    index.check()  # before anything is made
+    targets = dict(zip((stream.number for stream in index.streams), outputs))
+
+    def output_of(stream: IndexedStream) -> str:
+        return targets[stream.number]
+
+    folders = [os.path.dirname(output) for output in outputs]
+    with _folders(list(dict.fromkeys([request.output_dir, *folders]))):
+        return cut_each(index, work, output_of, request.jobs, writer)

@@ -1,0 +1,182 @@
+"""What a command line asks for: one class for each command.
+
+The fields have the names of the options, and their usual values. The classes have no method that
+nothing calls, because each method takes time at the start."""
+from __future__ import annotations
+
+from dataclasses import dataclass, field
+from typing import Any, ClassVar
+
+from ..engine.structs import USUAL_DEPTH, USUAL_LINE
+
+RULES = ("line_limit", "depth", "tree", "keep_going")
+SELECTION = ("exclude", "id", "ids_from", "type", "lod", "bbox")
+
+
+@dataclass(repr=False, eq=False)
+class Rules:
+    """How lines are judged."""
+
+    line_limit: int = USUAL_LINE
+    depth: int = USUAL_DEPTH
+    tree: bool = False
+    keep_going: bool = False
+
+
+@dataclass(repr=False, eq=False)
+class Files:
+    """Which files are read, and by how many threads."""
+
+    files: list[str] = field(default_factory=list)
+    files_from: str | None = None
+    null: bool = False
+    jobs: int | None = None
+    part_size: int | None = None
+
+
+@dataclass(repr=False, eq=False)
+class Printing:
+    """What is printed."""
+
+    json: bool = False
+    quiet: bool = False
+    progress: bool = False
+    max_reports: int | None = None
+    summary: bool = False
+    sha256: bool = False
+
+
+@dataclass(repr=False, eq=False)
+class Recording:
+    """Which file records the results."""
+
+    record: str | None = None
+    resume: bool = False
+
+
+class Request:
+    """What a command line asks for.
+
+    Attributes:
+        command: The name of the command.
+        recorded: The fields that affect the result of a file, as a record and JSON have them.
+    """
+
+    command: ClassVar[str]
+    recorded: ClassVar[tuple[str, ...]] = RULES
+
+    @property
+    def options(self) -> dict[str, Any]:
+        """The options that affect the result of a file."""
+        return {name: getattr(self, name) for name in self.recorded}
+
+    @property
+    def is_plain(self) -> bool:
+        """Whether only standard input is read. Then all output is as the program's."""
+        return False
+
+
+class StreamRequest(Request, Rules, Files, Printing, Recording):
+    """Checks, filters or summarises streams."""
+
+    @property
+    def is_plain(self) -> bool:
+        return not self.files and self.files_from is None
+
+
+@dataclass(repr=False, eq=False)
+class Check(StreamRequest):
+    """Checks streams."""
+
+    command: ClassVar[str] = "check"
+    format: str | None = None
+
+
+@dataclass(repr=False, eq=False)
+class Filter(StreamRequest):
+    """Copies the selected features of streams, which an index may find."""
+
+    command: ClassVar[str] = "filter"
+    recorded: ClassVar[tuple[str, ...]] = (*RULES, *SELECTION)
+    exclude: bool = False
+    id: str | None = None
+    ids_from: str | None = None
+    type: str | None = None
+    lod: str | None = None
+    bbox: str | None = None
+    index: str | None = None
+    base: str | None = None
+    output: str = "-"
+    output_dir: str | None = None
+    keep_folders: bool = False
+    keep_partial: bool = False
+    level: int | None = None
+
+    @property
+    def is_plain(self) -> bool:
+        return super().is_plain and self.index is None
+
+    @property
+    def writes_to_standard_output(self) -> bool:
+        """Whether kept lines go to standard output."""
+        return self.output == "-" and self.output_dir is None
+
+
+@dataclass(repr=False, eq=False)
+class Info(StreamRequest):
+    """Summarises streams."""
+
+    command: ClassVar[str] = "info"
+    lods: bool = False
+
+
+@dataclass(repr=False, eq=False)
+class WriteIndex(Request, Rules, Files, Printing):
+    """Writes, shows or refreshes an index."""
+
+    command: ClassVar[str] = "index"
+    output: str | None = None
+    show: str | None = None
+    refresh: str | None = None
+
+
+@dataclass(repr=False, eq=False)
+class WriteReport(Request, Rules, Files, Printing):
+    """Writes a page about a delivery."""
+
+    command: ClassVar[str] = "report"
+    output: str | None = None
+    title: str | None = None
+
+
+@dataclass(repr=False, eq=False)
+class Explain(Request):
+    """Explains the code of a reason."""
+
+    command: ClassVar[str] = "explain"
+    files: list[str] = field(default_factory=list)
+
+
+@dataclass(repr=False, eq=False)
+class Serve(Request):
+    """Serves streams by their indexes, and a page to check files on."""
+
+    command: ClassVar[str] = "serve"
+    files: list[str] = field(default_factory=list)
+    host: str = "127.0.0.1"
+    port: int = 8080
+    url: str | None = None
+    cors: str | None = None
+    base: str | None = None
+    jobs: int | None = None
+    max_requests: int = 100
+    max_bodies: int = 32
+    max_body: int = 16 << 30
+    max_features: int = 100_000
+    max_seconds: int = 3_600
+    idle_seconds: int = 30
+    min_rate: int = 1_000
+    stop_seconds: int = 10
+    line_limit: int = USUAL_LINE
+    depth: int = USUAL_DEPTH
+    quiet: bool = False

@@ -1,0 +1,309 @@
+"""The commands `check`, `filter` and `info`."""
+from __future__ import annotations
+
+import os
+import sys
+from collections import deque
+from collections.abc import Sequence
+from contextlib import closing
+from dataclasses import dataclass, field
+from functools import cached_property, partial
+from typing import TYPE_CHECKING, Any
+
+from .. import __version__
+from ..engine.memory import keep_room
+from ..engine.faults import RequestError
+from ..sources.outputs import Writer
+from ..sources.packed import LEVEL
+from ..engine.query import Work, asked
+from ..engine.reports import Report, explain
+from ..run.results import Result
+from ..run.streams import Stream, results
+from ..sources.source import is_path, size_of
+from .file_lists import files_of, ids_of, texts_of
+from .output import is_terminal, put, say
+from .printers import Reports, printer_for
+from .progress import Bar
+from .requests import Check, Explain, Filter, Info
+from .targets import make_folder, refuse_read, targets_of
+
+if TYPE_CHECKING:
+    from .unmatched import UnmatchedIds
+
+HASHES = 2  # files that are hashed at once
+Request = Check | Filter | Info
+
+
+@dataclass
+class _Begun:
+    """A file that is being judged: its output, its reports, and its state before it was read."""
+
+    output: str | None
+    reports: Reports = field(default_factory=Reports)
+    state: dict[str, Any] = field(default_factory=dict)
+    digest: Any = None
+
+
+def _work_of(request: Request, ids: list[str] | bytes | None) -> Work:
+    """Returns the work that the options ask for, checked."""
+    common: dict[str, Any] = dict(
+        line_limit=request.line_limit,
+        depth=request.depth,
+        keep_going=request.keep_going,
+        tree=request.tree,
+    )
+    if not isinstance(request, Filter):
+        exact_lods = isinstance(request, Info) and request.lods
+        return asked(request.command, exact_lods=exact_lods, **common)
+    return asked(
+        "filter",
+        exclude=request.exclude,
+        ids=ids,
+        types=texts_of(request.type),
+        lods=texts_of(request.lod),
+        box=request.bbox,
+        **common,
+    )
+
+
+def total_of(files: Sequence[str], is_wanted: bool) -> int | None:
+    """Returns how many bytes some files have. None if that is not wanted, or is not known."""
+    sizes = [size_of(file) for file in files] if is_wanted else [None]
+    return None if None in sizes else sum(filter(None, sizes))
+
+
+class Run:
+    """A run over files, with its printer, its record and the digests of the files."""
+
+    def __init__(self, request: Request, work: Work, files: Sequence[str], bar: Bar) -> None:
+        self._request, self._work, self._bar = request, work, bar
+        self._printer = printer_for(request, bar, len(files) > 1)
+        self._begun: deque[_Begun] = deque()  # the files in order
+        self._hashes: Any = None
+        self._record: Any = None
+        if request.sha256 or request.record is not None:
+            from ..run.pool import Pool  # few runs need threads that hash
+
+            self._hashes = Pool(HASHES)
+        if request.record is not None:
+            from .record import Record
+
+            self._record = Record(request.record, request.resume)
+
+    def __enter__(self) -> Run:
+        return self
+
+    def __exit__(self, kind: Any, *_: Any) -> None:
+        if self._hashes is not None and kind is None:
+            # after a fault the process ends without the digest of a long file
+            self._hashes.__exit__()
+        if self._record is not None:
+            self._record.close()
+
+    def skip(self, files: Sequence[str]) -> tuple[list[str], int]:
+        """Returns the files to read, and the greatest status of the others. The record has the
+        others, and they are unchanged."""
+        if not self._request.resume:
+            return list(files), 0
+        rest, worst = [], 0
+        for file in files:
+            recorded = self._record.find(file, self._state_of(file))
+            if recorded is None:
+                rest.append(file)
+            else:
+                worst = max(worst, recorded["status"])
+                self._printer.skipped(file, recorded)
+        return rest, worst
+
+    def _state_of(self, file: str) -> dict[str, Any]:
+        """Returns what must be the same for a file to be skipped."""
+        from ..sources.file_state import state_now
+
+        return {
+            **state_now(file),
+            "command": self._request.command,
+            "cityseq": __version__,
+            "options": self._request.options,
+            "ids_sha256": self._ids_sha256,
+        }
+
+    @cached_property
+    def _ids_sha256(self) -> str | None:
+        """Returns the SHA-256 of the ids of a query, which may be those of a file."""
+        if not isinstance(self._request, Filter) or self._request.ids_from is None:
+            return None
+        import hashlib
+
+        return hashlib.sha256(self._work.ids or b"").hexdigest()
+
+    def stream(self, file: str, writer: Writer | None) -> Stream:
+        """Returns a file as a stream, and notes the state of the file."""
+        begun = _Begun(None if writer is None else writer.name)
+        if self._hashes is not None:
+            from ..sources.file_state import sha256_of, state_now
+
+            begun.state = state_now(file)
+            begun.digest = self._hashes.submit(partial(sha256_of, file)) if is_path(file) else None
+        self._begun.append(begun)
+
+        def report(each: Report) -> None:
+            begun.reports.add(each)
+            self._printer.report(each)
+
+        return Stream(
+            file,
+            self._work,
+            self._request.part_size,
+            writer,
+            report,
+            partial(self._bar.add, file),
+        )
+
+    def take(self, result: Result) -> int:
+        """Prints the result of a file, records it, and returns its status."""
+        begun = self._begun.popleft()
+        sha256 = None if begun.digest is None else begun.digest.result()
+        self._printer.result(result, lambda: self._object(result, sha256))
+        if self._record is not None:
+            self._record.append(self._line(result, begun, sha256))
+        return result.status
+
+    def _object(self, result: Result, sha256: str | None) -> dict[str, Any]:
+        from .json_objects import result_object
+
+        size = size_of(result.file)
+        sha256 = sha256 if self._request.sha256 else None
+        return result_object(result, self._request, __version__, size, sha256)
+
+    def _line(self, result: Result, begun: _Begun, sha256: str | None) -> dict[str, Any]:
+        """Returns the line of a record for a file."""
+        from ..sources.file_state import time_now
+        from .json_objects import record_object
+        from .record import output_state
+
+        is_whole = (
+            result.fault is None
+            and result.end is None
+            and (result.valid or self._request.keep_going)
+        )
+        state = {
+            **begun.state,
+            "sha256": sha256,
+            "time": time_now(),
+            "ids_sha256": self._ids_sha256,
+            **output_state(begun.output if is_whole else None),
+        }
+        line = record_object(result, self._request, __version__, begun.reports, state)
+        return {**line, "file": os.path.abspath(result.file)}
+
+    def close(self) -> None:
+        """Prints what is about all files together."""
+        self._printer.close()
+
+
+def _writers(request: Request, files: Sequence[str], see: Any) -> list[Writer | None]:
+    """Returns the writer of each file's output. Only `filter` has outputs."""
+    if not isinstance(request, Filter):
+        return [None] * len(files)
+    return [
+        Writer(output, request.keep_partial, level=request.level or LEVEL, see=see)
+        for output in targets_of(request, files)
+    ]
+
+
+def _make_folders(request: Filter, outputs: Sequence[str]) -> None:
+    """Makes the folder of `--output-dir`, and those of the outputs in it."""
+    if request.output_dir is not None:
+        folders = [os.path.dirname(output) for output in outputs]
+        for folder in dict.fromkeys([request.output_dir, *folders]):
+            make_folder(folder)
+
+
+def _checked_outputs(request: Request, files: Sequence[str]) -> list[str]:
+    """Returns the outputs of files. Refuses options that do not fit one another, and outputs that
+    are read.
+
+    Raises:
+        RequestError: Some do not fit.
+    """
+    outputs = targets_of(request, files) if isinstance(request, Filter) else []
+    ids_from = request.ids_from if isinstance(request, Filter) else None
+    refuse_read([*files, ids_from, request.files_from], [*outputs, request.record])
+    if isinstance(request, (Check, Filter)) and (request.resume or request.record is not None):
+        from .record import refuse_unrecorded
+
+        refuse_unrecorded(request, files)
+    return outputs
+
+
+def unmatched_of(request: Filter, ids: list[str] | bytes | None) -> UnmatchedIds | None:
+    """Returns what finds the ids of a list that match no feature. None if that is not wanted."""
+    is_wanted = request.json or not request.quiet
+    if request.ids_from is None or ids is None or request.exclude or not is_wanted:
+        return None
+    from .unmatched import UnmatchedIds  # few runs need it
+
+    return UnmatchedIds(request.ids_from, ids)
+
+
+@dataclass
+class _Outcome:
+    """What came of all files: the greatest status, whether each was read to its end, and the number
+    of features."""
+
+    status: int
+    is_complete: bool
+    features: int = 0
+
+    def add(self, status: int, result: Result) -> None:
+        """Takes the result of the next file."""
+        self.status = max(self.status, status)
+        self.is_complete = self.is_complete and result.fault is None and result.end is None
+        self.features += result.features
+
+
+def _judge_all(request: Request, work: Work, files: Sequence[str], see: Any) -> _Outcome:
+    """Judges the files, in order."""
+    total = total_of(files, request.progress)
+    with Bar(total, request.progress) as bar, Run(request, work, files, bar) as run:
+        rest, worst = run.skip(files)
+        outcome = _Outcome(worst, len(rest) == len(files))
+        streams = map(run.stream, rest, _writers(request, rest, see))
+        with closing(results(streams, request.jobs)) as found:
+            for result in found:
+                outcome.add(run.take(result), result)
+        run.close()
+    return outcome
+
+
+def run(request: Request) -> int:
+    """Does the work on each file, in order, and returns the greatest status."""
+    query = request if isinstance(request, Filter) else None
+    files = files_of(request, None if query is None else query.ids_from)
+    ids = None if query is None else ids_of(query.id, query.ids_from, query.null)
+    work = _work_of(request, ids)
+    outputs = _checked_outputs(request, files)
+    if query is not None:
+        _make_folders(query, outputs)
+    if request.is_plain and is_terminal(sys.stdin) and is_terminal(sys.stderr):
+        say("reading standard input; it ends with Ctrl-D")
+    keep_room(request.jobs)
+    unmatched = None if query is None else unmatched_of(query, ids)
+    see = unmatched.see if unmatched is not None and unmatched.is_exact else None
+    outcome = _judge_all(request, work, files, see)
+    if query is not None and unmatched is not None and outcome.is_complete:
+        unmatched.print(query, outcome.features)
+    return outcome.status
+
+
+def explain_code(request: Explain) -> int:
+    """Prints what a code means, and returns the status."""
+    try:
+        (code,) = map(int, request.files)
+        reason = explain(code)
+    except ValueError:
+        raise RequestError("explain takes a code, as explain 25") from None
+    except KeyError:
+        raise RequestError(f"no reason has the code {request.files[0]}") from None
+    put(f"{code} {reason.text}\n\n{reason.meaning}\n\nFix: {reason.fix}")
+    return 0

@@ -1,0 +1,79 @@
+"""The ids of a list that matched no feature."""
+from __future__ import annotations
+
+import json
+import re
+from typing import Any
+
+from ..engine.escape import quoted, shown
+from ..sources.packed import Text
+from ..engine.reports import USUAL_BEGIN, find_id
+from .output import put, say
+from .requests import Filter
+
+SHOWN = 5  # ids that are shown
+MOST = 100_000  # ids that are looked for in kept lines
+_BEGIN = re.compile(USUAL_BEGIN)
+
+
+def ids_in(text: Text) -> set[bytes]:
+    """Returns the ids of the features in some whole lines. A header is no feature."""
+    lines, found, begin = bytes(text), set(), 0
+    while begin < len(lines):
+        end = lines.find(b"\n", begin)
+        end = len(lines) if end < 0 else end
+        usual = _BEGIN.match(lines, begin, end)
+        spelled = None if usual is None else usual.group(1)
+        if spelled is not None and b"\\" not in spelled:
+            found.add(spelled[1:-1])
+        else:
+            name = find_id(lines[begin:end])
+            if name is not None:
+                found.add(name.encode("utf-8", "surrogatepass"))
+        begin = end + 1
+    return found
+
+
+class UnmatchedIds:
+    """Finds which ids of a query matched no feature. Of very many ids it finds only whether none
+    matched, because to read the ids of all kept lines takes long."""
+
+    def __init__(self, path: str, ids: list[str] | bytes) -> None:
+        """Takes the name of the list, and the ids of the query. Bytes have one id on each line."""
+        self._path, self._ids = path, ids
+        self._found: set[bytes] = set()
+        lines = ids.count(b"\n") + 1 if isinstance(ids, bytes) else len(ids)
+        self._count = lines if ids else 0
+        self.is_exact = self._count <= MOST
+
+    def see(self, text: Text) -> None:
+        """Takes kept lines. Any thread may call it."""
+        if self.is_exact:
+            self._found |= ids_in(text)
+
+    def _missing(self) -> list[str]:
+        ids = self._ids.split(b"\n") if isinstance(self._ids, bytes) else map(str.encode, self._ids)
+        return [each.decode("utf-8") for each in dict.fromkeys(ids) if each not in self._found]
+
+    def print(self, request: Filter, features: int) -> None:
+        """Prints how many ids matched no feature, and the first of them, if there are any.
+        `features` is the number of all kept features."""
+        if not self.is_exact and features:
+            return
+        missing = self._missing() if self._count else []
+        if request.json:
+            text = json.dumps(self._object(missing))
+            if request.writes_to_standard_output:
+                say(text)
+            else:
+                put(text)
+        elif missing:
+            ids = ", ".join(map(quoted, missing[:SHOWN])) + (", .." if missing[SHOWN:] else "")
+            count = f"{len(missing):,} {'id' if len(missing) == 1 else 'ids'}"
+            say(f"{shown(self._path)}: {count} matched no feature: {ids}")
+
+    def _object(self, missing: list[str]) -> dict[str, Any]:
+        from .json_objects import object_of  # text does not need it
+
+        members = {"ids_from": self._path, "unmatched": len(missing), "first": missing[:SHOWN]}
+        return object_of("ids", members)

@@ -1,0 +1,1 @@
+"""Coordinates of streams on earth: boxes, reference systems, and longitude and latitude."""

@@ -1,0 +1,369 @@
+"""Writes an index: one thread takes the records of all parts, in order."""
+from __future__ import annotations
+
+import hashlib
+import json
+import os
+import sqlite3
+from contextlib import contextmanager, suppress
+from dataclasses import dataclass, field
+from functools import lru_cache
+from typing import (
+    Any,
+    Callable,
+    Dict,
+    Iterable,
+    Iterator,
+    NamedTuple,
+    Optional,
+    Sequence,
+    Set,
+    Tuple,
+)
+
+from . import columns, geopackage, id_table
+from ..engine.library import library
+from ..engine.structs import LOD_CLASSES
+from .arrays import vectors_for
+from .bulk import Column, Same, insert, same_if_equal
+from .columns import NOWHERE, Ranges
+from ..engine.extents import World, wider
+from ..engine.faults import WriteFault, write_fault
+from .full_disk import database_fault
+from .geopackage import (
+    MOST_FEATURES,
+    TREE,
+    UNDEFINED,
+    geometry_start,
+    readable,
+    system_of,
+)
+from ..sources.outputs import Part, target_of
+from ..engine.query import Work
+from ..engine.records import Records, stored, stored_as_columns
+from .replacement import replaceable
+from ..engine.reports import Report
+from .rtree import ROW, Tree
+from ..run.results import Result
+from .sorting import Sorter
+from ..sources.source import State
+from ..engine.world import read_json
+
+PAGE = 1 << 14  # bytes of a page of the database: small ones leave more of them unused
+CACHE = 8 << 20  # bytes of the database that are in memory
+
+
+@lru_cache(maxsize=4_096)
+def names_of_types(bits: int) -> str:
+    """Returns the names of a set of types, with commas between them."""
+    return ",".join(name for n, name in enumerate(library().type_names()) if bits >> n & 1)
+
+
+@lru_cache(maxsize=64)
+def names_of_lods(bits: int) -> str:
+    """Returns the classes of a set of LoDs, with commas between them."""
+    return ",".join(name for n, name in enumerate(LOD_CLASSES) if bits >> n & 1)
+
+
+class File(NamedTuple):
+    """The file of a stream.
+
+    Attributes:
+        path: Its path.
+        packing: How it is packed, by the word that the index uses.
+        state: Its size and time.
+        content: Its hash.
+    """
+
+    path: str
+    packing: Optional[str]
+    state: State
+    content: str
+
+
+@dataclass
+class Entry:
+    """A stream of an index, as far as it has been read.
+
+    Attributes:
+        number: Its number in the index, from 1.
+        header: Its first line, with the LF.
+        ranges: The least and greatest vertex on each axis.
+    """
+
+    number: int
+    header: bytes
+    first_fid: int
+    world: World = field(init=False)
+    system: int = field(init=False)
+    reference: Optional[str] = field(init=False)
+    transform: Dict[str, Any] = field(init=False)
+    ranges: Ranges = NOWHERE
+
+    def __post_init__(self) -> None:
+        told = read_json(self.header.decode("utf-8"))
+        self.transform = told["transform"]
+        self.world = World(self.transform["scale"], self.transform["translate"])
+        self.reference, self.system = system_of(told.get("metadata"))
+
+    def widen(self, ranges: Ranges) -> None:
+        """Takes the ranges of some more features."""
+        x, y, z = map(wider, self.ranges, ranges)
+        self.ranges = x, y, z
+
+    def extent(self) -> Tuple[Optional[float], ...]:
+        """Returns the least and greatest x, y and z of the stream, or None for each."""
+        axes = (self.world.x, self.world.y, self.world.z)
+        return tuple(
+            edge
+            for axis, vertices in zip(axes, self.ranges)
+            for edge in (
+                (None, None) if axis is None or vertices is None else axis.interval(*vertices)
+            )
+        )
+
+
+@contextmanager
+def telling_of(name: str) -> Iterator[None]:
+    """Turns an error of SQLite into a write fault."""
+    try:
+        yield
+    except sqlite3.Error as fault:
+        raise database_fault(fault, name) from fault
+
+
+def _filled(values: Optional[Iterable[Any]], some: Optional[Iterable[bool]]) -> Column:
+    """Returns a column with the next value for each feature that has one, and None for others. If
+    `some` is None, all have one."""
+    if values is None:
+        return Same(None)
+    if some is None:
+        return values
+    given = iter(values)
+    return [next(given) if each else None for each in some]
+
+
+def _first(column: Column) -> Any:
+    """Returns the first value of a column that has one."""
+    return column.value if isinstance(column, Same) else next(iter(column))
+
+
+def _same_if_equal(column: Column) -> Column:
+    return column if isinstance(column, Same) else same_if_equal(list(column))
+
+
+def _named(sets: Column, names: Callable[[int], str]) -> Column:
+    """Returns a column of the names of sets."""
+    return Same(names(sets.value)) if isinstance(sets, Same) else list(map(names, sets))
+
+
+class Builder:
+    """Writes an index to `.NAME.*.part`, and renames it when it is whole."""
+
+    def __init__(self, path: str) -> None:
+        """Takes the name of the index. It opens no file.
+
+        Raises:
+            WriteFault: An index cannot have this name.
+        """
+        self.name, self._fid = path, 0
+        self._systems: Set[int] = set()  # of coordinates
+        self._opened: Optional[sqlite3.Connection] = None
+        self._usual: Optional[Tuple[Any, ...]] = None  # the uniform columns of the first feature
+        self._count = 0  # of the uniform columns that rows have
+        self._cells, self._ids = Sorter(ROW), Sorter(id_table.WHOLE)
+        self.digests: Any = None  # makes the hashes of the streams
+        target = target_of(path)
+        if target is None:
+            what = "Is a directory" if os.path.isdir(path) else "an index is a regular file"
+            raise WriteFault(f"write fault: {what}", None, path)
+        self._part = Part(target)
+
+    @property
+    def _base(self) -> sqlite3.Connection:
+        assert self._opened is not None
+        return self._opened
+
+    def open(self) -> None:
+        """Begins the file. An interrupt may come at once, so who calls it must call `discard`.
+
+        Raises:
+            RequestError: A file has the name of the index, and is none.
+            WriteFault: It cannot be opened or written, or another program has an older index open.
+        """
+        with replaceable(self.name):
+            pass  # to know it before all streams are read
+        try:
+            os.close(self._part.make())
+        except OSError as fault:
+            raise write_fault(fault, self.name) from fault
+        self._opened = sqlite3.connect(self._part.path, isolation_level=None)
+        with telling_of(self.name):
+            for setting in (
+                f"page_size = {PAGE}",
+                "journal_mode = OFF",
+                "synchronous = OFF",
+                "locking_mode = EXCLUSIVE",
+                f"cache_size = -{CACHE >> 10}",
+            ):
+                self._base.execute(f"PRAGMA {setting}")
+            self._base.execute("BEGIN")
+            geopackage.create(self._base)
+
+    def begin(self, number: int, header: bytes) -> Entry:
+        """Begins the next stream, whose header is valid."""
+        return Entry(number, header, self._fid + 1)
+
+    def add(self, entry: Entry, records: Records, lines: int) -> None:
+        """Writes the records of the next part of a stream. `lines` lines came before the part.
+
+        Raises:
+            WriteFault: They cannot be written.
+        """
+        numbers = range(self._fid + 1, self._fid + 1 + len(records.ids))
+        if numbers.stop > MOST_FEATURES:
+            raise WriteFault(f"write fault: more than {MOST_FEATURES:,} features", None, self.name)
+        self._fid += len(numbers)
+        made = (vectors_for(len(numbers)) or columns).columns_of(
+            records, lines, numbers, entry.world, geometry_start(entry.system)
+        )
+        entry.widen(made.ranges)
+        names, exact, hashes = stored_as_columns(records.ids)
+        geometry, zmin, zmax = (
+            _filled(column, made.has_place) for column in (made.geometry, made.zmin, made.zmax)
+        )
+        uniform = (
+            _same_if_equal(zmin),
+            _same_if_equal(zmax),
+            _named(made.types, names_of_types),
+            _named(made.lods, names_of_lods),
+            made.objects,
+            made.geometries,
+            Same(entry.number),
+            exact,
+        )
+        others = (numbers, geometry, made.line, made.begin, made.length, names)
+        with telling_of(self.name):
+            insert(self._base, "features", *others, *self._stored(uniform))
+        self._cells.add(made.cells)
+        self._ids.add(id_table.joined(hashes, numbers))
+
+    def _stored(self, columns: Sequence[Column]) -> Sequence[Column]:
+        """Returns those of the uniform columns that rows have from now on. The others have had one
+        value in all rows."""
+        if self._usual is None:
+            zmin, zmax, *others, _ = map(_first, columns)
+            heights = (geopackage.as_default(self._base, height) for height in (zmin, zmax))
+            self._usual = (*heights, *others, None)  # few ids need `id_exact`
+        pairs = zip(columns, self._usual)
+        differing = [place for place, (column, usual) in enumerate(pairs) if column != Same(usual)]
+        self._add_columns(differing[-1] + 1 if differing else 0)
+        return columns[: self._count]
+
+    def _add_columns(self, count: int) -> None:
+        """Adds uniform columns to the table, until it has so many."""
+        usual = self._usual or geopackage.NO_FEATURE
+        geopackage.add_columns(self._base, self._count, count, usual)
+        self._count = max(self._count, count)
+
+    def report(self, number: int, report: Report) -> None:
+        """Writes that a line of a stream is invalid and left out.
+
+        Raises:
+            WriteFault: It cannot be written.
+        """
+        name = None if report.id is None else stored(report.id)[0]
+        row = (number, report.line, report.byte, report.code, report.text, name, report.excerpt)
+        with telling_of(self.name):
+            self._base.execute("INSERT INTO reports VALUES (NULL,?,?,?,?,?,?,?)", row)
+
+    def end(self, entry: Entry, file: File, result: Result) -> None:
+        """Writes the row of a stream, after all of it was read.
+
+        Raises:
+            WriteFault: It cannot be written.
+        """
+        self._systems.add(entry.system)
+        texts = (
+            json.dumps([str(number) for number in entry.transform[name]])
+            for name in ("scale", "translate")
+        )
+        row = (
+            entry.number,
+            *_path_columns(file.path, self.name),
+            file.packing,
+            *file.state,
+            file.content,
+            len(entry.header),
+            hashlib.sha256(entry.header).hexdigest(),
+            *texts,
+            None if entry.reference is None else readable(entry.reference),
+            result.lines,
+            result.features,
+            result.refused,
+            entry.first_fid,
+            *entry.extent(),
+        )
+        with telling_of(self.name):
+            self._base.execute(f"INSERT INTO streams VALUES ({','.join('?' * len(row))})", row)
+
+    def finish(self, work: Work, program: str) -> None:
+        """Writes the rest, and gives the file its name.
+
+        Raises:
+            WriteFault: It cannot be written.
+        """
+        base = self._base
+        with telling_of(self.name):
+            system = self._one_system()
+            id_table.write(base, self._ids.rows())
+            self._add_columns(len(geopackage.UNIFORM))
+            count = self._cells.count
+            Tree(base, TREE).write(self._cells.rows(), count, self._fid)
+            geopackage.describe(base, system)
+            options = (work.tree, work.keep_going, work.line_limit, work.depth)
+            base.execute(
+                "INSERT INTO cityseq_index VALUES (?,?,?,?,?,?,0,?)",
+                (geopackage.VERSION, program, *options, count),
+            )
+            base.execute("COMMIT")
+            base.close()
+        with replaceable(self.name):
+            try:
+                self._part.replace()
+            except OSError as fault:
+                raise write_fault(fault, self.name) from fault
+
+    def _one_system(self) -> int:
+        """Returns the system of all streams, or -1 if they differ. All polygons have it then."""
+        if len(self._systems) == 1:
+            return next(iter(self._systems))
+        if len(self._systems) > 1:
+            start = geometry_start(UNDEFINED)
+            moved: Callable[[bytes], bytes] = lambda geom: start + geom[len(start) :]
+            self._base.create_function("moved", 1, moved)
+            self._base.execute("UPDATE features SET geom = moved(geom) WHERE geom NOT NULL")
+        return UNDEFINED
+
+    def discard(self) -> None:
+        """Removes what was written, if the index is not whole."""
+        if self._opened is not None:
+            with suppress(sqlite3.Error):
+                self._opened.close()
+        self._cells.close()
+        self._ids.close()
+        self._part.discard()
+
+
+def _path_columns(path: str, index: str) -> Tuple[str, Optional[bytes]]:
+    """Returns the path of a stream for an index. A path below the folder of the index, or below the
+    folder that this one is in, is relative to it, so that both can be moved together. Links of
+    folders are followed, since a folder above a linked one is that of its target."""
+    folder, (above, name) = os.path.dirname(os.path.realpath(index)), os.path.split(path)
+    whole = os.path.join(os.path.realpath(above or os.curdir), name)
+    around = os.path.dirname(folder)
+    near = folder if around == os.path.dirname(around) else around  # not the root
+    is_near = os.path.commonpath([whole, near]) == near
+    told = os.path.relpath(whole, folder) if is_near else whole
+    text, exact = stored(told)
+    return text, None if exact is None else os.fsencode(told)

@@ -1,0 +1,194 @@
+"""Cuts by an index: reads the selected lines, judges them again, and writes the kept ones."""
+from __future__ import annotations
+
+import io
+from contextlib import closing
+from dataclasses import dataclass, replace
+from itertools import chain
+from typing import TYPE_CHECKING, Any, Callable, Iterable, Iterator, List, Optional, Tuple
+
+from ..engine.faults import OutOfDate, RequestError, Status, write_fault
+from .line_reader import OTHER_LINES, IndexedStream, Row, header_of, lines_of, placed
+from ..sources.outputs import Batch, Target, Writer
+from ..engine.query import Work
+from ..run.results import Result
+from ..run.streams import Stream, results
+from ..sources.source import PIECE, is_path
+
+if TYPE_CHECKING:
+    from .lookup import Index
+
+HELD = 16 << 20  # bytes of an output that wait in memory until it is whole; more wait on a disk
+Selections = Iterable[Tuple[IndexedStream, Iterator[Row]]]
+
+
+class _Lines(io.RawIOBase):
+    """A file object with the header and the selected lines of streams with the same header."""
+
+    def __init__(self, name: str, texts: Iterator[bytes]) -> None:
+        super().__init__()
+        self.name, self._texts, self._rest = name, texts, b""
+
+    def readable(self) -> bool:
+        return True
+
+    def read(self, most: int = -1) -> bytes:
+        """Returns at most `most` bytes, and none at the end."""
+        if not self._rest:
+            self._rest = next(self._texts, b"")
+        piece = self._rest if most < 0 else self._rest[:most]
+        self._rest = self._rest[len(piece) :]
+        return piece
+
+
+def _needed(selections: Selections) -> Selections:
+    """Yields the selections that have rows, or the first if none has."""
+    spare: Optional[IndexedStream] = None
+    is_empty = True
+    for stream, rows in selections:
+        for first in rows:
+            is_empty = False
+            yield stream, chain([first], rows)
+            break
+        spare = spare or stream
+    if is_empty and spare is not None:
+        yield spare, iter(())
+
+
+@dataclass(frozen=True)
+class _Cut:
+    """A cut by an index.
+
+    Attributes:
+        index: The index.
+        work: The query.
+        jobs: How many threads judge. None is one for each processor.
+        writer: Makes the writer of an output.
+    """
+
+    index: "Index"
+    work: Work
+    jobs: Optional[int]
+    writer: Callable[..., Writer] = Writer
+
+    def written(self, name: str, selections: Selections, writer: Writer) -> Result:
+        """Judges the selected lines again, and writes those that are kept."""
+        with closing(self._texts(selections)) as texts:  # type: ignore[type-var]
+            source: Any = _Lines(name, texts)
+            (result,) = results([Stream(source, self.work, output=writer)], self.jobs)
+        if result.end is not None and result.end.line > 1 and result.fault is None:
+            raise OutOfDate.because(OTHER_LINES, name)
+        return result.raised_if_invalid(False)
+
+    def written_whole(self, name: str, selections: Selections, output: Target) -> Result:
+        """Does the same for a target that is not a path. It gets the output only when that is
+        whole."""
+        import tempfile  # a cut to a path does not need it
+
+        target = self.writer(output)
+        try:
+            with tempfile.SpooledTemporaryFile(HELD) as spool:
+                result = self.written(name, selections, Writer(spool))
+                spool.seek(0)
+                for piece in iter(lambda: spool.read(PIECE), b""):
+                    target.write(piece)
+        except OSError as fault:
+            if hasattr(fault, "words"):
+                raise
+            raise write_fault(fault, target.name) from fault
+        target.close(True)
+        return result
+
+    def _texts(self, selections: Selections) -> Iterator[bytes]:
+        """Yields the header, and then the selected lines of each stream. On a web server it reads
+        only streams that have such lines, and for the header one stream if none has.
+
+        The last line of a stream may have no LF. It gets one before the next kept line, and no
+        other line may bring it. So lines up to that one are judged here, and left out.
+        """
+        is_first, lacks_end = True, False
+        base = self.index.base
+        for stream, rows in selections if base is None else _needed(selections):
+            with placed(stream, base) as place:
+                header = header_of(stream, place)
+                if is_first:
+                    yield header
+                is_first = False
+                for part, numbers in lines_of(stream, place, rows):
+                    if lacks_end:
+                        if not self._keeps_some(stream, header, part, numbers):
+                            continue
+                        yield b"\n"
+                    yield part
+                    lacks_end = not part.endswith(b"\n")
+
+    def _keeps_some(
+        self, stream: IndexedStream, header: bytes, part: bytes, numbers: List[int]
+    ) -> bool:
+        """Whether the query keeps one of some lines."""
+        from .lookup import kept  # a cut has loaded it
+
+        found = list(kept(self.work, stream, header, part, numbers))
+        return bool(found)
+
+
+def _counted(result: Result, streams: Iterable[IndexedStream]) -> Result:
+    """Returns the same result with the counts of a run over the whole streams."""
+    listed = list(streams)
+    refused = sum(stream.refused for stream in listed)
+    return replace(
+        result,
+        lines=sum(stream.lines for stream in listed),
+        refused=refused,
+        status=Status(refused > 0),
+    )
+
+
+def cut(
+    index: "Index",
+    work: Work,
+    output: Target,
+    jobs: Optional[int],
+    writer: Callable[..., Writer] = Writer,
+) -> Result:
+    """Writes what a query keeps of all streams of an index. They have one header and one output.
+    `writer` makes the writer of an output.
+
+    Raises:
+        CityseqError: As `Index.filter` does.
+    """
+    streams = index.streams
+    if len({stream.header_sha256 for stream in streams}) > 1:
+        raise RequestError(
+            "each stream has its own header, and so its own output: name a folder by --output-dir"
+        )
+    index.check()
+    made = _Cut(index, work, jobs, writer)
+    name, selections = streams[0].path, index.selections(work)
+    if is_path(output):
+        return _counted(made.written(name, selections, writer(output)), streams)
+    return _counted(made.written_whole(name, selections, output), streams)
+
+
+def cut_each(
+    index: "Index",
+    work: Work,
+    output_of: Callable[[IndexedStream], str],
+    jobs: Optional[int],
+    writer: Callable[..., Writer] = Writer,
+) -> List[Result]:
+    """Writes what a query keeps of each stream to an output of its own. The outputs get their names
+    when all are whole. `writer` makes the writer of an output.
+
+    Raises:
+        CityseqError: As `Index.filter` does. No output is there then.
+    """
+    index.check()
+    made, results = _Cut(index, work, jobs, writer), []
+    with Batch() as batch:
+        for stream, rows in index.selections(work):
+            target = writer(output_of(stream), batch=batch)
+            result = made.written(stream.path, [(stream, rows)], target)
+            results.append(_counted(result, [stream]))
+        batch.replace()
+    return results

@@ -1,0 +1,117 @@
+"""The description of an index, as lines of text and as JSON."""
+from __future__ import annotations
+
+from typing import TYPE_CHECKING, Any, Dict, Iterator, List, Optional, Sequence
+
+from .database import INDEX_CHANGED
+from ..engine.faults import OutOfDate, ReadFault
+from .line_reader import IndexedStream, check_file
+from ..engine.escape import quoted, shown
+
+if TYPE_CHECKING:
+    from .lookup import Index
+
+Extent = Optional[List[float]]
+
+
+def _extent(streams: Sequence[IndexedStream]) -> Extent:
+    """Returns the box around streams: minx, miny, maxx, maxy. None if nothing has a place."""
+    boxes: List[Any] = [
+        (stream.xmin, stream.ymin, stream.xmax, stream.ymax)
+        for stream in streams
+        if stream.xmin is not None and stream.ymin is not None
+    ]
+    if not boxes:
+        return None
+    least_x, least_y, most_x, most_y = zip(*boxes)
+    return [min(least_x), min(least_y), max(most_x), max(most_y)]
+
+
+def _fault(index: "Index") -> Optional[str]:
+    """Returns why the index cannot be used at all, or None."""
+    return OutOfDate.because(INDEX_CHANGED, index.path).words if index.is_changed else None
+
+
+def _state(index: "Index", stream: IndexedStream) -> Optional[str]:
+    """Returns why the index cannot be used for a stream, or None."""
+    if index.base is not None:
+        return None
+    try:
+        check_file(stream)
+    except ReadFault as fault:
+        return fault.words
+    return None
+
+
+def _boxed(extent: Extent) -> str:
+    return "" if extent is None else " bbox " + ",".join(map(repr, extent))
+
+
+def lines(index: "Index") -> Iterator[str]:
+    """Yields what an index covers, and each id that appears more than once."""
+    streams = index.streams
+    yield f"streams {len(streams)}"
+    yield f"features {sum(stream.features for stream in streams)}"
+    yield f"rejected lines {sum(stream.refused for stream in streams)}"
+    extent = _extent(streams)
+    if extent is not None:
+        yield _boxed(extent).lstrip()
+    why = _fault(index)
+    if why is not None:
+        yield why
+    for stream in streams:
+        counts = f"lines {stream.lines} features {stream.features} rejected {stream.refused}"
+        yield f"stream {shown(stream.path)} {counts}{_boxed(_extent([stream]))}"
+        if stream.reference_system is not None:
+            yield f"    reference system {quoted(stream.reference_system)}"
+        why = _state(index, stream)
+        if why is not None:
+            yield f"    {why}"
+        for line, byte, code, text, name in index.reports(stream):
+            of = "" if name is None else f", feature {quoted(name)}"
+            yield f"    left out: line {line}, byte {byte}: {code} {shown(text)}{of}"
+    for repeated in index.repeated_ids():
+        yield f"repeated id {quoted(repeated.id)} in {len(repeated.places)} features"
+        yield from (f"    {shown(path)} line {line}" for path, line in repeated.places)
+
+
+def shown_object(index: "Index", program: str) -> Dict[str, Any]:
+    """Returns the same as a JSON object."""
+    from ..cli.json_objects import object_of
+
+    return object_of(
+        "index",
+        {
+            "index": index.path,
+            "cityseq": program,
+            "features": sum(stream.features for stream in index.streams),
+            "bbox": _extent(index.streams),
+            "fault": _fault(index),
+            "streams": [
+                {
+                    "file": stream.path,
+                    "packing": stream.packing,
+                    "size": stream.size,
+                    "mtime_ns": stream.mtime_ns,
+                    "lines": stream.lines,
+                    "features": stream.features,
+                    "refused": stream.refused,
+                    "reference_system": stream.reference_system,
+                    "bbox": _extent([stream]),
+                    "fault": _state(index, stream),
+                    "reports": [
+                        dict(zip(("line", "byte", "code", "text", "id"), report))
+                        for report in index.reports(stream)
+                    ],
+                }
+                for stream in index.streams
+            ],
+            "repeated_ids": [
+                {
+                    "id": each.id,
+                    "places": [{"file": path, "line": line} for path, line in each.places],
+                }
+                for each in index.repeated_ids()
+            ],
+        },
+    )

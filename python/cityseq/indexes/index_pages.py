@@ -1,0 +1,287 @@
+"""Pages of features of an index, for many threads: candidates come from the index, and the engine
+judges each again.
+
+The key of a page is the number of a feature in its stream, from 1. No two features share a number,
+so pages stay right if features are equal in everything else. A page has the kept features of the
+next candidates. It is only empty if no feature follows."""
+from __future__ import annotations
+
+import json
+import os
+from contextlib import contextmanager, suppress
+from dataclasses import dataclass, replace
+from decimal import Decimal
+from functools import cached_property
+from itertools import chain
+from queue import Empty, LifoQueue
+from typing import Any, Callable, Generator, Iterator, NamedTuple
+
+from ..engine.library import library
+from ..engine.structs import CallStatus, RawFeature
+from .builder import names_of_lods, names_of_types
+from ..coordinates.boxes import Extent
+from ..engine.extents import World
+from ..engine.faults import OutOfDate, ReadFault
+from .line_reader import IndexedStream, Row, header_of, lines_of, placed
+from ..run.features import fault_of
+from .lookup import Index
+from ..engine.query import Work
+from ..engine.records import unescaped
+
+TOGETHER = 1 << 18  # bytes of lines that are judged together
+
+
+class Replaced(ReadFault):
+    """Another index has taken the place of one."""
+
+
+def _state_of(path: str) -> Any:
+    """Returns what a file is now; None if it is not there."""
+    try:
+        told = os.stat(path)
+        return told.st_dev, told.st_ino, told.st_size, told.st_mtime_ns
+    except OSError:
+        return None
+
+
+class Pool:
+    """An index that many threads use: each call has one to itself.
+
+    Attributes:
+        base: The URL that its streams are below. None if they are files.
+    """
+
+    def __init__(self, path: str, base: str | None) -> None:
+        self._path, self.base = path, base
+        self._state = _state_of(path)
+        self._free: LifoQueue[Index] = LifoQueue()
+
+    @property
+    def is_changed(self) -> bool:
+        """Whether the file of the index is another one now."""
+        return bool(_state_of(self._path) != self._state)
+
+    @contextmanager
+    def index(self) -> Iterator[Index]:
+        """Gives the index, in a `with` block.
+
+        Raises:
+            Replaced: Another index has taken its place.
+            ReadFault: It cannot be read.
+        """
+        try:
+            index = self._free.get_nowait()
+        except Empty:
+            index = Index(self._path, base=self.base)
+            if self.is_changed:
+                index.close()
+                raise Replaced("the index was built again: ask again", None, self._path) from None
+        try:
+            yield index
+        finally:
+            self._free.put(index)
+
+    def close(self) -> None:
+        """Closes those that no call has."""
+        while not self._free.empty():
+            self._free.get_nowait().close()
+
+
+@dataclass(frozen=True)
+class OpenStream:
+    """A stream of an index that many threads use.
+
+    Attributes:
+        pool: The index.
+        stream: What the index has of it.
+    """
+
+    pool: Pool
+    stream: IndexedStream
+
+    @cached_property
+    def world(self) -> World:
+        """The map from its vertices to world coordinates."""
+        told = (json.loads(text) for text in (self.stream.scale, self.stream.translate))
+        scale, translate = (list(map(Decimal, texts)) for texts in told)
+        return World(scale, translate)
+
+    @property
+    def extent(self) -> Extent | None:
+        """The least x and y and the greatest x and y of all features, if there are any."""
+        told = self.stream
+        west, south, east, north = told.xmin, told.ymin, told.xmax, told.ymax
+        if west is None or south is None or east is None or north is None:
+            return None
+        return west, south, east, north
+
+
+class Found(NamedTuple):
+    """A kept feature.
+
+    Attributes:
+        line: The number of its line in the stream, from 1.
+        size: The bytes of its line.
+        id: Its id, with escapes undone.
+        objects, geometries: How many it has.
+        types, lods: The names of its types, and the classes of its LoDs.
+        extent: The least x and y and the greatest x and y, if it has a vertex.
+        heights: The least and the greatest z, if it has a vertex.
+    """
+
+    line: int
+    size: int
+    id: str
+    objects: int
+    geometries: int
+    types: list[str]
+    lods: list[str]
+    extent: Extent | None
+    heights: tuple[float, float] | None
+
+
+@dataclass(frozen=True)
+class Block:
+    """Some features of a page, as the library returns them."""
+
+    source: OpenStream
+    part: bytes
+    raws: list[RawFeature]
+    numbers: list[int]
+
+    def lines(self) -> bytes:
+        """Returns their lines, byte for byte."""
+        part = self.part
+        if len(self.raws) == len(self.numbers) and part.endswith(b"\n"):
+            return part  # all that was read is kept
+        return b"".join(part[raw.begin : raw.begin + raw.length] + b"\n" for raw in self.raws)
+
+    def within(self, reaches: Callable[[Extent], bool]) -> Block:
+        """Returns the features whose extent passes a test, and those without one."""
+        extents = map(self._extent, self.raws)
+        kept = [raw for raw, extent in zip(self.raws, extents) if extent is None or reaches(extent)]
+        return replace(self, raws=kept)
+
+    def features(self) -> list[Found]:
+        """Returns the facts of each feature."""
+        return list(map(self._found, self.raws))
+
+    def _found(self, raw: RawFeature) -> Found:
+        begin, end = raw.begin + raw.id_begin + 1, raw.begin + raw.id_begin + raw.id_length - 1
+        types, lods = names_of_types(raw.types), names_of_lods(raw.lods)
+        z, axis = raw.ranges[2], self.source.world.z
+        return Found(
+            self.numbers[raw.line - 2],
+            raw.length,
+            unescaped(self.part[begin:end]),
+            raw.objects,
+            raw.geometries,
+            types.split(",") if types else [],
+            lods.split(",") if lods else [],
+            self._extent(raw),
+            axis.interval(z.least, z.greatest) if z.some and axis is not None else None,
+        )
+
+    def _extent(self, raw: RawFeature) -> Extent | None:
+        x, y, _ = raw.ranges
+        world = self.source.world
+        if not x.some or world.x is None or world.y is None:
+            return None
+        west, east = world.x.interval(x.least, x.greatest)
+        south, north = world.y.interval(y.least, y.greatest)
+        return west, south, east, north
+
+
+def _joined(parts: Iterator[tuple[bytes, list[int]]]) -> Iterator[tuple[bytes, list[int]]]:
+    """Yields lines, more of them together: each call of the library judges the header again."""
+    texts: list[bytes] = []
+    numbers: list[int] = []
+    size = 0
+    for text, more in parts:
+        texts.append(text)
+        numbers += more
+        size += len(text)
+        if size >= TOGETHER:
+            yield b"".join(texts), numbers
+            texts, numbers, size = [], [], 0
+    if texts:
+        yield b"".join(texts), numbers
+
+
+class Page:
+    """The features of a page, block by block. One thread after another may make the calls.
+
+    Attributes:
+        header: The first line of the stream, after the first block.
+        next: The number of the feature after which the next page begins, after the first block.
+            None if nothing follows.
+    """
+
+    def __init__(
+        self,
+        source: OpenStream,
+        work: Work,
+        after: int,
+        limit: int,
+        reaches: Callable[[Extent], bool] | None = None,
+    ) -> None:
+        """Takes the query, and the number of the feature after which the page begins. `reaches`
+        tests the extent of a feature that the query selects."""
+        self._source, self._work, self._limit = source, work, limit
+        self._after, self._reaches = after, reaches
+        self.header = b""
+        self.next: int | None = None
+        self._blocks = self._read()
+
+    def block(self) -> Block | None:
+        """Returns the next block, or None at the end.
+
+        Raises:
+            CityseqError: As `cityseq.Index.select`.
+        """
+        return next(self._blocks, None)
+
+    def blocks(self) -> Iterator[Block]:
+        """Reads the first block, so that the attributes are known, and returns all blocks."""
+        first, rest = self.block(), iter(self.block, None)
+        return iter(()) if first is None else chain((first,), rest)
+
+    def close(self) -> None:
+        """Closes what is open. Does nothing while a thread makes a block."""
+        with suppress(ValueError):
+            self._blocks.close()
+
+    def _read(self) -> Generator[Block, None, None]:
+        stream = self._source.stream
+        with placed(stream, self._source.pool.base) as place:
+            self.header = header_of(stream, place)
+            is_empty, more = True, True
+            while is_empty and more:
+                rows, more = self._candidates()
+                self.next = self._after if more else None
+                for part, numbers in _joined(lines_of(stream, place, rows)):
+                    block = self._judged(part, numbers)
+                    if block.raws:
+                        is_empty = False
+                        yield block
+
+    def _candidates(self) -> tuple[list[Row], bool]:
+        """Returns the next candidates, and whether more follow."""
+        source = self._source
+        with source.pool.index() as index:
+            found = index.candidates(self._work, source.stream, self._after, self._limit + 1)
+        rows = found[: self._limit]
+        if rows:
+            self._after = rows[-1][0]
+        return [row for _, row in rows], len(found) > self._limit
+
+    def _judged(self, part: bytes, numbers: list[int]) -> Block:
+        """Returns the kept features of some lines."""
+        request = self._work.request(self.header, part)
+        answer, _, raws = library().features(self.header, part, request, len(numbers))
+        if answer.status == CallStatus.REFUSED and answer.line > 1:
+            raise OutOfDate.because("the stream has other lines", self._source.stream.path)
+        if answer.status != CallStatus.COMPLETE:
+            raise fault_of(answer, self.header, part, 0, self._source.stream.path)
+        block = Block(self._source, part, list(raws), numbers)
+        return block if self._reaches is None else block.within(self._reaches)

@@ -1,0 +1,231 @@
+"""Builds an index of streams: threads judge parts and read records, and one thread writes."""
+from __future__ import annotations
+
+import os
+from collections import deque
+from collections.abc import Callable, Iterable, Iterator, Sequence
+from contextlib import closing
+from dataclasses import replace
+from typing import Any, Protocol
+
+from ..engine.faults import CityseqError, MemoryFault, ReadFault, RequestError, read_fault
+from ..engine.judge import Answer
+from ..engine.query import Work
+from ..engine.reports import Report
+from ..run.results import Result
+from ..run.streams import ChunkSource, Judge, Results, Stream, results
+from ..sources.chunk_reader import Chunks
+from ..sources.same_file import refuse_same
+from ..sources.source import CHANGED, State, is_packed, is_path
+from .builder import Builder, Entry, File
+from .digests import Digest, Digests, HashedFile
+
+Tell = Callable[[Report], None] | None
+Progress = Callable[[int], None] | None
+
+
+class Indexed:
+    """A stream whose records go to an index. The threads that judge a file also hash it. Another
+    thread hashes a packed file, or one that a cluster judges."""
+
+    def __init__(
+        self,
+        number: int,
+        path: str,
+        work: Work,
+        builder: Builder,
+        size: int | None = None,
+        tell: Tell = None,
+        progress: Progress = None,
+        *,
+        chunks: ChunkSource | None = None,
+        judge_by: Judge | None = None,
+    ) -> None:
+        """Takes the number of the stream in the index, from 1. The others are those of `Stream`."""
+        self._number, self._path, self._builder = number, path, builder
+        self._keep_going = work.keep_going
+        self._entry: Entry | None = None
+        is_read_here = chunks is None and not is_packed(path)
+        self._digest: Any = None if is_read_here else builder.digests.submit(path)
+        self._then = tell
+        records = replace(work, kind="records")
+        self.stream = Stream(
+            path,
+            records,
+            size,
+            None,
+            self._report,
+            progress,
+            take=[self._take],
+            judge_by=judge_by,
+            chunks=chunks or Chunks(path, records, size, HashedFile),
+        )
+        self._fold = self.stream.fold
+
+    def _report(self, report: Report) -> None:
+        if self._then is None:
+            self._fold.reports.append(report)
+        else:
+            self._then(report)
+        if self._keep_going and self._fold.fault is None and report.line > 1:
+            self._builder.report(self._number, report)
+
+    def _take(self, answer: Answer, lines: int) -> None:
+        """Writes the records of the next chunk. `lines` lines came between it and the header.
+
+        Raises:
+            WriteFault: They cannot be written.
+        """
+        for records in answer.records:
+            if records.raw:
+                self._builder.add(self._begun(), records, lines + records.lines)
+
+    def _begun(self) -> Entry:
+        """Returns the entry of the stream in the index. The header is valid."""
+        if self._entry is None:
+            self._entry = self._builder.begin(self._number, self.stream.chunks.header)
+        return self._entry
+
+    def end(self, result: Result) -> Result:
+        """Returns the result of the stream. If the run reached its end, the index has it then."""
+        if result.fault is None and result.end is None:
+            try:
+                unpacker = self.stream.chunks.unpacker
+                packing = None if unpacker is None else unpacker.packing.name.lower()
+                file = File(self._path, packing, self._state(), self._hash())
+                self._builder.end(self._begun(), file, result)
+            except CityseqError as fault:
+                result.fail(fault)
+        return result
+
+    def _hash(self) -> str:
+        """Returns the hash of the file. Raises `ReadFault` if the file has changed."""
+        try:
+            content, is_changed = self._content()
+        except OSError as fault:
+            raise read_fault(fault, self._path) from fault
+        except MemoryError as fault:
+            raise MemoryFault("out of memory", None, self._path) from fault
+        if is_changed:
+            raise ReadFault(f"read fault: {CHANGED}", None, self._path)
+        return content
+
+    def _content(self) -> tuple[str, bool]:
+        """Returns the hash of the file, and whether the file has changed."""
+        chunks = self.stream.chunks
+        if self._digest is None and isinstance(chunks, Chunks):
+            if isinstance(chunks.regular, HashedFile):
+                return chunks.regular.content(), chunks.is_changed
+        job = self._digest or self._builder.digests.submit(self._path)
+        digest: Digest = job.result()
+        return digest.content, not digest.before == digest.after == self._state()
+
+    def _state(self) -> State:
+        """Returns the size and the time of change that the file had at the beginning."""
+        state = self.stream.chunks.state
+        assert state is not None
+        return state
+
+
+class Taker(Protocol):
+    """What takes all that comes of a stream."""
+
+    stream: Stream
+
+    def end(self, result: Result) -> Result:
+        """Takes the result of the stream, and returns it."""
+
+
+def of_takers(takers: Iterable[Taker], run: Callable[[Iterator[Stream]], Results]) -> Results:
+    """Yields the result of each stream, in order, when its taker has it. `run` yields the results
+    of streams."""
+    begun: deque[Taker] = deque()
+
+    def streams() -> Iterator[Stream]:
+        for each in takers:
+            begun.append(each)
+            yield each.stream
+
+    with closing(run(streams())) as found:
+        for result in found:
+            yield begun.popleft().end(result)
+
+
+def is_special(path: Any) -> bool:
+    """Whether a path exists, and is neither a regular file nor a folder."""
+    return os.path.exists(path) and not (os.path.isfile(path) or os.path.isdir(path))
+
+
+def checked(paths: Any, output: Any) -> list[str]:
+    """Returns the paths of the streams.
+
+    Raises:
+        RequestError: No path is given. One is not a path, or is that of a device or a pipe. Two
+            are one file, or the output is one of them.
+    """
+    listed = [paths] if isinstance(paths, (str, bytes, os.PathLike)) else list(paths)
+    for path in listed:
+        if not is_path(path) or is_special(path):
+            raise RequestError(f"an index is of regular files by their paths: {path!r} is none")
+    if not is_path(output):
+        raise RequestError(f"an index is written to a path: {output!r} is none")
+    named = [os.fsdecode(path) for path in listed]
+    if not named:
+        raise RequestError("no stream is given that can be indexed")
+    if len({os.path.realpath(path) for path in named}) < len(named):
+        raise RequestError("one stream is given twice")
+    refuse_same(named, [output])
+    return named
+
+
+def by_threads(takers: Iterable[Taker], jobs: int | None) -> Results:
+    """Yields the result of each stream, in order, by that number of threads."""
+    return of_takers(takers, lambda streams: results(streams, jobs))
+
+
+def written(
+    builder: Builder,
+    run: Callable[[], Results],
+    work: Work,
+    take: Callable[[Result], None] = lambda result: None,
+    digests: Any = None,
+) -> bool:
+    """Writes an index of streams, and passes the result of each to `take`. Returns whether the
+    index is whole, and removes it if it is not. Stops after the first stream that ended early.
+    `digests` makes the hashes of the files, by default a thread of this process."""
+    from .. import __version__
+
+    try:
+        builder.open()
+        with Digests() as own, closing(run()) as found:
+            builder.digests = own if digests is None else digests
+            for result in found:
+                take(result)
+                if result.fault is not None or result.end is not None:
+                    return False
+        builder.finish(work, __version__)
+        return True
+    finally:
+        builder.discard()
+
+
+def index(
+    paths: Sequence[str],
+    output: Any,
+    work: Work,
+    jobs: int | None,
+    size: int | None,
+    tell: Tell,
+    progress: Progress,
+) -> list[Result]:
+    """Writes an index of streams. The arguments are those of `cityseq.index`."""
+    builder = Builder(os.fsdecode(output))
+    made: list[Result] = []
+    streams = (
+        Indexed(number, path, work, builder, size, tell, progress)
+        for number, path in enumerate(paths, 1)
+    )
+    written(builder, lambda: by_threads(streams, jobs), work, made.append)
+    for result in made:
+        result.raised_if_invalid(work.keep_going)
+    return made

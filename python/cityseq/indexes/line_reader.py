@@ -1,0 +1,301 @@
+"""Reads lines of a stream by their places: from a file, a packed file, or a web server."""
+from __future__ import annotations
+
+import hashlib
+import json
+import os
+import stat
+from contextlib import contextmanager
+from dataclasses import dataclass
+from typing import Any, Iterable, Iterator, List, NamedTuple, Optional, Tuple
+
+from ..engine.structs import LINE_LIMITS
+from .database import INDEX_CHANGED
+from ..engine.faults import OutOfDate, ReadFault, read_fault
+from ..sources.packed import Unpacker
+from ..sources.regular import RegularFile
+from ..engine.faults import READ_FAULTS
+from ..sources.source import CHANGED, Reader, opened, state_of
+
+NEAR = 1 << 16  # bytes: lines that are nearer than this are read together
+MOST = 4 << 20  # bytes that are read together, unless one line has more
+SHORTER, OTHER_LINES = "the stream is shorter", "the stream has other lines"
+
+
+class Row(NamedTuple):
+    """Where the line of a feature is: the number of its stream, its line, its first byte in the
+    stream, and its bytes without LF."""
+
+    stream: int
+    line: int
+    begin: int
+    length: int
+
+
+class AllLines(Iterator[Row]):
+    """No rows: all lines of a stream are read, one after another."""
+
+    def __next__(self) -> Row:
+        raise StopIteration
+
+
+@dataclass(frozen=True)
+class IndexedStream:
+    """A stream as an index has it. docs/geopackage.md describes the columns.
+
+    Attributes:
+        number: The `fid` of its row.
+        path: Where the stream is. A stored path may be relative to the folder of the index.
+        told_path: The path as it was stored.
+    """
+
+    number: int
+    path: str
+    told_path: str
+    packing: Optional[str]
+    size: int
+    mtime_ns: int
+    content: str
+    header_length: int
+    header_sha256: str
+    scale: str
+    translate: str
+    reference_system: Optional[str]
+    lines: int
+    features: int
+    refused: int
+    first_fid: int
+    xmin: Optional[float]
+    xmax: Optional[float]
+    ymin: Optional[float]
+    ymax: Optional[float]
+    zmin: Optional[float]
+    zmax: Optional[float]
+
+    def compare(self, size: int, mtime_ns: int) -> None:
+        """Raises `OutOfDate` if the file has another size or time."""
+        if size != self.size:
+            told = "longer" if size > self.size else "shorter"
+        elif mtime_ns != self.mtime_ns:
+            told = "newer" if mtime_ns > self.mtime_ns else "older"
+        else:
+            return
+        raise OutOfDate.because(f"the stream is {told}", self.path)
+
+    @property
+    def is_flat(self) -> bool:
+        """Whether a query may have a box: x and y of the transform are fixed numbers."""
+        from decimal import Decimal, InvalidOperation  # few runs need it
+
+        from ..engine.extents import World
+
+        try:
+            told = (json.loads(text) for text in (self.scale, self.translate))
+            scale, translate = (list(map(Decimal, texts)) for texts in told)
+        except InvalidOperation:  # a number with a greater exponent than Python takes
+            return False
+        return World(scale, translate).is_flat
+
+
+def _confirm(stream: IndexedStream, descriptor: int) -> None:
+    """Checks after the last read that a file has not changed since the first one.
+
+    Raises:
+        ReadFault: It has.
+    """
+    if state_of(descriptor) != (stream.size, stream.mtime_ns):
+        raise ReadFault(f"read fault: {CHANGED}", None, stream.path)
+
+
+class FilePlace:
+    """A plain file."""
+
+    near = NEAR
+
+    def __init__(self, stream: IndexedStream, reader: Reader) -> None:
+        self._stream, self._file = stream, reader.file
+        stream.compare(*state_of(reader.file.fileno()))
+        self._placed = RegularFile(reader.file.fileno())
+
+    def read(self, begin: int, end: int) -> bytes:
+        """Returns the bytes from one place to another, or as many as there are."""
+        room = bytearray(max(min(end, self._stream.size) - begin, 0))
+        count, fault = self._placed.fill(memoryview(room), begin)
+        if fault is not None:
+            raise read_fault(fault, self._stream.path)
+        return bytes(room[:count])
+
+    def confirm(self) -> None:
+        """Raises `ReadFault` if the file has changed since it was opened."""
+        _confirm(self._stream, self._file.fileno())
+
+
+class PackedPlace:
+    """A packed file. It is read from its beginning, so places may only rise, or fall by one."""
+
+    near = NEAR
+
+    def __init__(self, stream: IndexedStream, reader: Reader) -> None:
+        self._stream, self._reader = stream, reader
+        self._held, self._begin, self._end = bytearray(), 0, 0
+        stream.compare(*state_of(reader.file.fileno()))
+
+    def read(self, begin: int, end: int) -> bytes:
+        """Returns the bytes from one place of the unpacked text to another, or as many as there
+        are."""
+        self._end = max(self._end, end)
+        while self._begin + len(self._held) < end:
+            if self._begin + len(self._held) <= begin:
+                self._begin += len(self._held)
+                self._held.clear()
+            piece = self._reader.read(MOST)
+            if self._reader.fault is not None:
+                raise self._reader.fault
+            if not piece:
+                break
+            self._held += piece
+        if begin > self._begin:
+            del self._held[: begin - self._begin]
+            self._begin = begin
+        return bytes(self._held[: end - begin])
+
+    def confirm(self) -> None:
+        """Reads on to the next checksum of the archive, which shows whether the text is right. The
+        header has a checksum in the index.
+
+        Raises:
+            ReadFault: It is not, or the file has changed since it was opened.
+        """
+        file = self._reader.file
+        if isinstance(file, Unpacker) and self._end > self._stream.header_length:
+            try:
+                file.finish_member()
+            except READ_FAULTS as fault:
+                raise read_fault(fault, self._stream.path) from fault
+        _confirm(self._stream, file.fileno())
+
+
+@contextmanager
+def placed(stream: IndexedStream, base: Optional[str]) -> Iterator[Any]:
+    """Gives an object that reads a stream by places: from a file, or a web server below a URL.
+
+    Raises:
+        OutOfDate: The stream is not as the index has it.
+        ReadFault: It cannot be opened or read.
+    """
+    if base is not None:
+        from ..sources.web import WebPlace  # few runs need it
+
+        with WebPlace(stream, base) as place:
+            yield place
+        return
+    check_file(stream)  # a pipe would wait for a writer when it is opened
+    with opened(stream.path) as reader:
+        kind: Any = FilePlace if stream.packing is None else PackedPlace
+        try:
+            of_file = kind(stream, reader)
+        except READ_FAULTS as fault:
+            raise read_fault(fault, stream.path) from fault
+        yield of_file
+        of_file.confirm()
+
+
+def header_of(stream: IndexedStream, place: Any) -> bytes:
+    """Reads the header of a stream. Raises `OutOfDate` if it is another one."""
+    header: bytes = place.read(0, stream.header_length)
+    if hashlib.sha256(header).hexdigest() != stream.header_sha256:
+        raise OutOfDate.because("the stream has another header", stream.path)
+    return header
+
+
+def check_file(stream: IndexedStream) -> None:
+    """Checks that the file of a stream is a regular file of the size and time that the index has.
+
+    Raises:
+        OutOfDate: It has another size or time.
+        ReadFault: It is missing, or no regular file.
+    """
+    try:
+        state = os.stat(stream.path)
+    except OSError as fault:
+        raise read_fault(fault, stream.path) from fault
+    if not stat.S_ISREG(state.st_mode):
+        raise ReadFault("read fault: it is no regular file", None, stream.path)
+    stream.compare(state.st_size, state.st_mtime_ns)
+
+
+def _groups(stream: IndexedStream, rows: Iterable[Row], near: int) -> Iterator[List[Row]]:
+    """Yields the rows of lines that are read together: between two are at most `near` bytes. Each
+    line begins after the one before."""
+    group: List[Row] = []
+    end = 0  # of the line before
+    for row in rows:
+        is_row = all(type(each) is int and each >= 0 for each in row)
+        if not is_row or row.begin <= end or row.length > LINE_LIMITS[1]:
+            raise OutOfDate.because(INDEX_CHANGED, stream.path)
+        end = row.begin + row.length
+        if group and (
+            row.begin - (group[-1].begin + group[-1].length) > near
+            or row.begin + row.length - group[0].begin > MOST
+        ):
+            yield group
+            group = []
+        group.append(row)
+    if group:
+        yield group
+
+
+def _line(stream: IndexedStream, text: bytes, begin: int, length: int) -> bytes:
+    """Returns a line with its LF, if it has one. It must begin after an LF of the text, and must be
+    one line that is not blank."""
+    end = begin + length
+    if len(text) < end:
+        raise OutOfDate.because(SHORTER, stream.path)
+    line = text[begin : end + 1]
+    is_one = line.find(b"\n") == (length if len(text) > end else -1)
+    if text[begin - 1 : begin] != b"\n" or not is_one or not line or line.isspace():
+        raise OutOfDate.because(OTHER_LINES, stream.path)
+    return line
+
+
+def _all_lines(stream: IndexedStream, place: Any) -> Iterator[Tuple[bytes, List[int]]]:
+    """Yields the lines after the header of a stream, some together, with 0 as the number of each.
+    """
+    begin, rest = stream.header_length, [b""]  # of a line that has not ended
+    text = place.read(begin, begin + MOST)
+    while text:
+        begin += len(text)
+        end = text.rfind(b"\n") + 1
+        if end:
+            yield b"".join([*rest, text[:end]]), [0] * text.count(b"\n")
+            rest = []
+        rest.append(text[end:])
+        text = place.read(begin, begin + MOST)
+    last = b"".join(rest)
+    if last:
+        yield last, [0]
+    if stream.packing is None and begin != stream.size:
+        raise OutOfDate.because(SHORTER, stream.path)
+
+
+def lines_of(
+    stream: IndexedStream, place: Any, rows: Iterable[Row]
+) -> Iterator[Tuple[bytes, List[int]]]:
+    """Yields lines of a stream, some together, and their numbers. Lines that are near each other
+    are read together with what is between them. `AllLines` as rows are all lines, and
+    then each number is 0.
+
+    Raises:
+        OutOfDate: The stream does not have the lines of the index.
+        ReadFault: A read failed.
+    """
+    if isinstance(rows, AllLines):
+        yield from _all_lines(stream, place)
+        return
+    for group in _groups(stream, rows, place.near):
+        first, last = group[0].begin - 1, group[-1].begin + group[-1].length + 1
+        text = place.read(first, last)
+        lines = [_line(stream, text, row.begin - first, row.length) for row in group]
+        if any(not line.endswith(b"\n") for line in lines[:-1]):
+            raise OutOfDate.because(OTHER_LINES, stream.path)
+        yield b"".join(lines), [row.line for row in group]

@@ -1,0 +1,163 @@
+"""What the modules `columns` and `sorting` do, by numpy, for many features at once. All results are
+the same, bit by bit."""
+from __future__ import annotations
+
+from typing import TYPE_CHECKING, Any, List, Sequence, Tuple
+
+import numpy as np
+
+from ..engine.extents import Axis, World
+from .bulk import Column, Same
+from .columns import Columns, Ranges
+from .rtree import INWARD, LOWER, OUTWARD, UPPER
+
+if TYPE_CHECKING:
+    from ..engine.records import Records
+
+AXES = ("x", "y", "z")
+RECORD = np.dtype(
+    [(name, "i8") for name in ("line", "begin", "length", "id_begin", "id_length", "objects",
+                               "geometries", "types", "lods")]
+    + [(f"{axis}{end}", "i8") for axis in AXES for end in ("", "min", "max")]
+)
+EXACT = 1 << 53  # whole numbers below this are floats
+SPLIT = 2.0**27 + 1  # splits a float in two halves of 26 bits
+ROW = np.dtype([("key", ">u8"), ("number", ">i8"), ("edges", ">f4", 4)])
+# each byte as two, with a zero between each two bits
+_SPREAD = np.array([upper << 8 | lower for upper, lower in zip(UPPER, LOWER)], "u8")
+Interval = Tuple[Any, Any]
+
+
+def in_order(rows: bytes, width: int) -> bytes:
+    """Returns rows sorted by their first eight bytes. Others keep their order."""
+    keys: Any = np.ndarray(len(rows) // width, ">u8", rows, strides=(width,))
+    words = np.frombuffer(rows, "u8").reshape(-1, width // 8)
+    ordered: bytes = words.take(keys.astype("u8").argsort(kind="stable"), axis=0).tobytes()
+    return ordered
+
+
+def columns_of(
+    records: "Records", lines: int, numbers: Sequence[int], world: World, start: bytes
+) -> Columns:
+    """Returns the columns of a part, as `columns.columns_of` does."""
+    found = np.frombuffer(records.raw, RECORD)
+    has_place = found["x"] != 0
+    some = found if has_place.all() else found[has_place]
+    columns = Columns(
+        line=(found["line"] + lines).tolist(),
+        begin=(found["begin"] + records.begin).tolist(),
+        length=found["length"].tolist(),
+        objects=_column(found["objects"]),
+        geometries=_column(found["geometries"]),
+        types=_column(found["types"]),
+        lods=_column(found["lods"]),
+        has_place=None if some is found else has_place.tolist(),
+    )
+    if not len(some):
+        return columns
+    columns = columns._replace(ranges=_ranges(some))
+    z = None if world.z is None else _intervals(world.z, some["zmin"], some["zmax"])
+    if z is not None:
+        columns = columns._replace(zmin=z[0].tolist(), zmax=z[1].tolist())
+    if world.x is None or world.y is None:
+        return columns
+    x, y = (
+        _intervals(axis, some[f"{name}min"], some[f"{name}max"])
+        for axis, name in ((world.x, "x"), (world.y, "y"))
+    )
+    fids = np.asarray(numbers) if some is found else np.asarray(numbers)[has_place]
+    return columns._replace(geometry=_polygons(start, x, y), cells=_cells(fids, x, y))
+
+
+def _column(values: Any) -> Column:
+    """Returns a column of these values, which are at least one."""
+    return Same(values[0].item()) if (values == values[0]).all() else values.tolist()
+
+
+def _ranges(records: Any) -> Ranges:
+    x, y, z = (
+        (int(records[f"{axis}min"].min()), int(records[f"{axis}max"].max())) for axis in AXES
+    )
+    return x, y, z
+
+
+# ---- world coordinates
+
+
+def _intervals(axis: Axis, least: Any, greatest: Any) -> Interval:
+    """Returns the least and the greatest world coordinates of pairs of vertices, rounded outward,
+    as `Axis.intervals` does."""
+    farthest = max(-int(least.min()), int(greatest.max()))
+    size = farthest * abs(axis.scale) + abs(axis.shift)
+    if size >= EXACT or axis.unit >= EXACT:
+        low, high = axis.intervals(least.tolist(), greatest.tolist())
+        return np.array(low), np.array(high)
+    if axis.scale < 0:
+        least, greatest = greatest, least
+    below, above = (
+        _rounded((end * axis.scale + axis.shift).astype("f8"), float(axis.unit), way)
+        for end, way in ((least, -np.inf), (greatest, np.inf))
+    )
+    return below, above
+
+
+def _rounded(counts: Any, unit: float, way: float) -> Any:
+    """Returns the floats nearest to `counts / unit`, toward minus or plus infinity.
+
+    A quotient of floats is the nearest one. If it is too great or too small for this way, its
+    neighbour is the right one. To know that, its product with `unit` is computed exactly, as the
+    sum of two floats (T. J. Dekker, "A floating-point technique for extending the available
+    precision", 1971).
+    """
+    about = counts / unit
+    product = about * unit
+    (high, low), (unit_high, unit_low) = _halves(about), _halves(unit)
+    rest = high * unit_high - product
+    rest = rest + high * unit_low
+    rest = rest + low * unit_high
+    rest = rest + low * unit_low
+    beyond = (product - counts) + rest  # has the sign of `about * unit - counts`
+    is_wrong = beyond > 0 if way < 0 else beyond < 0
+    return np.where(is_wrong, np.nextafter(about, way), about)
+
+
+def _halves(number: Any) -> Tuple[Any, Any]:
+    large = number * SPLIT
+    high = large - (large - number)
+    return high, number - high
+
+
+# ---- the layer and its spatial index
+
+
+def _polygons(start: bytes, x: Interval, y: Interval) -> List[bytes]:
+    """Returns extents as polygons, as `geopackage.polygons` does."""
+    size = len(start)
+    made: Any = np.empty(len(x[0]), np.dtype([("start", f"V{size}"), ("ring", "<f8", 10)]))
+    made["start"] = np.void(start)
+    (xmin, xmax), (ymin, ymax) = x, y
+    for place, edge in enumerate((xmin, ymin, xmax, ymin, xmax, ymax, xmin, ymax, xmin, ymin)):
+        made["ring"][:, place] = edge
+    polygons: List[bytes] = made.view(f"V{made.itemsize}").tolist()
+    return polygons
+
+
+def _cells(numbers: Any, x: Interval, y: Interval) -> bytes:
+    """Returns the key and the cell of each feature, as the functions of `rtree` make them."""
+    rows: Any = np.empty(len(numbers), ROW)
+    rows["key"] = _spread(x[0]) | _spread(y[0]) << np.uint64(1)
+    rows["number"] = numbers
+    for place, edge in enumerate((*x, *y)):
+        is_inward = edge > 0 if place % 2 == 0 else edge <= 0
+        rows["edges"][:, place] = edge * np.where(is_inward, INWARD, OUTWARD)
+    cells: bytes = rows.tobytes()
+    return cells
+
+
+def _spread(numbers: Any) -> Any:
+    words = numbers.astype("f4").view("u4")
+    ordered = np.where(words >> np.uint32(31), ~words, words | np.uint32(0x80000000))
+    first, second, third = (
+        _SPREAD[ordered >> np.uint32(bits) & np.uint32(255)] for bits in (24, 16, 8)
+    )
+    return first << np.uint64(32) | second << np.uint64(16) | third

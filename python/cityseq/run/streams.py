@@ -1,0 +1,305 @@
+"""Judges streams by threads, or by a cluster, and gives their results in order."""
+from __future__ import annotations
+
+import os
+from collections import deque
+from collections.abc import Callable, Generator, Iterable, Iterator
+from contextlib import suppress
+from dataclasses import dataclass, field
+from functools import partial
+from itertools import chain, islice
+from typing import Any, Protocol
+
+from ..engine.faults import RequestError
+from ..engine.judge import Answer, judge
+from ..engine.query import Work
+from ..engine.structs import CallStatus
+from ..sources.chunk_reader import PART, Chunks
+from ..sources.chunks import Chunk
+from ..sources.outputs import Writer
+from ..sources.packed import BLOCK, Unpacker
+from ..sources.source import Source, is_packed
+from .fold import Fold, Origin, Progress, Take, Tell
+from .pool import Pool
+from .results import Result
+
+AHEAD = 2  # chunks that wait, in addition to those that are judged
+MOST_RUNS = 256  # streams that are begun and whose results have not been given
+HELD = 2  # lists of answers of a stream that wait for the results of the streams before
+Results = Generator[Result, None, None]
+Judge = Callable[[Chunk], Answer]
+
+
+def _packed(judge: Judge, pack: Callable[[bytes], bytes], chunk: Chunk) -> Answer:
+    """Returns the answer for a chunk, with its output packed unless that is short. So all threads
+    pack."""
+    answer = judge(chunk)
+    if sum(map(len, answer.output)) >= BLOCK:
+        answer.output, answer.is_packed = [pack(b"".join(answer.output))], True
+    return answer
+
+
+class ChunkSource(Origin, Protocol):
+    """The chunks of a source, and what is known of it."""
+
+    unpacker: Unpacker | None
+
+    @property
+    def state(self) -> tuple[int, int] | None:
+        """The size and the time of change that the file had at the beginning."""
+
+    def __iter__(self) -> Generator[Chunk, None, None]:
+        """Yields the chunks, in order."""
+
+
+class Stream:
+    """The chunks of a stream, how they are judged, and the fold of the answers."""
+
+    def __init__(
+        self,
+        source: Source,
+        work: Work,
+        size: int | None = None,
+        output: Writer | None = None,
+        tell: Tell | None = None,
+        progress: Progress | None = None,
+        *,
+        take: Iterable[Take] = (),
+        judge_by: Judge | None = None,
+        chunks: ChunkSource | None = None,
+    ) -> None:
+        """Takes the source and the work.
+
+        Args:
+            source: The source.
+            work: What is asked of it.
+            size: How many bytes a chunk has. None is the usual size.
+            output: Gets the kept lines.
+            tell: Gets each report.
+            progress: Gets how many bytes more were done.
+            take: Get each answer, and how many lines came before.
+            judge_by: Judges a chunk. None is the library, in this process.
+            chunks: The chunks of the source. None cuts it in this process.
+        """
+        self.source, self.work = source, work
+        self.chunks: ChunkSource = chunks or Chunks(source, work, size)
+        self.judge = judge_by or partial(judge, work=work, size=size)
+        if output is not None and output.packing is not None:
+            self.judge = partial(_packed, self.judge, output.pack)
+        self.fold = Fold(self.chunks, work, output=output, tell=tell, take=take)
+        self._progress, self._taken = progress, 0
+
+    def add(self, answer: Answer) -> None:
+        """Joins the answer of the next chunk."""
+        is_first = self.fold.joined.parts == 0
+        self.fold.add(answer)
+        if self._progress is not None:
+            self._progress(self._done(answer, is_first))
+
+    def _done(self, answer: Answer, is_first: bool) -> int:
+        """Returns how many bytes more of the source are done. In a packed file they are packed."""
+        unpacker = self.chunks.unpacker
+        if unpacker is None:
+            return answer.size + (len(self.chunks.header) if is_first else 0)
+        before, self._taken = self._taken, unpacker.taken
+        return self._taken - before
+
+    def judged_here(self) -> Fold:
+        """Judges all chunks in this thread, and returns the fold of their answers."""
+        for chunk in self.chunks:
+            self.add(self.judge(chunk))
+            if self.fold.has_ended:
+                break
+        return self.fold
+
+
+Answers = tuple[list[Answer], bool]  # of the next chunks, and whether the stream has no more
+
+
+def _answer_of(judge: Judge, chunk: Chunk) -> Answers:
+    return [judge(chunk)], chunk.is_last
+
+
+def _next_answers(judge: Judge, chunks: Iterator[Chunk]) -> Answers:
+    """Reads and judges chunks: enough that to pass on the answers takes little of the time."""
+    answers: list[Answer] = []
+    size = 0
+    for chunk in chunks:
+        answers.append(judge(chunk))
+        size += chunk.length
+        if chunk.is_last or answers[-1].status != CallStatus.COMPLETE or answers[-1].fault:
+            return answers, True
+        if size >= PART:
+            break
+    return answers, not answers
+
+
+@dataclass
+class _Run:
+    """A stream whose judgement has begun.
+
+    Attributes:
+        stream: The stream.
+        is_sliced: Whether threads read it: one call at a time reads and judges some chunks.
+        chunks: The chunks that no call has.
+        calls: The calls whose answers have not been joined, in order.
+        held: Answers that wait until the results of the streams before were given.
+        is_read: Whether no more calls follow.
+    """
+
+    stream: Stream
+    is_sliced: bool
+    chunks: Generator[Chunk, None, None]
+    calls: deque[Any] = field(default_factory=deque)
+    held: deque[list[Answer]] = field(default_factory=deque)
+    is_read: bool = False
+
+    def add(self, answers: Iterable[Answer]) -> None:
+        """Joins some answers."""
+        for answer in answers:
+            if not self.stream.fold.has_ended:
+                self.stream.add(answer)
+        if self.stream.fold.has_ended:
+            self.close()
+
+    def take(self, is_next: bool) -> None:
+        """Takes the answers of the first call. Reports and records wait until this stream is the
+        first one."""
+        answers, is_last = self.calls.popleft().result()
+        self.is_read = self.is_read or is_last
+        waits = self.held or any(
+            answer.refused or answer.end is not None or answer.records for answer in answers
+        )
+        if is_next or not waits:
+            self.add(answers)
+        else:
+            self.held.append(answers)
+
+    def release(self) -> None:
+        """Joins the answers that were held."""
+        while self.held:
+            self.add(self.held.popleft())
+
+    def close(self) -> None:
+        """Cancels the calls, and closes the source."""
+        self.is_read = True
+        calls, self.calls = self.calls, deque()
+        for call in calls:
+            if not call.cancel() and self.is_sliced:
+                with suppress(Exception):
+                    call.result()  # it reads the source until then
+        self.chunks.close()
+
+
+class _Order:
+    """The runs that have begun, in order.
+
+    A thread that judges a chunk of a file also reads it. The thread that asks for the results reads
+    all pipes and sockets, since a read may wait for ever. Packed files are read in pool threads if
+    there are several, or only one thread."""
+
+    def __init__(self, submit: Callable[[Callable[[], Answers]], Any], ahead: int) -> None:
+        """Takes what begins a call and returns its job, and how many calls are begun before the
+        first is awaited."""
+        self._submit, self._ahead = submit, ahead
+        self._runs: deque[_Run] = deque()
+
+    def results(self, streams: Iterable[tuple[Stream, bool]]) -> Results:
+        """Yields the result of each stream. Takes with each whether threads read it."""
+        try:
+            for stream, is_sliced in streams:
+                run = _Run(stream, is_sliced, iter(stream.chunks))
+                self._runs.append(run)
+                if not is_sliced:
+                    yield from self._read(run)
+                yield from self._taken(self._ahead)
+            yield from self._taken(0)
+        finally:
+            for run in self._runs:
+                run.close()
+                run.stream.fold.discard()
+
+    def _read(self, run: _Run) -> Results:
+        """Begins a call for each chunk of a stream, while the stream has not ended."""
+        for chunk in run.chunks:
+            run.calls.append(self._submit(partial(_answer_of, run.stream.judge, chunk)))
+            yield from self._taken(0 if chunk.is_pause else self._ahead)
+            if run.is_read:
+                break
+
+    def _taken(self, most: int) -> Results:
+        """Takes answers until at most `most` calls wait, and yields the results that are there."""
+        while self._runs:
+            self._begin_slices()
+            run = self._runs[0]
+            run.release()
+            if run.calls:
+                are_many = sum(len(each.calls) + len(each.held) for each in self._runs) > most
+                if not run.calls[0].done() and not are_many and len(self._runs) < MOST_RUNS:
+                    return
+                run.take(True)
+            elif run.is_read:
+                yield self._finished(run)
+            else:
+                return
+
+    def _finished(self, run: _Run) -> Result:
+        run.close()
+        result = run.stream.fold.finish()
+        self._runs.popleft()
+        return result
+
+    def _begin_slices(self) -> None:
+        """Takes the answers of calls that have ended, and begins the next calls of streams that
+        threads read."""
+        for number, run in enumerate(self._runs):
+            if not run.is_sliced:
+                continue
+            if number and run.calls and run.calls[0].done():
+                run.take(False)
+            if not run.calls and not run.is_read and len(run.held) < HELD:
+                call = partial(_next_answers, run.stream.judge, run.chunks)
+                run.calls.append(self._submit(call))
+
+
+def usual_jobs() -> int:
+    """Returns how many processors this process may use."""
+    return len(os.sched_getaffinity(0)) if hasattr(os, "sched_getaffinity") else os.cpu_count() or 1
+
+
+def number_of_jobs(jobs: int | None) -> int:
+    """Returns how many threads judge. Raises `RequestError` if that is no number of threads."""
+    jobs = usual_jobs() if jobs is None else jobs
+    if isinstance(jobs, bool) or not isinstance(jobs, int) or jobs < 1:
+        raise RequestError(f"jobs are a whole number from 1: {jobs!r}")
+    return jobs
+
+
+def results(streams: Iterable[Stream], jobs: int | None) -> Results:
+    """Yields the result of each stream, in order, by that number of threads.
+
+    Raises:
+        RequestError: It is no number of threads.
+    """
+    return _by_pool(streams, number_of_jobs(jobs))
+
+
+def _by_pool(streams: Iterable[Stream], jobs: int) -> Results:
+    with Pool(jobs) as pool:
+        yield from _Order(pool.submit, jobs + AHEAD).results(_shared_out(streams, jobs))
+
+
+def _shared_out(streams: Iterable[Stream], jobs: int) -> Iterator[tuple[Stream, bool]]:
+    """Yields each stream, and whether threads read it."""
+    ahead = iter(streams)
+    begun = list(islice(ahead, 2))
+    for stream in chain(begun, ahead):
+        yield stream, (len(begun) > 1 or jobs == 1) and is_packed(stream.source)
+
+
+def results_by(
+    streams: Iterable[Stream], submit: Callable[[Callable[[], Answers]], Any], ahead: int
+) -> Results:
+    """Yields the result of each stream, in order. `submit` begins a call elsewhere, and returns its
+    future. `ahead` calls begin before the first is awaited."""
+    return _Order(submit, ahead).results((stream, False) for stream in streams)

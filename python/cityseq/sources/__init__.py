@@ -1,0 +1,1 @@
+"""Sources of streams: files, packed files, pipes, bytes and file objects, and their chunks."""

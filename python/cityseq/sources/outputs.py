@@ -1,0 +1,345 @@
+"""Outputs of kept lines. A file is written as `.NAME.*.part`, and renamed when it is whole. So no
+incomplete file looks like a whole one, and two runs with the same output do not mix."""
+from __future__ import annotations
+
+import codecs
+import io
+import os
+import select
+import stat
+import sys
+from contextlib import suppress
+from typing import IO, Any, Callable, List, Optional, Tuple, Union
+
+from ..engine.faults import RequestError, write_fault
+from .packed import LEVEL, Packer, Packing, Text, pack, packing_by_name, require
+from .source import is_path, name_of
+
+Target = Union[str, bytes, "os.PathLike[Any]", IO[bytes]]
+
+PART = ".part"  # the end of a file's name until it is whole
+LONGEST = 255  # bytes of a file's name
+NEW = os.O_RDWR | os.O_CREAT | os.O_EXCL | getattr(os, "O_CLOEXEC", 0)
+USUAL_MODE = 0o666  # of a new file, before the system's mask
+OWN_MODE = 0o600  # what its owner may do while the file is written
+
+
+def target_of(path: str) -> Optional[str]:
+    """Returns the file that an output replaces. If the path is a link, that is the file that it
+    leads to. Returns None for a device or a pipe, which is written directly."""
+    try:
+        if not stat.S_ISREG(os.stat(path).st_mode):
+            return None
+    except OSError:
+        pass  # there is nothing yet
+    return os.path.realpath(path)
+
+
+def part_of(path: str) -> Optional[str]:
+    """Returns where an output that is not whole is left if it must be kept. Returns None for a
+    device or a pipe."""
+    target = target_of(path)
+    return None if target is None else target + PART
+
+
+def _new_name(target: str) -> str:
+    """Returns a path next to a file that no other file should have."""
+    folder, name = os.path.split(target)
+    end = f".{os.urandom(4).hex()}{PART}"
+    while len(os.fsencode(f".{name}{end}")) > LONGEST:
+        name = name[:-1]
+    return os.path.join(folder, f".{name}{end}")
+
+
+def _mode_of(path: str) -> Optional[int]:
+    """Returns the mode of a file, or None if there is none."""
+    try:
+        return stat.S_IMODE(os.stat(path).st_mode)
+    except OSError:
+        return None
+
+
+class Part:
+    """A new file next to the one that it replaces when it is whole."""
+
+    def __init__(self, target: str) -> None:
+        """Takes the path of the file to replace. It makes no file."""
+        self._target = target
+        self._path: Optional[str] = None
+        self._mode: Optional[int] = None
+
+    @property
+    def path(self) -> str:
+        """The path of the new file, after `make`."""
+        assert self._path is not None
+        return self._path
+
+    def make(self) -> int:
+        """Makes the file, and returns a descriptor of it. An interrupt may come at once, so who
+        calls it must call `discard`.
+
+        Raises:
+            OSError: It cannot be made.
+        """
+        self._mode = _mode_of(self._target)
+        mode = USUAL_MODE if self._mode is None else self._mode | OWN_MODE
+        while True:
+            self._path = _new_name(self._target)  # before the file exists
+            try:
+                return os.open(self._path, NEW, mode)
+            except FileExistsError:
+                continue
+            except OSError:
+                self._path = None
+                raise
+
+    def replace(self) -> None:
+        """Gives the file the name and the mode of the one that it replaces.
+
+        Raises:
+            OSError: That is not possible.
+        """
+        self._rename(self._target)
+
+    def keep(self) -> None:
+        """Gives the file the name `NAME.part`, if it was made.
+
+        Raises:
+            OSError: That is not possible.
+        """
+        if self._path is not None:
+            self._rename(self._target + PART)
+
+    def _rename(self, name: str) -> None:
+        if self._mode is not None:
+            with suppress(OSError):
+                os.chmod(self.path, self._mode)
+        os.replace(self.path, name)
+        self._path = None
+
+    def discard(self) -> None:
+        """Removes the file if it has no other name yet."""
+        if self._path is not None:
+            with suppress(OSError):
+                os.unlink(self._path)
+        self._path = None
+
+
+class Batch:
+    """Whole outputs that get their names together. Leaving a `with` block removes the others."""
+
+    def __init__(self) -> None:
+        self._parts: List[Tuple[str, Part]] = []
+
+    def __enter__(self) -> "Batch":
+        return self
+
+    def __exit__(self, *_: Any) -> None:
+        for _name, part in self._parts:
+            part.discard()
+
+    def add(self, name: str, part: Part) -> None:
+        """Takes a whole output, and the name that a fault gives it."""
+        self._parts.append((name, part))
+
+    def replace(self) -> None:
+        """Gives each output its name.
+
+        Raises:
+            WriteFault: One cannot have it. The outputs before it have theirs.
+        """
+        for name, part in self._parts:
+            try:
+                part.replace()
+            except OSError as fault:
+                raise write_fault(fault, name) from fault
+
+
+def _wait(file: Any) -> None:
+    """Waits until a file that does not block may take more."""
+    poll = select.poll()
+    poll.register(file.fileno(), select.POLLOUT)
+    poll.poll()
+
+
+def _write_some(file: Any, text: memoryview) -> int:
+    """Writes some of a text, and returns how many bytes the file took. Waits if it took none.
+
+    A raw file that does not block returns None if it takes nothing, and a buffered one raises
+    `BlockingIOError`. Any other file that returns None has taken all."""
+    try:
+        written = file.write(text)
+    except BlockingIOError as fault:
+        _wait(file)
+        return int(getattr(fault, "characters_written", 0))
+    if written is None and isinstance(file, io.RawIOBase):
+        _wait(file)
+        return 0
+    return written if isinstance(written, int) else len(text)
+
+
+def write_all(file: Any, text: Text) -> None:
+    """Writes all of a text to a binary file, which may take only a part of it at a time.
+
+    Raises:
+        OSError: A write failed.
+    """
+    rest = memoryview(text)
+    try:
+        while rest:
+            rest = rest[_write_some(file, rest) :]
+    finally:
+        rest.release()
+
+
+def flush_all(file: Any) -> None:
+    """Flushes a binary file, which may take only a part at a time.
+
+    Raises:
+        OSError: A write failed.
+    """
+    while hasattr(file, "flush"):
+        try:
+            file.flush()
+            return
+        except BlockingIOError:
+            _wait(file)
+
+
+class _Decoded:
+    """Writes UTF-8 to an output that takes text alone, such as that of a notebook."""
+
+    def __init__(self, output: Any) -> None:
+        self._output, self.flush = output, output.flush
+        self._decode = codecs.getincrementaldecoder("utf-8")("replace").decode
+
+    def write(self, text: Union[bytes, bytearray, memoryview]) -> int:
+        """Writes all of these bytes."""
+        self._output.write(self._decode(bytes(text)))
+        return len(text)
+
+
+class Writer:
+    """Writes to a target: a path, `-` for standard output, or a binary file. A path is opened at
+    the first call of `write` or `close`. So the file exists even if nothing is kept."""
+
+    def __init__(
+        self,
+        target: Target,
+        keep_partial: bool = False,
+        batch: Optional[Batch] = None,
+        *,
+        level: int = LEVEL,
+        see: Optional[Callable[[Text], None]] = None,
+    ) -> None:
+        """Makes a writer of a target.
+
+        Args:
+            target: A path, `-` for standard output, or a binary file.
+            keep_partial: Whether a path that is not whole is left as `NAME.part`.
+            batch: Gives a whole path its name, if it is there.
+            level: How well an output is packed, from 1 to 9.
+            see: Is called with each text before it is packed, in any thread.
+        """
+        if isinstance(target, io.TextIOBase) or not (
+            isinstance(target, (str, bytes, os.PathLike)) or hasattr(target, "write")
+        ):
+            raise RequestError("an output is a path or a binary file")
+        if isinstance(target, bytes):
+            target = os.fsdecode(target)
+        self.name = name_of(target)
+        self._path = os.fsdecode(target) if is_path(target) else None  # type: ignore[arg-type]
+        self._part: Optional[Part] = None  # where the path is written until it is whole
+        self._file: Any = target if hasattr(target, "write") else None
+        self._keep_partial, self._batch, self._level, self._see = keep_partial, batch, level, see
+        if self.packing is not None:
+            try:
+                require(self.packing)
+            except OSError as fault:
+                raise write_fault(fault, self.name) from fault
+
+    @property
+    def packing(self) -> Optional[Packing]:
+        """How the output is packed, or None."""
+        return None if self._path is None else packing_by_name(self._path)
+
+    def pack(self, text: Text) -> bytes:
+        """Returns a text packed as the output is. Any thread may call it."""
+        assert self.packing is not None
+        if self._see is not None:
+            self._see(text)
+        return pack(text, self.packing, self._level)
+
+    def write_packed(self, text: bytes) -> None:
+        """Writes bytes that `pack` returned."""
+        try:
+            self._opened().write_packed(text)
+        except (OSError, ValueError) as fault:
+            raise write_fault(fault, self.name) from fault
+
+    def write(self, text: Text) -> None:
+        """Writes all of these bytes. Packs them if the output is packed."""
+        if self._see is not None:
+            self._see(text)
+        try:
+            write_all(self._opened(), text)
+        except (OSError, ValueError) as fault:
+            raise write_fault(fault, self.name) from fault
+
+    def close(self, whole: bool) -> None:
+        """Flushes the output, and closes a file that was opened here. Renames the file if it is
+        whole, and discards it if not."""
+        try:
+            if whole or self._file is not None:
+                file = self._opened()
+                if isinstance(file, Packer):
+                    file.finish()
+                else:
+                    flush_all(file)
+                if self._path is not None:
+                    file.close()
+            if whole and self._part is not None:
+                if self._batch is None:
+                    self._part.replace()
+                else:
+                    self._batch.add(self.name, self._part)
+                self._part = None
+        except (OSError, ValueError) as fault:
+            raise write_fault(fault, self.name) from fault
+        finally:
+            self.discard()
+
+    def discard(self) -> None:
+        """Closes a file that was opened here and is not whole. Removes it, unless it must be
+        kept."""
+        with suppress(OSError, ValueError):
+            if self._path is not None and self._file is not None:
+                self._file.close()
+        if self._part is not None:
+            if self._keep_partial:
+                with suppress(OSError):
+                    self._part.keep()
+            else:
+                self._part.discard()
+        self._part = None
+
+    def _opened(self) -> Any:
+        if self._file is None and self._path is None:
+            if sys.stdout is None:
+                raise OSError("standard output is closed")
+            self._file = getattr(sys.stdout, "buffer", None) or _Decoded(sys.stdout)
+        elif self._file is None:
+            assert self._path is not None
+            file = self._made(self._path)
+            self._file = file
+            if self.packing is not None:
+                self._file = Packer(file, self.packing, self._level)
+        return self._file
+
+    def _made(self, path: str) -> Any:
+        """Opens the file that a path is written to until it is whole."""
+        target = target_of(path)
+        if target is None:
+            return open(path, "wb")
+        self._part = Part(target)
+        return os.fdopen(self._part.make(), "wb")

@@ -1,0 +1,237 @@
+"""Sources of streams: paths of files that may be packed, `-`, bytes and file objects."""
+from __future__ import annotations
+
+import contextlib
+import io
+import os
+import select
+import stat
+import sys
+from collections.abc import Iterator
+from typing import IO, TYPE_CHECKING, Any, Union
+
+from ..engine.faults import READ_FAULTS, ReadFault, RequestError, read_fault
+from .packed import Packing, Unpacker, may_be_packed, packing_by_mark, packing_of
+
+if TYPE_CHECKING:
+    from array import array
+    from mmap import mmap
+
+    Buffer = Union[bytes, bytearray, memoryview, array[Any], mmap]
+
+Source = Union[str, "os.PathLike[Any]", "Buffer", IO[bytes]]
+
+State = tuple[int, int]  # of a file
+CHANGED = "changed while it was read"
+PIECE = 1 << 20  # the most bytes of one read
+IDLE = 50  # milliseconds to wait for more bytes before those that are there are judged
+LONGEST_PATH = 4_096  # bytes: a longer text is no path
+
+
+def is_path(source: Any) -> bool:
+    """Whether a source or a target is a path, except `-`. Bytes are not a path: they are the
+    stream itself."""
+    return isinstance(source, (str, os.PathLike)) and os.fsdecode(source) != "-"
+
+
+def bytes_of(source: Any) -> memoryview | None:
+    """Returns the bytes of a source that is an object with bytes, such as `bytes` or an array. None
+    for other sources."""
+    if isinstance(source, (str, os.PathLike)) or hasattr(source, "read"):
+        return None
+    try:
+        return memoryview(source).cast("B")
+    except TypeError:
+        return None
+
+
+def name_of(source: Any) -> str:
+    """Returns the name of a source in reports."""
+    if isinstance(source, (str, os.PathLike)):
+        return os.fsdecode(source)
+    if bytes_of(source) is not None:
+        return "<bytes>"
+    name = getattr(source, "name", None)
+    return name if isinstance(name, str) else "<stream>"
+
+
+def size_of(source: Any) -> int | None:
+    """Returns how many bytes a source has, or None if this is known only after reading. For a
+    packed file these are packed bytes."""
+    held = bytes_of(source)
+    if held is not None:
+        return held.nbytes
+    return os.path.getsize(source) if is_path(source) and os.path.isfile(source) else None
+
+
+def _poll_of(file: Any) -> Any:
+    """Returns an object that shows whether a pipe or a terminal has bytes. None for other files."""
+    try:
+        descriptor = file.fileno()
+        mode = os.fstat(descriptor).st_mode
+    except (AttributeError, OSError, ValueError):
+        return None
+    if isinstance(file, Unpacker) or not (
+        stat.S_ISFIFO(mode) or stat.S_ISSOCK(mode) or stat.S_ISCHR(mode)
+    ):
+        return None
+    poll = select.poll()
+    poll.register(descriptor, select.POLLIN)
+    return poll
+
+
+class Reader:
+    """Reads a file object. If a read fails, keeps the fault as `fault`, and the input ends."""
+
+    def __init__(self, file: Any, name: str = "<stream>", is_text: bool = False) -> None:
+        """Takes a file object and its name. If it is not known to be a text, it is unpacked if its
+        first bytes show that it is packed."""
+        self.file, self.name = file, name
+        self._read: Any = getattr(file, "read1", None) or file.read
+        self.fault: ReadFault | None = None
+        self._poll = _poll_of(file)
+        self._has_begun = is_text
+
+    def is_idle(self) -> bool:
+        """Whether no bytes have come for some time. False for a source that is not a pipe, a
+        socket or a terminal."""
+        if self._poll is None:
+            return False
+        try:
+            return not self._poll.poll(IDLE)
+        except (OSError, ValueError):
+            return False
+
+    def read(self, most: int) -> bytes:
+        """Returns at most `most` bytes, and none at the end."""
+        try:
+            piece = self._piece(most)
+            if not self._has_begun:
+                self._has_begun = True
+                piece = self._text_of(piece, most)
+            return piece
+        except READ_FAULTS as fault:
+            self.fault, self._read = read_fault(fault, self.name), io.BytesIO().read
+        return b""
+
+    def _piece(self, most: int) -> bytes:
+        piece = self._read(min(most, PIECE))
+        if isinstance(piece, (bytes, bytearray)):
+            return bytes(piece)
+        is_text = isinstance(piece, str)
+        raise OSError(
+            "the source gives text: open it as binary" if is_text else "no bytes were ready"
+        )
+
+    def _text_of(self, head: bytes, most: int) -> bytes:
+        """Returns the first text of a file with these first bytes."""
+        while head and may_be_packed(head):
+            more = self._piece(most)
+            if not more:
+                break
+            head += more
+        packing = packing_by_mark(head)
+        if packing is None:
+            return head
+        self.file = Unpacker(self.file, packing, head)
+        self._read, self._poll = self.file.read, None
+        return self._piece(most)
+
+
+def _open_path(path: str) -> Any:
+    """Returns the file object of a path. It unpacks a packed file."""
+    file = open(path, "rb")
+    try:
+        packing = packing_of(file.peek(len(Packing.ZSTD.mark)), path)
+        return file if packing is None else Unpacker(file, packing)
+    except BaseException:
+        file.close()
+        raise
+
+
+def _path_of(source: Any) -> str:
+    """Returns the path that a source is. Raises `RequestError` if it is a text and no path."""
+    path = os.fsdecode(source)
+    if "\n" in path and len(os.fsencode(path)) > LONGEST_PATH:
+        raise RequestError(
+            f"a source is a path, and no text of {len(path):,} characters: give a stream as bytes"
+        )
+    return path
+
+
+def _open(source: Source) -> Any:
+    """Opens a source that is a path or bytes. The caller must close the file object."""
+    if isinstance(source, (str, os.PathLike)):
+        return _open_path(_path_of(source))
+    held = bytes_of(source)
+    if held is not None:
+        return io.BytesIO(held)
+    raise RequestError(
+        f"a source is a path, bytes or a binary file, and no {type(source).__name__}"
+    )
+
+
+def is_packed(source: Any) -> bool:
+    """Whether a source is the path of a packed file."""
+    try:
+        if not is_path(source) or not os.path.isfile(source):
+            return False
+        with open(source, "rb") as file:
+            return packing_of(file.peek(len(Packing.ZSTD.mark)), os.fsdecode(source)) is not None
+    except OSError:
+        return False
+
+
+def state_of(descriptor: int) -> State:
+    """Returns the size of an open file, and its time of change in nanoseconds. If one of them
+    differs later, the file has changed."""
+    told = os.fstat(descriptor)
+    return told.st_size, told.st_mtime_ns
+
+
+class Watch:
+    """Shows whether a regular file has changed since the watch was made."""
+
+    def __init__(self, descriptor: int) -> None:
+        self._descriptor = -1
+        self._descriptor = os.dup(descriptor)
+        self.state = state_of(descriptor)
+
+    def __del__(self) -> None:
+        if self._descriptor >= 0:
+            os.close(self._descriptor)
+
+    @classmethod
+    def of(cls, file: Any) -> Watch | None:
+        """Returns a watch of the file of a file object. None if there is no regular file."""
+        try:
+            descriptor = file.fileno()
+            return cls(descriptor) if stat.S_ISREG(os.fstat(descriptor).st_mode) else None
+        except (AttributeError, OSError, ValueError):
+            return None
+
+    def is_changed(self) -> bool:
+        """Whether the file is in another state than at the beginning."""
+        return state_of(self._descriptor) != self.state
+
+
+@contextlib.contextmanager
+def opened(source: Source) -> Iterator[Reader]:
+    """Yields a reader of a source, and closes what was opened for it."""
+    name = name_of(source)
+    if hasattr(source, "read"):
+        yield Reader(source, name)
+        return
+    if isinstance(source, str) and source == "-":
+        if sys.stdin is None:
+            raise ReadFault("read fault: standard input is closed", None, name)
+        yield Reader(sys.stdin.buffer, name)
+        return
+    try:
+        file = _open(source)
+    except READ_FAULTS as fault:
+        if isinstance(fault, RequestError):
+            raise
+        raise read_fault(fault, name) from fault
+    with file:
+        yield Reader(file, name, is_text=True)
