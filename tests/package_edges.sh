@@ -153,17 +153,17 @@ is_out_of_memory() {
   same "5 1" "$1 $(wc -l < "$scratch/said")" && grep -q 'out of memory$' "$scratch/said"
 }
 
-# A folder that is full: it has a few pages for the database of an index, and no more.
+# A folder with room for a first look, and not for the rows that an index sorts.
 row_a_full_folder_of_temporary_files() {
   mkdir "$scratch/small"
   mount -t tmpfs -o size=64k tmpfs "$scratch/small" 2> "$scratch/noise" || return 0  # it takes root
   stream 300000 > "$scratch/stream"
-  head -c 65536 /dev/zero > "$scratch/small/filler" 2> "$scratch/noise"
+  head -c 49152 /dev/zero > "$scratch/small/filler"
   TMPDIR=$scratch/small SQLITE_TMPDIR=$scratch/small cityseq index --output "$scratch/it.gpkg" "$scratch/stream" \
     > "$scratch/out" 2> "$scratch/said"
   local status=$?
   umount "$scratch/small"
-  same "4 $scratch/small: write fault: no space left for temporary files" "$status $(cat "$scratch/said")"
+  same "4 $scratch/small: write fault: No space left on device" "$status $(cat "$scratch/said")"
 }
 
 # Runs a row, and counts it.
