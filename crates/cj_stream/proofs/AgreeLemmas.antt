@@ -29,7 +29,8 @@ ends-goes n h keep = go (eqb n 1) refl
     go true e = let f : ltb 1 n ≡ false = grind (arith, nat_tests) in rw f refl
     go false e = let f : ltb 1 n ≡ true = grind (arith, nat_tests) in rw f refl
 
-item-none : (line : Line) (header tree : Option Tree) (v : Verdict) → is_kept v ≡ false → item_by line header tree v ≡ None
+item-none : (line : Line) (header tree : Option Tree) (v : Verdict) → is_kept v ≡ false
+    → item_by line header tree v ≡ None
 item-none line header None v h = refl
 item-none line header (Some t) (Invalid place reason) h = refl
 item-none line header (Some t) Blank h = refl
@@ -216,7 +217,12 @@ module _ (rules : Rules) where
       old = verdict-first rules no_tree (tree_of rules.limits.depth []) l.content
 
       next : IsNext [] l (judged_at rules 1 None l)
-      next = record { line = refl; number = refl; verdict = old; item = λ k. same-item None l (judged_at rules 1 None l).tree (judged_at rules 1 None l).verdict is k }
+      next = record {
+        line = refl;
+        number = refl;
+        verdict = old;
+        item = λ k. same-item None l (judged_at rules 1 None l).tree (judged_at rules 1 None l).verdict is k;
+      }
 
       go : (v : Verdict) → (judged_at rules 1 None l).verdict ≡ v → Agrees [] (l ∷ ls) (judged_list rules (l ∷ ls))
       go (Invalid place reason) e =
@@ -234,10 +240,17 @@ module _ (rules : Rules) where
                 (judged_at rules 1 None l).tree ls)))) at
                 ∙ ap (λ z. Some (end_of_report (report_by 1 z))) e));
           }
-      go Blank e = let k = subst IsFirst e (first-verdict rules l.content (judged_at rules 1 None l).tree (judged_at rules 1 None l).verdict is) in absurd (first-blank k)
-      go LeftOut e = let k = subst IsFirst e (first-verdict rules l.content (judged_at rules 1 None l).tree (judged_at rules 1 None l).verdict is) in absurd (first-left k)
+      go Blank e =
+          let k = subst IsFirst e
+          (first-verdict rules l.content (judged_at rules 1 None l).tree (judged_at rules 1 None l).verdict is) in
+          absurd (first-blank k)
+      go LeftOut e =
+          let k = subst IsFirst e
+          (first-verdict rules l.content (judged_at rules 1 None l).tree (judged_at rules 1 None l).verdict is) in
+          absurd (first-left k)
       go Kept e =
-          let k = kept-tree rules None l.content (judged_at rules 1 None l).tree (judged_at rules 1 None l).verdict is e in
+          let k = kept-tree rules None l.content
+          (judged_at rules 1 None l).tree (judged_at rules 1 None l).verdict is e in
           let same = same-tree l.content k.0 k.2.json k.2.shallow in
           let behind =
           behind-some rules (judged_at rules 1 None l).verdict (judged_at rules 1 None l).tree k.0 ls e k.1

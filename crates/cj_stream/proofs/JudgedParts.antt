@@ -57,7 +57,8 @@ module _ (rules : Rules) (l : Line) (valid : verdict rules [] l.content ≡ Kept
       let first = judged_at rules 1 None l in
       let k = kept-tree rules None l.content first.tree first.verdict (first-is rules l).verdict first-kept in (
         k.0,
-        λ ls. ap (λ js. judged_at rules 1 None l ∷ js) (behind-some rules first.verdict first.tree k.0 ls first-kept k.1),
+        λ ls. ap (λ js. judged_at rules 1 None l ∷ js)
+            (behind-some rules first.verdict first.tree k.0 ls first-kept k.1),
       )
 
   list-joined : (xs ys : List Line) → judged_list rules (l ∷ xs ++ ys) ≡ judged_list rules (l ∷ xs)

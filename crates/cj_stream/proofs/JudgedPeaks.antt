@@ -143,12 +143,14 @@ module _ (rules : Rules) where
 
   pub kept-first : (l : Line) (ls : List Line) → ending_in rules (judged_list rules (l ∷ ls)) ≡ Complete
       → (judged_at rules 1 None l).verdict ≡ Kept
-  kept-first l ls h = go (judged_at rules 1 None l).verdict refl (first-verdict rules l.content _ _ (first-is rules l).verdict)
+  kept-first l ls h =
+      go (judged_at rules 1 None l).verdict refl (first-verdict rules l.content _ _ (first-is rules l).verdict)
     where
       clash : (place : ℕ) (reason : Reason) → Refused 1 place reason ≡ Complete → ⊥
       clash place reason e = cc
 
-      go : (v : Verdict) → (judged_at rules 1 None l).verdict ≡ v → IsFirst v → (judged_at rules 1 None l).verdict ≡ Kept
+      go : (v : Verdict) → (judged_at rules 1 None l).verdict ≡ v → IsFirst v
+          → (judged_at rules 1 None l).verdict ≡ Kept
       go (Invalid place reason) e k = absurd (clash place reason (sym (refused-first l ls place reason e) ∙ h))
       go Blank e k = absurd (first-blank k)
       go LeftOut e k = absurd (first-left k)

@@ -131,8 +131,8 @@ module _ {S : Type 0} (law : SinkLaw S) where
       no-item x place reason v e k = rw e (other (rw e at k))
         where
           other : Settles law (JudgedAs (g.lines + 1) on (Invalid place reason) x) (with_sink g s) r (with_sink h t)
-              → Settles law (judged_next g on (Invalid place reason) (record { content = c; lf = lf })) (with_sink g s) r
-              (with_sink h t)
+              → Settles law (judged_next g on (Invalid place reason) (record { content = c; lf = lf }))
+              (with_sink g s) r (with_sink h t)
           other (inl d) = inl d
           other (inr m) = absurd (apart m.4)
             where

@@ -161,9 +161,9 @@ pub record StopsUnread {N : Type 0} (run : Run) (old new : Outputs N) : Type 0 w
   pub unwritten : Keeps old.channel.bytes new.channel.bytes
   pub unreported : new.reports ≡ old.reports
 
--- The headline of a run over the bytes that a reader gave, unless a read failed or the reads ran out. It is that of each
--- stream that begins with these bytes, and of which they are all if the reader was at its end. Or memory was refused
--- before the first read.
+-- The headline of a run over the bytes that a reader gave, unless a read failed or the reads ran out. It is that of
+-- each stream that begins with these bytes, and of which they are all if the reader was at its end. Or memory was
+-- refused before the first read.
 abbrev pub HeadlineOfRun : {N : Type 0} → (N → Report → N → Type 0) → Run → Type 0 → Outputs N → Outputs N → Type 0
 HeadlineOfRun notes run at_end old new =
     StopsUnread run old new

@@ -41,8 +41,8 @@ abbrev pub faults : Rules → Option Tree → Tree → List Finding
 faults rules None t = header_findings (needs_box rules.criteria) t
 faults rules (Some header) t = feature_findings header t rules.options.tree
 
--- A header is kept. A feature is kept that satisfies the query (RULES, "Queries"), or, if such features are left out, one
--- that does not.
+-- A header is kept. A feature is kept that satisfies the query (RULES, "Queries"), or, if such features are left out,
+-- one that does not.
 abbrev pub is_selected : Rules → Option Tree → Tree → Bool
 is_selected rules None t = true
 is_selected rules (Some header) t =
