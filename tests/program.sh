@@ -936,7 +936,7 @@ script_of() {
 shown_in() {
   block "$1" "$2" > "$scratch/wanted"
   # the package has help and messages of its own, and unpacks what it reads
-  if $package && grep -qE '^(\$ cityseq.*--help|\$ gzip -c|error: )' "$scratch/wanted"; then return $skipped; fi
+  if $package && grep -qE '^(\$ cityseq.*--help|\$ gzip -c [^|]*\| cityseq check|error: )' "$scratch/wanted"; then return $skipped; fi
   script_of < "$scratch/wanted" > "$scratch/script"
   PATH=$tools:$PATH timeout 60 bash "$scratch/script" < /dev/null > "$scratch/written" 2>&1
   diff --label shown --label printed -u "$scratch/wanted" "$scratch/written"
