@@ -3,10 +3,16 @@ import os
 import signal
 import subprocess
 import sys
+import threading
 import unittest
+from unittest import mock
 
 from . import support
 from .support import HEADER, PLAIN, InFolder, feature
+
+import cityseq
+from cityseq.run.pool import Job
+from cityseq.sources.packed import Unpacker
 
 # Each leaves the run after its first result, where a name of the module holds the generator.
 LEAVES = {
@@ -178,6 +184,31 @@ class Interrupts(InFolder):
             for stream in (process.stdin, process.stdout, process.stderr):
                 stream.close()
             self.assertEqual((kept, said), (HEADER + PLAIN, b"interrupted\n"))
+
+    def test_a_thread_that_reads_a_packed_file(self):
+        """The call that the interrupted thread awaits is still reading. It ends before the file is
+        closed."""
+        path = self.file(HEADER + PLAIN, "s.city.jsonl.gz")
+        reads, goes_on = threading.Event(), threading.Event()
+        read, result = Unpacker.read, Job.result
+
+        def slow_read(unpacker, size):
+            reads.set()
+            goes_on.wait(10)
+            return read(unpacker, size)
+
+        def interrupted(job):
+            if goes_on.is_set():
+                return result(job)
+            self.assertTrue(reads.wait(10))
+            threading.Timer(0.3, goes_on.set).start()
+            goes_on.wait(0.1)
+            raise KeyboardInterrupt
+
+        slow = mock.patch.object(Unpacker, "read", slow_read)
+        first = mock.patch.object(Job, "result", interrupted)
+        with slow, first, self.assertRaises(KeyboardInterrupt):
+            cityseq.check(path, jobs=1)
 
 
 if __name__ == "__main__":

@@ -165,7 +165,8 @@ class _Run:
     def take(self, is_next: bool) -> None:
         """Takes the answers of the first call. Reports and records wait until this stream is the
         first one."""
-        answers, is_last = self.calls.popleft().result()
+        answers, is_last = self.calls[0].result()
+        self.calls.popleft()  # not before: an interrupted wait leaves the call for `close`
         self.is_read = self.is_read or is_last
         waits = self.held or any(
             answer.refused or answer.end is not None or answer.records for answer in answers
