@@ -11,7 +11,7 @@ from . import support
 from .support import HEADER, PLAIN, InFolder, feature
 
 import cityseq
-from cityseq.run.pool import Job
+from cityseq.run.pool import Job, Pool
 from cityseq.sources.packed import Unpacker
 
 # Each leaves the run after its first result, where a name of the module holds the generator.
@@ -190,25 +190,35 @@ class Interrupts(InFolder):
         closed."""
         path = self.file(HEADER + PLAIN, "s.city.jsonl.gz")
         reads, goes_on = threading.Event(), threading.Event()
-        read, result = Unpacker.read, Job.result
+        read, result, submit = Unpacker.read, Job.result, Pool.submit
 
         def slow_read(unpacker, size):
             reads.set()
             goes_on.wait(10)
             return read(unpacker, size)
 
-        def interrupted(job):
-            if goes_on.is_set():
-                return result(job)
+        def interrupt():
             self.assertTrue(reads.wait(10))
             threading.Timer(0.3, goes_on.set).start()
-            goes_on.wait(0.1)
             raise KeyboardInterrupt
 
+        def interrupted_result(job):
+            return result(job) if goes_on.is_set() else interrupt()
+
+        def interrupted_submit(pool, call):
+            submit(pool, call)
+            interrupt()
+
         slow = mock.patch.object(Unpacker, "read", slow_read)
-        first = mock.patch.object(Job, "result", interrupted)
-        with slow, first, self.assertRaises(KeyboardInterrupt):
-            cityseq.check(path, jobs=1)
+        for of, name, call in (
+            (Job, "result", interrupted_result),
+            (Pool, "submit", interrupted_submit),
+        ):
+            reads.clear()
+            goes_on.clear()
+            patched = mock.patch.object(of, name, call)
+            with self.subTest(name), slow, patched, self.assertRaises(KeyboardInterrupt):
+                cityseq.check(path, jobs=1)
 
 
 if __name__ == "__main__":

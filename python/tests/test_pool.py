@@ -53,6 +53,33 @@ class Crews(unittest.TestCase):
             self.assertRaises(KeyError, job.result)
             self.assertRaises(KeyError, job.result)
 
+    def test_an_interrupt_that_leaves_the_lock_taken(self):
+        """As when it comes just after the lock was taken: who asks again is answered."""
+
+        class Interrupted:
+            def __init__(self, lock):
+                self.lock, self.locked, self.release = lock, lock.locked, lock.release
+                self.is_first = True
+
+            def acquire(self, timeout):
+                taken = self.lock.acquire(timeout=timeout)
+                if self.is_first:
+                    self.is_first = False
+                    raise KeyboardInterrupt
+                return taken
+
+        goes_on = threading.Event()
+        with Pool(1) as crew:
+            job = crew.submit(lambda: goes_on.wait(10))
+            job._open = Interrupted(job._open)
+            threading.Timer(0.1, goes_on.set).start()
+            self.assertRaises(KeyboardInterrupt, job.result)
+            again = threading.Thread(target=job.result, daemon=True)
+            again.start()
+            again.join(5)
+            self.assertFalse(again.is_alive())
+            self.assertTrue(job.done())
+
     def test_never_more_threads_than_calls(self):
         patch, started = starting(99)
         with patch, Pool(64) as crew:

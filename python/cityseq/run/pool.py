@@ -48,6 +48,7 @@ class Job(Generic[T]):
         self._call, self._pool = call, pool
         self._value: Any = None
         self._fault: BaseException | None = None
+        self._is_done = False
         self._taken, self._open = _thread.allocate_lock(), _thread.allocate_lock()
         self._open.acquire()
 
@@ -61,6 +62,7 @@ class Job(Generic[T]):
             self._fault = fault
         finally:
             del self._call
+            self._is_done = True
             self._open.release()
 
     def cancel(self) -> bool:
@@ -69,17 +71,19 @@ class Job(Generic[T]):
 
     def done(self) -> bool:
         """Whether the call has been made."""
-        return not self._open.locked()
+        return self._is_done
 
     def result(self) -> T:
         """Returns what the call returns, or raises what it raises. If no thread is alive to make
-        the call, this thread makes it."""
-        while not self._open.acquire(timeout=PATIENCE if self._pool.has_threads() else 0):
-            if not self._pool.has_threads():
+        the call, this thread makes it. An interrupt may come while this thread holds the lock, so
+        the lock alone does not say whether the call was made."""
+        while not self._is_done:
+            if self._open.acquire(timeout=PATIENCE if self._pool.has_threads() else 0):
+                self._open.release()
+            elif not self._pool.has_threads():
                 if not _has_stack():
                     raise MemoryError("no thread is there")
                 self.run()
-        self._open.release()
         if self._fault is not None:
             raise self._fault
         return cast(T, self._value)

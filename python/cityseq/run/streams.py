@@ -4,10 +4,10 @@ from __future__ import annotations
 import os
 from collections import deque
 from collections.abc import Callable, Generator, Iterable, Iterator
-from contextlib import suppress
 from dataclasses import dataclass, field
 from functools import partial
 from itertools import chain, islice
+from threading import Lock
 from typing import Any, Protocol
 
 from ..engine.faults import RequestError
@@ -120,8 +120,14 @@ def _answer_of(judge: Judge, chunk: Chunk) -> Answers:
     return [judge(chunk)], chunk.is_last
 
 
-def _next_answers(judge: Judge, chunks: Iterator[Chunk]) -> Answers:
-    """Reads and judges chunks: enough that to pass on the answers takes little of the time."""
+def _next_answers(judge: Judge, chunks: Iterator[Chunk], reading: Lock) -> Answers:
+    """Reads and judges chunks: enough that to pass on the answers takes little of the time. Holds
+    the lock meanwhile."""
+    with reading:
+        return _some_answers(judge, chunks)
+
+
+def _some_answers(judge: Judge, chunks: Iterator[Chunk]) -> Answers:
     answers: list[Answer] = []
     size = 0
     for chunk in chunks:
@@ -145,6 +151,8 @@ class _Run:
         calls: The calls whose answers have not been joined, in order.
         held: Answers that wait until the results of the streams before were given.
         is_read: Whether no more calls follow.
+        reading: Held by the thread that reads a sliced stream. An interrupt may come before its
+            call is in `calls`.
     """
 
     stream: Stream
@@ -153,6 +161,7 @@ class _Run:
     calls: deque[Any] = field(default_factory=deque)
     held: deque[list[Answer]] = field(default_factory=deque)
     is_read: bool = False
+    reading: Lock = field(default_factory=Lock)
 
     def add(self, answers: Iterable[Answer]) -> None:
         """Joins some answers."""
@@ -186,10 +195,9 @@ class _Run:
         self.is_read = True
         calls, self.calls = self.calls, deque()
         for call in calls:
-            if not call.cancel() and self.is_sliced:
-                with suppress(Exception):
-                    call.result()  # it reads the source until then
-        self.chunks.close()
+            call.cancel()
+        with self.reading:  # a thread may read until then
+            self.chunks.close()
 
 
 class _Order:
@@ -259,7 +267,7 @@ class _Order:
             if number and run.calls and run.calls[0].done():
                 run.take(False)
             if not run.calls and not run.is_read and len(run.held) < HELD:
-                call = partial(_next_answers, run.stream.judge, run.chunks)
+                call = partial(_next_answers, run.stream.judge, run.chunks, run.reading)
                 run.calls.append(self._submit(call))
 
 
