@@ -2,10 +2,14 @@
 //! standard input, output and error. The crate `cityseq_command` has the commands.
 #![tactic(auto)]
 
+mod process;
+
 use cityseq_command::command::{OUTPUT_BUFFER, command};
 use cityseq_command::decline::tell_no_memory;
-use cityseq_command::fault_lines::WRONG_WORDS;
-use cj_stream::Output;
+use cityseq_command::fault_lines::{WRONG_WORDS, status, write_text};
+use cityseq_command::read_ask;
+use cj_stream::{End, Output};
+use process::{Hindrance, Process};
 use std::alloc::{AllocError, Global};
 use std::env;
 use std::io::{BufWriter, ErrorKind};
@@ -31,6 +35,26 @@ fn take_words(rt: &HostRuntime) -> Result<Vec<String>, WordsFault> {
         .map_err(|_: AllocError| WordsFault::Memory)
 }
 
+/// Returns why the run that the words ask for does not begin, although they are right.
+fn hindrance(rt: &HostRuntime, alloc: Global, words: &[String]) -> Option<Hindrance> {
+    let process = Process::of(rt);
+    if process.is_free() {
+        return None;
+    }
+    match read_ask(alloc, words) {
+        Ok(ask) => process.hindrance(&ask),
+        Err(_) => None,
+    }
+}
+
+/// Returns the exit status of a run that does not begin.
+fn status_of(hindrance: &Hindrance) -> u8 {
+    match hindrance {
+        Hindrance::OneFile => WRONG_WORDS,
+        Hindrance::SmallStack => status(End::Memory),
+    }
+}
+
 /// Runs the command with the words and the devices of the process, and returns the exit status.
 fn run_program(rt: &HostRuntime, alloc: Global) -> u8 {
     let mut err = Output::new(rt.stderr());
@@ -39,6 +63,10 @@ fn run_program(rt: &HostRuntime, alloc: Global) -> u8 {
         Err(WordsFault::NoWords) => return WRONG_WORDS,
         Err(WordsFault::Memory) => return tell_no_memory(&mut err),
     };
+    if let Some(hindrance) = hindrance(rt, alloc, &words) {
+        let _ = write_text(&mut err, hindrance.text());
+        return status_of(&hindrance);
+    }
     let Ok(buffer) = BufWriter::with_capacity(alloc, OUTPUT_BUFFER, rt.stdout()) else {
         return tell_no_memory(&mut err);
     };

@@ -4,7 +4,8 @@ use Rattle.std.specs.List.{flat_map}
 use Rattle.std.proofs.lemmas.List.{append-nil, take_all}
 use Rattle.cj_stream.specs.Meaning.Lines.{Line, begun, ended_line, last_line, lines, raw}
 use Rattle.cj_stream.specs.Lines.{NoLf}
-use Rattle.cj_stream.proofs.IsLinesLemmas.{joined-append, lines-are_lines}
+use Rattle.std.proofs.lemmas.Grind.{flat_map-append}
+use Rattle.cj_stream.proofs.IsLinesLemmas.{lines-are_lines}
 use Rattle.cj_stream.proofs.LineLemmas.{closed-none}
 use Rattle.cj_stream.proofs.PartsLemmas.{lines-headed}
 use Rattle.cityseq_c.specs.Features.{Passes, Place, past_from}
@@ -38,7 +39,7 @@ along-next part a content b x h =
     let passed = take-next k (lines part) l b.left (sym h.left ∙ x.left) in
     let first = take k (lines part) in
     let more : flat_map raw (first ++ l ∷ []) ≡ flat_map raw first ++ flat_map raw (l ∷ []) =
-    joined-append raw first (l ∷ []) in
+    flat_map-append raw first (l ∷ []) in
     let size : length (flat_map raw (first ++ l ∷ [])) ≡ length (flat_map raw first) + length (raw l) =
     ap length more ∙ (length-append (flat_map raw first) (flat_map raw (l ∷ []))
     ∙ ap (λ z. length (flat_map raw first) + length z) (append-nil (raw l))) in

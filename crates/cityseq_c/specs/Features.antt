@@ -163,6 +163,7 @@ StoresBy true x a b =
     × (listed_count b ≡ listed_count a + 1)
 StoresBy false x a b = (listed_room b ≡ listed_room a) × (listed_count b ≡ listed_count a)
 
+-- the record of a feature is stored if there is room for it, in the same loan
 pub record AddsRecord (x : Spot) (a b : Listed) : Type 0 where
   pub loan : listed_loan b ≡ listed_loan a
   pub stores : StoresBy (nat_lt (listed_count a) (length (listed_room a))) x a b

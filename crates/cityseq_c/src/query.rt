@@ -36,17 +36,14 @@ fn add_ids(query: &mut Query, ids: &str) -> Result<(), NotJudged>
     ensures ok { OnOk result (criteria query.new ≡ record (criteria query.old) { ids = Some (items ids.now) }) }
     ensures memory { IfErr result (λ why. (why ≡ NotJudged.Memory) × (0 < length (items ids.now))) }
 {
-    query.start_ids();
     if ids.is_empty() {
+        query.start_ids();
         return Ok(());
     }
-    for id in ids.split('\n') {
-        if query.add_id(id).is_err() {
-            return Err(NotJudged::Memory);
-        }
+    match query.set_ids(ids, '\n') {
+        Ok(()) => Ok(()),
+        Err(_) => Err(NotJudged::Memory),
     }
-    query.sort_ids();
-    Ok(())
 }
 
 /// Sets the part on LoDs to the texts between the LFs of `lods`. An empty `lods` has no text.
@@ -58,16 +55,14 @@ fn add_lods(query: &mut Query, lods: &str) -> Result<(), NotJudged>
     ensures ok { OnOk result (criteria query.new ≡ record (criteria query.old) { lods = Some (items lods.now) }) }
     ensures memory { IfErr result (λ why. (why ≡ NotJudged.Memory) × (0 < length (items lods.now))) }
 {
-    query.start_lods();
     if lods.is_empty() {
+        query.start_lods();
         return Ok(());
     }
-    for lod in lods.split('\n') {
-        if query.add_lod(lod).is_err() {
-            return Err(NotJudged::Memory);
-        }
+    match query.set_lods(lods, '\n') {
+        Ok(()) => Ok(()),
+        Err(_) => Err(NotJudged::Memory),
     }
-    Ok(())
 }
 
 /// Sets the part on types to those with the names between the LFs of `types`. An empty `types` has
@@ -81,16 +76,14 @@ fn add_types(query: &mut Query, types: &str) -> Result<(), NotJudged>
         (result ≡ Err (NotJudged.Fault Fault.UnknownType))
         (λ flags. (result ≡ Ok tt) × (criteria query.new ≡ record (criteria query.old) { types = Some flags })) }
 {
-    query.start_types();
     if types.is_empty() {
+        query.start_types();
         return Ok(());
     }
-    for name in types.split('\n') {
-        if query.add_type(name).is_err() {
-            return Err(NotJudged::Fault(Fault::UnknownType));
-        }
+    match query.set_types(types, '\n') {
+        Ok(()) => Ok(()),
+        Err(_) => Err(NotJudged::Fault(Fault::UnknownType)),
     }
-    Ok(())
 }
 
 /// Returns the fault of a request whose box the query rejects.

@@ -1,5 +1,4 @@
 pub mod CommandLemmas
-pub mod FieldLemmas
 pub mod PerformLemmas
 pub mod TextLemmas
 pub mod WroteLemmas

@@ -61,17 +61,19 @@ pub record HasFlag (m : ArgMatches) (option : List ℕ) (given : Bool) : Type 0 
   pub yes : one_text (found_of m) option ≡ Some (codes "true") → given ≡ true
   pub no : one_text (found_of m) option ≡ Some (codes "false") → given ≡ false
 
--- the options of each command that it was given, and none that it does not take
+-- the options that `check` was given, and none that it does not take
 pub record HasCheckOptions (m : ArgMatches) (options : OptionSet) : Type 0 where
   pub keep_going : HasFlag m (codes "keep-going") options.keep_going
   pub tree : HasFlag m (codes "tree") options.tree
   pub exclude : options.exclude ≡ false
 
+-- the options that `filter` was given
 pub record HasFilterOptions (m : ArgMatches) (options : OptionSet) : Type 0 where
   pub keep_going : HasFlag m (codes "keep-going") options.keep_going
   pub tree : HasFlag m (codes "tree") options.tree
   pub exclude : HasFlag m (codes "exclude") options.exclude
 
+-- the options that `info` was given, and none that it does not take
 pub record HasInfoOptions (m : ArgMatches) (options : OptionSet) : Type 0 where
   pub tree : HasFlag m (codes "tree") options.tree
   pub keep_going : options.keep_going ≡ false

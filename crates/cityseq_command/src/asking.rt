@@ -1,9 +1,6 @@
 //! What the words ask for: an `Ask` with its limits and its query, or why there is none.
-ghost use Rattle.std.specs.Prelude.{◌≡◌, Some, Ok, Err, IfOk, IfErr, OnOk, MatchOption, map, string_bytes};
-ghost use Rattle.cj_stream.specs.Adding.{flags_with, no_types};
-ghost use Rattle.cj_stream.specs.BoxText.{fields};
+ghost use Rattle.std.specs.Prelude.{◌≡◌, Ok, IfOk, IfErr, map, string_bytes};
 ghost use Rattle.cj_stream.specs.Query.{criteria};
-ghost use Rattle.cj_stream.specs.declared.query.fault.QueryFault.TheVariants.{Memory, UnknownTypeName};
 ghost use Rattle.cityseq_command.specs.Options.{criteria_by, texts_of, DeclinesTexts};
 ghost use Rattle.cityseq_command.specs.Performed.{TakesOptions};
 ghost use Rattle.cityseq_command.specs.Words.{AsksBy, AsksFor, MayDecline, DeclinesOptions};
@@ -89,54 +86,16 @@ pub fn query_of(alloc: Global, texts: &QueryTexts) -> Result<Query, QueryFault>
 {
     let mut query = Query::all(alloc);
     if let Some(ids) = texts.ids {
-        add_ids(&mut query, ids)?;
+        query.set_ids(ids, ',')?;
     }
     if let Some(types) = texts.types {
-        add_types(&mut query, types)?;
+        query.set_types(types, ',')?;
     }
     if let Some(lods) = texts.lods {
-        add_lods(&mut query, lods)?;
+        query.set_lods(lods, ',')?;
     }
     if let Some(bbox) = texts.bbox {
         query.bbox(bbox)?;
     }
     Ok(query)
-}
-
-/// Sets the part on ids to the texts between the commas.
-fn add_ids(query: &mut Query, ids: &str) -> Result<(), QueryFault>
-    ensures ok { OnOk result (criteria query.new ≡ record (criteria query.old) { ids = Some (fields ids.now) }) }
-    ensures memory { IfErr result (λ fault. fault ≡ Memory) }
-{
-    query.start_ids();
-    for id in ids.split(',') {
-        query.add_id(id)?;
-    }
-    query.sort_ids();
-    Ok(())
-}
-
-/// Sets the part on types to those with the names between the commas.
-fn add_types(query: &mut Query, types: &str) -> Result<(), QueryFault>
-    ensures { MatchOption (flags_with (fields types.now) no_types)
-        (result ≡ Err UnknownTypeName)
-        (λ flags. (result ≡ Ok tt) × (criteria query.new ≡ record (criteria query.old) { types = Some flags })) }
-{
-    query.start_types();
-    for name in types.split(',') {
-        query.add_type(name)?;
-    }
-    Ok(())
-}
-
-/// Sets the part on LoDs to the texts between the commas.
-fn add_lods(query: &mut Query, lods: &str) -> Result<(), QueryFault>
-    ensures ok { OnOk result (criteria query.new ≡ record (criteria query.old) { lods = Some (fields lods.now) }) }
-    ensures memory { IfErr result (λ fault. fault ≡ Memory) }
-{
-    query.start_lods();
-    for lod in lods.split(',') {
-        query.add_lod(lod)?;
-    }
-    Ok(())
 }

@@ -15,8 +15,8 @@
 //! - `fault_lines` has the lines for standard error, and the exit statuses.
 //!
 //! `option_laws`, `word_laws`, `summary_laws` and `end_laws` are worked examples of the
-//! definitions, as theorems. The rows that run are in the crates `cityseq_rows`,
-//! `cityseq_options` and `cityseq_queries`.
+//! definitions, as theorems. The rows that run are in the crates `cityseq_tests_output`,
+//! `cityseq_tests_options` and `cityseq_tests_queries`.
 #![tactic(auto)]
 
 pub mod ask;
@@ -31,3 +31,5 @@ mod summary;
 mod summary_laws;
 mod word_laws;
 mod words;
+
+pub use asking::{NoAsk, read_ask};

@@ -36,16 +36,17 @@ const EXCLUDE: &str = "exclude";
 /// The text after the help of the program.
 const STATUSES: &str = "\
 Exit status:
-  0  the stream is valid up to its end
-  1  a line is not valid: standard error tells its number (from 1), the byte in it (from 0), and
-     the code and the words of the reason; with --keep-going it tells each such line
-  2  the command line is wrong
-  3  a read failed
-  4  a write failed
-  5  no memory was granted
+  0  The stream is valid up to its end.
+  1  A line is invalid. Standard error gives line, byte and reason.
+     With --keep-going it lists every invalid line.
+  2  The command line is wrong.
+  3  A read failed.
+  4  A write failed.
+  5  The system refused memory.
 
-A CityJSONSeq stream is read from standard input: a CityJSON 2.0 header, then a CityJSONFeature a
-line. docs/RULES.md explains each reason, and docs/GUIDE.md shows the program at work.";
+A CityJSONSeq stream is a CityJSON 2.0 header, then one CityJSONFeature on each line.
+The program reads it from standard input.
+docs/RULES.md explains each reason, and docs/GUIDE.md shows the program at work.";
 
 /// The texts after the help of each command.
 const CHECK_EXAMPLE: &str = "\
@@ -53,10 +54,11 @@ Examples:
   cityseq check < town.city.jsonl
   cityseq check --keep-going < town.city.jsonl 2> invalid-lines.txt
 
-Writes 'valid lines=N features=M' where the whole stream is valid, and nothing otherwise: then one
-line on standard error says where it is wrong. With --keep-going each line that is not valid has one
-there, and 'invalid lines=N features=M refused=R' is written of a stream that has R of them; only a
-first line that is not valid ends the run. See 'cityseq --help' for the exit status.";
+If the whole stream is valid, the output is 'valid lines=N features=M'.
+Otherwise standard error gives line, byte and reason of the first invalid line.
+With --keep-going it lists every invalid line, and the output is
+'invalid lines=N features=M refused=R' (R invalid lines). An invalid header still ends the run.
+See 'cityseq --help' for the exit status.";
 
 const FILTER_EXAMPLE: &str = "\
 Examples:
@@ -64,20 +66,22 @@ Examples:
   zcat town.city.jsonl.gz | cityseq filter --bbox=-5,0,5000,5000 | gzip > part.city.jsonl.gz
   cityseq filter --keep-going < town.city.jsonl > good.city.jsonl 2> invalid-lines.txt
 
-Kept lines leave byte for byte, in order. A feature is kept if it meets each of the last four options
-that is given, or, with --exclude, if it does not; without these four all meet them. The run stops at
-the first line that is not valid, with what was kept before it written. With --keep-going it stops at
-the first line of the stream alone, and leaves out each later one that is not valid. See
-'cityseq --help' for the exit status.";
+Kept lines are copied byte for byte, in order. A feature is kept if it meets each option from --id
+to --bbox that is given. With --exclude it is kept if it does not. Without these options every
+feature is kept.
+The run stops at the first invalid line. Features before it have been written. With --keep-going the
+run leaves out invalid lines and goes on. An invalid header still ends it.
+See 'cityseq --help' for the exit status.";
 
 const INFO_EXAMPLE: &str = "\
 Example:
   cityseq info < town.city.jsonl
 
-Writes a report where the whole stream is valid, and nothing otherwise: lines and features, scale
-and translation, city objects by type, geometries by LoD, the least and the greatest number of the
-vertices on each axis, and the most bytes, tokens and open containers that were held. See
-'cityseq --help' for the exit status.";
+If the whole stream is valid, the output has the numbers of lines and features, scale and
+translation, city objects by type, and geometries by LoD. It also has the least and the greatest
+number of the vertices on each axis, and the most bytes, tokens and open arrays and objects that
+were in memory.
+See 'cityseq --help' for the exit status.";
 
 /// Returns the default line limit, as the text that `clap` reads and shows.
 fn usual_line() -> &'static str
@@ -102,7 +106,7 @@ fn line_limit<'a>(alloc: Global) -> Arg<'a>
         .value_name("BYTES")
         .value_parser(value_parser!(u64).range(1..=1_073_741_824))
         .default_value(usual_line())
-        .help("Refuse a line that is longer, from 1 to 1073741824")
+        .help("Reject a line of more bytes, from 1 to 1073741824")
 }
 
 /// Returns the option of the depth limit.
@@ -114,7 +118,7 @@ fn depth_limit<'a>(alloc: Global) -> Arg<'a>
         .value_name("LEVELS")
         .value_parser(value_parser!(u64).range(1..=1_024))
         .default_value(usual_depth())
-        .help("Refuse a line with more arrays and objects open at once, from 1 to 1024")
+        .help("Reject a line with more arrays and objects open at once, from 1 to 1024")
 }
 
 /// Returns a command with the options that all commands have: the limits.
@@ -141,7 +145,7 @@ fn keep_going<'a>(alloc: Global) -> Arg<'a>
     flag(
         alloc,
         KEEP_GOING,
-        "Report each line that is not valid, and go on with the next",
+        "Report each invalid line and go on with the next",
     )
 }
 
@@ -152,7 +156,7 @@ fn tree<'a>(alloc: Global) -> Arg<'a>
     flag(
         alloc,
         TREE,
-        "Refuse a feature of which a city object is not reached from the main one",
+        "Reject a feature unless `children` lead from its main city object to all others",
     )
 }
 
@@ -188,7 +192,7 @@ fn check_command<'a>(alloc: Global) -> Result<Command<'a>, AllocError>
     let command = described(
         alloc,
         "check",
-        "Say whether a stream is valid, and count its lines and features",
+        "Check whether a stream is valid, and count its lines and features",
         "cityseq check [OPTIONS] < FILE",
         CHECK_EXAMPLE,
     );
@@ -203,7 +207,7 @@ fn filter_command<'a>(alloc: Global) -> Result<Command<'a>, AllocError>
     let command = described(
         alloc,
         "filter",
-        "Copy the header and the features that are wanted",
+        "Copy the header and the features that a query selects",
         "cityseq filter [OPTIONS] < FILE",
         FILTER_EXAMPLE,
     );
@@ -213,31 +217,31 @@ fn filter_command<'a>(alloc: Global) -> Result<Command<'a>, AllocError>
         .arg(flag(
             alloc,
             EXCLUDE,
-            "Keep the features that do not meet the options below, instead of those that do",
+            "Keep the features that the options below do not select",
         ))?
         .arg(query_option(
             alloc,
             IDS,
             "IDS",
-            "Keep a feature whose id is one of these, with commas between them",
+            "Select features by id: one id, or several with commas between them",
         ))?
         .arg(query_option(
             alloc,
             TYPES,
             "TYPES",
-            "Keep a feature that has a city object of one of these types, with commas between them",
+            "Select features that have a city object of one of these types",
         ))?
         .arg(query_option(
             alloc,
             LODS,
             "LODS",
-            "Keep a feature that has a geometry with one of these as its lod, with commas between them",
+            "Select features that have a geometry with one of these LoDs",
         ))?
         .arg(query_option(
             alloc,
             BBOX,
             "MINX,MINY,MAXX,MAXY",
-            "Keep a feature that reaches into this box, in world coordinates; written --bbox=-5,0,5,9 where it begins with a minus",
+            "Select features that reach into this box, in world coordinates; write --bbox=-5,0,5,9 if it begins with a minus",
         ))
 }
 
@@ -247,7 +251,7 @@ fn info_command<'a>(alloc: Global) -> Result<Command<'a>, AllocError>
     let command = described(
         alloc,
         "info",
-        "Report what is in a stream: types, LoDs, extent, and memory",
+        "Summarise a valid stream: types, LoDs, extent and memory",
         "cityseq info [OPTIONS] < FILE",
         INFO_EXAMPLE,
     );
@@ -262,7 +266,7 @@ fn program<'a>(alloc: Global) -> Result<Command<'a>, AllocError>
     Command::new(alloc, "cityseq")
         .version(VERSION)
         .about(
-            "Checks, filters and summarises a CityJSONSeq 2.0 stream, read once and in bounded memory",
+            "Check, filter and summarise a CityJSONSeq 2.0 stream, in one pass and in bounded memory",
         )
         .after_help(STATUSES)
         .arg_required_else_help(true)

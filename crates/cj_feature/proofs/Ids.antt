@@ -7,7 +7,7 @@ use Rattle.cj_spans.specs.Meaning.Tree.{Tree}
 use Rattle.cj_spans.specs.Meaning.Kinds.{is_text, is_object}
 use Rattle.cj_spans.specs.Meaning.Parts.{kind_of, members_of, member_of, text_of, members_if}
 use Rattle.cj_geometry.specs.Meaning.Rule.{one, of_kind, distinct}
-use Rattle.cj_geometry.specs.Meaning.Geometry.{Given, count_of}
+use Rattle.cj_geometry.specs.Meaning.Geometry.{TemplateSource, count_of}
 use Rattle.cj_feature.specs.Meaning.Feature.{id_in, city_object, city_objects, feature_rules}
 use Rattle.cj_feature.specs.Meaning.Links.{is_known}
 use Rattle.cj_feature.specs.Meaning.Relations.{IsIn}
@@ -21,8 +21,8 @@ by-tests id true true h e = refl
 by-tests id true false h e = absurd (cc h)
 by-tests id false known h e = absurd (cc e)
 
-module _ (templates : Given) (t : Tree) (valid : of_kind is_object (feature_rules templates false) t ≡ []) (id : Tree)
-    (is : member_of (chars (codes "id")) t ≡ Some id) where
+module _ (templates : TemplateSource) (t : Tree) (valid : of_kind is_object (feature_rules templates false) t ≡ [])
+    (id : Tree) (is : member_of (chars (codes "id")) t ≡ Some id) where
   not-unknown : id_in (member_of (chars (codes "CityObjects")) t) id ≡ []
   not-unknown =
       let rule = id_in (member_of (chars (codes "CityObjects")) t) in

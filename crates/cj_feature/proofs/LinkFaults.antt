@@ -16,7 +16,7 @@ use Rattle.cj_spans.specs.Meaning.Tree.{Tree, scalar, array, object, start_of, M
 use Rattle.cj_spans.specs.Meaning.Parts.{kind_of, items_of, list_members, members_of, member_of, text_of}
 use Rattle.cj_spans.specs.Meaning.Parts.{are_same_texts, items_if}
 use Rattle.cj_geometry.specs.Meaning.Rule.{one}
-use Rattle.cj_feature.specs.Meaning.Links.{same_text, listed_in, is_group, is_part, is_known, has_item, lists, answered}
+use Rattle.cj_feature.specs.Meaning.Links.{same_text, listed_in, is_group, at_second_level, is_known, has_item, lists, answered}
 use Rattle.cj_feature.specs.Meaning.Links.{child, parent, children, parents, part_of, part, object_links, links}
 use Rattle.cj_feature.specs.Meaning.Relations.{IsIn, IsListed, Lists, IsLinkFault, child_not_found, child_not_mutual}
 use Rattle.cj_feature.specs.Meaning.Relations.{parent_not_mutual, no_parent}
@@ -298,10 +298,10 @@ module _ (t : Tree) where
         from-parent m r.0 f held (from-listed (members_of t) (chars (codes "parents")) m.1 r.0 r.1) r.2
 
     from-part : Contains (part (members_of t) m) f → IsLinkFault (members_of t) f
-    from-part h = go (is_part m.1) refl h
+    from-part h = go (at_second_level m.1) refl h
       where
         found : (u : Tree) (b : Bool) → is_array (kind_of u) && not (list_any (is_known (members_of t)) (items_of u))
-            ≡ b → is_part m.1 ≡ true → member_of (chars (codes "parents")) m.1 ≡ Some u
+            ≡ b → at_second_level m.1 ≡ true → member_of (chars (codes "parents")) m.1 ≡ Some u
             → Contains (cond b (one NoParent m.1) []) f → IsLinkFault (members_of t) f
         found u true e is at h =
             let both = from-and _ _ e in
@@ -311,13 +311,13 @@ module _ (t : Tree) where
             (to-any (is_known (members_of t)) (items_of u) item k (to-known (members_of t) item a s known))))
         found u false e is at h = absurd (nowhere f h)
 
-        with_parents : (o : Option Tree) → member_of (chars (codes "parents")) m.1 ≡ o → is_part m.1 ≡ true
+        with_parents : (o : Option Tree) → member_of (chars (codes "parents")) m.1 ≡ o → at_second_level m.1 ≡ true
             → Contains (part_of (members_of t) m.1 o) f → IsLinkFault (members_of t) f
         with_parents None at is h = absurd (nowhere f h)
         with_parents (Some u) at is h =
             found u (is_array (kind_of u) && not (list_any (is_known (members_of t)) (items_of u))) refl is at h
 
-        go : (b : Bool) → is_part m.1 ≡ b
+        go : (b : Bool) → at_second_level m.1 ≡ b
             → Contains (cond b (part_of (members_of t) m.1 (member_of (chars (codes "parents")) m.1)) []) f
             → IsLinkFault (members_of t) f
         go true e h = with_parents (member_of (chars (codes "parents")) m.1) refl e h

@@ -12,7 +12,7 @@ use Rattle.cj_spans.specs.Meaning.Parts.{items_of, members_of, member_of, has_te
 use Rattle.cj_decimal.specs.declared.decimal.DecimalFault.{DecimalFault}
 use Rattle.cj_decimal.specs.Meaning.Number.{Number, as_whole}
 use Rattle.cj_decimal.specs.Meaning.Decimal.{decimal_of}
-use Rattle.cj_geometry.specs.Meaning.Geometry.{Given, count_of, geometry, template_count, typed_rules, form_rules}
+use Rattle.cj_geometry.specs.Meaning.Geometry.{TemplateSource, count_of, geometry, template_count, typed_rules, form_rules}
 use Rattle.cj_geometry.specs.Meaning.Geometry.{instance_rules, is_itself}
 use Rattle.cj_geometry.specs.Meaning.Lod.{is_instance, lod}
 use Rattle.cj_geometry.specs.Meaning.Rule.{one, of_kind, if_there, needs, may_have, distinct}
@@ -61,7 +61,7 @@ no-index t (Ok v) h = go (as_whole v) h
     go (Some (negsuc k)) h = cc h
 no-index t (Err e) h = cc h
 
-module _ (vertices : Option ℕ) (templates : Given) (empty : template_count templates ≡ 0) where
+module _ (vertices : Option ℕ) (templates : TemplateSource) (empty : template_count templates ≡ 0) where
   -- so no instance is valid
   no-rules : (g : Tree) → instance_rules vertices (template_count templates) g ≡ [] → ⊥
   no-rules g h =

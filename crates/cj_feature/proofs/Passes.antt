@@ -15,7 +15,7 @@ use Rattle.cj_geometry.specs.Meaning.Rule.{one}
 use Rattle.cj_feature.specs.declared.feature.search.link.Link.{Link}
 use Rattle.cj_feature.specs.declared.feature.search.link.Link.TheVariants.{Child, Parent}
 use Rattle.cj_feature.specs.inner.Kin.{back_of, linked}
-use Rattle.cj_feature.specs.Meaning.Links.{same_text, listed_in, is_part, is_known, has_item, lists, answered, children}
+use Rattle.cj_feature.specs.Meaning.Links.{same_text, listed_in, at_second_level, is_known, has_item, lists, answered, children}
 use Rattle.cj_feature.specs.Meaning.Links.{parents, part_of, part, object_links}
 
 -- ---- who lists is in the feature
@@ -86,7 +86,7 @@ known_parent objects o (Some t) h = ap (λ b. cond (is_array (kind_of t) && not 
 pub known_part : (objects : List (Tree × Tree)) (m : Tree × Tree)
     → list_any (is_known objects) (listed_in (chars (codes "parents")) m.1) ≡ true → part objects m ≡ []
 known_part objects m h =
-    either_none (is_part m.1) (part_of objects m.1 (member_of (chars (codes "parents")) m.1))
+    either_none (at_second_level m.1) (part_of objects m.1 (member_of (chars (codes "parents")) m.1))
     (known_parent objects m.1 (member_of (chars (codes "parents")) m.1) h)
 
 -- ---- two walks

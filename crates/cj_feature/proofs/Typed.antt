@@ -16,7 +16,7 @@ use Rattle.cj_decimal.specs.Meaning.Number.{Number, as_whole}
 use Rattle.cj_decimal.specs.Meaning.Decimal.{decimal_of}
 use Rattle.cj_geometry.proofs.Lone.{whole-size}
 use Rattle.cj_geometry.specs.Meaning.ObjectTypes.{ObjectRow, row_of}
-use Rattle.cj_geometry.specs.Meaning.Geometry.{Given}
+use Rattle.cj_geometry.specs.Meaning.Geometry.{TemplateSource}
 use Rattle.cj_geometry.specs.Meaning.Rule.{one, needs, may_have, distinct, has_length, of_length}
 use Rattle.cj_geometry.specs.Meaning.Numbers.{spelling, value_findings, whole_findings, value_if, whole_of, whole_number}
 use Rattle.cj_feature.specs.Meaning.Feature.{known_type, object_type, geometries, texts, second_level, city_object}
@@ -31,7 +31,7 @@ known-row : (o : Option ObjectRow) (t : Tree) → known_type o t ≡ [] → is_r
 known-row None t h = absurd (cc h)
 known-row (Some r) t h = refl
 
-typed : (vertices : Option ℕ) (templates : Given) (m : Tree × Tree) → city_object vertices templates m.1 ≡ []
+typed : (vertices : Option ℕ) (templates : TemplateSource) (m : Tree × Tree) → city_object vertices templates m.1 ≡ []
     → is_typed m ≡ true
 typed vertices templates m h =
     let o = m.1 in
@@ -49,7 +49,7 @@ typed vertices templates m h =
     known-row (row_of has.0) has.0 (of_kind-none (λ u. known_type (row_of u) u) has.0 is_text has.2).1 in
     rw has.1 row
 
-pub all-typed : (vertices : Option ℕ) (templates : Given) (t : Tree) → city_objects vertices templates t ≡ []
+pub all-typed : (vertices : Option ℕ) (templates : TemplateSource) (t : Tree) → city_objects vertices templates t ≡ []
     → list_all is_typed (members_of t) ≡ true
 all-typed vertices templates t h =
     let each = λ (u : Tree). flat_map (λ m. city_object vertices templates m.1) (members_of u) in

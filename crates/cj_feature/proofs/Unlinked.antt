@@ -7,7 +7,7 @@ use Rattle.std.specs.Str.{chars}
 use Rattle.cj_spans.specs.declared.finding.Finding.{Finding}
 use Rattle.cj_spans.specs.Meaning.Parts.{member_of, items_if}
 use Rattle.cj_spans.specs.Meaning.Tree.{Tree}
-use Rattle.cj_feature.specs.Meaning.Links.{child, is_group, is_part, object_links, parent, part_of}
+use Rattle.cj_feature.specs.Meaning.Links.{child, is_group, at_second_level, object_links, parent, part_of}
 
 -- and the next of some members has none
 pub next_unlinked : (f : Tree × Tree → List Finding) (all rest : List (Tree × Tree)) (m : Tree × Tree)
@@ -35,5 +35,6 @@ pub unlisted : (o : Tree) → member_of (chars (codes "children")) o ≡ None
     → object_links all (name, o) ≡ []
 unlisted o no_children no_parents all name =
     (λ i. cond (is_group o) [] (flat_map (child all name) (items_if (no_children i)))
-    ++ flat_map (parent all name) (items_if (no_parents i)) ++ cond (is_part o) (part_of all o (no_parents i)) [])
-    ∙ none_at_all (is_group o) (is_part o)
+    ++ flat_map (parent all name) (items_if (no_parents i))
+    ++ cond (at_second_level o) (part_of all o (no_parents i)) [])
+    ∙ none_at_all (is_group o) (at_second_level o)

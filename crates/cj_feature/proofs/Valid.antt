@@ -6,7 +6,7 @@ use Rattle.cj_spans.specs.Meaning.Kinds.{is_text, is_object}
 use Rattle.cj_spans.specs.declared.finding.Finding.{Finding}
 use Rattle.cj_spans.specs.Meaning.Parts.{member_of}
 use Rattle.cj_geometry.specs.Meaning.Rule.{of_kind, needs, distinct}
-use Rattle.cj_geometry.specs.Meaning.Geometry.{Given, count_of}
+use Rattle.cj_geometry.specs.Meaning.Geometry.{TemplateSource, count_of}
 use Rattle.cj_feature.specs.Meaning.Feature.{id_in, city_objects, vertex_list, feature_rules}
 use Rattle.cj_feature.specs.Meaning.Header.{three_numbers, transform, header_rules, header}
 use Rattle.cj_feature.proofs.None.{none-both, of_kind-none}
@@ -35,15 +35,16 @@ on-kind : (b : Bool) (fs gs : List Finding) → b ≡ true → fs ≡ [] → con
 on-kind true fs gs e h = h
 on-kind false fs gs e h = cc e
 
-pub valid-without : (templates : Given) (t : Tree) (tree : Bool) → of_kind is_object (feature_rules templates tree) t
-    ≡ [] → of_kind is_object (feature_rules templates false) t ≡ []
+pub valid-without : (templates : TemplateSource) (t : Tree) (tree : Bool)
+    → of_kind is_object (feature_rules templates tree) t ≡ [] → of_kind is_object (feature_rules templates false) t ≡ []
 valid-without templates t false h = h
 valid-without templates t true h =
     let both = of_kind-none (feature_rules templates true) t is_object h in
     on-kind _ (feature_rules templates false t) _ both.0 (ap (λ (fs : List Finding). fs ++ []) (none-both _ _ both.1).0)
 
 -- of a feature, an id, city objects and vertices
-module _ (templates : Given) (t : Tree) (valid : of_kind is_object (feature_rules templates false) t ≡ []) where
+module _ (templates : TemplateSource) (t : Tree)
+    (valid : of_kind is_object (feature_rules templates false) t ≡ []) where
   feature_none : feature_rules templates false t ≡ []
   feature_none = (of_kind-none (feature_rules templates false) t is_object valid).1
 

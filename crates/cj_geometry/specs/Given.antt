@@ -1,7 +1,7 @@
 -- What contracts see of templates.
 use Rattle.std.specs.Prelude.{Option, Some, None, ℕ, List, option_map}
 use Rattle.cj_spans.specs.Meaning.Tree.{Tree}
-use Rattle.cj_geometry.specs.Meaning.Geometry.{Given, listed, empty, itself}
+use Rattle.cj_geometry.specs.Meaning.Geometry.{TemplateSource, listed, empty, itself}
 use Rattle.cj_spans.specs.declared.node.Node.{Node}
 use Rattle.cj_spans.specs.declared.node.Source.{Source}
 use Rattle.cj_spans.specs.View.{tree, line_of, source_of}
@@ -10,19 +10,19 @@ use Rattle.cj_geometry.specs.declared.templates.Choice.TheVariants.{Listed, Step
 use Rattle.cj_geometry.specs.declared.templates.Templates.{Templates}
 
 -- the list, if there is one
-abbrev pub list_of : Given → Option Tree
+abbrev pub list_of : TemplateSource → Option Tree
 list_of (listed t) = Some t
 list_of empty = None
 list_of itself = None
 
-abbrev pub given_by : Choice → Given
+abbrev pub given_by : Choice → TemplateSource
 given_by (Listed l) = listed (tree l.node)
 given_by (Stepped l) = listed (tree l.node)
 given_by Empty = empty
 given_by Itself = itself
 
 -- the templates that a geometry may name
-abbrev pub given : Templates → Given
+abbrev pub given : Templates → TemplateSource
 given t = given_by t.choice
 
 -- the node of their list, if there is one

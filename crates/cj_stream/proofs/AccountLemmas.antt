@@ -24,10 +24,10 @@ use Rattle.cj_stream.specs.Run.{Run, Ends, Account}
 use Rattle.cj_stream.specs.Meaning.Rules.{Rules}
 use Rattle.cj_stream.specs.Meaning.Verdict.{Kept}
 use Rattle.cj_stream.specs.Verdict.{verdict, refusal_in, judged, long_line, good, kept_from, kept_first, reported_from, reported_first, ending, ending_of}
-use Rattle.cj_stream.proofs.GoodLemmas.{kept_first-good}
+use Rattle.cj_stream.proofs.FirstLemmas.{first-good}
+use Rattle.cj_stream.proofs.GoodLemmas.{some_of}
 use Rattle.cj_stream.proofs.IsLinesLemmas.{lines-whole}
 use Rattle.cj_stream.proofs.LineLemmas.{closed-ended, begun-ended, closed-then, begun-then}
-use Rattle.cj_stream.proofs.NoteLemmas.{reported_first-good}
 use Rattle.cj_stream.proofs.PartsLemmas.{none-begun, contents-headed, contents-parts, first-headed, exact-parts, all-lines, front-lines, back-lines, front-none, header-valid, front-good, back-good, lines-counted, ending-parts, kept-first, reported-first, refusal-first, kept-joined, reported-joined, refusal-joined, refused-stays}
 use Rattle.cj_stream.proofs.ReadingLemmas.{map_lines-append}
 use Rattle.cj_stream.proofs.RunLemmas.{refusal-stays}
@@ -132,7 +132,7 @@ module _ (rules : Rules) (h a : List ℕ) (cut : IsCut h a) (done : ending rules
       let back = later_of (kept_from rules [] (ended_line h ∷ zs)) in
       let joined : kept_first rules (n + (m - 1)) (headed h (a ++ b)) ≡ front ++ back =
       ap (λ z. kept_from rules [] z) taken ∙ kept-joined rules (ended_line h) valid (lines a) zs in
-      let of_first : kept_first rules n (headed h a) ≡ front = kept_first-good rules n (headed h a) all
+      let of_first : kept_first rules n (headed h a) ≡ front = first-good (kept_from rules) rules n (headed h a) all
       ∙ ap (λ z. kept_from rules [] z) (front-good rules h a cut done) in
       let of_second : g ≡ length (filter is_feature back) =
       second ∙ (ap (λ z. length (filter is_feature (kept_from rules [] (take m z)))) (back-lines rules h a cut b)
@@ -161,7 +161,8 @@ module _ (rules : Rules) (h a : List ℕ) (cut : IsCut h a) (done : ending rules
       let moved = moved_report (length (lines a)) in
       let joined : reported_first rules (n + (m - 1)) (headed h (a ++ b)) ≡ front ++ map moved back =
       ap (λ z. reported_from rules [] z) taken ∙ reported-joined rules (ended_line h) valid (lines a) zs in
-      let of_first : reported_first rules n (headed h a) ≡ front = reported_first-good rules n (headed h a) all
+      let of_first : reported_first rules n (headed h a) ≡ front =
+      first-good (reported_from rules) rules n (headed h a) all
       ∙ ap (λ z. reported_from rules [] z) (front-good rules h a cut done) in
       let of_second : g ≡ length back =
       second ∙ (ap (λ z. length (reported_from rules [] (take m z))) (back-lines rules h a cut b)
@@ -344,11 +345,6 @@ module _ (rules : Rules) (h a b : List ℕ) (cut : IsCut h a) (first second : Ou
       was_complete Memory k = cc
 
   -- where it is refused, or failed in writing, or for want of memory
-  refused-is : (o : Option End) (number place : ℕ) (reason : Reason)
-      → unwrap_or o Complete ≡ Refused number place reason → o ≡ Some (Refused number place reason)
-  refused-is None number place reason k = cc
-  refused-is (Some x) number place reason k = ap (λ z. Some z) k
-
   Ends-stays : (n : ℕ) (e : End) → ¬ (e ≡ Complete) → IsUnread e → Ends rules (headed h a) n at_end e
       → Ends rules (headed h (a ++ b)) n at_last e
   Ends-stays n Complete other unread told = absurd (other refl)
@@ -356,7 +352,7 @@ module _ (rules : Rules) (h a b : List ℕ) (cut : IsCut h a) (first second : Ou
       let e = Refused number place reason in
       let stays = refused-stays rules h a cut b (λ k. other (sym told.0 ∙ k)) in
       let front : refusal_in rules (ended_line h ∷ lines a) ≡ Some (Refused number place reason) =
-      refused-is (refusal_in rules (ended_line h ∷ lines a)) number place reason
+      some_of (refusal_in rules (ended_line h ∷ lines a)) number place reason
       (ap (λ z. ending_of rules z) (sym (front-lines rules h a cut)) ∙ told.0) in
       let later = judged rules.limits b in
       let stream : judged rules.limits (headed h (a ++ b)) ≡ ended_line h ∷ lines a ++ later =
@@ -366,10 +362,9 @@ module _ (rules : Rules) (h a b : List ℕ) (cut : IsCut h a) (first second : Ou
         told.1 ∙ sym (ap length stays.1),
         inr (ap (refusal_in rules) stream ∙ refusal-stays rules [] (ended_line h ∷ lines a) later e front),
       )
-  Ends-stays n ReadFault other unread told = absurd unread
-  Ends-stays n ReadLimit other unread told = absurd unread
   Ends-stays n WriteFault other unread told = tt
   Ends-stays n Memory other unread told = tt
+  Ends-stays n e other unread told = absurd unread
 
   stream-lines : lines (headed h (a ++ b)) ≡ lines (headed h a) ++ lines b
   stream-lines = all-lines rules h a cut b ∙ ap (λ z. z ++ lines b) (sym (front-lines rules h a cut))

@@ -4,6 +4,7 @@ use Rattle.std.specs.Prelude.{not, ◌&&◌, ◌||◌, option_map, unwrap_or}
 use Rattle.std.specs.List.{cons_option, filter_map, find, flat_map}
 use Rattle.std.proofs.lemmas.Bool.Decides.{nat_tests}
 use Rattle.std.proofs.lemmas.List.Sums.{take_while-cons}
+use Rattle.cj_spans.specs.declared.reason.Reason.{Reason}
 use Rattle.cj_spans.specs.Meaning.Tree.{Tree, nest}
 use Rattle.cj_spans.specs.Meaning.Json.{Json}
 use Rattle.cj_spans.specs.Meaning.Judgement.{Judgement, spelled, broken, sunk}
@@ -17,7 +18,7 @@ use Rattle.cj_stream.specs.Meaning.Judged.{JudgedLine, ends, handled, item_by, i
 use Rattle.cj_stream.specs.Meaning.Lines.{Line, lines}
 use Rattle.cj_stream.specs.Meaning.Rules.{Rules}
 use Rattle.cj_stream.specs.Meaning.Verdict.{Verdict, Invalid, Blank, LeftOut, Kept, IsVerdict}
-use Rattle.cj_stream.specs.Verdict.{verdict_at, verdict, item_after, goes_on, is_kept, refusal_from, good_from, kept_from, reported_from, good, kept, reported, output, ending, ending_of}
+use Rattle.cj_stream.specs.Verdict.{verdict_at, verdict, item_after, goes_on, refusal_of, is_kept, refusal_from, good_from, kept_from, reported_from, good, kept, reported, output, ending, ending_of}
 use Rattle.cj_stream.proofs.JudgedLemmas.{IsFirst, first-is, first-verdict, first-blank, first-left, kept-tree, later-fits, behind-some, no_tree, verdict-is}
 use Rattle.cj_stream.proofs.VerdictLemmas.{verdict-first}
 
@@ -57,108 +58,85 @@ module _ (rules : Rules) where
     verdict : j.verdict ≡ verdict rules before l.content
     item : j.verdict ≡ Kept → item_of j ≡ Some (item_after rules before l)
 
-  module _ (before ls : List Line) (l : Line) (j : JudgedLine) (js : List JudgedLine) where
-    -- reading goes on after the line
-    record Passes : Type 0 where
-      line : j.line ≡ l
-      good : good_from rules before (l ∷ ls) ≡ l ∷ good_from rules (before ++ l ∷ []) ls
-      kept : (gs : List Line) → kept_from rules before (l ∷ gs)
-          ≡ cons_option (item_of j) (kept_from rules (before ++ l ∷ []) gs)
-      reported : (gs : List Line) → reported_from rules before (l ∷ gs)
-          ≡ cons_option (report_of j) (reported_from rules (before ++ l ∷ []) gs)
-      refusal : refusal_from rules before (l ∷ ls) ≡ refusal_from rules (before ++ l ∷ []) ls
-      on : ends rules j ≡ false
-
+  module _ (before ls : List Line) (l : Line) (j : JudgedLine) (js : List JudgedLine) (is : IsNext before l j) where
     handled-by : (b : Bool) → ends rules j ≡ b → handled rules (j ∷ js) ≡ cond (not b) (j ∷ handled rules js) []
     handled-by b e = take_while-cons (λ q. not (ends rules q)) j js ∙ ap (λ z. cond (not z) (j ∷ handled rules js) []) e
 
-    passes : Passes → Agrees (before ++ l ∷ []) ls js → Agrees before (l ∷ ls) (j ∷ js)
-    passes p a =
-        let h : handled rules (j ∷ js) ≡ j ∷ handled rules js = handled-by false p.on in
+    nothing : (v : Verdict) → j.verdict ≡ v → is_kept v ≡ false → item_of j ≡ None
+    nothing v at unkept = rw at (item-none j.line j.header j.tree v unkept)
+
+    -- what is kept of it and of lines after it, and what is reported
+    kept-cons : (v : Verdict) → verdict rules before l.content ≡ v → (gs : List Line)
+        → kept_from rules before (l ∷ gs) ≡ cons_option (item_of j) (kept_from rules (before ++ l ∷ []) gs)
+    kept-cons Kept e gs = let item = is.item (is.verdict ∙ e) in rw (e, item) refl
+    kept-cons other e gs = let none = nothing other (is.verdict ∙ e) refl in rw (e, none) refl
+
+    reported-cons : (v : Verdict) → verdict rules before l.content ≡ v → (gs : List Line)
+        → reported_from rules before (l ∷ gs) ≡ cons_option (report_of j) (reported_from rules (before ++ l ∷ []) gs)
+    reported-cons (Invalid place reason) e gs =
+        let at : j.verdict ≡ Invalid place reason = is.verdict ∙ e in
+        let told : report_of j ≡ Some (record { line = length before + 1; place = place; reason = reason }) =
+        rw (at, is.number) refl in
+        rw (e, told) refl
+    reported-cons other e gs = let at : j.verdict ≡ other = is.verdict ∙ e in rw (e, at) refl
+
+    -- reading goes on after it
+    passes : ends rules j ≡ false
+        → refusal_of rules (length before + 1) (verdict rules before l.content) ≡ None
+        → Agrees (before ++ l ∷ []) ls js → Agrees before (l ∷ ls) (j ∷ js)
+    passes on none a =
+        let h : handled rules (j ∷ js) ≡ j ∷ handled rules js = handled-by false on in
+        let gs = good_from rules (before ++ l ∷ []) ls in
+        let good : good_from rules before (l ∷ ls) ≡ l ∷ good_from rules (before ++ l ∷ []) ls = rw none refl in
+        let refusal : refusal_from rules before (l ∷ ls) ≡ refusal_from rules (before ++ l ∷ []) ls = rw none refl in
         record {
-          good = p.good ∙ (ap (λ z. l ∷ z) a.good
-              ∙ (ap (λ z. z ∷ map (λ (q : JudgedLine). q.line) (handled rules js)) (sym p.line)
+          good = good ∙ (ap (λ z. l ∷ z) a.good
+              ∙ (ap (λ z. z ∷ map (λ (q : JudgedLine). q.line) (handled rules js)) (sym is.line)
               ∙ sym (ap (λ z. map (λ (q : JudgedLine). q.line) z) h)));
-          kept = ap (λ z. kept_from rules before z) p.good
-              ∙ (p.kept (good_from rules (before ++ l ∷ []) ls)
+          kept = ap (λ z. kept_from rules before z) good
+              ∙ (kept-cons (verdict rules before l.content) refl gs
               ∙ (ap (λ z. cons_option (item_of j) z) a.kept ∙ sym (ap (λ z. filter_map item_of z) h)));
-          reported = ap (λ z. reported_from rules before z) p.good
-              ∙ (p.reported (good_from rules (before ++ l ∷ []) ls)
+          reported = ap (λ z. reported_from rules before z) good
+              ∙ (reported-cons (verdict rules before l.content) refl gs
               ∙ (ap (λ z. cons_option (report_of j) z) a.reported ∙ sym (ap (λ z. filter_map report_of z) h)));
-          refusal = p.refusal ∙ (a.refusal ∙ sym (ap (λ z. end_if (cond z (Some j) (find (ends rules) js))) p.on));
+          refusal = refusal ∙ (a.refusal ∙ sym (ap (λ z. end_if (cond z (Some j) (find (ends rules) js))) on));
+        }
+
+    -- an invalid line ends, or reading goes on after it
+    ends-by : (place : ℕ) (reason : Reason) (on : Bool) → verdict rules before l.content ≡ Invalid place reason
+        → goes_on rules (length before + 1) ≡ on → ends rules j ≡ not on
+    ends-by place reason on e k =
+        let at : j.verdict ≡ Invalid place reason = is.verdict ∙ e in
+        rw (at, is.number) (ends-goes (length before + 1) (omega arith) rules.options.keep_going ∙ ap not k)
+
+    stops : (place : ℕ) (reason : Reason) → verdict rules before l.content ≡ Invalid place reason
+        → goes_on rules (length before + 1) ≡ false → Agrees before (l ∷ ls) (j ∷ js)
+    stops place reason e on =
+        let at : j.verdict ≡ Invalid place reason = is.verdict ∙ e in
+        let told : report_of j ≡ Some (record { line = length before + 1; place = place; reason = reason }) =
+        rw (at, is.number) refl in
+        let here = ends-by place reason false e on in
+        let h : handled rules (j ∷ js) ≡ [] = handled-by true here in
+        record {
+          good = rw (e, on) (sym (ap (λ z. map (λ (q : JudgedLine). q.line) z) h));
+          kept = rw (e, on) (sym (ap (λ z. filter_map item_of z) h));
+          reported = rw (e, on) (sym (ap (λ z. filter_map report_of z) h));
+          refusal = rw (e, on)
+              (sym (ap (λ z. end_if (cond z (Some j) (find (ends rules) js))) here
+              ∙ ap (λ z. Some (end_of_report z)) told));
         }
 
     -- by its verdict
-    step : IsNext before l j → (v : Verdict) → verdict rules before l.content ≡ v
-        → Agrees (before ++ l ∷ []) ls js → Agrees before (l ∷ ls) (j ∷ js)
-    step is (Invalid place reason) e a = go (goes_on rules (length before + 1)) refl
+    step : (v : Verdict) → verdict rules before l.content ≡ v → Agrees (before ++ l ∷ []) ls js
+        → Agrees before (l ∷ ls) (j ∷ js)
+    step (Invalid place reason) e a = go (goes_on rules (length before + 1)) refl
       where
-        at : j.verdict ≡ Invalid place reason
-        at = is.verdict ∙ e
-
-        told : report_of j ≡ Some (record { line = length before + 1; place = place; reason = reason })
-        told = rw (at, is.number) refl
-
-        nothing : item_of j ≡ None
-        nothing = rw at (item-none j.line j.header j.tree (Invalid place reason) refl)
-
-        ends-by : (on : Bool) → goes_on rules (length before + 1) ≡ on → ends rules j ≡ not on
-        ends-by on k = rw (at, is.number)
-            (ends-goes (length before + 1) (omega arith) rules.options.keep_going ∙ ap not k)
-
         go : (on : Bool) → goes_on rules (length before + 1) ≡ on → Agrees before (l ∷ ls) (j ∷ js)
-        go true on =
-            passes (record {
-              line = is.line;
-              good = rw (e, on) refl;
-              kept = λ gs. rw (e, nothing) refl;
-              reported = λ gs. rw (e, told) refl;
-              refusal = rw (e, on) refl;
-              on = ends-by true on;
-            }) a
-        go false on =
-            let h : handled rules (j ∷ js) ≡ [] = handled-by true (ends-by false on) in
-            record {
-              good = rw (e, on) (sym (ap (λ z. map (λ (q : JudgedLine). q.line) z) h));
-              kept = rw (e, on) (sym (ap (λ z. filter_map item_of z) h));
-              reported = rw (e, on) (sym (ap (λ z. filter_map report_of z) h));
-              refusal = rw (e, on)
-                  (sym (ap (λ z. end_if (cond z (Some j) (find (ends rules) js))) (ends-by false on)
-                  ∙ ap (λ z. Some (end_of_report z)) told));
-            }
-    step is Blank e a =
-        let at : j.verdict ≡ Blank = is.verdict ∙ e in
-        let nothing : item_of j ≡ None = rw at (item-none j.line j.header j.tree Blank refl) in
-        passes (record {
-          line = is.line;
-          good = rw e refl;
-          kept = λ gs. rw (e, nothing) refl;
-          reported = λ gs. rw (e, at) refl;
-          refusal = rw e refl;
-          on = rw at refl;
-        }) a
-    step is LeftOut e a =
-        let at : j.verdict ≡ LeftOut = is.verdict ∙ e in
-        let nothing : item_of j ≡ None = rw at (item-none j.line j.header j.tree LeftOut refl) in
-        passes (record {
-          line = is.line;
-          good = rw e refl;
-          kept = λ gs. rw (e, nothing) refl;
-          reported = λ gs. rw (e, at) refl;
-          refusal = rw e refl;
-          on = rw at refl;
-        }) a
-    step is Kept e a =
-        let at : j.verdict ≡ Kept = is.verdict ∙ e in
-        let item : item_of j ≡ Some (item_after rules before l) = is.item at in
-        passes (record {
-          line = is.line;
-          good = rw e refl;
-          kept = λ gs. rw (e, item) refl;
-          reported = λ gs. rw (e, at) refl;
-          refusal = rw e refl;
-          on = rw at refl;
-        }) a
+        go true on = passes (ends-by place reason true e on) (rw (e, on) refl) a
+        go false on = stops place reason e on
+    step other e a =
+        let at : j.verdict ≡ other = is.verdict ∙ e in
+        passes (rw at refl) (rw e refl) a
 
   -- the tree that a content spells, by both
   same-tree : (c : List ℕ) (u : Tree) → Json c u → nest u ≤ rules.limits.depth → u ≡ tree_of rules.limits.depth c
@@ -207,9 +185,6 @@ module _ (rules : Rules) where
   list-agrees [] = record { good = refl; kept = refl; reported = refl; refusal = refl }
   list-agrees (l ∷ ls) = go (judged_at rules 1 None l).verdict refl
     where
-      first : JudgedLine
-      first = judged_at rules 1 None l
-
       is : IsVerdict rules None l.content (judged_at rules 1 None l).tree (judged_at rules 1 None l).verdict
       is = (first-is rules l).verdict
 
@@ -226,20 +201,9 @@ module _ (rules : Rules) where
 
       go : (v : Verdict) → (judged_at rules 1 None l).verdict ≡ v → Agrees [] (l ∷ ls) (judged_list rules (l ∷ ls))
       go (Invalid place reason) e =
-          let k : verdict rules [] l.content ≡ Invalid place reason = sym old ∙ e in
-          let at : ends rules (judged_at rules 1 None l) ≡ true = rw e refl in
-          let h : handled rules (judged_list rules (l ∷ ls)) ≡ [] =
-          handled-by [] ls l (judged_at rules 1 None l)
-          (judged_behind rules (judged_at rules 1 None l).verdict (judged_at rules 1 None l).tree ls) true at in
-          record {
-            good = rw k (sym (ap (λ z. map (λ (q : JudgedLine). q.line) z) h));
-            kept = rw k (sym (ap (λ z. filter_map item_of z) h));
-            reported = rw k (sym (ap (λ z. filter_map report_of z) h));
-            refusal = rw k (sym (ap (λ z. end_if (cond z (Some (judged_at rules 1 None l))
-                (find (ends rules) (judged_behind rules (judged_at rules 1 None l).verdict
-                (judged_at rules 1 None l).tree ls)))) at
-                ∙ ap (λ z. Some (end_of_report (report_by 1 z))) e));
-          }
+          stops [] ls l (judged_at rules 1 None l)
+          (judged_behind rules (judged_at rules 1 None l).verdict (judged_at rules 1 None l).tree ls) next place reason
+          (sym old ∙ e) refl
       go Blank e =
           let k = subst IsFirst e
           (first-verdict rules l.content (judged_at rules 1 None l).tree (judged_at rules 1 None l).verdict is) in

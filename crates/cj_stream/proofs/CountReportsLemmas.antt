@@ -45,12 +45,11 @@ counts-lines rules q n c h = rw h.told (reports-all c h.added h.noted)
 -- what a run has counted, by its end
 pub counts-run : (rules : Rules) (r : List ℕ) (c : CountReports) (e : End) → NotesRun CountsReport (stream_of rules r) e
     (no_reports) c → CountsReportsOfRun (stream_of rules r) e c
-counts-run rules r c Complete h = reports-all c (reported rules r) h
-counts-run rules r c (Refused number place reason) h = reports-all c (reported rules r) h
 counts-run rules r c ReadFault h = reports-all c (reported rules (whole r)) h
 counts-run rules r c ReadLimit h = reports-all c (reported rules (whole r)) h
 counts-run rules r c WriteFault h = reports-first (reported rules r) c h
 counts-run rules r c Memory h = h
+counts-run rules r c other h = reports-all c (reported rules r) h
 
 -- what was counted of pieces
 pub counts-pieces : (rules : Rules) (pieces : List (List ℕ)) (n : ℕ) (c : CountReports) (e : End)
@@ -58,7 +57,5 @@ pub counts-pieces : (rules : Rules) (pieces : List (List ℕ)) (n : ℕ) (c : Co
     → CountsReportsOfPieces (in_pieces rules pieces n) e c
 counts-pieces rules pieces n c Complete h = reports-all c (reported rules (joined pieces)) h
 counts-pieces rules pieces n c (Refused number place reason) h = reports-all c (reported rules (joined pieces)) h
-counts-pieces rules pieces n c ReadFault h = h
-counts-pieces rules pieces n c ReadLimit h = h
 counts-pieces rules pieces n c WriteFault h = reports-first (reported rules (joined (take (n + 1) pieces))) c h
-counts-pieces rules pieces n c Memory h = h
+counts-pieces rules pieces n c other h = h

@@ -10,7 +10,7 @@ use Rattle.std.proofs.lemmas.List.Elements.{filter-append}
 use Rattle.std.proofs.lemmas.Simd.{map-map}
 use Rattle.cj_spans.specs.Meaning.Tree.{Tree}
 use Rattle.cj_spans.specs.Meaning.Parts.{member_of}
-use Rattle.cj_geometry.specs.Meaning.Geometry.{Given}
+use Rattle.cj_geometry.specs.Meaning.Geometry.{TemplateSource}
 use Rattle.cj_geometry.specs.Meaning.Lod.{lod}
 use Rattle.cj_feature.specs.Meaning.CityObject.{object_geometries}
 use Rattle.cj_stream.specs.Tallied.{capped, class_count, class_of, how_often, own_classes}
@@ -104,7 +104,7 @@ own-first m whole rest e =
     (flat_map object_geometries rest)
 
 -- if no geometry is an instance, they are those of its LoDs
-pub RisesBy-own : (templates : Given) (gs : List Tree) (old new : List ℕ)
+pub RisesBy-own : (templates : TemplateSource) (gs : List Tree) (old new : List ℕ)
     → map (lod templates) gs ≡ map (member_of (chars (codes "lod"))) gs → RisesBy class_count old (own_classes gs) new
     → RisesBy class_count old (map (λ g. class_of (lod templates g)) gs) new
 RisesBy-own templates gs old new same =

@@ -23,10 +23,10 @@ use Rattle.cj_stream.proofs.LineLemmas.{closed-then, begun-then, NoLf-begun, fir
 use Rattle.cj_stream.proofs.VerdictLemmas.{refusal-append, verdict-long}
 use Rattle.cj_stream.proofs.IsLinesLemmas.{lines-whole}
 use Rattle.cj_stream.proofs.ReadingLemmas.{map_lines-append, length-map_lines}
-use Rattle.cj_stream.proofs.GoodLemmas.{good-append, good-all, kept-next_line, kept-split}
+use Rattle.cj_stream.proofs.GoodLemmas.{good-append, good-all, ending-refused}
 use Rattle.cj_stream.proofs.PieceLemmas.{Took-append}
-use Rattle.cj_stream.proofs.RunLemmas.{refusal-stays, ending-refused, kept_first-same, whole-good}
-use Rattle.cj_stream.proofs.OutputLemmas.{Took-appends, Took-all, kept-whole, writes_part, front-bytes, next-bytes, no-bytes}
+use Rattle.cj_stream.proofs.RunLemmas.{refusal-stays, whole-good}
+use Rattle.cj_stream.proofs.OutputLemmas.{Took-appends, writes_part, front-bytes, next-bytes, no-bytes}
 use Rattle.cj_stream.proofs.Apart.{none-some}
 
 -- a text that goes on: the lines that LF ended, and those of what had begun
@@ -143,129 +143,46 @@ module _ (rules : Rules) (q more : List ℕ) (e : End) where
           long-stays (ltb rules.limits.line (length (begun q))) refl h (sym later ∙ k)
       go (Some x) h = ended-stays x h k
 
--- the ending of a text, its output and what is reported of it, where what came first of it was the end
+-- the ending of a text, what is kept and reported of it, and its handled lines, where what came first of it was the end
 pub refused-more : (rules : Rules) (q more : List ℕ) (e : End) → refusal_in rules (judged rules.limits q) ≡ Some e
     → (ending rules (q ++ more) ≡ e) × (kept rules (q ++ more) ≡ kept rules q)
-    × (reported rules (q ++ more) ≡ reported rules q)
+    × (reported rules (q ++ more) ≡ reported rules q) × (good rules (q ++ more) ≡ good rules q)
 unfolding Stays
 refused-more rules q more e k =
     let all = judged-stays rules q more e k in
     let front = judged-stays rules q [] e k in
     let same : good_from rules [] (lines q) ≡ good_from rules [] (map ended_line (closed q)) = let z = front.1 in
-    rw (append-nil q) at z in (
+    rw (append-nil q) at z in
+    let handled = all.1 ∙ sym same in (
       ending-refused rules (lines (q ++ more)) e all.0,
-      ap (λ z. kept_from rules [] z) (all.1 ∙ sym same),
-      ap (λ z. reported_from rules [] z) (all.1 ∙ sym same),
+      ap (λ z. kept_from rules [] z) handled,
+      ap (λ z. reported_from rules [] z) handled,
+      handled,
     )
 
--- and so are the good lines
-pub good-more : (rules : Rules) (q more : List ℕ) (e : End) → refusal_in rules (judged rules.limits q) ≡ Some e
-    → good rules (q ++ more) ≡ good rules q
-unfolding Stays
-good-more rules q more e k =
-    let all = judged-stays rules q more e k in
-    let front = judged-stays rules q [] e k in
-    let same : good_from rules [] (lines q) ≡ good_from rules [] (map ended_line (closed q)) = let z = front.1 in
-    rw (append-nil q) at z in
-    all.1 ∙ sym same
-
--- what is kept of some pieces, of whose whole lines none is refused, are kept lines of these and the next
-kept-pieces : (rules : Rules) (pieces : List (List ℕ)) (n : ℕ)
-    → refusal_in rules (lines (whole (joined (take n pieces)))) ≡ None
-    → (kept_first rules (length (closed (joined (take n pieces)))) (joined (take n pieces))
-    ≡ kept rules (whole (joined (take n pieces))))
-    × (kept_first rules (length (closed (joined (take n pieces)))) (joined (take (n + 1) pieces))
-    ≡ kept rules (whole (joined (take n pieces))))
-kept-pieces rules pieces n good =
-    let q = joined (take n pieces) in
-    let all : length (closed (joined (take n pieces))) ≡ length (lines (whole (joined (take n pieces)))) =
-    sym (ap length (lines-whole q) ∙ length-map_lines (closed q)) in
-    let whole_kept = kept-whole rules (length (closed q)) q good all in
-    let next = joined-next n pieces in
-    let same = kept_first-same rules (length (closed q)) q next.0 refl in
-    (whole_kept, rw next.1 (same ∙ whole_kept))
-
-module _ {S : Type 0} (law : SinkLaw S) (rules : Rules) (pieces : List (List ℕ)) (n : ℕ) (s t : S)
-    (count features refusals : ℕ) (counts : Counts rules (joined (take (n + 1) pieces)) count features refusals) where
-  -- what a sink took of the lines that were dealt with before a fault
-  taken : (e : End) → TookWhole law (given_after [] 0 (in_pieces rules pieces n) count) s t e → (more : List Item)
-      × (middle : S)
-      × (kept_first rules count (joined (take (n + 1) pieces)) ≡ kept rules (whole (joined (take n pieces))) ++ more)
-      × Took law.takes s (kept rules (whole (joined (take n pieces))) ++ more) middle
-      × Faults law (up_to rules (joined (take (n + 1) pieces)) count) middle t (Some e)
-  taken e k =
-      let same = kept-pieces rules pieces n k.good in
-      let first : k.taken.added ≡ kept rules (whole (joined (take n pieces))) = sym k.taken.kept ∙ same.0 in
-      let before = subst (λ z. Took law.takes s k.taken.added z) (sym k.taken.fault) k.taken.took in (
-        k.after.added,
-        k.after.middle,
-        k.after.kept ∙ ap (λ z. z ++ k.after.added) same.1,
-        rw (← first) (Took-append law.takes s k.middle k.after.middle k.taken.added k.after.added before k.after.took),
-        k.after.fault,
-      )
-
-  -- what was put, by the end
-  pub PutsPieces-ends : (e : End)
-      → Ends rules (joined (take (n + 1) pieces)) count (joined (take (n + 1) pieces) ≡ joined pieces) e
-      → Delivers law (stretch rules (joined (take (n + 1) pieces)) 0 count) s t (Some e)
-      → TookWhole law (given_after [] 0 (in_pieces rules pieces n) count) s t e
-      → IsUnread e → PutsPieces law (in_pieces rules pieces n) e s t
-  PutsPieces-ends Complete ends d k u = rw (← ends.2) (
-    ends.0,
-    Took-all law rules (joined (take (n + 1) pieces)) count s t Complete d d.fault ends.1,
-  )
-  PutsPieces-ends (Refused number place reason) ends d k u = go ends.2
-    where
-      all : Took law.takes s (kept rules (joined (take (n + 1) pieces))) t
-      all = Took-all law rules (joined (take (n + 1) pieces)) count s t (Refused number place reason) d d.fault ends.1
-
-      go : (joined (take (n + 1) pieces) ≡ joined pieces)
-          ⊎ (refusal_in rules (judged rules.limits (joined (take (n + 1) pieces))) ≡ Some (Refused number place reason))
-          → PutsPieces law (in_pieces rules pieces n) (Refused number place reason) s t
-      go (inl same) = rw (← same) (ends.0, all)
-      go (inr told) =
-          let more = refused-more rules (joined (take (n + 1) pieces)) (joined (drop (n + 1) pieces))
-          (Refused number place reason) told in
-          rw (← joined-cut (n + 1) pieces) (more.0, rw more.1 all)
-  PutsPieces-ends ReadFault ends d k u = absurd u
-  PutsPieces-ends ReadLimit ends d k u = absurd u
-  PutsPieces-ends WriteFault ends d k u =
-      let r = joined (take (n + 1) pieces) in
-      let took = taken WriteFault k in
-      let fault = took.4 in
-      let next = kept-next_line rules count r fault.0 counts.good fault.1 fault.2 in
-      record {
-        more = took.0;
-        others = item_after rules (take count (lines r)) fault.0 ∷ next.0;
-        middle = took.1;
-        front = next.1 ∙ ap (λ z. z ++ item_after rules (take count (lines (joined (take (n + 1) pieces)))) fault.0
-            ∷ next.0) took.2;
-        took = took.3;
-        left = fault.3;
-      }
-  PutsPieces-ends Memory ends d k u =
-      let r = joined (take (n + 1) pieces) in
-      let took = taken Memory k in
-      let others : List Item =
-      kept_from rules (take count (lines r)) (good_from rules (take count (lines r)) (drop count (lines r))) in
-      record {
-        more = took.0;
-        others = others;
-        middle = took.1;
-        front = kept-split rules count r counts.good ∙ ap (λ z. z ++ others) took.2;
-        took = took.3;
-        left = took.4;
-      }
+-- the same of pieces, where those that were given are all of them or were the end
+pub given-told : (rules : Rules) (p : List ℕ) (pieces : List (List ℕ)) (k : ℕ) (e : End)
+    → (joined (take (k + 1) pieces) ≡ joined pieces)
+    ⊎ (refusal_in rules (judged rules.limits (p ++ joined (take (k + 1) pieces))) ≡ Some e)
+    → ending rules (p ++ joined (take (k + 1) pieces)) ≡ e
+    → (ending rules (p ++ joined pieces) ≡ e)
+    × (kept rules (p ++ joined pieces) ≡ kept rules (p ++ joined (take (k + 1) pieces)))
+    × (reported rules (p ++ joined pieces) ≡ reported rules (p ++ joined (take (k + 1) pieces)))
+    × (good rules (p ++ joined pieces) ≡ good rules (p ++ joined (take (k + 1) pieces)))
+given-told rules p pieces k e (inl same) ends = rw (← same) (ends, refl, refl, refl)
+given-told rules p pieces k e (inr h) ends =
+    let given = joined (take (k + 1) pieces) in
+    let more = refused-more rules (p ++ given) (joined (drop (k + 1) pieces)) e h in
+    let text : (p ++ given) ++ joined (drop (k + 1) pieces) ≡ p ++ joined pieces =
+    append_assoc p given (joined (drop (k + 1) pieces)) ∙ ap (λ z. p ++ z) (joined-cut (k + 1) pieces) in
+    let z = rw text at more in
+    z
 
 -- a writer that was put the items of pieces
 pub Copies-puts : {S : Type 0} (contents : S → Option (List ℕ)) (failures : S → ℕ) (rules : Rules)
     (pieces : List (List ℕ)) (n : ℕ) (s t : S) (e : End)
     → PutsPieces (writes_law contents failures) (in_pieces rules pieces n) e s t → Copies (in_pieces rules pieces n) e
     (contents s) (contents t)
-Copies-puts contents failures rules pieces n s t Complete h =
-    (h.0, Took-appends contents s t (kept rules (joined pieces)) h.1)
-Copies-puts contents failures rules pieces n s t (Refused number place reason) h =
-    (h.0, Took-appends contents s t (kept rules (joined pieces)) h.1)
 Copies-puts contents failures rules pieces n s t ReadFault h = h
 Copies-puts contents failures rules pieces n s t ReadLimit h = h
 Copies-puts contents failures rules pieces n s t WriteFault h =
@@ -274,51 +191,42 @@ Copies-puts contents failures rules pieces n s t WriteFault h =
 Copies-puts contents failures rules pieces n s t Memory h =
     front-bytes contents (λ others a b. b ≡ a) (no-bytes contents) (kept rules (joined (take (n + 1) pieces)))
     (kept rules (whole (joined (take n pieces)))) s t h
+Copies-puts contents failures rules pieces n s t other h =
+    (h.0, Took-appends contents s t (kept rules (joined pieces)) h.1)
 
 -- where a piece, or the end, ended it
 pub EndsAt-told : (rules : Rules) (before : List ℕ) (pieces : List (List ℕ)) (k n : ℕ) (e : End)
     → Tells rules (before ++ joined (take (k + 1) pieces)) n e → EndsAt rules before pieces k e
 EndsAt-told rules before pieces k n Complete c = absurd c
 EndsAt-told rules before pieces k n (Refused number place reason) c = inr c.0
-EndsAt-told rules before pieces k n ReadFault c = c
-EndsAt-told rules before pieces k n ReadLimit c = c
 EndsAt-told rules before pieces k n WriteFault c = tt
 EndsAt-told rules before pieces k n Memory c = tt
+EndsAt-told rules before pieces k n other c = c
 
 pub EndsAt-concludes : (rules : Rules) (before : List ℕ) (pieces : List (List ℕ)) (k : ℕ) (p : List ℕ) (n : ℕ) (e : End)
     → k ≡ length pieces → Concludes rules p n e → EndsAt rules before pieces k e
 EndsAt-concludes rules before pieces k p n Complete all c = all
 EndsAt-concludes rules before pieces k p n (Refused number place reason) all c = inl all
-EndsAt-concludes rules before pieces k p n ReadFault all c = c
-EndsAt-concludes rules before pieces k p n ReadLimit all c = c
 EndsAt-concludes rules before pieces k p n WriteFault all c = tt
 EndsAt-concludes rules before pieces k p n Memory all c = tt
+EndsAt-concludes rules before pieces k p n other all c = c
 
 -- such an end is none that a reader makes
 pub unread-at : (rules : Rules) (before : List ℕ) (pieces : List (List ℕ)) (k : ℕ) (e : End)
     → EndsAt rules before pieces k e → IsUnread e
-unread-at rules before pieces k Complete c = tt
-unread-at rules before pieces k (Refused number place reason) c = tt
 unread-at rules before pieces k ReadFault c = c
 unread-at rules before pieces k ReadLimit c = c
-unread-at rules before pieces k WriteFault c = tt
-unread-at rules before pieces k Memory c = tt
+unread-at rules before pieces k other c = tt
 
 pub unread-told : (rules : Rules) (q : List ℕ) (n : ℕ) (e : End) → Tells rules q n e → IsUnread e
-unread-told rules q n Complete h = tt
-unread-told rules q n (Refused number place reason) h = tt
 unread-told rules q n ReadFault h = h
 unread-told rules q n ReadLimit h = h
-unread-told rules q n WriteFault h = tt
-unread-told rules q n Memory h = tt
+unread-told rules q n other h = tt
 
 pub unread-concludes : (rules : Rules) (q : List ℕ) (n : ℕ) (e : End) → Concludes rules q n e → IsUnread e
-unread-concludes rules q n Complete h = tt
-unread-concludes rules q n (Refused number place reason) h = tt
 unread-concludes rules q n ReadFault h = h
 unread-concludes rules q n ReadLimit h = h
-unread-concludes rules q n WriteFault h = tt
-unread-concludes rules q n Memory h = tt
+unread-concludes rules q n other h = tt
 
 -- what an engine that had read some pieces did with the next, or at the end
 pub TookWhole-left : {S : Type 0} (law : SinkLaw S) (e : EngineState) (rules : Rules) (before : List ℕ) (first : ℕ)

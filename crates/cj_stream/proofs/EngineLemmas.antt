@@ -18,11 +18,12 @@ use Rattle.cj_stream.specs.Scanning.{Scanning, HasRoom, Scanned, HoldsFew}
 use Rattle.cj_stream.specs.Reading.{Reading, is_lenient, IsSound, Reads, kept_closed, Advances, IsNext, LacksMemory, HasCause, Stops, further, stop_at}
 use Rattle.cj_stream.specs.Engine.{EngineState, StandsFor, Counts, Going, Faults, Delivers, Tells, limits_of, held_by, peaks_of}
 use Rattle.cj_stream.specs.Sink.{SinkLaw, with_sink}
-use Rattle.cj_stream.proofs.LineLemmas.{closed-then, first_content-grows, none-from_length}
+use Rattle.cj_stream.proofs.FirstLemmas.{take-front, lines-front, first-front, first-closed_lines}
+use Rattle.cj_stream.proofs.LineLemmas.{closed-grows, first_content-grows, none-from_length}
 use Rattle.cj_stream.proofs.IsLinesLemmas.{lines-whole}
 use Rattle.cj_stream.proofs.VerdictLemmas.{refusal-append, verdict-long}
 use Rattle.cj_stream.proofs.ScanningLemmas.{few-scanned, first-closed}
-use Rattle.cj_stream.proofs.ReadingLemmas.{length-map_lines, map_lines-append, dropped-long}
+use Rattle.cj_stream.proofs.ReadingLemmas.{length-map_lines, dropped-long}
 use Rattle.cj_stream.proofs.Apart.{some-none}
 
 -- what is held is within the peaks
@@ -62,13 +63,6 @@ peak-le f p more s h =
       s.line,
     )
 
-pub take-front : (xs ys : List Line) (n : ℕ) → n ≡ length xs → take n (xs ++ ys) ≡ xs
-take-front xs ys n e = rw e (go xs ys)
-  where
-    go : (xs ys : List Line) → take (length xs) (xs ++ ys) ≡ xs
-    go [] ys = refl
-    go (x ∷ xs) ys = ap (λ z. x ∷ z) (go xs ys)
-
 pub get-next : (xs ys : List Line) (l : Line) (n : ℕ) → n ≡ length xs → slice_get (xs ++ l ∷ ys) n ≡ Some l
 get-next xs ys l n e = rw e (go xs)
   where
@@ -76,38 +70,16 @@ get-next xs ys l n e = rw e (go xs)
     go [] = refl
     go (x ∷ xs) = go xs
 
--- the lines that LF ended in a prefix, counted
-pub lines-front : (n : ℕ) (p more : List ℕ) → n ≡ length (closed p)
-    → take n (lines (p ++ more)) ≡ map ended_line (closed p)
-lines-front n p more e =
-    let cs = map ended_line (closed p) in
-    let ds = map ended_line (closed (begun p ++ more)) ++ last_line (begun (p ++ more)) in
-    let t : take n (cs ++ ds) ≡ cs = take-front cs ds n (e ∙ sym (length-map_lines (closed p))) in
-    rw (
-      closed-then p more,
-      map_lines-append (closed p) (closed (begun p ++ more)),
-      append_assoc cs (map ended_line (closed (begun p ++ more))) (last_line (begun (p ++ more))),
-      t,
-    ) refl
-
-pub kept_first-front : (rules : Rules) (n : ℕ) (p more : List ℕ) → n ≡ length (closed p)
-    → kept_first rules n (p ++ more) ≡ kept_closed rules p
-kept_first-front rules n p more e = ap (λ z. kept_from rules [] z) (lines-front n p more e)
-
 few-front : (n : ℕ) (p more : List ℕ) → n ≡ length (closed p) → n ≤ length (lines (p ++ more))
 few-front n p more e =
-    let cs = map ended_line (closed p) in
-    rw (
-      closed-then p more,
-      map_lines-append (closed p) (closed (begun p ++ more)),
-      append_assoc cs (map ended_line (closed (begun p ++ more))) (last_line (begun (p ++ more))),
-    )
-    (omega (
+    let cs = map ended_line (closed (p ++ more)) in
+    omega (
       arith,
       e,
-      length-map_lines (closed p),
-      length-append cs (map ended_line (closed (begun p ++ more)) ++ last_line (begun (p ++ more))),
-    ))
+      closed-grows p more,
+      length-map_lines (closed (p ++ more)),
+      length-append cs (last_line (begun (p ++ more))),
+    )
 
 -- the counts of what has been read, whatever bytes follow
 pub Counts-front : (f : Reading) (p more : List ℕ) → Reads f p → Counts f.rules (p ++ more) f.lines f.kept f.refused
@@ -155,25 +127,21 @@ next-refusal rules n place reason p q l h e good v on =
 pub Tells-cause : {S : Type 0} (law : SinkLaw S) (rules : Rules) (p q : List ℕ) (n : ℕ) (s t : S) (e : End)
     → n ≡ length (closed p)
     → refusal_in rules (map ended_line (closed p)) ≡ None → HasCause law (stop_at rules p q n) s t e → Tells rules q n e
-Tells-cause law rules p q n s t Complete len good c = c
 Tells-cause law rules p q n s t (Refused number place reason) len good c =
     (next-refusal rules number place reason p q c.0 c.1 (omega (arith, c.2, len)) good c.3 c.5, c.2)
-Tells-cause law rules p q n s t ReadFault len good c = c
-Tells-cause law rules p q n s t ReadLimit len good c = c
 Tells-cause law rules p q n s t WriteFault len good c = tt
 Tells-cause law rules p q n s t Memory len good c = tt
+Tells-cause law rules p q n s t other len good c = c
 
 pub Faults-cause : {S : Type 0} (law : SinkLaw S) (rules : Rules) (p q : List ℕ) (n : ℕ) (s t : S) (e : End)
     → n ≡ length (closed p)
     → HasCause law (stop_at rules p q n) s t e → Faults law (up_to rules q n) s t (Some e)
-Faults-cause law rules p q n s t Complete len c = absurd c
 Faults-cause law rules p q n s t (Refused number place reason) len c = c.4
-Faults-cause law rules p q n s t ReadFault len c = absurd c
-Faults-cause law rules p q n s t ReadLimit len c = absurd c
 Faults-cause law rules p q n s t WriteFault len c =
     let before = front-next rules.limits p q c.0 n c.1 len in
     (c.0, next-line rules.limits n p q c.0 c.1 len, rw before c.2, rw before c.3)
 Faults-cause law rules p q n s t Memory len c = c.0
+Faults-cause law rules p q n s t other len c = absurd c
 
 -- what has begun, and is no end: it is within the limit, or reading goes on after it
 pub begun-good : (f : Reading) (q : List ℕ) → Reads f q → refusal_in f.rules (judged f.rules.limits q) ≡ None
@@ -237,16 +205,11 @@ module _ {S : Type 0} (law : SinkLaw S) where
         added = h.puts.0;
         middle = t;
         kept =
-            let new_front : kept_first rules g.lines (p ++ more) ≡ kept_closed rules (p ++ more) =
-            front_all rules g.lines (p ++ more) h.reads.lines in
-            new_front ∙ (h.puts.1 ∙ ap (λ z. z ++ h.puts.0) (sym (kept_first-front rules f.lines p more r.lines)));
+            first-closed_lines (kept_from rules) g.lines (p ++ more) h.reads.lines
+            ∙ (h.puts.1 ∙ ap (λ z. z ++ h.puts.0) (sym (first-front (kept_from rules) f.lines p more r.lines)));
         took = h.puts.2;
         fault = refl;
       }
-    where
-      front_all : (rules : Rules) (n : ℕ) (q : List ℕ) → n ≡ length (closed q)
-          → kept_first rules n q ≡ kept_closed rules q
-      front_all rules n q e = let k = kept_first-front rules n q [] e in rw (append-nil q) at k
 
   pub Delivers-stops : (f g : Reading) (s t : S) (p more : List ℕ) (e : End) → Reads f p → Stops law (further p more)
       (with_sink f s) e (with_sink g t)
@@ -258,9 +221,9 @@ module _ {S : Type 0} (law : SinkLaw S) where
         added = h.puts.0;
         middle = h.middle;
         kept = rw (
-          kept_first-front rules f.lines p more r.lines,
+          first-front (kept_from rules) f.lines p more r.lines,
           whole,
-          kept_first-front rules g.lines (p ++ h.done) h.left h.reads.lines,
+          first-front (kept_from rules) g.lines (p ++ h.done) h.left h.reads.lines,
         ) h.puts.1;
         took = h.puts.2;
         fault = (Faults-cause law rules (p ++ h.done) (p ++ more) g.lines h.middle t e h.reads.lines h.cause);

@@ -1,7 +1,7 @@
 -- What the end of a text makes of an engine.
 use Rattle.std.proofs.Common.{◌≡◌, ℕ, ◌+◌, ◌<◌, ◌≤◌, ◌⊎◌, inl, inr, max, List, [], ◌∷◌, ◌++◌, Bool, true, false, eqb, length, take, map, Some, None, Result, Ok, Err, arith, refl, sym, ap, ◌∙◌, length-append}
 use Rattle.std.specs.Prelude.{unwrap_or, OnOk, OnErr, if◌then◌else◌}
-use Rattle.std.proofs.lemmas.List.{append-nil}
+use Rattle.std.proofs.lemmas.List.{append-nil, take_all}
 use Rattle.std.proofs.lemmas.Bool.Decides.{nat_tests}
 use Rattle.cj_budget.specs.Meaning.Limits.{LimitPair}
 use Rattle.cj_budget.specs.Bounded.{IsWithin}
@@ -23,29 +23,27 @@ use Rattle.cj_stream.specs.Scanning.{Scanning, Scanned, ScansNext, HasRoom, Hold
 use Rattle.cj_stream.specs.Engine.{StandsFor, Counts, Faults, Delivers, Concludes, end_of}
 use Rattle.cj_stream.specs.Sink.{SinkLaw, with_sink}
 use Rattle.cj_stream.proofs.LineLemmas.{none-from_length, begun_after-empty}
+use Rattle.cj_stream.proofs.DealtLemmas.{Came, passed, refused, failed, lacked, came}
 use Rattle.cj_stream.proofs.VerdictLemmas.{refusal-append, kept-append}
-use Rattle.cj_stream.proofs.ReadingLemmas.{length-map_lines, zero_or, next-verdict, next-item, kept-next, is_refused, refused-next, greatest-later, held-nothing}
+use Rattle.cj_stream.proofs.ReadingLemmas.{length-map_lines, left-same, zero_or, kept-next, refused-next, greatest-later, held-nothing}
 use Rattle.cj_stream.proofs.Apart.{some-none}
 use Rattle.cj_stream.proofs.GoodLemmas.{good-complete, good-refused}
-use Rattle.cj_stream.proofs.EngineLemmas.{held-below, peaks-bounded, same-peaks, take-front, get-next, lines-front, Counts-front}
+use Rattle.cj_stream.proofs.EngineLemmas.{held-below, peaks-bounded, same-peaks, get-next, Counts-front}
+use Rattle.cj_stream.proofs.FirstLemmas.{lines-front}
 
 -- the end of a text, by the number of its lines
 abbrev pub Concluded : Rules → List ℕ → ℕ → End → Type 0
 Concluded rules p n Complete = (ending rules p ≡ Complete) × (n ≡ length (lines p))
 Concluded rules p n (Refused number place reason) = (ending rules p ≡ Refused number place reason) × (number ≡ n + 1)
-Concluded rules p n ReadFault = ⊥
-Concluded rules p n ReadLimit = ⊥
 Concluded rules p n WriteFault = Unit {0}
 Concluded rules p n Memory = Unit {0}
+Concluded rules p n other = ⊥
 
 pub Concludes-concluded : (rules : Rules) (p : List ℕ) (n : ℕ) (e : End) → Concluded rules p n e → Concludes rules p n e
 Concludes-concluded rules p n Complete h = (h.0, h.1 ∙ ap length (sym (good-complete rules p h.0)))
 Concludes-concluded rules p n (Refused number place reason) h =
     (h.0, omega (arith, h.1, good-refused rules p number place reason h.0))
-Concludes-concluded rules p n ReadFault h = h
-Concludes-concluded rules p n ReadLimit h = h
-Concludes-concluded rules p n WriteFault h = h
-Concludes-concluded rules p n Memory h = h
+Concludes-concluded rules p n other h = h
 
 ending-some : (rules : Rules) (xs ys : List Line) → 0 < length xs
     → ending_of rules (xs ++ ys) ≡ unwrap_or (refusal_in rules (xs ++ ys)) Complete
@@ -108,7 +106,34 @@ scanned-closed limits p a e s = rw (e, contents-closed (closed p)) s
 abbrev unended : ℕ → List ℕ → Line
 unended b c = record { content = b ∷ c; lf = false }
 
+-- The end of p came, and this was answered: of no bytes, of lines that LF ended, and of a last line without LF.
+data CameLast {S : Type 0} (law : SinkLaw S) (f g : Reading) (s t : S) (p : List ℕ) :
+    Result (Unit {0}) End → Type 0 where
+  nothing : lines p ≡ [] → f.lines ≡ 0 → begun p ≡ [] → g ≡ f → t ≡ s
+      → CameLast law f g s t p (Err (Refused 1 0 NoHeader))
+  whole : 0 < f.lines → begun p ≡ [] → g ≡ f → t ≡ s → CameLast law f g s t p (Ok tt)
+  last : (b : ℕ) (c : List ℕ) (r : Result (Unit {0}) End) → begun p ≡ b ∷ c
+      → Came law f g s t (map ended_line (closed p)) (unended b c) r → CameLast law f g s t p r
+
 module _ {S : Type 0} (law : SinkLaw S) (f g : Reading) (s t : S) (p : List ℕ) (reads : Reads f p) where
+  came-none : (r : Result (Unit {0}) End) → begun p ≡ [] → FinishesWith law [] (with_sink f s) r (with_sink g t)
+      → CameLast law f g s t p r
+  came-none r e d = go (zero_or f.lines)
+    where
+      go : (f.lines ≡ 0) ⊎ (0 < f.lines) → CameLast law f g s t p r
+      go (inl z) =
+          let none : closed p ≡ [] = none-from_length (closed p) (sym reads.lines ∙ z) in
+          let first : eqb f.lines 0 ≡ true = grind (arith, nat_tests) in
+          rw (d.0, first) (nothing (rw (none, e) refl) z e d.1 d.2)
+      go (inr z) = let some : eqb f.lines 0 ≡ false = grind (arith, nat_tests) in rw (d.0, some) (whole z e d.1 d.2)
+
+  came-last : (r : Result (Unit {0}) End) → Finishes law p (with_sink f s) r (with_sink g t) → CameLast law f g s t p r
+  came-last r d = go (begun p) refl d
+    where
+      go : (x : List ℕ) → begun p ≡ x → FinishesWith law x (with_sink f s) r (with_sink g t) → CameLast law f g s t p r
+      go [] e d = came-none r e d
+      go (b ∷ c) e d = last b c r e (came law f g s t p reads (unended b c) r d)
+
   length-cs : length (map ended_line (closed p)) ≡ f.lines
   length-cs = length-map_lines (closed p) ∙ sym reads.lines
 
@@ -120,16 +145,19 @@ module _ {S : Type 0} (law : SinkLaw S) (f g : Reading) (s t : S) (p : List ℕ)
       ++ unended b c ∷ []
   take-last b c e =
       let xs = map ended_line (closed p) in
-      let every =
-      take-front (map ended_line (closed p) ++ unended b c ∷ []) [] (f.lines + 1)
-      (omega (arith, length-cs, length-append xs (unended b c ∷ []))) in
-      rw (lines-last b c e) (rw (append-nil (map ended_line (closed p) ++ unended b c ∷ [])) at every)
+      rw (lines-last b c e)
+      (take_all (f.lines + 1) (map ended_line (closed p) ++ unended b c ∷ [])
+      (omega (arith, length-cs, length-append xs (unended b c ∷ []))))
 
   -- the lines but the last, counted
   take-closed : take f.lines (lines p) ≡ map ended_line (closed p)
   take-closed = let k = lines-front f.lines p [] reads.lines in rw (append-nil p) at k
 
-  -- the end, where a last line has this verdict
+  count-last : (b : ℕ) (c : List ℕ) → begun p ≡ b ∷ c → g.lines ≡ f.lines + 1 → g.lines ≡ length (lines p)
+  count-last b c e h =
+      rw (lines-last b c e) (omega (arith, h, length-cs, length-append (map ended_line (closed p)) (unended b c ∷ [])))
+
+  -- the end, where there is a last line
   ending-verdict : (b : ℕ) (c : List ℕ) → begun p ≡ b ∷ c
       → ending f.rules p ≡ unwrap_or (refusal_from f.rules (map ended_line (closed p)) (unended b c ∷ [])) Complete
   ending-verdict b c e =
@@ -140,75 +168,36 @@ module _ {S : Type 0} (law : SinkLaw S) (f g : Reading) (s t : S) (p : List ℕ)
         refusal-append f.rules [] (map ended_line (closed p)) (l ∷ []) reads.good,
       ) refl
 
-  count-last : (b : ℕ) (c : List ℕ) → begun p ≡ b ∷ c → g.lines ≡ f.lines + 1 → g.lines ≡ length (lines p)
-  count-last b c e h =
-      rw (lines-last b c e) (omega (arith, h, length-cs, length-append (map ended_line (closed p)) (unended b c ∷ [])))
-
-  -- reading goes on after the last line, or not
-  last-lenient : (on : Bool) → is_lenient f ≡ on → goes_on f.rules (length (map ended_line (closed p)) + 1) ≡ on
-  last-lenient on is = rw length-cs is
-
-  concluded-refused : (b : ℕ) (c : List ℕ) (place : ℕ) (reason : Reason) (on : Bool) (r : Result (Unit {0}) End)
-      → begun p ≡ b ∷ c → verdict f.rules (map ended_line (closed p)) (b ∷ c) ≡ Invalid place reason
-      → is_lenient f ≡ on → Refuses on (Refused (f.lines + 1) place reason) f r g → Concluded f.rules p g.lines
-      (end_of r)
-  concluded-refused b c place reason true r e h is d =
-      rw d.0 (ending-verdict b c e ∙ rw (h, last-lenient true is) refl, count-last b c e d.1.lines)
-  concluded-refused b c place reason false r e h is d =
-      rw d.0 (ending-verdict b c e ∙ rw (h, last-lenient false is, length-cs) refl, ap (λ x. x.lines + 1) (sym d.1))
-
-  concluded-last : (b : ℕ) (c : List ℕ) (v : Verdict) (r : Result (Unit {0}) End) → begun p ≡ b ∷ c
-      → verdict f.rules (map ended_line (closed p)) (b ∷ c) ≡ v
-      → Deals law (judged_next f (is_lenient f) v (unended b c)) (with_sink f s) r (with_sink g t)
-      → Concluded f.rules p g.lines (end_of r)
-  concluded-last b c (Invalid place reason) r e h d = concluded-refused b c place reason (is_lenient f) r e h refl d.0
-  concluded-last b c Blank r e h d = rw d.0 (ending-verdict b c e ∙ rw h refl, count-last b c e d.1.lines)
-  concluded-last b c LeftOut r e h d = rw d.0 (ending-verdict b c e ∙ rw h refl, count-last b c e d.1.lines)
-  concluded-last b c Kept (Ok x) e h d = (ending-verdict b c e ∙ rw h refl, count-last b c e d.0.lines)
-  concluded-last b c Kept (Err x) e h d = rw d.0 tt
-
-  concluded-none : (r : Result (Unit {0}) End) → begun p ≡ [] → FinishesWith law [] (with_sink f s) r (with_sink g t)
-      → Concluded f.rules p g.lines (end_of r)
-  concluded-none r e d = go (zero_or f.lines)
-    where
-      go : (f.lines ≡ 0) ⊎ (0 < f.lines) → Concluded f.rules p g.lines (end_of r)
-      go (inl z) =
-          let none : closed p ≡ [] = none-from_length (closed p) (sym reads.lines ∙ z) in
-          rw (d.0, z, none, e) (refl, ap (λ x. x + 1) (sym (ap (λ x. x.lines) d.1 ∙ z)))
-      go (inr z) =
-          let no : eqb f.lines 0 ≡ false = grind (arith, nat_tests) in
-          let whole : lines p ≡ map ended_line (closed p) ++ [] = rw e refl in
-          let good : refusal_in f.rules (map ended_line (closed p) ++ []) ≡ None =
-          rw (append-nil (map ended_line (closed p))) reads.good in
-          rw (d.0, no, d.1, whole) (
-            ending-some f.rules (map ended_line (closed p)) [] (omega (arith, length-cs)) ∙ rw good refl,
-            rw (append-nil (map ended_line (closed p))) (sym length-cs),
-          )
+  concluded : (r : Result (Unit {0}) End) → CameLast law f g s t p r → Concluded f.rules p g.lines (end_of r)
+  concluded r (nothing none z e same still) = rw (none, same, z) (refl, refl)
+  concluded r (whole z e same still) =
+      let all : lines p ≡ map ended_line (closed p) ++ [] = rw e refl in
+      let good : refusal_in f.rules (map ended_line (closed p) ++ []) ≡ None =
+      rw (append-nil (map ended_line (closed p))) reads.good in
+      rw (same, all) (
+        ending-some f.rules (map ended_line (closed p)) [] (omega (arith, length-cs)) ∙ rw good refl,
+        rw (append-nil (map ended_line (closed p))) (sym length-cs),
+      )
+  concluded r (last b c x e (passed put refuses d fine k bad took)) =
+      (ending-verdict b c e ∙ rw fine refl, count-last b c e d.lines)
+  concluded r (last b c x e (refused place reason v on same still)) =
+      let ends : goes_on f.rules (length (map ended_line (closed p)) + 1) ≡ false = rw length-cs on in
+      (ending-verdict b c e ∙ rw (v, ends, length-cs) refl, ap (λ x. x.lines + 1) (sym same))
+  concluded r (last b c x e (failed v left leaves)) = tt
+  concluded r (last b c x e (lacked v none lf left still)) = tt
 
   pub Finishes-concludes : (r : Result (Unit {0}) End) → Finishes law p (with_sink f s) r (with_sink g t)
       → Concludes f.rules p g.lines (end_of r)
-  Finishes-concludes r d = Concludes-concluded f.rules p g.lines (end_of r) (go (begun p) refl d)
-    where
-      go : (x : List ℕ) → begun p ≡ x → FinishesWith law x (with_sink f s) r (with_sink g t)
-          → Concluded f.rules p g.lines (end_of r)
-      go [] e d = concluded-none r e d
-      go (b ∷ c) e (inl d) = concluded-last b c _ r e (sym (next-verdict f p reads (b ∷ c))) d
-      go (b ∷ c) e (inr m) = rw m.0 tt
+  Finishes-concludes r d = Concludes-concluded f.rules p g.lines (end_of r) (concluded r (came-last r d))
 
   -- the counts are those of f where nothing was dealt with
-  counts-same : g ≡ f → Counts f.rules p g.lines g.kept g.refused
-  counts-same e = let k = Counts-front f p [] reads in rw e (rw (append-nil p) at k)
-
   counts-left : IsLeft f g → Counts f.rules p g.lines g.kept g.refused
   counts-left left = let k = Counts-front f p [] reads in rw left.same (rw (append-nil p) at k)
 
-  counts-passed : (b : ℕ) (c : List ℕ) (put refuses : Bool) → begun p ≡ b ∷ c → Passes put refuses f g
-      → refusal_of f.rules (length (map ended_line (closed p)) + 1)
-      (verdict f.rules (map ended_line (closed p)) (b ∷ c)) ≡ None
-      → put ≡ is_kept (verdict f.rules (map ended_line (closed p)) (b ∷ c))
-      → refuses ≡ is_refused (verdict f.rules (map ended_line (closed p)) (b ∷ c))
-      → Counts f.rules p g.lines g.kept g.refused
-  counts-passed b c put refuses e d fine k bad =
+  counted : (r : Result (Unit {0}) End) → CameLast law f g s t p r → Counts f.rules p g.lines g.kept g.refused
+  counted r (nothing none z e same still) = counts-left (left-same f g same)
+  counted r (whole z e same still) = counts-left (left-same f g same)
+  counted r (last b c x e (passed put refuses d fine k bad took)) =
       let xs = map ended_line (closed p) in
       record {
         few = omega (arith, count-last b c e d.lines);
@@ -217,34 +206,13 @@ module _ {S : Type 0} (law : SinkLaw S) (f g : Reading) (s t : S) (p : List ℕ)
             (kept-next f g xs (unended b c) put refuses (sym length-cs) reads.kept d k);
         refused = rw (d.lines, take-last b c e) (refused-next f g xs (unended b c) put refuses reads.refused d bad);
       }
-
-  counts-refused : (b : ℕ) (c : List ℕ) (place : ℕ) (reason : Reason) (on : Bool) (r : Result (Unit {0}) End)
-      → begun p ≡ b ∷ c → verdict f.rules (map ended_line (closed p)) (b ∷ c) ≡ Invalid place reason
-      → is_lenient f ≡ on → Refuses on (Refused (f.lines + 1) place reason) f r g → Counts f.rules p g.lines g.kept
-      g.refused
-  counts-refused b c place reason true r e h is d =
-      counts-passed b c false true e d.1 (rw (h, last-lenient true is) refl) (rw h refl) (rw h refl)
-  counts-refused b c place reason false r e h is d = counts-same d.1
-
-  counts-last : (b : ℕ) (c : List ℕ) (v : Verdict) (r : Result (Unit {0}) End) → begun p ≡ b ∷ c
-      → verdict f.rules (map ended_line (closed p)) (b ∷ c) ≡ v
-      → Deals law (judged_next f (is_lenient f) v (unended b c)) (with_sink f s) r (with_sink g t)
-      → Counts f.rules p g.lines g.kept g.refused
-  counts-last b c (Invalid place reason) r e h d = counts-refused b c place reason (is_lenient f) r e h refl d.0
-  counts-last b c Blank r e h d = counts-passed b c false false e d.1 (rw h refl) (rw h refl) (rw h refl)
-  counts-last b c LeftOut r e h d = counts-passed b c false false e d.1 (rw h refl) (rw h refl) (rw h refl)
-  counts-last b c Kept (Ok x) e h d = counts-passed b c true false e d.0 (rw h refl) (rw h refl) (rw h refl)
-  counts-last b c Kept (Err x) e h d = counts-left d.1
+  counted r (last b c x e (refused place reason v on same still)) = counts-left (left-same f g same)
+  counted r (last b c x e (failed v left leaves)) = counts-left left
+  counted r (last b c x e (lacked v none lf left still)) = counts-left left
 
   pub Counts-finished : (r : Result (Unit {0}) End) → Finishes law p (with_sink f s) r (with_sink g t)
       → Counts f.rules p g.lines g.kept g.refused
-  Counts-finished r d = go (begun p) refl d
-    where
-      go : (x : List ℕ) → begun p ≡ x → FinishesWith law x (with_sink f s) r (with_sink g t)
-          → Counts f.rules p g.lines g.kept g.refused
-      go [] e d = counts-same d.1
-      go (b ∷ c) e (inl d) = counts-last b c _ r e (sym (next-verdict f p reads (b ∷ c))) d
-      go (b ∷ c) e (inr m) = counts-left m.1
+  Counts-finished r d = counted r (came-last r d)
 
   -- the lists are within their peaks, and those have not changed; and no line is taken back
   record Settled : Type 0 where
@@ -253,16 +221,6 @@ module _ {S : Type 0} (law : SinkLaw S) (f g : Reading) (s t : S) (p : List ℕ)
     pub line : IsWithin g.line
     pub peaks : g.header.peak + g.line.peak ≡ f.header.peak + f.line.peak
     pub onward : f.lines ≤ g.lines
-
-  settled-same : g ≡ f → Settled
-  settled-same e =
-      rw e (record {
-        rules = refl;
-        header = reads.header_within;
-        line = reads.line_within;
-        peaks = refl;
-        onward = omega arith;
-      })
 
   settled-left : IsLeft f g → Settled
   settled-left left = rw left.same (record {
@@ -273,46 +231,30 @@ module _ {S : Type 0} (law : SinkLaw S) (f g : Reading) (s t : S) (p : List ℕ)
     onward = omega arith;
   })
 
-  settled-passed : (put refuses : Bool) → Passes put refuses f g → Settled
-  settled-passed put refuses d = record {
+  settled : (r : Result (Unit {0}) End) → CameLast law f g s t p r → Settled
+  settled r (nothing none z e same still) = settled-left (left-same f g same)
+  settled r (whole z e same still) = settled-left (left-same f g same)
+  settled r (last b c x e (passed put refuses d fine k bad took)) = record {
     rules = d.rules;
     header = rw d.header reads.header_within;
     line = d.line.within;
     peaks = rw d.header (omega (arith, d.line.peak));
     onward = omega (arith, d.lines);
   }
-
-  settled-refused : (on : Bool) (place : ℕ) (reason : Reason) (r : Result (Unit {0}) End)
-      → Refuses on (Refused (f.lines + 1) place reason) f r g → Settled
-  settled-refused true place reason r d = settled-passed false true d.1
-  settled-refused false place reason r d = settled-same d.1
-
-  settled-dealt : (l : Item) (v : Verdict) (r : Result (Unit {0}) End)
-      → Deals law (JudgedAs (f.lines + 1) (is_lenient f) v l) (with_sink f s) r (with_sink g t) → Settled
-  settled-dealt l (Invalid place reason) r d = settled-refused (is_lenient f) place reason r d.0
-  settled-dealt l Blank r d = settled-passed false false d.1
-  settled-dealt l LeftOut r d = settled-passed false false d.1
-  settled-dealt l Kept (Ok x) d = settled-passed true false d.0
-  settled-dealt l Kept (Err x) d = settled-left d.1
-
-  Settled-finished : (r : Result (Unit {0}) End) → Finishes law p (with_sink f s) r (with_sink g t) → Settled
-  Settled-finished r d = go (begun p) d
-    where
-      go : (x : List ℕ) → FinishesWith law x (with_sink f s) r (with_sink g t) → Settled
-      go [] d = settled-same d.1
-      go (b ∷ c) (inl d) = settled-dealt (next_item f (unended b c)) _ r d
-      go (b ∷ c) (inr m) = settled-left m.1
+  settled r (last b c x e (refused place reason v on same still)) = settled-left (left-same f g same)
+  settled r (last b c x e (failed v left leaves)) = settled-left left
+  settled r (last b c x e (lacked v none lf left still)) = settled-left left
 
   pub finishes-onward : (r : Result (Unit {0}) End) → Finishes law p (with_sink f s) r (with_sink g t)
       → f.lines ≤ g.lines
-  finishes-onward r d = (Settled-finished r d).onward
+  finishes-onward r d = (settled r (came-last r d)).onward
 
   pub StandsFor-finished : (r : Result (Unit {0}) End) (sc : Scanning) (n : ℕ) (e : End)
       → f.header.peak + f.line.peak ≤ bytes_bound f.rules.limits p → HasRoom f.rules.limits sc
       → HoldsFew f.rules.limits (length (first_content p)) sc → Finishes law p (with_sink f s) r (with_sink g t)
       → StandsFor (record { reading = g; scanning = sc; taken = n; ended = Some e }) p
   StandsFor-finished r sc n e bounded room few d =
-      let k = Settled-finished r d in
+      let k = settled r (came-last r d) in
       let counts = Counts-finished r d in
       record {
         held = held-below (record { reading = g; scanning = sc; taken = n; ended = Some e }) k.header k.line
@@ -324,9 +266,16 @@ module _ {S : Type 0} (law : SinkLaw S) (f g : Reading) (s t : S) (p : List ℕ)
       }
 
   -- what was held at most, of all lines
-  peak-all : (put refuses : Bool) (b : ℕ) (c : List ℕ) → begun p ≡ b ∷ c → Passes put refuses f g
+  peak : (r : Result (Unit {0}) End) → CameLast law f g s t p r → end_of r ≡ Complete
       → g.header.peak + g.line.peak ≡ (exact_peaks f.rules.limits p).bytes
-  peak-all put refuses b c e d =
+  peak r (nothing none z e same still) done = cc
+  peak r (whole z e same still) done =
+      let later : greatest (held_length f.rules.limits) (later_of (contents p)) ≡ greatest (held_length f.rules.limits)
+      (later_of (closed p)) = rw (e, contents-closed (closed p)) refl in
+      let first : f.header.peak ≡ length (first_content p) = reads.peak ∙ ap length reads.header in
+      let line = rw (e, begun_after-empty (closed p)) at reads.line_peak in
+      rw same (omega (arith, later, first, line, held-nothing f.rules.limits))
+  peak r (last b c x e (passed put refuses d fine k bad took)) done =
       let none = held-nothing f.rules.limits in
       let more = greatest-later (held_length f.rules.limits) none (closed p) (begun p) in
       let later : greatest (held_length f.rules.limits) (later_of (contents p))
@@ -336,87 +285,18 @@ module _ {S : Type 0} (law : SinkLaw S) (f g : Reading) (s t : S) (p : List ℕ)
       let first : g.header.peak ≡ length (first_content p) = ap (λ x. x.peak) d.header
       ∙ (reads.peak ∙ ap length reads.header) in
       omega (arith, later, first, d.line.peak, reads.line_peak)
-
-  peak-closed : g ≡ f → begun p ≡ [] → g.header.peak + g.line.peak ≡ (exact_peaks f.rules.limits p).bytes
-  peak-closed same e =
-      let later : greatest (held_length f.rules.limits) (later_of (contents p)) ≡ greatest (held_length f.rules.limits)
-      (later_of (closed p)) = rw (e, contents-closed (closed p)) refl in
-      let first : f.header.peak ≡ length (first_content p) = reads.peak ∙ ap length reads.header in
-      let line = rw (e, begun_after-empty (closed p)) at reads.line_peak in
-      rw same (omega (arith, later, first, line, held-nothing f.rules.limits))
-
-  peak-refused : (b : ℕ) (c : List ℕ) (place : ℕ) (reason : Reason) (on : Bool) (r : Result (Unit {0}) End)
-      → begun p ≡ b ∷ c → Refuses on (Refused (f.lines + 1) place reason) f r g → end_of r ≡ Complete
-      → g.header.peak + g.line.peak ≡ (exact_peaks f.rules.limits p).bytes
-  peak-refused b c place reason true r e d done = peak-all false true b c e d.1
-  peak-refused b c place reason false r e d done = absurd (clash (sym (ap end_of d.0) ∙ done))
-    where
-      clash : Refused (f.lines + 1) place reason ≡ Complete → ⊥
-      clash x = cc
-
-  peak-dealt : (b : ℕ) (c : List ℕ) (v : Verdict) (r : Result (Unit {0}) End) → begun p ≡ b ∷ c
-      → Deals law (judged_next f (is_lenient f) v (unended b c)) (with_sink f s) r (with_sink g t) → end_of r ≡ Complete
-      → g.header.peak + g.line.peak ≡ (exact_peaks f.rules.limits p).bytes
-  peak-dealt b c (Invalid place reason) r e d done = peak-refused b c place reason (is_lenient f) r e d.0 done
-  peak-dealt b c Blank r e d done = peak-all false false b c e d.1
-  peak-dealt b c LeftOut r e d done = peak-all false false b c e d.1
-  peak-dealt b c Kept (Ok x) e d done = peak-all true false b c e d.0
-  peak-dealt b c Kept (Err x) e d done = absurd (clash (sym d.0 ∙ done))
-    where
-      clash : WriteFault ≡ Complete → ⊥
-      clash x = cc
-
-  pub peak-finished : (r : Result (Unit {0}) End) → Finishes law p (with_sink f s) r (with_sink g t)
-      → end_of r ≡ Complete → g.header.peak + g.line.peak ≡ (exact_peaks f.rules.limits p).bytes
-  peak-finished r d done = go (begun p) refl d
-    where
-      go : (x : List ℕ) → begun p ≡ x → FinishesWith law x (with_sink f s) r (with_sink g t)
-          → g.header.peak + g.line.peak ≡ (exact_peaks f.rules.limits p).bytes
-      go [] e d = peak-closed d.1 e
-      go (b ∷ c) e (inl d) = peak-dealt b c _ r e d done
-      go (b ∷ c) e (inr m) = absurd (clash (sym (ap end_of m.0) ∙ done))
-        where
-          clash : Memory ≡ Complete → ⊥
-          clash x = cc
+  peak r (last b c x e other) done = cc
 
   -- only an answer Ok makes a text complete
   pub finished-ok : (r : Result (Unit {0}) End) → Finishes law p (with_sink f s) r (with_sink g t) → end_of r ≡ Complete
       → r ≡ Ok tt
-  finished-ok r d done = go (begun p) r d done
+  finished-ok r d done = go r (came-last r d) done
     where
-      refused : (n place : ℕ) (reason : Reason) (r : Result (Unit {0}) End) → r ≡ Err (Refused n place reason)
-          → end_of r ≡ Complete → r ≡ Ok tt
-      refused n place reason (Ok x) e h = refl
-      refused n place reason (Err x) e h = cc
-
-      none : (first : Bool) (r : Result (Unit {0}) End) → r ≡ (if first then Err (Refused 1 0 NoHeader) else Ok tt)
-          → end_of r ≡ Complete → r ≡ Ok tt
-      none true r e h = refused 1 0 NoHeader r e h
-      none false r e h = e
-
-      refuses : (on : Bool) (place : ℕ) (reason : Reason) (r : Result (Unit {0}) End)
-          → Refuses on (Refused (f.lines + 1) place reason) f r g → end_of r ≡ Complete → r ≡ Ok tt
-      refuses true place reason r d h = d.0
-      refuses false place reason r d h = refused (f.lines + 1) place reason r d.0 h
-
-      dealt : (v : Verdict) (l : Item) (r : Result (Unit {0}) End)
-          → Deals law (JudgedAs (f.lines + 1) (is_lenient f) v l) (with_sink f s) r (with_sink g t)
-          → end_of r ≡ Complete → r ≡ Ok tt
-      dealt (Invalid place reason) l r d h = refuses (is_lenient f) place reason r d.0 h
-      dealt Blank l r d h = d.0
-      dealt LeftOut l r d h = d.0
-      dealt Kept l (Ok x) d h = refl
-      dealt Kept l (Err x) d h = cc
-
-      memory : (r : Result (Unit {0}) End) → r ≡ Err Memory → end_of r ≡ Complete → r ≡ Ok tt
-      memory (Ok x) e h = refl
-      memory (Err x) e h = cc
-
-      go : (x : List ℕ) (r : Result (Unit {0}) End) → FinishesWith law x (with_sink f s) r (with_sink g t)
-          → end_of r ≡ Complete → r ≡ Ok tt
-      go [] r d h = none (eqb f.lines 0) r d.0 h
-      go (b ∷ c) r (inl d) h = dealt _ (next_item f (unended b c)) r d h
-      go (b ∷ c) r (inr m) h = memory r m.0 h
+      go : (r : Result (Unit {0}) End) → CameLast law f g s t p r → end_of r ≡ Complete → r ≡ Ok tt
+      go r (nothing none z e same still) done = cc
+      go r (whole z e same still) done = refl
+      go r (last b c x e (passed put refuses d fine k bad took)) done = refl
+      go r (last b c x e other) done = cc
 
   -- and of all three counts
   pub peaks-finished : (r : Result (Unit {0}) End) (sc : Scanning) → Finishes law p (with_sink f s) r (with_sink g t)
@@ -428,7 +308,7 @@ module _ {S : Type 0} (law : SinkLaw S) (f g : Reading) (s t : S) (p : List ℕ)
         depth = sc.opened.peak;
       })
   peaks-finished r sc d done k =
-      let bytes = peak-finished r d done in
+      let bytes = peak r (came-last r d) done in
       record {
         bytes = bytes;
         least = record {
@@ -440,13 +320,6 @@ module _ {S : Type 0} (law : SinkLaw S) (f g : Reading) (s t : S) (p : List ℕ)
             (k.opened_peak.exact all);
       }
 
-  kept-last : (b : ℕ) (c : List ℕ) → begun p ≡ b ∷ c
-      → kept_first f.rules (f.lines + 1) p ≡ kept_first f.rules f.lines p
-      ++ kept_from f.rules (map ended_line (closed p)) (unended b c ∷ [])
-  kept-last b c e =
-      let xs = map ended_line (closed p) in
-      rw (take-last b c e, take-closed, kept-append f.rules [] xs (unended b c ∷ [])) refl
-
   quiet : (x : End) → g.lines ≡ f.lines → Faults law (up_to f.rules p g.lines) s t (Some x)
       → Delivers law (stretch f.rules p f.lines g.lines) s t (Some x)
   quiet x same fault = record {
@@ -457,63 +330,30 @@ module _ {S : Type 0} (law : SinkLaw S) (f g : Reading) (s t : S) (p : List ℕ)
     fault = fault;
   }
 
-  skipped : (b : ℕ) (c : List ℕ) (put refuses : Bool) → begun p ≡ b ∷ c → Passes put refuses f g
-      → is_kept (verdict f.rules (map ended_line (closed p)) (b ∷ c)) ≡ false → t ≡ s
-      → Delivers law (stretch f.rules p f.lines g.lines) s t (Some Complete)
-  skipped b c put refuses e d unkept still = record {
-    added = [];
-    middle = s;
-    kept = rw d.lines (kept-last b c e ∙ rw unkept refl);
-    took = refl;
-    fault = still;
-  }
-
-  delivers-refused : (b : ℕ) (c : List ℕ) (place : ℕ) (reason : Reason) (on : Bool) (r : Result (Unit {0}) End)
-      → begun p ≡ b ∷ c → verdict f.rules (map ended_line (closed p)) (b ∷ c) ≡ Invalid place reason
-      → Refuses on (Refused (f.lines + 1) place reason) f r g → t ≡ s → Delivers law (stretch f.rules p f.lines g.lines)
-      s t (Some (end_of r))
-  delivers-refused b c place reason true r e h d still = rw d.0 (skipped b c false true e d.1 (rw h refl) still)
-  delivers-refused b c place reason false r e h d still =
-      rw d.0 (quiet (Refused (f.lines + 1) place reason) (ap (λ x. x.lines) d.1) still)
-
-  delivers-last : (b : ℕ) (c : List ℕ) (v : Verdict) (r : Result (Unit {0}) End) → begun p ≡ b ∷ c
-      → verdict f.rules (map ended_line (closed p)) (b ∷ c) ≡ v
-      → Deals law (judged_next f (is_lenient f) v (unended b c)) (with_sink f s) r (with_sink g t)
+  delivered : (r : Result (Unit {0}) End) → CameLast law f g s t p r
       → Delivers law (stretch f.rules p f.lines g.lines) s t (Some (end_of r))
-  delivers-last b c (Invalid place reason) r e h d = delivers-refused b c place reason (is_lenient f) r e h d.0 d.1
-  delivers-last b c Blank r e h d = rw d.0 (skipped b c false false e d.1 (rw h refl) d.2)
-  delivers-last b c LeftOut r e h d = rw d.0 (skipped b c false false e d.1 (rw h refl) d.2)
-  delivers-last b c Kept (Ok x) e h d = record {
-    added = item_after f.rules (map ended_line (closed p)) (unended b c) ∷ [];
-    middle = t;
-    kept = rw d.0.lines (kept-last b c e ∙ rw h refl);
-    took = (t, rw (← next-item f p reads (unended b c)) d.1, refl);
-    fault = refl;
-  }
-  delivers-last b c Kept (Err x) e h d = rw d.0 (quiet WriteFault (ap (λ x. x.lines) d.1.same) (
+  delivered r (nothing none z e same still) = quiet (Refused 1 0 NoHeader) (ap (λ x. x.lines) same) still
+  delivered r (whole z e same still) = quiet Complete (ap (λ x. x.lines) same) still
+  delivered r (last b c x e (passed put refuses d fine k bad took)) =
+      let xs = map ended_line (closed p) in
+      record {
+        added = if put then item_after f.rules (map ended_line (closed p)) (unended b c) ∷ [] else [];
+        middle = t;
+        kept = rw (d.lines, take-last b c e, take-closed, kept-append f.rules [] xs (unended b c ∷ []), k) refl;
+        took = took;
+        fault = refl;
+      }
+  delivered r (last b c x e (refused place reason v on same still)) =
+      quiet (Refused (f.lines + 1) place reason) (ap (λ x. x.lines) same) still
+  delivered r (last b c x e (failed v left leaves)) = quiet WriteFault (ap (λ x. x.lines) left.same) (
     unended b c,
-    rw (d.1.same, lines-last b c e)
+    rw (left.same, lines-last b c e)
         (get-next (map ended_line (closed p)) [] (unended b c) f.lines (sym length-cs)),
-    rw (d.1.same, take-closed, h) refl,
-    rw (d.1.same, take-closed, ← next-item f p reads (unended b c)) d.2,
-  ))
-
-  delivers-none : (r : Result (Unit {0}) End) → FinishesWith law [] (with_sink f s) r (with_sink g t)
-      → Delivers law (stretch f.rules p f.lines g.lines) s t (Some (end_of r))
-  delivers-none r d = go (zero_or f.lines)
-    where
-      go : (f.lines ≡ 0) ⊎ (0 < f.lines) → Delivers law (stretch f.rules p f.lines g.lines) s t (Some (end_of r))
-      go (inl z) = let yes_none : eqb f.lines 0 ≡ true = grind (arith, nat_tests) in
-          rw (d.0, yes_none) (quiet (Refused 1 0 NoHeader) (ap (λ x. x.lines) d.1) d.2)
-      go (inr z) = let not_none : eqb f.lines 0 ≡ false = grind (arith, nat_tests) in
-          rw (d.0, not_none) (quiet Complete (ap (λ x. x.lines) d.1) d.2)
+    rw (left.same, take-closed, v) refl,
+    rw (left.same, take-closed) leaves,
+  )
+  delivered r (last b c x e (lacked v none lf left still)) = quiet Memory (ap (λ x. x.lines) left.same) still
 
   pub Finishes-delivers : (r : Result (Unit {0}) End) → Finishes law p (with_sink f s) r (with_sink g t)
       → Delivers law (stretch f.rules p f.lines g.lines) s t (Some (end_of r))
-  Finishes-delivers r d = go (begun p) refl d
-    where
-      go : (x : List ℕ) → begun p ≡ x → FinishesWith law x (with_sink f s) r (with_sink g t)
-          → Delivers law (stretch f.rules p f.lines g.lines) s t (Some (end_of r))
-      go [] e d = delivers-none r d
-      go (b ∷ c) e (inl d) = delivers-last b c _ r e (sym (next-verdict f p reads (b ∷ c))) d
-      go (b ∷ c) e (inr m) = rw m.0 (quiet Memory (ap (λ x. x.lines) m.1.same) m.2)
+  Finishes-delivers r d = delivered r (came-last r d)

@@ -12,13 +12,13 @@ use Rattle.cj_stream.specs.ReportSink.{Notes}
 use Rattle.cj_stream.specs.Run.{Ends}
 use Rattle.cj_stream.specs.Sink.{SinkLaw, with_sink}
 use Rattle.cj_stream.specs.Meaning.Rules.{Rules}
-use Rattle.cj_stream.specs.Verdict.{refusal_in, judged, stretch}
+use Rattle.cj_stream.specs.Verdict.{refusal_in, judged, kept_from, reported_from, stretch}
 use Rattle.cj_stream.proofs.CutLemmas.{TookWhole-left, EndsAt-told, EndsAt-concludes}
 use Rattle.cj_stream.proofs.EngineLemmas.{Going-reads}
 use Rattle.cj_stream.proofs.JoinedLemmas.{joined-all}
-use Rattle.cj_stream.proofs.LinePieceLemmas.{kept_first-either}
-use Rattle.cj_stream.proofs.NoteLemmas.{Notes-none, Notes-then, Notes-over, reported_first-either, reported_first-same}
-use Rattle.cj_stream.proofs.RunLemmas.{Delivers-join, kept_first-same, Ends-finished, Ends-fed, told-not_complete}
+use Rattle.cj_stream.proofs.FirstLemmas.{first-either, first-same}
+use Rattle.cj_stream.proofs.NoteLemmas.{Notes-none, Notes-then, Notes-over}
+use Rattle.cj_stream.proofs.RunLemmas.{Delivers-join, Ends-finished, Ends-fed, told-not_complete}
 
 -- after the first lines of a stream, so many, which are those of p
 module _ {S N : Type 0} (law : SinkLaw S) (notes : N → Report → N → Type 0) (rules : Rules) (p : List ℕ) (first : ℕ)
@@ -72,8 +72,8 @@ module _ {S N : Type 0} (law : SinkLaw S) (notes : N → Report → N → Type 0
       noted : Notes notes (stretch rules (p ++ joined (take (k + 1) pieces)) first (lines_of f)) n l
       noted =
           let z = reports (p ++ joined (take k pieces)) given.stands given.going in
-          let same = reported_first-same rules (lines_of e) (p ++ joined (take k pieces)) piece read in
-          let before = Notes-over notes rules (reported_first-either notes rules p first given.behind n n _ _)
+          let same = first-same (reported_from rules) (lines_of e) (p ++ joined (take k pieces)) piece read in
+          let before = Notes-over notes rules (first-either (reported_from rules) first p _ _ given.behind)
           (rw text at same) given.noted in
           Notes-then notes rules before (rw (text, given.under) at z)
 
@@ -85,8 +85,8 @@ module _ {S N : Type 0} (law : SinkLaw S) (notes : N → Report → N → Type 0
         stands = let z = feeds.stands (p ++ joined (take k pieces)) given.stands in rw (given.going, text) at z;
         took =
             let z = feeds.sink (p ++ joined (take k pieces)) given.stands given.going in
-            let same = kept_first-same rules (lines_of e) (p ++ joined (take k pieces)) piece read in
-            Delivers-join (kept_first-either law rules p first given.behind s s _ _) (rw text at same) given.took
+            let same = first-same (kept_from rules) (lines_of e) (p ++ joined (take k pieces)) piece read in
+            Delivers-join (first-either (kept_from rules) first p _ _ given.behind) (rw text at same) given.took
             (rw (text, given.under, feeds.unended) at z);
         noted = noted;
       }

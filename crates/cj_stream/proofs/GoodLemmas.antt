@@ -28,11 +28,6 @@ good-take rules before (l ∷ ls) =
     step None e = ap (λ z. l ∷ z) e
     step (Some x) e = refl
 
--- as many lines as are good: what is kept of them is what is kept
-pub kept_first-good : (rules : Rules) (n : ℕ) (r : List ℕ) → n ≡ length (good rules r)
-    → kept_first rules n r ≡ kept rules r
-kept_first-good rules n r e = rw e (ap (λ z. kept_from rules [] z) (good-take rules [] (lines r)))
-
 -- lines without a refusal, and then others
 pub good-append : (rules : Rules) (before xs ys : List Line) → refusal_from rules before xs ≡ None
     → good_from rules before (xs ++ ys) ≡ xs ++ good_from rules (before ++ xs) ys
@@ -91,12 +86,10 @@ refusal-good rules before m place reason (l ∷ ls) h =
             (l ∷ good_from rules (before ++ l ∷ []) ls))
         on true h = omega (arith, later h, one)
         on false h = let same : length before + 1 ≡ m = cc in omega (arith, same)
-    step Blank later h = omega (arith, later h, one)
-    step LeftOut later h = omega (arith, later h, one)
-    step Kept later h = omega (arith, later h, one)
+    step other later h = omega (arith, later h, one)
 
 -- a refusal is no completion
-pub refusal-kind : (rules : Rules) (before ls : List Line) → refusal_from rules before ls ≡ Some Complete → ⊥
+refusal-kind : (rules : Rules) (before ls : List Line) → refusal_from rules before ls ≡ Some Complete → ⊥
 refusal-kind rules before [] h = none-some Complete h
 refusal-kind rules before (l ∷ ls) h =
     step (verdict rules before l.content) (refusal-kind rules (before ++ l ∷ []) ls) h
@@ -120,18 +113,24 @@ none_of : (o : Option End) → (o ≡ Some Complete → ⊥) → unwrap_or o Com
 none_of None n h = refl
 none_of (Some x) n h = absurd (n (ap (λ z. Some z) h))
 
-some_of : (o : Option End) (m place : ℕ) (reason : Reason) → unwrap_or o Complete ≡ Refused m place reason
+pub some_of : (o : Option End) (m place : ℕ) (reason : Reason) → unwrap_or o Complete ≡ Refused m place reason
     → o ≡ Some (Refused m place reason)
 some_of None m place reason h = cc
 some_of (Some x) m place reason h = ap (λ z. Some z) h
 
--- of a text that ends well, all lines are good
+-- no line of a text that ends well is the end
+pub complete-none : (rules : Rules) (ls : List Line) → ending_of rules ls ≡ Complete → refusal_in rules ls ≡ None
+complete-none rules [] h = refl
+complete-none rules (l ∷ ls) h = none_of (refusal_in rules (l ∷ ls)) (refusal-kind rules [] (l ∷ ls)) h
+
+-- so all lines are good
 pub good-complete : (rules : Rules) (r : List ℕ) → ending rules r ≡ Complete → good rules r ≡ lines r
-good-complete rules r e = go (lines r) e
-  where
-    go : (ls : List Line) → ending_of rules ls ≡ Complete → good_from rules [] ls ≡ ls
-    go [] h = refl
-    go (l ∷ ls) h = good-all rules [] (l ∷ ls) (none_of (refusal_in rules (l ∷ ls)) (refusal-kind rules [] (l ∷ ls)) h)
+good-complete rules r e = good-all rules [] (lines r) (complete-none rules (lines r) e)
+
+-- the end is the first refusal that is one
+pub ending-refused : (rules : Rules) (ls : List Line) (e : End) → refusal_in rules ls ≡ Some e → ending_of rules ls ≡ e
+ending-refused rules [] e h = absurd (none-some e h)
+ending-refused rules (l ∷ ls) e h = rw h refl
 
 -- of a text that is refused, the refused line comes after the good ones
 pub good-refused : (rules : Rules) (r : List ℕ) (number place : ℕ) (reason : Reason)
@@ -151,23 +150,8 @@ good-refused rules r number place reason e = go (lines r) e
               (some_of (refusal_in rules (l ∷ ls)) number place reason h),
         )
 
--- what is kept: of the first n lines, where none of them is refused, and then of the others
-pub kept-split : (rules : Rules) (n : ℕ) (r : List ℕ) → refusal_in rules (take n (lines r)) ≡ None
-    → kept rules r ≡ kept_first rules n r
-    ++ kept_from rules (take n (lines r)) (good_from rules (take n (lines r)) (drop n (lines r)))
-kept-split rules n r h =
-    let xs = take n (lines r) in
-    let ys = drop n (lines r) in
-    let whole : lines r ≡ take n (lines r) ++ drop n (lines r) = sym (take-append-drop n (lines r)) in
-    let g : good_from rules [] (take n (lines r) ++ drop n (lines r)) ≡ take n (lines r)
-    ++ good_from rules (take n (lines r)) (drop n (lines r)) = good-append rules [] xs ys h in
-    let k : kept_from rules [] (take n (lines r) ++ good_from rules (take n (lines r)) (drop n (lines r)))
-    ≡ kept_from rules [] (take n (lines r))
-    ++ kept_from rules (take n (lines r)) (good_from rules (take n (lines r)) (drop n (lines r))) =
-    kept-append rules [] xs (good_from rules xs ys) in
-    ap (λ z. kept_from rules [] (good_from rules [] z)) whole ∙ (ap (λ z. kept_from rules [] z) g ∙ k)
-
-drop-next : (ls : List Line) (n : ℕ) (l : Line) → slice_get ls n ≡ Some l → (rest : List Line) × (drop n ls ≡ l ∷ rest)
+pub drop-next : (ls : List Line) (n : ℕ) (l : Line) → slice_get ls n ≡ Some l → (rest : List Line)
+    × (drop n ls ≡ l ∷ rest)
 drop-next [] n l h = absurd (none-some l h)
 drop-next (x ∷ ls) zero l h = (ls, ap (λ z. z ∷ ls) (same h))
   where
@@ -176,7 +160,7 @@ drop-next (x ∷ ls) zero l h = (ls, ap (λ z. z ∷ ls) (same h))
 drop-next (x ∷ ls) (suc n) l h = drop-next ls n l h
 
 -- a line that is kept is good
-kept-head : (rules : Rules) (before : List Line) (l : Line) (rest : List Line)
+pub kept-head : (rules : Rules) (before : List Line) (l : Line) (rest : List Line)
     → is_kept (verdict rules before l.content) ≡ true
     → kept_from rules before (good_from rules before (l ∷ rest)) ≡ item_after rules before l ∷ kept_from rules
     (before ++ l ∷ []) (good_from rules (before ++ l ∷ []) rest)
@@ -189,16 +173,3 @@ kept-head rules before l rest h = step (verdict rules before l.content) refl h
     step Blank e k = absurd (false-true k)
     step LeftOut e k = absurd (false-true k)
     step Kept e k = rw e (rw e refl)
-
--- where the line after the first n ones is kept: it follows what is kept of them
-pub kept-next_line : (rules : Rules) (n : ℕ) (r : List ℕ) (l : Line) → refusal_in rules (take n (lines r)) ≡ None
-    → slice_get (lines r) n ≡ Some l → is_kept (verdict rules (take n (lines r)) l.content) ≡ true
-    → (others : List Item) × (kept rules r ≡ kept_first rules n r ++ item_after rules (take n (lines r)) l ∷ others)
-kept-next_line rules n r l h at k =
-    let d = drop-next (lines r) n l at in
-    let before = take n (lines r) in (
-      kept_from rules (before ++ l ∷ []) (good_from rules (before ++ l ∷ []) d.0),
-      kept-split rules n r h ∙ ap (λ z. kept_first rules n r ++ z)
-          (ap (λ z. kept_from rules (take n (lines r)) (good_from rules (take n (lines r)) z)) d.1
-          ∙ kept-head rules (take n (lines r)) l d.0 k),
-    )

@@ -37,21 +37,19 @@ use Rattle.cj_stream.proofs.VerdictLemmas.{verdict-first}
 module _ (rules : Rules) (pieces : List (List ℕ)) (n : ℕ) (old new : Option (List ℕ)) where
   pub Copies-writes : (e : End) → Copies (in_pieces rules pieces n) e old new → IsUnhindered e
       → Appends old new (output rules (joined pieces))
-  Copies-writes Complete h u = h.1
-  Copies-writes (Refused number place reason) h u = h.1
   Copies-writes ReadFault h u = absurd h
   Copies-writes ReadLimit h u = absurd h
   Copies-writes WriteFault h u = absurd u
   Copies-writes Memory h u = absurd u
+  Copies-writes other h u = h.1
 
   pub Copies-ends : (e : End) → Copies (in_pieces rules pieces n) e old new → IsUnhindered e
       → e ≡ ending rules (joined pieces)
-  Copies-ends Complete h u = sym h.0
-  Copies-ends (Refused number place reason) h u = sym h.0
   Copies-ends ReadFault h u = absurd h
   Copies-ends ReadLimit h u = absurd h
   Copies-ends WriteFault h u = absurd u
   Copies-ends Memory h u = absurd u
+  Copies-ends other h u = sym h.0
 
 refusal-not_complete : (number place : ℕ) (reason : Reason) → Refused number place reason ≡ Complete → ⊥
 refusal-not_complete number place reason h = cc
@@ -179,8 +177,6 @@ module _ {N : Type 0} (notes : N → Report → N → Type 0) (a b : N) (rules :
           told (Refused number place reason) old new rest (sym more.0) (rw more.1 w) (rw more.2 noted) c
           (refusal-not_memory number place reason)
           (λ h. absurd (refusal-not_complete number place reason h))
-  ended ReadFault old new ends exact w noted c rest lacks all u = absurd u
-  ended ReadLimit old new ends exact w noted c rest lacks all u = absurd u
   ended WriteFault old new ends exact w noted c rest lacks all u =
       Headline-told notes rules (r ++ rest) r WriteFault peaks (outputs old a) (outputs new b) (λ h. absurd h)
       (λ h. absurd h) (λ h. absurd h) c (λ m. absurd (fault-not_memory m)) bounded
@@ -188,15 +184,15 @@ module _ {N : Type 0} (notes : N → Report → N → Type 0) (a b : N) (rules :
   ended Memory old new ends exact w noted c rest lacks all u =
       Headline-told notes rules (r ++ rest) r Memory peaks (outputs old a) (outputs new b) (λ h. absurd h)
       (λ h. absurd h) (λ h. absurd h) c lacks bounded (λ h. absurd (memory-not_complete h))
+  ended other old new ends exact w noted c rest lacks all u = absurd u
 
 -- an end is that of refused memory, or not
 is_memory : (e : End) → (e ≡ Memory) ⊎ (e ≡ Memory → ⊥)
 is_memory Complete = inr complete-not_memory
 is_memory (Refused number place reason) = inr (refusal-not_memory number place reason)
-is_memory ReadFault = inr (λ e. cc)
-is_memory ReadLimit = inr (λ e. cc)
 is_memory WriteFault = inr fault-not_memory
 is_memory Memory = inl refl
+is_memory other = inr (λ e. cc)
 
 -- where memory was refused, no line was dealt with, and the sink is as before
 pub undealt : (run : Run) (at_end : Type 0) → Account run at_end → LacksRoom run (Unit {0}) → run.outcome.lines ≡ 0
@@ -284,9 +280,8 @@ module _ {N : Type 0} (notes : N → Report → N → Type 0) (fate : Fate End) 
 pub NotesPieces-gives : {N : Type 0} (notes : N → Report → N → Type 0) (rules : Rules) (pieces : List (List ℕ)) (n : ℕ)
     (a b : N) (e : End) → NotesPieces notes (in_pieces rules pieces n) e a b → IsUnhindered e
     → Took notes a (reported rules (joined pieces)) b
-NotesPieces-gives notes rules pieces n a b Complete h u = h
-NotesPieces-gives notes rules pieces n a b (Refused number place reason) h u = h
 NotesPieces-gives notes rules pieces n a b ReadFault h u = absurd h
 NotesPieces-gives notes rules pieces n a b ReadLimit h u = absurd h
 NotesPieces-gives notes rules pieces n a b WriteFault h u = absurd u
 NotesPieces-gives notes rules pieces n a b Memory h u = absurd u
+NotesPieces-gives notes rules pieces n a b other h u = h

@@ -8,13 +8,8 @@ use Rattle.cj_stream.specs.Meaning.Lines.{Line, lines}
 use Rattle.cj_stream.specs.Meaning.Rules.{Rules}
 use Rattle.cj_stream.specs.Verdict.{verdict, refusal_of, refusal_from, refusal_in, good_from, good, ending, ending_of}
 use Rattle.cj_stream.proofs.Apart.{none-some}
-use Rattle.cj_stream.proofs.GoodLemmas.{good-append}
-use Rattle.cj_stream.proofs.VerdictLemmas.{refusal-append}
-
--- neither of two is there where the first of them is not
-neither : (first rest : Option End) → cond (is_some first) first rest ≡ None → (first ≡ None) × (rest ≡ None)
-neither None rest h = (refl, h)
-neither (Some x) rest h = cc
+use Rattle.cj_stream.proofs.GoodLemmas.{good-append, ending-refused}
+use Rattle.cj_stream.proofs.VerdictLemmas.{refusal-append, refusal-step}
 
 module _ (rules : Rules) where
   -- the refusal of a line after these
@@ -24,11 +19,11 @@ module _ (rules : Rules) where
   none-each : (b before : List Line) (l : Line) (after : List Line) → refusal_from rules b (before ++ l ∷ after) ≡ None
       → refusal_of rules (length (b ++ before) + 1) (verdict rules (b ++ before) l.content) ≡ None
   none-each b [] l after h =
-      rw (append-nil b) (neither (refusal_of rules (length b + 1) (verdict rules b l.content))
+      rw (append-nil b) (refusal-step (refusal_of rules (length b + 1) (verdict rules b l.content))
       (refusal_from rules (b ++ l ∷ []) after) h).0
   none-each b (x ∷ before) l after h =
       let later =
-      (neither (refusal_of rules (length b + 1) (verdict rules b x.content))
+      (refusal-step (refusal_of rules (length b + 1) (verdict rules b x.content))
       (refusal_from rules (b ++ x ∷ []) (before ++ l ∷ after)) h).1 in
       let more = none-each (b ++ x ∷ []) before l after later in
       rw (append_assoc b (x ∷ []) before) at more
@@ -116,10 +111,6 @@ module _ (rules : Rules) where
     well [] all same h = rw same refl
     well (l ∷ ls) all same h = rw same (rw h refl)
 
-    first-of : (ls : List Line) (e : End) → refusal_in rules ls ≡ Some e → ending_of rules ls ≡ e
-    first-of [] e h = absurd (none-some e h)
-    first-of (l ∷ ls) e h = rw h refl
-
     pub ends-after : (rest : List Line) → lines s ≡ good rules s ++ rest
         → EndsAfter rules (good rules s) rest (ending rules s)
     ends-after [] h = well (good rules s) (lines s) (h ∙ append-nil (good rules s)) (good-none [] (lines s))
@@ -134,4 +125,4 @@ module _ (rules : Rules) where
         (no-more (good rules s) (good_from rules (good rules s) (next ∷ rest)) short) in
         let told : refusal_in rules (lines s) ≡ Some stop.0 = ap (refusal_in rules) h
         ∙ (refusal-append rules [] (good rules s) (next ∷ rest) none ∙ stop.2) in
-        stop.1 ∙ ap (λ z. Some z) (sym (first-of (lines s) stop.0 told))
+        stop.1 ∙ ap (λ z. Some z) (sym (ending-refused rules (lines s) stop.0 told))

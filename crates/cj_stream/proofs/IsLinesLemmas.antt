@@ -1,5 +1,6 @@
 -- `lines` are the lines of a text, and no others are.
 use Rattle.std.proofs.Common.{◌≡◌, inl, inr, ℕ, List, [], ◌∷◌, ◌++◌, Bool, true, false, cond, eqb, map, refl, sym, ap, ◌∙◌, append_assoc}
+use Rattle.std.proofs.lemmas.Grind.{flat_map-append}
 use Rattle.std.specs.List.{flat_map}
 use Rattle.std.proofs.lemmas.List.{append-nil}
 use Rattle.std.proofs.lemmas.Bool.{eqb-true}
@@ -74,15 +75,6 @@ raw-last : (c : List ℕ) → flat_map raw (last_line c) ≡ c
 raw-last [] = refl
 raw-last (b ∷ c) = append-nil (b ∷ c)
 
-pub joined-append : {X : Type 0} (f : X → List ℕ) (xs ys : List X) → flat_map f (xs ++ ys) ≡ flat_map f xs
-    ++ flat_map f ys
-joined-append f [] ys = refl
-joined-append f (x ∷ xs) ys = ap (λ z. f x ++ z) (joined-append f xs ys)
-    ∙ sym (append_assoc (f x) (flat_map f xs) (flat_map f ys))
-
-raw-append : (xs ys : List Line) → flat_map raw (xs ++ ys) ≡ flat_map raw xs ++ flat_map raw ys
-raw-append xs ys = joined-append raw xs ys
-
 AreEnded-last : (cs : List (List ℕ)) (c : List ℕ) → AreEnded (map ended_line cs ++ last_line c)
 AreEnded-last [] [] = tt
 AreEnded-last [] (b ∷ c) = inr (refl, λ e. clash b c e)
@@ -97,7 +89,7 @@ pub lines-are_lines : (s : List ℕ) → IsLines s (lines s)
 lines-are_lines s = record {
   contents = HaveNoLf-append (map ended_line (closed s)) (last_line (begun s)) (HaveNoLf-closed s)
       (HaveNoLf-last (begun s) (NoLf-begun s));
-  joined = raw-append (map ended_line (closed s)) (last_line (begun s))
+  joined = flat_map-append raw (map ended_line (closed s)) (last_line (begun s))
       ∙ (ap (λ z. whole s ++ z) (raw-last (begun s)) ∙ whole-begun s);
   ended = AreEnded-last (closed s) (begun s);
 }

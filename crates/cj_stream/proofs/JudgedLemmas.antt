@@ -288,9 +288,7 @@ module _ (rules : Rules) where
 
   behind-none : (v : Verdict) (t : Option Tree) (ls : List Line) → (v ≡ Kept → ⊥) → judged_behind rules v t ls ≡ []
   behind-none Kept t ls h = absurd (h refl)
-  behind-none (Invalid place reason) t ls h = refl
-  behind-none Blank t ls h = refl
-  behind-none LeftOut t ls h = refl
+  behind-none other t ls h = refl
 
   pub behind-some : (v : Verdict) (t : Option Tree) (h : Tree) (ls : List Line) → v ≡ Kept → t ≡ Some h
       → judged_behind rules v t ls ≡ judged_later rules h 2 ls

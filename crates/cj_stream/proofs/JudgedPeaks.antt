@@ -100,27 +100,13 @@ module _ (rules : Rules) where
 
   -- ---- the later lines
 
-  later-held : (h : Tree) (n : ℕ) (ls : List Line)
-      → greatest (held_length rules.limits) (map (λ l. l.content) ls)
-      ≡ greatest (held_bytes rules.limits) (judged_later rules h n ls)
-  later-held h n [] = refl
-  later-held h n (l ∷ ls) = ap (λ m. max (held_length rules.limits l.content) m) (later-held h (n + 1) ls)
-
-  later-sized : (h : Tree) (n : ℕ) (ls : List Line)
-      → greatest (tree_size rules.limits) (map (λ l. l.content) ls)
-      ≡ greatest (λ j. size_if j.tree) (judged_later rules h n ls)
-  later-sized h n [] = refl
-  later-sized h n (l ∷ ls) =
-      ap (λ m. max m (greatest (tree_size rules.limits) (map (λ (l : Line). l.content) ls))) (sized (Some h) l.content)
-      ∙ ap (λ m. max (size_if (read_tree rules (Some h) l.content)) m) (later-sized h (n + 1) ls)
-
-  later-nested : (h : Tree) (n : ℕ) (ls : List Line)
-      → greatest (tree_nest rules.limits) (map (λ l. l.content) ls)
-      ≡ greatest (λ j. nest_if j.tree) (judged_later rules h n ls)
-  later-nested h n [] = refl
-  later-nested h n (l ∷ ls) =
-      ap (λ m. max m (greatest (tree_nest rules.limits) (map (λ (l : Line). l.content) ls))) (nested (Some h) l.content)
-      ∙ ap (λ m. max (nest_if (read_tree rules (Some h) l.content)) m) (later-nested h (n + 1) ls)
+  later-greatest : (h : Tree) (f : List ℕ → ℕ) (g : JudgedLine → ℕ)
+      → ((n : ℕ) (l : Line) → f l.content ≡ g (judged_at rules n (Some h) l)) → (n : ℕ) (ls : List Line)
+      → greatest f (map (λ l. l.content) ls) ≡ greatest g (judged_later rules h n ls)
+  later-greatest h f g same n [] = refl
+  later-greatest h f g same n (l ∷ ls) =
+      ap (λ m. max m (greatest f (map (λ (x : Line). x.content) ls))) (same n l)
+      ∙ ap (λ m. max (g (judged_at rules n (Some h) l)) m) (later-greatest h f g same (n + 1) ls)
 
   later-legible : (h : Tree) (n : ℕ) → 1 < n → (ls : List Line)
       → list_all (is_readable rules.limits) (map (λ l. l.content) ls)
@@ -165,13 +151,14 @@ module _ (rules : Rules) where
   headed-peaks s h l ls e =
       let bytes = ap length (first-line s l ls e) in
       let held = ap (λ z. greatest (held_length rules.limits) (later_of (map (λ (l : Line). l.content) z))) e
-      ∙ later-held h 2 ls in
+      ∙ later-greatest h (held_length rules.limits) (held_bytes rules.limits) (λ n l. refl) 2 ls in
       let more = ap (λ z. greatest (tree_size rules.limits) (later_of (map (λ (l : Line). l.content) z))) e
-      ∙ later-sized h 2 ls in
+      ∙ later-greatest h (tree_size rules.limits) (λ j. size_if j.tree) (λ n l. sized (Some h) l.content) 2 ls in
       let size = ap (λ z. first_size (map (λ (l : Line). l.content) z)) e ∙ sized None l.content in
       let nest = ap (λ z. greatest (tree_nest rules.limits) (map (λ (l : Line). l.content) z)) e
       ∙ (ap (λ m. max m (greatest (tree_nest rules.limits) (map (λ (l : Line). l.content) ls))) (nested None l.content)
-      ∙ ap (λ m. max (nest_if (read_tree rules None l.content)) m) (later-nested h 2 ls)) in
+      ∙ ap (λ m. max (nest_if (read_tree rules None l.content)) m)
+      (later-greatest h (tree_nest rules.limits) (λ j. nest_if j.tree) (λ n l. nested (Some h) l.content) 2 ls)) in
       record {
         peaks = λ i. record { bytes = bytes i + held i; tokens = size i + more i; depth = nest i };
         readable = ap (λ z. list_all (is_readable rules.limits) (later_of (map (λ (l : Line). l.content) z))) e

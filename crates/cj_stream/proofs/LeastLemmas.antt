@@ -12,7 +12,7 @@ use Rattle.cj_stream.specs.Lines.{begun_after, whole}
 use Rattle.cj_stream.specs.Reading.{Reading, Reads, Stays, Finishes, FinishesWith, is_lenient}
 use Rattle.cj_stream.specs.Scanning.{Scanning, Scanned, HeldAll, HeldUntil, Rises}
 use Rattle.cj_stream.specs.Sink.{SinkLaw, with_sink}
-use Rattle.cj_stream.proofs.EngineLemmas.{lines-front}
+use Rattle.cj_stream.proofs.FirstLemmas.{lines-front}
 use Rattle.cj_stream.proofs.FinishLemmas.{Finishes-concludes, contents-closed, contents-last, peaks-finished}
 use Rattle.cj_stream.proofs.GoodLemmas.{good-complete}
 use Rattle.cj_stream.proofs.IsLinesLemmas.{lines-are_lines, lines-whole}

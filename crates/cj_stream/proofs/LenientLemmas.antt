@@ -18,21 +18,15 @@ use Rattle.cj_stream.specs.Meaning.Rules.{Rules}
 use Rattle.cj_stream.specs.Meaning.Verdict.{Verdict, Invalid, Blank, LeftOut, Kept, is_blank_byte}
 use Rattle.cj_stream.specs.Verdict.{verdict_at, text_verdict, verdict, header_of, goes_on, refusal_of, refusal_from, refusal_in, reports_of, good_from, good, reported_from, reported, ending, ending_of}
 use Rattle.cj_stream.proofs.Apart.{none-some, some-none}
-use Rattle.cj_stream.proofs.GoodLemmas.{good-all, refusal-kind}
-use Rattle.cj_stream.proofs.VerdictLemmas.{and-both}
-
-pub first-none : (first rest : Option End) → cond (is_some first) first rest ≡ None → (first ≡ None) × (rest ≡ None)
-first-none None rest h = (refl, h)
-first-none (Some x) rest h = cc
+use Rattle.cj_stream.proofs.GoodLemmas.{good-all, complete-none}
+use Rattle.cj_stream.proofs.VerdictLemmas.{and-both, refusal-step}
 
 -- where reading goes on, no later line is the end
 lenient-none : (rules : Rules) (n : ℕ) (v : Verdict) → rules.options.keep_going ≡ true → 1 < n
     → refusal_of rules n v ≡ None
 lenient-none rules n (Invalid place reason) on later = let e : ltb 1 n ≡ true = grind (arith, nat_tests) in
     rw (e, on) refl
-lenient-none rules n Blank on later = refl
-lenient-none rules n LeftOut on later = refl
-lenient-none rules n Kept on later = refl
+lenient-none rules n other on later = refl
 
 later-none : (rules : Rules) (before ls : List Line) → rules.options.keep_going ≡ true → 0 < length before
     → refusal_from rules before ls ≡ None
@@ -47,7 +41,7 @@ all-good rules s on first = good-all rules [] (lines s) (go (lines s) first)
   where
     go : (ls : List Line) → refusal_in rules (take 1 ls) ≡ None → refusal_in rules ls ≡ None
     go [] h = refl
-    go (l ∷ ls) h = let now = first-none (refusal_of rules 1 (verdict rules [] l.content)) None h in
+    go (l ∷ ls) h = let now = refusal-step (refusal_of rules 1 (verdict rules [] l.content)) None h in
         rw now.0 (later-none rules (l ∷ []) ls on (omega arith))
 
 pub none-good : (rules : Rules) (s : List ℕ) (e : End) → refusal_in rules (take 1 (lines s)) ≡ Some e
@@ -74,9 +68,7 @@ never rules n off = rw off (go (nat_lt 1 n))
 silent : (rules : Rules) (n : ℕ) (v : Verdict) → rules.options.keep_going ≡ false → refusal_of rules n v ≡ None
     → reports_of n v ≡ []
 silent rules n (Invalid place reason) off h = absurd (some-none (Refused n place reason) (rw (never rules n off) at h))
-silent rules n Blank off h = refl
-silent rules n LeftOut off h = refl
-silent rules n Kept off h = refl
+silent rules n other off h = refl
 
 unreported_from : (rules : Rules) (before ls : List Line) → rules.options.keep_going ≡ false
     → reported_from rules before (good_from rules before ls) ≡ []
@@ -125,7 +117,7 @@ all-readable : (rules : Rules) (before ls : List Line) → rules.options.keep_go
     → refusal_from rules before ls ≡ None → list_all (is_readable rules.limits) (map (λ l. l.content) ls) ≡ true
 all-readable rules before [] off h = refl
 all-readable rules before (l ∷ ls) off h =
-    let both = first-none (refusal_of rules (length before + 1) (verdict rules before l.content))
+    let both = refusal-step (refusal_of rules (length before + 1) (verdict rules before l.content))
     (refusal_from rules (before ++ l ∷ []) ls) h in
     let now = readable-verdict rules (length before + 1) (header_of rules before) l.content
     (never rules (length before + 1) off) both.0 in
@@ -134,17 +126,6 @@ all-readable rules before (l ∷ ls) off h =
 later-all : (p : List ℕ → Bool) (cs : List (List ℕ)) → list_all p cs ≡ true → list_all p (later_of cs) ≡ true
 later-all p [] h = refl
 later-all p (c ∷ cs) h = (and-both (p c) (list_all p cs) h).1
-
-pub complete-none : (rules : Rules) (ls : List Line) → ending_of rules ls ≡ Complete → refusal_in rules ls ≡ None
-complete-none rules [] h = refl
-complete-none rules (l ∷ ls) h = go (refusal_in rules (l ∷ ls)) (kind [] (l ∷ ls)) h
-  where
-    go : (o : Option End) → (o ≡ Some Complete → ⊥) → unwrap_or o Complete ≡ Complete → o ≡ None
-    go None n h = refl
-    go (Some x) n h = absurd (n (ap Some h))
-
-    kind : (before xs : List Line) → refusal_from rules before xs ≡ Some Complete → ⊥
-    kind before xs = refusal-kind rules before xs
 
 pub usual-exact : (rules : Rules) (s : List ℕ) (peaks : Peaks) → rules.options.keep_going ≡ false
     → ending rules s ≡ Complete → IsExact rules.limits s peaks → peaks ≡ exact_peaks rules.limits s

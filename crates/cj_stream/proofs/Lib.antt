@@ -12,10 +12,12 @@ pub mod CountReportsLemmas
 pub mod CountRowLemmas
 pub mod Counted
 pub mod CutLemmas
+pub mod DealtLemmas
 pub mod DeviceLemmas
 pub mod EngineLemmas
 pub mod FeedingLemmas
 pub mod FinishLemmas
+pub mod FirstLemmas
 pub mod GivingLemmas
 pub mod GoodLemmas
 pub mod GoingRowLemmas
@@ -49,6 +51,7 @@ pub mod RowLemmas
 pub mod RunLemmas
 pub mod ScanningLemmas
 pub mod SelectionLemmas
+pub mod SplitLemmas
 pub mod StaysLemmas
 pub mod TakingLemmas
 pub mod TallyLemmas

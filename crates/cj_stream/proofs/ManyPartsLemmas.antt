@@ -9,7 +9,7 @@ use Rattle.cj_stream.specs.Parts.{headed, IsCut, AreComplete, moved_end}
 use Rattle.cj_stream.specs.Meaning.Rules.{Rules}
 use Rattle.cj_stream.specs.Verdict.{item_after, kept_from, kept, output, ending}
 use Rattle.cj_stream.proofs.AccountLemmas.{closed-parts}
-use Rattle.cj_stream.proofs.IsLinesLemmas.{joined-append}
+use Rattle.std.proofs.lemmas.Grind.{flat_map-append}
 use Rattle.cj_stream.proofs.PartsLemmas.{header-valid, front-good, back-kept, kept-first, kept-parts, ending-parts}
 use Rattle.cj_stream.proofs.ReadingLemmas.{map_lines-append}
 
@@ -18,7 +18,7 @@ whole-parts : (a b : List ℕ) → whole a ≡ a → whole b ≡ b → whole (a 
 whole-parts a b u v =
     ap (λ z. flat_map raw (map ended_line z)) (closed-parts a b u)
     ∙ (ap (flat_map raw) (map_lines-append (closed a) (closed b))
-    ∙ (joined-append raw (map ended_line (closed a)) (map ended_line (closed b))
+    ∙ (flat_map-append raw (map ended_line (closed a)) (map ended_line (closed b))
     ∙ (ap (λ z. z ++ whole b) u ∙ ap (λ z. a ++ z) v)))
 
 module _ (rules : Rules) (h : List ℕ) (alone : IsCut h []) (done : ending rules (headed h []) ≡ Complete) where
@@ -82,7 +82,7 @@ module _ (rules : Rules) (h : List ℕ) (alone : IsCut h []) (done : ending rule
   parts-written [] = refl
   parts-written (a ∷ parts) =
       let rest = flat_map (λ a. later_of (kept rules (headed h a))) parts in
-      joined-append raw_item (later_of (kept rules (headed h a))) rest
+      flat_map-append raw_item (later_of (kept rules (headed h a))) rest
       ∙ (ap (λ z. z ++ flat_map raw_item rest) (part-written a)
       ∙ ap (λ z. drop (length h + 1) (output rules (headed h a)) ++ z) (parts-written parts))
 

@@ -56,15 +56,11 @@ module _ (rules : Rules) where
           (option_map (moved_end k) (cond on None (Some (Refused m place reason))))
       go true = refl
       go false = refl
-  one-refusal n m k Blank later e = refl
-  one-refusal n m k LeftOut later e = refl
-  one-refusal n m k Kept later e = refl
+  one-refusal n m k other later e = refl
 
   one-report : (n m k : ℕ) (v : Verdict) → n ≡ m + k → reports_of n v ≡ map (moved_report k) (reports_of m v)
   one-report n m k (Invalid place reason) e = rw e refl
-  one-report n m k Blank e = refl
-  one-report n m k LeftOut e = refl
-  one-report n m k Kept e = refl
+  one-report n m k other e = refl
 
   module _ (l : Line) where
     after-refusal : (xs ys : List Line) (k : ℕ) (c : List ℕ) → length xs ≡ length ys + k

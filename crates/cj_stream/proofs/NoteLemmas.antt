@@ -1,7 +1,7 @@
 -- What a sink of reports has noted of a text, line by line and call by call.
-use Rattle.std.proofs.Common.{◌≡◌, ℕ, ◌+◌, ◌<◌, ◌≤◌, ◌⊎◌, inl, inr, zero, suc, List, [], ◌∷◌, ◌++◌, Bool, false, length, take, drop, map, Some, None, arith, refl, sym, ap, ◌∙◌, append_assoc, length-append}
+use Rattle.std.proofs.Common.{◌≡◌, ℕ, ◌+◌, ◌<◌, ◌≤◌, ◌⊎◌, inl, inr, zero, suc, List, [], ◌∷◌, ◌++◌, Bool, true, false, length, take, drop, map, Some, None, arith, refl, sym, ap, ◌∙◌, subst, append_assoc, length-append}
 use Rattle.std.specs.Prelude.{Result, Ok, Err, OnOk, OnErr}
-use Rattle.std.proofs.lemmas.List.{append-nil, take-append-drop}
+use Rattle.std.proofs.lemmas.List.{append-nil, take_all}
 use Rattle.std.proofs.Math.Seq.{drop-append_seam}
 use Rattle.cj_stream.specs.declared.ending.End.{End}
 use Rattle.cj_stream.specs.declared.ending.End.TheVariants.{Complete, Refused, ReadFault, ReadLimit, WriteFault, Memory}
@@ -9,7 +9,7 @@ use Rattle.cj_stream.specs.declared.ending.LineEnd.{LineEnd}
 use Rattle.cj_stream.specs.declared.ending.LineEnd.TheVariants.{Complete as LineComplete, Refused as LineRefused, WriteFault as LineWriteFault}
 use Rattle.cj_budget.specs.declared.limits.Peaks.{Peaks}
 use Rattle.cj_stream.specs.declared.report_sink.Report.{Report}
-use Rattle.cj_stream.specs.Meaning.Lines.{joined, Line, closed, begun, ended_line, lines}
+use Rattle.cj_stream.specs.Meaning.Lines.{joined, Line, closed, begun, ended_line, last_line, lines}
 use Rattle.cj_stream.specs.Cut.{in_pieces}
 use Rattle.cj_stream.specs.Ending.{line_end}
 use Rattle.cj_stream.specs.Meaning.Item.{Item}
@@ -24,58 +24,15 @@ use Rattle.cj_stream.specs.Meaning.Rules.{Rules}
 use Rattle.cj_stream.specs.Meaning.Verdict.{Verdict, Invalid, Blank, LeftOut, Kept}
 use Rattle.cj_stream.specs.Verdict.{verdict, refusal_in, judged, good, good_from, reports_of, reported_from, reported, reported_first, stretch, stream_of}
 use Rattle.cj_stream.proofs.Apart.{some-none}
-use Rattle.cj_stream.proofs.CutLemmas.{refused-more}
-use Rattle.cj_stream.proofs.EngineLemmas.{lines-front, take-front, Counts-front}
-use Rattle.cj_stream.proofs.GoodLemmas.{good-take, good-append, good-all}
-use Rattle.cj_stream.proofs.IsLinesLemmas.{lines-whole}
-use Rattle.cj_stream.proofs.JoinedLemmas.{joined-cut}
+use Rattle.cj_stream.proofs.CutLemmas.{given-told}
+use Rattle.cj_stream.proofs.EngineLemmas.{Counts-front}
+use Rattle.cj_stream.proofs.FirstLemmas.{lines-front, first-either, first-good, first-same, first-split, first-whole}
 use Rattle.cj_stream.proofs.PieceLemmas.{Took-append}
 use Rattle.cj_stream.proofs.ReadingLemmas.{length-map_lines, map_lines-append, next-verdict, told-verdict, reported-append, Reads-stored}
-use Rattle.cj_stream.proofs.ScanningLemmas.{closed-line}
-use Rattle.cj_stream.proofs.LineLemmas.{begun-more, closed-more}
+use Rattle.cj_stream.proofs.LineLemmas.{closed-lf}
 use Rattle.cj_stream.proofs.StaysLemmas.{settled-err}
 
--- ---- what is reported of the first lines
-
-pub reported_first-front : (rules : Rules) (n : ℕ) (p more : List ℕ) → n ≡ length (closed p)
-    → reported_first rules n (p ++ more) ≡ reported_from rules [] (map ended_line (closed p))
-reported_first-front rules n p more e = ap (λ z. reported_from rules [] z) (lines-front n p more e)
-
--- more bytes change nothing of it
-pub reported_first-same : (rules : Rules) (n : ℕ) (r more : List ℕ) → n ≡ length (closed r)
-    → reported_first rules n (r ++ more) ≡ reported_first rules n r
-reported_first-same rules n r more e =
-    let k = reported_first-front rules n r [] e in
-    reported_first-front rules n r more e ∙ sym (rw (append-nil r) at k)
-
--- as many lines as are good: what is reported of them is what is reported
-pub reported_first-good : (rules : Rules) (n : ℕ) (r : List ℕ) → n ≡ length (good rules r)
-    → reported_first rules n r ≡ reported rules r
-reported_first-good rules n r e = ap (λ z. reported_from rules [] z) (rw e (good-take rules [] (lines r)))
-
-reported-whole : (rules : Rules) (n : ℕ) (r : List ℕ) → refusal_in rules (lines (whole r)) ≡ None
-    → n ≡ length (lines (whole r)) → reported_first rules n r ≡ reported rules (whole r)
-reported-whole rules n r none e =
-    let count : n ≡ length (closed r) = e ∙ (ap length (lines-whole r) ∙ length-map_lines (closed r)) in
-    let front = rw (append-nil r) at (reported_first-front rules n r [] count) in
-    front ∙ (ap (λ z. reported_from rules [] z) (sym (lines-whole r))
-    ∙ ap (λ z. reported_from rules [] z) (sym (good-all rules [] (lines (whole r)) none)))
-
--- what is reported: of the first n lines, where none of them is the end, and then of the others
-reported-split : (rules : Rules) (n : ℕ) (r : List ℕ) → refusal_in rules (take n (lines r)) ≡ None
-    → reported rules r ≡ reported_first rules n r
-    ++ reported_from rules (take n (lines r)) (good_from rules (take n (lines r)) (drop n (lines r)))
-reported-split rules n r h =
-    let xs = take n (lines r) in
-    let ys = drop n (lines r) in
-    let whole : lines r ≡ take n (lines r) ++ drop n (lines r) = sym (take-append-drop n (lines r)) in
-    let g : good_from rules [] (take n (lines r) ++ drop n (lines r)) ≡ take n (lines r)
-    ++ good_from rules (take n (lines r)) (drop n (lines r)) = good-append rules [] xs ys h in
-    let k : reported_from rules [] (take n (lines r) ++ good_from rules (take n (lines r)) (drop n (lines r)))
-    ≡ reported_from rules [] (take n (lines r))
-    ++ reported_from rules (take n (lines r)) (good_from rules (take n (lines r)) (drop n (lines r))) =
-    reported-append rules [] xs (good_from rules xs ys) in
-    ap (λ z. reported_from rules [] (good_from rules [] z)) whole ∙ (ap (λ z. reported_from rules [] z) g ∙ k)
+-- ---- what is reported of the first line
 
 -- nothing is reported of a first line that is not the end
 unreported : (rules : Rules) (l : Line) → refusal_in rules (l ∷ []) ≡ None → reported_from rules [] (l ∷ []) ≡ []
@@ -122,7 +79,7 @@ module _ {N : Type 0} (notes : N → Report → N → Type 0) (rules : Rules) wh
   -- of a text that goes on
   pub Notes-more : (r more : List ℕ) (k : ℕ) (n m : N) → k ≡ length (closed r) → Notes notes (stretch rules r 0 k) n m
       → Notes notes (stretch rules (r ++ more) 0 k) n m
-  Notes-more r more k n m e a = Notes-over refl (reported_first-same rules k r more e) a
+  Notes-more r more k n m e a = Notes-over refl (first-same (reported_from rules) k r more e) a
 
   -- of a header
   pub Notes-first : (q : List ℕ) (i k : ℕ) (n m : N) → i ≡ 0 → k ≤ 1 → refusal_in rules (take k (lines q)) ≡ None
@@ -141,14 +98,10 @@ module _ {N : Type 0} (notes : N → Report → N → Type 0) (rules : Rules) wh
       -- what was noted, by the end of a run
       pub NotesRun-told : (e : End) → Ends rules r count at_end e → (e ≡ Memory → count ≡ 0)
           → NotesRun notes (stream_of rules r) e n m
-      NotesRun-told Complete ends none =
-          rw (← reported_first-good rules count r ends.1, ← all-noted r count n m a) a.noted
-      NotesRun-told (Refused number place reason) ends none =
-          rw (← reported_first-good rules count r ends.1, ← all-noted r count n m a) a.noted
       NotesRun-told ReadFault ends none =
-          rw (← reported-whole rules count r ends.0 ends.1, ← all-noted r count n m a) a.noted
+          rw (← first-whole (reported_from rules) rules count r ends.0 ends.1, ← all-noted r count n m a) a.noted
       NotesRun-told ReadLimit ends none =
-          rw (← reported-whole rules count r ends.0 ends.1, ← all-noted r count n m a) a.noted
+          rw (← first-whole (reported_from rules) rules count r ends.0 ends.1, ← all-noted r count n m a) a.noted
       NotesRun-told WriteFault ends none =
           let others =
           reported_from rules (take count (lines r))
@@ -157,7 +110,8 @@ module _ {N : Type 0} (notes : N → Report → N → Type 0) (rules : Rules) wh
             more = a.added;
             others = others;
             middle = m;
-            front = reported-split rules count r good_first ∙ ap (λ z. z ++ others) a.told;
+            front = first-split (reported_from rules) rules count r (reported-append rules) good_first
+                ∙ ap (λ z. z ++ others) a.told;
             took = a.noted;
             left = refl;
           }
@@ -165,6 +119,8 @@ module _ {N : Type 0} (notes : N → Report → N → Type 0) (rules : Rules) wh
           let nothing : a.added ≡ [] = all-noted r count n m a ∙ ap (λ k. reported_first rules k r) (none refl) in
           let k = rw nothing at a.noted in
           k
+      NotesRun-told other ends none =
+          rw (← first-good (reported_from rules) rules count r ends.1, ← all-noted r count n m a) a.noted
 
   -- what was noted of pieces, by the end
   pub NotesPieces-told : (pieces : List (List ℕ)) (k count : ℕ) (n m : N) (e : End)
@@ -173,28 +129,16 @@ module _ {N : Type 0} (notes : N → Report → N → Type 0) (rules : Rules) wh
       → NotesRun notes (stream_of rules (joined (take (k + 1) pieces))) e n m
       → NotesPieces notes (in_pieces rules pieces k) e n m
   NotesPieces-told pieces k count n m Complete ends u v h = rw (← ends.2) h
-  NotesPieces-told pieces k count n m (Refused number place reason) ends u v h = go ends.2
-    where
-      go : (joined (take (k + 1) pieces) ≡ joined pieces)
-          ⊎ (refusal_in rules (judged rules.limits (joined (take (k + 1) pieces))) ≡ Some (Refused number place reason))
-          → Took notes n (reported rules (joined pieces)) m
-      go (inl same) = rw (← same) h
-      go (inr told) =
-          let more = refused-more rules (joined (take (k + 1) pieces)) (joined (drop (k + 1) pieces))
-          (Refused number place reason) told in
-          rw (← joined-cut (k + 1) pieces, more.2) h
+  NotesPieces-told pieces k count n m (Refused number place reason) ends u v h =
+      let same = given-told rules [] pieces k (Refused number place reason) ends.2 ends.0 in
+      subst (λ xs. Took notes n xs m) (sym same.2) h
   NotesPieces-told pieces k count n m ReadFault ends u v h = absurd (u refl)
   NotesPieces-told pieces k count n m ReadLimit ends u v h = absurd (v refl)
-  NotesPieces-told pieces k count n m WriteFault ends u v h = h
-  NotesPieces-told pieces k count n m Memory ends u v h = h
+  NotesPieces-told pieces k count n m other ends u v h = h
 
   -- ---- after lines that were dealt with before
 
   module _ (p : List ℕ) (first : ℕ) (is : first ≡ length (closed p)) (a b : N) where
-    pub reported_first-either : (x y : List ℕ)
-        → reported_first rules first (p ++ x) ≡ reported_first rules first (p ++ y)
-    reported_first-either x y = reported_first-front rules first p x is ∙ sym (reported_first-front rules first p y is)
-
     after-reported : (x : List ℕ) (xs : List Report) → reported rules (p ++ x) ≡ reported_first rules first (p ++ x)
         ++ xs → reported_after rules first (p ++ x) ≡ xs
     after-reported x xs h = rw h (drop-append_seam (reported_first rules first (p ++ x)) xs)
@@ -204,33 +148,20 @@ module _ {N : Type 0} (notes : N → Report → N → Type 0) (rules : Rules) wh
         → Took notes a (reported_after rules first (p ++ y)) b
     noted-after x y m h all same =
         let here : reported rules (p ++ x) ≡ reported_first rules first (p ++ x) ++ h.added =
-        sym (reported_first-good rules m (p ++ x) all) ∙ h.told in
+        sym (first-good (reported_from rules) rules m (p ++ x) all) ∙ h.told in
         let there : reported rules (p ++ y) ≡ reported_first rules first (p ++ y) ++ h.added =
-        same ∙ (here ∙ ap (λ z. z ++ h.added) (reported_first-either x y)) in
+        same ∙ (here ∙ ap (λ z. z ++ h.added) (first-either (reported_from rules) first p x y is)) in
         rw (after-reported y h.added there) h.noted
 
     module _ (pieces : List (List ℕ)) (k m : ℕ)
         (good_first : refusal_in rules (take m (lines (p ++ joined (take (k + 1) pieces)))) ≡ None)
         (h : Notes notes (stretch rules (p ++ joined (take (k + 1) pieces)) first m) a b) where
-      given : List ℕ
-      given = joined (take (k + 1) pieces)
-
-      same-refused : (e : End) → (joined (take (k + 1) pieces) ≡ joined pieces)
-          ⊎ (refusal_in rules (judged rules.limits (p ++ joined (take (k + 1) pieces))) ≡ Some e)
-          → reported rules (p ++ joined pieces) ≡ reported rules (p ++ joined (take (k + 1) pieces))
-      same-refused e (inl same) = rw (← same) refl
-      same-refused e (inr told) =
-          let given = joined (take (k + 1) pieces) in
-          let more = refused-more rules (p ++ given) (joined (drop (k + 1) pieces)) e told in
-          let text : (p ++ given) ++ joined (drop (k + 1) pieces) ≡ p ++ joined pieces =
-          append_assoc p given (joined (drop (k + 1) pieces)) ∙ ap (λ z. p ++ z) (joined-cut (k + 1) pieces) in
-          let z = rw text at more in z.2
-
       pub lines-noted : (e : LineEnd) (peaks : Peaks)
           → Ends rules (p ++ joined (take (k + 1) pieces)) m (joined (take (k + 1) pieces) ≡ joined pieces) (line_end e)
           → NotesLines notes (later_pieces rules p pieces first) (record { taken = k; peaks = peaks; ended = e }) a b
       lines-noted LineComplete peaks ends = record {
-        noted = λ _. noted-after (joined (take (k + 1) pieces)) (joined pieces) m h ends.1 (rw (← ends.2) refl);
+        noted = λ _. noted-after (joined (take (k + 1) pieces)) (joined pieces) m h ends.1
+            (given-told rules p pieces k Complete (inl ends.2) ends.0).2;
         fault = λ z. absurd (apart z);
       }
         where
@@ -238,7 +169,7 @@ module _ {N : Type 0} (notes : N → Report → N → Type 0) (rules : Rules) wh
           apart z = cc
       lines-noted (LineRefused line place reason) peaks ends = record {
         noted = λ _. noted-after (joined (take (k + 1) pieces)) (joined pieces) m h ends.1
-            (same-refused (Refused line place reason) ends.2);
+            (given-told rules p pieces k (Refused line place reason) ends.2 ends.0).2;
         fault = λ z. absurd (apart z);
       }
         where
@@ -252,7 +183,7 @@ module _ {N : Type 0} (notes : N → Report → N → Type 0) (rules : Rules) wh
           (drop m (lines (p ++ joined (take (k + 1) pieces))))) in
           let all : reported rules (p ++ joined (take (k + 1) pieces))
           ≡ reported_first rules first (p ++ joined (take (k + 1) pieces)) ++ (h.added ++ others) =
-          reported-split rules m text good_first
+          first-split (reported_from rules) rules m text (reported-append rules) good_first
           ∙ (ap (λ z. z ++ others) h.told ∙ append_assoc (reported_first rules first text) h.added others) in
           record {
             noted = λ z. absurd (z refl);
@@ -280,87 +211,71 @@ module _ {N : Type 0} (notes : N → Report → N → Type 0) where
       let all = Notes-then notes g.rules now later in
       rw (under, append_assoc p front rest) at all
 
+  -- the reports of the lines that LF ended, and of the begun line
+  one-reported : (f : Reading) (p : List ℕ) (lf : Bool) → Reads f p
+      → reported_from f.rules [] (map ended_line (closed p) ++ record { content = begun p; lf = lf } ∷ [])
+      ≡ reported_from f.rules [] (map ended_line (closed p)) ++ reports_of (f.lines + 1) (told_verdict f)
+  one-reported f p lf reads =
+      let xs = map ended_line (closed p) in
+      let told : told_verdict f ≡ verdict f.rules (map ended_line (closed p)) (begun p) =
+      told-verdict f (begun p) reads.begun ∙ next-verdict f p reads (begun p) in
+      let at : f.lines + 1 ≡ length (map ended_line (closed p)) + 1 =
+      omega (arith, reads.lines, length-map_lines (closed p)) in
+      rw (
+        told,
+        at,
+        reported-append f.rules [] xs (record { content = begun p; lf = lf } ∷ []),
+        append-nil (reports_of (length (map ended_line (closed p)) + 1)
+            (verdict f.rules (map ended_line (closed p)) (begun p))),
+      ) refl
+
+  -- these lines and the begun one are the first ones of a text
+  one-noted : (f g : Reading) (p : List ℕ) (lf : Bool) (q : List ℕ) (n m : N) → Reads f p
+      → take f.lines (lines q) ≡ map ended_line (closed p)
+      → take g.lines (lines q) ≡ map ended_line (closed p) ++ record { content = begun p; lf = lf } ∷ []
+      → Took notes n (reports_of (f.lines + 1) (told_verdict f)) m → Notes notes (stretch f.rules q f.lines g.lines) n m
+  one-noted f g p lf q n m reads front all noted = record {
+    added = reports_of (f.lines + 1) (told_verdict f);
+    told = ap (λ z. reported_from f.rules [] z) all ∙ (one-reported f p lf reads
+        ∙ ap (λ z. reported_from f.rules [] z ++ reports_of (f.lines + 1) (told_verdict f)) (sym front));
+    noted = noted;
+  }
+
   -- a part and an LF
   pub Notes-line : (f g h : Reading) (p part more : List ℕ) (n m : N) → Reads f p → NoLf part → Stores f part g
       → h.lines ≡ g.lines + 1
       → Took notes n (reports_of (g.lines + 1) (told_verdict g)) m
       → Notes notes (stretch f.rules (p ++ (part ++ 10 ∷ more)) f.lines h.lines) n m
   Notes-line f g h p part more n m reads free st one noted =
+      let q = p ++ part in
       let now = Reads-stored f g p part reads st free in
-      let xs = map ended_line (closed p) in
-      let v = verdict f.rules (map ended_line (closed p)) (begun p ++ part) in
-      let told : told_verdict g ≡ verdict f.rules (map ended_line (closed p)) (begun p ++ part) =
-      told-verdict g (begun (p ++ part)) now.begun
-      ∙ (next-verdict g (p ++ part) now (begun (p ++ part))
-      ∙ rw (closed-more p part free, begun-more p part free, st.rules) refl) in
-      let at : g.lines + 1 ≡ length (map ended_line (closed p)) + 1 =
-      omega (arith, st.lines, reads.lines, length-map_lines (closed p)) in
-      let count : h.lines ≡ length (closed (p ++ (part ++ 10 ∷ []))) =
-      rw (closed-line p part free)
-      (omega (arith, one, st.lines, reads.lines, length-append (closed p) ((begun p ++ part) ∷ []))) in
-      let text : (p ++ (part ++ 10 ∷ [])) ++ more ≡ p ++ (part ++ 10 ∷ more) = append_assoc p (part ++ 10 ∷ []) more
-      ∙ ap (λ z. p ++ z) (append_assoc part (10 ∷ []) more) in
-      let after : reported_first f.rules h.lines (p ++ (part ++ 10 ∷ more))
-      ≡ reported_from f.rules [] (map ended_line (closed (p ++ (part ++ 10 ∷ [])))) =
-      (let k = reported_first-front f.rules h.lines (p ++ (part ++ 10 ∷ [])) more count in rw text at k) in
-      let front = reported_first-front f.rules f.lines p (part ++ 10 ∷ more) reads.lines in
-      let line : reported_from f.rules [] (map ended_line (closed (p ++ (part ++ 10 ∷ []))))
-      ≡ reported_from f.rules [] (map ended_line (closed p)) ++ reports_of (g.lines + 1) (told_verdict g) =
-      rw (
-        closed-line p part free,
-        map_lines-append (closed p) ((begun p ++ part) ∷ []),
-        reported-append f.rules [] xs (ended_line (begun p ++ part) ∷ []),
-        append-nil (reports_of (length (map ended_line (closed p)) + 1)
-            (verdict f.rules (map ended_line (closed p)) (begun p ++ part))),
-        told,
-        at,
-      ) refl in
-      record {
-        added = reports_of (g.lines + 1) (told_verdict g);
-        told = after ∙ (line ∙ ap (λ z. z ++ reports_of (g.lines + 1) (told_verdict g)) (sym front));
-        noted = noted;
-      }
+      let count : h.lines ≡ length (closed ((p ++ part) ++ 10 ∷ [])) =
+      rw (closed-lf (p ++ part) [])
+      (omega (arith, one, now.lines, length-append (closed (p ++ part)) (begun (p ++ part) ∷ []))) in
+      let ended : map ended_line (closed ((p ++ part) ++ 10 ∷ []))
+      ≡ map ended_line (closed (p ++ part)) ++ ended_line (begun (p ++ part)) ∷ [] =
+      ap (map ended_line) (closed-lf q []) ∙ map_lines-append (closed q) (begun q ∷ []) in
+      let all = lines-front h.lines (q ++ 10 ∷ []) more count ∙ ended in
+      let k = one-noted g h q true (q ++ 10 ∷ more) n m now (lines-front g.lines q (10 ∷ more) now.lines)
+      (rw (append_assoc (p ++ part) (10 ∷ []) more) at all) noted in
+      rw (st.rules, st.lines, append_assoc p part (10 ∷ more)) at k
+
+  last-some : (c : List ℕ) → 0 < length c → last_line c ≡ record { content = c; lf = false } ∷ []
+  last-some [] some = absurd (omega arith)
+  last-some (b ∷ c) some = refl
 
   -- a last line
   pub Notes-last : (f g : Reading) (p : List ℕ) (n m : N) → Reads f p → 0 < length (begun p) → g.lines ≡ f.lines + 1
       → Took notes n (reports_of (f.lines + 1) (told_verdict f)) m → Notes notes (stretch f.rules p f.lines g.lines) n m
   Notes-last f g p n m reads some one noted =
       let xs = map ended_line (closed p) in
-      let told = told-verdict f (begun p) reads.begun ∙ next-verdict f p reads (begun p) in
-      let at : f.lines + 1 ≡ length (map ended_line (closed p)) + 1 =
-      omega (arith, reads.lines, length-map_lines (closed p)) in
-      let front : reported_first f.rules f.lines p ≡ reported_from f.rules [] (map ended_line (closed p)) =
-      (let k = reported_first-front f.rules f.lines p [] reads.lines in rw (append-nil p) at k) in
-      record {
-        added = reports_of (f.lines + 1) (told_verdict f);
-        told = rw (front, one) (go (begun p) refl some told at);
-        noted = noted;
-      }
-    where
-      go : (c : List ℕ) → begun p ≡ c → 0 < length c
-          → told_verdict f ≡ verdict f.rules (map ended_line (closed p)) (begun p)
-          → f.lines + 1 ≡ length (map ended_line (closed p)) + 1
-          → reported_first f.rules (f.lines + 1) p ≡ reported_from f.rules [] (map ended_line (closed p))
-          ++ reports_of (f.lines + 1) (told_verdict f)
-      go [] e some told at = absurd (omega arith)
-      go (b ∷ c) e some told at =
-          let xs = map ended_line (closed p) in
-          let l : Line = record { content = b ∷ c; lf = false } in
-          let every =
-          take-front (map ended_line (closed p) ++ record { content = b ∷ c; lf = false } ∷ []) [] (f.lines + 1)
-          (omega (arith, at, length-append xs (l ∷ []))) in
-          let all : take (f.lines + 1) (lines p) ≡ map ended_line (closed p) ++ record { content = b ∷ c; lf = false }
-          ∷ [] = rw e (rw (append-nil (map ended_line (closed p) ++ record { content = b ∷ c; lf = false } ∷ [])) at
-          every) in
-          rw (
-            all,
-            reported-append f.rules [] xs (l ∷ []),
-            append-nil (reports_of (length (map ended_line (closed p)) + 1)
-                (verdict f.rules (map ended_line (closed p)) (b ∷ c))),
-            told,
-            at,
-            e,
-          ) refl
+      let l : Line = record { content = begun p; lf = false } in
+      let few : length (xs ++ l ∷ []) ≤ g.lines =
+      omega (arith, one, reads.lines, length-map_lines (closed p), length-append xs (l ∷ [])) in
+      let front = lines-front f.lines p [] reads.lines in
+      one-noted f g p false p n m reads (rw (append-nil p) at front)
+      (ap (λ z. take g.lines (map ended_line (closed p) ++ z)) (last-some (begun p) some)
+      ∙ take_all g.lines (xs ++ l ∷ []) few) noted
 
   -- what came of a last line
   pub Notes-finished : {S : Type 0} (law : SinkLaw S) (on : Bool) (v : Verdict) (i : Item) (f g : Reading) (s t : S)
@@ -413,7 +328,8 @@ empty-front (x ∷ xs) ys h = absurd (cc h)
 pub first-silent : (rules : Rules) (n : ℕ) (r : List ℕ) → reported rules r ≡ []
     → refusal_in rules (take n (lines r)) ≡ None → reported_first rules n r ≡ []
 first-silent rules n r none good_first =
-    empty-front (reported_first rules n r) _ (sym none ∙ reported-split rules n r good_first)
+    empty-front (reported_first rules n r) _
+    (sym none ∙ first-split (reported_from rules) rules n r (reported-append rules) good_first)
 
 -- a run that was refused its memory before the first read
 pub Noting-memory : {N : Type 0} (notes : N → Report → N → Type 0) (rules : Rules) (n : N)

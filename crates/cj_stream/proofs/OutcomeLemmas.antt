@@ -75,15 +75,11 @@ few-counted rules r n f k x =
 -- the number of a refused line is that after the lines that were dealt with
 capped-end : (rules : Rules) (r : List ℕ) (n m : ℕ) (at_end : Type 0) (e : End) → Ends rules r m at_end e → 1 ≤ n
     → n + m < 2 ^ 64 → capped_end (moved_end (n - 1) e) ≡ moved_end (n - 1) e
-capped-end rules r n m at_end Complete told some few = refl
 capped-end rules r n m at_end (Refused number place reason) told some few =
     let place_of = good-refused rules r number place reason told.0 in
     let fits : capped (number + (n - 1)) ≡ number + (n - 1) = omega (arith, place_of, told.1, some, few) in
     ap (λ k. Refused k place reason) fits
-capped-end rules r n m at_end ReadFault told some few = refl
-capped-end rules r n m at_end ReadLimit told some few = refl
-capped-end rules r n m at_end WriteFault told some few = refl
-capped-end rules r n m at_end Memory told some few = refl
+capped-end rules r n m at_end other told some few = refl
 
 same-outcome : (l k r x y z : ℕ) (peaks : Peaks) (e f : End) → l ≡ x → k ≡ y → r ≡ z → e ≡ f
     → ◌≡◌ {A = Outcome} (record { lines = l; kept = k; refused = r; peaks = peaks; ended = e })

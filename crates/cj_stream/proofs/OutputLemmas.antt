@@ -1,25 +1,26 @@
 -- The bytes that a writer gets in a run.
-use Rattle.std.proofs.Common.{◌≡◌, ℕ, List, [], ◌∷◌, ◌++◌, length, take, drop, Option, Some, None, refl, sym, ap, ◌∙◌}
+use Rattle.std.proofs.Common.{◌≡◌, ℕ, List, [], ◌∷◌, ◌++◌, true, length, take, drop, Option, Some, None, refl, sym, ap, ◌∙◌}
+use Rattle.std.specs.Prelude.{slice_get}
 use Rattle.std.specs.List.{flat_map}
 use Rattle.std.proofs.lemmas.List.{append-nil}
 use Rattle.std.specs.Io.KnownBytes.{Appends, Keeps}
 use Rattle.cj_stream.specs.declared.ending.End.{End}
 use Rattle.cj_stream.specs.declared.ending.End.TheVariants.{Complete, Refused, ReadFault, ReadLimit, WriteFault, Memory}
-use Rattle.cj_stream.specs.Meaning.Lines.{lines, closed}
+use Rattle.cj_stream.specs.Meaning.Lines.{Line, lines}
 use Rattle.cj_stream.specs.Lines.{whole}
 use Rattle.cj_stream.specs.Meaning.Item.{Item, raw_item}
 use Rattle.cj_stream.specs.Meaning.Rules.{Rules}
-use Rattle.cj_stream.specs.Verdict.{refusal_in, good, good_from, kept_from, kept, kept_first, item_after, output_first, stretch, up_to, stream_of}
+use Rattle.cj_stream.specs.Verdict.{verdict, is_kept, refusal_in, good, good_from, kept_from, kept, kept_first, item_after, output_first, stretch, up_to, stream_of}
 use Rattle.cj_stream.specs.Engine.{Counts, Delivers}
 use Rattle.cj_stream.specs.Cut.{AppendsMore}
 use Rattle.cj_stream.specs.Run.{Run, Account, Ends, Puts, Runs, Writes, WritesLines}
 use Rattle.cj_stream.specs.Meaning.Outputs.{Took}
 use Rattle.cj_stream.specs.Sink.{TookFront, LeavesNext, AppendsPart, SinkLaw, prefixes}
 use Rattle.cj_stream.specs.Output.{writes_law}
-use Rattle.cj_stream.proofs.IsLinesLemmas.{joined-append, lines-whole}
-use Rattle.cj_stream.proofs.ReadingLemmas.{length-map_lines}
-use Rattle.cj_stream.proofs.EngineLemmas.{kept_first-front}
-use Rattle.cj_stream.proofs.GoodLemmas.{kept_first-good, kept-split, kept-next_line, good-all}
+use Rattle.std.proofs.lemmas.Grind.{flat_map-append}
+use Rattle.cj_stream.proofs.FirstLemmas.{first-good, first-whole, first-split}
+use Rattle.cj_stream.proofs.GoodLemmas.{drop-next, kept-head}
+use Rattle.cj_stream.proofs.VerdictLemmas.{kept-append}
 use Rattle.cj_stream.proofs.KnownLemmas.{Appends-then, Appends-nothing, AppendsPart-after, AppendsPart-front}
 
 -- lines that a writer took, one after another
@@ -31,14 +32,18 @@ Took-appends contents s t (l ∷ ls) h =
     Appends-then (contents s) (contents h.0) (contents t) (raw_item l) (flat_map raw_item ls) h.1
     (Took-appends contents h.0 t ls h.2)
 
--- what is kept of the whole lines of a text, of which none is refused
-pub kept-whole : (rules : Rules) (n : ℕ) (r : List ℕ) → refusal_in rules (lines (whole r)) ≡ None
-    → n ≡ length (lines (whole r)) → kept_first rules n r ≡ kept rules (whole r)
-kept-whole rules n r none e =
-    let count : n ≡ length (closed r) = e ∙ (ap length (lines-whole r) ∙ length-map_lines (closed r)) in
-    let front = rw (append-nil r) at (kept_first-front rules n r [] count) in
-    front ∙ (ap (λ z. kept_from rules [] z) (sym (lines-whole r))
-    ∙ ap (λ z. kept_from rules [] z) (sym (good-all rules [] (lines (whole r)) none)))
+-- where the line after the first n ones is kept: it follows what is kept of them
+pub kept-next_line : (rules : Rules) (n : ℕ) (r : List ℕ) (l : Line) → refusal_in rules (take n (lines r)) ≡ None
+    → slice_get (lines r) n ≡ Some l → is_kept (verdict rules (take n (lines r)) l.content) ≡ true
+    → (others : List Item) × (kept rules r ≡ kept_first rules n r ++ item_after rules (take n (lines r)) l ∷ others)
+kept-next_line rules n r l h at k =
+    let d = drop-next (lines r) n l at in
+    let before = take n (lines r) in (
+      kept_from rules (before ++ l ∷ []) (good_from rules (before ++ l ∷ []) d.0),
+      first-split (kept_from rules) rules n r (kept-append rules) h ∙ ap (λ z. kept_first rules n r ++ z)
+          (ap (λ z. kept_from rules (take n (lines r)) (good_from rules (take n (lines r)) z)) d.1
+          ∙ kept-head rules (take n (lines r)) l d.0 k),
+    )
 
 -- steps, taken apart
 pub Took-split : {S : Type 0} (step : S → Item → S → Type 0) (s t : S) (xs ys : List Item) → Took step s (xs ++ ys) t
@@ -52,7 +57,7 @@ pub Took-all : {S : Type 0} (law : SinkLaw S) (rules : Rules) (r : List ℕ) (n 
     (h : Delivers law (stretch rules r 0 n) s t (Some e))
     → t ≡ h.middle → n ≡ length (good rules r) → Took law.takes s (kept rules r) t
 Took-all law rules r n s t e h still all =
-    let k : h.added ≡ kept rules r = sym h.kept ∙ kept_first-good rules n r all in
+    let k : h.added ≡ kept rules r = sym h.kept ∙ first-good (kept_from rules) rules n r all in
     rw (← k, still) h.took
 
 module _ {S : Type 0} (law : SinkLaw S) (rules : Rules) (r : List ℕ) (at_end : Type 0) (s t : S)
@@ -63,12 +68,6 @@ module _ {S : Type 0} (law : SinkLaw S) (rules : Rules) (r : List ℕ) (at_end :
   puts-told Complete ends counts d = Took-all law rules r n s t Complete d d.fault ends.1
   puts-told (Refused number place reason) ends counts d = Took-all law rules r n s t (Refused number place reason) d
       d.fault ends.1
-  puts-told ReadFault ends counts d =
-      let k : d.added ≡ kept rules (whole r) = sym d.kept ∙ kept-whole rules n r ends.0 ends.1 in
-      rw (← k, d.fault) d.took
-  puts-told ReadLimit ends counts d =
-      let k : d.added ≡ kept rules (whole r) = sym d.kept ∙ kept-whole rules n r ends.0 ends.1 in
-      rw (← k, d.fault) d.took
   puts-told WriteFault ends counts d =
       let fault = d.fault in
       let next = kept-next_line rules n r fault.0 counts.good fault.1 fault.2 in
@@ -87,10 +86,13 @@ module _ {S : Type 0} (law : SinkLaw S) (rules : Rules) (r : List ℕ) (at_end :
         more = d.added;
         others = others;
         middle = d.middle;
-        front = kept-split rules n r counts.good ∙ ap (λ z. z ++ others) d.kept;
+        front = first-split (kept_from rules) rules n r (kept-append rules) counts.good ∙ ap (λ z. z ++ others) d.kept;
         took = d.took;
         left = d.fault;
       }
+  puts-told other ends counts d =
+      let k : d.added ≡ kept rules (whole r) = sym d.kept ∙ first-whole (kept_from rules) rules n r ends.0 ends.1 in
+      rw (← k, d.fault) d.took
 
 -- a run by its account and by what the sink took
 pub Runs-told : {S : Type 0} (law : SinkLaw S) (run : Run) (at_end : Type 0) (s t : S) → Account run at_end
@@ -129,7 +131,7 @@ module _ {S : Type 0} (contents : S → Option (List ℕ)) where
   front-bytes then bytes all first s t h =
       let cut = Took-split writes s h.middle first h.more h.took in
       let left = bytes h.others h.middle t h.left in (
-        rw (h.front, joined-append raw_item (first ++ h.more) h.others)
+        rw (h.front, flat_map-append raw_item (first ++ h.more) h.others)
             (AppendsPart-after (contents s) (contents h.middle) (contents t) (flat_map raw_item (first ++ h.more))
             (flat_map raw_item h.others) (Took-appends contents s h.middle (first ++ h.more) h.took) left),
         record {
@@ -155,13 +157,12 @@ module _ {S : Type 0} (contents : S → Option (List ℕ)) where
   pub Writes-puts : (failures : S → ℕ) (rules : Rules) (r : List ℕ) (s t : S) (e : End)
       → Puts (writes_law contents failures) (stream_of rules r) e s t
       → Writes (stream_of rules r) e (contents s) (contents t)
-  Writes-puts failures rules r s t Complete h = Took-appends contents s t (kept rules r) h
-  Writes-puts failures rules r s t (Refused number place reason) h = Took-appends contents s t (kept rules r) h
   Writes-puts failures rules r s t ReadFault h = Took-appends contents s t (kept rules (whole r)) h
   Writes-puts failures rules r s t ReadLimit h = Took-appends contents s t (kept rules (whole r)) h
   Writes-puts failures rules r s t WriteFault h = (front-bytes (LeavesNext writes_part) next-bytes (kept rules r) [] s t
       h).0
   Writes-puts failures rules r s t Memory h = (front-bytes (λ others a b. b ≡ a) no-bytes (kept rules r) [] s t h).0
+  Writes-puts failures rules r s t other h = Took-appends contents s t (kept rules r) h
 
   -- and by the lines that were dealt with
   module _ (failures : S → ℕ) (rules : Rules) (r : List ℕ) (n : ℕ) (s t : S) where
@@ -181,10 +182,6 @@ module _ {S : Type 0} (contents : S → Option (List ℕ)) where
 
     pub WritesLines-told : (e : End) → (e ≡ Memory → n ≡ 0) → Delivers (writes_law contents failures)
         (stretch rules r 0 n) s t (Some e) → WritesLines (up_to rules r n) e (contents s) (contents t)
-    WritesLines-told Complete none d = still-bytes d d.fault
-    WritesLines-told (Refused number place reason) none d = still-bytes d d.fault
-    WritesLines-told ReadFault none d = still-bytes d d.fault
-    WritesLines-told ReadLimit none d = still-bytes d d.fault
     WritesLines-told WriteFault none d =
         let fault = d.fault in
         record {
@@ -201,3 +198,4 @@ module _ {S : Type 0} (contents : S → Option (List ℕ)) where
         let nothing : n ≡ 0 = none refl in
         let same : t ≡ s = memory-sink (writes_law contents failures) rules r n s t Memory refl nothing d in
         (nothing, rw same (none-kept (contents s)))
+    WritesLines-told other none d = still-bytes d d.fault

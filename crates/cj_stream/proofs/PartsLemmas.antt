@@ -28,14 +28,14 @@ use Rattle.cj_stream.specs.Verdict.{by_least, verdict_at, text_verdict, verdict,
 use Rattle.cj_stream.proofs.Apart.{some-none}
 use Rattle.cj_stream.proofs.CutLemmas.{lines-more, good-stays}
 use Rattle.cj_stream.proofs.EngineLemmas.{same-peaks}
-use Rattle.cj_stream.proofs.GoodLemmas.{good-append, good-all}
-use Rattle.cj_stream.proofs.IsLinesLemmas.{whole-begun, joined-append}
-use Rattle.cj_stream.proofs.LenientLemmas.{first-none, complete-none}
+use Rattle.cj_stream.proofs.GoodLemmas.{good-append, good-all, complete-none, ending-refused}
+use Rattle.std.proofs.lemmas.Grind.{flat_map-append}
+use Rattle.cj_stream.proofs.IsLinesLemmas.{whole-begun}
 use Rattle.cj_stream.proofs.LineLemmas.{closed-ended, begun-ended, none-from_length}
 use Rattle.cj_stream.proofs.MovedLemmas.{refusal-moved, good-moved, kept-moved, reported-moved}
 use Rattle.cj_stream.proofs.ReadingLemmas.{reported-append}
-use Rattle.cj_stream.proofs.RunLemmas.{refusal-stays, ending-refused}
-use Rattle.cj_stream.proofs.VerdictLemmas.{blank-is, refusal-append, kept-append}
+use Rattle.cj_stream.proofs.RunLemmas.{refusal-stays}
+use Rattle.cj_stream.proofs.VerdictLemmas.{blank-is, refusal-append, kept-append, refusal-step}
 
 -- ---- the lines of a part
 
@@ -151,7 +151,7 @@ module _ (rules : Rules) (h a : List ℕ) (cut : IsCut h a) where
 
     pub header-valid : verdict rules [] h ≡ Kept
     header-valid =
-        valid-first rules h (first-none (refusal_of rules 1 (verdict rules [] h))
+        valid-first rules h (refusal-step (refusal_of rules 1 (verdict rules [] h))
         (refusal_from rules (ended_line h ∷ []) (lines a)) front-none).0
 
     pub front-good : good rules (headed h a) ≡ ended_line h ∷ lines a
@@ -189,7 +189,7 @@ module _ (rules : Rules) (h a : List ℕ) (cut : IsCut h a) where
           let later = later_of (kept rules (headed h b)) in (
             flat_map raw_item later,
             ap (λ z. flat_map raw_item z) back-kept ∙ append_assoc h (10 ∷ []) (flat_map raw_item later),
-            ap (λ z. flat_map raw_item z) kept-parts ∙ joined-append raw_item (kept rules (headed h a)) later,
+            ap (λ z. flat_map raw_item z) kept-parts ∙ flat_map-append raw_item (kept rules (headed h a)) later,
           )
 
       pub ending-parts : ending rules (headed h (a ++ b)) ≡ moved_end (length (lines a)) (ending rules (headed h b))

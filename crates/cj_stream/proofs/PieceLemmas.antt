@@ -20,6 +20,7 @@ use Rattle.cj_stream.specs.Sink.{SinkLaw, with_sink, TookMore}
 use Rattle.cj_stream.proofs.LineLemmas.{closed-more, begun-more, closed-lf, begun-lf, none-from_length}
 use Rattle.cj_stream.proofs.VerdictLemmas.{verdict-long}
 use Rattle.cj_stream.proofs.ReadingLemmas.{left-same, strict-first, Reads-left, Reads-stored, Reads-passed, is_refused, held-whole, dropped-long, told-verdict, next-verdict, next-item, kept_closed-lf, map_lines-append}
+use Rattle.cj_stream.proofs.DealtLemmas.{Came, passed, refused, failed, lacked, came}
 use Rattle.cj_stream.proofs.EngineLemmas.{next-line}
 
 -- steps, and then others
@@ -71,48 +72,16 @@ module _ {S : Type 0} (law : SinkLaw S) where
     puts = Puts-none f.rules p (p ++ part) s (closed-more p part n);
   }
 
-  passed : (g h : Reading) (s t : S) (p : List ℕ) (put refuses : Bool) → Reads g p → Passes put refuses g h
-      → refusal_of g.rules (g.lines + 1) (next_verdict g (begun p)) ≡ None → put ≡ is_kept (next_verdict g (begun p))
-      → refuses ≡ is_refused (next_verdict g (begun p))
-      → Took law.takes s (if put then item_after g.rules (map ended_line (closed p)) (ended_line (begun p))
-      ∷ [] else []) t → Advances law (further p (10 ∷ [])) (with_sink g s) (with_sink h t)
-  passed g h s t p put refuses r x fine k bad took = record {
+  -- the begun line, of which this came, was passed
+  advanced : (g h : Reading) (s t : S) (p : List ℕ) (r : Result (Unit {0}) End) → Reads g p
+      → Came law g h s t (map ended_line (closed p)) (ended_line (begun p)) r → r ≡ Ok tt
+      → Advances law (further p (10 ∷ [])) (with_sink g s) (with_sink h t)
+  advanced g h s t p r reads (passed put refuses x fine k bad took) ok = record {
     rules = x.rules;
-    reads = Reads-passed g h p put refuses r x fine k bad;
-    puts = (_, kept_closed-lf g.rules p put (k ∙ ap is_kept (next-verdict g p r (begun p))), took);
+    reads = Reads-passed g h p put refuses reads x fine k bad;
+    puts = (_, kept_closed-lf g.rules p put k, took);
   }
-
-  clash-err : (r : Result (Unit {0}) End) (x : End) → r ≡ Err x → r ≡ Ok tt → ⊥
-  clash-err r x a b = cc
-
-  -- a refused line that reading goes on after
-  gone-on : (g h : Reading) (s t : S) (p : List ℕ) (place : ℕ) (reason : Reason) (on : Bool) (r : Result (Unit {0}) End)
-      → Reads g p → next_verdict g (begun p) ≡ Invalid place reason
-      → is_lenient g ≡ on → Refuses on (Refused (g.lines + 1) place reason) g r h → t ≡ s → r ≡ Ok tt
-      → Advances law (further p (10 ∷ [])) (with_sink g s) (with_sink h t)
-  gone-on g h s t p place reason true r reads e is d still ok =
-      passed g h s t p false true reads d.1 (rw (e, is) refl) (rw e refl) (rw e refl) still
-  gone-on g h s t p place reason false r reads e is d still ok = absurd (clash-err r _ d.0 ok)
-
-  dealt : (g h : Reading) (s t : S) (p : List ℕ) (v : Verdict) (r : Result (Unit {0}) End) → Reads g p
-      → next_verdict g (begun p) ≡ v
-      → Deals law (judged_next g (is_lenient g) v (ended_line (begun p))) (with_sink g s) r (with_sink h t) → r ≡ Ok tt
-      → Advances law (further p (10 ∷ [])) (with_sink g s) (with_sink h t)
-  dealt g h s t p (Invalid place reason) r reads e d ok =
-      gone-on g h s t p place reason (is_lenient g) r reads e refl d.0 d.1 ok
-  dealt g h s t p Blank r reads e d ok = passed g h s t p false false reads d.1 (rw e refl) (rw e refl) (rw e refl) d.2
-  dealt g h s t p LeftOut r reads e d ok =
-      passed g h s t p false false reads d.1 (rw e refl) (rw e refl) (rw e refl) d.2
-  dealt g h s t p Kept (Err x) reads e d ok = absurd (clash-err (Err x) x refl ok)
-  dealt g h s t p Kept (Ok x) reads e d ok =
-      let is = next-item g p reads (ended_line (begun p)) in
-      passed g h s t p true false reads d.0 (rw e refl) (rw e refl) (rw e refl) (t, rw (← is) d.1, refl)
-
-  settled : (g h : Reading) (s t : S) (p : List ℕ) (r : Result (Unit {0}) End) → Reads g p
-      → Settles law (judged_next g (is_lenient g) (next_verdict g (begun p)) (ended_line (begun p))) (with_sink g s) r
-      (with_sink h t) → r ≡ Ok tt → Advances law (further p (10 ∷ [])) (with_sink g s) (with_sink h t)
-  settled g h s t p r reads (inl d) ok = dealt g h s t p _ r reads refl d ok
-  settled g h s t p r reads (inr m) ok = absurd (clash-err r Memory m.0 ok)
+  advanced g h s t p r reads other ok = cc
 
   -- what came of the begun line, told by its content, of which nothing is known where it is dropped
   pub Settles-begun : (on : Bool) (g h : Reading) (s t : S) (c : List ℕ) (lf : Bool) (r : Result (Unit {0}) End)
@@ -165,7 +134,8 @@ module _ {S : Type 0} (law : SinkLaw S) where
   Advances-line {f} {g} {h} {s} {t} {p} {part} {r} reads n st d ok =
       let a = Advances-stored {s = s} reads n st in
       let told = Settles-begun (is_lenient g) g h s t (begun (p ++ part)) true r a.reads.begun d in
-      Advances-then a (settled g h s t (p ++ part) r a.reads told ok)
+      let now = came law g h s t (p ++ part) a.reads (ended_line (begun (p ++ part))) r told in
+      Advances-then a (advanced g h s t (p ++ part) r a.reads now ok)
 
   pub Stops-later : {f g h : Reading} {s t u : S} {p a b : List ℕ} {e : End}
       → Advances law (further p a) (with_sink f s) (with_sink g t)
@@ -184,19 +154,18 @@ module _ {S : Type 0} (law : SinkLaw S) where
     cause = let k = rw x.rules at y.cause in rw (← append_assoc p a y.done, ← append_assoc p a b) k;
   }
 
-  IsNext-ended : (limits : LimitPair) (p part more : List ℕ) → NoLf part
-      → IsNext limits (p ++ part) (p ++ (part ++ 10 ∷ more)) (ended_line (begun p ++ part))
-  IsNext-ended limits p part more n = (
+  IsNext-ended : (limits : LimitPair) (p part more : List ℕ)
+      → IsNext limits (p ++ part) (p ++ (part ++ 10 ∷ more)) (ended_line (begun (p ++ part)))
+  IsNext-ended limits p part more = (
     map ended_line (closed more) ++ long_line limits (begun more),
     rw (
       ← append_assoc p part (10 ∷ more),
       closed-lf (p ++ part) more,
       begun-lf (p ++ part) more,
       map_lines-append (closed (p ++ part)) (begun (p ++ part) ∷ closed more),
-      begun-more p part n,
     )
         (append_assoc (map ended_line (closed (p ++ part)))
-        (ended_line (begun p ++ part) ∷ map ended_line (closed more)) (long_line limits (begun more))),
+        (ended_line (begun (p ++ part)) ∷ map ended_line (closed more)) (long_line limits (begun more))),
   )
 
   long_line-long : (limits : LimitPair) (c : List ℕ) → limits.line < length c
@@ -250,7 +219,7 @@ module _ {S : Type 0} (law : SinkLaw S) where
       (Unstored-cause f s p part (p ++ (part ++ 10 ∷ more)) true e reads u (λ _. next))
     where
       next : IsNext f.rules.limits p (p ++ (part ++ 10 ∷ more)) (ended_line (begun p ++ part))
-      next = let k = IsNext-ended f.rules.limits p part more n in rw (closed-more p part n) at k
+      next = let k = IsNext-ended f.rules.limits p part more in rw (closed-more p part n, begun-more p part n) at k
 
   -- the last part is not stored
   pub Stops-unstored_last : {f : Reading} {s : S} {p part : List ℕ} {e : End} → Reads f p → NoLf part
@@ -258,83 +227,29 @@ module _ {S : Type 0} (law : SinkLaw S) where
   Stops-unstored_last {f} {s} {p} {part} {e} reads n u = stopped f s p part e reads
       (Unstored-cause f s p part (p ++ part) false e reads u (λ long. IsNext-long f.rules.limits p part n long))
 
-  good-bad : (r : Result (Unit {0}) End) (e : End) → r ≡ Ok tt → r ≡ Err e → ⊥
-  good-bad r e x y = cc
-
-  -- a refused line that is the end
-  unforgiven : (g h : Reading) (s t : S) (p part more : List ℕ) (place : ℕ) (reason : Reason) (on : Bool)
-      (r : Result (Unit {0}) End) (e : End) → NoLf part → Reads g (p ++ part)
-      → next_verdict g (begun (p ++ part)) ≡ Invalid place reason → is_lenient g ≡ on
-      → Refuses on (Refused (g.lines + 1) place reason) g r h → t ≡ s → r ≡ Err e
-      → IsLeft g h × HasCause law (stop_at g.rules (p ++ part) (p ++ (part ++ 10 ∷ more)) g.lines) s t e
-  unforgiven g h s t p part more place reason true r e n reads is on d still err = absurd (good-bad r e d.0 err)
-  unforgiven g h s t p part more place reason false r e n reads is on d still err =
-      let same : e ≡ Refused (g.lines + 1) place reason = cc in
-      let told = sym (next-verdict g (p ++ part) reads (begun (p ++ part))) ∙ is in (
-        left-same g h d.1,
-        rw same (
-          ended_line (begun p ++ part),
-          IsNext-ended g.rules.limits p part more n,
-          refl,
-          rw (begun-more p part n) at told,
+  -- the begun line, of which this came, is the end
+  caused : (g h : Reading) (s t : S) (p q : List ℕ) (r : Result (Unit {0}) End) (e : End) → Reads g p
+      → IsNext g.rules.limits p q (ended_line (begun p))
+      → Came law g h s t (map ended_line (closed p)) (ended_line (begun p)) r → r ≡ Err e
+      → IsLeft g h × HasCause law (stop_at g.rules p q g.lines) s t e
+  caused g h s t p q r e reads next (passed put refuses x fine k bad took) err = cc
+  caused g h s t p q r e reads next (refused place reason v on same still) err =
+      let is : e ≡ Refused (g.lines + 1) place reason = cc in
+      (left-same g h same, rw is (ended_line (begun p), next, refl, v, still, on))
+  caused g h s t p q r e reads next (failed v left leaves) err =
+      let is : e ≡ WriteFault = cc in (left, rw is (ended_line (begun p), next, ap is_kept v, leaves))
+  caused g h s t p q r e reads next (lacked v none lf left still) err =
+      let is : e ≡ Memory = cc in
+      let empty : closed p ≡ [] = none-from_length (closed p) (sym reads.lines ∙ none) in
+      let first = next-line g.rules.limits g.lines p q (ended_line (begun p)) next reads.lines in (
+        left,
+        rw is (
           still,
-          on,
-        ),
-      )
-
-  -- a line that has begun, and was not dealt with: g has read p, whose last bytes they are
-  undealt : (g h : Reading) (s t : S) (p part more : List ℕ) (v : Verdict) (r : Result (Unit {0}) End) (e : End)
-      → NoLf part → Reads g (p ++ part)
-      → next_verdict g (begun (p ++ part)) ≡ v
-      → Deals law (judged_next g (is_lenient g) v (ended_line (begun (p ++ part)))) (with_sink g s) r (with_sink h t)
-      → r ≡ Err e
-      → IsLeft g h × HasCause law (stop_at g.rules (p ++ part) (p ++ (part ++ 10 ∷ more)) g.lines) s t e
-  undealt g h s t p part more (Invalid place reason) r e n reads is d err =
-      unforgiven g h s t p part more place reason (is_lenient g) r e n reads is refl d.0 d.1 err
-  undealt g h s t p part more Blank r e n reads is d err = absurd (good-bad r e d.0 err)
-  undealt g h s t p part more LeftOut r e n reads is d err = absurd (good-bad r e d.0 err)
-  undealt g h s t p part more Kept (Ok x) e n reads is d err = absurd (clash err)
-    where
-      clash : ◌≡◌ {A = Result (Unit {0}) End} (Ok x) (Err e) → ⊥
-      clash y = cc
-  undealt g h s t p part more Kept (Err x) e n reads is d err =
-      let same : e ≡ WriteFault = cc in
-      let b = begun-more p part n in
-      let told : is_kept (verdict g.rules (map ended_line (closed (p ++ part))) (begun (p ++ part))) ≡ true =
-      ap is_kept (sym (next-verdict g (p ++ part) reads (begun (p ++ part))) ∙ is) in
-      let item = next-item g (p ++ part) reads (ended_line (begun (p ++ part))) in
-      let left : law.leaves s (item_after g.rules (map ended_line (closed (p ++ part)))
-      (ended_line (begun (p ++ part)))) t = rw (← item) d.2 in (
-        d.1,
-        rw same (
-          ended_line (begun p ++ part),
-          IsNext-ended g.rules.limits p part more n,
-          rw b at told,
-          rw b at left,
-        ),
-      )
-
-  unsettled : (g h : Reading) (s t : S) (p part more : List ℕ) (r : Result (Unit {0}) End) (e : End) → NoLf part
-      → Reads g (p ++ part)
-      → Settles law (judged_next g (is_lenient g) (next_verdict g (begun (p ++ part))) (ended_line (begun (p ++ part))))
-      (with_sink g s) r (with_sink h t) → r ≡ Err e
-      → IsLeft g h × HasCause law (stop_at g.rules (p ++ part) (p ++ (part ++ 10 ∷ more)) g.lines) s t e
-  unsettled g h s t p part more r e n reads (inl d) err = undealt g h s t p part more _ r e n reads refl d err
-  unsettled g h s t p part more r e n reads (inr m) err =
-      let same : e ≡ Memory = cc in
-      let none : closed (p ++ part) ≡ [] = none-from_length (closed (p ++ part)) (sym reads.lines ∙ m.3) in
-      let valid = sym (next-verdict g (p ++ part) reads (begun (p ++ part))) ∙ m.4 in
-      let next = next-line g.rules.limits g.lines (p ++ part) (p ++ (part ++ 10 ∷ more)) (ended_line (begun p ++ part))
-      (IsNext-ended g.rules.limits p part more n) reads.lines in (
-        m.1,
-        rw same (
-          m.2,
           record {
-            none = m.3;
-            header = begun p ++ part;
-            first = subst (λ k. slice_get (lines (p ++ (part ++ 10 ∷ more))) k ≡ Some (ended_line (begun p ++ part)))
-                m.3 next;
-            valid = rw (none, begun-more p part n) at valid;
+            none = none;
+            header = begun p;
+            first = subst (λ k. slice_get (lines q) k ≡ Some (ended_line (begun p))) none first;
+            valid = rw empty at v;
           },
         ),
       )
@@ -349,7 +264,9 @@ module _ {S : Type 0} (law : SinkLaw S) where
   Stops-undealt {f} {g} {h} {s} {t} {p} {part} more {r} {e} reads n st d err =
       let a = Advances-stored {s = s} reads n st in
       let told = Settles-begun (is_lenient g) g h s t (begun (p ++ part)) true r a.reads.begun d in
-      let u = unsettled g h s t p part more r e n a.reads told err in
+      let now = came law g h s t (p ++ part) a.reads (ended_line (begun (p ++ part))) r told in
+      let u = caused g h s t (p ++ part) (p ++ (part ++ 10 ∷ more)) r e a.reads
+      (IsNext-ended g.rules.limits p part more) now err in
       record {
         done = part;
         left = 10 ∷ more;

@@ -1,7 +1,8 @@
 -- What a framer has read after it stored a part, and after it dealt with a line.
 use Rattle.std.proofs.Common.{◌≡◌, ℕ, ◌+◌, ◌<◌, ◌≤◌, ◌⊎◌, inl, inr, max, zero, suc, List, [], ◌∷◌, ◌++◌, Bool, true, false, cond, eqb, ltb, length, map, None, arith, refl, sym, ap, ◌∙◌, append_assoc, length-append}
 use Rattle.std.specs.Prelude.{◌&&◌, nat_lt, if◌then◌else◌}
-use Rattle.std.proofs.lemmas.List.{append-nil}
+use Rattle.std.proofs.lemmas.List.{append-nil, length-map, map-append}
+use Rattle.std.proofs.lemmas.List.Elements.{filter-append}
 use Rattle.std.proofs.lemmas.Bool.{ltb-true}
 use Rattle.std.proofs.lemmas.Bool.Decides.{nat_tests}
 use Rattle.cj_budget.specs.Bounded.{IsWithin}
@@ -311,21 +312,12 @@ Reads-left f g p left h = rw left.same (record {
 })
 
 pub length-map_lines : (cs : List (List ℕ)) → length (map ended_line cs) ≡ length cs
-length-map_lines [] = refl
-length-map_lines (c ∷ cs) = ap suc (length-map_lines cs)
+length-map_lines cs = length-map cs ended_line
 
 pub map_lines-append : (cs ds : List (List ℕ)) → map ended_line (cs ++ ds) ≡ map ended_line cs ++ map ended_line ds
-map_lines-append [] ds = refl
-map_lines-append (c ∷ cs) ds = ap (λ x. ended_line c ∷ x) (map_lines-append cs ds)
+map_lines-append cs ds = map-append ended_line cs ds
 
 -- ---- the line that comes next
-
-first-verdict : (rules : Rules) (n : ℕ) (x y : Tree) (c : List ℕ) → n ≡ 1
-    → verdict_at rules n x c ≡ verdict_at rules n y c
-first-verdict rules n x y c e = rw e (verdict-first rules x y c)
-
-first-item : (depth n : ℕ) (x y : Tree) (l : Line) → n ≡ 1 → item_at depth n x l ≡ item_at depth n y l
-first-item depth n x y l e = rw e refl
 
 module _ (f : Reading) (p : List ℕ) (h : Reads f p) where
   before : List Line
@@ -338,29 +330,31 @@ module _ (f : Reading) (p : List ℕ) (h : Reads f p) where
       → held_header f ≡ header_of f.rules (map ended_line (closed p))
   same-header d ds e = rw (h.header, e) refl
 
-  -- its verdict, told by what is held and by the lines before it
-  pub next-verdict : (c : List ℕ) → next_verdict f c ≡ verdict f.rules (map ended_line (closed p)) c
-  next-verdict c = go (closed p) refl
+  -- what hangs on its number and, if it is not the first, on the header, by what is held and by the lines before it
+  next-same : {X : Type 0} (say : ℕ → Tree → X) → ((x y : Tree) → say 1 x ≡ say 1 y)
+      → say (f.lines + 1) (held_header f)
+      ≡ say (length (map ended_line (closed p)) + 1) (header_of f.rules (map ended_line (closed p)))
+  next-same say first = go (closed p) refl
     where
-      go : (cs : List (List ℕ)) → closed p ≡ cs → next_verdict f c ≡ verdict f.rules (map ended_line (closed p)) c
-      go [] e =
-          let one : f.lines + 1 ≡ 1 = omega (arith, h.lines, ap length e) in
-          first-verdict f.rules (f.lines + 1) (held_header f) (header_of f.rules (map ended_line (closed p))) c one
-          ∙ ap (λ n. verdict_at f.rules n (header_of f.rules (map ended_line (closed p))) c) number
-      go (d ∷ ds) e = ap (λ x. verdict_at f.rules (f.lines + 1) x c) (same-header d ds e)
-          ∙ ap (λ n. verdict_at f.rules n (header_of f.rules (map ended_line (closed p))) c) number
+      by-one : (n : ℕ) (x y : Tree) → n ≡ 1 → say n x ≡ say n y
+      by-one n x y e = rw e (first x y)
 
-  -- and the item that it is
-  pub next-item : (l : Line) → next_item f l ≡ item_after f.rules (map ended_line (closed p)) l
-  next-item l = go (closed p) refl
-    where
-      go : (cs : List (List ℕ)) → closed p ≡ cs → next_item f l ≡ item_after f.rules (map ended_line (closed p)) l
+      go : (cs : List (List ℕ)) → closed p ≡ cs
+          → say (f.lines + 1) (held_header f)
+          ≡ say (length (map ended_line (closed p)) + 1) (header_of f.rules (map ended_line (closed p)))
       go [] e =
           let one : f.lines + 1 ≡ 1 = omega (arith, h.lines, ap length e) in
-          first-item f.rules.limits.depth (f.lines + 1) (held_header f) (header_of f.rules (map ended_line (closed p)))
-          l one ∙ ap (λ n. item_at f.rules.limits.depth n (header_of f.rules (map ended_line (closed p))) l) number
-      go (d ∷ ds) e = ap (λ x. item_at f.rules.limits.depth (f.lines + 1) x l) (same-header d ds e)
-          ∙ ap (λ n. item_at f.rules.limits.depth n (header_of f.rules (map ended_line (closed p))) l) number
+          by-one (f.lines + 1) (held_header f) (header_of f.rules (map ended_line (closed p))) one
+          ∙ ap (λ n. say n (header_of f.rules (map ended_line (closed p)))) number
+      go (d ∷ ds) e = ap (λ x. say (f.lines + 1) x) (same-header d ds e)
+          ∙ ap (λ n. say n (header_of f.rules (map ended_line (closed p)))) number
+
+  -- so its verdict, and the item that it is
+  pub next-verdict : (c : List ℕ) → next_verdict f c ≡ verdict f.rules (map ended_line (closed p)) c
+  next-verdict c = next-same (λ n x. verdict_at f.rules n x c) (λ x y. verdict-first f.rules x y c)
+
+  pub next-item : (l : Line) → next_item f l ≡ item_after f.rules (map ended_line (closed p)) l
+  next-item l = next-same (λ n x. item_at f.rules.limits.depth n x l) (λ x y. refl)
 
 -- ---- what is kept
 
@@ -376,17 +370,6 @@ kept_closed-lf rules p put k =
       kept-append rules [] (map ended_line (closed p)) (map ended_line (begun p ∷ [])),
       k,
     ) refl
-
-filter-append : {A : Type 0} (test : A → Bool) (xs ys : List A) → filter test (xs ++ ys) ≡ filter test xs
-    ++ filter test ys
-filter-append test [] ys = refl
-filter-append test (x ∷ xs) ys = go (test x) (filter-append test xs ys)
-  where
-    go : (b : Bool) → filter test (xs ++ ys) ≡ filter test xs ++ filter test ys
-        → cond b (x ∷ filter test (xs ++ ys)) (filter test (xs ++ ys)) ≡ cond b (x ∷ filter test xs) (filter test xs)
-        ++ filter test ys
-    go true e = ap (λ z. x ∷ z) e
-    go false e = e
 
 -- one item more, if it is put, is one feature more, if it is no header
 count-feature : (put later : Bool) (i : Item) (n : ℕ) (xs : List Item) → is_feature i ≡ later
@@ -449,9 +432,7 @@ reported-append rules before (x ∷ xs) ys =
 -- a refused line
 abbrev pub is_refused : Verdict → Bool
 is_refused (Invalid place reason) = true
-is_refused Blank = false
-is_refused LeftOut = false
-is_refused Kept = false
+is_refused other = false
 
 pub count-reported : (n : ℕ) (v : Verdict) → length (reports_of n v) ≡ (if is_refused v then 1 else 0)
 count-reported n (Invalid place reason) = refl
@@ -481,9 +462,10 @@ refused-next f g xs l put refused k s e =
     ∙ (ap (λ z. z + length now) k ∙ sym (length-append (reported_from f.rules [] xs) now)))
 
 pub Reads-passed : (f g : Reading) (p : List ℕ) (put refused : Bool) → Reads f p → Passes put refused f g
-    → refusal_of f.rules (f.lines + 1) (next_verdict f (begun p)) ≡ None → put ≡ is_kept (next_verdict f (begun p))
-    → refused ≡ is_refused (next_verdict f (begun p))
-    → Reads g (p ++ 10 ∷ [])
+    → refusal_of f.rules (length (map ended_line (closed p)) + 1)
+    (verdict f.rules (map ended_line (closed p)) (begun p)) ≡ None
+    → put ≡ is_kept (verdict f.rules (map ended_line (closed p)) (begun p))
+    → refused ≡ is_refused (verdict f.rules (map ended_line (closed p)) (begun p)) → Reads g (p ++ 10 ∷ [])
 Reads-passed f g p put refused h s fine k bad = record {
   lines = rw (closed-lf p [], s.lines, h.lines) (sym (length-append (closed p) (begun p ∷ [])));
   begun = rw (begun-lf p [])
@@ -500,19 +482,16 @@ Reads-passed f g p put refused h s fine k bad = record {
     map_lines-append (closed p) (begun p ∷ []),
     s.rules,
     refusal-append f.rules [] (map ended_line (closed p)) (map ended_line (begun p ∷ [])) h.good,
-    ← is,
-    ← at,
     fine,
   )
       refl;
   kept =
       rw (closed-lf p [], map_lines-append (closed p) (begun p ∷ []), s.rules)
       (kept-next f g (map ended_line (closed p)) (ended_line (begun p)) put refused
-      (h.lines ∙ sym (length-map_lines (closed p))) h.kept s (k ∙ ap is_kept is));
+      (h.lines ∙ sym (length-map_lines (closed p))) h.kept s k);
   refused =
       rw (closed-lf p [], map_lines-append (closed p) (begun p ∷ []), s.rules)
-      (refused-next f g (map ended_line (closed p)) (ended_line (begun p)) put refused h.refused s
-      (bad ∙ ap is_refused is));
+      (refused-next f g (map ended_line (closed p)) (ended_line (begun p)) put refused h.refused s bad);
   peak = rw s.header h.peak;
   line_peak =
       rw (closed-lf p [], begun-lf p [], begun_after-empty (closed p ++ begun p ∷ []), s.rules)
@@ -525,9 +504,3 @@ Reads-passed f g p put refused h s fine k bad = record {
   where
     nothing : (stored g.rules.limits.line [] ≡ []) × (ltb g.rules.limits.line 0 ≡ false)
     nothing = stored-short g.rules.limits.line [] (omega arith)
-
-    at : f.lines + 1 ≡ length (map ended_line (closed p)) + 1
-    at = omega (arith, length-map_lines (closed p), h.lines)
-
-    is : next_verdict f (begun p) ≡ verdict f.rules (map ended_line (closed p)) (begun p)
-    is = next-verdict f p h (begun p)

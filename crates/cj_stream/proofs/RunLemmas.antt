@@ -18,10 +18,10 @@ use Rattle.cj_stream.specs.Sink.{HasRisen, SinkLaw}
 use Rattle.cj_stream.specs.Meaning.Outputs.{Took}
 use Rattle.cj_stream.specs.Cut.{IsUnread}
 use Rattle.cj_stream.proofs.PieceLemmas.{Took-append}
-use Rattle.cj_stream.proofs.EngineLemmas.{begun-good, judged-front, kept_first-front}
+use Rattle.cj_stream.proofs.EngineLemmas.{begun-good, judged-front}
 use Rattle.cj_stream.proofs.ReadingLemmas.{length-map_lines, zero_or}
 use Rattle.cj_stream.proofs.IsLinesLemmas.{lines-whole}
-use Rattle.cj_stream.proofs.GoodLemmas.{good-refused}
+use Rattle.cj_stream.proofs.GoodLemmas.{good-refused, ending-refused}
 use Rattle.cj_stream.proofs.LeastLemmas.{held-scanned, least-read}
 use Rattle.cj_stream.proofs.OutputLemmas.{Runs-told}
 pub use Rattle.cj_stream.proofs.OutputLemmas.{memory-sink}
@@ -63,10 +63,9 @@ pub Ends-finished : (rules : Rules) (r : List ℕ) (n : ℕ) (at_end : Type 0) (
     → Ends rules r n at_end e
 Ends-finished rules r n at_end Complete h c = (c.0, c.1, h)
 Ends-finished rules r n at_end (Refused number place reason) h c = (c.0, c.1, inl h)
-Ends-finished rules r n at_end ReadFault h c = absurd c
-Ends-finished rules r n at_end ReadLimit h c = absurd c
 Ends-finished rules r n at_end WriteFault h c = tt
 Ends-finished rules r n at_end Memory h c = tt
+Ends-finished rules r n at_end other h c = absurd c
 
 pub refusal-stays : (rules : Rules) (before xs ys : List Line) (e : End) → refusal_from rules before xs ≡ Some e
     → refusal_from rules before (xs ++ ys) ≡ Some e
@@ -80,10 +79,6 @@ refusal-stays rules before (x ∷ xs) ys e h =
     step None rest all k h = k h
     step (Some y) rest all k h = h
 
-pub ending-refused : (rules : Rules) (ls : List Line) (e : End) → refusal_in rules ls ≡ Some e → ending_of rules ls ≡ e
-ending-refused rules [] e h = absurd (none-some e h)
-ending-refused rules (l ∷ ls) e h = rw h refl
-
 pub ending-told : (rules : Rules) (q : List ℕ) (e : End) → refusal_in rules (judged rules.limits q) ≡ Some e
     → ending rules q ≡ e
 ending-told rules q e h =
@@ -92,26 +87,17 @@ ending-told rules q e h =
 
 pub Ends-fed : (rules : Rules) (r : List ℕ) (n : ℕ) (at_end : Type 0) (e : End) → Tells rules r n e
     → Ends rules r n at_end e
-Ends-fed rules r n at_end Complete c = absurd c
 Ends-fed rules r n at_end (Refused number place reason) c =
     let told = ending-told rules r (Refused number place reason) c.0 in
     (told, omega (arith, c.1, good-refused rules r number place reason told), inr c.0)
-Ends-fed rules r n at_end ReadFault c = absurd c
-Ends-fed rules r n at_end ReadLimit c = absurd c
 Ends-fed rules r n at_end WriteFault c = tt
 Ends-fed rules r n at_end Memory c = tt
+Ends-fed rules r n at_end other c = absurd c
 
 -- no more bytes came: no whole line was refused
 pub whole-good : (e : EngineState) (r : List ℕ) → Reads e.reading r → (refusal_in (rules_of e) (lines (whole r)) ≡ None)
     × (lines_of e ≡ length (lines (whole r)))
 whole-good e r h = (rw (lines-whole r) h.good, rw (lines-whole r) (h.lines ∙ sym (length-map_lines (closed r))))
-
--- more bytes change none of the lines that LF ended
-pub kept_first-same : (rules : Rules) (n : ℕ) (r more : List ℕ) → n ≡ length (closed r)
-    → kept_first rules n (r ++ more) ≡ kept_first rules n r
-kept_first-same rules n r more e =
-    let k = kept_first-front rules n r [] e in
-    kept_first-front rules n r more e ∙ sym (rw (append-nil r) at k)
 
 -- a step that keeps the sink as it is, with an end
 pub Delivers-ended : {S : Type 0} (law : SinkLaw S) (rules : Rules) (r : List ℕ) (n : ℕ) (s t : S) (e : End)
@@ -187,22 +173,18 @@ Runs-memory law rules at_end s = record {
 
 -- no bytes gave the end
 pub last-none : (e : End) → IsLastRead e []
-last-none Complete = refl
 last-none (Refused number place reason) = omega arith
-last-none ReadFault = refl
-last-none ReadLimit = refl
 last-none WriteFault = omega arith
 last-none Memory = omega arith
+last-none other = refl
 
 -- a piece gave it
 pub last-piece : (rules : Rules) (q : List ℕ) (n : ℕ) (e : End) (piece : List ℕ) → Tells rules q n e
     → length piece ≤ 8192 → IsLastRead e piece
-last-piece rules q n Complete piece told few = absurd told
 last-piece rules q n (Refused number place reason) piece told few = few
-last-piece rules q n ReadFault piece told few = absurd told
-last-piece rules q n ReadLimit piece told few = absurd told
 last-piece rules q n WriteFault piece told few = few
 last-piece rules q n Memory piece told few = few
+last-piece rules q n other piece told few = absurd told
 
 -- before these last bytes no line was the end
 pub stops-after : {at_start : Type 0} (f : Reading) (run : Run) (front last : List ℕ) → Reads f front
@@ -224,12 +206,9 @@ stops-after f run front last reads same cut short onward memory least begun = re
 
 -- where the engine ended, no more is told of the begun line
 pub begun-judged : (run : Run) (e : End) → IsUnread e → HeldBegun run e
-begun-judged run Complete u = tt
-begun-judged run (Refused number place reason) u = tt
 begun-judged run ReadFault u = absurd u
 begun-judged run ReadLimit u = absurd u
-begun-judged run WriteFault u = tt
-begun-judged run Memory u = tt
+begun-judged run other u = tt
 
 -- an engine that has not ended has held what all that it has read needs
 pub least-going : (e : EngineState) (r : List ℕ) → Reads e.reading r → Scanned (limits_of e) (closed r) e.scanning
@@ -283,12 +262,10 @@ Stops-memory rules at_start start = record {
 
 -- an end by a piece, a fault or the read limit is no completion
 pub told-not_complete : (rules : Rules) (q : List ℕ) (n : ℕ) (e : End) → Tells rules q n e → e ≡ Complete → ⊥
-told-not_complete rules q n Complete c h = c
 told-not_complete rules q n (Refused number place reason) c h = cc
-told-not_complete rules q n ReadFault c h = c
-told-not_complete rules q n ReadLimit c h = c
 told-not_complete rules q n WriteFault c h = cc
 told-not_complete rules q n Memory c h = cc
+told-not_complete rules q n other c h = c
 
 pub fault-not_complete : ReadFault ≡ Complete → ⊥
 fault-not_complete h = cc
@@ -299,20 +276,16 @@ limit-not_complete h = cc
 -- the end of an engine that was finished, where a read was left to find the end of the input
 pub Gave-finished : (reads n : ℕ) (e : End) → n < reads → IsUnread e → Gave reads n e
 Gave-finished reads n Complete lt u = lt
-Gave-finished reads n (Refused number place reason) lt u = omega arith
 Gave-finished reads n ReadFault lt u = absurd u
 Gave-finished reads n ReadLimit lt u = absurd u
-Gave-finished reads n WriteFault lt u = omega arith
-Gave-finished reads n Memory lt u = omega arith
+Gave-finished reads n other lt u = omega arith
 
 -- the end by a piece, which the last of the reads may have given
 pub Gave-fed : (rules : Rules) (q : List ℕ) (m reads n : ℕ) (e : End) → n ≤ reads → Tells rules q m e → Gave reads n e
-Gave-fed rules q m reads n Complete le h = absurd h
 Gave-fed rules q m reads n (Refused number place reason) le h = le
-Gave-fed rules q m reads n ReadFault le h = absurd h
-Gave-fed rules q m reads n ReadLimit le h = absurd h
 Gave-fed rules q m reads n WriteFault le h = le
 Gave-fed rules q m reads n Memory le h = le
+Gave-fed rules q m reads n other le h = absurd h
 
 -- where the reads ran out, each of them gave a byte
 all-gave : (reads : ℕ) (r : List ℕ) (e : End) → e ≡ ReadLimit → (w : IsReadWithin reads r e) → w.giving ≡ reads

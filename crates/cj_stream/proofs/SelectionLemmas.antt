@@ -11,8 +11,8 @@ use Rattle.cj_stream.specs.Parts.{headed, moved_end}
 use Rattle.cj_stream.specs.Selection.{LeavesKept, all_lines, staying}
 use Rattle.cj_stream.specs.Meaning.Rules.{Rules}
 use Rattle.cj_stream.specs.Verdict.{ending, ending_of, good_from, is_kept, item_after, kept, kept_from, output, refusal_from, refusal_in, refusal_of, verdict}
-use Rattle.cj_stream.proofs.GoodLemmas.{good-all}
-use Rattle.cj_stream.proofs.LenientLemmas.{complete-none, first-none}
+use Rattle.cj_stream.proofs.GoodLemmas.{good-all, complete-none}
+use Rattle.cj_stream.proofs.VerdictLemmas.{refusal-step}
 use Rattle.cj_stream.proofs.MovedLemmas.{kept-moved, refusal-moved}
 use Rattle.cj_stream.proofs.PartsLemmas.{lines-headed}
 
@@ -37,7 +37,7 @@ module _ (rules : Rules) (e : Line) where
     where
       both : (refusal_of rules 2 (verdict rules (e ∷ []) l.content) ≡ None)
           × (refusal_from rules (e ∷ l ∷ []) zs ≡ None)
-      both = first-none _ _ h
+      both = refusal-step _ _ h
 
       go : (b : Bool) → refusal_from rules (e ∷ []) (cond b (l ∷ ms) ms) ≡ None
       go true = rw both.0 (none-after l ms (later (none-before l zs both.1)))
@@ -84,7 +84,7 @@ module _ (rules : Rules) (h a b : List ℕ) (xs : List (Line × Bool)) (free : N
 
   none-part : refusal_in rules (ended_line h ∷ staying xs) ≡ None
   none-part =
-      let both = first-none (refusal_of rules 1 (verdict rules [] h))
+      let both = refusal-step (refusal_of rules 1 (verdict rules [] h))
       (refusal_from rules (ended_line h ∷ []) (all_lines xs)) none-whole in
       let later = none-staying rules (ended_line h) xs both.1 in
       rw (both.0, later) refl

@@ -61,21 +61,17 @@ never (i ∷ is) m c k = k
 -- what a run has counted, by its end
 pub CountsRun-puts : (rules : Rules) (r : List ℕ) (c : CountSink) (e : End) → Puts (never_fails Counts)
     (stream_of rules r) e (no_counts) c → CountsRun (stream_of rules r) e c
-CountsRun-puts rules r c Complete h = counts-all c (kept rules r) h
-CountsRun-puts rules r c (Refused number place reason) h = counts-all c (kept rules r) h
 CountsRun-puts rules r c ReadFault h = counts-all c (kept rules (whole r)) h
 CountsRun-puts rules r c ReadLimit h = counts-all c (kept rules (whole r)) h
 CountsRun-puts rules r c WriteFault h = never h.others h.middle c h.left
 CountsRun-puts rules r c Memory h =
     record { more = h.more; others = h.others; front = h.front; counts = counts-all c h.more (rw h.left h.took) }
+CountsRun-puts rules r c other h = counts-all c (kept rules r) h
 
 -- what was counted of pieces
 pub CountsPieces-puts : (rules : Rules) (pieces : List (List ℕ)) (n : ℕ) (c : CountSink) (e : End)
     → PutsPieces (never_fails Counts) (in_pieces rules pieces n) e (no_counts) c
     → CountsPieces (in_pieces rules pieces n) e c
-CountsPieces-puts rules pieces n c Complete h = (h.0, counts-all c (kept rules (joined pieces)) h.1)
-CountsPieces-puts rules pieces n c (Refused number place reason) h =
-    (h.0, counts-all c (kept rules (joined pieces)) h.1)
 CountsPieces-puts rules pieces n c ReadFault h = h
 CountsPieces-puts rules pieces n c ReadLimit h = h
 CountsPieces-puts rules pieces n c WriteFault h = never h.others h.middle c h.left
@@ -85,3 +81,4 @@ CountsPieces-puts rules pieces n c Memory h = record {
   front = h.front;
   counts = counts-all c (kept rules (whole (joined (take n pieces))) ++ h.more) (rw h.left h.took);
 }
+CountsPieces-puts rules pieces n c other h = (h.0, counts-all c (kept rules (joined pieces)) h.1)

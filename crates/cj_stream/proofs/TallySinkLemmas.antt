@@ -196,8 +196,6 @@ never (i ∷ is) m t k = k
 -- what a run has tallied, by its end
 pub TalliesRun-puts : (rules : Rules) (r : List ℕ) (start t : Tally) (e : End) → start ≡ no_tally
     → Puts (never_fails Tallies) (stream_of rules r) e start t → TalliesRun (stream_of rules r) e t
-TalliesRun-puts rules r start t Complete new h = tally-all start t (kept rules r) new h
-TalliesRun-puts rules r start t (Refused number place reason) new h = tally-all start t (kept rules r) new h
 TalliesRun-puts rules r start t ReadFault new h = tally-all start t (kept rules (whole r)) new h
 TalliesRun-puts rules r start t ReadLimit new h = tally-all start t (kept rules (whole r)) new h
 TalliesRun-puts rules r start t WriteFault new h = never h.others h.middle t h.left
@@ -208,14 +206,12 @@ TalliesRun-puts rules r start t Memory new h =
       front = h.front;
       tally = tally-all start t h.more new (rw h.left h.took);
     }
+TalliesRun-puts rules r start t other new h = tally-all start t (kept rules r) new h
 
 -- what was tallied of pieces
 pub TalliesPieces-puts : (rules : Rules) (pieces : List (List ℕ)) (n : ℕ) (start t : Tally) (e : End) → start ≡ no_tally
     → PutsPieces (never_fails Tallies) (in_pieces rules pieces n) e start t
     → TalliesPieces (in_pieces rules pieces n) e t
-TalliesPieces-puts rules pieces n start t Complete new h = (h.0, tally-all start t (kept rules (joined pieces)) new h.1)
-TalliesPieces-puts rules pieces n start t (Refused number place reason) new h =
-    (h.0, tally-all start t (kept rules (joined pieces)) new h.1)
 TalliesPieces-puts rules pieces n start t ReadFault new h = h
 TalliesPieces-puts rules pieces n start t ReadLimit new h = h
 TalliesPieces-puts rules pieces n start t WriteFault new h = never h.others h.middle t h.left
@@ -225,3 +221,4 @@ TalliesPieces-puts rules pieces n start t Memory new h = record {
   front = h.front;
   tally = tally-all start t (kept rules (whole (joined (take n pieces))) ++ h.more) new (rw h.left h.took);
 }
+TalliesPieces-puts rules pieces n start t other new h = (h.0, tally-all start t (kept rules (joined pieces)) new h.1)

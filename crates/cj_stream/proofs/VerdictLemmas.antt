@@ -152,7 +152,8 @@ blank-is rules n header c h = let k =
 
 -- ---- lines that follow one another
 
-refusal-step : (first rest : Option End) → (if is_some first then first else rest) ≡ None → (first ≡ None)
+-- neither of two is there where the first of them is not
+pub refusal-step : (first rest : Option End) → (if is_some first then first else rest) ≡ None → (first ≡ None)
     × (rest ≡ None)
 refusal-step None rest e = (refl, e)
 refusal-step (Some x) rest e = absurd (some-none x e)

@@ -1,6 +1,7 @@
 -- What is asked once a part is set or grows: the other parts stay.
 use Rattle.std.specs.Prelude.{ℕ, List, [], ◌∷◌, ◌++◌, Bool, true, false, replicate, slice_set, Option, Some, unwrap_or}
-use Rattle.std.specs.Prelude.{option_and_then}
+use Rattle.std.specs.Prelude.{nat_eq, option_and_then}
+use Rattle.std.specs.List.{slice_split}
 use Rattle.cj_geometry.specs.Meaning.ObjectTypes.{ObjectRow}
 use Rattle.cj_geometry.specs.ObjectTypes.{row_named, type_count}
 use Rattle.cj_stream.specs.Meaning.Criteria.{Criteria, Box}
@@ -32,3 +33,7 @@ abbrev pub flags_with : List (List ℕ) → List Bool → Option (List Bool)
 flags_with [] flags = Some flags
 flags_with (name ∷ names) flags =
     option_and_then (λ (row : ObjectRow). flags_with names (slice_set flags row.number true)) (row_named name)
+
+-- the items of a list: what stands between the separators of a text
+abbrev pub parted : ℕ → List ℕ → List (List ℕ)
+parted separator s = slice_split (λ b. nat_eq b separator) s

@@ -158,6 +158,8 @@ impl<W: Write + Drop> LineSink for Output<W> {
 
     ghost law = { output_law W.contents };
 
+    /// Writes the line of the header as it was read. A write that fails is counted, and then the
+    /// writer has a prefix of the line.
     fn header(&mut self, header: &Header<'_>, lf: bool) -> Result<(), WriteFault>
         ensures ok { OnOk result
             (Appends (W.contents (output_writer self.old)) (W.contents (output_writer self.new))
@@ -172,6 +174,7 @@ impl<W: Write + Drop> LineSink for Output<W> {
         self.write_line(header.bytes(), lf)
     }
 
+    /// Writes the line of a feature in the same way.
     fn put(&mut self, feature: &Feature<'_>, lf: bool) -> Result<(), WriteFault>
         ensures ok { OnOk result
             (Appends (W.contents (output_writer self.old)) (W.contents (output_writer self.new))

@@ -18,6 +18,7 @@ mod extent;
 mod fault;
 mod holding;
 mod ids;
+mod lists;
 mod texts;
 
 use bounds::Bounds;

@@ -1,4 +1,4 @@
--- Affine maps of whole numbers, in units of 10^-18.
+-- Affine maps of whole numbers, in units of 10^-18 (RULES, numbers).
 use Rattle.std.specs.Prelude.{ℤ, ◌+ℤ◌, ◌*ℤ◌}
 
 -- the map that takes v to v * scale + shift, both in units of 10^-18

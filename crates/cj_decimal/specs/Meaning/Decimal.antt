@@ -1,5 +1,5 @@
--- The value of a spelling: a number in normal form and in range, or why there is none. The law `decimal_is_class` says
--- that this agrees with the grammar of numbers.
+-- The value of a spelling: a number in normal form and in range, or why there is none (RULES, numbers). The law
+-- `decimal_is_class` says that this agrees with the grammar of numbers.
 use Rattle.std.specs.Prelude.{ℕ, List, [], ◌∷◌, ◌++◌, length, Bool, cond, nat_eq, Result, Ok, Err}
 use Rattle.std.specs.Prelude.{ℤ, pos, ◌+ℤ◌, ◌-ℤ◌}
 use Rattle.cj_decimal.specs.declared.decimal.DecimalFault.{DecimalFault}

@@ -1,4 +1,4 @@
--- Numbers c * 10^p, over whole numbers of any size: their range, and their values as whole numbers.
+-- Numbers c * 10^p, over whole numbers of any size: their range, and their values as whole numbers (RULES, numbers).
 use Rattle.std.specs.Prelude.{ℕ, Bool, true, false, cond, Option, Some, None, ℤ, pos, negsuc, neg_ℤ, ◌+ℤ◌, ◌*ℤ◌, ◌*◌}
 use Rattle.std.specs.Prelude.{◌^◌, ◌&&◌, nat_lt, nat_le, unsigned_abs}
 

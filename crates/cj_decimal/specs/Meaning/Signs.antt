@@ -17,12 +17,6 @@ decimal_point = sign (codes ".")
 abbrev pub digit_0 : ℕ
 digit_0 = sign (codes "0")
 
-abbrev pub digit_1 : ℕ
-digit_1 = sign (codes "1")
-
-abbrev pub digit_9 : ℕ
-digit_9 = sign (codes "9")
-
 abbrev pub small_e : ℕ
 small_e = sign (codes "e")
 

@@ -1,10 +1,15 @@
 -- The numbers of RFC 8259, section 6, as a grammar, and the values of their spellings.
-use Rattle.std.specs.Prelude.{◌≡◌, ℕ, ◌≤◌, List, [], ◌∷◌, ◌++◌, length, Bool, true, false, ◌⊎◌, ℤ, pos, ◌-ℤ◌}
+use Rattle.std.specs.Prelude.{◌≡◌, ℕ, ◌≤◌, List, [], ◌∷◌, ◌++◌, length, Bool, true, false, ◌⊎◌, ℤ, pos, ◌-ℤ◌, codes}
 use Rattle.cj_decimal.specs.Meaning.Number.{Number, scaled, signed}
 use Rattle.cj_decimal.specs.Meaning.Equality.{SameValue, IsNormal, IsInRange}
-use Rattle.cj_decimal.specs.Meaning.Signs.{capital_e, decimal_point, digit_0, digit_1, digit_9, minus_sign, plus_sign}
-use Rattle.cj_decimal.specs.Meaning.Signs.{small_e}
+use Rattle.cj_decimal.specs.Meaning.Signs.{sign, capital_e, decimal_point, digit_0, minus_sign, plus_sign, small_e}
 use Rattle.cj_decimal.specs.Meaning.Reading.{digits_value, Written}
+
+abbrev pub digit_1 : ℕ
+digit_1 = sign (codes "1")
+
+abbrev pub digit_9 : ℕ
+digit_9 = sign (codes "9")
 
 -- one of the bytes `0` to `9`
 abbrev pub IsDigit : ℕ → Type 0

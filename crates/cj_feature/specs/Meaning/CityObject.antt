@@ -1,4 +1,4 @@
--- What a query asks of city objects and vertices: a type, geometries, and the numbers of a vertex.
+-- What a query asks of city objects and vertices: a type, geometries, and the numbers of a vertex (RULES, queries).
 use Rattle.std.specs.Prelude.{ℕ, List, map, get_or, unwrap_or, Option, None, ℤ, pos, option_and_then, codes}
 use Rattle.std.specs.Str.{chars}
 use Rattle.cj_spans.specs.Meaning.Tree.{Tree}
@@ -14,7 +14,8 @@ type_row o = option_and_then row_of (member_of (chars (codes "type")) o)
 abbrev pub vertex_of : Tree → List (Option ℤ)
 vertex_of t = map whole_of (items_of t)
 
--- the number of a vertex on an axis: 0 is x, 1 is y, and 2 is z
+-- the number of a vertex on an axis: 0 is x, 1 is y, and 2 is z. A vertex of a valid feature has all three, so 0 stands
+-- for none
 abbrev pub number_on : ℕ → List (Option ℤ) → ℤ
 number_on axis v = unwrap_or (get_or v axis None) (pos 0)
 

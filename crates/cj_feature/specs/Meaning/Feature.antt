@@ -11,19 +11,19 @@ use Rattle.cj_spans.specs.Meaning.Parts.{kind_of, items_of, members_of, member_o
 use Rattle.cj_geometry.specs.Meaning.Rule.{one, of_kind, nothing, needs, may_have, distinct, of_length}
 use Rattle.cj_geometry.specs.Meaning.Numbers.{whole_number}
 use Rattle.cj_geometry.specs.Meaning.ObjectTypes.{ObjectRow, row_of}
-use Rattle.cj_geometry.specs.Meaning.Geometry.{Given, listed, empty, geometry, count_of}
+use Rattle.cj_geometry.specs.Meaning.Geometry.{TemplateSource, listed, empty, geometry, count_of}
 use Rattle.cj_feature.specs.Meaning.Header.{has_member_named}
-use Rattle.cj_feature.specs.Meaning.Links.{is_known, is_part, links}
+use Rattle.cj_feature.specs.Meaning.Links.{is_known, at_second_level, links}
 use Rattle.cj_feature.specs.Meaning.Reached.{is_reached}
 
 -- ---- the header's templates
 
-abbrev pub given_list : Option Tree → Given
+abbrev pub given_list : Option Tree → TemplateSource
 given_list None = empty
 given_list (Some t) = cond (is_array (kind_of t)) (listed t) empty
 
 -- the templates of the header of this tree
-abbrev pub templates_of : Tree → Given
+abbrev pub templates_of : Tree → TemplateSource
 templates_of header = given_list
     (member_if (chars (codes "templates")) (member_of (chars (codes "geometry-templates")) header))
 
@@ -49,7 +49,7 @@ abbrev pub object_type : Tree → List Finding
 object_type t = of_kind is_text (λ u. known_type (row_of u) u) t
 
 -- an array of geometries (RULES, features, 4)
-abbrev pub geometries : Option ℕ → Given → Tree → List Finding
+abbrev pub geometries : Option ℕ → TemplateSource → Tree → List Finding
 geometries vertices templates t = of_kind is_array (λ u. flat_map (geometry vertices templates) (items_of u)) t
 
 -- an array of texts (RULES, features, 4)
@@ -58,10 +58,10 @@ texts t = of_kind is_array (λ u. flat_map (of_kind is_text nothing) (items_of u
 
 -- a city object of the second level needs parents (RULES, features, 4)
 abbrev pub second_level : Tree → List Finding
-second_level o = cond (is_part o) (needs (chars (codes "parents")) (of_kind is_array nothing) o) []
+second_level o = cond (at_second_level o) (needs (chars (codes "parents")) (of_kind is_array nothing) o) []
 
 -- the rules on a city object, with so many vertices if that is known, and the header's templates (RULES, features, 4)
-abbrev pub city_object : Option ℕ → Given → Tree → List Finding
+abbrev pub city_object : Option ℕ → TemplateSource → Tree → List Finding
 city_object vertices templates t =
     of_kind is_object (λ o.
     distinct o
@@ -72,7 +72,7 @@ city_object vertices templates t =
     ++ second_level o) t
 
 -- an object of city objects (RULES, features, 4)
-abbrev pub city_objects : Option ℕ → Given → Tree → List Finding
+abbrev pub city_objects : Option ℕ → TemplateSource → Tree → List Finding
 city_objects vertices templates t =
     of_kind is_object (λ u. distinct u ++ flat_map (λ m. city_object vertices templates m.1) (members_of u)) t
 
@@ -96,16 +96,17 @@ reach_rule (Some id) None = []
 reach_rule (Some id) (Some t) =
     cond (is_known (members_of t) id) (flat_map (unreached (members_of t) id) (members_of t)) []
 
--- rule 7, if it applies
+-- rule 7, if all city objects must be reached (RULES, features, 7)
 abbrev pub reach_if : Bool → Tree → List Finding
-reach_if tree u = cond tree (reach_rule (member_of (chars (codes "id")) u)
+reach_if all_reached u = cond all_reached (reach_rule (member_of (chars (codes "id")) u)
     (member_of (chars (codes "CityObjects")) u)) []
 
 -- ---- the feature
 
--- the rules on the members, in the order of their numbers (RULES, features, 1 to 7); rule 7 if `tree` asks for it
-abbrev pub feature_rules : Given → Bool → Tree → List Finding
-feature_rules templates tree u =
+-- the rules on the members, in the order of their numbers (RULES, features, 1 to 7). Rule 7 applies if all city objects
+-- must be reached
+abbrev pub feature_rules : TemplateSource → Bool → Tree → List Finding
+feature_rules templates all_reached u =
     distinct u
     ++ has_member_named (chars (codes "type")) WrongType (chars (codes "CityJSONFeature")) u
     ++ id_rule u
@@ -113,9 +114,9 @@ feature_rules templates tree u =
     (city_objects (count_of (member_of (chars (codes "vertices")) u)) templates) u
     ++ needs (chars (codes "vertices")) vertex_list u
     ++ links (member_of (chars (codes "CityObjects")) u)
-    ++ reach_if tree u
+    ++ reach_if all_reached u
 
 -- the findings of a feature, with the templates of the header of this tree, and with or without rule 7 (RULES,
 -- features, 1)
 abbrev pub feature : Tree → Tree → Bool → List Finding
-feature header t tree = of_kind is_object (feature_rules (templates_of header) tree) t
+feature header t all_reached = of_kind is_object (feature_rules (templates_of header) all_reached) t

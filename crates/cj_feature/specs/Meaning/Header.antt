@@ -59,20 +59,20 @@ transform with_box t =
 -- ---- city objects and vertices
 
 -- an object has no members (RULES, headers, 5)
-abbrev pub no_members : Tree → List Finding
-no_members t = cond (nat_eq (length (members_of t)) 0) [] (one NotEmpty t)
+abbrev pub without_members : Tree → List Finding
+without_members t = cond (nat_eq (length (members_of t)) 0) [] (one NotEmpty t)
 
 -- an object of no members (RULES, headers, 5)
 abbrev pub empty_object : Tree → List Finding
-empty_object t = of_kind is_object (λ u. distinct u ++ no_members u) t
+empty_object t = of_kind is_object (λ u. distinct u ++ without_members u) t
 
 -- an array has no items (RULES, headers, 6)
-abbrev pub no_items : Tree → List Finding
-no_items t = cond (nat_eq (length (items_of t)) 0) [] (one NotEmpty t)
+abbrev pub without_items : Tree → List Finding
+without_items t = cond (nat_eq (length (items_of t)) 0) [] (one NotEmpty t)
 
 -- an array of no items (RULES, headers, 6)
 abbrev pub empty_array : Tree → List Finding
-empty_array t = of_kind is_array no_items t
+empty_array t = of_kind is_array without_items t
 
 -- ---- geometry templates
 

@@ -24,11 +24,13 @@ abbrev pub type_is : (Tree → Bool) → Option Tree → Bool
 type_is test None = false
 type_is test (Some t) = test t
 
+-- a city object group
 abbrev pub is_group : Tree → Bool
 is_group o = type_is (has_text (chars (codes "CityObjectGroup"))) (member_of (chars (codes "type")) o)
 
-abbrev pub is_part : Tree → Bool
-is_part o = type_is is_second_level (member_of (chars (codes "type")) o)
+-- a city object of the second level
+abbrev pub at_second_level : Tree → Bool
+at_second_level o = type_is is_second_level (member_of (chars (codes "type")) o)
 
 -- ---- `objects` are the city objects of a feature, with their names
 
@@ -79,7 +81,7 @@ part_of objects o (Some t) = has_parent objects o t
 
 -- the rule where the city object is of the second level (RULES, links, 4)
 abbrev pub part : List (Tree × Tree) → Tree × Tree → List Finding
-part objects m = cond (is_part m.1) (part_of objects m.1 (member_of (chars (codes "parents")) m.1)) []
+part objects m = cond (at_second_level m.1) (part_of objects m.1 (member_of (chars (codes "parents")) m.1)) []
 
 -- all rules on the links of a city object
 abbrev pub object_links : List (Tree × Tree) → Tree × Tree → List Finding

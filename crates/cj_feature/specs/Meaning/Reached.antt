@@ -1,5 +1,6 @@
--- Which city objects are reached, by the children that each lists (RULES, what is reached). The first one has the id of
--- the feature as its name. The relation in Reachable says the same, by the law `reached_is_the_least_set`.
+-- Which city objects are reached (RULES, what is reached). They are those that have the id of the feature as their
+-- name, and those that a reached one lists as its children. Reachable says the same as a relation, by the law
+-- `reached_is_the_least_set`.
 use Rattle.std.specs.Prelude.{ℕ, zero, suc, List, ◌++◌, Bool, not, filter, length, codes}
 use Rattle.std.specs.List.{list_any}
 use Rattle.std.specs.Str.{chars}

@@ -8,7 +8,7 @@ use Rattle.cj_spans.specs.declared.finding.Finding.{Finding}
 use Rattle.cj_spans.specs.Meaning.Finding.{found_at}
 use Rattle.cj_spans.specs.Meaning.Tree.{Tree, start_of}
 use Rattle.cj_spans.specs.Meaning.Parts.{kind_of, items_of, member_of, text_of}
-use Rattle.cj_feature.specs.Meaning.Links.{is_group, is_part}
+use Rattle.cj_feature.specs.Meaning.Links.{is_group, at_second_level}
 
 -- an id is in the feature: it is the text of a name
 pub record IsIn (objects : List (Tree × Tree)) (id : List ℕ) : Type 0 where
@@ -53,7 +53,7 @@ pub data IsLinkFault (objects : List (Tree × Tree)) : Finding → Type 0 where
       → IsListed (chars (codes "parents")) b.1 item → text_of b.0 ≡ Some x → text_of item ≡ Some a → IsIn objects a
       → ¬ Children objects a x
       → IsLinkFault objects (found_at (start_of item) LinkNotMutual)
-  no_parent : (b : Tree × Tree) (array : Tree) → Contains objects b → is_part b.1 ≡ true
+  no_parent : (b : Tree × Tree) (array : Tree) → Contains objects b → at_second_level b.1 ≡ true
       → member_of (chars (codes "parents")) b.1 ≡ Some array → kind_of array ≡ Array
       → ((item : Tree) (a : List ℕ) → Contains (items_of array) item → text_of item ≡ Some a → ¬ IsIn objects a)
       → IsLinkFault objects (found_at (start_of b.1) NoParent)

@@ -11,7 +11,7 @@ ghost use Rattle.cj_geometry.specs.Meaning.ObjectTypes.{row_of, is_second_level 
 ghost use Rattle.cj_geometry.specs.Meaning.Rule.{if_there, needs};
 ghost use Rattle.cj_feature.specs.Meaning.Feature.{object_type, geometries, texts, second_level, city_object};
 ghost use Rattle.cj_feature.specs.Meaning.Feature.{city_objects};
-ghost use Rattle.cj_feature.specs.Meaning.Links.{is_part as is_part_of, object_links, links};
+ghost use Rattle.cj_feature.specs.Meaning.Links.{at_second_level, object_links, links};
 
 use cj_geometry::rule::{
     add, check_array, check_names, check_names_unless, check_object, check_text, check_there,
@@ -51,7 +51,7 @@ fn check_type(node: Node, found: &mut Least) -> bool
 /// the second level, so that the type is read once.
 fn check_type_there(object: Node, member: Option<Node>, found: &mut Least) -> bool
     requires { option_map tree member ≡ member_of (chars (codes "type")) (tree object) }
-    ensures second { result ≡ is_part_of (tree object.entry) }
+    ensures second { result ≡ at_second_level (tree object.entry) }
     ensures found { found.new ≡ least found.old (needs (chars (codes "type")) object_type (tree object.entry)) }
 {
     check_there(object, member, found);
@@ -111,7 +111,7 @@ fn check_texts_if(member: Option<Node>, found: &mut Least)
 
 /// Returns whether the city object is of the second level.
 pub fn is_part(object: Node) -> bool
-    ensures { result ≡ is_part_of (tree object.entry) }
+    ensures { result ≡ at_second_level (tree object.entry) }
 {
     match object.get("type") {
         Some(name) => is_second_level(ObjectType::of(name)),
@@ -121,7 +121,7 @@ pub fn is_part(object: Node) -> bool
 
 /// Checks that a city object has parents if it is of the second level.
 fn check_second_level(object: Node, second: bool, found: &mut Least)
-    requires { second ≡ is_part_of (tree object) }
+    requires { second ≡ at_second_level (tree object) }
     ensures { found.new ≡ least found.old (second_level (tree object.entry)) }
 {
     if second {

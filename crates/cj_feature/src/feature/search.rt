@@ -9,8 +9,8 @@
 //!   `unmarked.rt` looks up the names of those that are left.
 //!
 //! All but `near.rt` order texts by tags: those that are noted (`noted.rt`), and those that are
-//! looked up (`tagged.rt`). docs/ARCHITECTURE.md compares the searches, and docs/DECISIONS.md has
-//! the sizes of their tables.
+//! looked up (`tagged.rt`). docs/ARCHITECTURE.md compares the searches, and has the sizes of their
+//! tables.
 mod link;
 pub mod many_links;
 mod near;

@@ -9,9 +9,9 @@ ghost use Rattle.cj_geometry.specs.Meaning.Rule.{one, needs, may_have, of_length
 ghost use Rattle.cj_geometry.specs.Meaning.Numbers.{number};
 ghost use Rattle.cj_geometry.specs.Meaning.Geometry.{count_of};
 ghost use Rattle.cj_spans.specs.Meaning.Parts.{items_of, member_of};
-ghost use Rattle.cj_feature.specs.Meaning.Header.{fixed, first_two, three_numbers, transform, no_members, empty_object};
-ghost use Rattle.cj_feature.specs.Meaning.Header.{empty_array, template_vertices, template_list, geometry_templates};
-ghost use Rattle.cj_feature.specs.Meaning.Header.{header};
+ghost use Rattle.cj_feature.specs.Meaning.Header.{fixed, first_two, three_numbers, transform, without_members};
+ghost use Rattle.cj_feature.specs.Meaning.Header.{empty_object, empty_array, template_vertices, template_list};
+ghost use Rattle.cj_feature.specs.Meaning.Header.{geometry_templates, header};
 ghost use Rattle.cj_feature.specs.HeaderView.{header_tree, header_line, has_box};
 
 use crate::header::Header;
@@ -110,7 +110,7 @@ fn check_transform_member(object: Node, with_box: bool, found: &mut Least)
 
 /// Checks that the object has no members.
 fn check_no_members(object: Node, found: &mut Least)
-    ensures { found.new ≡ least found.old (no_members (tree object.entry)) }
+    ensures { found.new ≡ least found.old (without_members (tree object.entry)) }
 {
     let mut members = object.members();
     if members.next().is_some() {

@@ -14,19 +14,19 @@ use Rattle.cj_geometry.specs.Meaning.Rule.{one, of_kind, nothing, needs, may_hav
 use Rattle.cj_geometry.specs.Meaning.Numbers.{number, index}
 
 -- the templates that a geometry may name: those of a list, or none; or the geometry is a template itself
-pub data Given : Type 0 where
-  listed : Tree → Given
-  empty : Given
-  itself : Given
+pub data TemplateSource : Type 0 where
+  listed : Tree → TemplateSource
+  empty : TemplateSource
+  itself : TemplateSource
 
 -- how many there are
-abbrev pub template_count : Given → ℕ
+abbrev pub template_count : TemplateSource → ℕ
 template_count (listed t) = length (items_of t)
 template_count empty = 0
 template_count itself = 0
 
 -- the geometry is a template itself
-abbrev pub is_itself : Given → Bool
+abbrev pub is_itself : TemplateSource → Bool
 is_itself (listed t) = false
 is_itself empty = false
 is_itself itself = true
@@ -122,17 +122,17 @@ instance_rules vertices templates g =
     ++ needs (chars (codes "transformationMatrix")) (of_length BadInstance 16 number) g
 
 -- the rules of a form; the type's value is the second tree. A template is no instance (RULES, geometries, 6)
-abbrev pub form_rules : Option ℕ → Given → Tree → Tree → Option TypeForm → List Finding
+abbrev pub form_rules : Option ℕ → TemplateSource → Tree → Tree → Option TypeForm → List Finding
 form_rules vertices templates g t None = one UnknownGeometryType t
 form_rules vertices templates g t (Some (parts depth semantic)) = part_rules vertices depth semantic g
 form_rules vertices templates g t (Some instance) =
     cond (is_itself templates) (one BadInstance t) (instance_rules vertices (template_count templates) g)
 
 -- the rules by the type of a geometry (RULES, geometries, 2)
-abbrev pub typed_rules : Option ℕ → Given → Tree → List Finding
+abbrev pub typed_rules : Option ℕ → TemplateSource → Tree → List Finding
 typed_rules vertices templates g =
     needs (chars (codes "type")) (of_kind is_text (λ name. form_rules vertices templates g name (form_of name))) g
 
 -- the findings of a geometry, with so many vertices if that is known (RULES, geometries, 1)
-abbrev pub geometry : Option ℕ → Given → Tree → List Finding
+abbrev pub geometry : Option ℕ → TemplateSource → Tree → List Finding
 geometry vertices templates t = of_kind is_object (λ g. distinct g ++ typed_rules vertices templates g) t

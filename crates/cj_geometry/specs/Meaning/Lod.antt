@@ -5,7 +5,7 @@ use Rattle.std.specs.Str.{chars}
 use Rattle.cj_spans.specs.Meaning.Tree.{Tree}
 use Rattle.cj_spans.specs.Meaning.Parts.{items_of, member_of, has_text}
 use Rattle.cj_geometry.specs.Meaning.Numbers.{whole_of}
-use Rattle.cj_geometry.specs.Meaning.Geometry.{Given, listed, empty, itself}
+use Rattle.cj_geometry.specs.Meaning.Geometry.{TemplateSource, listed, empty, itself}
 
 -- the tree at an index that counts from 0
 abbrev pub at_index : List Tree → ℤ → Option Tree
@@ -13,7 +13,7 @@ at_index ts (pos k) = slice_get ts k
 at_index ts (negsuc k) = None
 
 -- the template that an index chooses, if there is one
-abbrev pub chosen : Given → Tree → Option Tree
+abbrev pub chosen : TemplateSource → Tree → Option Tree
 chosen (listed l) t = option_and_then (at_index (items_of l)) (whole_of t)
 chosen empty t = None
 chosen itself t = None
@@ -27,10 +27,10 @@ abbrev pub is_instance : Tree → Bool
 is_instance g = names_instance (member_of (chars (codes "type")) g)
 
 -- the level of detail of an instance's template
-abbrev pub template_lod : Given → Tree → Option Tree
+abbrev pub template_lod : TemplateSource → Tree → Option Tree
 template_lod templates g = option_and_then (member_of (chars (codes "lod")))
     (option_and_then (chosen templates) (member_of (chars (codes "template")) g))
 
 -- the level of detail: that of the geometry, or of its template
-abbrev pub lod : Given → Tree → Option Tree
+abbrev pub lod : TemplateSource → Tree → Option Tree
 lod templates g = cond (is_instance g) (template_lod templates g) (member_of (chars (codes "lod")) g)

@@ -42,21 +42,22 @@ whole_findings rule t None = one NotWhole t
 abbrev pub of_whole : (ℤ → List Finding) → Tree → List Finding
 of_whole rule t = of_number (λ v. whole_findings rule t (as_whole v)) t
 
--- a number in range
+-- a number in range (RULES, numbers)
 abbrev pub number : Tree → List Finding
 number t = of_number (λ v. []) t
 
--- a whole number
+-- a whole number (RULES, numbers)
 abbrev pub whole_number : Tree → List Finding
 whole_number t = of_whole (λ w. []) t
 
--- a whole number is below 0, or not below a count that is known
+-- the count is known, and the whole number is below 0 or not below the count. If the count is not known, no number is
+-- outside, not even one below 0
 abbrev pub is_outside : Option ℕ → ℤ → Bool
 is_outside None w = false
 is_outside (Some n) (pos k) = not (nat_lt k n)
 is_outside (Some n) (negsuc k) = true
 
--- an index: a whole number from 0, below the count if that is known
+-- an index: a whole number that, if the count is known, is from 0 on and below the count (RULES, terms)
 abbrev pub index : Reason → Option ℕ → Tree → List Finding
 index reason count t = of_whole (λ w. cond (is_outside count w) (one reason t) []) t
 

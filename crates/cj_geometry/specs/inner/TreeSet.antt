@@ -8,7 +8,7 @@ use Rattle.cj_spans.specs.declared.token.Kind.{Kind}
 use Rattle.cj_spans.specs.declared.token.Kind.TheVariants.{Null, Truth, Number, Text, Array, Object}
 use Rattle.cj_spans.specs.Meaning.Tree.{Atom, Tree, scalar, array, object, Items, no_items, item, Members, no_members}
 use Rattle.cj_spans.specs.Meaning.Tree.{member}
-use Rattle.cj_geometry.specs.Meaning.Geometry.{Given, listed, empty, itself}
+use Rattle.cj_geometry.specs.Meaning.Geometry.{TemplateSource, listed, empty, itself}
 
 -- ---- kinds and scalars
 
@@ -122,12 +122,12 @@ options-set = Coded-set (coded_list (coded_option tree_coded))
 
 -- ---- templates
 
-abbrev given_code : Given → Gv
+abbrev given_code : TemplateSource → Gv
 given_code (listed t) = gcons gnil (tree_code t)
 given_code empty = gnil
 given_code itself = gnum 0
 
-given-one : (a b : Given) → given_code a ≡ given_code b → a ≡ b
+given-one : (a b : TemplateSource) → given_code a ≡ given_code b → a ≡ b
 given-one (listed t) (listed u) p =
     let codes : tree_code t ≡ tree_code u = cc in
     let one : t ≡ u = tree-one t u codes in
@@ -141,8 +141,8 @@ given-one itself (listed t) p = cc
 given-one itself empty p = cc
 given-one itself itself p = refl
 
-abbrev given_coded : Coded Given
+abbrev given_coded : Coded TemplateSource
 given_coded = record { code = given_code; inj = given-one }
 
-pub given-set : (a b : Given) → IsProp (a ≡ b)
+pub given-set : (a b : TemplateSource) → IsProp (a ≡ b)
 given-set = Coded-set given_coded

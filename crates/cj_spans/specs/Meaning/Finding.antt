@@ -1,4 +1,4 @@
--- Findings, each a place and a reason, and the least of them by place and code.
+-- Findings, each a place and a reason, and the least of them by place and code (RULES, findings).
 use Rattle.std.specs.Prelude.{ℕ, ◌||◌, ◌&&◌, nat_lt, nat_eq, Bool, cond, List, [], ◌∷◌, Option, Some, None}
 use Rattle.cj_spans.specs.declared.reason.Reason.{Reason}
 use Rattle.cj_spans.specs.declared.finding.Finding.{Finding}

@@ -1,4 +1,4 @@
--- Prefixes of JSON texts, and the places of faults.
+-- Prefixes of JSON texts, and the places of faults (RULES, bytes of errors).
 use Rattle.std.specs.Prelude.{◌≡◌, ℕ, suc, ◌<◌, ◌≤◌, List, ◌++◌, length, slice_range}
 use Rattle.cj_spans.specs.declared.token.Kind.{Kind}
 use Rattle.cj_spans.specs.declared.token.Kind.TheVariants.{Text}

@@ -65,17 +65,11 @@ small_e = sign (codes "e")
 abbrev pub small_f : ℕ
 small_f = sign (codes "f")
 
-abbrev pub small_l : ℕ
-small_l = sign (codes "l")
-
 abbrev pub small_n : ℕ
 small_n = sign (codes "n")
 
 abbrev pub small_r : ℕ
 small_r = sign (codes "r")
-
-abbrev pub small_s : ℕ
-small_s = sign (codes "s")
 
 abbrev pub small_t : ℕ
 small_t = sign (codes "t")

@@ -1,5 +1,5 @@
--- The texts of strings (RFC 8259, section 7): the code points between the quotes, with the escapes undone. An escaped
--- surrogate that is in no pair is a code point of its own.
+-- The texts of strings (RFC 8259, section 7; RULES, texts): the code points between the quotes, with the escapes
+-- undone. An escaped surrogate that is in no pair is a code point of its own.
 use Rattle.std.specs.Prelude.{ℕ, zero, suc, ◌+◌, ◌-◌, ◌*◌, List, [], ◌∷◌, length, drop, get_or, slice_range, Bool, cond}
 use Rattle.std.specs.Prelude.{◌&&◌, nat_eq}
 use Rattle.std.specs.Cmp.Lexicographic.{pointwise}

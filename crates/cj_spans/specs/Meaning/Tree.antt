@@ -41,7 +41,7 @@ abbrev pub add_member : Members → Atom → Tree → Members
 add_member no_members n t = member n t no_members
 add_member (member m u ms) n t = member m u (add_member ms n t)
 
--- the number of values and member names
+-- the number of values and member names (RULES, trees)
 abbrev mutual
   pub size : Tree → ℕ
   size (scalar k a) = 1
@@ -56,7 +56,7 @@ abbrev mutual
   members_size no_members = 0
   members_size (member n t ms) = suc (size t + members_size ms)
 
--- 0 for a scalar, else 1 plus the greatest nest of the parts
+-- 0 for a scalar, else 1 plus the greatest nest of the parts: the depth (RULES, trees)
 abbrev mutual
   pub nest : Tree → ℕ
   nest (scalar k a) = 0

@@ -1,6 +1,6 @@
 -- The machine that reads a line byte by byte. Only private clauses cite it.
 use Rattle.std.specs.Prelude.{◌≡◌, ℕ, suc, ◌^◌, ◌<◌, ◌≤◌, List, [], ◌∷◌, ◌++◌, length, drop, max, slice_get, slice_set}
-use Rattle.std.specs.Prelude.{Bool, cond, ◌⊎◌, ◌||◌, ◌&&◌, nat_eq, nat_le, Option, Some, None, IsSomeAnd, option_map}
+use Rattle.std.specs.Prelude.{Bool, cond, ◌⊎◌, ◌||◌, ◌&&◌, nat_eq, nat_le, Option, Some, None, IsSomeAnd, option_map, codes}
 use Rattle.std.specs.Prelude.{option_and_then, Result, Ok, Err, OnErr, IsTrue}
 use Rattle.cj_budget.specs.Bounded.{BoundedList, IsWithin}
 use Rattle.cj_spans.specs.declared.fault.LineFault.{LineFault}
@@ -23,8 +23,14 @@ use Rattle.cj_spans.specs.Meaning.Json.{byte}
 use Rattle.cj_spans.specs.Preorder.{token_at}
 use Rattle.cj_spans.specs.Meaning.Signs.{backslash, capital_e, colon, comma, decimal_point, digit_0, digit_1, digit_9}
 use Rattle.cj_spans.specs.Meaning.Signs.{left_brace, left_bracket, minus_sign, plus_sign, quote, right_brace}
-use Rattle.cj_spans.specs.Meaning.Signs.{right_bracket, small_a, small_e, small_f, small_l, small_n, small_r, small_s}
+use Rattle.cj_spans.specs.Meaning.Signs.{right_bracket, small_a, small_e, small_f, small_n, small_r, sign}
 use Rattle.cj_spans.specs.Meaning.Signs.{small_t, small_u, space}
+
+abbrev pub small_l : ℕ
+small_l = sign (codes "l")
+
+abbrev pub small_s : ℕ
+small_s = sign (codes "s")
 
 -- ---- scalars and names
 

@@ -8,10 +8,10 @@ use Rattle.cj_stream.specs.Query.{criteria}
 use Rattle.cj_stream.specs.declared.query.fault.QueryFault.{QueryFault}
 use Rattle.cj_stream.specs.declared.query.fault.QueryFault.TheVariants.{Memory, UnknownTypeName, BadBox, BoxRange, EmptyBox}
 use Rattle.cityseq_command.specs.Options.{Texts, types_or_fault, types_wanted, box_or_fault, box_wanted, criteria_by, texts_of, DeclinesTexts}
-use Rattle.cityseq_command.proofs.asking.query_of.Goals.{in-Some+in_ok-add_ids, in_default, in-Some-types+in_ok-add_types, in_default-types, in-Some-lods+in_ok-add_lods, in_default-lods, in-Some-bbox+in_ok-bbox, in_default-bbox}
+use Rattle.cityseq_command.proofs.asking.query_of.Goals.{in-Some+in_ok-set_ids, in_default, in-Some-types+in_ok-set_types, in_default-types, in-Some-lods+in_ok-set_lods, in_default-lods, in-Some-bbox+in_ok-bbox, in_default-bbox}
 use Rattle.cityseq_command.proofs.asking.query_of.Goals as goal
 
--- what `add_types` and `bbox` answer, with the criteria before and after
+-- what `set_types` and `bbox` answer, with the criteria before and after
 module _ (r : Result (Unit {0}) QueryFault) (old new : Criteria) where
   abbrev SetsTypes : Option (List Bool) → Type 0
   SetsTypes flags =
@@ -66,21 +66,21 @@ returns-clause-ok c =
     let last = criteria c.match-texts-4.query in
     let ids : first ≡ record everything { ids = option_map fields texts.ids } =
     elim c.match-texts.branch [
-      | in-Some+in_ok-add_ids w ↦
-          rw (w.query-is, w.in_ok-add_ids.ensures.ok, c.all-query.ensures.all, w.in-Some.is) refl
+      | in-Some+in_ok-set_ids w ↦
+          rw (w.query-is, w.in_ok-set_ids.ensures.ok, c.all-query.ensures.all, w.in-Some.is) refl
       | in_default w ↦ rw (w.query-is, c.all-query.ensures.all, w.in_default.is) refl
     ] in
     let types : (types_wanted texts.types ≡ Ok second.types) × (second ≡ record first { types = second.types }) =
     elim c.match-texts-2.branch [
-      | in-Some-types+in_ok-add_types w ↦
+      | in-Some-types+in_ok-set_types w ↦
           rw (w.query-is, w.in-Some-types.is)
-          (types-set w.add_types.result first (criteria w.add_types.new.query) _ w.add_types.ensures
-          w.in_ok-add_types.was)
+          (types-set w.set_types.result first (criteria w.set_types.new.self) _ w.set_types.ensures.asks
+          w.in_ok-set_types.was)
       | in_default-types w ↦ rw (w.query-is, w.in_default-types.is, ids) (refl, refl)
     ] in
     let lods : third ≡ record second { lods = option_map fields texts.lods } =
     elim c.match-texts-3.branch [
-      | in-Some-lods+in_ok-add_lods w ↦ rw (w.query-is, w.in_ok-add_lods.ensures.ok, w.in-Some-lods.is) refl
+      | in-Some-lods+in_ok-set_lods w ↦ rw (w.query-is, w.in_ok-set_lods.ensures.ok, w.in-Some-lods.is) refl
       | in_default-lods w ↦ rw (w.query-is, w.in_default-lods.is, types.1, ids) refl
     ] in
     let box : (box_wanted texts.box ≡ Ok last.box) × (last ≡ record third { box = last.box }) =
@@ -100,35 +100,35 @@ declined t BadBox asks other = asks
 declined t BoxRange asks other = asks
 declined t EmptyBox asks other = asks
 
-pub returns-in_err-add_ids-clause-err : goal.returns-in_err-add_ids-clause-err
-returns-in_err-add_ids-clause-err c =
+pub returns-in_err-set_ids-clause-err : goal.returns-in_err-set_ids-clause-err
+returns-in_err-set_ids-clause-err c =
     let returned = err_from_is_err_and c.from_residual.result c.from_residual.ensures.1 in
-    let memory : c.in_err-add_ids.field-0.0 ≡ Memory = c.in_err-add_ids.ensures.memory in
+    let memory : c.in_err-set_ids.field-0.0 ≡ Memory = c.in_err-set_ids.ensures.memory in
     rw (returned.1, returned.2, memory) (inl (rw c.in-Some.is refl))
 
-pub returns-in_err-add_types-clause-err : goal.returns-in_err-add_types-clause-err
-returns-in_err-add_types-clause-err c =
+pub returns-in_err-set_types-clause-err : goal.returns-in_err-set_types-clause-err
+returns-in_err-set_types-clause-err c =
     let texts = texts_of c.args.texts.now in
     let returned =
-    err_from_is_err_and c.from_residual-in_err-add_types.result c.from_residual-in_err-add_types.ensures.1 in
+    err_from_is_err_and c.from_residual-in_err-set_types.result c.from_residual-in_err-set_types.ensures.1 in
     let types =
-    types-declined c.add_types.result (criteria c.match-texts.query) (criteria c.add_types.new.query)
-    c.in_err-add_types.field-0.0 _ c.add_types.ensures c.in_err-add_types.was in
+    types-declined c.set_types.result (criteria c.match-texts.query) (criteria c.set_types.new.self)
+    c.in_err-set_types.field-0.0 _ c.set_types.ensures.asks c.in_err-set_types.was in
     rw (returned.1, returned.2, types.0) (rw (c.in-Some-types.is, types.1) refl)
 
-pub returns-in_err-add_lods-clause-err : goal.returns-in_err-add_lods-clause-err
-returns-in_err-add_lods-clause-err c =
+pub returns-in_err-set_lods-clause-err : goal.returns-in_err-set_lods-clause-err
+returns-in_err-set_lods-clause-err c =
     let texts = texts_of c.args.texts.now in
     let returned =
-    err_from_is_err_and c.from_residual-in_err-add_lods.result c.from_residual-in_err-add_lods.ensures.1 in
-    let memory : c.in_err-add_lods.field-0.0 ≡ Memory = c.in_err-add_lods.ensures.memory in
+    err_from_is_err_and c.from_residual-in_err-set_lods.result c.from_residual-in_err-set_lods.ensures.1 in
+    let memory : c.in_err-set_lods.field-0.0 ≡ Memory = c.in_err-set_lods.ensures.memory in
     let types : (flags : Option (List Bool)) × (types_wanted texts.types ≡ Ok flags) =
     elim c.match-texts-2.branch [
-      | in-Some-types+in_ok-add_types w ↦
+      | in-Some-types+in_ok-set_types w ↦
           rw w.in-Some-types.is (
             _,
-            (types-set w.add_types.result (criteria c.match-texts.query) (criteria w.add_types.new.query) _
-                w.add_types.ensures w.in_ok-add_types.was).0,
+            (types-set w.set_types.result (criteria c.match-texts.query) (criteria w.set_types.new.self) _
+                w.set_types.ensures.asks w.in_ok-set_types.was).0,
           )
       | in_default-types w ↦ rw w.in_default-types.is (None, refl)
     ] in
@@ -139,11 +139,11 @@ returns-in_err-bbox-clause-err c =
     let texts = texts_of c.args.texts.now in
     let types : (flags : Option (List Bool)) × (types_wanted texts.types ≡ Ok flags) =
     elim c.match-texts-2.branch [
-      | in-Some-types+in_ok-add_types w ↦
+      | in-Some-types+in_ok-set_types w ↦
           rw w.in-Some-types.is (
             _,
-            (types-set w.add_types.result (criteria c.match-texts.query) (criteria w.add_types.new.query) _
-                w.add_types.ensures w.in_ok-add_types.was).0,
+            (types-set w.set_types.result (criteria c.match-texts.query) (criteria w.set_types.new.self) _
+                w.set_types.ensures.asks w.in_ok-set_types.was).0,
           )
       | in_default-types w ↦ rw w.in_default-types.is (None, refl)
     ] in

@@ -13,7 +13,7 @@ returns-clause-puts g c = λ p st.
     lines-put g.S.LineSink.law (rules_of c.args.reader.now) p (lines_of c.args.reader.now)
     (st.going c.requires.going).0.lines c.args.sink.now c.feed_all.new.sink
     (map (λ piece. piece.now) c.args.pieces.now)
-    r.taken (lines_of n) n.reading.kept n.reading.refused (e.fed p st).counts r.ended r.peaks (e.ends p st)
+    r.taken (lines_of n) (e.fed p st).counts r.ended r.peaks (e.ends p st)
     (e.taken p st)
 
 pub returns-clause-notes : goal.returns-clause-notes

@@ -1,8 +1,8 @@
 use Rattle.std.proofs.Common.{[], ◌+◌, map, take, refl}
 use Rattle.cj_stream.specs.Meaning.Lines.{joined}
 use Rattle.cj_stream.specs.Engine.{rules_of, lines_of}
-use Rattle.cj_stream.proofs.CutLemmas.{PutsPieces-ends, unread-at}
-use Rattle.cj_stream.proofs.LinePieceLemmas.{Delivers-whole}
+use Rattle.cj_stream.proofs.CutLemmas.{unread-at}
+use Rattle.cj_stream.proofs.LinePieceLemmas.{Delivers-whole, PutsPieces-ends}
 use Rattle.cj_stream.proofs.NoteLemmas.{NotesRun-told, NotesPieces-told, noted-none}
 use Rattle.cj_stream.proofs.RunLemmas.{memory-sink}
 use Rattle.cj_stream.proofs.WholeCounts.{CountsAll-ends}

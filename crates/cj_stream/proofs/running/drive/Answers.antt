@@ -3,10 +3,12 @@ use Rattle.std.proofs.lemmas.List.{append-nil}
 use Rattle.cj_stream.specs.declared.ending.End.TheVariants.{ReadFault, ReadLimit, Memory}
 use Rattle.cj_stream.specs.Engine.{rules_of, lines_of}
 use Rattle.cj_stream.specs.Run.{outcome_of}
-use Rattle.cj_stream.proofs.RunLemmas.{Consumes-then, Consumes-kept, Delivers-then, Runs-left, kept_first-same, Ends-finished, Ends-fed, whole-good, HasRisen-after, told-not_complete, fault-not_complete, limit-not_complete, Gave-finished, Gave-fed, last-none, last-piece, least-going, begun-judged, stops-after}
+use Rattle.cj_stream.proofs.RunLemmas.{Consumes-then, Consumes-kept, Delivers-then, Runs-left, Ends-finished, Ends-fed, whole-good, HasRisen-after, told-not_complete, fault-not_complete, limit-not_complete, Gave-finished, Gave-fed, last-none, last-piece, least-going, begun-judged, stops-after}
 use Rattle.cj_stream.proofs.LeastLemmas.{begun-held}
 use Rattle.std.specs.Prelude.{is_err}
 use Rattle.cj_stream.proofs.CutLemmas.{unread-told, unread-concludes}
+use Rattle.cj_stream.specs.Verdict.{kept_from}
+use Rattle.cj_stream.proofs.FirstLemmas.{first-same}
 use Rattle.cj_stream.proofs.NoteLemmas.{Notes-then, Notes-more, Noting-told}
 use Rattle.cj_stream.proofs.OutputLemmas.{Runs-told}
 use Rattle.cj_stream.proofs.DeviceLemmas.{unfailed-end, unfailed-limit, unread-limit}
@@ -140,7 +142,7 @@ returns-in-Err-feed-clause-runs g c =
           (let k = c.feed.ensures.feeds.sink r i.5.2 i.2 in
           let j = rw (i.3, c.in-Err-feed.ensures.feeds.ended) at k in
           Delivers-then
-          (kept_first-same _ (lines_of e) r piece (i.5.2.going i.2).0.lines) i.5.3 j),
+          (first-same (kept_from (rules_of c.args.engine.now)) (lines_of e) r piece (i.5.2.going i.2).0.lines) i.5.3 j),
       Noting-told g.N.ReportSink.notes
           (record {
             rules = rules_of c.args.engine.now;
@@ -202,7 +204,8 @@ loop-i-preserved g c =
         let k = c.feed.ensures.feeds.sink r i.5.2 i.2 in
             let j = rw (i.3, c.in_default.ensures.feeds.unended) at k in
             Delivers-then
-            (kept_first-same _ (lines_of e) r piece (i.5.2.going i.2).0.lines) i.5.3 j,
+            (first-same (kept_from (rules_of c.args.engine.now)) (lines_of e) r piece
+            (i.5.2.going i.2).0.lines) i.5.3 j,
         omega (arith, i.5.4, grown),
         let k = c.feed.ensures.reports r i.5.2 i.2 in
             Notes-then g.N.ReportSink.notes _

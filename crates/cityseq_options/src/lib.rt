@@ -1,7 +1,0 @@
-//! Rows of the options of the program's commands, by the public contract of `cityseq_command`.
-//! `cityseq_queries` has the rows of queries, and `cityseq_rows` the other ones. The module `tests`
-//! lists them.
-#![tactic(auto)]
-
-#[cfg(test)]
-mod tests;

@@ -1,9 +1,0 @@
-use Rattle.std.proofs.Common.{refl}
-use Rattle.std.specs.Str.{chars}
-use Rattle.cj_spans.specs.Meaning.Text.{text, code_points_after, first_code_point, first_width}
-use Rattle.cj_geometry.specs.Meaning.ObjectTypes.{object_types}
-use Rattle.cj_feature_rows.proofs.examples.children_and_parents_of_itself.Goals as goal
-
-pub returns : goal.returns
-unfolding text code_points_after first_code_point first_width chars object_types
-returns c = refl

@@ -1,0 +1,13 @@
+use Rattle.std.proofs.Common.{refl}
+use Rattle.std.specs.Str.{chars}
+use Rattle.cj_spans.specs.Meaning.Text.{text, code_points_after, first_code_point, first_width}
+use Rattle.cj_geometry.specs.Meaning.ObjectTypes.{object_types}
+use Rattle.cj_feature.specs.Meaning.Reached.{reached_from, is_reached}
+use Rattle.cj_feature_tests.proofs.examples.a_number_that_is_not_reached.Goals as goal
+
+pub returns : goal.returns
+unfolding text code_points_after first_code_point first_width chars object_types reached_from is_reached
+returns c = record {
+  all = refl;
+  least = refl;
+}

@@ -1,8 +1,0 @@
-use Rattle.std.proofs.Common.{refl}
-use Rattle.std.specs.Str.{chars}
-use Rattle.cj_spans.specs.Meaning.Text.{text, code_points_after, first_code_point, first_width}
-use Rattle.cj_geometry_rows.proofs.examples.levels_of_detail.Goals as goal
-
-pub returns : goal.returns
-unfolding text code_points_after first_code_point first_width chars
-returns c = record { own = refl; none = refl; instance = refl }

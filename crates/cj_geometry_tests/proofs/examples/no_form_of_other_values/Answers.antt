@@ -1,0 +1,14 @@
+use Rattle.std.proofs.Common.{refl}
+use Rattle.std.specs.Str.{chars}
+use Rattle.cj_spans.specs.Meaning.Text.{text, code_points_after, first_code_point, first_width}
+use Rattle.cj_geometry_tests.proofs.examples.no_form_of_other_values.Goals as goal
+
+pub returns : goal.returns
+unfolding text code_points_after first_code_point first_width chars
+returns c = record {
+  other = refl;
+  small = refl;
+  longer = refl;
+  empty = refl;
+  number = refl;
+}

@@ -1,6 +1,0 @@
-use Rattle.std.proofs.Common.{refl, lit<}
-use Rattle.cj_spans.proofs.WorkedLines.{syntax_inside}
-use Rattle.cj_spans_rows.proofs.examples.bad_escape.Goals as goal
-
-pub returns : goal.returns
-returns c = syntax_inside _ _ _ refl (lit< tt) refl

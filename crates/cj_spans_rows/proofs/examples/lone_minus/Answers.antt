@@ -1,6 +1,0 @@
-use Rattle.std.proofs.Common.{refl}
-use Rattle.cj_spans.proofs.WorkedLines.{syntax_end}
-use Rattle.cj_spans_rows.proofs.examples.lone_minus.Goals as goal
-
-pub returns : goal.returns
-returns c = syntax_end _ _ _ refl refl (λ ts p h. cc)

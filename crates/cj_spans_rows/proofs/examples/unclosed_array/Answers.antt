@@ -1,7 +1,0 @@
-use Rattle.std.proofs.Common.{refl, ap}
-use Rattle.cj_spans.proofs.Spellings.{some_same}
-use Rattle.cj_spans.proofs.WorkedLines.{syntax_end}
-use Rattle.cj_spans_rows.proofs.examples.unclosed_array.Goals as goal
-
-pub returns : goal.returns
-returns c = syntax_end _ _ _ refl refl (λ ts p h. let e = ap (λ u. u.stack) (some_same _ _ h) in cc)

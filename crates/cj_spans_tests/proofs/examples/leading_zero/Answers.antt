@@ -1,0 +1,6 @@
+use Rattle.std.proofs.Common.{refl, lit<}
+use Rattle.cj_spans.proofs.WorkedLines.{syntax_inside}
+use Rattle.cj_spans_tests.proofs.examples.leading_zero.Goals as goal
+
+pub returns : goal.returns
+returns c = syntax_inside _ _ _ refl (lit< tt) refl

@@ -1,0 +1,58 @@
+-- What comes of the line that comes next, with or without LF.
+use Rattle.std.proofs.Common.{◌≡◌, inl, inr, ℕ, ◌+◌, List, [], ◌∷◌, Bool, true, false, length, map, None, Result, Ok, Err, refl, sym, ◌∙◌}
+use Rattle.std.specs.Prelude.{if◌then◌else◌}
+use Rattle.cj_spans.specs.declared.reason.Reason.{Reason}
+use Rattle.cj_stream.specs.declared.ending.End.{End}
+use Rattle.cj_stream.specs.declared.ending.End.TheVariants.{Refused, WriteFault, Memory}
+use Rattle.cj_stream.specs.Meaning.Lines.{Line, closed, ended_line}
+use Rattle.cj_stream.specs.Meaning.Verdict.{Verdict, Invalid, Blank, LeftOut, Kept}
+use Rattle.cj_stream.specs.Verdict.{verdict, item_after, goes_on, refusal_of, is_kept}
+use Rattle.cj_stream.specs.Reading.{Reading, next_verdict, next_item, is_lenient, IsLeft, Passes, Refuses, Deals, Settles, Reads, JudgedAs, judged_next}
+use Rattle.cj_stream.specs.Meaning.Outputs.{Took}
+use Rattle.cj_stream.specs.Sink.{SinkLaw, with_sink}
+use Rattle.cj_stream.proofs.ReadingLemmas.{length-map_lines, next-verdict, next-item, is_refused}
+
+-- A line came after these, and this was answered. It was passed. Or it is invalid, and the end. Or the sink failed. Or
+-- no memory was granted for later lines, behind a valid first line that LF ended.
+pub data Came {S : Type 0} (law : SinkLaw S) (f g : Reading) (s t : S) (xs : List Line) (l : Line) :
+    Result (Unit {0}) End → Type 0 where
+  passed : (put refuses : Bool) → Passes put refuses f g
+      → refusal_of f.rules (length xs + 1) (verdict f.rules xs l.content) ≡ None
+      → put ≡ is_kept (verdict f.rules xs l.content) → refuses ≡ is_refused (verdict f.rules xs l.content)
+      → Took law.takes s (if put then item_after f.rules xs l ∷ [] else []) t → Came law f g s t xs l (Ok tt)
+  refused : (place : ℕ) (reason : Reason) → verdict f.rules xs l.content ≡ Invalid place reason
+      → is_lenient f ≡ false → g ≡ f → t ≡ s → Came law f g s t xs l (Err (Refused (f.lines + 1) place reason))
+  failed : verdict f.rules xs l.content ≡ Kept → IsLeft f g → law.leaves s (item_after f.rules xs l) t
+      → Came law f g s t xs l (Err WriteFault)
+  lacked : verdict f.rules xs l.content ≡ Kept → f.lines ≡ 0 → l.lf ≡ true → IsLeft f g → t ≡ s
+      → Came law f g s t xs l (Err Memory)
+
+module _ {S : Type 0} (law : SinkLaw S) (f g : Reading) (s t : S) (p : List ℕ) (reads : Reads f p) (l : Line) where
+  -- reading goes on after it, or not
+  lenient : (on : Bool) → is_lenient f ≡ on → goes_on f.rules (length (map ended_line (closed p)) + 1) ≡ on
+  lenient on is = let count = length-map_lines (closed p) ∙ sym reads.lines in rw count is
+
+  came-refused : (place : ℕ) (reason : Reason) (on : Bool) (r : Result (Unit {0}) End)
+      → verdict f.rules (map ended_line (closed p)) l.content ≡ Invalid place reason → is_lenient f ≡ on
+      → Refuses on (Refused (f.lines + 1) place reason) f r g → t ≡ s
+      → Came law f g s t (map ended_line (closed p)) l r
+  came-refused place reason true r e is d still =
+      rw d.0 (passed false true d.1 (rw (e, lenient true is) refl) (rw e refl) (rw e refl) still)
+  came-refused place reason false r e is d still = rw d.0 (refused place reason e is d.1 still)
+
+  came-dealt : (v : Verdict) (r : Result (Unit {0}) End)
+      → verdict f.rules (map ended_line (closed p)) l.content ≡ v
+      → Deals law (JudgedAs (f.lines + 1) (is_lenient f) v (next_item f l)) (with_sink f s) r (with_sink g t)
+      → Came law f g s t (map ended_line (closed p)) l r
+  came-dealt (Invalid place reason) r e d = came-refused place reason (is_lenient f) r e refl d.0 d.1
+  came-dealt Blank r e d = rw d.0 (passed false false d.1 (rw e refl) (rw e refl) (rw e refl) d.2)
+  came-dealt LeftOut r e d = rw d.0 (passed false false d.1 (rw e refl) (rw e refl) (rw e refl) d.2)
+  came-dealt Kept (Ok x) e d =
+      passed true false d.0 (rw e refl) (rw e refl) (rw e refl) (t, rw (← next-item f p reads l) d.1, refl)
+  came-dealt Kept (Err x) e d = rw d.0 (failed e d.1 (rw (← next-item f p reads l) d.2))
+
+  pub came : (r : Result (Unit {0}) End)
+      → Settles law (judged_next f (is_lenient f) (next_verdict f l.content) l) (with_sink f s) r (with_sink g t)
+      → Came law f g s t (map ended_line (closed p)) l r
+  came r (inl d) = came-dealt (next_verdict f l.content) r (sym (next-verdict f p reads l.content)) d
+  came r (inr m) = rw m.0 (lacked (sym (next-verdict f p reads l.content) ∙ m.4) m.3 m.5 m.1 m.2)

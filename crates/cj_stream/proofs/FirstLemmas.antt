@@ -1,0 +1,75 @@
+-- What is said of the first lines of a text, be it what is kept of them or what is reported.
+use Rattle.std.proofs.Common.{◌≡◌, ℕ, List, [], ◌∷◌, ◌++◌, length, take, drop, map, None, refl, sym, ap, ◌∙◌, append_assoc}
+use Rattle.std.proofs.lemmas.List.{append-nil, take-append-drop}
+use Rattle.cj_stream.specs.Meaning.Lines.{Line, closed, begun, ended_line, last_line, lines}
+use Rattle.cj_stream.specs.Lines.{whole}
+use Rattle.cj_stream.specs.Meaning.Rules.{Rules}
+use Rattle.cj_stream.specs.Verdict.{refusal_in, good, good_from}
+use Rattle.cj_stream.proofs.GoodLemmas.{good-take, good-append, good-all}
+use Rattle.cj_stream.proofs.IsLinesLemmas.{lines-whole}
+use Rattle.cj_stream.proofs.LineLemmas.{closed-then}
+use Rattle.cj_stream.proofs.ReadingLemmas.{length-map_lines, map_lines-append}
+
+pub take-front : (xs ys : List Line) (n : ℕ) → n ≡ length xs → take n (xs ++ ys) ≡ xs
+take-front xs ys n e = rw e (go xs ys)
+  where
+    go : (xs ys : List Line) → take (length xs) (xs ++ ys) ≡ xs
+    go [] ys = refl
+    go (x ∷ xs) ys = ap (λ z. x ∷ z) (go xs ys)
+
+-- the lines that LF ended in a prefix, counted
+pub lines-front : (n : ℕ) (p more : List ℕ) → n ≡ length (closed p)
+    → take n (lines (p ++ more)) ≡ map ended_line (closed p)
+lines-front n p more e =
+    let cs = map ended_line (closed p) in
+    let ds = map ended_line (closed (begun p ++ more)) ++ last_line (begun (p ++ more)) in
+    let t : take n (cs ++ ds) ≡ cs = take-front cs ds n (e ∙ sym (length-map_lines (closed p))) in
+    rw (
+      closed-then p more,
+      map_lines-append (closed p) (closed (begun p ++ more)),
+      append_assoc cs (map ended_line (closed (begun p ++ more))) (last_line (begun (p ++ more))),
+      t,
+    ) refl
+
+-- what is said of some lines that come after others
+module _ {X : Type 0} (from : List Line → List Line → List X) where
+  -- of as many lines as LF ended in a prefix, whatever follows
+  pub first-front : (n : ℕ) (p more : List ℕ) → n ≡ length (closed p)
+      → from [] (take n (lines (p ++ more))) ≡ from [] (map ended_line (closed p))
+  first-front n p more e = ap (λ z. from [] z) (lines-front n p more e)
+
+  pub first-either : (n : ℕ) (p x y : List ℕ) → n ≡ length (closed p)
+      → from [] (take n (lines (p ++ x))) ≡ from [] (take n (lines (p ++ y)))
+  first-either n p x y e = first-front n p x e ∙ sym (first-front n p y e)
+
+  pub first-closed_lines : (n : ℕ) (p : List ℕ) → n ≡ length (closed p)
+      → from [] (take n (lines p)) ≡ from [] (map ended_line (closed p))
+  first-closed_lines n p e = let k = first-front n p [] e in rw (append-nil p) at k
+
+  pub first-same : (n : ℕ) (p more : List ℕ) → n ≡ length (closed p)
+      → from [] (take n (lines (p ++ more))) ≡ from [] (take n (lines p))
+  first-same n p more e = first-front n p more e ∙ sym (first-closed_lines n p e)
+
+  module _ (rules : Rules) (n : ℕ) (r : List ℕ) where
+    -- of as many lines as are handled
+    pub first-good : n ≡ length (good rules r) → from [] (take n (lines r)) ≡ from [] (good rules r)
+    first-good e = rw e (ap (λ z. from [] z) (good-take rules [] (lines r)))
+
+    -- of the whole lines, of which none is the end
+    pub first-whole : refusal_in rules (lines (whole r)) ≡ None → n ≡ length (lines (whole r))
+        → from [] (take n (lines r)) ≡ from [] (good rules (whole r))
+    first-whole none e =
+        first-closed_lines n r (e ∙ (ap length (lines-whole r) ∙ length-map_lines (closed r)))
+        ∙ (ap (λ z. from [] z) (sym (lines-whole r))
+        ∙ ap (λ z. from [] z) (sym (good-all rules [] (lines (whole r)) none)))
+
+    -- of the first lines, of which none is the end, and then of the others
+    pub first-split : ((before xs ys : List Line) → from before (xs ++ ys) ≡ from before xs ++ from (before ++ xs) ys)
+        → refusal_in rules (take n (lines r)) ≡ None
+        → from [] (good rules r) ≡ from [] (take n (lines r))
+        ++ from (take n (lines r)) (good_from rules (take n (lines r)) (drop n (lines r)))
+    first-split append none =
+        let xs = take n (lines r) in
+        let ys = drop n (lines r) in
+        ap (λ z. from [] (good_from rules [] z)) (sym (take-append-drop n (lines r)))
+        ∙ (ap (λ z. from [] z) (good-append rules [] xs ys none) ∙ append [] xs (good_from rules xs ys))

@@ -1,0 +1,13 @@
+use Rattle.std.proofs.Common.{◌∙◌}
+use Rattle.std.proofs.lemmas.Iterator.Consumers.{YieldsList-end}
+use Rattle.cj_stream.proofs.SplitLemmas.{items-split}
+use Rattle.cj_stream.proofs.query.Query.set_ids.Goals as goal
+
+pub returns-clause-ok : goal.returns-clause-ok
+returns-clause-ok c =
+    let split = c.split-id-items.ensures in
+    let texts =
+    items-split c.args.separator c.args.list.now c.requires split.text split.has_more split.pattern
+    c.into_iter-id-iterator.ensures.into_iter_gives in
+    let all = YieldsList-end texts c.loop-id.yielded _ c.loop-id.yielded_by _ _ c.in-None.is c.next.ensures.steps in
+    c.sort_ids.ensures.asks ∙ (rw all.0 at c.loop-id.invariant.asks)

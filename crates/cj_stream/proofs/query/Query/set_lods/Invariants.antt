@@ -1,0 +1,10 @@
+use Rattle.std.proofs.Common.{◌≡◌, Some, map}
+use Rattle.cj_stream.specs.Query.{criteria, failed_growths_of}
+use Rattle.cj_stream.proofs.query.Query.set_lods.Given as goal
+
+abbrev pub invariant-loop-lod : goal.invariant-loop-lod
+invariant-loop-lod l =
+    record {
+      asks : criteria l.self ≡ record (criteria l.fn.self) { lods = Some (map (λ s. s.now) l.yielded) };
+      growths : failed_growths_of l.self ≡ failed_growths_of l.fn.self;
+    }
