@@ -4,7 +4,7 @@ PREFIX ?= /usr/local
 export PREFIX DESTDIR
 
 .DEFAULT_GOAL := help
-.PHONY: help build check quick install uninstall deb wheel dist try-packages reproducible bench
+.PHONY: help build check quick documents install uninstall deb wheel dist try-packages reproducible bench
 
 help:                   ## show this list
 	@sed -n 's/^\([a-z-]*\): *## /\1\t/p' Makefile | expand -t 16
@@ -17,6 +17,10 @@ check:                  ## run all tests: the gate
 
 quick:                  ## look at layout, names and tests, without a proof
 	@tests/quick.sh
+
+documents:              ## write what scripts know into the documents
+	@tools/rules.py && tools/clauses.py && tools/figures.py
+	@tools/base.py --write docs/PROOF.md > /dev/null && python3 python/make_reasons.py
 
 install:                ## install what is built into PREFIX, below DESTDIR
 	@packaging/install.sh install
@@ -34,7 +38,7 @@ dist:                   ## make the tarballs and SHA256SUMS, in out/dist
 	@packaging/dist.sh
 
 try-packages:           ## install all packages in a clean Debian, and use them
-	@tests/try_packages.sh
+	@tests/packages/try_packages.sh
 
 reproducible:           ## make all packages twice, and compare the bytes
 	@packaging/reproducible.sh

@@ -27,12 +27,12 @@ try() {
   fi
 }
 
-try tests/refused_growth.sh
-try tests/refused_calls.sh
-try tests/four_requests.sh
+try tests/faults/refused_growth.sh
+try tests/faults/refused_calls.sh
+try tests/faults/four_requests.sh
 try python3 vectors/try.py cityseq crates/cityseq/out/cityseq
-try python3 tests/failing_calls.py
-try tests/first_command.sh
-[ "${1-}" != --edits ] || try tests/wrong_bodies.sh
+try python3 tests/faults/failing_calls.py
+try tests/cli/first_command.sh
+[ "${1-}" != --edits ] || try tests/mutation/wrong_bodies.sh
 echo "$passed passed, $failed failed"
 [ "$failed" = 0 ]

@@ -294,8 +294,8 @@ def functions_by_definition(crate: str) -> dict[str, list[str]]:
 
 def reasons_by_code() -> dict[int, str]:
     """Returns the words of each reason, by its code."""
-    table = (ROOT / "docs" / "REASONS.md").read_text(encoding="utf-8")
-    rows = re.findall(r"^\| \[(\d+)\]\([^)]*\) \| ([^|`]+) \|$", table, re.M)
+    table = (ROOT / "docs" / "RULES.md").read_text(encoding="utf-8")
+    rows = re.findall(r"^\| \[(\d+)\]\([^)]*\) \| ([^|`]+) \|", table, re.M)
     return {int(code): words for code, words in rows}
 
 

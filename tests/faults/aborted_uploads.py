@@ -30,22 +30,29 @@ MORE = 20  # MB that it may have after the uploads
 TOGETHER = 8  # uploads at once
 SLOW = 100  # clients
 RESET = struct.pack("ii", 1, 0)
-HEADER = (b'{"type":"CityJSON","version":"2.0","transform":{"scale":[1,1,1],"translate":[0,0,0]},'
-          b'"CityObjects":{},"vertices":[]}\n')
+HEADER = (
+    b'{"type":"CityJSON","version":"2.0","transform":{"scale":[1,1,1],"translate":[0,0,0]},'
+    b'"CityObjects":{},"vertices":[]}\n'
+)
 PATHS = ("check", "filter", "check?keep_going", "filter?verdict=last", "check?summary")
 
 
 def line(size):
     """A feature of about so many bytes."""
-    return (b'{"type":"CityJSONFeature","id":"b","CityObjects":{"b":{"type":"Building","attributes":'
-            b'{"a":"%b"}}},"vertices":[]}\n' % (b"x" * size))
+    return (
+        b'{"type":"CityJSONFeature","id":"b","CityObjects":{"b":{"type":"Building","attributes":'
+        b'{"a":"%b"}}},"vertices":[]}\n' % (b"x" * size)
+    )
 
 
 TINY = HEADER + line(10) * 20_000
 BODIES = {
-    "a few bytes": HEADER[:40], "tiny lines": TINY, "lines of 4 KB": HEADER + line(4_000) * 600,
+    "a few bytes": HEADER[:40],
+    "tiny lines": TINY,
+    "lines of 4 KB": HEADER + line(4_000) * 600,
     "lines of 6 MB": HEADER + line(6_000_000) * 2 + line(6_000_000)[:-9],
-    "lines of 6 MB, 30 MB": HEADER + line(6_000_000) * 5, "packed": gzip.compress(TINY)[:-9],
+    "lines of 6 MB, 30 MB": HEADER + line(6_000_000) * 5,
+    "packed": gzip.compress(TINY)[:-9],
     "invalid lines": HEADER + b"{}\n" * 100_000,
 }
 
@@ -57,12 +64,26 @@ class Server:
         settings = {**os.environ, "PYTHONPATH": str(ROOT / "python")}
         index, stream = folder / "sample.gpkg", ROOT / "examples" / "sample.city.jsonl"
         words = [python, "-m", "cityseq"]
-        subprocess.run([*words, "index", "--quiet", "--output", str(index), str(stream)],
-                       env=settings, check=True)
+        subprocess.run(
+            [*words, "index", "--quiet", "--output", str(index), str(stream)],
+            env=settings,
+            check=True,
+        )
         self.process = subprocess.Popen(
-            [*words, "serve", "--port", "0", "--quiet", "--idle-seconds", str(IDLE),
-             *(("--min-rate", str(RATE)) if "--min-rate" in help_of(words, settings) else ()),
-             str(index)], stderr=subprocess.PIPE, env=settings)
+            [
+                *words,
+                "serve",
+                "--port",
+                "0",
+                "--quiet",
+                "--idle-seconds",
+                str(IDLE),
+                *(("--min-rate", str(RATE)) if "--min-rate" in help_of(words, settings) else ()),
+                str(index),
+            ],
+            stderr=subprocess.PIPE,
+            env=settings,
+        )
         first = self.process.stderr.readline().decode()
         self.port = int(first.split("/")[2].rpartition(":")[2])
         self.said = []
@@ -188,8 +209,11 @@ def main():
         took = time.monotonic() - begin
         time.sleep(2 * IDLE)
         after = server.memory()
-        check(f"memory after {given.uploads} aborted uploads", after <= before + MORE,
-              f"{after:.0f} MB; before {before:.0f} MB, fresh {fresh:.0f} MB; {took:.0f} s")
+        check(
+            f"memory after {given.uploads} aborted uploads",
+            after <= before + MORE,
+            f"{after:.0f} MB; before {before:.0f} MB, fresh {fresh:.0f} MB; {took:.0f} s",
+        )
         left, answered, failed = slow_bodies(server)
         check("requests beside slow bodies", not failed, f"{answered} answered, {failed} not")
         check("slow bodies are ended", not left, f"{left} of {SLOW} are left")

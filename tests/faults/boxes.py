@@ -20,6 +20,7 @@ ROOT = pathlib.Path(__file__).resolve().parent.parent.parent
 sys.path.insert(0, str(ROOT / "python"))
 
 from pyproj import CRS  # noqa: E402
+
 from tests.serving import Serving  # noqa: E402
 from tests.support import HEADER, command, feature  # noqa: E402
 from tests.test_serve_boxes import PLACES, boxes_near, features_of, has, move_of  # noqa: E402
@@ -48,8 +49,10 @@ def stream_of(code, extents):
     lines = []
     for number, (west, south, east, north) in enumerate(extents):
         line = json.loads(feature(f"f{number}"))
-        line["vertices"] = [[round(x / scale), round(y / scale), 0]
-                            for x, y in ((west, south), (east, south), (east, north), (west, north))]
+        line["vertices"] = [
+            [round(x / scale), round(y / scale), 0]
+            for x, y in ((west, south), (east, south), (east, north), (west, north))
+        ]
         lines.append(json.dumps(line).encode() + b"\n")
     return json.dumps(header).encode() + b"\n" + b"".join(lines)
 
@@ -76,11 +79,20 @@ def is_right(server, path, box, corners, extents):
     found = answer(server, f"{path}&bbox={','.join(map(repr, map(float, box)))}")
     if found is None:
         return False
-    lost = [name for name, points in corners.items()
-            if name not in found and any(has(box, *point) for point in points)]
-    beyond = [name for name in found if not any(
-        part[0] <= edge[2] and part[2] >= edge[0] and part[1] <= edge[3] and part[3] >= edge[1]
-        for part in extents[name] for edge in parts_in(box))]
+    lost = [
+        name
+        for name, points in corners.items()
+        if name not in found and any(has(box, *point) for point in points)
+    ]
+    beyond = [
+        name
+        for name in found
+        if not any(
+            part[0] <= edge[2] and part[2] >= edge[0] and part[1] <= edge[3] and part[3] >= edge[1]
+            for part in extents[name]
+            for edge in parts_in(box)
+        )
+    ]
     for what, names in (("left out", lost), ("too much", beyond)):
         if names:
             print(f"{path} {box}: {what}: {names[:3]}")
@@ -89,8 +101,9 @@ def is_right(server, path, box, corners, extents):
 
 def lies_in(point, box, room=1e-9):
     """Whether a point of degrees lies in a box. The numbers of a stream are rounded."""
-    return all(low - room <= value <= high + room
-               for value, low, high in zip(point, box[:2], box[2:]))
+    return all(
+        low - room <= value <= high + room for value, low, high in zip(point, box[:2], box[2:])
+    )
 
 
 def parts_in(box):
@@ -102,8 +115,10 @@ def parts_in(box):
 def try_one(server, name, code, extents, count, chance):
     """Asks for boxes of one stream, and yields whether each answer is right."""
     _, back = move_of(code)
-    corners = {f"f{number}": [back(x, y) for x in (west, east) for y in (south, north)]
-               for number, (west, south, east, north) in enumerate(extents)}
+    corners = {
+        f"f{number}": [back(x, y) for x in (west, east) for y in (south, north)]
+        for number, (west, south, east, north) in enumerate(extents)
+    }
     path = f"/collections/{name}/items?limit=1000"
     whole = answer(server, path)
     is_placed = whole is not None and all(whole.values()) and len(whole) == len(extents)
@@ -112,8 +127,12 @@ def try_one(server, name, code, extents, count, chance):
         yield False
         return
     told = {key: list(parts_of(geometry)) for key, geometry in whole.items()}
-    outside = [(key, point, told[key]) for key, points in corners.items() for point in points
-               if not any(lies_in(point, part) for part in told[key])]
+    outside = [
+        (key, point, told[key])
+        for key, points in corners.items()
+        for point in points
+        if not any(lies_in(point, part) for part in told[key])
+    ]
     if outside:
         print(f"{name}: a corner lies outside: {outside[0]}")
     yield not outside
@@ -136,11 +155,17 @@ def main():
             for size, spread in SPREADS.items():
                 chance = random.Random(f"{given.seed} {code} {size}")
                 name = f"e{code}-{size}"
-                streams[name] = code, rounded(code, features_of(code, spread, FEATURES, chance)), chance
+                streams[name] = (
+                    code,
+                    rounded(code, features_of(code, spread, FEATURES, chance)),
+                    chance,
+                )
                 path = pathlib.Path(folder, f"{name}.city.jsonl")
                 path.write_bytes(stream_of(code, streams[name][1]))
         index = f"{folder}/all.gpkg"
-        _, said, status = command("index", "--output", index, *(f"{folder}/{name}.city.jsonl" for name in streams))
+        _, said, status = command(
+            "index", "--output", index, *(f"{folder}/{name}.city.jsonl" for name in streams)
+        )
         if status:
             sys.exit(f"no index: {said}")
         with Serving("--quiet", index) as server:

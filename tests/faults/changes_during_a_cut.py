@@ -62,9 +62,11 @@ def cut_while_it_changes(counts, folder, chance, output):
     is_whole = run.returncode == 0 and is_of_one_state(output.read_bytes())
     is_refused = run.returncode == 3 and not output.exists() and "changed while it was" in said
     is_late = run.returncode == 3 and "the stream is newer" in said and not output.exists()
-    counts.row(f"a cut, changed {'while it ran' if is_running else 'after it'}",
-               (is_whole or is_refused or is_late) and not parts(folder),
-               f"status {run.returncode} {said.strip()}")
+    counts.row(
+        f"a cut, changed {'while it ran' if is_running else 'after it'}",
+        (is_whole or is_refused or is_late) and not parts(folder),
+        f"status {run.returncode} {said.strip()}",
+    )
 
 
 def answered(url):
@@ -118,8 +120,11 @@ def cut_while_the_index_changes(counts, folder, chance):
     said = run.communicate()[1].decode()
     is_whole = run.returncode == 0 and output.read_bytes() == path.read_bytes()
     is_refused = run.returncode == 3 and not output.exists()
-    counts.row("a cut of an index that changes", is_whole or is_refused,
-               f"status {run.returncode} {said.strip()}")
+    counts.row(
+        "a cut of an index that changes",
+        is_whole or is_refused,
+        f"status {run.returncode} {said.strip()}",
+    )
     with contextlib.suppress(FileNotFoundError):
         output.unlink()
 

@@ -67,7 +67,7 @@ class Handler(BaseHTTPRequestHandler):
         if mode == "body":
             self.drip(b"{", 1)
         for place in range(begin, last + 1, RATE):
-            self.wfile.write(text[place:min(place + RATE, last + 1)])
+            self.wfile.write(text[place : min(place + RATE, last + 1)])
             time.sleep(1)
 
 
@@ -82,15 +82,20 @@ class Server(ThreadingHTTPServer):
 
 def feature(number):
     name = f"b{number}"
-    return (f'{{"type":"CityJSONFeature","id":"{name}","CityObjects":{{"{name}":'
-            f'{{"type":"Road"}}}},"vertices":[]}}\n').encode()
+    return (
+        f'{{"type":"CityJSONFeature","id":"{name}","CityObjects":{{"{name}":'
+        f'{{"type":"Road"}}}},"vertices":[]}}\n'
+    ).encode()
 
 
 def run(*words):
     """Returns the output, the message, the status, and the seconds of a run of the command."""
     begin = time.monotonic()
-    ran = subprocess.run([sys.executable, "-m", "cityseq", *words], capture_output=True,
-                         env={**os.environ, "PYTHONPATH": str(ROOT / "python")})
+    ran = subprocess.run(
+        [sys.executable, "-m", "cityseq", *words],
+        capture_output=True,
+        env={**os.environ, "PYTHONPATH": str(ROOT / "python")},
+    )
     return ran.stdout, ran.stderr.decode(), ran.returncode, time.monotonic() - begin
 
 

@@ -43,8 +43,11 @@ os._exit(0)
 
 def edited(index, mode, change, how):
     """Begins an editor, and returns its process when it has changed the index."""
-    editor = subprocess.Popen([PYTHON, "-c", EDITOR, str(index), mode, change, how],
-                              stdin=subprocess.PIPE, stdout=subprocess.PIPE)
+    editor = subprocess.Popen(
+        [PYTHON, "-c", EDITOR, str(index), mode, change, how],
+        stdin=subprocess.PIPE,
+        stdout=subprocess.PIPE,
+    )
     editor.stdout.readline()
     if how == "ends":
         editor.communicate()

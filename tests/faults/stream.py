@@ -5,15 +5,19 @@ import subprocess
 import sys
 
 ROOT = pathlib.Path(__file__).resolve().parent.parent.parent
-HEADER = (b'{"type":"CityJSON","version":"2.0","transform":{"scale":[1,1,1],"translate":[0,0,0]},'
-          b'"CityObjects":{},"vertices":[]}\n')
+HEADER = (
+    b'{"type":"CityJSON","version":"2.0","transform":{"scale":[1,1,1],"translate":[0,0,0]},'
+    b'"CityObjects":{},"vertices":[]}\n'
+)
 PYTHON = os.environ.get("PYTHON", sys.executable)
 
 
 def feature(name, kind="Building", size=0):
     """Returns a feature with about that number of bytes more."""
-    return (f'{{"type":"CityJSONFeature","id":"{name}","CityObjects":{{"{name}":{{"type":"{kind}",'
-            f'"attributes":{{"x":"{"x" * size}"}}}}}},"vertices":[[0,0,0],[1,1,1]]}}\n').encode()
+    return (
+        f'{{"type":"CityJSONFeature","id":"{name}","CityObjects":{{"{name}":{{"type":"{kind}",'
+        f'"attributes":{{"x":"{"x" * size}"}}}}}},"vertices":[[0,0,0],[1,1,1]]}}\n'
+    ).encode()
 
 
 def write(path, megabytes, kind="Building"):
@@ -26,8 +30,13 @@ def write(path, megabytes, kind="Building"):
 def begun(*words, **more):
     """Begins the command, and returns its process."""
     settings = {**os.environ, "PYTHONPATH": str(ROOT / "python")}
-    return subprocess.Popen([PYTHON, "-m", "cityseq", *map(str, words)], env=settings,
-                            stdout=subprocess.PIPE, stderr=subprocess.PIPE, **more)
+    return subprocess.Popen(
+        [PYTHON, "-m", "cityseq", *map(str, words)],
+        env=settings,
+        stdout=subprocess.PIPE,
+        stderr=subprocess.PIPE,
+        **more,
+    )
 
 
 def ran(*words, **more):

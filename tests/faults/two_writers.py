@@ -39,8 +39,11 @@ def filters(counts, folder, first, second, output):
         said = [each.communicate()[1].decode() for each in (other, one)]
         statuses = one.returncode, other.returncode
         is_right = statuses == (0, 0) and text_of(output) in wanted and not parts(folder)
-        counts.row(f"two runs to {output.name}, {delay} s apart", is_right,
-                   f"{statuses} {' '.join(said).strip()}")
+        counts.row(
+            f"two runs to {output.name}, {delay} s apart",
+            is_right,
+            f"{statuses} {' '.join(said).strip()}",
+        )
         output.unlink()
 
 
@@ -57,8 +60,11 @@ def builders(counts, folder, paths):
             status, told = ran("filter", "--index", index, "--output", output)
             is_right = (statuses, status) == ((0, 0), 0) and not parts(folder)
             is_right = is_right and output.read_bytes() == path.read_bytes()
-            counts.row(f"two indexes of {path.name}, {delay} s apart", is_right,
-                       f"{statuses} {' '.join(said).strip()} {told}".strip())
+            counts.row(
+                f"two indexes of {path.name}, {delay} s apart",
+                is_right,
+                f"{statuses} {' '.join(said).strip()} {told}".strip(),
+            )
             index.unlink()
             output.unlink()
 
@@ -96,10 +102,20 @@ def main():
         ran("index", "--quiet", "--output", index, path)
         for end in (".jsonl", ".jsonl.gz"):
             output = folder / f"x{end}"
-            filters(counts, folder, ("filter", "--quiet", "--jobs", "1", path),
-                    ("filter", "--quiet", "--id", "b7", path), output)
-            filters(counts, folder, ("filter", "--quiet", "--index", index),
-                    ("filter", "--quiet", "--index", index, "--id", "b7"), output)
+            filters(
+                counts,
+                folder,
+                ("filter", "--quiet", "--jobs", "1", path),
+                ("filter", "--quiet", "--id", "b7", path),
+                output,
+            )
+            filters(
+                counts,
+                folder,
+                ("filter", "--quiet", "--index", index),
+                ("filter", "--quiet", "--index", index, "--id", "b7"),
+                output,
+            )
         builders(counts, folder, [path])
         kills(counts, folder, path)
     return counts.end()
