@@ -25,8 +25,12 @@ def resident_of(words, path):
     if not os.path.exists(GNU_TIME):
         return "-"
     with open(path, "rb") as source:
-        ran = subprocess.run([GNU_TIME, "-f", "%M", *words], stdin=source,
-                             stdout=subprocess.DEVNULL, stderr=subprocess.PIPE)
+        ran = subprocess.run(
+            [GNU_TIME, "-f", "%M", *words],
+            stdin=source,
+            stdout=subprocess.DEVNULL,
+            stderr=subprocess.PIPE,
+        )
     return ran.stderr.split()[-1].decode()
 
 
@@ -53,8 +57,10 @@ def print_rows(programs, path):
             f"{f'{took / seconds[peer]:.2f}' if peer in seconds else '-':>{width}}"
             for peer, width in PEERS.items()
         )
-        print(f"{os.path.basename(path):<16}{name:<18}{megabytes_of(path) / took:>8.0f}{ratios}"
-              f"{resident_of(programs[name], path):>13}")
+        print(
+            f"{os.path.basename(path):<16}{name:<18}{megabytes_of(path) / took:>8.0f}{ratios}"
+            f"{resident_of(programs[name], path):>13}"
+        )
 
 
 def main(twin, narrow, typed, peer, small, *paths):
@@ -63,8 +69,10 @@ def main(twin, narrow, typed, peer, small, *paths):
     for name, words in {**commands, "true": ["true"]}.items():
         (took,) = best([partial(run, words, small)], STARTS)
         print(f"{name} on one feature: {1000 * took:.2f} ms")
-    titles = "".join(f"{f'of {name}':>{width}}" for name, width in zip(
-        ("check", "the twin", "typed twin", "the peer"), PEERS.values()))
+    titles = "".join(
+        f"{f'of {name}':>{width}}"
+        for name, width in zip(("check", "the twin", "typed twin", "the peer"), PEERS.values())
+    )
     print(f"{'input':<16}{'program':<18}{'MB/s':>8}{titles}{'resident KB':>13}")
     for path in paths:
         print_rows(programs_of(commands, twin, narrow, typed, peer), path)

@@ -29,7 +29,13 @@ def built():
     crate = BENCH.parent / "crates" / "cityseq"
     sample = BENCH.parent / "examples" / "sample.city.jsonl"
     with open(sample, "rb") as source:
-        subprocess.run(["rt", "run", "--", "filter"], cwd=crate, stdin=source, stdout=subprocess.DEVNULL, check=True)
+        subprocess.run(
+            ["rt", "run", "--", "filter"],
+            cwd=crate,
+            stdin=source,
+            stdout=subprocess.DEVNULL,
+            check=True,
+        )
     return crate / "out" / "cityseq"
 
 
@@ -37,26 +43,42 @@ def stream(shape, folder):
     """The path of a stream of this shape."""
     path = folder / f"{shape}.jsonl"
     with open(path, "wb") as sink:
-        subprocess.run([sys.executable, BENCH / "make_stream.py", shape, str(SIZES[shape])], stdout=sink, check=True)
+        subprocess.run(
+            [sys.executable, BENCH / "make_stream.py", shape, str(SIZES[shape])],
+            stdout=sink,
+            check=True,
+        )
     return path
 
 
 def counted(program, command, path, folder):
     """How often each event came for each byte of the stream."""
     profile = folder / "callgrind.out"
-    words = ["valgrind", "--quiet", "--tool=callgrind", "--branch-sim=yes", f"--callgrind-out-file={profile}"]
+    words = [
+        "valgrind",
+        "--quiet",
+        "--tool=callgrind",
+        "--branch-sim=yes",
+        f"--callgrind-out-file={profile}",
+    ]
     with open(path, "rb") as source:
         ran = subprocess.run([*words, program, command], stdin=source, stdout=subprocess.DEVNULL)
     if ran.returncode:
         sys.exit(f"{program} {command} on {path.stem}: status {ran.returncode}")
-    lines = dict(line.split(":", 1) for line in profile.read_text().splitlines() if line.startswith(("events:", "totals:")))
+    lines = dict(
+        line.split(":", 1)
+        for line in profile.read_text().splitlines()
+        if line.startswith(("events:", "totals:"))
+    )
     totals = dict(zip(lines["events"].split(), map(int, lines["totals"].split())))
     return {event: totals[event] / path.stat().st_size for event in EVENTS}
 
 
 def is_within(program, streams, folder):
     """Prints the counts of a program, and says whether they are within the limits."""
-    print(f"\n{program}\n\n| stream | command | instructions | conditional, missed | indirect | indirect, missed |")
+    print(
+        f"\n{program}\n\n| stream | command | instructions | conditional, missed | indirect | indirect, missed |"
+    )
     print("|---|---|---|---|---|---|")
     within = True
     for shape, path in streams.items():
@@ -64,8 +86,11 @@ def is_within(program, streams, folder):
             each = counted(program, command, path, folder)
             passed = each["Bi"] > LIMITS[shape]
             within = within and not passed
-            print(f"| {shape} | {command} | {each['Ir']:.1f} | {each['Bc']:.2f}, {each['Bcm']:.3f} "
-                  f"| {each['Bi']:.3f}{f', above {LIMITS[shape]}' if passed else ''} | {each['Bim']:.3f} |", flush=True)
+            print(
+                f"| {shape} | {command} | {each['Ir']:.1f} | {each['Bc']:.2f}, {each['Bcm']:.3f} "
+                f"| {each['Bi']:.3f}{f', above {LIMITS[shape]}' if passed else ''} | {each['Bim']:.3f} |",
+                flush=True,
+            )
     return within
 
 

@@ -39,8 +39,10 @@ def main(megabytes="20"):
         partial(run, going, bad, status=1, stderr=subprocess.DEVNULL),
     ]
     one, other = best(calls, ROUNDS)
-    print(f"check {one:.3f} s, check --keep-going with one invalid line in ten {other:.3f} s,"
-          f" ratio {other / one:.3f}")
+    print(
+        f"check {one:.3f} s, check --keep-going with one invalid line in ten {other:.3f} s,"
+        f" ratio {other / one:.3f}"
+    )
 
 
 if __name__ == "__main__":

@@ -23,8 +23,12 @@ def instructions(program: str, stream: Path, words: "list[str]") -> int:
     profile = stream.with_suffix(".callgrind")
     command = ["valgrind", "--quiet", "--tool=callgrind", f"--callgrind-out-file={profile}"]
     with open(stream, "rb") as source:
-        ran = subprocess.run([*command, program, *words], stdin=source, stdout=subprocess.DEVNULL,
-                             stderr=subprocess.DEVNULL)
+        ran = subprocess.run(
+            [*command, program, *words],
+            stdin=source,
+            stdout=subprocess.DEVNULL,
+            stderr=subprocess.DEVNULL,
+        )
     if ran.returncode not in (0, 1):
         sys.exit(f"{program} {' '.join(words)}: status {ran.returncode}")
     totals = [line for line in profile.read_text().splitlines() if line.startswith("totals:")]

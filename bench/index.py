@@ -9,6 +9,8 @@ build    `index` of usual lines with one and four jobs, of the time of `check` w
 cut      `filter --index` of 1,000 features in a block, a process of its own, of the time of
          `filter` with four jobs and of the program's: out of lines of 2 KB on a grid, and of usual
          lines in squares
+packed   the same out of archives of blocks, of the time of `filter` over the archive: a box with a
+         square of usual lines, and one with a hundredth of small features that are scattered
 tiny     `index` of tiny lines with four jobs, of the time of `check`, and the bytes of a feature
 hash     `index` with four jobs, of the time of one that makes no hash of the stream
 records  10 million made-up records (RECORDS sets how many): the time to write the index, its size,
@@ -25,8 +27,20 @@ from contextlib import closing
 from functools import partial
 from statistics import median
 
-from measure import OUT, PACKAGE, PROGRAM, ROOT, chosen, in_turn, least, machine, middle, of_each
-from measure import run, stream_of
+from measure import (
+    OUT,
+    PACKAGE,
+    PROGRAM,
+    ROOT,
+    chosen,
+    in_turn,
+    least,
+    machine,
+    middle,
+    of_each,
+    run,
+    stream_of,
+)
 
 sys.path.insert(0, str(ROOT / "python"))
 BOXES = {"grid": "84616,447422,84936,447739", "spread": "84620,447430,85010,447500"}
@@ -40,8 +54,9 @@ HEADER = (
 
 def compared(name, words, bases, rounds):
     """Prints the time of a run, and its ratios to each other run of the same round."""
-    own, *others = in_turn([partial(run, words), *(partial(run, *base) for base in bases.values())],
-                           rounds)
+    own, *others = in_turn(
+        [partial(run, words), *(partial(run, *base) for base in bases.values())], rounds
+    )
     one = least(own)
     print(f"{name}: {one.clock:.3f} s, processor {one.processor:.3f} s, peak {one.peak:.0f} MB")
     for base, found in zip(bases, others):
@@ -101,12 +116,41 @@ def cut(megabytes, rounds):
         with open(target, "rb") as file:
             features = sum(1 for _ in file) - 1
         print(f"{shape}: {features} features, {os.path.getsize(target) / 1e6:.1f} MB")
-        whole = {
-            "filter, 4 jobs": ([*PACKAGE, "filter", "--jobs", "4", f"--bbox={box}", stream],)
-        }
+        whole = {"filter, 4 jobs": ([*PACKAGE, "filter", "--jobs", "4", f"--bbox={box}", stream],)}
         if os.path.exists(PROGRAM):
             whole["the program's filter"] = ([PROGRAM, "filter", f"--bbox={box}"], stream)
         compared(f"cut, {shape}", selected, whole, rounds)
+
+
+def scattered(megabytes):
+    """Writes small features, each anywhere in a square of 1 km, and returns the path."""
+    path, chance = OUT / f"scattered-{megabytes}.city.jsonl", random.Random(1)
+    with open(path, "wb") as file:
+        file.write(HEADER)
+        while file.tell() < megabytes * 1_000_000:
+            name, x, y = f"t{file.tell()}", chance.randrange(10**6), chance.randrange(10**6)
+            file.write(
+                f'{{"type":"CityJSONFeature","id":"{name}","CityObjects":{{"{name}":{{"type":'
+                f'"SolitaryVegetationObject","geometry":[{{"type":"MultiPoint","lod":"1",'
+                f'"boundaries":[0]}}]}}}},"vertices":[[{x},{y},0]]}}\n'.encode()
+            )
+    return path
+
+
+def packed(megabytes, rounds):
+    boxes = {"spread": "84620,447430,84710,447500", "scattered": "84700,447500,84800,447600"}
+    for shape, box in boxes.items():
+        stream = scattered(megabytes) if shape == "scattered" else stream_of(shape, megabytes)
+        archive, index = str(OUT / f"{shape}.gz"), str(OUT / f"packed-{shape}.gpkg")
+        run([*PACKAGE, "pack", "--output", archive, str(stream)])
+        run([*PACKAGE, "index", "--output", index, archive])
+        selected = [*PACKAGE, "filter", "--index", index, f"--bbox={box}"]
+        target = str(OUT / "cut.city.jsonl")
+        run([*selected, "--output", target])
+        sizes = [os.path.getsize(path) / 1e6 for path in (target, stream)]
+        print(f"{shape}: {sizes[0]:.1f} MB of {sizes[1]:.1f} MB")
+        whole = {"filter, 4 jobs": ([*PACKAGE, "filter", "--jobs", "4", f"--bbox={box}", archive],)}
+        compared(f"packed, {shape}", selected, whole, rounds)
 
 
 def parts_of_records(count, header):
@@ -161,8 +205,8 @@ def written(count, path):
     """Writes an index of made-up records, and returns the seconds that this took, by the clock and
     of the processor."""
     import cityseq
-    from cityseq.indexes.builder import Builder, File
     from cityseq.engine.query import asked
+    from cityseq.indexes.builder import Builder, File
     from cityseq.run.results import Result
 
     builder, made, begun, processor = Builder(path), 0.0, time.monotonic(), time.process_time()
@@ -200,7 +244,8 @@ def boxes(count, path):
 def main():
     words = sys.argv[1:]
     megabytes, rounds = int((words + ["1000"])[0]), int((words + ["", "3"])[1] or 3)
-    cases = {"build": build, "tiny": tiny, "hash": hashed, "cut": cut, "records": records}
+    cases = {"build": build, "tiny": tiny, "hash": hashed, "cut": cut, "packed": packed}
+    cases["records"] = records
     measured = chosen(cases, words[2:])
     print(f"{megabytes} MB, {rounds} rounds, {machine()}")
     for measure in measured.values():

@@ -10,10 +10,20 @@ python/cityseq/libcityseq.so, and Debian's postgresql and python3-psycopg2.
 import sys
 from functools import partial
 
-from measure import PACKAGE, ROOT, in_turn, least, machine, megabytes_of, middle, of_each, run
-from measure import stream_of
+from measure import (
+    PACKAGE,
+    ROOT,
+    in_turn,
+    least,
+    machine,
+    megabytes_of,
+    middle,
+    of_each,
+    run,
+    stream_of,
+)
 
-sys.path.insert(0, str(ROOT / "tests"))
+sys.path.insert(0, str(ROOT / "tools"))
 
 import postgres  # noqa: E402
 
@@ -27,8 +37,10 @@ def main(megabytes="100", shape="usual", rounds="3"):
         check = [*PACKAGE, "check", "--jobs", "1", stream]
         checked, loaded = in_turn([partial(run, check), partial(run, load)], int(rounds))
     ratios, size = of_each(loaded, checked), megabytes_of(stream)
-    print(f"{size:.0f} MB: {size / least(loaded).clock:.0f} MB/s; of check by one thread"
-          f" {least(ratios).clock:.2f}, in the middle {middle(ratios).clock:.2f}; {machine()}")
+    print(
+        f"{size:.0f} MB: {size / least(loaded).clock:.0f} MB/s; of check by one thread"
+        f" {least(ratios).clock:.2f}, in the middle {middle(ratios).clock:.2f}; {machine()}"
+    )
 
 
 if __name__ == "__main__":

@@ -48,8 +48,10 @@ def main(megabytes="300", rounds="3", *shapes):
             ]
             _, ratios = between(check, calls, int(rounds))
             for name, one in zip(CASES, map(middle, ratios)):
-                print(f"{shape:<12}{jobs:>8}  {name:<12}{one.clock:>9.2f}{one.processor:>11.2f}",
-                      flush=True)
+                print(
+                    f"{shape:<12}{jobs:>8}  {name:<12}{one.clock:>9.2f}{one.processor:>11.2f}",
+                    flush=True,
+                )
 
 
 if __name__ == "__main__":

@@ -15,39 +15,59 @@ import itertools
 import random
 import sys
 
-HEADER = ('{"type":"CityJSON","version":"2.0","transform":{"scale":[0.001,0.001,0.001],'
-          '"translate":[84616.468,447422.999,-0.452]},"CityObjects":{},"vertices":[]}\n')
+HEADER = (
+    '{"type":"CityJSON","version":"2.0","transform":{"scale":[0.001,0.001,0.001],'
+    '"translate":[84616.468,447422.999,-0.452]},"CityObjects":{},"vertices":[]}\n'
+)
 
 
 def feature(rng, number, vertices, left=0, side=1000000):
     """A building with one solid over this many vertices, in a square of this side that begins there."""
     surfaces = ",".join(
-        "[[{},{},{}]]".format(*(rng.randrange(vertices) for _ in range(3))) for _ in range(vertices * 2))
+        "[[{},{},{}]]".format(*(rng.randrange(vertices) for _ in range(3)))
+        for _ in range(vertices * 2)
+    )
     values = ",".join(str(rng.randrange(3)) for _ in range(vertices * 2))
     points = ",".join(
-        f"[{left + rng.randrange(side)},{rng.randrange(side)},{rng.randrange(30000)}]" for _ in range(vertices))
-    return (f'{{"type":"CityJSONFeature","id":"b{number}","CityObjects":{{"b{number}":{{"type":"Building",'
-            f'"attributes":{{"year":{rng.randrange(1500, 2024)},"street":"Grachtenstraße {number}"}},'
-            f'"geometry":[{{"type":"Solid","lod":"2.2","boundaries":[[{surfaces}]],"semantics":{{"surfaces":'
-            f'[{{"type":"GroundSurface"}},{{"type":"RoofSurface"}},{{"type":"WallSurface"}}],"values":[[{values}]]}}}}]}}}},'
-            f'"vertices":[{points}]}}\n')
+        f"[{left + rng.randrange(side)},{rng.randrange(side)},{rng.randrange(30000)}]"
+        for _ in range(vertices)
+    )
+    return (
+        f'{{"type":"CityJSONFeature","id":"b{number}","CityObjects":{{"b{number}":{{"type":"Building",'
+        f'"attributes":{{"year":{rng.randrange(1500, 2024)},"street":"Grachtenstraße {number}"}},'
+        f'"geometry":[{{"type":"Solid","lod":"2.2","boundaries":[[{surfaces}]],"semantics":{{"surfaces":'
+        f'[{{"type":"GroundSurface"}},{{"type":"RoofSurface"}},{{"type":"WallSurface"}}],"values":[[{values}]]}}}}]}}}},'
+        f'"vertices":[{points}]}}\n'
+    )
 
 
 def surfaces_of(rng, vertices):
     """A geometry's boundaries and semantics, with a semantic surface of its own for each surface."""
-    boundaries = ",".join("[[{},{},{}]]".format(*(rng.randrange(vertices) for _ in range(3))) for _ in range(vertices))
-    kinds = ",".join(f'{{"type":"{rng.choice(("Wall", "Roof", "Ground"))}Surface"}}' for _ in range(vertices))
+    boundaries = ",".join(
+        "[[{},{},{}]]".format(*(rng.randrange(vertices) for _ in range(3))) for _ in range(vertices)
+    )
+    kinds = ",".join(
+        f'{{"type":"{rng.choice(("Wall", "Roof", "Ground"))}Surface"}}' for _ in range(vertices)
+    )
     return f'[[{boundaries}]],"semantics":{{"surfaces":[{kinds}],"values":[[{",".join(map(str, range(vertices)))}]]}}'
 
 
 def lods(rng, number, vertices):
     """A building whose part has a footprint and three solids."""
-    solids = ",".join(f'{{"type":"Solid","lod":"{lod}","boundaries":{surfaces_of(rng, vertices)}}}' for lod in ("1.2", "1.3", "2.2"))
-    points = ",".join(f"[{rng.randrange(1000000)},{rng.randrange(1000000)},{rng.randrange(30000)}]" for _ in range(vertices))
+    solids = ",".join(
+        f'{{"type":"Solid","lod":"{lod}","boundaries":{surfaces_of(rng, vertices)}}}'
+        for lod in ("1.2", "1.3", "2.2")
+    )
+    points = ",".join(
+        f"[{rng.randrange(1000000)},{rng.randrange(1000000)},{rng.randrange(30000)}]"
+        for _ in range(vertices)
+    )
     footprint = '{"type":"MultiSurface","lod":"0","boundaries":[[[0,1,2]]]}'
-    return (f'{{"type":"CityJSONFeature","id":"b{number}","CityObjects":{{"b{number}":{{"type":"Building","children":["b{number}-0"],'
-            f'"attributes":{{"year":{rng.randrange(1500, 2024)},"street":"Grachtenstraße {number}"}},"geometry":[{footprint}]}},'
-            f'"b{number}-0":{{"type":"BuildingPart","parents":["b{number}"],"geometry":[{solids}]}}}},"vertices":[{points}]}}\n')
+    return (
+        f'{{"type":"CityJSONFeature","id":"b{number}","CityObjects":{{"b{number}":{{"type":"Building","children":["b{number}-0"],'
+        f'"attributes":{{"year":{rng.randrange(1500, 2024)},"street":"Grachtenstraße {number}"}},"geometry":[{footprint}]}},'
+        f'"b{number}-0":{{"type":"BuildingPart","parents":["b{number}"],"geometry":[{solids}]}}}},"vertices":[{points}]}}\n'
+    )
 
 
 GRID = 1000  # features in a row
@@ -59,25 +79,35 @@ NOTE = "".join(f'"measure {i}":{i}.25,' for i in range(80))
 def on_grid(number):
     """A building of eight vertices in a square of 10 m of its own."""
     left, low, high = number % GRID * 10000, number // GRID * 10000, 5000 + number % 97 * 100
-    corners = ((left + x, low + y, z) for z in (0, high) for x, y in ((1000, 1000), (9000, 1000), (9000, 9000), (1000, 9000)))
-    return (f'{{"type":"CityJSONFeature","id":"b{number}","CityObjects":{{"b{number}":{{"type":"Building",'
-            f'"attributes":{{{NOTE}"year":{1500 + number % 500}}},"geometry":[{{"type":"Solid","lod":"2.2",'
-            f'"boundaries":{BOX}}}]}}}},"vertices":[{",".join("[%d,%d,%d]" % corner for corner in corners)}]}}\n')
+    corners = (
+        (left + x, low + y, z)
+        for z in (0, high)
+        for x, y in ((1000, 1000), (9000, 1000), (9000, 9000), (1000, 9000))
+    )
+    return (
+        f'{{"type":"CityJSONFeature","id":"b{number}","CityObjects":{{"b{number}":{{"type":"Building",'
+        f'"attributes":{{{NOTE}"year":{1500 + number % 500}}},"geometry":[{{"type":"Solid","lod":"2.2",'
+        f'"boundaries":{BOX}}}]}}}},"vertices":[{",".join("[%d,%d,%d]" % corner for corner in corners)}]}}\n'
+    )
 
 
 def tiny(rng, number):
-    return (f'{{"type":"CityJSONFeature","id":"b{number}","CityObjects":{{"b{number}":{{"type":"Building",'
-            f'"attributes":{{"street":"Grachtenstraße {number}"}},"geometry":[{{"type":"MultiSurface","lod":"2.2",'
-            f'"boundaries":[[[0,1,2,3]]]}}]}}}},"vertices":[[0,0,0],[{rng.randrange(1000, 10000)},0,0],'
-            f'[1000,1000,0],[0,{rng.randrange(1000, 10000)},0]]}}\n')
+    return (
+        f'{{"type":"CityJSONFeature","id":"b{number}","CityObjects":{{"b{number}":{{"type":"Building",'
+        f'"attributes":{{"street":"Grachtenstraße {number}"}},"geometry":[{{"type":"MultiSurface","lod":"2.2",'
+        f'"boundaries":[[[0,1,2,3]]]}}]}}}},"vertices":[[0,0,0],[{rng.randrange(1000, 10000)},0,0],'
+        f"[1000,1000,0],[0,{rng.randrange(1000, 10000)},0]]}}\n"
+    )
 
 
 def named(rng):
     """A tiny feature with one of 200,000 ids as a register of buildings has them."""
     name = f"NL.IMBAG.Pand.{rng.randrange(200000):016}"
-    return (f'{{"type":"CityJSONFeature","id":"{name}","CityObjects":{{"{name}":{{"type":"Building",'
-            f'"geometry":[{{"type":"MultiSurface","lod":"2.2","boundaries":[[[0,1,2,3]]]}}]}}}},'
-            f'"vertices":[[0,0,0],[{rng.randrange(1000, 10000)},0,0],[1000,1000,0],[0,{rng.randrange(1000, 10000)},0]]}}\n')
+    return (
+        f'{{"type":"CityJSONFeature","id":"{name}","CityObjects":{{"{name}":{{"type":"Building",'
+        f'"geometry":[{{"type":"MultiSurface","lod":"2.2","boundaries":[[[0,1,2,3]]]}}]}}}},'
+        f'"vertices":[[0,0,0],[{rng.randrange(1000, 10000)},0,0],[1000,1000,0],[0,{rng.randrange(1000, 10000)},0]]}}\n'
+    )
 
 
 ASCII = "abcdefghijklmnopqrstuvwxyz"
@@ -88,24 +118,31 @@ OTHERS = "αβγδεζηθικλμνξοπρστυφχψω", "абвгдежзи
 def words(rng, count):
     """Words of 2 to 12 letters, each in one script; half of them are not ASCII."""
     scripts = (rng.choice((ASCII, rng.choice(OTHERS))) for _ in range(count))
-    return " ".join("".join(rng.choice(script) for _ in range(rng.randrange(2, 13))) for script in scripts)
+    return " ".join(
+        "".join(rng.choice(script) for _ in range(rng.randrange(2, 13))) for script in scripts
+    )
 
 
 def text(rng, number):
     """A building with long attributes and one surface."""
     attributes = ",".join(
-        f'"note {i}":"{words(rng, rng.randrange(20, 200))}"' for i in range(rng.randrange(4, 12)))
-    return (f'{{"type":"CityJSONFeature","id":"b{number}","CityObjects":{{"b{number}":{{"type":"Building",'
-            f'"attributes":{{{attributes}}},"geometry":[{{"type":"MultiSurface","lod":"2.2",'
-            f'"boundaries":[[[0,1,2,3]]]}}]}}}},"vertices":[[0,0,0],[1000,0,0],[1000,1000,0],[0,1000,0]]}}\n')
+        f'"note {i}":"{words(rng, rng.randrange(20, 200))}"' for i in range(rng.randrange(4, 12))
+    )
+    return (
+        f'{{"type":"CityJSONFeature","id":"b{number}","CityObjects":{{"b{number}":{{"type":"Building",'
+        f'"attributes":{{{attributes}}},"geometry":[{{"type":"MultiSurface","lod":"2.2",'
+        f'"boundaries":[[[0,1,2,3]]]}}]}}}},"vertices":[[0,0,0],[1000,0,0],[1000,1000,0],[0,1000,0]]}}\n'
+    )
 
 
 def linked(parts):
     """A building and its parts, which name each other."""
     children = ",".join(f'"p{i}"' for i in range(parts))
     objects = ",".join(f'"p{i}":{{"type":"BuildingPart","parents":["b"]}}' for i in range(parts))
-    return (f'{{"type":"CityJSONFeature","id":"b","CityObjects":{{"b":{{"type":"Building","children":[{children}]}},'
-            f'{objects}}},"vertices":[]}}\n')
+    return (
+        f'{{"type":"CityJSONFeature","id":"b","CityObjects":{{"b":{{"type":"Building","children":[{children}]}},'
+        f'{objects}}},"vertices":[]}}\n'
+    )
 
 
 # about how many bytes one vertex adds to a line, and to one of four LoDs
@@ -131,8 +168,10 @@ def main():
     elif shape == "usual":
         lines = [feature(rng, i, rng.randrange(5000, 125000) // VERTEX).encode() for i in range(60)]
     elif shape == "spread":
-        lines = [feature(rng, i, rng.randrange(5000, 125000) // VERTEX, i * 100000, 100000).encode()
-                 for i in range(60)]
+        lines = [
+            feature(rng, i, rng.randrange(5000, 125000) // VERTEX, i * 100000, 100000).encode()
+            for i in range(60)
+        ]
     elif shape == "lods":
         lines = [lods(rng, i, rng.randrange(5000, 50000) // SOLID).encode() for i in range(60)]
     elif shape == "text":

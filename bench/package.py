@@ -13,6 +13,9 @@ lines    the same ids in order, with the features in no order
 some     `filter` by 30,000 of these ids, in no order
 packed   `check` of eight .gz files with four jobs, compared with `xargs -P4` of zcat and the
          program
+threads  `check` with four jobs, compared with one, on 600 MB of a million features
+table    `table` of a tenth of these features, compared with a loop of `json.loads` over its lines
+start    how long `explain 25` takes, less what Python takes that does nothing
 
 It needs the library python/cityseq/libcityseq.so, and the built program. FEATURES sets the number
 of features and ids (1000000).
@@ -23,8 +26,20 @@ import random
 import sys
 from functools import partial
 
-from measure import OUT, PACKAGE, PROGRAM, chosen, in_turn, least, machine, made, megabytes_of
-from measure import middle, of_each, run
+from measure import (
+    OUT,
+    PACKAGE,
+    PROGRAM,
+    chosen,
+    in_turn,
+    least,
+    machine,
+    made,
+    megabytes_of,
+    middle,
+    of_each,
+    run,
+)
 
 FEATURES = int(os.environ.get("FEATURES", 1_000_000))
 SOME = 30_000
@@ -67,9 +82,11 @@ def compare(name, goal, ours, base, rounds):
     """Runs both in turn, and prints the ratios."""
     runs = in_turn([partial(run, ours), partial(run, base)], rounds)
     (low,), mean = of_each(*([least(each)] for each in runs)), middle(of_each(*runs))
-    print(f"{name}: by the clock {low.clock:.2f}, in the middle {mean.clock:.2f};"
-          f" of the processor {low.processor:.2f}, {mean.processor:.2f} (goal {goal}); {machine()}",
-          flush=True)
+    print(
+        f"{name}: by the clock {low.clock:.2f}, in the middle {mean.clock:.2f};"
+        f" of the processor {low.processor:.2f}, {mean.processor:.2f} (goal {goal}); {machine()}",
+        flush=True,
+    )
 
 
 def by_ids(case, numbers, rounds, features=None):
@@ -93,12 +110,46 @@ def packed(rounds):
     compare("packed, eight files", 1.1, ours, ["sh", "-c", checked], rounds)
 
 
+LOOP = """
+import json, sys
+with open(sys.argv[1], "rb") as file:
+    next(file)
+    for line in file:
+        feature = json.loads(line)
+        len(feature["id"]), len(feature["CityObjects"])
+"""
+TABLE = "import cityseq, sys; cityseq.table(sys.argv[1])"
+
+
+def threads(rounds):
+    stream = made(OUT / f"ids-{FEATURES}.jsonl", partial(write_stream, range(FEATURES)))
+    words = [*PACKAGE, "check", stream, "--jobs"]
+    compare(f"threads, {megabytes_of(stream):.0f} MB", 0.28, [*words, "4"], [*words, "1"], rounds)
+
+
+def table(rounds):
+    numbers = range(FEATURES // 10)
+    stream = made(OUT / f"table-{FEATURES}.jsonl", partial(write_stream, numbers))
+    ours, base = ([sys.executable, "-c", code, stream] for code in (TABLE, LOOP))
+    compare(f"table, {megabytes_of(stream):.0f} MB", 0.5, ours, base, rounds)
+
+
+def start(rounds):
+    nothing, ours = [sys.executable, "-c", ""], [*PACKAGE, "explain", "25"]
+    base, runs = in_turn([partial(run, nothing), partial(run, ours)], 10 * rounds)
+    more = [1_000 * (one - none) for one, none in zip(least(runs), least(base))]
+    print(f"start: {more[0]:.0f} ms by the clock, {more[1]:.0f} of the processor (goal 80)")
+
+
 CASES = {
     "ids": lambda rounds: by_ids("ids", range(FEATURES), rounds),
     "mixed": lambda rounds: by_ids("mixed", by_chance(FEATURES), rounds),
     "lines": lambda rounds: by_ids("lines", range(FEATURES), rounds, by_chance(FEATURES)),
     "some": lambda rounds: by_ids("some", by_chance(SOME), rounds),
     "packed": packed,
+    "threads": threads,
+    "table": table,
+    "start": start,
 }
 
 if __name__ == "__main__":

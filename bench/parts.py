@@ -15,8 +15,19 @@ import subprocess
 import sys
 from functools import partial
 
-from measure import PACKAGE, PROGRAM, SETTINGS, between, chosen, least, machine, megabytes_of
-from measure import middle, run, stream_of
+from measure import (
+    PACKAGE,
+    PROGRAM,
+    SETTINGS,
+    between,
+    chosen,
+    least,
+    machine,
+    megabytes_of,
+    middle,
+    run,
+    stream_of,
+)
 
 JOBS = (("check", (1, 2, 4)), ("filter", (1, 4)), ("info", (1, 4)), ("info --lods", (1, 4)))
 
@@ -44,8 +55,10 @@ def main(megabytes="1000", shape="usual", rounds="3", *wanted):
     print(f"{size:.0f} MB, {rounds} rounds, {machine()}")
     print(f"{'':<24}{'of check':>9}{'seconds':>9}{'MB/s':>8}{'processor':>11}{'peak MB':>9}")
     for name, one, ratio in zip(named, map(least, runs), map(middle, ratios)):
-        print(f"{name:<24}{ratio.clock:>9.3f}{one.clock:>9.2f}{size / one.clock:>8.0f}"
-              f"{one.processor:>11.2f}{one.peak:>9.0f}")
+        print(
+            f"{name:<24}{ratio.clock:>9.3f}{one.clock:>9.2f}{size / one.clock:>8.0f}"
+            f"{one.processor:>11.2f}{one.peak:>9.0f}"
+        )
 
 
 if __name__ == "__main__":

@@ -19,8 +19,19 @@ import time
 from functools import partial
 from statistics import median
 
-from measure import OUT, PACKAGE, ROOT, chosen, in_turn, least, machine, middle, of_each
-from measure import run, stream_of
+from measure import (
+    OUT,
+    PACKAGE,
+    ROOT,
+    chosen,
+    in_turn,
+    least,
+    machine,
+    middle,
+    of_each,
+    run,
+    stream_of,
+)
 
 sys.path.insert(0, str(ROOT / "python"))
 PAGE = str(OUT / "report.html")
@@ -65,8 +76,10 @@ def one_feature(_megabytes, rounds):
     stream.write_bytes(b"".join(town[:2]))
     words = [*PACKAGE, "report", "--output", PAGE, str(stream)]
     (runs,) = in_turn([partial(run, words)], max(rounds, 5))
-    print(f"one feature: {least(runs).clock:.2f} s, {middle(runs).clock:.2f} s in the middle"
-          " (the goal: below 1.5 s)")
+    print(
+        f"one feature: {least(runs).clock:.2f} s, {middle(runs).clock:.2f} s in the middle"
+        " (the goal: below 1.5 s)"
+    )
 
 
 def size(_megabytes, _rounds):

@@ -27,8 +27,14 @@ KIT = Path(subprocess.check_output(["rt", "doc"], text=True).strip()).parent
 MODULE = "module.bc"  # in the temporary folder of `rt try`
 # How the build has machine code made, but for the levels that `rt try` sets.
 CODE = ["-O3", "-march=x86-64-v2", "-fPIE", "-ffunction-sections", "-fdata-sections"]
-for word in ("-no-trap-after-noreturn", "-trap-unreachable", "-no-x86-call-frame-opt",
-             "-disable-machine-licm", "-disable-postra-machine-licm", "-sink-common-insts=false"):
+for word in (
+    "-no-trap-after-noreturn",
+    "-trap-unreachable",
+    "-no-x86-call-frame-opt",
+    "-disable-machine-licm",
+    "-disable-postra-machine-licm",
+    "-sink-common-insts=false",
+):
     CODE += ["-mllvm", word]
 INLINE = {"(always)": "alwaysinline", "(never)": "noinline", None: "inlinehint"}
 # the attributes of a build with checks
@@ -62,9 +68,13 @@ def module_of(tree: Path, folder: Path) -> Path:
     keeper.start()
     try:
         subprocess.run(
-            ["rt", "try", "--steps", "1000", "--", "check"], cwd=tree / "crates" / "cityseq",
-            env={**os.environ, "TMPDIR": str(used)}, stdin=subprocess.DEVNULL,
-            stdout=subprocess.DEVNULL, stderr=subprocess.DEVNULL)
+            ["rt", "try", "--steps", "1000", "--", "check"],
+            cwd=tree / "crates" / "cityseq",
+            env={**os.environ, "TMPDIR": str(used)},
+            stdin=subprocess.DEVNULL,
+            stdout=subprocess.DEVNULL,
+            stderr=subprocess.DEVNULL,
+        )
     finally:
         ended.set()
         keeper.join()
@@ -133,16 +143,43 @@ def without_checks(lines: Iterable[str], attributes: Attributes) -> Iterator[str
 def compile_module(module: Path, tree: Path, target: str) -> None:
     """Compiles the module without its checks, and links the program."""
     read, plain, code = (module.with_suffix(suffix) for suffix in (".ll", ".plain.ll", ".o"))
-    clang = [str(KIT / "toolchain" / "bin" / "clang"), "--target=x86_64-unknown-linux-gnu",
-             "--no-default-config", "-x", "ir"]
-    subprocess.run([*clang, "-S", "-emit-llvm", "-Xclang", "-disable-llvm-passes", str(module),
-                    "-o", str(read)], check=True)
+    clang = [
+        str(KIT / "toolchain" / "bin" / "clang"),
+        "--target=x86_64-unknown-linux-gnu",
+        "--no-default-config",
+        "-x",
+        "ir",
+    ]
+    subprocess.run(
+        [
+            *clang,
+            "-S",
+            "-emit-llvm",
+            "-Xclang",
+            "-disable-llvm-passes",
+            str(module),
+            "-o",
+            str(read),
+        ],
+        check=True,
+    )
     with open(read, encoding="utf-8") as source, open(plain, "w", encoding="utf-8") as sink:
         sink.writelines(without_checks(source, all_attributes(tree)))
     subprocess.run([*clang, "-c", *CODE, str(plain), "-o", str(code)], check=True)
     libraries = [str(KIT / "c" / name) for name in ("libos_c.a", "liblibc_c.a")]
-    subprocess.run([os.environ.get("CC", "cc"), "-pie", "-Wl,--gc-sections", "-o", target,
-                    str(code), *libraries, "-lm"], check=True)
+    subprocess.run(
+        [
+            os.environ.get("CC", "cc"),
+            "-pie",
+            "-Wl,--gc-sections",
+            "-o",
+            target,
+            str(code),
+            *libraries,
+            "-lm",
+        ],
+        check=True,
+    )
 
 
 def main(target: str, tree: str = str(ROOT)) -> None:

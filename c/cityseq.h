@@ -76,7 +76,7 @@ enum cityseq_fault {
     CITYSEQ_TOO_LONG = 9      /* The header and the part have more than 2^60 bytes. */
 };
 
-/* Why a line is invalid: the code of an answer whose status is CITYSEQ_REFUSED, and of a report. docs/REASONS.md explains each. */
+/* Why a line is invalid: the code of an answer whose status is CITYSEQ_REFUSED, and of a report. docs/RULES.md explains each. */
 enum cityseq_reason {
     CITYSEQ_REASON_NO_HEADER = 1,
     CITYSEQ_REASON_LINE_TOO_LONG = 2,

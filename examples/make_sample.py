@@ -10,8 +10,20 @@ import json
 import random
 import sys
 
-STREETS = ["Grachtenstraße", "Rue de l'Église", "Plac Łokietka", "Ålandsgatan", "Οδός Ερμού", "銀座通り",
-           "Main Street", "Šventaragio g.", "Çınar Sokağı", "Þingholtsstræti", "Kerkstraat", "улица Мира"]
+STREETS = [
+    "Grachtenstraße",
+    "Rue de l'Église",
+    "Plac Łokietka",
+    "Ålandsgatan",
+    "Οδός Ερμού",
+    "銀座通り",
+    "Main Street",
+    "Šventaragio g.",
+    "Çınar Sokağı",
+    "Þingholtsstræti",
+    "Kerkstraat",
+    "улица Мира",
+]
 USES = ["residential", "office", "école", "магазин", "倉庫", "workshop"]
 LANDMARKS = ["🏛", "⛪", "", "", "", "é"]
 
@@ -27,7 +39,10 @@ def header():
             "referenceSystem": "https://www.opengis.net/def/crs/EPSG/0/7415",
             "title": "Sample of a city model – Prøve / サンプル",
             "geographicalExtent": [84616.468, 447422.999, -0.452, 85140.839, 447750.636, 13.841],
-            "pointOfContact": {"contactName": "Bureau für Geodäsie", "emailAddress": "geo@example.org"},
+            "pointOfContact": {
+                "contactName": "Bureau für Geodäsie",
+                "emailAddress": "geo@example.org",
+            },
         },
     }
 
@@ -48,6 +63,7 @@ class Vertices:
 
 def box(vertices, x, y, z, width, depth, height):
     """The six surfaces of a box, and what each of them is."""
+
     def corner(i, j, k):
         return vertices.number((x + i * width, y + j * depth, z + k * height))
 
@@ -69,7 +85,11 @@ def solid(vertices, lod, place, size):
         "lod": lod,
         "boundaries": [surfaces],
         "semantics": {
-            "surfaces": [{"type": "GroundSurface"}, {"type": "RoofSurface", "slope": 12.5}, {"type": "WallSurface"}],
+            "surfaces": [
+                {"type": "GroundSurface"},
+                {"type": "RoofSurface", "slope": 12.5},
+                {"type": "WallSurface"},
+            ],
             "values": [kinds],
         },
     }
@@ -81,7 +101,10 @@ def building_part(rng, vertices, parent, x, y):
         "type": "BuildingPart",
         "parents": [parent],
         "attributes": {"b3_h_max": round(rng.uniform(2, 40), 3), "storeys": rng.randrange(1, 12)},
-        "geometry": [solid(vertices, lod, (x, y, rng.randrange(-500, 500)), size) for lod in ("1.2", "1.3", "2.2")],
+        "geometry": [
+            solid(vertices, lod, (x, y, rng.randrange(-500, 500)), size)
+            for lod in ("1.2", "1.3", "2.2")
+        ],
     }
 
 
@@ -109,7 +132,12 @@ def feature(rng, number):
     }
     for i, part in enumerate(parts):
         objects[part] = building_part(rng, vertices, name, x + 20000 * i, y)
-    return {"type": "CityJSONFeature", "id": name, "CityObjects": objects, "vertices": vertices.list}
+    return {
+        "type": "CityJSONFeature",
+        "id": name,
+        "CityObjects": objects,
+        "vertices": vertices.list,
+    }
 
 
 def main():

@@ -46,17 +46,23 @@ def time_of(date):
 
 def entry(version, date, body, maintainer):
     """A version of the changelog, as Debian writes it."""
-    items = [re.sub(r"[`\[\]]|\(\S+\)", "", " ".join(item.split()))
-             for item in re.findall(r"^- (.*(?:\n  .*)*)", body, re.M)]
-    lines = "\n".join(textwrap.fill(item, 76, initial_indent="  * ", subsequent_indent="    ",
-                                    break_on_hyphens=False) for item in items)
+    items = [
+        re.sub(r"[`\[\]]|\(\S+\)", "", " ".join(item.split()))
+        for item in re.findall(r"^- (.*(?:\n  .*)*)", body, re.M)
+    ]
+    lines = "\n".join(
+        textwrap.fill(
+            item, 76, initial_indent="  * ", subsequent_indent="    ", break_on_hyphens=False
+        )
+        for item in items
+    )
     head = f"cityseq ({version}) unstable; urgency=medium"
     return f"{head}\n\n{lines}\n\n -- {maintainer}  {time_of(date)}\n"
 
 
 def changelog(maintainer):
     parts = re.split(r"^## \[([^\]]+)\] - (\S+)\n", read("CHANGELOG.md"), flags=re.M)[1:]
-    return "\n".join(entry(*parts[at:at + 3], maintainer) for at in range(0, len(parts), 3))
+    return "\n".join(entry(*parts[at : at + 3], maintainer) for at in range(0, len(parts), 3))
 
 
 def main():

@@ -22,15 +22,18 @@ from typing import Dict, List, Optional
 ROOT = Path(__file__).resolve().parent.parent
 MAN, COMPLETIONS = ROOT / "packaging" / "man", ROOT / "packaging" / "completions"
 COMMAND = re.compile(r"^ {2,4}([a-z][a-z-]*) {2,}(.*)$")
-OPTION = re.compile(
-    r"^ +(?:(-\w), )?(--[a-z][a-z0-9-]*)(?:[ =]<?([A-Z][A-Z,]*)>?)?(?: {2,}(.*))?$")
+OPTION = re.compile(r"^ +(?:(-\w), )?(--[a-z][a-z0-9-]*)(?:[ =]<?([A-Z][A-Z,]*)>?)?(?: {2,}(.*))?$")
 COMMAND_TITLES = ("Commands:", "positional arguments:")
 OPTION_TITLES = ("Options:", "options:", "optional arguments:")
 WRITTEN_BY = "packaging/options.py writes this file."
 
 # What completes the value of an option; all other values are texts.
-KINDS = {"TYPES": "types", "FOLDER": "folders",
-         **dict.fromkeys(("FILE", "LIST", "OUTPUT", "INDEX", "RECORD"), "files"), "FORMAT": "formats"}
+KINDS = {
+    "TYPES": "types",
+    "FOLDER": "folders",
+    **dict.fromkeys(("FILE", "LIST", "OUTPUT", "INDEX", "RECORD"), "files"),
+    "FORMAT": "formats",
+}
 FORMATS = "sarif"
 
 
@@ -87,7 +90,7 @@ def sentences(text):
     """A line of help as sentences."""
     default = re.search(r" \[default: ([^\]]*)\]$", text)
     if default:
-        text = text[:default.start()]
+        text = text[: default.start()]
     text = text[:1].upper() + text[1:].rstrip(".").replace("`", "") + "."
     return f"{text} The default is {default.group(1)}." if default else text
 
@@ -109,9 +112,13 @@ def rows(text, pattern, titles):
 
 def parsed(text):
     commands = {name: sentences(about) for name, about in rows(text, COMMAND, COMMAND_TITLES)}
-    options = [Option(short, name, value, sentences(about or ""))
-               for short, name, value, about in rows(text, OPTION, OPTION_TITLES)]
-    return Help(commands, options, bool(re.search(r"^ *(?:usage|Usage): .*\b(?:FILE|INDEX)\b", text, re.M)))
+    options = [
+        Option(short, name, value, sentences(about or ""))
+        for short, name, value, about in rows(text, OPTION, OPTION_TITLES)
+    ]
+    return Help(
+        commands, options, bool(re.search(r"^ *(?:usage|Usage): .*\b(?:FILE|INDEX)\b", text, re.M))
+    )
 
 
 def read(name, words):
@@ -119,8 +126,12 @@ def read(name, words):
     settings = {"COLUMNS": "1000", "PYTHONPATH": str(ROOT / "python")}
 
     def help_on(*more):
-        ran = subprocess.run([*words, *more, "--help"], stdout=subprocess.PIPE, check=True,
-                             env={**os.environ, **settings})
+        ran = subprocess.run(
+            [*words, *more, "--help"],
+            stdout=subprocess.PIPE,
+            check=True,
+            env={**os.environ, **settings},
+        )
         return parsed(ran.stdout.decode("utf-8"))
 
     top = help_on()
@@ -141,8 +152,15 @@ def of_package():
     top = [Option(*names.split(", "), None, sentences(text)) for names, text in TOP]
     helps = {}
     for command in COMMANDS.values():
-        options = [Option(each.short and f"-{each.short}", f"--{each.name}", each.value,
-                          sentences(about(each, command))) for each in command.options]
+        options = [
+            Option(
+                each.short and f"-{each.short}",
+                f"--{each.name}",
+                each.value,
+                sentences(about(each, command)),
+            )
+            for each in command.options
+        ]
         takes_files = "[" in command.operands
         words = codes() if command.operands == "<CODE>" else ""
         helps[command.name] = Help({}, [*options, help_option], takes_files, words)
@@ -168,11 +186,15 @@ def types():
 
 def roff(text):
     """Sentences as lines of a manual page."""
-    lines = [line for each in re.split(r"(?<=[.;]) (?=[A-Z])", text.replace("\\", "\\e"))
-             for line in textwrap.wrap(each, 76, break_on_hyphens=False, break_long_words=False)]
+    lines = [
+        line
+        for each in re.split(r"(?<=[.;]) (?=[A-Z])", text.replace("\\", "\\e"))
+        for line in textwrap.wrap(each, 76, break_on_hyphens=False, break_long_words=False)
+    ]
     hyphens = re.compile(r"(?<![\w\\])-(?=[-\w])")
-    return "\n".join(("\\&" if line[0] in ".'" else "") + hyphens.sub(r"\\-", line)
-                     for line in lines)
+    return "\n".join(
+        ("\\&" if line[0] in ".'" else "") + hyphens.sub(r"\\-", line) for line in lines
+    )
 
 
 def item(option):
@@ -204,8 +226,9 @@ def option_text(command):
     for option, names in owners.items():
         groups.setdefault(tuple(names), []).append(option)
     ordered = sorted(groups.items(), key=lambda group: group[0] == ("",))
-    return "\n".join(f".Ss {title(names)}\n{listed(map(item, options))}"
-                     for names, options in ordered)
+    return "\n".join(
+        f".Ss {title(names)}\n{listed(map(item, options))}" for names, options in ordered
+    )
 
 
 def page(command):
@@ -222,8 +245,9 @@ def page(command):
 
 
 def wrapped(words, indent):
-    return textwrap.fill(" ".join(words), 96, initial_indent=indent, subsequent_indent=indent,
-                         break_on_hyphens=False)
+    return textwrap.fill(
+        " ".join(words), 96, initial_indent=indent, subsequent_indent=indent, break_on_hyphens=False
+    )
 
 
 def brief(text):
@@ -275,25 +299,35 @@ def bash_values(command):
         for option in help_on.options:
             names = kinds.setdefault(option.kind, [])
             names += [name for name in option.names if name not in names]
-    for kind, done in (("folders", 'mapfile -t COMPREPLY < <(compgen -d -- "$current")'),
-                       ("files", 'mapfile -t COMPREPLY < <(compgen -f -- "$current")'),
-                       ("formats", f"mapfile -t COMPREPLY < <(compgen -W '{FORMATS}' -- \"$current\")"),
-                       ("texts", None)):
+    for kind, done in (
+        ("folders", 'mapfile -t COMPREPLY < <(compgen -d -- "$current")'),
+        ("files", 'mapfile -t COMPREPLY < <(compgen -f -- "$current")'),
+        ("formats", f"mapfile -t COMPREPLY < <(compgen -W '{FORMATS}' -- \"$current\")"),
+        ("texts", None),
+    ):
         if kind in kinds:
             steps = f"      {done}\n      return" if done else "      return"
             yield f"    {' | '.join(kinds[kind])})\n{steps}\n      ;;"
 
 
 def bash(command):
-    cases = [f"    {name})\n      options='\n{wrapped([*help_on.names, help_on.words], '        ')}'\n"
-             f"      files={'yes' if help_on.takes_files else ''}\n      ;;"
-             for name, help_on in command.helps.items()]
+    cases = [
+        f"    {name})\n      options='\n{wrapped([*help_on.names, help_on.words], '        ')}'\n"
+        f"      files={'yes' if help_on.takes_files else ''}\n      ;;"
+        for name, help_on in command.helps.items()
+    ]
     takes_files = any(help_on.takes_files for help_on in command.helps.values())
     return BASH.format(
-        name=command.name, written=WRITTEN_BY, function="_" + command.name.replace("-", "_"),
-        types=wrapped(types(), "    "), top=" ".join([*command.top.commands, *command.top.names]),
-        values="\n".join(bash_values(command)), cases="\n".join(cases),
-        commands=" ".join(command.helps), filenames=" -o filenames" if takes_files else "")
+        name=command.name,
+        written=WRITTEN_BY,
+        function="_" + command.name.replace("-", "_"),
+        types=wrapped(types(), "    "),
+        top=" ".join([*command.top.commands, *command.top.names]),
+        values="\n".join(bash_values(command)),
+        cases="\n".join(cases),
+        commands=" ".join(command.helps),
+        filenames=" -o filenames" if takes_files else "",
+    )
 
 
 ZSH = """\
@@ -330,8 +364,13 @@ shift words
 (( CURRENT-- ))
 _arguments -s $arguments
 """
-ZSH_ACTIONS = {"types": "_values -s , type $types", "folders": "_files -/", "files": "_files",
-               "formats": f"({FORMATS})", "texts": ""}
+ZSH_ACTIONS = {
+    "types": "_values -s , type $types",
+    "folders": "_files -/",
+    "files": "_files",
+    "formats": f"({FORMATS})",
+    "texts": "",
+}
 
 
 def zsh_argument(option):
@@ -356,18 +395,31 @@ def zsh_case(name, help_on):
 
 def zsh(command):
     commands = [f"  '{name}:{brief(about)}'" for name, about in command.top.commands.items()]
-    options = [f"  '{name}:{brief(option.about)}'"
-               for option in command.top.options for name in option.names]
+    options = [
+        f"  '{name}:{brief(option.about)}'"
+        for option in command.top.options
+        for name in option.names
+    ]
     cases = [zsh_case(name, help_on) for name, help_on in command.helps.items()]
     return ZSH.format(
-        name=command.name, written=WRITTEN_BY, commands="\n".join(commands),
-        options="\n".join(options), types=wrapped(types(), "  "), cases="\n".join(cases))
+        name=command.name,
+        written=WRITTEN_BY,
+        commands="\n".join(commands),
+        options="\n".join(options),
+        types=wrapped(types(), "  "),
+        cases="\n".join(cases),
+    )
 
 
 def fish_option(start, option, variable):
-    values = {"types": f" -x -a '(__fish_complete_list , \"string join \\n ${variable}\")'",
-              "folders": " -x -a '(__fish_complete_directories)'", "files": " -r -F",
-              "formats": f" -x -a '{FORMATS}'", "texts": " -x", None: ""}
+    values = {
+        "types": f" -x -a '(__fish_complete_list , \"string join \\n ${variable}\")'",
+        "folders": " -x -a '(__fish_complete_directories)'",
+        "files": " -r -F",
+        "formats": f" -x -a '{FORMATS}'",
+        "texts": " -x",
+        None: "",
+    }
     short = f" -s {option.short[1:]}" if option.short else ""
     name = f"{short} -l {option.name[2:]}"
     return f"{start}{name}{values[option.kind]} -d '{brief(option.about)}'"
@@ -377,12 +429,18 @@ def fish(command):
     start = f"complete -c {command.name}"
     variable = f"__{command.name.replace('-', '_')}_types"
     without = f'{start} -n "not __fish_seen_subcommand_from $commands"'
-    lines = [f"# Completion of {command.name} for fish. {WRITTEN_BY}", "",
-             f"set -l commands {' '.join(command.top.commands)}",
-             f"set -g {variable} \\", wrapped(types(), "    ").replace("\n", " \\\n"), "",
-             f"{without} -f"]
-    lines += [f"{without} -a {name} -d '{brief(about)}'"
-              for name, about in command.top.commands.items()]
+    lines = [
+        f"# Completion of {command.name} for fish. {WRITTEN_BY}",
+        "",
+        f"set -l commands {' '.join(command.top.commands)}",
+        f"set -g {variable} \\",
+        wrapped(types(), "    ").replace("\n", " \\\n"),
+        "",
+        f"{without} -f",
+    ]
+    lines += [
+        f"{without} -a {name} -d '{brief(about)}'" for name, about in command.top.commands.items()
+    ]
     lines += [fish_option(without, option, variable) for option in command.top.options]
     for name, help_on in command.helps.items():
         within = f"{start} -n '__fish_seen_subcommand_from {name}'"

@@ -16,10 +16,10 @@ NUMBER = r"(\d+\.\d+\.\d+)"
 # Each place: the files, the text around the version, and how many times it is there at least.
 PLACES = [
     ("crates/*/src/**/*.rt", rf'const VERSION: &(?:\'static )?(?:str|\[u8\]) = b?"{NUMBER}', 1),
-    ("crates/cityseq_options/src/tests/*.rt", rf'b"cityseq {NUMBER}\\n"', 1),
+    ("crates/cityseq_tests_options/src/tests/*.rt", rf'b"cityseq {NUMBER}\\n"', 1),
     ("crates/cityseq_c/src/tests.rt", rf'b"{NUMBER}', 0),
-    ("tests/library.c", rf'"{NUMBER}"', 0),
-    ("tests/program.sh", rf"lines 'cityseq {NUMBER}'", 1),
+    ("tests/capi/library.c", rf'"{NUMBER}"', 0),
+    ("tests/cli/program.sh", rf"lines 'cityseq {NUMBER}'", 1),
     ("c/cityseq.h", rf'#define CITYSEQ_VERSION "{NUMBER}"', 1),
     ("python/cityseq/__init__.py", rf'^__version__ = "{NUMBER}"', 1),
     ("README.md", rf"cityseq\*?[_-]{NUMBER}[_-]", 1),
@@ -35,8 +35,11 @@ def places():
 def other_versions(wanted):
     """The places that do not name this version: a line for each place, empty where it does."""
     for files, pattern, text, least in places():
-        found = [(file.relative_to(ROOT), version) for file in files
-                 for version in text.findall(file.read_text(encoding="utf-8"))]
+        found = [
+            (file.relative_to(ROOT), version)
+            for file in files
+            for version in text.findall(file.read_text(encoding="utf-8"))
+        ]
         if len(found) < least:
             yield f"{pattern}: the version is not there, as {text.pattern}"
         else:

@@ -11,22 +11,51 @@ import re
 import shutil
 
 HERE = os.path.dirname(os.path.abspath(__file__))
-TESTS = os.path.join(HERE, os.pardir, "crates", "cj_stream_verdicts", "src", "tests", "table.rt")
-LIMITS = (1_000, 64)  # where a row asks for no others: a line of so many bytes, so many open arrays and objects
+TESTS = os.path.join(
+    HERE, os.pardir, "crates", "cj_stream_tests_verdicts", "src", "tests", "table.rt"
+)
+LIMITS = (
+    1_000,
+    64,
+)  # where a row asks for no others: a line of so many bytes, so many open arrays and objects
 TEXTS = {
-    1: "no header line", 2: "line too long", 3: "not UTF-8", 4: "syntax", 5: "nested too deep", 10: "member missing",
-    11: "duplicate name", 12: "wrong kind", 13: "number out of range", 14: "wrong type", 15: "wrong version",
-    16: "not empty", 17: "not three items", 18: "not a whole number", 19: "unknown object type",
-    20: "id not among the city objects", 21: "child not found", 22: "link not mutual", 23: "no parent in the feature",
-    24: "unknown geometry type", 25: "vertex index out of range", 26: "semantics count",
-    27: "semantics index out of range", 28: "template index out of range", 29: "bad instance", 30: "transform not fixed",
+    1: "no header line",
+    2: "line too long",
+    3: "not UTF-8",
+    4: "syntax",
+    5: "nested too deep",
+    10: "member missing",
+    11: "duplicate name",
+    12: "wrong kind",
+    13: "number out of range",
+    14: "wrong type",
+    15: "wrong version",
+    16: "not empty",
+    17: "not three items",
+    18: "not a whole number",
+    19: "unknown object type",
+    20: "id not among the city objects",
+    21: "child not found",
+    22: "link not mutual",
+    23: "no parent in the feature",
+    24: "unknown geometry type",
+    25: "vertex index out of range",
+    26: "semantics count",
+    27: "semantics index out of range",
+    28: "template index out of range",
+    29: "bad instance",
+    30: "transform not fixed",
     31: "not reached from the main object",
 }
 
-H = ('{"type":"CityJSON","version":"2.0","transform":{"scale":[0.001,0.001,0.001],"translate":[1000.0,2000.0,0.0]},'
-     '"CityObjects":{},"vertices":[]}')
-F = ('{"type":"CityJSONFeature","id":"b1","CityObjects":{"b1":{"type":"Building","geometry":[{"type":"MultiSurface",'
-     '"lod":"2.2","boundaries":[[[0,1,2,3]]]}]}},"vertices":[[0,0,0],[1000,0,0],[1000,1000,0],[0,1000,0]]}')
+H = (
+    '{"type":"CityJSON","version":"2.0","transform":{"scale":[0.001,0.001,0.001],"translate":[1000.0,2000.0,0.0]},'
+    '"CityObjects":{},"vertices":[]}'
+)
+F = (
+    '{"type":"CityJSONFeature","id":"b1","CityObjects":{"b1":{"type":"Building","geometry":[{"type":"MultiSurface",'
+    '"lod":"2.2","boundaries":[[[0,1,2,3]]]}]}},"vertices":[[0,0,0],[1000,0,0],[1000,1000,0],[0,1000,0]]}'
+)
 B = '"b":{"type":"Building"}'
 
 
@@ -53,20 +82,30 @@ def with_geometry(geometry, vertices="[[0,0,0],[1,0,0],[0,1,0]]"):
 
 def solid(values, surfaces='[{"type":"RoofSurface"}]', boundaries="[[[[0,1,2]],[[0,2,1]]]]"):
     """A solid of one shell with two surfaces, and these values for its semantics."""
-    return with_geometry(f'{{"type":"Solid","lod":"1","boundaries":{boundaries},'
-                         f'"semantics":{{"surfaces":{surfaces},"values":{values}}}}}')
+    return with_geometry(
+        f'{{"type":"Solid","lod":"1","boundaries":{boundaries},'
+        f'"semantics":{{"surfaces":{surfaces},"values":{values}}}}}'
+    )
 
 
-def templates(template='{"type":"MultiSurface","lod":"1","boundaries":[[[0,1,2]]]}',
-              points="[[0.0,0.0,0.0],[1.0,0.0,0.0],[0.0,1.0,0.0]]"):
+def templates(
+    template='{"type":"MultiSurface","lod":"1","boundaries":[[[0,1,2]]]}',
+    points="[[0.0,0.0,0.0],[1.0,0.0,0.0],[0.0,1.0,0.0]]",
+):
     """A header with one template."""
-    return H[:-1] + f',"geometry-templates":{{"templates":[{template}],"vertices-templates":{points}}}}}'
+    return (
+        H[:-1]
+        + f',"geometry-templates":{{"templates":[{template}],"vertices-templates":{points}}}}}'
+    )
 
 
 def instance(template="0", boundaries="[0]", matrix="[1,0,0,0,0,1,0,0,0,0,1,0,0,0,0,1]"):
     """A feature of one instance."""
-    return feature('"b":{"type":"SolitaryVegetationObject","geometry":[{"type":"GeometryInstance",'
-                   f'"template":{template},"boundaries":{boundaries},"transformationMatrix":{matrix}}}]}}', "[[0,0,0]]")
+    return feature(
+        '"b":{"type":"SolitaryVegetationObject","geometry":[{"type":"GeometryInstance",'
+        f'"template":{template},"boundaries":{boundaries},"transformationMatrix":{matrix}}}]}}',
+        "[[0,0,0]]",
+    )
 
 
 ROWS = []
@@ -80,9 +119,14 @@ def section(title):
 
 def row(name, lines, code=None, place=None, limits=LIMITS, words=(), kept=None, end="\n"):
     """A vector of these lines, the last of which ends with `end`: it is complete, or its line with a mark, or its last one,
-    is refused for this code. `kept` are the numbers of the lines that are written, where they are not all those before."""
+    is refused for this code. `kept` are the numbers of the lines that are written, where they are not all those before.
+    """
     lines = [line.encode() if isinstance(line, str) else line for line in lines]
-    marked = [number for number, line in enumerate(lines) if b"^" in line] if place is None and code else []
+    marked = (
+        [number for number, line in enumerate(lines) if b"^" in line]
+        if place is None and code
+        else []
+    )
     refused = None
     if code:
         at = marked[0] if marked else max(len(lines) - 1, 0)
@@ -95,7 +139,9 @@ def row(name, lines, code=None, place=None, limits=LIMITS, words=(), kept=None, 
     blank = [bool(number and not line.strip(b" \t\r")) for number, line in enumerate(good)]
     if kept is None:
         kept = [number + 1 for number in range(len(good)) if not blank[number]]
-    text = b"".join(line + b"\n" for line in lines[:-1]) + (lines[-1] + end.encode() if lines else b"")
+    text = b"".join(line + b"\n" for line in lines[:-1]) + (
+        lines[-1] + end.encode() if lines else b""
+    )
     made = (name, text, limits, words, refused, len(good), kept, good)
     ROWS.append(made)
     if "/" not in name:
@@ -106,7 +152,9 @@ def size(tree):
     """How many values and member names a tree has, and how deep it is nested. An object is a list of pairs of a list."""
     if isinstance(tree, Members):
         parts = [size(value) for _, value in tree.pairs]
-        return 1 + len(parts) + sum(count for count, _ in parts), 1 + max([nest for _, nest in parts], default=0)
+        return 1 + len(parts) + sum(count for count, _ in parts), 1 + max(
+            [nest for _, nest in parts], default=0
+        )
     if isinstance(tree, list):
         parts = [size(value) for value in tree]
         return 1 + sum(count for count, _ in parts), 1 + max([nest for _, nest in parts], default=0)
@@ -126,8 +174,11 @@ def peaks(lines):
         count, nest = (0, 0) if blank else size(json.loads(line, object_pairs_hook=Members))
         measured.append((len(line), count, nest))
     later = measured[1:] or [(0, 0, 0)]
-    return (measured[0][0] + max(line[0] for line in later), measured[0][1] + max(line[1] for line in later),
-            max(line[2] for line in measured))
+    return (
+        measured[0][0] + max(line[0] for line in later),
+        measured[0][1] + max(line[1] for line in later),
+        max(line[2] for line in measured),
+    )
 
 
 exec(open(os.path.join(HERE, "rows.py"), encoding="utf-8").read())
@@ -135,7 +186,11 @@ exec(open(os.path.join(HERE, "rows.py"), encoding="utf-8").read())
 
 def answer_of(refused):
     """What is said of a stream that is refused so, or that is complete."""
-    return f"line {refused[0]}, byte {refused[1]}: {refused[2]} {TEXTS[refused[2]]}" if refused else "complete"
+    return (
+        f"line {refused[0]}, byte {refused[1]}: {refused[2]} {TEXTS[refused[2]]}"
+        if refused
+        else "complete"
+    )
 
 
 def peaks_of(refused, good):
@@ -146,7 +201,10 @@ def peaks_of(refused, good):
 def spelled(text):
     """Bytes as a row of the tests spells them."""
     parts = []
-    for part in re.split(b"(" + re.escape(H.encode()) + b"|" + re.escape(F.encode()) + b"|\n|[^ -~]|[&|])", text):
+    for part in re.split(
+        b"(" + re.escape(H.encode()) + b"|" + re.escape(F.encode()) + b"|\n|[^ -~]|[&|])",
+        text,
+    ):
         name = {H.encode(): "H", F.encode(): "F", b"\n": "lf"}.get(part)
         if name or re.fullmatch(b"[^ -~]|[&|]", part):
             parts.append(f"&{name or part[0]};")
@@ -168,9 +226,22 @@ def asked(words):
 def test_row(name, text, limits, words, refused, lines, kept, good):
     """The row of a vector in the tests of the engine."""
     stream = text.split(b"\n")
-    written = b"".join(stream[number - 1] + (b"\n" if number < len(stream) else b"") for number in kept)
-    return "|".join([name, *map(str, limits), asked(words), spelled(text), "all" if written == text else spelled(written),
-                     answer_of(refused), str(lines), str(len(kept) - (1 in kept)), peaks_of(refused, good)])
+    written = b"".join(
+        stream[number - 1] + (b"\n" if number < len(stream) else b"") for number in kept
+    )
+    return "|".join(
+        [
+            name,
+            *map(str, limits),
+            asked(words),
+            spelled(text),
+            "all" if written == text else spelled(written),
+            answer_of(refused),
+            str(lines),
+            str(len(kept) - (1 in kept)),
+            peaks_of(refused, good),
+        ]
+    )
 
 
 def write_tests():
@@ -180,8 +251,11 @@ def write_tests():
         for title, made in SECTIONS:
             name = re.sub("[^a-z0-9]+", "_", title.split(": ")[-1].lower())
             rows = "\n".join(test_row(*row) for row in made)
-            print(f"\n/// {title[0].upper()}{title[1:]}.\nconst {name.upper()}: &str = r#\"\n{rows}\n\"#;\n\n#[test]\n"
-                  f"fn {name}(rt: HostRuntime) -> Result<(), Fail> {{\n    check_rows(&rt, rt.alloc(), {name.upper()})\n}}", file=tests)
+            print(
+                f'\n/// {title[0].upper()}{title[1:]}.\nconst {name.upper()}: &str = r#"\n{rows}\n"#;\n\n#[test]\n'
+                f"fn {name}(rt: HostRuntime) -> Result<(), Fail> {{\n    check_rows(&rt, rt.alloc(), {name.upper()})\n}}",
+                file=tests,
+            )
 
 
 TESTS_HEAD = """\
@@ -215,12 +289,32 @@ def main():
         if name.endswith(".jsonl"):
             os.unlink(os.path.join(HERE, name))
     with open(os.path.join(HERE, "table.tsv"), "w", encoding="utf-8") as table:
-        print("name", "line limit", "depth", "query", "answer", "lines", "written", "peaks", sep="\t", file=table)
+        print(
+            "name",
+            "line limit",
+            "depth",
+            "query",
+            "answer",
+            "lines",
+            "written",
+            "peaks",
+            sep="\t",
+            file=table,
+        )
         for name, text, limits, words, refused, lines, kept, good in ROWS:
             with open(os.path.join(HERE, name + ".jsonl"), "wb") as file:
                 file.write(text)
-            print(name, *limits, " ".join(words) or "-", answer_of(refused), lines, ",".join(map(str, kept)) or "-",
-                  peaks_of(refused, good), sep="\t", file=table)
+            print(
+                name,
+                *limits,
+                " ".join(words) or "-",
+                answer_of(refused),
+                lines,
+                ",".join(map(str, kept)) or "-",
+                peaks_of(refused, good),
+                sep="\t",
+                file=table,
+            )
     write_tests()
     names = [name for name, *_ in ROWS]
     assert len(set(names)) == len(names), "a name stands twice"

@@ -28,7 +28,9 @@ row("blank-one-byte-too-long", [H, " " * 141], 2, 140, limits=(140, 64))
 row("too-long-before-not-utf8", [H, b"\xff" * 141], 2, 140, limits=(140, 64))
 
 section("3: not UTF-8")
-euro = one('"boundaries":[[[0,1,2,3]]]}]', '"boundaries":[[[0,1,2,3]]]}],"attributes":{"a":"€"}').encode()
+euro = one(
+    '"boundaries":[[[0,1,2,3]]]}]', '"boundaries":[[[0,1,2,3]]]}],"attributes":{"a":"€"}'
+).encode()
 assert euro.index(b"\xe2\x82\xac") == 170
 row("euro", [H, euro])
 row("euro-without-its-last-byte", [H, euro.replace(b"\xac", b"")], 3, 170)
@@ -77,22 +79,54 @@ row("feature-as-the-first-line", ["^" + F], 10)
 row("second-header", [H, "^" + H], 10)
 row("empty-object-as-the-first-line", ["^{}"], 10)
 row("no-lod", [H, one('{"type":"MultiSurface","lod":"2.2",', '^{"type":"MultiSurface",')], 10)
-row("no-lod-and-a-bad-index", [H, one('{"type":"MultiSurface","lod":"2.2","boundaries":[[[0,1,2,3]]]}',
-                                      '^{"type":"MultiSurface","boundaries":[[[0,1,2,4]]]}')], 10)
+row(
+    "no-lod-and-a-bad-index",
+    [
+        H,
+        one(
+            '{"type":"MultiSurface","lod":"2.2","boundaries":[[[0,1,2,3]]]}',
+            '^{"type":"MultiSurface","boundaries":[[[0,1,2,4]]]}',
+        ),
+    ],
+    10,
+)
 row("part-without-parents", [H, feature('"b":^{"type":"BuildingPart"}')], 10)
 row("city-object-without-type", [H, feature('"b":^{}')], 10)
 row("no-boundaries", [H, with_geometry('^{"type":"Solid","lod":"1"}')], 10)
-row("semantics-without-values", [H, with_geometry(
-    '{"type":"Solid","lod":"1","boundaries":[],"semantics":^{"surfaces":[]}}')], 10)
-row("instance-without-matrix", [templates(), feature(
-    '"b":{"type":"PlantCover","geometry":[^{"type":"GeometryInstance","template":0,"boundaries":[0]}]}', "[[0,0,0]]")], 10)
+row(
+    "semantics-without-values",
+    [H, with_geometry('{"type":"Solid","lod":"1","boundaries":[],"semantics":^{"surfaces":[]}}')],
+    10,
+)
+row(
+    "instance-without-matrix",
+    [
+        templates(),
+        feature(
+            '"b":{"type":"PlantCover","geometry":[^{"type":"GeometryInstance","template":0,"boundaries":[0]}]}',
+            "[[0,0,0]]",
+        ),
+    ],
+    10,
+)
 
 section("11: duplicate name")
 row("one-name-twice", [H, feature('"b":{"type":"Building"},^"b":{"type":"Building"}')], 11)
-row("one-name-twice-by-an-escape", [H, feature('"b":{"type":"Building"},^"\\u0062":{"type":"Building"}')], 11)
-row("one-name-twice-in-attributes", [H, feature('"b":{"type":"Building","attributes":{"a":1,"a":2}}')])
+row(
+    "one-name-twice-by-an-escape",
+    [H, feature('"b":{"type":"Building"},^"\\u0062":{"type":"Building"}')],
+    11,
+)
+row(
+    "one-name-twice-in-attributes",
+    [H, feature('"b":{"type":"Building","attributes":{"a":1,"a":2}}')],
+)
 row("one-name-twice-in-the-root", [H, feature(B, more=',"a":1,^"a":2')], 11)
-row("one-name-twice-in-a-geometry", [H, with_geometry('{"type":"Solid","lod":"1","boundaries":[],^"lod":"2"}')], 11)
+row(
+    "one-name-twice-in-a-geometry",
+    [H, with_geometry('{"type":"Solid","lod":"1","boundaries":[],^"lod":"2"}')],
+    11,
+)
 row("one-name-twice-in-a-transform", [header('"transform":{', '"transform":{"a":1,^"a":2,')], 11)
 row("names-that-differ-in-case", [H, feature('"b":{"type":"Building"},"B":{"type":"Building"}')])
 
@@ -105,7 +139,11 @@ row("children-that-are-null", [H, feature('"b":{"type":"Building","children":^nu
 row("child-that-is-a-number", [H, feature('"b":{"type":"Building","children":[^3]}')], 12)
 row("city-object-that-is-a-text", [H, feature('"b":^"x"')], 12)
 row("index-that-is-a-text", [H, one("[[[0,1,2,3]]]", '[[[0,1,2,^"3"]]]')], 12)
-row("semantics-that-are-null", [H, with_geometry('{"type":"Solid","lod":"1","boundaries":[],"semantics":^null}')], 12)
+row(
+    "semantics-that-are-null",
+    [H, with_geometry('{"type":"Solid","lod":"1","boundaries":[],"semantics":^null}')],
+    12,
+)
 row("header-that-is-a-number", ["^1"], 12)
 row("header-that-is-an-array", ["^[]"], 12)
 
@@ -158,45 +196,103 @@ row("type-with-a-space", [H, feature('"b":{"type":^"Building "}')], 19)
 row("type-that-is-empty", [H, feature('"b":{"type":^""}')], 19)
 
 section("20: id not among the city objects")
-row("id-of-no-city-object", [H, feature('"c":{"type":"Building"}').replace('"id":"b"', '"id":^"b"')], 20)
+row(
+    "id-of-no-city-object",
+    [H, feature('"c":{"type":"Building"}').replace('"id":"b"', '"id":^"b"')],
+    20,
+)
 row("id-and-no-city-objects", [H, feature("").replace('"id":"b"', '"id":^"b"')], 20)
 row("id-in-another-case", [H, feature(B).replace('"id":"b"', '"id":^"B"')], 20)
 row("id-by-an-escape", [H, feature(B).replace('"id":"b"', '"id":"\\u0062"')])
 
 section("21, 22, 23: links")
 row("child-that-is-not-there", [H, feature('"b":{"type":"Building","children":[^"q"]}')], 21)
-row("second-child-that-is-not-there", [H, feature(
-    '"b":{"type":"Building","children":["p",^"q"]},"p":{"type":"BuildingPart","parents":["b"]}')], 21)
+row(
+    "second-child-that-is-not-there",
+    [
+        H,
+        feature(
+            '"b":{"type":"Building","children":["p",^"q"]},"p":{"type":"BuildingPart","parents":["b"]}'
+        ),
+    ],
+    21,
+)
 row("child-in-another-case", [H, feature('"b":{"type":"Building","children":[^"B"]}')], 21)
-row("child-of-a-group-that-is-not-there", [H, feature('"b":{"type":"CityObjectGroup","children":["q"]}')])
-row("parent-that-does-not-list-it", [H, feature('"b":{"type":"Building"},"p":{"type":"BuildingPart","parents":[^"b"]}')], 22)
-row("child-that-does-not-list-it", [H, feature(
-    '"b":{"type":"Building","children":[^"p"]},"p":{"type":"Building"}')], 22)
-row("group-that-does-not-list-it", [H, feature(
-    '"b":{"type":"Building","parents":[^"g"]},"g":{"type":"CityObjectGroup"}')], 22)
+row(
+    "child-of-a-group-that-is-not-there",
+    [H, feature('"b":{"type":"CityObjectGroup","children":["q"]}')],
+)
+row(
+    "parent-that-does-not-list-it",
+    [H, feature('"b":{"type":"Building"},"p":{"type":"BuildingPart","parents":[^"b"]}')],
+    22,
+)
+row(
+    "child-that-does-not-list-it",
+    [H, feature('"b":{"type":"Building","children":[^"p"]},"p":{"type":"Building"}')],
+    22,
+)
+row(
+    "group-that-does-not-list-it",
+    [H, feature('"b":{"type":"Building","parents":[^"g"]},"g":{"type":"CityObjectGroup"}')],
+    22,
+)
 row("parent-of-another-feature", [H, feature('"b":{"type":"Building","parents":["g"]}')])
-row("child-and-parent-of-itself", [H, feature('"b":{"type":"Building","children":["b"],"parents":["b"]}')])
-row("links-by-escapes", [H, feature(
-    '"b":{"type":"Building","children":["\\u0070"]},"p":{"type":"BuildingPart","parents":["\\u0062"]}')])
+row(
+    "child-and-parent-of-itself",
+    [H, feature('"b":{"type":"Building","children":["b"],"parents":["b"]}')],
+)
+row(
+    "links-by-escapes",
+    [
+        H,
+        feature(
+            '"b":{"type":"Building","children":["\\u0070"]},"p":{"type":"BuildingPart","parents":["\\u0062"]}'
+        ),
+    ],
+)
 row("part-of-another-feature", [H, feature('"b":^{"type":"BuildingPart","parents":["g"]}')], 23)
 row("part-of-no-parents", [H, feature('"b":^{"type":"BuildingPart","parents":[]}')], 23)
 row("part-of-a-number", [H, feature('"b":^{"type":"BuildingPart","parents":[3]}')], 23)
-row("part-of-a-second-parent", [H, feature(
-    '"b":{"type":"Building","children":["p"]},"p":{"type":"BuildingPart","parents":["g","b"]}')])
+row(
+    "part-of-a-second-parent",
+    [
+        H,
+        feature(
+            '"b":{"type":"Building","children":["p"]},"p":{"type":"BuildingPart","parents":["g","b"]}'
+        ),
+    ],
+)
 
 section("24: unknown geometry type")
 row("geometry-of-a-cone", [H, feature('"b":{"type":"Building","geometry":[{"type":^"Cone"}]}')], 24)
-row("geometry-in-another-case", [H, feature('"b":{"type":"Building","geometry":[{"type":^"solid"}]}')], 24)
+row(
+    "geometry-in-another-case",
+    [H, feature('"b":{"type":"Building","geometry":[{"type":^"solid"}]}')],
+    24,
+)
 row("geometry-with-no-name", [H, feature('"b":{"type":"Building","geometry":[{"type":^""}]}')], 24)
 row("template-of-a-cone", [templates('{"type":^"Cone"}')], 24)
 
 section("25: vertex index out of range")
 row("index-past-the-vertices", [H, one("[[[0,1,2,3]]]", "[[[0,1,2,^4]]]")], 25)
 row("index-below-zero", [H, one("[[[0,1,2,3]]]", "[[[0,1,2,^-1]]]")], 25)
-row("index-before-the-lod", [H, one('"lod":"2.2","boundaries":[[[0,1,2,3]]]', '"boundaries":[[[0,1,2,^4]]],"lod":2.2')], 25)
-row("index-of-a-template", [templates('{"type":"MultiSurface","lod":"1","boundaries":[[[0,1,^3]]]}')], 25)
+row(
+    "index-before-the-lod",
+    [H, one('"lod":"2.2","boundaries":[[[0,1,2,3]]]', '"boundaries":[[[0,1,2,^4]]],"lod":2.2')],
+    25,
+)
+row(
+    "index-of-a-template",
+    [templates('{"type":"MultiSurface","lod":"1","boundaries":[[[0,1,^3]]]}')],
+    25,
+)
 row("index-of-an-instance", [templates(), instance(boundaries="[^1]")], 25)
-row("index-with-no-vertices", [H, with_geometry('{"type":"MultiPoint","lod":"1","boundaries":[^0]}', "[]")], 25)
+row(
+    "index-with-no-vertices",
+    [H, with_geometry('{"type":"MultiPoint","lod":"1","boundaries":[^0]}', "[]")],
+    25,
+)
 
 section("26, 27: semantics")
 for name, values in (("null", "null"), ("null-shell", "[null]"), ("null-surface", "[[0,null]]")):
@@ -207,13 +303,20 @@ row("values-of-three-surfaces-of-two", [H, solid("[^[0,0,0]]")], 26)
 row("value-past-the-surfaces", [H, solid("[[0,^1]]")], 27)
 row("value-below-zero", [H, solid("[[0,^-1]]")], 27)
 row("value-of-no-surfaces", [H, solid("[[^0,null]]", surfaces="[]")], 27)
-row("value-of-the-last-surface", [H, solid("[[0,1]]", surfaces='[{"type":"RoofSurface"},{"type":"WallSurface"}]')])
+row(
+    "value-of-the-last-surface",
+    [H, solid("[[0,1]]", surfaces='[{"type":"RoofSurface"},{"type":"WallSurface"}]')],
+)
 
 section("28, 29: templates and instances")
 row("instance-of-a-template", [templates(), instance()])
 row("instance-asked-for-by-its-lod", [templates(), instance()], words=["--lod", "1"])
 row("instance-of-another-lod", [templates(), instance()], words=["--lod", "2"], kept=[1])
-row("templates-after-other-lines", [templates(), F, instance(), F, instance(), instance("^1"), F], 28)
+row(
+    "templates-after-other-lines",
+    [templates(), F, instance(), F, instance(), instance("^1"), F],
+    28,
+)
 row("template-past-the-list", [templates(), instance("^1")], 28)
 row("template-below-zero", [templates(), instance("^-1")], 28)
 row("template-of-no-list", [H, instance("^0")], 28)
@@ -225,33 +328,116 @@ row("instance-at-two-vertices", [templates(), instance(boundaries="^[0,0]")], 29
 
 section("30: boxes")
 row("translate-too-fine", [header("[1000.0,", "[^1e-19,"), F], 30, words=["--bbox=0,0,1,1"])
-row("translate-just-not-too-fine", [header("[1000.0,", "[1e-18,"), F], words=["--bbox=0,2000,0.000000000000000001,2001"])
+row(
+    "translate-just-not-too-fine",
+    [header("[1000.0,", "[1e-18,"), F],
+    words=["--bbox=0,2000,0.000000000000000001,2001"],
+)
 row("translate-too-fine-and-no-box", [header("[1000.0,", "[1e-19,")])
-row("scale-too-great", [header('"scale":[0.001,', '"scale":[^1e18,'), F], 30, words=["--bbox=0,0,1,1"])
-row("second-scale-too-fine", [header("[0.001,0.001,", "[0.001,^0.0000000000000000001,"), F], 30, words=["--bbox=0,0,1,1"])
-row("third-scale-too-fine", [header(",0.001]", ",1e-19]"), F], words=["--bbox=1001,2001,1005,2005"], kept=[1, 2])
+row(
+    "scale-too-great",
+    [header('"scale":[0.001,', '"scale":[^1e18,'), F],
+    30,
+    words=["--bbox=0,0,1,1"],
+)
+row(
+    "second-scale-too-fine",
+    [header("[0.001,0.001,", "[0.001,^0.0000000000000000001,"), F],
+    30,
+    words=["--bbox=0,0,1,1"],
+)
+row(
+    "third-scale-too-fine",
+    [header(",0.001]", ",1e-19]"), F],
+    words=["--bbox=1001,2001,1005,2005"],
+    kept=[1, 2],
+)
 row("box-that-touches-a-corner", [H, F], words=["--bbox=1001,2001,1005,2005"])
-row("box-just-beside-a-corner", [H, F], words=["--bbox=1001.000000000000000001,2001,1005,2005"], kept=[1])
-row("box-and-a-scale-below-zero", [header('"scale":[0.001,', '"scale":[-0.001,'), F], words=["--bbox=999,2000,999,2000"])
-row("box-on-the-wrong-side", [header('"scale":[0.001,', '"scale":[-0.001,'), F], words=["--bbox=1000.5,2000,1001,2001"], kept=[1])
+row(
+    "box-just-beside-a-corner",
+    [H, F],
+    words=["--bbox=1001.000000000000000001,2001,1005,2005"],
+    kept=[1],
+)
+row(
+    "box-and-a-scale-below-zero",
+    [header('"scale":[0.001,', '"scale":[-0.001,'), F],
+    words=["--bbox=999,2000,999,2000"],
+)
+row(
+    "box-on-the-wrong-side",
+    [header('"scale":[0.001,', '"scale":[-0.001,'), F],
+    words=["--bbox=1000.5,2000,1001,2001"],
+    kept=[1],
+)
 great = '{"type":"CityJSON","version":"2.0","transform":{"scale":[999999999999999999,999999999999999999,1],"translate":[0,0,0]},"CityObjects":{},"vertices":[]}'
-row("box-and-a-product-too-great", [great, feature(B, "[[999999999999999999,0,0]]")], words=["--bbox=0,0,999999999999999999,0"], kept=[1])
-row("box-between-two-products", [great, feature(B, "[[-999999999999999999,0,0],[999999999999999999,0,0]]")],
-    words=["--bbox=0,0,999999999999999999,0"])
+row(
+    "box-and-a-product-too-great",
+    [great, feature(B, "[[999999999999999999,0,0]]")],
+    words=["--bbox=0,0,999999999999999999,0"],
+    kept=[1],
+)
+row(
+    "box-between-two-products",
+    [great, feature(B, "[[-999999999999999999,0,0],[999999999999999999,0,0]]")],
+    words=["--bbox=0,0,999999999999999999,0"],
+)
 
 section("31: city objects apart")
 row("one-apart", [H, feature(B + ',"c":^{"type":"Building"}')], 31, words=["--tree"])
 row("one-apart-and-no-tree-asked", [H, feature(B + ',"c":{"type":"Building"}')])
-row("one-apart-before-the-main-one", [H, feature('"c":^{"type":"Building"},' + B)], 31, words=["--tree"])
+row(
+    "one-apart-before-the-main-one",
+    [H, feature('"c":^{"type":"Building"},' + B)],
+    31,
+    words=["--tree"],
+)
 row("one-apart-of-an-unknown-type", [H, feature(B + ',"c":^{"type":"Shed"}')], 31, words=["--tree"])
-row("one-apart-asked-for-by-its-type", [H, feature(B + ',"c":^{"type":"Road"}')], 31, words=["--tree", "--type", "Road"])
-row("a-circle-apart", [H, feature(B + ',"c":^{"type":"Building","children":["d"],"parents":["d"]},'
-                                  '"d":{"type":"Building","children":["c"],"parents":["c"]}')], 31, words=["--tree"])
-row("a-group-apart", [H, feature(B + ',"g":^{"type":"CityObjectGroup","children":["b"]}')], 31, words=["--tree"])
-row("a-chain-from-the-end", [H, feature('"q":{"type":"BuildingPart","parents":["p"]},"p":{"type":"BuildingPart","parents":["b"],'
-                                        '"children":["q"]},"b":{"type":"Building","children":["p"]}')], words=["--tree"])
-row("a-child-by-an-escape", [H, feature('"b":{"type":"Building","children":["\\u0070"]},"p":{"type":"BuildingPart","parents":["b"]}')],
-    words=["--tree"])
+row(
+    "one-apart-asked-for-by-its-type",
+    [H, feature(B + ',"c":^{"type":"Road"}')],
+    31,
+    words=["--tree", "--type", "Road"],
+)
+row(
+    "a-circle-apart",
+    [
+        H,
+        feature(
+            B + ',"c":^{"type":"Building","children":["d"],"parents":["d"]},'
+            '"d":{"type":"Building","children":["c"],"parents":["c"]}'
+        ),
+    ],
+    31,
+    words=["--tree"],
+)
+row(
+    "a-group-apart",
+    [H, feature(B + ',"g":^{"type":"CityObjectGroup","children":["b"]}')],
+    31,
+    words=["--tree"],
+)
+row(
+    "a-chain-from-the-end",
+    [
+        H,
+        feature(
+            '"q":{"type":"BuildingPart","parents":["p"]},"p":{"type":"BuildingPart","parents":["b"],'
+            '"children":["q"]},"b":{"type":"Building","children":["p"]}'
+        ),
+    ],
+    words=["--tree"],
+)
+row(
+    "a-child-by-an-escape",
+    [
+        H,
+        feature(
+            '"b":{"type":"Building","children":["\\u0070"]},"p":{"type":"BuildingPart","parents":["b"]}'
+        ),
+    ],
+    words=["--tree"],
+)
 
 section("ids, types and LoDs")
 row("asked-for-by-its-id", [H, F], words=["--id", "b1"])
@@ -266,4 +452,4 @@ row("asked-for-by-its-lod-and-another-id", [H, F], words=["--lod", "2.2", "--id"
 for count in range(1, 210):
     row(f"cut/{count:03}", [H, F[:count]], 4, count)
 for at in range(210):
-    row(f"not-utf8/{at:03}", [H, F.encode()[:at] + b"\x80" + F.encode()[at + 1:]], 3, at)
+    row(f"not-utf8/{at:03}", [H, F.encode()[:at] + b"\x80" + F.encode()[at + 1 :]], 3, at)

@@ -30,4 +30,8 @@ def wanted_of(row):
     lines = [line + b"\n" for line in ended] + [last]
     kept = [] if row["written"] == "-" else [int(number) for number in row["written"].split(",")]
     complete = row["answer"] == "complete"
-    return b"".join(lines[number - 1] for number in kept), b"" if complete else row["answer"].encode() + b"\n", int(not complete)
+    return (
+        b"".join(lines[number - 1] for number in kept),
+        b"" if complete else row["answer"].encode() + b"\n",
+        int(not complete),
+    )

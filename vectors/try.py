@@ -18,13 +18,19 @@ def differences(program, row):
     """What of a row comes out otherwise."""
     limits = ["--line-limit", row["line limit"], "--depth", row["depth"]]
     query = [] if row["query"] == "-" else row["query"].split(" ")
-    for name, wanted, got in zip(("written", "said", "status"), wanted_of(row), run([program, "filter", *limits, *query], row["text"])):
+    for name, wanted, got in zip(
+        ("written", "said", "status"),
+        wanted_of(row),
+        run([program, "filter", *limits, *query], row["text"]),
+    ):
         if wanted != got:
             yield f"{name}: wanted {wanted!r}, got {got!r}"
     if row["answer"] == "complete" and not query:
         report = run([program, "info", *limits], row["text"])[0].decode().splitlines()
         told = dict(line.rsplit(" ", 1) for line in report)
-        got = [told.get("lines")] + [told.get(f"peak {kind}") for kind in ("bytes", "tokens", "open")]
+        got = [told.get("lines")] + [
+            told.get(f"peak {kind}") for kind in ("bytes", "tokens", "open")
+        ]
         wanted = [row["lines"], *row["peaks"].split(" ")]
         if wanted != got:
             yield f"lines and peaks: wanted {wanted}, got {got}"
@@ -47,7 +53,11 @@ def try_cityseq(program):
 
 
 def try_peer(command):
-    usual = [row for row in rows() if row["query"] == "-" and (row["line limit"], row["depth"]) == ("1000", "64")]
+    usual = [
+        row
+        for row in rows()
+        if row["query"] == "-" and (row["line limit"], row["depth"]) == ("1000", "64")
+    ]
     differ = 0
     for row, (_, _, status) in for_each(lambda row: run(command, row["text"]), usual):
         valid = row["answer"] == "complete"

@@ -21,8 +21,10 @@ RUNS = 3
 COMMANDS = (("check",), ("info",), ("filter", "--lod", "2"))
 TREE_COMMANDS = (("check", "--tree"),)
 LETTERS = "-0123456789ABCDEFGHIJKLMNOPQRSTUVWXYZ_abcdefghijklmnopqrstuvwxyz"
-HEADER = ('{"type":"CityJSON","version":"2.0","transform":{"scale":[1,1,1],"translate":[0,0,0]},'
-          '"CityObjects":{},"vertices":[]%s}\n')
+HEADER = (
+    '{"type":"CityJSON","version":"2.0","transform":{"scale":[1,1,1],"translate":[0,0,0]},'
+    '"CityObjects":{},"vertices":[]%s}\n'
+)
 PART = '{"type":"BuildingPart","parents":["b"]}'
 
 
@@ -52,7 +54,9 @@ def building(more=""):
 
 def geometry(boundaries, more="", kind="MultiSurface"):
     """The city object `b` with a geometry of these boundaries."""
-    return building(f',"geometry":[{{"type":"{kind}","lod":"2","boundaries":[{boundaries}]{more}}}]')
+    return building(
+        f',"geometry":[{{"type":"{kind}","lod":"2","boundaries":[{boundaries}]{more}}}]'
+    )
 
 
 def name(i):
@@ -99,7 +103,10 @@ def in_order(order, count):
 def short_names(n, order, before="", spell=str):
     """Unread members of the feature, as many as there is room for, in an order."""
     count = n // len(f'"{spell(before + short_text(0))}":1,')
-    return feature(building(), more="," + ",".join(f'"{spell(before + short_text(i))}":1' for i in in_order(order, count)))
+    return feature(
+        building(),
+        more="," + ",".join(f'"{spell(before + short_text(i))}":1' for i in in_order(order, count)),
+    )
 
 
 def escaped(text):
@@ -130,7 +137,10 @@ def parents_of_none(n, order, before=""):
     count = n // 2 // (len(before) + 7)
     listed = ",".join(f'"{before}{short_text(i)}"' for i in in_order(order, count))
     part = f'"p":{{"type":"BuildingPart","parents":[{listed},"b"]}}'
-    others = ",".join(f'"{before}~{short_text(i)}":{{"type":"Road"}}' for i in in_order("none", n // 2 // (len(before) + 25)))
+    others = ",".join(
+        f'"{before}~{short_text(i)}":{{"type":"Road"}}'
+        for i in in_order("none", n // 2 // (len(before) + 25))
+    )
     return feature(building(',"children":["p"]') + "," + part + "," + others)
 
 
@@ -147,33 +157,51 @@ def parents_in_turn(n):
     """A building of a long name that lists two parents in turn, again and again."""
     long, other = "a" * (n // 8), '{"type":"Building","children":["%s"]}'
     listed = ",".join(['"p","q"'] * (n * 5 // 8 // 8))
-    return feature(building() + f',"p":{other % long},"q":{other % long},"{long}":{{"type":"Building","parents":[{listed}]}}')
+    return feature(
+        building()
+        + f',"p":{other % long},"q":{other % long},"{long}":{{"type":"Building","parents":[{listed}]}}'
+    )
 
 
 def links_of_one_hash(n):
     """Parts whose names all have one hash of 64 bits, which one building lists."""
-    count = next(count for count in itertools.count(1) if 2 ** count * (16 * count + 45) > n)
-    texts = ["".join(text) for text in itertools.product(*(pair.split(" ") for pair in found("whole", count)))]
+    count = next(count for count in itertools.count(1) if 2**count * (16 * count + 45) > n)
+    texts = [
+        "".join(text)
+        for text in itertools.product(*(pair.split(" ") for pair in found("whole", count)))
+    ]
     texts = texts[: n // (16 * count + 45)]
     parts = ",".join(f'"{text}":{{"type":"BuildingPart","parents":["b"]}}' for text in texts)
-    return feature(building(f',"children":[{",".join(chr(34) + text + chr(34) for text in texts)}]') + "," + parts)
+    return feature(
+        building(f',"children":[{",".join(chr(34) + text + chr(34) for text in texts)}]')
+        + ","
+        + parts
+    )
 
 
 def small_features(n):
     """Features of one instance each, of templates far apart in the list."""
     matrix, count = ",".join(["1"] * 16), n // 2 // 65
-    line = ('{{"type":"CityJSONFeature","id":"b","CityObjects":{{"b":{{"type":"Building","geometry":[{{"type":'
-            '"GeometryInstance","template":{},"boundaries":[0],"transformationMatrix":[' + matrix + ']}}]}}}},"vertices":[[0,0,0]]}}\n')
+    line = (
+        '{{"type":"CityJSONFeature","id":"b","CityObjects":{{"b":{{"type":"Building","geometry":[{{"type":'
+        '"GeometryInstance","template":{},"boundaries":[0],"transformationMatrix":['
+        + matrix
+        + ']}}]}}}},"vertices":[[0,0,0]]}}\n'
+    )
     return "".join(line.format(count - 1 - i * 7919 % (count // 2)) for i in range(n // 2 // 230))
 
 
 def usual(n):
     count = n // 72
-    surfaces = ",".join(f"[[{i % count},{i * 7 % count},{i * 31 % count}]]" for i in range(2 * count))
+    surfaces = ",".join(
+        f"[[{i % count},{i * 7 % count},{i * 31 % count}]]" for i in range(2 * count)
+    )
     values = ",".join(str(i % 3) for i in range(2 * count))
     kinds = ",".join(f'{{"type":"{kind}Surface"}}' for kind in ("Ground", "Roof", "Wall"))
     semantics = f',"semantics":{{"surfaces":[{kinds}],"values":[[{values}]]}}'
-    points = ",".join(f"[{i * 7919 % 1000000},{i * 104729 % 1000000},{i * 31 % 30000}]" for i in range(count))
+    points = ",".join(
+        f"[{i * 7919 % 1000000},{i * 104729 % 1000000},{i * 31 % 30000}]" for i in range(count)
+    )
     return feature(geometry(f"[{surfaces}]", semantics, "Solid"), points)
 
 
@@ -194,7 +222,8 @@ def chain(n):
     count = n // 78
     parts = ",".join(
         f'"p{i}":{{"type":"BuildingPart","parents":["{f"p{i - 1}" if i else "b"}"],"children":[{f"{chr(34)}p{i + 1}{chr(34)}" if i + 1 < count else ""}]}}'
-        for i in range(count))
+        for i in range(count)
+    )
     return feature(building(',"children":["p0"]') + "," + parts)
 
 
@@ -210,12 +239,17 @@ def pairs_in_turn(n):
     children, parents = ",".join(['"q","r"'] * again), ",".join(['"b","c"'] * again)
     each = f'{{"type":"BuildingPart","parents":[{parents}]}}'
     few = '{"type":"BuildingPart","parents":["b"]}'
-    return feature(building(f',"children":[{children},"p"]') + f',"c":{{"type":"Building","children":["p"]}},"p":{each},"q":{few},"r":{few}')
+    return feature(
+        building(f',"children":[{children},"p"]')
+        + f',"c":{{"type":"Building","children":["p"]}},"p":{each},"q":{few},"r":{few}'
+    )
 
 
 def absent_parents(n):
     half = many(n // 2, lambda i: f'"p{i}":{{"type":"Building"}}')
-    return feature(building(f',"parents":[{many(n // 2, lambda i: f"{chr(34)}q{i}{chr(34)}")}]') + "," + half)
+    return feature(
+        building(f',"parents":[{many(n // 2, lambda i: f"{chr(34)}q{i}{chr(34)}")}]') + "," + half
+    )
 
 
 def absent_children(n):
@@ -229,7 +263,9 @@ MEETING = "meeting"  # the program of meeting.c, unless it is told
 
 def found(kind, count):
     """So many lines of the program of meeting.c."""
-    return subprocess.run([MEETING, kind, str(count)], capture_output=True, text=True, check=True).stdout.splitlines()
+    return subprocess.run(
+        [MEETING, kind, str(count)], capture_output=True, text=True, check=True
+    ).stdout.splitlines()
 
 
 def names_of_few_marks(n):
@@ -239,7 +275,7 @@ def names_of_few_marks(n):
 
 def names_of_one_hash(n):
     """Names that all have one hash of 64 bits: one of each pair of texts, in order."""
-    count = next(count for count in itertools.count(1) if 2 ** count * (8 * count + 5) > n)
+    count = next(count for count in itertools.count(1) if 2**count * (8 * count + 5) > n)
     pairs = [pair.split(" ") for pair in found("whole", count)]
     texts = itertools.product(*pairs)
     return many(n, lambda i: f'"{"".join(next(texts))}":0')
@@ -247,8 +283,11 @@ def names_of_one_hash(n):
 
 def hanging(objects, order):
     """City objects, each a name with its children and with its parents, in an order, behind `b`, which lists the first."""
-    each = ",".join('"%s":{"type":"BuildingPart","parents":[%s],"children":[%s]}' % (
-        objects[i][0], *(",".join(f'"{text}"' for text in listed) for listed in objects[i][1:])) for i in in_order(order, len(objects)))
+    each = ",".join(
+        '"%s":{"type":"BuildingPart","parents":[%s],"children":[%s]}'
+        % (objects[i][0], *(",".join(f'"{text}"' for text in listed) for listed in objects[i][1:]))
+        for i in in_order(order, len(objects))
+    )
     return feature(building(f',"children":["{objects[0][0]}"]') + "," + each)
 
 
@@ -256,14 +295,23 @@ def chain_in(n, order, spell=str):
     """A chain of city objects, each of which lists the next one, in an order."""
     count = n // (3 * len(spell("p000000")) + 57)
     ids = [spell(f"p{i:06}") for i in range(count)]
-    return hanging([(ids[i], ids[max(i - 1, 0):i] or ["b"], ids[i + 1:i + 2]) for i in range(count)], order)
+    return hanging(
+        [(ids[i], ids[max(i - 1, 0) : i] or ["b"], ids[i + 1 : i + 2]) for i in range(count)], order
+    )
 
 
 def comb(n, order):
     """A chain of which each city object also lists one that lists none, in an order."""
     count = n // 2 // 80
     teeth = [(f"q{i:06}", [f"p{i:06}"], []) for i in range(count)]
-    back = [(f"p{i:06}", [f"p{i - 1:06}" if i else "b"], [f"q{i:06}"] + [f"p{i + 1:06}"] * (i + 1 < count)) for i in range(count)]
+    back = [
+        (
+            f"p{i:06}",
+            [f"p{i - 1:06}" if i else "b"],
+            [f"q{i:06}"] + [f"p{i + 1:06}"] * (i + 1 < count),
+        )
+        for i in range(count)
+    ]
     return hanging(back + teeth, order)
 
 
@@ -278,7 +326,10 @@ def one_of_all(n, order):
 def groups(n, order):
     """A group in which a group is, and so on, in an order."""
     count = n // 60
-    each = ",".join(f'"g{i:06}":{{"type":"CityObjectGroup","children":["g{i + 1:06}"]}}' for i in in_order(order, count - 1))
+    each = ",".join(
+        f'"g{i:06}":{{"type":"CityObjectGroup","children":["g{i + 1:06}"]}}'
+        for i in in_order(order, count - 1)
+    )
     last = f'"g{count - 1:06}":{{"type":"CityObjectGroup","children":["b"]}}'
     return feature('"b":{"type":"CityObjectGroup","children":["g000000"]},' + last + "," + each)
 
@@ -293,6 +344,7 @@ def half_listed(ids):
 
 def reduced(basis):
     """A basis of the same lattice whose vectors are short (Lenstra, Lenstra and Lovasz)."""
+
     def dot(left, right):
         return sum(a * b for a, b in zip(left, right))
 
@@ -348,13 +400,18 @@ def names_of_one_mix(count):
 def instances(n, template):
     """Instances, each of the template of a number that is told by its own and by how many there are."""
     matrix, count = ",".join(["1"] * 16), n // 80
-    listed = many(n, lambda i: f'{{"type":"GeometryInstance","template":{template(i, count)},"boundaries":[0],"transformationMatrix":[{matrix}]}}')
+    listed = many(
+        n,
+        lambda i: f'{{"type":"GeometryInstance","template":{template(i, count)},"boundaries":[0],"transformationMatrix":[{matrix}]}}',
+    )
     return feature(building(f',"geometry":[{listed}]'), "[0,0,0]")
 
 
 def many_templates(n):
     template = '{"type":"MultiSurface","lod":"2","boundaries":[[[0,0,0]]]}'
-    listed = ",".join([template] * (n // 80))  # of a stream of small features, as many as its instances name
+    listed = ",".join(
+        [template] * (n // 80)
+    )  # of a stream of small features, as many as its instances name
     return f',"geometry-templates":{{"templates":[{listed}],"vertices-templates":[[0,0,0]]}}'
 
 
@@ -366,13 +423,21 @@ def wide_template(n):
 SHAPES = {
     "usual": usual,
     "names in the root": lambda n: feature(building(), more="," + many(n, name)),
-    "names of city objects": lambda n: feature(building() + "," + many(n, lambda i: f'"p{i}":{{"type":"Road"}}')),
+    "names of city objects": lambda n: feature(
+        building() + "," + many(n, lambda i: f'"p{i}":{{"type":"Road"}}')
+    ),
     "names in a city object": lambda n: feature(building("," + many(n, name))),
     "names in a geometry": lambda n: feature(geometry("[[0,0,0]]", "," + many(n, name)), "[0,0,0]"),
     "names in a surface": lambda n: feature(
-        geometry("[[0,0,0]]", f',"semantics":{{"surfaces":[{{"type":"+A",{many(n, name)}}}],"values":[0]}}'), "[0,0,0]"),
+        geometry(
+            "[[0,0,0]]",
+            f',"semantics":{{"surfaces":[{{"type":"+A",{many(n, name)}}}],"values":[0]}}',
+        ),
+        "[0,0,0]",
+    ),
     "names of one length, alike at both ends": lambda n: feature(
-        building("," + many(n, lambda i: f'"{spread("ab", i, True)}{"x" * 16}":0'))),
+        building("," + many(n, lambda i: f'"{spread("ab", i, True)}{"x" * 16}":0'))
+    ),
     "names that meet in the marks": lambda n: feature(building("," + names_of_few_marks(n))),
     "names of one hash": lambda n: feature(building("," + names_of_one_hash(n))),
     "short names in rising order": lambda n: short_names(n, "rising"),
@@ -385,7 +450,8 @@ SHAPES = {
     "names behind 200 letters": lambda n: short_names(n, "none", "a" * 200),
     "short names by escapes, falling": lambda n: short_names(n, "falling", spell=escaped),
     "names by escapes": lambda n: feature(
-        building("," + many(n, lambda i: '"' + "".join(f"\\u{ord(c):04x}" for c in str(i)) + '":0'))),
+        building("," + many(n, lambda i: '"' + "".join(f"\\u{ord(c):04x}" for c in str(i)) + '":0'))
+    ),
     "one parent of all": one_parent,
     "children listed backwards": lambda n: one_parent(n, True),
     "a chain of parents": chain,
@@ -409,16 +475,26 @@ SHAPES = {
     "a part of unknown parents": lambda n: parents_of_none(n, "none"),
     "a part of unknown parents, falling": lambda n: parents_of_none(n, "falling", "a" * 9),
     "instances of the last template": lambda n: instances(n, lambda i, count: count - 1),
-    "instances of templates far apart": lambda n: instances(n, lambda i, count: (i * 7919 + i % 2 * (count // 2)) % count),
+    "instances of templates far apart": lambda n: instances(
+        n, lambda i, count: (i * 7919 + i % 2 * (count // 2)) % count
+    ),
     "instances of a template of many members": lambda n: instances(n, lambda i, count: 0),
     "small features of far templates": small_features,
     "many surfaces": many_surfaces,
-    "nests of 60": lambda n: feature(building(f',"attributes":[{many(n, lambda i: "[" * 56 + "]" * 56)}]')),
-    "a string of escapes": lambda n: feature(building(f',"attributes":{{"a":"{chr(92)}u0041' + "\\n" * (n // 2) + '"}')),
+    "nests of 60": lambda n: feature(
+        building(f',"attributes":[{many(n, lambda i: "[" * 56 + "]" * 56)}]')
+    ),
+    "a string of escapes": lambda n: feature(
+        building(f',"attributes":{{"a":"{chr(92)}u0041' + "\\n" * (n // 2) + '"}')
+    ),
     "a number of many digits": lambda n: feature(building(f',"attributes":{{"a":1.{"7" * n}}}')),
-    "a coordinate of many digits": lambda n: feature(building(), f'[0,0,{"0" if n < 1 else "1"}.{"0" * n}]'),
+    "a coordinate of many digits": lambda n: feature(
+        building(), f'[0,0,{"0" if n < 1 else "1"}.{"0" * n}]'
+    ),
     "an id of many letters": lambda n: feature(
-        building(f',"children":["{"a" * (n // 4)}"]') + f',"{"a" * (n // 4)}":{{"type":"Building","parents":["b"]}}'),
+        building(f',"children":["{"a" * (n // 4)}"]')
+        + f',"{"a" * (n // 4)}":{{"type":"Building","parents":["b"]}}'
+    ),
 }
 
 
@@ -462,8 +538,13 @@ def seconds_of(program, command, path, most):
         before = processor_seconds()
         with open(path, "rb") as stream:
             try:
-                ran = subprocess.run([program, *command], stdin=stream, stdout=subprocess.DEVNULL,
-                                     stderr=subprocess.PIPE, timeout=4 * most)
+                ran = subprocess.run(
+                    [program, *command],
+                    stdin=stream,
+                    stdout=subprocess.DEVNULL,
+                    stderr=subprocess.PIPE,
+                    timeout=4 * most,
+                )
             except subprocess.TimeoutExpired:
                 return None
         if ran.returncode and b": 31 " not in ran.stderr:
@@ -498,11 +579,21 @@ def main():
     program, MEETING, most = sys.argv[1], sys.argv[2], float(sys.argv[3])
     word = sys.argv[4] if len(sys.argv) > 4 else ""
     usual_seconds = {length: {} for length in LENGTHS}
-    print(f"{'shape':<46}" + "".join(f"{length:>12,}{'of usual':>10}" for length in LENGTHS) + f"{'growth by a doubling':>24}")
+    print(
+        f"{'shape':<46}"
+        + "".join(f"{length:>12,}{'of usual':>10}" for length in LENGTHS)
+        + f"{'growth by a doubling':>24}"
+    )
     for shape in (*SHAPES, *TREES):
         if word not in shape and shape != "usual":
             continue
-        commands = COMMANDS + TREE_COMMANDS if shape == "usual" else TREE_COMMANDS if shape in TREES else COMMANDS
+        commands = (
+            COMMANDS + TREE_COMMANDS
+            if shape == "usual"
+            else TREE_COMMANDS
+            if shape in TREES
+            else COMMANDS
+        )
         shown, last, growth = "", None, None
         for length in LENGTHS:
             with tempfile.NamedTemporaryFile(delete=False) as stream:

@@ -38,8 +38,10 @@ def main(path):
     times = best([partial(run, words, path) for words in commands], ROUNDS)
     print("options                               kept   seconds   of the time of all")
     for words, command, seconds in zip(PARTS, commands, times):
-        print(f"{' '.join(words):34} {kept(command, path):>7} {seconds:>9.3f}"
-              f" {seconds / times[0]:>20.2f}")
+        print(
+            f"{' '.join(words):34} {kept(command, path):>7} {seconds:>9.3f}"
+            f" {seconds / times[0]:>20.2f}"
+        )
 
 
 if __name__ == "__main__":

@@ -12,8 +12,9 @@ import os
 import sys
 from itertools import chain, islice
 
-import cityseq
 import psycopg2
+
+import cityseq
 
 TABLES = os.path.join(os.path.dirname(os.path.abspath(__file__)), "tables.sql")
 STREAM = "INSERT INTO streams (path, header) VALUES (%s, %s) RETURNING stream"

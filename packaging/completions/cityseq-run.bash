@@ -11,7 +11,7 @@ _cityseq_run() {
     TunnelInstallation TunnelPart'
   COMPREPLY=()
   if [ "$COMP_CWORD" = 1 ]; then
-    options='check filter info index report serve explain help -h --help -V --version'
+    options='check filter info index pack report split collect serve explain help -h --help -V --version'
     mapfile -t COMPREPLY < <(compgen -W "$options" -- "$current")
     return
   fi
@@ -34,50 +34,66 @@ _cityseq_run() {
       mapfile -t COMPREPLY < <(compgen -W 'sarif' -- "$current")
       return
       ;;
-    --line-limit | --depth | -j | --jobs | --part-size | --max-reports | --id | --lod | --bbox | --base | --level | --title | --host | --port | --url | --cors | --max-requests | --max-bodies | --max-body | --max-features | --max-seconds | --idle-seconds | --min-rate | --stop-seconds)
+    --line-limit | --depth | -j | --jobs | --part-size | --cluster | --max-reports | --id | --lod | --bbox | --limit | --base | --level | --title | --host | --port | --url | --cors | --max-requests | --max-bodies | --max-body | --max-whole | --max-features | --max-seconds | --idle-seconds | --min-rate | --stop-seconds)
       return
       ;;
   esac
   case ${COMP_WORDS[1]} in
     check)
       options='
-        --line-limit --depth --keep-going --tree --files-from --null -j --jobs --part-size
-        --json --sha256 --max-reports --summary --progress -q --quiet --format --record --resume
-        -h --help'
+        --line-limit --depth --keep-going --tree --whole --files-from --null -j --jobs
+        --part-size --cluster --json --sha256 --max-reports --summary --progress -q --quiet
+        --format --record --resume -h --help'
       files=yes
       ;;
     filter)
       options='
         --line-limit --depth --keep-going --tree --exclude --id --ids-from --type --lod --bbox
-        --index --base -o --output --output-dir --keep-folders --keep-partial --level
-        --files-from --null -j --jobs --part-size --json --sha256 --max-reports --summary
-        --progress -q --quiet --record --resume -h --help'
+        --limit --index --base -o --output --output-dir --keep-folders --keep-partial --level
+        --files-from --null -j --jobs --part-size --cluster --json --sha256 --max-reports
+        --summary --progress -q --quiet --record --resume -h --help'
       files=yes
       ;;
     info)
       options='
-        --line-limit --depth --tree --lods --files-from --null -j --jobs --part-size --json
-        --sha256 --max-reports --summary --progress -q --quiet -h --help'
+        --line-limit --depth --tree --whole --lods --files-from --null -j --jobs --part-size
+        --cluster --json --sha256 --max-reports --summary --progress -q --quiet -h --help'
       files=yes
       ;;
     index)
       options='
-        --line-limit --depth --keep-going --tree -o --output --show --refresh --files-from
-        --null -j --jobs --part-size --json --max-reports --summary --progress -q --quiet -h
+        --line-limit --depth --keep-going --tree -o --output --footprints --show --refresh
+        --files-from --null -j --jobs --part-size --cluster --json --max-reports --summary
+        --progress -q --quiet -h --help'
+      files=yes
+      ;;
+    pack)
+      options='
+        -o --output --verify --level --files-from --null -j --jobs --progress -q --quiet -h
         --help'
       files=yes
       ;;
     report)
       options='
-        --line-limit --depth --tree -o --output --title --files-from --null -j --jobs
+        --line-limit --depth --tree --whole -o --output --title --files-from --null -j --jobs
         --part-size --json --progress -q --quiet -h --help'
+      files=yes
+      ;;
+    split)
+      options='
+        --line-limit -o --output -q --quiet -h --help'
+      files=yes
+      ;;
+    collect)
+      options='
+        --line-limit --depth -o --output --files-from --null -q --quiet -h --help'
       files=yes
       ;;
     serve)
       options='
         --host --port --url --cors --base -j --jobs --max-requests --max-bodies --max-body
-        --max-features --max-seconds --idle-seconds --min-rate --stop-seconds --line-limit
-        --depth -q --quiet -h --help'
+        --max-whole --max-features --max-seconds --idle-seconds --min-rate --stop-seconds
+        --line-limit --depth -q --quiet -h --help'
       files=yes
       ;;
     explain)
@@ -85,7 +101,7 @@ _cityseq_run() {
         -h --help 1 2 3 4 5 10 11 12 13 14 15 16 17 18 19 20 21 22 23 24 25 26 27 28 29 30 31'
       files=
       ;;
-    help) options='check filter info index report serve explain' ;;
+    help) options='check filter info index pack report split collect serve explain' ;;
   esac
   if [ -n "$files" ] && [[ $current != -* ]]; then
     mapfile -t COMPREPLY < <(compgen -f -- "$current")

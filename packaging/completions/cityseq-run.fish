@@ -1,6 +1,6 @@
 # Completion of cityseq-run for fish. packaging/options.py writes this file.
 
-set -l commands check filter info index report serve explain help
+set -l commands check filter info index pack report split collect serve explain help
 set -g __cityseq_run_types \
     Bridge Building CityFurniture CityObjectGroup GenericCityObject LandUse OtherConstruction \
     PlantCover Railway Road SolitaryVegetationObject TINRelief TransportSquare Tunnel WaterBody \
@@ -14,7 +14,10 @@ complete -c cityseq-run -n "not __fish_seen_subcommand_from $commands" -a check 
 complete -c cityseq-run -n "not __fish_seen_subcommand_from $commands" -a filter -d 'Copy the header and the features that a query selects'
 complete -c cityseq-run -n "not __fish_seen_subcommand_from $commands" -a info -d 'Summarise a valid stream'
 complete -c cityseq-run -n "not __fish_seen_subcommand_from $commands" -a index -d 'Write an index of streams as a GeoPackage'
+complete -c cityseq-run -n "not __fish_seen_subcommand_from $commands" -a pack -d 'Pack files so that a cut by an index reads only a part of them'
 complete -c cityseq-run -n "not __fish_seen_subcommand_from $commands" -a report -d 'Write a page about a delivery'
+complete -c cityseq-run -n "not __fish_seen_subcommand_from $commands" -a split -d 'Make a stream of a whole CityJSON file'
+complete -c cityseq-run -n "not __fish_seen_subcommand_from $commands" -a collect -d 'Make one whole CityJSON file of streams'
 complete -c cityseq-run -n "not __fish_seen_subcommand_from $commands" -a serve -d 'Serve streams by their indexes'
 complete -c cityseq-run -n "not __fish_seen_subcommand_from $commands" -a explain -d 'Explain the code of a reason'
 complete -c cityseq-run -n "not __fish_seen_subcommand_from $commands" -a help -d 'Print this help'
@@ -26,10 +29,12 @@ complete -c cityseq-run -n '__fish_seen_subcommand_from check' -l line-limit -x 
 complete -c cityseq-run -n '__fish_seen_subcommand_from check' -l depth -x -d 'Reject a line with more arrays and objects open at once'
 complete -c cityseq-run -n '__fish_seen_subcommand_from check' -l keep-going -d 'Report each invalid line and go on with the next'
 complete -c cityseq-run -n '__fish_seen_subcommand_from check' -l tree -d 'Reject a feature unless children lead from its main city object to all others'
+complete -c cityseq-run -n '__fish_seen_subcommand_from check' -l whole -d 'Each FILE is a whole CityJSON file'
 complete -c cityseq-run -n '__fish_seen_subcommand_from check' -l files-from -r -F -d 'Read the names of files from this file'
 complete -c cityseq-run -n '__fish_seen_subcommand_from check' -l null -d 'Lists have a NUL after each name or id'
 complete -c cityseq-run -n '__fish_seen_subcommand_from check' -s j -l jobs -x -d 'Use this number of threads'
 complete -c cityseq-run -n '__fish_seen_subcommand_from check' -l part-size -x -d 'Judge parts of this many bytes'
+complete -c cityseq-run -n '__fish_seen_subcommand_from check' -l cluster -x -d 'Let the workers of this scheduler of Dask judge each FILE'
 complete -c cityseq-run -n '__fish_seen_subcommand_from check' -l json -d 'Write JSON'
 complete -c cityseq-run -n '__fish_seen_subcommand_from check' -l sha256 -d 'With --json'
 complete -c cityseq-run -n '__fish_seen_subcommand_from check' -l max-reports -x -d 'Write at most this many reports of each FILE'
@@ -46,12 +51,13 @@ complete -c cityseq-run -n '__fish_seen_subcommand_from filter' -l line-limit -x
 complete -c cityseq-run -n '__fish_seen_subcommand_from filter' -l depth -x -d 'Reject a line with more arrays and objects open at once'
 complete -c cityseq-run -n '__fish_seen_subcommand_from filter' -l keep-going -d 'Report each invalid line and go on with the next'
 complete -c cityseq-run -n '__fish_seen_subcommand_from filter' -l tree -d 'Reject a feature unless children lead from its main city object to all others'
-complete -c cityseq-run -n '__fish_seen_subcommand_from filter' -l exclude -d 'Keep the features that the options below do not select'
+complete -c cityseq-run -n '__fish_seen_subcommand_from filter' -l exclude -d 'Keep the features that the options up to --bbox do not select'
 complete -c cityseq-run -n '__fish_seen_subcommand_from filter' -l id -x -d 'Select features by id'
 complete -c cityseq-run -n '__fish_seen_subcommand_from filter' -l ids-from -r -F -d 'Select features by id'
 complete -c cityseq-run -n '__fish_seen_subcommand_from filter' -l type -x -a '(__fish_complete_list , "string join \n $__cityseq_run_types")' -d 'Select features that have a city object of one of these types'
 complete -c cityseq-run -n '__fish_seen_subcommand_from filter' -l lod -x -d 'Select features that have a geometry with one of these LoDs'
 complete -c cityseq-run -n '__fish_seen_subcommand_from filter' -l bbox -x -d 'Select features that reach into this box'
+complete -c cityseq-run -n '__fish_seen_subcommand_from filter' -l limit -x -d 'Keep at most this many features in all'
 complete -c cityseq-run -n '__fish_seen_subcommand_from filter' -l index -r -F -d 'Read only the selected lines of the streams of this index'
 complete -c cityseq-run -n '__fish_seen_subcommand_from filter' -l base -x -d 'With --index'
 complete -c cityseq-run -n '__fish_seen_subcommand_from filter' -s o -l output -r -F -d 'Write to this file when the run has ended well'
@@ -63,6 +69,7 @@ complete -c cityseq-run -n '__fish_seen_subcommand_from filter' -l files-from -r
 complete -c cityseq-run -n '__fish_seen_subcommand_from filter' -l null -d 'Lists have a NUL after each name or id'
 complete -c cityseq-run -n '__fish_seen_subcommand_from filter' -s j -l jobs -x -d 'Use this number of threads'
 complete -c cityseq-run -n '__fish_seen_subcommand_from filter' -l part-size -x -d 'Judge parts of this many bytes'
+complete -c cityseq-run -n '__fish_seen_subcommand_from filter' -l cluster -x -d 'Let the workers of this scheduler of Dask judge each FILE'
 complete -c cityseq-run -n '__fish_seen_subcommand_from filter' -l json -d 'Write JSON'
 complete -c cityseq-run -n '__fish_seen_subcommand_from filter' -l sha256 -d 'With --json'
 complete -c cityseq-run -n '__fish_seen_subcommand_from filter' -l max-reports -x -d 'Write at most this many reports of each FILE'
@@ -77,11 +84,13 @@ complete -c cityseq-run -n '__fish_seen_subcommand_from info' -F
 complete -c cityseq-run -n '__fish_seen_subcommand_from info' -l line-limit -x -d 'Reject a line of more bytes'
 complete -c cityseq-run -n '__fish_seen_subcommand_from info' -l depth -x -d 'Reject a line with more arrays and objects open at once'
 complete -c cityseq-run -n '__fish_seen_subcommand_from info' -l tree -d 'Reject a feature unless children lead from its main city object to all others'
+complete -c cityseq-run -n '__fish_seen_subcommand_from info' -l whole -d 'Each FILE is a whole CityJSON file'
 complete -c cityseq-run -n '__fish_seen_subcommand_from info' -l lods -d 'Count the features with each text of an LoD'
 complete -c cityseq-run -n '__fish_seen_subcommand_from info' -l files-from -r -F -d 'Read the names of files from this file'
 complete -c cityseq-run -n '__fish_seen_subcommand_from info' -l null -d 'Lists have a NUL after each name or id'
 complete -c cityseq-run -n '__fish_seen_subcommand_from info' -s j -l jobs -x -d 'Use this number of threads'
 complete -c cityseq-run -n '__fish_seen_subcommand_from info' -l part-size -x -d 'Judge parts of this many bytes'
+complete -c cityseq-run -n '__fish_seen_subcommand_from info' -l cluster -x -d 'Let the workers of this scheduler of Dask judge each FILE'
 complete -c cityseq-run -n '__fish_seen_subcommand_from info' -l json -d 'Write JSON'
 complete -c cityseq-run -n '__fish_seen_subcommand_from info' -l sha256 -d 'With --json'
 complete -c cityseq-run -n '__fish_seen_subcommand_from info' -l max-reports -x -d 'Write at most this many reports of each FILE'
@@ -96,12 +105,14 @@ complete -c cityseq-run -n '__fish_seen_subcommand_from index' -l depth -x -d 'R
 complete -c cityseq-run -n '__fish_seen_subcommand_from index' -l keep-going -d 'Report each invalid line and go on with the next'
 complete -c cityseq-run -n '__fish_seen_subcommand_from index' -l tree -d 'Reject a feature unless children lead from its main city object to all others'
 complete -c cityseq-run -n '__fish_seen_subcommand_from index' -s o -l output -r -F -d 'Write the index to this file when all streams were read'
+complete -c cityseq-run -n '__fish_seen_subcommand_from index' -l footprints -d 'Add a layer with the ground of each feature'
 complete -c cityseq-run -n '__fish_seen_subcommand_from index' -l show -r -F -d 'Describe an index'
 complete -c cityseq-run -n '__fish_seen_subcommand_from index' -l refresh -r -F -d 'Write the new times of streams into an index if their content is the same'
 complete -c cityseq-run -n '__fish_seen_subcommand_from index' -l files-from -r -F -d 'Read the names of files from this file'
 complete -c cityseq-run -n '__fish_seen_subcommand_from index' -l null -d 'Lists have a NUL after each name or id'
 complete -c cityseq-run -n '__fish_seen_subcommand_from index' -s j -l jobs -x -d 'Use this number of threads'
 complete -c cityseq-run -n '__fish_seen_subcommand_from index' -l part-size -x -d 'Judge parts of this many bytes'
+complete -c cityseq-run -n '__fish_seen_subcommand_from index' -l cluster -x -d 'Let the workers of this scheduler of Dask judge each FILE'
 complete -c cityseq-run -n '__fish_seen_subcommand_from index' -l json -d 'Write JSON'
 complete -c cityseq-run -n '__fish_seen_subcommand_from index' -l max-reports -x -d 'Write at most this many reports of each FILE'
 complete -c cityseq-run -n '__fish_seen_subcommand_from index' -l summary -d 'Count how often each reason occurs'
@@ -109,10 +120,22 @@ complete -c cityseq-run -n '__fish_seen_subcommand_from index' -l progress -d 'S
 complete -c cityseq-run -n '__fish_seen_subcommand_from index' -s q -l quiet -d 'Write only faults'
 complete -c cityseq-run -n '__fish_seen_subcommand_from index' -s h -l help -d 'Print help'
 
+complete -c cityseq-run -n '__fish_seen_subcommand_from pack' -F
+complete -c cityseq-run -n '__fish_seen_subcommand_from pack' -s o -l output -r -F -d 'Write the archive of one FILE to this file'
+complete -c cityseq-run -n '__fish_seen_subcommand_from pack' -l verify -d 'Read archives'
+complete -c cityseq-run -n '__fish_seen_subcommand_from pack' -l level -x -d 'Pack outputs by this level'
+complete -c cityseq-run -n '__fish_seen_subcommand_from pack' -l files-from -r -F -d 'Read the names of files from this file'
+complete -c cityseq-run -n '__fish_seen_subcommand_from pack' -l null -d 'Lists have a NUL after each name or id'
+complete -c cityseq-run -n '__fish_seen_subcommand_from pack' -s j -l jobs -x -d 'Use this number of threads'
+complete -c cityseq-run -n '__fish_seen_subcommand_from pack' -l progress -d 'Show the progress on standard error'
+complete -c cityseq-run -n '__fish_seen_subcommand_from pack' -s q -l quiet -d 'Write only faults'
+complete -c cityseq-run -n '__fish_seen_subcommand_from pack' -s h -l help -d 'Print help'
+
 complete -c cityseq-run -n '__fish_seen_subcommand_from report' -F
 complete -c cityseq-run -n '__fish_seen_subcommand_from report' -l line-limit -x -d 'Reject a line of more bytes'
 complete -c cityseq-run -n '__fish_seen_subcommand_from report' -l depth -x -d 'Reject a line with more arrays and objects open at once'
 complete -c cityseq-run -n '__fish_seen_subcommand_from report' -l tree -d 'Reject a feature unless children lead from its main city object to all others'
+complete -c cityseq-run -n '__fish_seen_subcommand_from report' -l whole -d 'Each FILE is a whole CityJSON file'
 complete -c cityseq-run -n '__fish_seen_subcommand_from report' -s o -l output -r -F -d 'Write the page to this file'
 complete -c cityseq-run -n '__fish_seen_subcommand_from report' -l title -x -d 'The heading of the page'
 complete -c cityseq-run -n '__fish_seen_subcommand_from report' -l files-from -r -F -d 'Read the names of files from this file'
@@ -124,6 +147,21 @@ complete -c cityseq-run -n '__fish_seen_subcommand_from report' -l progress -d '
 complete -c cityseq-run -n '__fish_seen_subcommand_from report' -s q -l quiet -d 'Write only faults'
 complete -c cityseq-run -n '__fish_seen_subcommand_from report' -s h -l help -d 'Print help'
 
+complete -c cityseq-run -n '__fish_seen_subcommand_from split' -F
+complete -c cityseq-run -n '__fish_seen_subcommand_from split' -l line-limit -x -d 'Reject a line of more bytes'
+complete -c cityseq-run -n '__fish_seen_subcommand_from split' -s o -l output -r -F -d 'Write to this file when the run has ended well'
+complete -c cityseq-run -n '__fish_seen_subcommand_from split' -s q -l quiet -d 'Write only faults'
+complete -c cityseq-run -n '__fish_seen_subcommand_from split' -s h -l help -d 'Print help'
+
+complete -c cityseq-run -n '__fish_seen_subcommand_from collect' -F
+complete -c cityseq-run -n '__fish_seen_subcommand_from collect' -l line-limit -x -d 'Reject a line of more bytes'
+complete -c cityseq-run -n '__fish_seen_subcommand_from collect' -l depth -x -d 'Reject a line with more arrays and objects open at once'
+complete -c cityseq-run -n '__fish_seen_subcommand_from collect' -s o -l output -r -F -d 'Write to this file when the run has ended well'
+complete -c cityseq-run -n '__fish_seen_subcommand_from collect' -l files-from -r -F -d 'Read the names of files from this file'
+complete -c cityseq-run -n '__fish_seen_subcommand_from collect' -l null -d 'Lists have a NUL after each name or id'
+complete -c cityseq-run -n '__fish_seen_subcommand_from collect' -s q -l quiet -d 'Write only faults'
+complete -c cityseq-run -n '__fish_seen_subcommand_from collect' -s h -l help -d 'Print help'
+
 complete -c cityseq-run -n '__fish_seen_subcommand_from serve' -F
 complete -c cityseq-run -n '__fish_seen_subcommand_from serve' -l host -x -d 'Listen at this address'
 complete -c cityseq-run -n '__fish_seen_subcommand_from serve' -l port -x -d 'Listen at this port'
@@ -134,6 +172,7 @@ complete -c cityseq-run -n '__fish_seen_subcommand_from serve' -s j -l jobs -x -
 complete -c cityseq-run -n '__fish_seen_subcommand_from serve' -l max-requests -x -d 'Answer at most this many requests without a body at once'
 complete -c cityseq-run -n '__fish_seen_subcommand_from serve' -l max-bodies -x -d 'Take at most this many bodies at once'
 complete -c cityseq-run -n '__fish_seen_subcommand_from serve' -l max-body -x -d 'Reject a body of more bytes'
+complete -c cityseq-run -n '__fish_seen_subcommand_from serve' -l max-whole -x -d 'Reject a whole CityJSON file of more bytes'
 complete -c cityseq-run -n '__fish_seen_subcommand_from serve' -l max-features -x -d 'Write at most this many features in an answer'
 complete -c cityseq-run -n '__fish_seen_subcommand_from serve' -l max-seconds -x -d 'End a request that takes longer'
 complete -c cityseq-run -n '__fish_seen_subcommand_from serve' -l idle-seconds -x -d 'End a request whose client is silent for longer'
@@ -148,4 +187,4 @@ complete -c cityseq-run -n '__fish_seen_subcommand_from explain' -f
 complete -c cityseq-run -n '__fish_seen_subcommand_from explain' -s h -l help -d 'Print help'
 complete -c cityseq-run -n '__fish_seen_subcommand_from explain' -a '1 2 3 4 5 10 11 12 13 14 15 16 17 18 19 20 21 22 23 24 25 26 27 28 29 30 31'
 
-complete -c cityseq-run -n '__fish_seen_subcommand_from help' -f -a 'check filter info index report serve explain'
+complete -c cityseq-run -n '__fish_seen_subcommand_from help' -f -a 'check filter info index pack report split collect serve explain'
