@@ -1,12 +1,12 @@
 #!/usr/bin/env python3
-"""Writes cityseq/reasons.json from docs/REASONS.md: for each code its text, its meaning and the
+"""Writes cityseq/reasons.json from docs/RULES.md: for each code its text, its meaning and the
 fix."""
 import json
 import os
 import re
 
 HERE = os.path.dirname(os.path.abspath(__file__))
-SOURCE = os.path.join(HERE, "..", "docs", "REASONS.md")
+SOURCE = os.path.join(HERE, "..", "docs", "RULES.md")
 TARGET = os.path.join(HERE, "cityseq", "reasons.json")
 
 
@@ -21,11 +21,11 @@ def reasons(document):
     for code, text, body in re.findall(r"^### (\d+) (.*)\n\n((?:.+\n)+)", document, re.MULTILINE):
         meaning, fix = body.split("*Fix:*")
         found[code] = {"text": text, "meaning": plain(meaning), "fix": plain(fix)}
-    return found
+    return dict(sorted(found.items(), key=lambda item: int(item[0])))
 
 
 def read_reasons():
-    """The explanations that docs/REASONS.md has now."""
+    """The explanations that docs/RULES.md has now."""
     with open(SOURCE, encoding="utf-8") as document:
         return reasons(document.read())
 

@@ -31,8 +31,10 @@ class BuildPy(build_py):
     def run(self):
         given = os.environ.get("CITYSEQ_LIBRARY")
         if given is None and not os.path.isfile(LIBRARY):
-            sys.exit("cityseq: this source has no libcityseq.so: "
-                     "set CITYSEQ_LIBRARY to the path of one, or install the wheel")
+            sys.exit(
+                "cityseq: this source has no libcityseq.so: "
+                "set CITYSEQ_LIBRARY to the path of one, or install the wheel"
+            )
         super().run()
         if given is not None:
             target = os.path.join(self.build_lib, LIBRARY)

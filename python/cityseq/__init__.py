@@ -27,6 +27,8 @@ if TYPE_CHECKING:
     from .calls import info as info
     from .calls import report as report
     from .calls import table as table
+    from .convert.collecting import collect as collect
+    from .convert.whole import split as split
     from .engine.faults import CityseqError as CityseqError
     from .engine.faults import InvalidStream as InvalidStream
     from .engine.faults import LibraryMissing as LibraryMissing
@@ -58,6 +60,8 @@ _MODULES = {
         "report",
         "table",
     ),
+    "convert.collecting": ("collect",),
+    "convert.whole": ("split",),
     "engine.query": (
         "Limits",
         "Options",
@@ -106,11 +110,13 @@ __all__ = [
     "WriteFault",
     "check",
     "check_files",
+    "collect",
     "explain",
     "features",
     "index",
     "info",
     "report",
+    "split",
     "table",
 ]
 __version__ = "0.2.0"

@@ -6,13 +6,14 @@ from collections.abc import Callable, Iterable, Iterator
 from dataclasses import replace
 from typing import TYPE_CHECKING, Any, Union
 
+from .convert import stream_of
 from .engine.query import Box, Limits, Options, Query, Texts, Work, work_of
 from .engine.reports import Report
 from .engine.structs import USUAL_DEPTH, USUAL_LINE
 from .run.arguments import one_options, one_query, watched
 from .run.results import Info, Result
 from .run.streams import Stream, results
-from .sources.outputs import Target, Writer
+from .sources.outputs import Limit, Target, Writer
 from .sources.same_file import refuse_same
 from .sources.source import Source
 
@@ -44,6 +45,7 @@ def check(
     on_report: OnReport = None,
     progress: Progress = None,
     part_size: int | None = None,
+    whole: bool | None = None,
 ) -> Result:
     """Checks whether a stream is valid, and counts its lines and features.
 
@@ -61,9 +63,12 @@ def check(
         progress: Is called with the number of bytes that were done since the call before. In a
             packed file these are packed bytes. True shows a bar, by the package tqdm.
         part_size: How many bytes a part has. None is 4 MiB or less.
+        whole: Whether the source is a whole CityJSON file. Then the stream that `split` makes of it
+            is judged. None: it is one if its name ends in .city.json or .city.json.gz.
 
     Returns:
-        The verdict, the counts and the reports.
+        The verdict, the counts and the reports. If a whole file cannot be split, it is invalid, and
+        `fault` says why.
 
     Raises:
         ReadFault: The source cannot be opened or read, or it changes.
@@ -75,7 +80,8 @@ def check(
     how = one_options(options, made)
     work = work_of("check", how)
     with watched(progress, [source]) as done:
-        stream = Stream(source, work, how.part_size, tell=on_report, progress=done)
+        given = stream_of(source, whole)
+        stream = Stream(given, work, how.part_size, tell=on_report, progress=done)
         return _only(stream, how.jobs).raised()
 
 
@@ -91,6 +97,7 @@ def check_files(
     on_report: OnReport = None,
     progress: Progress = None,
     part_size: int | None = None,
+    whole: bool | None = None,
 ) -> Iterator[Result]:
     """Checks many streams, by threads that they share.
 
@@ -107,15 +114,21 @@ def check_files(
     """
     made = Options(Limits(line_limit, depth), keep_going, tree, jobs, part_size)
     how = one_options(options, made)
-    return _checked(sources, work_of("check", how), how, on_report, progress)
+    listed = list(sources) if progress is True else sources
+    return _checked(listed, whole, work_of("check", how), how, on_report, progress)
 
 
 def _checked(
-    sources: Iterable[Source], work: Work, how: Options, on_report: OnReport, progress: Progress
+    listed: Iterable[Source],
+    whole: bool | None,
+    work: Work,
+    how: Options,
+    on_report: OnReport,
+    progress: Progress,
 ) -> Iterator[Result]:
-    listed = list(sources) if progress is True else sources
     with watched(progress, listed) as done:
-        streams = (Stream(each, work, how.part_size, None, on_report, done) for each in listed)
+        given = (stream_of(each, whole) for each in listed)
+        streams = (Stream(each, work, how.part_size, None, on_report, done) for each in given)
         yield from results(streams, how.jobs)
 
 
@@ -130,6 +143,7 @@ def filter(
     lods: Texts | None = None,
     box: Box | None = None,
     exclude: bool = False,
+    limit: int | None = None,
     jobs: int | None = None,
     line_limit: int = USUAL_LINE,
     depth: int = USUAL_DEPTH,
@@ -158,6 +172,8 @@ def filter(
         box: Keeps a feature whose vertices reach into this box: four numbers, or a text
             minx,miny,maxx,maxy, in world coordinates.
         exclude: Keeps the features that the query does not select.
+        limit: Keeps at most this many features, the first ones. 0 keeps the header alone. All lines
+            are judged nevertheless. None sets no limit.
         keep_going: Whether to leave out invalid lines, and to go on.
         keep_partial: Whether what was kept is left as `NAME.part` if the stream is invalid.
 
@@ -178,6 +194,7 @@ def filter(
     refuse_same([source], [output])
     with watched(progress, [source]) as done:
         writer = Writer(output, keep_partial)
+        writer.limit = Limit.of(limit)
         stream = Stream(source, work, how.part_size, writer, on_report, done)
         return _only(stream, how.jobs).raised_if_invalid(how.keep_going)
 
@@ -194,6 +211,7 @@ def info(
     on_report: OnReport = None,
     progress: Progress = None,
     part_size: int | None = None,
+    whole: bool | None = None,
 ) -> Info:
     """Summarises a valid stream: transform, types, LoDs, ranges of vertices, and their box.
 
@@ -218,7 +236,8 @@ def info(
     how = one_options(options, made)
     work = work_of("info", how, exact_lods=exact_lods)
     with watched(progress, [source]) as done:
-        stream = Stream(source, work, how.part_size, tell=on_report, progress=done)
+        given = stream_of(source, whole)
+        stream = Stream(given, work, how.part_size, tell=on_report, progress=done)
         result = _only(stream, how.jobs).raised()
     assert isinstance(result, Info)
     return result
@@ -286,7 +305,7 @@ def table(
     Raises:
         CityseqError: As `features` does.
     """
-    from .run.features import table as tabled  # few runs need it
+    from .run.table import table as tabled  # few runs need it
 
     how = one_options(options, Options(Limits(line_limit, depth), keep_going, tree))
     work = work_of("filter", how, one_query(query, Query(ids, types, lods, box, exclude)))
@@ -298,6 +317,7 @@ def index(
     output: Path,
     *,
     options: Options | None = None,
+    footprints: bool = False,
     jobs: int | None = None,
     line_limit: int = USUAL_LINE,
     depth: int = USUAL_DEPTH,
@@ -317,6 +337,7 @@ def index(
         paths: The paths of the streams, or the only one. They are regular files, which may be
             packed.
         output: The path of the index.
+        footprints: Whether the index has a layer with the ground of each feature.
         keep_going: Whether to leave out invalid lines. The table `reports` then lists them.
 
     Returns:
@@ -338,7 +359,8 @@ def index(
     how = one_options(options, made)
     work, named = work_of("check", how), checked(paths, output)
     with watched(progress, named) as done:
-        return indexed(named, output, work, how.jobs, how.part_size, on_report, done)
+        how_run = how.jobs, how.part_size, on_report, done, footprints
+        return indexed(named, output, work, *how_run)
 
 
 def report(
@@ -353,6 +375,7 @@ def report(
     tree: bool = False,
     progress: Progress = None,
     part_size: int | None = None,
+    whole: bool | None = None,
 ) -> Delivery:
     """Writes a page about a delivery, and returns its facts.
 
@@ -385,4 +408,5 @@ def report(
     work = work_of("check", how)
     with watched(progress, checked(paths, output)[0]) as done:
         by_file = None if done is None else of_bytes(done)
-        return made(paths, output, work, How(how.jobs, how.part_size, title, progress=by_file))
+        asked = How(how.jobs, how.part_size, title, progress=by_file, whole=whole)
+        return made(paths, output, work, asked)

@@ -3,113 +3,66 @@
     from distributed import Client
     import cityseq.dask
     with Client("tcp://scheduler:8786") as client:
-        for result in cityseq.dask.check(client, ["north.city.jsonl", "south.city.jsonl"]):
+        for result in cityseq.dask.check(client, ["/data/north.city.jsonl"]):
             print(result.file, result.status, result.features)
 
-Each part of a file is a task, which opens the file by its path. So each worker needs this package
-and the files. If a worker dies, other workers do its tasks. Answers are joined in order, as with
-threads."""
+Each part of a file is a task, which opens the file by its path or URL. So each worker needs this
+package and the files. If a worker dies, other workers do its tasks. Answers are joined in order, as
+with threads. A worker that sees another file of a path, or has another engine, is a fault."""
 from __future__ import annotations
 
 import os
 from collections.abc import Callable, Iterable, Iterator
+from contextlib import closing
 from dataclasses import replace
 from functools import partial
-from itertools import islice
 from typing import Any
 
-from .engine.faults import CityseqError, RequestError
+from .calls import OnReport, Progress
+from .cluster.folders import USUAL, Folder, filter_to_folder
+from .cluster.jobs import PART, Cluster, Job, checked_size
+from .cluster.runs import PIECES, Runs
+from .cluster.tasks import hash_file
+from .engine.faults import RequestError
 from .engine.query import Box, Limits, Options, Query, Texts, Work, work_of
-from .engine.reports import Report
 from .engine.structs import USUAL_DEPTH, USUAL_LINE
 from .indexes.builder import Builder
-from .indexes.digests import digest_of
 from .indexes.index_run import Indexed, checked, of_takers, written
-from .run.arguments import one_options, one_query
-from .run.pool import in_thread
+from .run.arguments import one_options, one_query, watched
 from .run.results import Info, Result
-from .run.streams import Results, Stream, results_by
+from .run.streams import Results, Stream
 from .sources.outputs import Target, Writer
-from .sources.packed import packing_by_name
-from .sources.ranges import RangeChunks, Seen, judge_range, look
+from .sources.packed import Packing
+from .sources.ranges import SHORT
 from .sources.same_file import refuse_same
-from .sources.source import is_packed, is_path
+from .sources.source import is_path, is_url
 
-PART = 32 << 20  # bytes of a part
-LOOKED_AT = 64  # files whose beginnings are read together
-AHEAD = 2  # waiting or running tasks for each thread of a worker
-RETRIES = 3  # of a task that fails
-
-OnReport = Callable[[Report], None] | None
+Size = int | str
+PACKINGS = {None: None, "gz": Packing.GZIP, "zst": Packing.ZSTD}
 
 
-class _Digests:
-    """Lets workers make the hashes of files."""
-
-    def __init__(self, client: Any) -> None:
-        self._client = client
-
-    def submit(self, path: str) -> Any:
-        """Begins to make the hash of a file. The result is that of `digest_of`."""
-        return self._client.submit(digest_of, path, pure=False, retries=RETRIES)
-
-
-def _seen(client: Any, paths: Iterable[str], work: Work) -> Iterator[tuple[str, Seen]]:
-    """Yields each file with its beginning. The workers read the beginnings, many at once."""
-    left = iter(paths)
-    while True:
-        group = list(islice(left, LOOKED_AT))
-        if not group:
-            return
-        looks = client.map(look, group, line_limit=work.line_limit, pure=False, retries=RETRIES)
-        yield from zip(group, client.gather(looks))
+def _paths(paths: Any) -> list[str]:
+    """Returns the paths of the files. Raises `RequestError` if workers cannot open one."""
+    listed = [paths] if is_path(paths) or isinstance(paths, bytes) else list(paths)
+    for path in listed:
+        if not is_path(path):
+            raise RequestError(f"the workers open files by their paths: {path!r} is none")
+    return list(map(os.fsdecode, listed))
 
 
 def _run(
-    client: Any, paths: Any, work: Work, size: int, output: Writer | None, tell: OnReport
+    client: Any, paths: Any, work: Work, size: Any, tell: OnReport, progress: Progress
 ) -> Results:
     """Yields the result of each file, in order."""
-    return _run_each(
-        client,
-        (
-            Stream(
-                path,
-                work,
-                size,
-                output,
-                tell,
-                judge_by=partial(judge_range, work=work),
-                chunks=RangeChunks(path, work, size, seen),
-            )
-            for path, seen in _seen(client, _paths(client, paths), work)
-        ),
-    )
+    cluster, named = Cluster(client, work, size), _paths(paths)
+    with watched(progress, named) as done:
+        streams = (Stream(path, work, None, None, tell, done) for path in named)
+        yield from Runs(cluster).results(streams)
 
 
-def _paths(client: Any, paths: Any) -> list[str]:
-    """Returns the paths of the files. Raises `CityseqError` if workers cannot open them."""
-    try:
-        import distributed
-    except ImportError as fault:
-        raise CityseqError(
-            "there is no distributed: install cityseq with the extra cluster"
-        ) from fault
-    if not isinstance(client, distributed.Client):
-        raise RequestError(f"a client of distributed is wanted, and not {client!r}")
-    paths = [paths] if is_path(paths) else list(paths)
-    for path in paths:
-        if not is_path(path):
-            raise RequestError(f"the workers open files by their paths: {path!r} is none")
-    return list(map(os.fsdecode, paths))
-
-
-def _run_each(client: Any, streams: Iterable[Stream]) -> Results:
-    """Yields the result of each stream, in order. The workers judge the chunks."""
-
-    def submit(task: Callable[[], Any]) -> Any:
-        return client.submit(in_thread, task, pure=False, retries=RETRIES)
-
-    return results_by(streams, submit, AHEAD * max(sum(client.nthreads().values()), 1))
+def _size(how: Options, size: Size) -> Size:
+    """Returns how many bytes a part has: what the options say, if the caller says nothing else."""
+    return how.part_size if how.part_size is not None and size == PART else size
 
 
 def check(
@@ -122,13 +75,28 @@ def check(
     keep_going: bool = False,
     tree: bool = False,
     on_report: OnReport = None,
-    part_size: int = PART,
+    progress: Progress = None,
+    part_size: Size = PART,
 ) -> Iterator[Result]:
-    """Checks one file or several, and yields the result of each, in order. A fault of a file is in
-    its result."""
+    """Checks one file or several, and yields the result of each, in order.
+
+    Args:
+        client: A client of `distributed`, which is not asynchronous.
+        paths: The paths or URLs of the files, or the only one. A path means the same file for each
+            worker. A relative path is one of this process.
+        part_size: How many bytes a part has, as a number or a text such as 32MB.
+        options, line_limit, depth, keep_going, tree, on_report, progress: As for `cityseq.check`.
+            The cluster has its own number of jobs, so that of the options says nothing.
+
+    Yields:
+        The result of each file. A fault of one is in its result, and the others go on.
+
+    Raises:
+        RequestError: An argument has a value that it may not have.
+        CityseqError: The scheduler is lost, or a worker has another engine than this process.
+    """
     how = one_options(options, Options(Limits(line_limit, depth), keep_going, tree))
-    work = work_of("check", how)
-    return _run(client, paths, work, part_size, None, on_report)
+    return _run(client, paths, work_of("check", how), _size(how, part_size), on_report, progress)
 
 
 def info(
@@ -141,21 +109,25 @@ def info(
     depth: int = USUAL_DEPTH,
     tree: bool = False,
     on_report: OnReport = None,
-    part_size: int = PART,
+    progress: Progress = None,
+    part_size: Size = PART,
 ) -> Iterator[Info]:
-    """Summarises one file or several, and yields the result of each, in order. A fault of a file
-    is in its result."""
+    """Summarises one file or several, and yields the result of each, in order. The arguments are
+    those of `check` and of `cityseq.info`. A fault of a file is in its result."""
     how = one_options(options, Options(Limits(line_limit, depth), tree=tree))
     work = work_of("info", how, exact_lods=exact_lods)
-    return _run(client, paths, work, part_size, None, on_report)  # type: ignore[return-value]
+    found: Any = _run(client, paths, work, _size(how, part_size), on_report, progress)
+    return found  # type: ignore[no-any-return]
 
 
 def filter(
     client: Any,
     path: Any,
-    output: Target,
+    output: Target | None = None,
     query: Query | None = None,
     *,
+    output_dir: Any = None,
+    packing: str | None = None,
     options: Options | None = None,
     ids: Texts | None = None,
     types: Texts | None = None,
@@ -168,19 +140,63 @@ def filter(
     tree: bool = False,
     keep_partial: bool = False,
     on_report: OnReport = None,
-    part_size: int = PART,
+    progress: Progress = None,
+    part_size: Size | None = None,
 ) -> Result:
-    """Copies the header and the kept features of a file to an output, as `cityseq.filter` does.
-    The output is written where this function is called."""
+    """Copies the header and the kept features of a file, as `cityseq.filter` does.
+
+    Args:
+        output: The output, which is written where this function is called.
+        output_dir: A folder, in place of `output`. The workers write it, so all of them see it: a
+            path or a URL. Its parts are streams with the header, in order, and its
+            `_manifest.json` comes last. `check`, `info`, `index` and `report` take the folder.
+        packing: How the parts of the folder are packed: "gz", "zst" or None.
+        part_size: How many bytes a task judges. None is 32 MiB, and 256 MiB for a part of a folder,
+            or less if there would be fewer parts than threads.
+
+    The other arguments are those of `check` and of `cityseq.filter`, and so are the faults.
+    """
     how = one_options(options, Options(Limits(line_limit, depth), keep_going, tree))
     work = work_of("filter", how, one_query(query, Query(ids, types, lods, box, exclude)))
-    if packing_by_name(os.fsdecode(path)) is not None or is_packed(path):
-        raise RequestError("a packed file has no parts: unpack it, or filter it by threads")
-    refuse_same([path], [output])
-    found: list[Result] = list(
-        _run(client, [path], work, part_size, Writer(output, keep_partial), on_report)
-    )
-    return found[0].raised_if_invalid(how.keep_going)
+    if (output is None) == (output_dir is None):
+        raise RequestError("one of `output` and `output_dir` is wanted")
+    (named,) = _paths([path])
+    with watched(progress, [named]) as done:
+        if output is None:
+            size = how.part_size if part_size is None else part_size
+            cluster, folder = _folder(client, named, output_dir, packing, work, size)
+            stream = partial(Stream, named, work, None, None, on_report, done)
+            return filter_to_folder(cluster, folder, stream, how.keep_going)
+        cluster = Cluster(client, work, _size(how, PART if part_size is None else part_size))
+        refuse_same([named], [output])
+        stream = partial(Stream, named, work, None, Writer(output, keep_partial), on_report, done)
+        (result,) = Runs(cluster).results([stream()])
+        return result.raised_if_invalid(how.keep_going)
+
+
+def _folder(
+    client: Any, path: str, folder: Any, packing: str | None, work: Work, size: Size | None
+) -> tuple[Cluster, Folder]:
+    """Returns the cluster and the folder of a filter that workers write."""
+    if not is_path(folder) or packing not in PACKINGS:
+        raise RequestError("a folder has a path or a URL, and its parts are packed by gz or zst")
+    cluster = Cluster(client, work, USUAL if size is None else checked_size(size))
+    if size is None and not is_url(path) and os.path.isfile(path):
+        pieces = PIECES * max(cluster.threads(), 1)
+        cluster.size = max(min(USUAL, os.path.getsize(path) // pieces), SHORT)
+    return cluster, Folder.of(os.fsdecode(folder), PACKINGS[packing])
+
+
+class _Digests:
+    """Lets workers make the hashes of files."""
+
+    def __init__(self, cluster: Cluster) -> None:
+        self._cluster = cluster
+
+    def submit(self, path: str) -> Job:
+        """Begins to make the hash of a file. The result is that of `digest_of`."""
+        whole = path if is_url(path) else os.path.abspath(path)
+        return self._cluster.task("hash", path, hash_file, whole)
 
 
 def index(
@@ -194,38 +210,36 @@ def index(
     keep_going: bool = False,
     tree: bool = False,
     on_report: OnReport = None,
-    part_size: int = PART,
+    progress: Progress = None,
+    part_size: Size = PART,
 ) -> list[Result]:
     """Writes an index of files where this is called, as `cityseq.index` does. The workers judge
-    the files, and return where each feature is. Packed files are refused: they have no parts."""
+    the files, and return where each feature is. Packed files are refused: they have no parts. The
+    other arguments are those of `check`."""
     how = one_options(options, Options(Limits(line_limit, depth), keep_going, tree))
-    work = work_of("check", how)
-    named = checked(paths, output)
-    for path in named:
-        if packing_by_name(path) is not None or is_packed(path):
-            raise RequestError(f"{path}: a packed file has no parts: unpack it, or use threads")
-    builder = Builder(os.fsdecode(output))
-    listed = _paths(client, named)
     found: list[Result] = []
-
-    def indexed() -> Iterator[Indexed]:
-        for number, (path, seen) in enumerate(_seen(client, listed, work), 1):
-            records = replace(work, kind="records")
-            yield Indexed(
-                number,
-                path,
-                work,
-                builder,
-                part_size,
-                on_report,
-                judge_by=partial(judge_range, work=records),
-                chunks=RangeChunks(path, records, part_size, seen),
-            )
-
-    def run() -> Results:
-        return of_takers(indexed(), partial(_run_each, client))
-
-    written(builder, run, work, found.append, _Digests(client))
+    named = checked(paths, output)
+    work, builder = work_of("check", how), Builder(os.fsdecode(output))
+    with watched(progress, named) as done:
+        indexed = (
+            Indexed(number, path, work, builder, None, on_report, done, True)
+            for number, path in enumerate(named, 1)
+        )
+        write_index(client, builder, indexed, work, _size(how, part_size), found.append)
     for result in found:
         result.raised_if_invalid(how.keep_going)
     return found
+
+
+def write_index(
+    client: Any,
+    builder: Builder,
+    indexed: Iterable[Indexed],
+    work: Work,
+    size: Any,
+    take: Callable[[Result], None],
+) -> None:
+    """Lets workers judge the streams of an index, writes it, and passes each result to `take`."""
+    cluster = Cluster(client, replace(work, kind="records"), size)
+    with closing(of_takers(indexed, Runs(cluster).results)) as results:
+        written(builder, lambda: results, work, take, _Digests(cluster))

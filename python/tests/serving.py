@@ -17,11 +17,22 @@ from importlib.util import find_spec
 from .support import HEADER, ROOT, command, feature
 
 # why the tests of the server are left out, if they are
-MISSING = ", ".join(f"{name} is not there" for name in ("aiohttp", "jinja2") if find_spec(name) is None)
+MISSING = ", ".join(
+    f"{name} is not there" for name in ("aiohttp", "jinja2") if find_spec(name) is None
+)
 EXAMPLES = pathlib.Path(ROOT) / "examples"
 RD = "http://www.opengis.net/def/crs/EPSG/0/7415"
-HOSTILE = ("<script>alert(1)</script>", "]]>", "\u202eeman", "'\"&", "a/b?c#d e", "%41", "å\u0000b", "\ud800",
-           "x" * 100_000)
+HOSTILE = (
+    "<script>alert(1)</script>",
+    "]]>",
+    "\u202eeman",
+    "'\"&",
+    "a/b?c#d e",
+    "%41",
+    "å\u0000b",
+    "\ud800",
+    "x" * 100_000,
+)
 
 
 class Answer:
@@ -82,7 +93,13 @@ class Client:
         connection = self.connect()
         try:
             named = {name.replace("_", "-"): value for name, value in headers.items()}
-            connection.request(method, path, body, named, encode_chunked=named.get("Transfer-Encoding") == "chunked")
+            connection.request(
+                method,
+                path,
+                body,
+                named,
+                encode_chunked=named.get("Transfer-Encoding") == "chunked",
+            )
             return Answer(connection.getresponse())
         finally:
             connection.close()
@@ -108,10 +125,18 @@ class Serving(Client):
     def __init__(self, *words, first_path=""):
         """Starts it with these words. A folder that is given is where Python looks first for modules."""
         port = () if "--port" in words else ("--port", "0")
-        environment = {**os.environ, "PYTHONPATH": os.pathsep.join(filter(None, (str(first_path), os.path.join(ROOT, "python"))))}
+        environment = {
+            **os.environ,
+            "PYTHONPATH": os.pathsep.join(
+                filter(None, (str(first_path), os.path.join(ROOT, "python")))
+            ),
+        }
         self.process = subprocess.Popen(
             [sys.executable, "-W", "ignore", "-m", "cityseq", "serve", *port, *map(str, words)],
-            stdout=subprocess.PIPE, stderr=subprocess.PIPE, env=environment)
+            stdout=subprocess.PIPE,
+            stderr=subprocess.PIPE,
+            env=environment,
+        )
         first = self.process.stderr.readline().decode()
         if not first.startswith("http://"):
             self.process.kill()
@@ -120,11 +145,16 @@ class Serving(Client):
         self.host, _, port = self.url.split("/")[2].rpartition(":")
         self.port = int(port)
         self.log, self.said = [], [first]
-        self._readers = [self._read(self.process.stdout, self.log), self._read(self.process.stderr, self.said)]
+        self._readers = [
+            self._read(self.process.stdout, self.log),
+            self._read(self.process.stderr, self.said),
+        ]
 
     @staticmethod
     def _read(source, lines):
-        reader = threading.Thread(target=lambda: lines.extend(line.decode() for line in source), daemon=True)
+        reader = threading.Thread(
+            target=lambda: lines.extend(line.decode() for line in source), daemon=True
+        )
         reader.start()
         return reader
 
@@ -151,7 +181,9 @@ class Within(Client):
         from cityseq.serve.settings import Limits, Settings
 
         async def begin():
-            process = Process(Server(Settings(tuple(map(str, indexes)), jobs=1, limits=Limits(**limits))), True)
+            process = Process(
+                Server(Settings(tuple(map(str, indexes)), jobs=1, limits=Limits(**limits))), True
+            )
             self._listening = await process.listen(self.host, 0)
             return process
 
@@ -183,8 +215,10 @@ class Within(Client):
 
 def hostile_stream():
     """Features whose ids are hostile, and that are equal in all else."""
-    lines = [feature("b").replace(b'"id":"b"', b'"id":%b' % spelled).replace(b'{"b":', b'{%b:' % spelled)
-             for spelled in (json.dumps(name).encode() for name in HOSTILE)]
+    lines = [
+        feature("b").replace(b'"id":"b"', b'"id":%b' % spelled).replace(b'{"b":', b"{%b:" % spelled)
+        for spelled in (json.dumps(name).encode() for name in HOSTILE)
+    ]
     return HEADER + b"".join(lines)
 
 
@@ -200,7 +234,10 @@ class Served(unittest.TestCase):
             shutil.copy(EXAMPLES / f"{name}.city.jsonl", cls.folder)
         (cls.folder / "hostile.city.jsonl").write_bytes(hostile_stream())
         (cls.folder / "equal.city.jsonl").write_bytes(HEADER + feature("same") * 57)
-        paths = [str(cls.folder / f"{name}.city.jsonl") for name in ("sample", "town", "hostile", "equal")]
+        paths = [
+            str(cls.folder / f"{name}.city.jsonl")
+            for name in ("sample", "town", "hostile", "equal")
+        ]
         _, said, status = command("index", "--output", str(cls.folder / "all.gpkg"), *paths)
         if status:
             raise AssertionError(said)

@@ -110,7 +110,7 @@ def lines_by_chance(chance, count):
         if turn == 0:
             line = feature(f"b{number}", last=4)
         elif turn == 1:
-            line = line[:chance.randrange(len(line))].rstrip() + b"\n"
+            line = line[: chance.randrange(len(line))].rstrip() + b"\n"
         elif turn == 2:
             line = chance.choice(
                 (
@@ -202,7 +202,7 @@ def command(*words, given=b"", coding="utf-8", **more):
         capture_output=True,
         timeout=60,
         env={**os.environ, "PYTHONPATH": os.path.join(ROOT, "python"), "PYTHONIOENCODING": coding},
-        **more
+        **more,
     )
     return ran.stdout, ran.stderr.decode("utf-8", "replace"), ran.returncode
 

@@ -5,12 +5,12 @@ import pathlib
 import tempfile
 import unittest
 
+import cityseq
+from cityseq.delivery import extras
+
 from . import made_up
 from .browser import CHROMIUM, browser
 from .support import HEADER
-
-import cityseq
-from cityseq.delivery import extras
 
 try:
     extras.need_all()

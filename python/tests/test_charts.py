@@ -3,10 +3,10 @@ import random
 import unittest
 from collections import Counter
 
+from cityseq.delivery import facts
+
 from . import made_up
 from .test_page import MISSING, Elements
-
-from cityseq.delivery import facts
 
 if MISSING is None:
     from cityseq.delivery import areas, charts, drawing
@@ -77,8 +77,14 @@ class Drawings(unittest.TestCase):
             self.elements(svg)
             self.assertLess(len(svg), 12_000)
         for far in (0.0, 1e-300, 1e149):
-            self.assertEqual(sum(charts.coarse(facts.Area(
-                None, features=1, extents=[(far, -far, far, -far)])).cells.values()), 1)
+            self.assertEqual(
+                sum(
+                    charts.coarse(
+                        facts.Area(None, features=1, extents=[(far, -far, far, -far)])
+                    ).cells.values()
+                ),
+                1,
+            )
 
     def test_invalid_features_alone_make_a_map(self):
         self.assertIn("0 features", charts.map_of(facts.Area(None, spots=[(1.0, 2.0)]), "a").told)
@@ -150,8 +156,9 @@ class Grids(unittest.TestCase):
             names = [facts.Named("f", len(middles) + n, "id", each) for n, each in enumerate(part)]
             middles += part
             rim.add(*(areas.np.array(axis) for axis in zip(*part)), names.__getitem__)
-        for side, way in zip(rim._sides, (lambda p: p[0], lambda p: -p[0], lambda p: p[1],
-                                          lambda p: -p[1])):
+        for side, way in zip(
+            rim._sides, (lambda p: p[0], lambda p: -p[0], lambda p: p[1], lambda p: -p[1])
+        ):
             farthest = sorted(middles, key=way, reverse=True)[: areas.MOST_STRAYS]
             self.assertEqual([each.middle for _, each in side], farthest)
 
@@ -181,8 +188,13 @@ class Grids(unittest.TestCase):
                 x = chance.uniform(84_000, 86_000, count)
                 y = chance.uniform(447_000, 449_000, count)
                 x[count // 3], y[count // 3] = far
-                place.add(x, x + 10, y, y + 10, lambda number, middle: facts.Named(
-                    "f", number + 2, f"i{number}", middle))
+                place.add(
+                    x,
+                    x + 10,
+                    y,
+                    y + 10,
+                    lambda number, middle: facts.Named("f", number + 2, f"i{number}", middle),
+                )
                 area = place.area()
                 view = charts.view_of(area)
                 self.assertLess(view.width, 2_400)
@@ -196,8 +208,13 @@ class Grids(unittest.TestCase):
 
     def test_a_town_of_its_own_is_not_apart(self):
         for x in (
-            [0, 1, 1_000, 1_001], [0, 1_000], [0], [5, 5, 5, 5], list(range(100)),
-            [0] * 90 + [1_000_000] * 10, [*range(50), *range(10_000, 10_050)],
+            [0, 1, 1_000, 1_001],
+            [0, 1_000],
+            [0],
+            [5, 5, 5, 5],
+            list(range(100)),
+            [0] * 90 + [1_000_000] * 10,
+            [*range(50), *range(10_000, 10_050)],
         ):
             place, x = areas.Place(None), areas.np.array(x, "f8")
             place.add(x, x, x, x)

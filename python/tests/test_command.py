@@ -12,13 +12,13 @@ import textwrap
 import unittest
 from unittest import mock
 
-from . import support
-from .support import HEADER, PLAIN, InFolder, command, feature
-from .test_sources import BROKEN, GOOD
-
 import cityseq
 from cityseq.cli.options import COMMANDS
 from cityseq.cli.output import put
+
+from . import support
+from .support import HEADER, PLAIN, InFolder, command, feature
+from .test_sources import BROKEN, GOOD
 from .test_told import example
 
 SAID = "line 3, byte 142: 25 vertex index out of range"
@@ -38,7 +38,7 @@ class Commands(InFolder):
         first, *rest = said.splitlines()
         self.assertEqual(first, f"{broken}: {SAID}")
         self.assertEqual(rest[0], '    feature "b"')
-        self.assertEqual(rest[1][rest[2].index("^"):][:3], "4]]")
+        self.assertEqual(rest[1][rest[2].index("^") :][:3], "4]]")
         self.assertEqual(rest[3], "    Hint: the index is 4.")
         self.assertTrue(rest[4].startswith("    Fix: Count from 0"))
         self.assertEqual(command("check", "-", given=GOOD), (b"valid lines=3 features=2\n", "", 0))
@@ -381,6 +381,7 @@ class Commands(InFolder):
     def on_a_terminal(self, *words, **environment):
         """What the command says where standard error is a terminal."""
         import pty
+
         ours, theirs = pty.openpty()
         ran = subprocess.Popen(
             [sys.executable, "-m", "cityseq", *words],

@@ -10,11 +10,11 @@ from contextlib import closing
 from fractions import Fraction
 from unittest import mock
 
-from .support import HEADER, PLAIN, ROOT, InFolder, command, feature
-from .test_index import with_id
-
 import cityseq
 from cityseq.indexes import candidates, line_reader
+
+from .support import HEADER, PLAIN, ROOT, InFolder, command, feature
+from .test_index import with_id
 
 TOWN, SAMPLE, DELIVERY = (
     f"{ROOT}/examples/{name}.city.jsonl" for name in ("town", "sample", "delivery")
@@ -557,8 +557,8 @@ class Command(InFolder):
                     "streams 1",
                     "features 3",
                     "rejected lines 0",
-                    "bbox 10.0,20.0,11.0,21.0",
-                    f"stream {path} lines 4 features 3 rejected 0 bbox 10.0,20.0,11.0,21.0",
+                    "bbox 10,20,11,21",
+                    f"stream {path} lines 4 features 3 rejected 0 bbox 10,20,11,21",
                     'repeated id "a\\u202e" in 2 features',
                     f"    {path} line 2",
                     f"    {path} line 4",
@@ -581,6 +581,17 @@ class Command(InFolder):
             told["repeated_ids"],
             [{"id": "a\u202e", "places": [{"file": str(path), "line": n} for n in (2, 4)]}],
         )
+
+    def test_show_has_the_digits_of_a_stream(self):
+        """The box has no digits that only a float has, and `--bbox` takes it."""
+        header = HEADER.replace(b"[10,20,0]", b"[84710.689,447000.123,0]")
+        path = self.file(header + feature("b", x=-1))
+        command("index", "--output", self.index, str(path))
+        box = "84710.688,447000.123,84711.689,447001.123"
+        shown = command("index", "--show", self.index)[0].decode().splitlines()
+        self.assertEqual(shown[3], f"bbox {box}")
+        self.assertIn(f"bbox {box}", command("info", str(path))[0].decode().splitlines())
+        self.assertEqual(command("filter", "--bbox", box, str(path))[2], 0)
 
     def test_json(self):
         output, _, status = command("index", "--json", "--output", self.index, SAMPLE)

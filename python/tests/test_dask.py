@@ -9,10 +9,10 @@ import time
 import unittest
 from unittest import mock
 
+import cityseq
+
 from . import support
 from .support import HEADER, InFolder, feature, numbered
-
-import cityseq
 
 try:
     import distributed
@@ -22,15 +22,18 @@ else:
     import cityseq.dask
     from cityseq.engine.judge import Answer
     from cityseq.engine.query import asked
-    from cityseq.sources.ranges import RangeChunks, judge_range, look
+    from cityseq.sources.ranges import RangeChunks, Sizes, begin, judge_range
 
 
 def by_ranges(path, each, work):
     """What comes of a file whose ranges are judged one after another, as each task does."""
     joined = Answer(parts=0)
     with mock.patch("cityseq.engine.judge.HEADERS", 0):
-        for chunk in RangeChunks(path, work, each, look(path, work.line_limit)):
-            if joined.status == 0:
+        begun = begin(path, path, Sizes(each, -1), work)
+        if begun.answer is not None:
+            joined = joined.then(begun.answer)
+        for chunk in RangeChunks(path, path, begun):
+            if joined.status == 0 and begun.answer is None:
                 joined = joined.then(judge_range(chunk, work))
     reports = numbered([*joined.reports, *[joined.end] * (joined.end is not None)])
     output = b"".join(joined.output)
@@ -62,7 +65,9 @@ class Ranges(InFolder):
 
     def test_a_file_that_changes(self):
         path, work = self.file(HEADER + feature("a") * 9), asked("check")
-        (chunk,) = RangeChunks(str(path), work, 1 << 20, look(str(path), work.line_limit))
+        (chunk,) = RangeChunks(
+            str(path), str(path), begin(str(path), str(path), Sizes(1 << 20, -1), work)
+        )
         self.assertIsNone(judge_range(chunk, work).fault)
         os.truncate(path, chunk.begin)
         self.assertEqual(

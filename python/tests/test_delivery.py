@@ -11,15 +11,15 @@ from collections import Counter
 from decimal import Decimal, DecimalException
 from unittest import mock
 
-from .support import HEADER, PLAIN, InFolder, feature, lines_by_chance, stream_by_chance
-from .test_told import example
-
 import cityseq
 from cityseq.delivery import extras
 
+from .support import HEADER, PLAIN, InFolder, feature, lines_by_chance, stream_by_chance
+from .test_told import example
+
 try:
     extras.need_all()
-    from cityseq.delivery import id_hashes, repeated, survey
+    from cityseq.delivery import repeated, survey
     from cityseq.engine.world import extent_of, transform_of
 
     MISSING = None
@@ -207,7 +207,7 @@ class Facts(InFolder):
         lines = [named(name, 10 * number) for number, name in enumerate(ids)]
         lines[3] = named(ids[3], 10**9)
         path = self.file(HEADER + b"".join(lines))
-        area, = cityseq.report(path, self.folder / "page.html").areas
+        (area,) = cityseq.report(path, self.folder / "page.html").areas
         self.assertEqual((area.features, area.apart), (5, 1))
         self.assertEqual(
             [(each.file, each.line, each.id) for each in area.strays], [(str(path), 5, "d\u00e9")]
@@ -312,7 +312,7 @@ class Repeated(InFolder):
 
     def setUp(self):
         super().setUp()
-        self.hash = id_hashes.Hash()
+        self.hash = repeated.Hash()
 
     def added(self, ids, count, at_once):
         """What is found among the ids of numbers, which come in pieces."""
@@ -351,7 +351,7 @@ class Hashes(unittest.TestCase):
     """Ids with and without escapes, wherever they lie in a part, have the hash of their text."""
 
     def test_any_place(self):
-        chance, made = random.Random(1), id_hashes.Hash()
+        chance, made = random.Random(1), repeated.Hash()
         for _ in range(300):
             ids = [
                 "".join(chance.choice("a\u00e9\u0000\ud800\U0001f3e0z") for _ in range(size))
@@ -371,12 +371,12 @@ class Hashes(unittest.TestCase):
                 for other, its in zip(ids, keys):
                     self.assertEqual(one == other, key == its)
             for number, name in enumerate(ids):
-                text = name.encode("utf-8", "surrogatepass")[: id_hashes.LONGEST]
+                text = name.encode("utf-8", "surrogatepass")[: repeated.LONGEST]
                 self.assertEqual(found.text(number), text)
 
     def test_the_sums(self):
         """Each is the upper half of a sum of products, as Python makes it."""
-        chance, made = random.Random(2), id_hashes.Hash()
+        chance, made = random.Random(2), repeated.Hash()
         first, of_length, *others = made._factors.tolist()
         for size in (0, 1, 4, 8, 9, 31, 250):
             ids = [chance.randbytes(size).replace(b"\\", b"x") for _ in range(5)]
@@ -392,13 +392,13 @@ class Hashes(unittest.TestCase):
                 self.assertEqual((high, low), (whole[0] << 32 | whole[1], whole[2]))
 
     def test_another_run_has_other_hashes(self):
-        one, other = (id_hashes.Hash().of_spellings([b"a", b"x" * 300]) for _ in "ab")
+        one, other = (repeated.Hash().of_spellings([b"a", b"x" * 300]) for _ in "ab")
         self.assertTrue((one.high != other.high).all())
 
     def test_no_bit_is_always_the_same(self):
         ids = [b"i%d" % number for number in range(1_000)]
         # one hash of a hundred hardly changes a bit where ids are so alike
-        made = [id_hashes.Hash().of_spellings(ids) for _ in range(20)]
+        made = [repeated.Hash().of_spellings(ids) for _ in range(20)]
         high, low = (survey.np.concatenate(each) for each in zip(*((m.high, m.low) for m in made)))
         for bits, values in ((64, high), (32, low)):
             for bit in range(bits):
@@ -464,6 +464,23 @@ class Middles(InFolder):
         made = cityseq.report(self.file(text))
         self.assertEqual([report.line for report in made.reports], [4, 5, 6])
         self.assertEqual(made.areas[0].spots, [(11.0, 21.0), (11.0, 21.0)])
+
+    def test_lines_beyond_the_limit(self):
+        """The end of such a line has its vertices, wherever the file is cut, packed or not."""
+        lines = [feature("a"), b" " * 3_000 + feature("b", x=7), feature("c", last=9)]
+        text = HEADER + b"".join(lines) + b" " * 700 + feature("d").rstrip()
+        for name in ("plain.jsonl", "packed.jsonl.gz"):
+            path = self.file(text, name)
+            for size in (1, 300, 700, 2_000, 100_000):
+                made = cityseq.report(path, line_limit=500, part_size=size)
+                told = name, size
+                self.assertEqual([report.code for report in made.reports], [2, 25, 2], told)
+                self.assertEqual(
+                    made.reports,
+                    cityseq.check(path, line_limit=500, keep_going=True, part_size=size).reports,
+                    told,
+                )
+                self.assertEqual(made.areas[0].spots, [(11.0, 21.0)] * 3, told)
 
     def test_what_lies_elsewhere_is_not_drawn(self):
         lines = [feature("a"), feature("b", last=9)] + [

@@ -7,12 +7,12 @@ import threading
 import unittest
 from unittest import mock
 
-from . import support
-from .support import HEADER, PLAIN, InFolder, feature
-
 import cityseq
 from cityseq.run.pool import Job, Pool
 from cityseq.sources.packed import Unpacker
+
+from . import support
+from .support import HEADER, PLAIN, InFolder, feature
 
 # Each leaves the run after its first result, where a name of the module holds the generator.
 LEAVES = {
@@ -85,8 +85,10 @@ class Exits(InFolder):
                         timeout=30,
                         env=environment(),
                     )
-                    self.assertEqual((ran.stdout.split(), ran.returncode),
-                                     ([b"20000", str(wanted).encode(), b"80000"], 0))
+                    self.assertEqual(
+                        (ran.stdout.split(), ran.returncode),
+                        ([b"20000", str(wanted).encode(), b"80000"], 0),
+                    )
 
     def test_scripts(self):
         plain = self.file(HEADER + PLAIN * 20_000)

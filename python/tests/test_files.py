@@ -7,15 +7,15 @@ import unittest
 from dataclasses import replace
 from unittest import mock
 
-from . import support
-from .support import HEADER, PLAIN, InFolder, feature
-
 import cityseq
 from cityseq.engine.judge import judge, judge_lines
 from cityseq.engine.query import asked
-from cityseq.sources.chunks import FileChunk
 from cityseq.sources.chunk_reader import Chunks
+from cityseq.sources.chunks import FileChunk
 from cityseq.sources.regular import RegularFile, regular_file
+
+from . import support
+from .support import HEADER, PLAIN, InFolder, feature
 
 READ = os.preadv
 
@@ -144,6 +144,18 @@ class Cuts(InFolder):
             self.assertEqual(b"".join(parts), b"".join(lines) + b"z" * 100)
             self.assertTrue(all(part.endswith(b"\n") for part in parts[:-1]))
             self.assertTrue(all(len(part) <= 1.25 * max(size, 4 * 2_500_000) for part in parts))
+
+    def test_a_part_is_one_line_at_least(self):
+        """Parts that are shorter than a line take no time of their own."""
+        line = b"a" * 99 + b"\n"
+        path = self.file(b"h\n" + line * 50 + b"b" * 300)
+        work = asked("check", line_limit=1_000)
+        for size, count in ((1, 51), (30, 51), (100, 51), (150, 34)):
+            with mock.patch("cityseq.engine.judge.HEADERS", 0):
+                found = list(Chunks(str(path), work, size))
+            self.assertEqual(len(found), count, size)
+            self.assertEqual([chunk.is_last for chunk in found], [False] * (count - 1) + [True])
+            self.assertEqual(sum(chunk.length for chunk in found), 50 * 100 + 300)
 
     def test_a_line_that_is_too_long_is_cut(self):
         path = self.file(b"h\na\n" + b"b" * 200 + b"\nc\n")

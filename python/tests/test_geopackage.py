@@ -3,19 +3,30 @@ import importlib.util
 import json
 import os
 import shutil
+import sqlite3
 import subprocess
 import sys
 import unittest
 
-from .support import HEADER, PLAIN, ROOT, InFolder, feature
-from .test_index import HOSTILE, with_id
-
 import cityseq
+
+from .support import HEADER, PLAIN, ROOT, InFolder, feature
+from .test_index import HOSTILE, query, with_id
 
 TOWN, SAMPLE = (f"{ROOT}/examples/{name}.city.jsonl" for name in ("town", "sample"))
 OGRINFO = shutil.which("ogrinfo")
 CHECKER = "/usr/share/doc/python3-gdal/examples/validate_gpkg.py"
 HAS_GDAL = importlib.util.find_spec("osgeo") is not None
+HAS_QGIS = importlib.util.find_spec("qgis") is not None
+# Prints how many features of a layer QGIS counts, and how many it reads.
+COUNT_IN_QGIS = """
+import sys
+from qgis.core import QgsApplication, QgsVectorLayer
+application = QgsApplication([], False)
+application.initQgis()
+layer = QgsVectorLayer(sys.argv[1], "features", "ogr")
+print(layer.featureCount(), "of", len(list(layer.getFeatures())))
+"""
 
 
 def has_checker():
@@ -68,6 +79,32 @@ class Others(InFolder):
                 self.assertIn(f"Geometry: Polygon\nFeature Count: {counts[name]}\n", said)
                 self.assertEqual("Amersfoort / RD New" in said, name == "dutch")
 
+    def test_the_rows_of_each_layer_are_counted(self):
+        """QGIS counts all rows of a layer with a filter unless a table has their number."""
+        select = "SELECT table_name, feature_count FROM gpkg_ogr_contents ORDER BY table_name"
+        for name, features, reports, streams in (
+            ("hostile", 15, 0, 1),
+            ("broken", 2, 1, 1),
+            ("empty", 0, 0, 1),
+            ("both", 124, 0, 2),
+        ):
+            counts = [("features", features), ("reports", reports), ("streams", streams)]
+            self.assertEqual(query(self.indexes[name], select), counts, name)
+        with sqlite3.connect(self.indexes["broken"]) as base:
+            base.execute("DELETE FROM reports")
+            base.execute("DELETE FROM features WHERE fid = 1")
+        base.close()
+        counts = [("features", 1), ("reports", 0), ("streams", 1)]
+        self.assertEqual(query(self.indexes["broken"], select), counts)
+
+    @unittest.skipUnless(HAS_QGIS, "QGIS for Python is not there: python3-qgis")
+    def test_qgis_counts_what_a_filter_selects(self):
+        source = f"{self.indexes['both']}|layername=features|subset=id = 'house-1'"
+        words = [sys.executable, "-W", "ignore", "-c", COUNT_IN_QGIS, source]
+        settings = {**os.environ, "QT_QPA_PLATFORM": "offscreen", "HOME": str(self.folder)}
+        ran = subprocess.run(words, capture_output=True, timeout=120, env=settings)
+        self.assertEqual(ran.stdout.decode(), "1 of 1\n", ran.stderr)
+
     @unittest.skipIf(OGRINFO is None, "ogrinfo is not there: gdal-bin")
     def test_a_box_of_ogrinfo_is_that_of_select(self):
         path = self.indexes["both"]
@@ -111,8 +148,6 @@ class Others(InFolder):
 
     @unittest.skipUnless(has_checker(), "validate_gpkg is not there: python3-gdal")
     def test_the_checker_finds_faults(self):
-        import sqlite3
-
         with sqlite3.connect(self.indexes["both"]) as base:
             base.execute("DROP TRIGGER rtree_features_geom_update3")
         base.close()
@@ -151,8 +186,6 @@ class Others(InFolder):
         moved.SetGeometry(ogr.CreateGeometryFromWkt("POLYGON ((0 0, 1 0, 1 1, 0 1, 0 0))"))
         self.assertEqual(layer.SetFeature(moved), 0)
         del layer, source
-        from .test_index import query
-
         self.assertEqual(
             query(self.indexes["both"], "SELECT id FROM rtree_features_geom WHERE minx <= 1"),
             [(2,)],

@@ -5,13 +5,13 @@ import random
 import unittest
 from unittest import mock
 
-from . import support
-from .support import HEADER, PLAIN, feature
-
 import cityseq
 from cityseq.engine import ids as ids_of
 from cityseq.engine.ids import MANY, MOST, _ids_in, _sorted, ids_for, in_order, part_size_for
 from cityseq.engine.query import asked, lines_of
+
+from . import support
+from .support import HEADER, PLAIN, feature
 
 FEW = [f"other-{number:05}" for number in range(MANY // 8)]  # that are in no stream here
 LINES = (  # each with the text of its id
@@ -233,7 +233,8 @@ class Filters(support.InFolder):
         """Returns an id as a line has it, with more escapes than there need be."""
         odd = chance.randrange(3) == 0
         return "".join(
-            f"\\u{ord(sign):04x}" if odd and chance.randrange(3) == 0
+            f"\\u{ord(sign):04x}"
+            if odd and chance.randrange(3) == 0
             else json.dumps(sign, ensure_ascii=False)[1:-1]
             for sign in name
         )

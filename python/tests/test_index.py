@@ -19,13 +19,13 @@ from contextlib import closing
 from fractions import Fraction
 from unittest import mock
 
+import cityseq
+from cityseq.engine.records import id_of
+from cityseq.indexes import builder
+from cityseq.sources import regular
+
 from . import support
 from .support import HEADER, PLAIN, ROOT, InFolder, command, feature
-
-import cityseq
-from cityseq.indexes import builder
-from cityseq.engine.records import id_of
-from cityseq.sources import regular
 
 TOWN, SAMPLE, BROKEN, DELIVERY = (
     f"{ROOT}/examples/{name}.city.jsonl" for name in ("town", "sample", "broken", "delivery")
@@ -524,8 +524,9 @@ class Refreshed(InFolder):
             read.append(end - begin)
             return read_own(file, begin, end)
 
-        with mock.patch.object(regular.RegularFile, "read_own", noted), \
-                mock.patch.object(digests, "digest_of", side_effect=AssertionError):
+        with mock.patch.object(regular.RegularFile, "read_own", noted), mock.patch.object(
+            digests, "digest_of", side_effect=AssertionError
+        ):
             cityseq.index(path, self.index)
         self.assertLess(sum(read), path.stat().st_size / 4)
 

@@ -11,16 +11,19 @@ import unittest
 from contextlib import closing
 from unittest import mock
 
-from .support import HEADER, InFolder, command, feature
-from .test_cut import DELIVERY, cut, filtered
-
 import cityseq
 from cityseq.indexes import line_reader
 
+from .support import HEADER, InFolder, command, feature
+from .test_cut import DELIVERY, cut, filtered
+
 OGRINFO = shutil.which("ogrinfo")
 WORDS = "index is out of date: the index was changed, build it again"
-GUARDED = [f"cityseq_{table}_{event}" for table in ("features", "streams")
-           for event in ("insert", "update", "delete")]
+GUARDED = [
+    f"cityseq_{table}_{event}"
+    for table in ("features", "streams")
+    for event in ("insert", "update", "delete")
+]
 
 
 def changed(path, *statements, without=()):
@@ -51,8 +54,11 @@ class Streams(InFolder):
         with open(path, "r+b") as file:
             text = file.read()
             file.seek(0)
-            file.write(text[:-50].replace(b"b999", b"B999") + text[-50:].swapcase()
-                       if text.startswith(b"\x1f") else text.replace(b"b999", b"B999"))
+            file.write(
+                text[:-50].replace(b"b999", b"B999") + text[-50:].swapcase()
+                if text.startswith(b"\x1f")
+                else text.replace(b"b999", b"B999")
+            )
 
     def interposed(self, path):
         """Makes the first line that is read change the file."""
@@ -80,8 +86,9 @@ class Streams(InFolder):
             self.assertIn(str(path), str(caught.exception))
             self.assertEqual(output.exists(), False)
             if name.endswith("jsonl"):
-                self.assertEqual(str(caught.exception),
-                                 f"{path}: read fault: changed while it was read")
+                self.assertEqual(
+                    str(caught.exception), f"{path}: read fault: changed while it was read"
+                )
 
     def test_a_change_after_the_last_line(self):
         path = self.file(self.text)
@@ -104,9 +111,9 @@ class Streams(InFolder):
 
     @unittest.skipIf(importlib.util.find_spec("aiohttp") is None, "aiohttp is not there")
     def test_a_change_while_a_server_answers(self):
+        from cityseq.indexes.index_pages import Page
         from cityseq.serve.catalogue import Catalogue
         from cityseq.serve.items import find
-        from cityseq.indexes.index_pages import Page
         from cityseq.serve.settings import Settings
 
         path = self.file(self.text)
@@ -221,14 +228,17 @@ class Ends(InFolder):
 
     def test_a_false_candidate_brings_no_lf(self):
         one, other, last = feature("a", lod="2.2")[:-1], feature("b", lod="2.1"), feature("c")
-        paths = [self.file(HEADER + text, name)
-                 for name, text in (("A", one), ("B", other), ("C", last.replace(b"2.2", b"1.1")))]
+        paths = [
+            self.file(HEADER + text, name)
+            for name, text in (("A", one), ("B", other), ("C", last.replace(b"2.2", b"1.1")))
+        ]
         for streams in (paths[:2], paths[::2], paths):
             cityseq.index(streams, self.folder / "it.gpkg")
             with cityseq.Index(self.folder / "it.gpkg") as index:
                 self.assertEqual(cut(index, lods="2.2")[0], HEADER + one)
-                self.assertEqual(cut(index, lods="2.1")[0],
-                                 HEADER + (other if paths[1] in streams else b""))
+                self.assertEqual(
+                    cut(index, lods="2.1")[0], HEADER + (other if paths[1] in streams else b"")
+                )
         self.assertEqual(index.streams[0].features, 1)
 
     def test_an_lf_before_the_next_kept_line(self):
@@ -307,8 +317,10 @@ class Indexes(InFolder):
     def test_the_builder_and_a_reader_note_nothing(self):
         with closing(sqlite3.connect(self.index)) as base:
             self.assertEqual(base.execute("SELECT changed FROM cityseq_index").fetchall(), [(0,)])
-            names = {name for name, in base.execute(
-                "SELECT name FROM sqlite_master WHERE type = 'trigger'")}
+            names = {
+                name
+                for name, in base.execute("SELECT name FROM sqlite_master WHERE type = 'trigger'")
+            }
         self.assertTrue(names.issuperset(GUARDED))
         with cityseq.Index(self.index) as index:
             self.assertEqual((index.is_changed, "changed" in index.show()), (False, False))
@@ -320,10 +332,14 @@ class Indexes(InFolder):
             ["UPDATE features SET stream = 0 WHERE fid = 2"],
             ["UPDATE features SET stream = 7 WHERE fid = 2"],
             ["UPDATE features SET stream = 1 WHERE stream = 2"],
-            ["UPDATE features SET begin = (SELECT begin FROM features WHERE fid = 3),"
-             " length = (SELECT length FROM features WHERE fid = 3) WHERE fid = 2"],
-            ["UPDATE features SET length = length + 1 +"
-             " (SELECT length FROM features WHERE fid = 3) WHERE fid = 2"],
+            [
+                "UPDATE features SET begin = (SELECT begin FROM features WHERE fid = 3),"
+                " length = (SELECT length FROM features WHERE fid = 3) WHERE fid = 2"
+            ],
+            [
+                "UPDATE features SET length = length + 1 +"
+                " (SELECT length FROM features WHERE fid = 3) WHERE fid = 2"
+            ],
             ["UPDATE streams SET features = features + 1"],
             ["UPDATE streams SET first_fid = 2 WHERE fid = 1"],
         ):
@@ -333,11 +349,18 @@ class Indexes(InFolder):
                 changed(self.index, *statements, without=[*GUARDED, *layer])
                 with closing(sqlite3.connect(self.index)) as base:
                     for name in GUARDED:
-                        base.execute(f"CREATE TRIGGER {name} AFTER DELETE ON reports"
-                                     " BEGIN SELECT 1; END")
+                        base.execute(
+                            f"CREATE TRIGGER {name} AFTER DELETE ON reports" " BEGIN SELECT 1; END"
+                        )
                     base.commit()
-                output, said, status = command("filter", "--index", str(self.index), "--quiet",
-                                               "--output-dir", str(self.folder / "out"))
+                output, said, status = command(
+                    "filter",
+                    "--index",
+                    str(self.index),
+                    "--quiet",
+                    "--output-dir",
+                    str(self.folder / "out"),
+                )
                 self.assertEqual((output, status, said.count("\n")), (b"", 3, 1))
                 self.assertIn("index is out of date", said)
                 self.assertFalse((self.folder / "out").exists())
@@ -380,8 +403,9 @@ class Indexes(InFolder):
             words = [OGRINFO, "-q", self.index, "-sql", statement]
             ran = subprocess.run(words, capture_output=True)
             self.assertEqual(ran.returncode, 0)
-            output, said, status = command("filter", "--index", str(self.index), "--output-dir",
-                                           str(self.folder / "out"))
+            output, said, status = command(
+                "filter", "--index", str(self.index), "--output-dir", str(self.folder / "out")
+            )
             self.assertEqual((output, status), (b"", 3))
             self.assertNotEqual(said, "")
         self.assertIn("it has no streams", said)
@@ -409,18 +433,34 @@ class LeftOut(InFolder):
         self.assertEqual(shown.count("left out"), 5)
 
     def test_the_options_are_those_of_the_index(self):
-        command("index", "--quiet", "--keep-going", "--tree", "--depth", "70", "--output",
-                self.index, DELIVERY)
-        told = json.loads(command("filter", "--json", "--index", self.index, "--output",
-                                  str(self.folder / "out"))[0])
+        command(
+            "index",
+            "--quiet",
+            "--keep-going",
+            "--tree",
+            "--depth",
+            "70",
+            "--output",
+            self.index,
+            DELIVERY,
+        )
+        told = json.loads(
+            command(
+                "filter", "--json", "--index", self.index, "--output", str(self.folder / "out")
+            )[0]
+        )
         options = {name: told["options"][name] for name in ("keep_going", "tree", "depth")}
-        self.assertEqual((options, told["refused"], told["verdict"]),
-                         ({"keep_going": True, "tree": True, "depth": 70}, 5, "invalid"))
+        self.assertEqual(
+            (options, told["refused"], told["verdict"]),
+            ({"keep_going": True, "tree": True, "depth": 70}, 5, "invalid"),
+        )
         told = json.loads(command("index", "--show", self.index, "--json")[0])
         (stream,) = told["streams"]
         self.assertEqual((told["fault"], len(stream["reports"])), (None, 5))
-        self.assertEqual(stream["reports"][0], {"line": 3, "byte": 144, "code": 25, "id": "p2",
-                                                "text": "vertex index out of range"})
+        self.assertEqual(
+            stream["reports"][0],
+            {"line": 3, "byte": 144, "code": 25, "id": "p2", "text": "vertex index out of range"},
+        )
 
     def test_a_later_stream_that_fails_leaves_no_output(self):
         text = HEADER + feature("a")

@@ -10,14 +10,14 @@ import unittest
 from contextlib import closing
 from unittest import mock
 
+import cityseq
+from cityseq.engine.query import asked
+from cityseq.indexes import builder, replacement
+
 from . import support
 from .support import HEADER, ROOT, InFolder, command, feature
 from .test_cut import SAMPLE, TOWN, cut
 from .test_index import NOBODY
-
-import cityseq
-from cityseq.indexes import builder, replacement
-from cityseq.engine.query import asked
 
 EDITOR = """
 import os, sqlite3, sys
@@ -59,7 +59,8 @@ class Replaced(InFolder):
         cityseq.index(SAMPLE, self.index)
         editor = subprocess.Popen(
             [sys.executable, "-c", EDITOR, self.index, journal, how],
-            stdin=subprocess.PIPE, stdout=subprocess.PIPE,
+            stdin=subprocess.PIPE,
+            stdout=subprocess.PIPE,
         )
         self.assertEqual(editor.stdout.readline(), b"done\n")
         editor.stdout.close()
@@ -74,9 +75,7 @@ class Replaced(InFolder):
                 self.edited(journal, "ends")
                 self.assertTrue(os.path.getsize(f"{self.index}{end}"))
                 cityseq.index(self.path, self.index)
-                self.assertEqual(
-                    sorted(os.listdir(self.folder)), ["it.gpkg", "stream.city.jsonl"]
-                )
+                self.assertEqual(sorted(os.listdir(self.folder)), ["it.gpkg", "stream.city.jsonl"])
                 with cityseq.Index(self.index) as index:
                     self.assertEqual(cut(index, types="Tunnel")[3], 50)
                 self.assertEqual(rows_of(self.index, "PRAGMA integrity_check"), [("ok",)])
@@ -213,13 +212,16 @@ class Read(InFolder):
         self.assertEqual(found, (b"", f"{fifo}: read fault: it is no index of cityseq\n", 3))
         state = os.stat(fifo)
         with closing(sqlite3.connect(self.index)) as base:
-            base.execute("UPDATE streams SET path = ?, size = 0, mtime_ns = ?",
-                         (str(fifo), state.st_mtime_ns))
+            base.execute(
+                "UPDATE streams SET path = ?, size = 0, mtime_ns = ?",
+                (str(fifo), state.st_mtime_ns),
+            )
             base.execute("UPDATE cityseq_index SET changed = 0")
             base.commit()
         output, said, status = command("filter", "--index", str(self.index))
-        self.assertEqual((output, said, status),
-                         (b"", f"{fifo}: read fault: it is no regular file\n", 3))
+        self.assertEqual(
+            (output, said, status), (b"", f"{fifo}: read fault: it is no regular file\n", 3)
+        )
 
 
 class Hostile(InFolder):
@@ -261,8 +263,14 @@ class Hostile(InFolder):
             "mtime_ns": ("'x'", "x'01'", "0.5"),
             "header_length": ("'x'", "x'01'", "0", "-5", "1 << 62"),
             "header_sha256": ("''", "x'00'", "'" + "g" * 64 + "'"),
-            "scale": ("'x'", "'[]'", "'[1,2,3]'", "'[\"a\",\"1\",\"1\"]'", "x'00'",
-                      "'" + "[" * 5_000 + "'"),
+            "scale": (
+                "'x'",
+                "'[]'",
+                "'[1,2,3]'",
+                '\'["a","1","1"]\'',
+                "x'00'",
+                "'" + "[" * 5_000 + "'",
+            ),
             "translate": ("'{}'", "x'00'"),
             "reference_system": ("x'00ff'",),
             "lines": ("'x'", "-1"),
@@ -280,10 +288,21 @@ class Hostile(InFolder):
                         self.assertIn(column, said)
 
     def test_options_that_no_index_has(self):
-        for change in ("tree = 2", "keep_going = 'x'", "line_limit = 0", "line_limit = 1 << 40",
-                       "line_limit = 'x'", "depth = 0", "depth = 5000", "depth = x'00'",
-                       "version = 'x'", "version = x'00'", "version = 9", "places = 'x'",
-                       "places = 7"):
+        for change in (
+            "tree = 2",
+            "keep_going = 'x'",
+            "line_limit = 0",
+            "line_limit = 1 << 40",
+            "line_limit = 'x'",
+            "depth = 0",
+            "depth = 5000",
+            "depth = x'00'",
+            "version = 'x'",
+            "version = x'00'",
+            "version = 9",
+            "places = 'x'",
+            "places = 7",
+        ):
             with self.subTest(change):
                 self.made(f"UPDATE cityseq_index SET {change}")
                 if change.startswith("places"):
@@ -294,11 +313,15 @@ class Hostile(InFolder):
                     self.refused()
 
     def test_rows_and_tables_that_are_not_there(self):
-        for statement in ("DELETE FROM streams", "DELETE FROM cityseq_index",
-                          "INSERT INTO cityseq_index SELECT * FROM cityseq_index",
-                          "DROP TABLE reports", "DROP TABLE rtree_features_geom",
-                          "ALTER TABLE streams RENAME COLUMN lines TO rows",
-                          "ALTER TABLE features RENAME TO others"):
+        for statement in (
+            "DELETE FROM streams",
+            "DELETE FROM cityseq_index",
+            "INSERT INTO cityseq_index SELECT * FROM cityseq_index",
+            "DROP TABLE reports",
+            "DROP TABLE rtree_features_geom",
+            "ALTER TABLE streams RENAME COLUMN lines TO rows",
+            "ALTER TABLE features RENAME TO others",
+        ):
             with self.subTest(statement):
                 self.made(statement)
                 self.refused()
@@ -323,27 +346,40 @@ class Hostile(InFolder):
         return rows_of(self.folder / "good.gpkg", f"PRAGMA table_info({table})")
 
     def test_rows_of_features_that_no_index_has(self):
-        for change in ("stream = 'x'", "line = x'00'", "begin = 'x'", "length = x'00'",
-                       "begin = -1", "length = 1 << 62"):
+        for change in (
+            "stream = 'x'",
+            "line = x'00'",
+            "begin = 'x'",
+            "length = x'00'",
+            "begin = -1",
+            "length = 1 << 62",
+        ):
             with self.subTest(change):
                 self.made(f"UPDATE features SET {change}")
                 with self.assertRaises(cityseq.OutOfDate):
                     with cityseq.Index(self.index) as index:
                         index.filter(io.BytesIO())
         # all have one hash
-        self.made("UPDATE features SET id = x'00ff', line = 'x'",
-                  "DELETE FROM feature_ids",
-                  "INSERT INTO feature_ids VALUES (0, x'000000000001000000000002')")
+        self.made(
+            "UPDATE features SET id = x'00ff', line = 'x'",
+            "DELETE FROM feature_ids",
+            "INSERT INTO feature_ids VALUES (0, x'000000000001000000000002')",
+        )
         with self.assertRaises(cityseq.OutOfDate):
             with cityseq.Index(self.index) as index:
                 index.show()
 
     def test_a_report_that_no_index_has(self):
-        for values in ("1, 'x', 1, 1, 'a', NULL", "1, 1, x'00', 1, 'a', NULL",
-                       "1, 1, 1, 1, x'00ff', NULL", "1, 1, 1, 1, 'a', x'00ff'"):
+        for values in (
+            "1, 'x', 1, 1, 'a', NULL",
+            "1, 1, x'00', 1, 'a', NULL",
+            "1, 1, 1, 1, x'00ff', NULL",
+            "1, 1, 1, 1, 'a', x'00ff'",
+        ):
             with self.subTest(values):
-                self.made("INSERT INTO reports (stream, line, byte, code, text, id)"
-                          f" VALUES ({values})")
+                self.made(
+                    "INSERT INTO reports (stream, line, byte, code, text, id)" f" VALUES ({values})"
+                )
                 with self.assertRaises(cityseq.ReadFault):
                     with cityseq.Index(self.index) as index:
                         index.show()
@@ -362,11 +398,14 @@ class Hostile(InFolder):
             "end_by_signals()\n"
             "sys.exit(main(['filter', '--index', sys.argv[1]]))\n"
         )
-        for number, words in ((signal.SIGTERM, b"stopped by SIGTERM\n"),
-                              (signal.SIGINT, b"interrupted\n")):
+        for number, words in (
+            (signal.SIGTERM, b"stopped by SIGTERM\n"),
+            (signal.SIGINT, b"interrupted\n"),
+        ):
             ran = subprocess.Popen(
                 [sys.executable, "-c", code, self.folder / "good.gpkg"],
-                stdout=subprocess.PIPE, stderr=subprocess.PIPE,
+                stdout=subprocess.PIPE,
+                stderr=subprocess.PIPE,
                 env={**os.environ, "PYTHONPATH": f"{ROOT}/python"},
                 preexec_fn=support.heed_interrupts,
             )

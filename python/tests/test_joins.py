@@ -4,14 +4,14 @@ import itertools
 import random
 import unittest
 
-from . import support
-from .support import HEADER, PLAIN, feature
-
 from cityseq.engine.judge import Answer, judge_lines
 from cityseq.engine.library import library
 from cityseq.engine.query import asked
 from cityseq.engine.structs import CallStatus, RawAnswer, RawRequest, RawTally
 from cityseq.sources.chunks import whole_lines
+
+from . import support
+from .support import HEADER, PLAIN, feature
 
 STREAMS = 300
 OPTIONS = ({}, {"types": "Road"}, {"lods": ["2.2"]}, {"exclude": True, "ids": ["b1", "b2"]})
@@ -144,8 +144,10 @@ class Package(unittest.TestCase):
                     continue
                 work = asked(kind, line_limit=1_000, keep_going=keep_going)
                 with self.subTest(seed=seed, kind=kind, keep_going=keep_going):
-                    self.assertEqual(self.joined(work, header, cut(part, chance)),
-                                     self.joined(work, header, [part]))
+                    self.assertEqual(
+                        self.joined(work, header, cut(part, chance)),
+                        self.joined(work, header, [part]),
+                    )
 
     @staticmethod
     def joined(work, header, parts):

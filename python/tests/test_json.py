@@ -6,13 +6,13 @@ import re
 import unittest
 from decimal import Decimal
 
+import cityseq
+from cityseq.cli.json_objects import exact
+
 from . import support
 from .support import HEADER, PLAIN, InFolder, command
 from .test_sources import GOOD
 from .test_told import example
-
-import cityseq
-from cityseq.cli.json_objects import exact
 
 TYPES = {
     "string": str,

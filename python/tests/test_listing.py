@@ -1,12 +1,17 @@
 """The kept features of a stream, and the columns of their table."""
+import importlib.util
 import io
 import json
 import math
+import pickle
+import random
 import unittest
 from decimal import Decimal
+from unittest import mock
 
 import cityseq
-from .support import HEADER, PLAIN, ROOT
+
+from .support import HEADER, PLAIN, ROOT, feature
 
 TOWN, BROKEN, DELIVERY, SAMPLE = (
     f"{ROOT}/examples/{name}.city.jsonl" for name in ("town", "broken", "delivery", "sample")
@@ -99,6 +104,32 @@ class Table(unittest.TestCase):
     def test_no_vertex_is_no_number(self):
         columns = cityseq.table(HEADER + PLAIN)
         self.assertTrue(math.isnan(columns["xmin"][0]))
+
+    @unittest.skipUnless(importlib.util.find_spec("numpy"), "numpy is not there")
+    def test_numpy_changes_nothing(self):
+        """The columns have the same values and types, bit by bit."""
+        chance = random.Random(1)
+        numbers = ("1", "0.001", "-0.25", "1e-18", "1e15", "3e-7", "123456789.123", "0", "1e30")
+        for seed in range(120):
+            scale, shift = chance.choice(numbers[:-2] + ("1e30",)), chance.choice(numbers)
+            lines = [
+                feature(
+                    f"b\\u00{chance.randrange(32, 99)}",
+                    x=chance.choice((0, 7, 1 - 2**53, 2**53 - 1)),
+                )
+                for _ in range(chance.randrange(9))
+            ]
+            lines += [PLAIN] * chance.randrange(3) + [with_id("\0")] * chance.randrange(2)
+            chance.shuffle(lines)
+            header = HEADER.replace(b"[0.001", f"[{scale}".encode())
+            text = header.replace(b"[10", f"[{shift}".encode()) + b"".join(lines)
+            with mock.patch("cityseq.run.table.ROOM", chance.choice((300, 1_000, 1 << 19))):
+                with mock.patch("cityseq.run.table._numpy", lambda: None):
+                    plain = cityseq.table(text)
+                with mock.patch("cityseq.run.table.MANY", 0), mock.patch(
+                    "cityseq.run.table.TOGETHER", chance.choice((1, 3, 100))
+                ):
+                    self.assertEqual(pickle.dumps(cityseq.table(text)), pickle.dumps(plain), seed)
 
     def test_it_is_json_where_it_can_be(self):
         columns = cityseq.table(TOWN)

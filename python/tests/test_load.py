@@ -9,7 +9,7 @@ import unittest
 from . import support
 from .support import HEADER, PLAIN, InFolder, feature
 
-sys.path.insert(0, os.path.join(support.ROOT, "tests"))
+sys.path.insert(0, os.path.join(support.ROOT, "tools"))
 import postgres  # noqa: E402
 
 LOADER = os.path.join(support.ROOT, "examples", "load", "load.py")
@@ -150,8 +150,10 @@ class Loads(InFolder):
             self.load(self.file(HEADER + b"".join(lines)))[0], f"loaded features={len(ids)}\n"
         )
         found = self.rows()
-        self.assertEqual([row[1][1] for row in found],
-                         [None if each in ("\u0000", "\ud800") else each for each in ids])
+        self.assertEqual(
+            [row[1][1] for row in found],
+            [None if each in ("\u0000", "\ud800") else each for each in ids],
+        )
         self.assertEqual([row[0] for row in found], [line[:-1] for line in lines])
         self.assertEqual({edge for row in found for edge in row[2]}, {None})
 

@@ -6,12 +6,12 @@ import unittest
 from collections import Counter
 from unittest import mock
 
-from . import support
-from .support import HEADER, PLAIN, feature
-
 import cityseq
 from cityseq.engine import lods
 from cityseq.engine.tally import MOST_TEXTS
+
+from . import support
+from .support import HEADER, PLAIN, feature
 
 TEMPLATES = (
     b'"geometry-templates":{"templates":[{"type":"MultiPoint","lod":"3.1","boundaries":[0]},'

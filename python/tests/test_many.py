@@ -12,15 +12,15 @@ from decimal import Decimal
 from fractions import Fraction
 from unittest import mock
 
-from .support import HEADER, InFolder, feature
-from .test_index import dump, query, with_id
-
 import cityseq
-from cityseq.indexes import arrays, builder, columns, geopackage, id_table, sorting
 from cityseq.engine.extents import Axis, World, ceiling_of, floor_of
 from cityseq.engine.faults import WriteFault
-from cityseq.indexes.geopackage import UNIFORM, geometry_start
 from cityseq.engine.records import RECORD, Records, id_of
+from cityseq.indexes import arrays, builder, columns, geopackage, id_table, sorting
+from cityseq.indexes.geopackage import UNIFORM, geometry_start
+
+from .support import HEADER, InFolder, feature
+from .test_index import dump, query, with_id
 
 HAS_NUMPY = arrays.vectors_for(arrays.MANY) is not None
 WITHOUT = "numpy is not there"
@@ -106,8 +106,9 @@ class Vectors(InFolder):
             records = self.made(count, 10 ** chance.randrange(1, 19), chance, share)
             world = World([Decimal(1)] * 3, [Decimal()] * 3)
             world.x, world.y, world.z = (
-                chance.choice((Axis(chance.choice(self.SCALES), chance.choice(self.SHIFTS)),) * 9
-                              + (None,))
+                chance.choice(
+                    (Axis(chance.choice(self.SCALES), chance.choice(self.SHIFTS)),) * 9 + (None,)
+                )
                 for _ in "xyz"
             )
             first = chance.randrange(1, 1 << 31)
@@ -144,8 +145,9 @@ class Vectors(InFolder):
         for many in (1, 10**9):
             for block in (1 << 16, 100):
                 index = str(self.folder / f"{many}-{block}.gpkg")
-                with mock.patch.object(arrays, "MANY", many), \
-                        mock.patch.object(sorting, "BLOCK", block):
+                with mock.patch.object(arrays, "MANY", many), mock.patch.object(
+                    sorting, "BLOCK", block
+                ):
                     cityseq.index(path, index)
                 dumps.append((dump(index), query(index, "SELECT * FROM feature_ids")))
         self.assertEqual(len(dumps[0][0][0]), 2_000)
@@ -181,8 +183,12 @@ class Uniform(InFolder):
 
     def test_another_value_at_any_place(self):
         usual = [feature(f"b{number}") for number in range(40)]
-        for other in (feature("o", kind="Road"), feature("o", lod="1"), with_id("o"),
-                      with_id("\u0000").replace(b"\\u0000", b"o" * 1_100)):
+        for other in (
+            feature("o", kind="Road"),
+            feature("o", lod="1"),
+            with_id("o"),
+            with_id("\u0000").replace(b"\\u0000", b"o" * 1_100),
+        ):
             for place in (0, 1, 20, 39, 40):
                 lines = [*usual[:place], other, *usual[place:]]
                 with self.subTest(other=other[:60], place=place):
@@ -207,9 +213,12 @@ class Uniform(InFolder):
 
     def test_they_take_no_bytes(self):
         """Not even where ids have escapes."""
+
         def size(*kinds):
-            lines = [feature(f"b\\u00{2 + number % 6}1{number:05}", kind=kinds[number % len(kinds)])
-                     for number in range(20_000)]
+            lines = [
+                feature(f"b\\u00{2 + number % 6}1{number:05}", kind=kinds[number % len(kinds)])
+                for number in range(20_000)
+            ]
             index, _ = self.built([HEADER + b"".join(lines)], size=100_000)
             (pages,) = query(index, "PRAGMA page_count")[0]
             return pages * builder.PAGE / len(lines)

@@ -2,12 +2,15 @@
 import builtins
 import io
 import json
+import os
+import subprocess
+import sys
 import unittest
-
-from .support import HEADER, PLAIN
 
 import cityseq
 from cityseq import Status
+
+from .support import HEADER, PLAIN, ROOT
 
 
 class Names(unittest.TestCase):
@@ -16,6 +19,21 @@ class Names(unittest.TestCase):
             with self.subTest(name):
                 self.assertTrue(hasattr(cityseq, name))
                 self.assertFalse(hasattr(builtins, name))
+
+
+class Layers(unittest.TestCase):
+    def test_the_engine_stands_on_nothing(self):
+        """The modules of `engine` load no other module of the package."""
+        code = (
+            "import importlib, pkgutil, sys, cityseq.engine as engine;"
+            "found = [each.name for each in pkgutil.iter_modules(engine.__path__)];"
+            "[importlib.import_module(f'cityseq.engine.{name}') for name in found];"
+            "print(sorted({name.split('.')[1] for name in sys.modules"
+            " if name.startswith('cityseq.')}))"
+        )
+        settings = {**os.environ, "PYTHONPATH": os.path.join(ROOT, "python")}
+        ran = subprocess.run([sys.executable, "-c", code], capture_output=True, env=settings)
+        self.assertEqual((ran.stdout, ran.stderr), (b"['engine']\n", b""))
 
 
 class Statuses(unittest.TestCase):

@@ -94,7 +94,7 @@ class Sources(InFolder):
     def test_bytes(self):
         path = self.file(GOOD)
         with open(path, "rb") as file, mmap.mmap(file.fileno(), 0, prot=mmap.PROT_READ) as mapped:
-            for source in (array("B", GOOD), memoryview(GOOD), bytearray(GOOD), mapped):
+            for source in (array("B", GOOD), memoryview(GOOD), bytearray(GOOD), mapped, mapped):
                 self.assertEqual(cityseq.check(source).features, 2)
             self.assertEqual(cityseq.check(array("B", GOOD)).file, "<bytes>")
 

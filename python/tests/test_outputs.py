@@ -8,12 +8,12 @@ import sys
 import time
 import unittest
 
+import cityseq
+from cityseq.sources.outputs import Batch, Writer
+
 from . import support
 from .support import HEADER, PLAIN, InFolder, command, feature
 from .test_sources import BROKEN, GOOD
-
-import cityseq
-from cityseq.sources.outputs import Batch, Writer
 
 
 class Wholes(InFolder):
@@ -33,8 +33,10 @@ class Wholes(InFolder):
             with self.assertRaises(cityseq.InvalidStream) as caught:
                 cityseq.filter(BROKEN, self.output, jobs=jobs, part_size=200)
             fault = caught.exception
-            self.assertEqual((fault.status, fault.result.status, fault.result.features, str(fault)),
-                             (1, 1, 1, "<bytes>: line 3, byte 142: 25 vertex index out of range"))
+            self.assertEqual(
+                (fault.status, fault.result.status, fault.result.features, str(fault)),
+                (1, 1, 1, "<bytes>: line 3, byte 142: 25 vertex index out of range"),
+            )
             self.assertEqual(self.found(), [None, None])
 
     def test_an_invalid_stream_leaves_what_was_there(self):
@@ -271,6 +273,33 @@ class Sames(InFolder):
 
 class Writers(InFolder):
     """What writes."""
+
+    def test_a_packing_that_is_not_there(self):
+        path = self.file(HEADER + PLAIN)
+        for name in ("a.city.jsonl.xz", "b.BZ2", "c.zip"):
+            output = str(self.folder / name)
+            _, said, status = command("filter", "--output", output, path)
+            words = f"{output}: cityseq packs by gzip or Zstandard: let the name end in .gz or .zst"
+            self.assertEqual((said, status), (f"{words}\n", 2))
+            with self.assertRaises(cityseq.RequestError):
+                cityseq.filter(path, output)
+        self.assertEqual(os.listdir(self.folder), [path.name])
+
+    def test_an_empty_name(self):
+        path = self.file(HEADER + PLAIN)
+        for words, told in (
+            (("index", "--output", ""), "the name of an output is empty"),
+            (("report", "--output", ""), "the name of an output is empty"),
+            (("filter", "--output", ""), "the name of an output is empty"),
+            (("filter", "--output-dir", ""), "the name of the folder of --output-dir is empty"),
+            (("check", "--record", ""), "a record is a file: name it by --record"),
+        ):
+            _, said, status = command(*words, path, cwd=self.folder)
+            self.assertEqual((said, status), (f"{told}\n", 2), words)
+        for call in (cityseq.index, cityseq.filter):
+            with self.assertRaises(cityseq.RequestError):
+                call(path, "")
+        self.assertEqual(os.listdir(self.folder), [path.name])
 
     def test_a_missing_folder_is_named(self):
         output = self.folder / "no" / "out.jsonl"

@@ -9,15 +9,16 @@ import subprocess
 import sys
 import unittest
 import zlib
+from concurrent.futures import Future
 from unittest import mock
+
+import cityseq
+from cityseq.engine.query import asked
+from cityseq.run.streams import Stream, _Order, results
+from cityseq.sources.packed import BLOCK, LAST, Packer, Packing, Unpacker, pack
 
 from . import support
 from .support import HEADER, PLAIN, InFolder, command, feature, numbered
-
-import cityseq
-from cityseq.sources.packed import BLOCK, LAST, Packer, Packing, Unpacker, pack
-from cityseq.engine.query import asked
-from cityseq.run.streams import Stream, results
 
 try:
     import zstandard
@@ -35,7 +36,7 @@ def blocks(packed):
         head = struct.unpack_from("<4BI2BH2B2H", packed, place)
         assert head[:4] == (31, 139, 8, 4) and head[7:11] == (6, 66, 67, 2), head
         size = head[11] + 1
-        text = zlib.decompress(packed[place + 18:place + size - 8], -15)
+        text = zlib.decompress(packed[place + 18 : place + size - 8], -15)
         assert struct.unpack_from("<2I", packed, place + size - 8) == (zlib.crc32(text), len(text))
         assert size <= 1 << 16 and len(text) <= 1 << 16
         texts.append(text)
@@ -202,7 +203,7 @@ class Contents(InFolder):
     def test_a_path_as_bytes(self):
         self.file(GOOD, "a.jsonl")
         with os.scandir(os.fsencode(self.folder)) as entries:
-            entry, = entries
+            (entry,) = entries
         self.assertEqual(cityseq.check(entry).features, 2)
         self.assertEqual([result.status for result in cityseq.check_files([entry, entry])], [0, 0])
         output = os.fsencode(self.folder / "out.gz")
@@ -289,8 +290,10 @@ class Wholes(InFolder):
                 )
             )
             wanted = [cityseq.check(text, keep_going=True, line_limit=1_000) for text in texts]
-            self.assertEqual([(one.status, one.lines, one.features, one.refused) for one in found],
-                             [(one.status, one.lines, one.features, one.refused) for one in wanted])
+            self.assertEqual(
+                [(one.status, one.lines, one.features, one.refused) for one in found],
+                [(one.status, one.lines, one.features, one.refused) for one in wanted],
+            )
             self.assertEqual(
                 [(report.file, report.line, report.code) for report in reports],
                 [
@@ -317,11 +320,13 @@ class Wholes(InFolder):
         told = []
         for _ in cityseq.check_files(paths, jobs=4, keep_going=True, on_report=told.append):
             pass
-        self.assertEqual([report.file for report in told],
-                         [str(first)] * 50_000 + list(map(str, paths[1:])))
+        self.assertEqual(
+            [report.file for report in told], [str(first)] * 50_000 + list(map(str, paths[1:]))
+        )
 
     def test_several_are_unpacked_at_once(self):
         import threading
+
         threads, read = set(), Unpacker.read
 
         def noted(unpacker, most=-1):
@@ -361,6 +366,36 @@ class Wholes(InFolder):
                 self.assertEqual(
                     gzip.decompress((folder / path.name).read_bytes()), bytes(one.output)
                 )
+
+    def test_a_stream_that_waits_for_the_one_before(self):
+        """It holds as many answers as it may when it becomes the first one: the calls of the first
+        stream take longer than the others."""
+        text = HEADER + (feature("a") * 20 + b"{}\n") * 300
+        paths = [self.file(text, f"{number}.city.jsonl.gz") for number in range(3)]
+
+        class Late(Future):
+            def result(self, timeout=None):
+                if not self.done():
+                    self.set_result(self.call())
+                return super().result(timeout)
+
+        first = []
+
+        def submit(call):
+            chunks = call.args[1]
+            first.append(chunks)
+            job = Late()
+            job.call = call
+            if chunks is not first[0]:
+                job.result()
+            return job
+
+        work = asked("check", keep_going=True)
+        streams = ((Stream(path, work, 1 << 14), True) for path in paths)
+        with mock.patch("cityseq.run.streams.PART", 1 << 14):
+            found = list(_Order(submit, lambda: 4).results(streams))
+        self.assertEqual([result.refused for result in found], [300] * 3)
+        self.assertEqual([result.file for result in found], list(map(str, paths)))
 
     def test_no_thread(self):
         paths = [path for _, path in self.files(5)]

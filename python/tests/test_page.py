@@ -9,11 +9,11 @@ import re
 import unittest
 from unittest import mock
 
-from . import made_up, support
-from .support import InFolder
-
 from cityseq.delivery import extras, facts
 from cityseq.delivery.json_object import delivery_object
+
+from . import made_up, support
+from .support import InFolder
 
 try:
     extras.need_all()
@@ -163,8 +163,13 @@ class Page(unittest.TestCase):
 
     def test_the_verdict_has_a_colour(self):
         for statuses, wanted in (
-            ((0,), "valid"), ((1,), "invalid"), ((3,), "fault"), ((0, 0), "valid"),
-            ((0, 3), "fault"), ((0, 1), "invalid"), ((5, 1, 0), "invalid"),
+            ((0,), "valid"),
+            ((1,), "invalid"),
+            ((3,), "fault"),
+            ((0, 0), "valid"),
+            ((0, 3), "fault"),
+            ((0, 1), "invalid"),
+            ((5, 1, 0), "invalid"),
         ):
             files = [made_up.file(f"{n}", status, status % 2) for n, status in enumerate(statuses)]
             made = made_up.delivery([], files)

@@ -9,12 +9,12 @@ import sys
 import unittest
 from concurrent.futures import ThreadPoolExecutor
 
-from . import support
-from .support import HEADER, PLAIN, in_one, numbered
-
 import cityseq
 from cityseq.engine.query import asked
 from cityseq.sources.chunk_reader import Chunks
+
+from . import support
+from .support import HEADER, PLAIN, in_one, numbered
 
 
 def parts_of(text, size, line_limit=1_000, keep_going=False, piece=7):
@@ -136,7 +136,7 @@ class Vectors(unittest.TestCase):
                         row["text"],
                         part_size=size,
                         jobs=1 if size > 60 else 3,
-                        **support.options_of(row)
+                        **support.options_of(row),
                     )
                     told = str(result.end) if result.end else ""
                     self.assertEqual((output, told, result.status), support.wanted_of(row))

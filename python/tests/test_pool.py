@@ -1,16 +1,18 @@
 """Threads: as many as there is work for, and fewer where the machine gives fewer."""
 import _thread
+import resource
 import threading
 import time
 import unittest
+from functools import partial
 from unittest import mock
-
-from . import support
-from .support import HEADER, PLAIN
 
 import cityseq
 from cityseq.run import pool as pool_of
 from cityseq.run.pool import STACK, Pool, in_thread
+
+from . import support
+from .support import HEADER, PLAIN
 
 START = _thread.start_new_thread
 
@@ -29,6 +31,16 @@ def starting(most, silent=False):
         return 0
 
     return mock.patch("_thread.start_new_thread", start), started
+
+
+class LittleMemory(support.InFolder):
+    def test_a_stack_that_cannot_grow(self):
+        """A run ends with a status, and the system does not kill it."""
+        path = self.file(HEADER + PLAIN)
+        for kilobytes in range(20_000, 24_001, 500):
+            limit = partial(resource.setrlimit, resource.RLIMIT_AS, (kilobytes << 10,) * 2)
+            *_, status = support.command("check", path, preexec_fn=limit)
+            self.assertIn(status, (0, 5), kilobytes)
 
 
 class Crews(unittest.TestCase):

@@ -9,13 +9,13 @@ import time
 import unittest
 from unittest import mock
 
+import cityseq
+from cityseq.delivery import extras, report_run
+
 from . import support
 from .support import HEADER, InFolder, command, feature
 from .test_delivery import MISSING, lists_of
 from .test_told import example
-
-import cityseq
-from cityseq.delivery import extras, report_run
 
 
 @unittest.skipIf(MISSING, MISSING)

@@ -6,11 +6,11 @@ import unittest
 from dataclasses import asdict, replace
 from unittest import mock
 
-from . import support
-from .support import HEADER, PLAIN, InFolder, command, feature
-
 import cityseq
 from cityseq.engine.reports import KEPT, Report
+
+from . import support
+from .support import HEADER, PLAIN, InFolder, command, feature
 
 BROKEN = feature("broken", last=4)
 NEVER = mock.patch("cityseq.engine.reports.excerpt_of", side_effect=AssertionError)

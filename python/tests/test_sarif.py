@@ -4,6 +4,7 @@ import unittest
 from urllib.parse import unquote
 
 import cityseq
+
 from .support import HEADER, InFolder, command, feature
 from .test_told import example
 

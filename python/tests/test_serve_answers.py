@@ -6,11 +6,11 @@ import re
 import unittest
 from decimal import Decimal
 
+import cityseq
+from cityseq.coordinates.boxes import edges, short
+
 from .serving import MISSING, RD, Served, Serving
 from .support import HEADER, command, feature
-
-import cityseq
-from cityseq.coordinates.digits import edges, short
 
 ITEMS = "/collections/sample/items"
 BROWSER = "text/html,application/xhtml+xml,application/xml;q=0.9,image/webp,*/*;q=0.8"
@@ -19,31 +19,71 @@ BROWSER = "text/html,application/xhtml+xml,application/xml;q=0.9,image/webp,*/*;
 @unittest.skipIf(MISSING, MISSING)
 class Answers(Served):
     def test_errors_are_pages_for_browsers(self):
-        for path, status in (("/none", 404), (f"{ITEMS}?f=html&bbox=<b>x</b>,1,2,3", 400), (f"{ITEMS}/<script>alert(1)<%2Fscript>", 404)):
+        for path, status in (
+            ("/none", 404),
+            (f"{ITEMS}?f=html&bbox=<b>x</b>,1,2,3", 400),
+            (f"{ITEMS}/<script>alert(1)<%2Fscript>", 404),
+        ):
             answer = self.server.ask(path, Accept=BROWSER)
             page = answer.body.decode()
-            self.assertEqual((answer.status, answer.headers["Content-Type"]), (status, "text/html; charset=utf-8"))
+            self.assertEqual(
+                (answer.status, answer.headers["Content-Type"]),
+                (status, "text/html; charset=utf-8"),
+            )
             self.assertIn("frame-ancestors 'none'", answer.headers["Content-Security-Policy"])
             self.assertNotRegex(page, "<b>|<script>")
-            self.assertIn(html.escape(self.server.ask(path).json()["detail"]).replace("&#x27;", "&#39;"), page.replace("&#34;", "&quot;"))
+            self.assertIn(
+                html.escape(self.server.ask(path).json()["detail"]).replace("&#x27;", "&#39;"),
+                page.replace("&#34;", "&quot;"),
+            )
             for href in re.findall(r'href="([^"]*)"', page):
                 self.assertTrue(href.startswith(("/", "#")), href)
         for accept in ("*/*", "application/json, text/html;q=0.5", "image/png"):
-            self.assertEqual(self.server.ask("/none", Accept=accept).headers["Content-Type"], "application/problem+json", accept)
+            self.assertEqual(
+                self.server.ask("/none", Accept=accept).headers["Content-Type"],
+                "application/problem+json",
+                accept,
+            )
         self.assertEqual(self.server.ask("/", Host="evil.example", Accept=BROWSER).status, 421)
-        self.assertNotIn('href="//evil', self.server.ask("/", Host="evil.example", Accept=BROWSER).body.decode())
+        self.assertNotIn(
+            'href="//evil', self.server.ask("/", Host="evil.example", Accept=BROWSER).body.decode()
+        )
 
     def test_downloads_have_a_name(self):
-        for path, wanted in ((f"{ITEMS}?f=city-json-seq", 'attachment; filename="sample.city.jsonl"'),
-                             (f"{ITEMS}?crs={RD}", 'inline; filename="sample.geojson"'),
-                             ("/collections/town/items/house-1?f=city-json", 'attachment; filename="house-1.city.json"'),
-                             ("/collections/hostile/items/'%22&?f=city-json-seq", 'attachment; filename="stream.city.jsonl"'),
-                             ("/collections/hostile/items/a%2Fb%3Fc%23d%20e?f=city-json-seq", 'attachment; filename="a-b-c-d-e.city.jsonl"')):
+        for path, wanted in (
+            (f"{ITEMS}?f=city-json-seq", 'attachment; filename="sample.city.jsonl"'),
+            (f"{ITEMS}?crs={RD}", 'inline; filename="sample.geojson"'),
+            (
+                "/collections/town/items/house-1?f=city-json",
+                'attachment; filename="house-1.city.json"',
+            ),
+            (
+                "/collections/hostile/items/'%22&?f=city-json-seq",
+                'attachment; filename="stream.city.jsonl"',
+            ),
+            (
+                "/collections/hostile/items/a%2Fb%3Fc%23d%20e?f=city-json-seq",
+                'attachment; filename="a-b-c-d-e.city.jsonl"',
+            ),
+        ):
             self.assertEqual(self.server.ask(path).headers["Content-Disposition"], wanted, path)
-        self.assertLess(len(self.server.ask("/collections/hostile/items?f=city-json-seq").headers["Content-Disposition"]), 200)
+        self.assertLess(
+            len(
+                self.server.ask("/collections/hostile/items?f=city-json-seq").headers[
+                    "Content-Disposition"
+                ]
+            ),
+            200,
+        )
 
     def test_answers_are_packed_for_clients_that_take_it(self):
-        for path in ("/api", "/static/page.css", f"{ITEMS}?f=city-json-seq", f"{ITEMS}?limit=50&crs={RD}", f"{ITEMS}?f=html"):
+        for path in (
+            "/api",
+            "/static/page.css",
+            f"{ITEMS}?f=city-json-seq",
+            f"{ITEMS}?limit=50&crs={RD}",
+            f"{ITEMS}?f=html",
+        ):
             plain = self.server.ask(path)
             for accept in ("gzip", "deflate, gzip;q=0.5, br", "*"):
                 packed = self.server.ask(path, Accept_Encoding=accept)
@@ -52,9 +92,13 @@ class Answers(Served):
                 self.assertLess(len(packed.body), len(plain.body) / 2)
                 self.assertEqual(gzip.decompress(packed.body), plain.body)
             for accept in ("identity", "gzip;q=0", "br", ""):
-                self.assertIsNone(self.server.ask(path, Accept_Encoding=accept).headers["Content-Encoding"])
+                self.assertIsNone(
+                    self.server.ask(path, Accept_Encoding=accept).headers["Content-Encoding"]
+                )
             self.assertIn("Accept-Encoding", plain.headers["Vary"])
-        self.assertIsNone(self.server.ask("/none", Accept_Encoding="gzip").headers["Content-Encoding"])
+        self.assertIsNone(
+            self.server.ask("/none", Accept_Encoding="gzip").headers["Content-Encoding"]
+        )
 
     def test_long_answers_are_packed_as_they_are_made(self):
         path = self.folder / "long.city.jsonl"
@@ -66,15 +110,33 @@ class Answers(Served):
             self.assertEqual(gzip.decompress(answer.body), path.read_bytes())
 
     def test_an_answer_that_the_client_has_is_not_sent(self):
-        for path in ("/", "/api?f=html", f"{ITEMS}?limit=5&crs={RD}", f"{ITEMS}?f=city-json-seq", "/collections/town/items/house-1", "/static/map.js"):
+        for path in (
+            "/",
+            "/api?f=html",
+            f"{ITEMS}?limit=5&crs={RD}",
+            f"{ITEMS}?f=city-json-seq",
+            "/collections/town/items/house-1",
+            "/static/map.js",
+        ):
             first = self.server.ask(path)
             mark = first.headers["ETag"]
             self.assertRegex(mark, r'\AW/"[0-9a-f]{32}"\Z')
-            for known, encoding in ((mark, "gzip"), (f'"x", {mark}', "identity"), ("*", "identity"), (mark[2:], "gzip")):
+            for known, encoding in (
+                (mark, "gzip"),
+                (f'"x", {mark}', "identity"),
+                ("*", "identity"),
+                (mark[2:], "gzip"),
+            ):
                 again = self.server.ask(path, If_None_Match=known, Accept_Encoding=encoding)
-                self.assertEqual((again.status, again.body, again.headers["ETag"]), (304, b"", mark), (path, known))
+                self.assertEqual(
+                    (again.status, again.body, again.headers["ETag"]),
+                    (304, b"", mark),
+                    (path, known),
+                )
             self.assertEqual(self.server.ask(path, If_None_Match='W/"other"').body, first.body)
-        self.assertNotEqual(self.server.ask("/").headers["ETag"], self.server.ask("/?f=html").headers["ETag"])
+        self.assertNotEqual(
+            self.server.ask("/").headers["ETag"], self.server.ask("/?f=html").headers["ETag"]
+        )
         answer = self.server.ask("/check", "POST", HEADER, If_None_Match="*")
         self.assertEqual((answer.status, answer.headers["ETag"]), (200, None))
 
@@ -83,7 +145,9 @@ class Answers(Served):
         try:
             mark = None
             for method, status in (("GET", 200), ("HEAD", 304), ("GET", 304), ("GET", 304)):
-                connection.request(method, "/conformance", headers={"If-None-Match": mark} if mark else {})
+                connection.request(
+                    method, "/conformance", headers={"If-None-Match": mark} if mark else {}
+                )
                 answer = connection.getresponse()
                 answer.read()
                 self.assertEqual(answer.status, status)
@@ -96,16 +160,24 @@ class Answers(Served):
         for each, found in zip(told, cityseq.features(self.folder / "sample.city.jsonl")):
             (west, east), (south, north), (low, high) = found.extent
             ring, facts = each["geometry"]["coordinates"][0], each["properties"]
-            self.assertEqual([Decimal(repr(edge)) for edge in (*ring[0], *ring[2])], [west, south, east, north])
+            self.assertEqual(
+                [Decimal(repr(edge)) for edge in (*ring[0], *ring[2])], [west, south, east, north]
+            )
             self.assertEqual([Decimal(repr(facts[name])) for name in ("zmin", "zmax")], [low, high])
         self.assertEqual((short(20.863000000000003), short(None)), (20.863, None))
-        self.assertEqual(edges((4.12345678912, -5.1, 4.12345678999, -5.00000000001), True), [4.123456789, -5.1, 4.12345679, -5.0])
+        self.assertEqual(
+            edges((4.12345678912, -5.1, 4.12345678999, -5.00000000001), True),
+            [4.123456789, -5.1, 4.12345679, -5.0],
+        )
 
     def test_a_usual_page_is_long_for_programs_and_short_for_people(self):
         schema = self.server.ask("/api").json()["components"]["parameters"]["limit"]["schema"]
         self.assertEqual((schema["default"], schema["maximum"]), (1_000, 100_000))
         self.assertEqual(self.server.ask(f"{ITEMS}?crs={RD}").json()["numberReturned"], 120)
-        self.assertIn("<caption>50 features, and there are more</caption>", self.server.ask(f"{ITEMS}?f=html").body.decode())
+        self.assertIn(
+            "<caption>50 features, and there are more</caption>",
+            self.server.ask(f"{ITEMS}?f=html").body.decode(),
+        )
         with Serving("--max-features", "5", self.folder / "all.gpkg") as small:
             schema = small.ask("/api").json()["components"]["parameters"]["limit"]["schema"]
             self.assertEqual((schema["default"], schema["maximum"]), (5, 5))
@@ -121,8 +193,11 @@ class Answers(Served):
 
     def test_a_map_is_one_stop_of_the_tab_key(self):
         page = self.server.ask(f"{ITEMS}?f=html&limit=50").body.decode()
-        drawing = page[page.index("<svg"):page.index("</svg>")]
-        self.assertEqual((drawing.count("<a "), drawing.count('tabindex="0"'), drawing.count('tabindex="-1"')), (50, 1, 49))
+        drawing = page[page.index("<svg") : page.index("</svg>")]
+        self.assertEqual(
+            (drawing.count("<a "), drawing.count('tabindex="0"'), drawing.count('tabindex="-1"')),
+            (50, 1, 49),
+        )
         self.assertNotIn('role="img"', drawing)
 
     def test_an_id_that_no_query_can_have_is_no_link(self):

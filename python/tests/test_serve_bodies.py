@@ -12,14 +12,14 @@ from contextlib import suppress
 from itertools import islice
 from unittest import mock
 
-from . import support
-from .serving import EXAMPLES, MISSING, Served, rest_of
-from .support import HEADER, command, feature
-
 import cityseq
 from cityseq.engine.query import asked
 from cityseq.run.feed import Fed, Unpacking
 from cityseq.sources.packed import Gzip
+
+from . import support
+from .serving import EXAMPLES, MISSING, Served, Within, rest_of
+from .support import HEADER, command, feature
 
 
 @unittest.skipIf(MISSING, MISSING)
@@ -44,22 +44,60 @@ class Verdicts(Served):
         for name in ("sample", "town", "broken", "delivery"):
             path = EXAMPLES / f"{name}.city.jsonl"
             text = path.read_bytes()
-            for query, words in (("", ()), ("?keep_going", ("--keep-going",)), ("?tree=true&depth=20", ("--tree", "--depth", "20")),
-                                 ("?keep_going=true&summary=true", ("--keep-going", "--summary"))):
+            for query, words in (
+                ("", ()),
+                ("?keep_going", ("--keep-going",)),
+                ("?tree=true&depth=20", ("--tree", "--depth", "20")),
+                ("?keep_going=true&summary=true", ("--keep-going", "--summary")),
+            ):
                 answer = self.server.ask(f"/check{query}", "POST", text)
                 self.assertEqual(answer.status, 200, answer.body)
                 self.assertEqual(answer.lines(), self.wanted(path, *words), (name, query))
+
+    def test_whole_files(self):
+        """By their media type. One that cannot be split is invalid, with the reason."""
+        header, *lines = (EXAMPLES / "town.city.jsonl").read_bytes().splitlines()
+        first, head = json.loads(lines[0]), json.loads(header)
+        whole = {**head, "CityObjects": first["CityObjects"], "vertices": first["vertices"]}
+        text, kind = json.dumps(whole, indent=1).encode(), {"Content-Type": "application/city+json"}
+        for body in (text, gzip.compress(text)):
+            (told,) = self.server.ask("/check", "POST", body, **kind).lines()
+            self.assertEqual((told["verdict"], told["lines"], told["features"]), ("valid", 2, 1))
+        (told,) = self.server.ask("/check", "POST", text[:-9], **kind).lines()
+        self.assertEqual((told["verdict"], told["fault_file"]), ("invalid", "-"))
+        self.assertIn("it is cut short", told["fault"])
+        bad = text.replace(b'"vertices": [', b'"vertices": ["x",')
+        (told,) = self.server.ask("/check", "POST", bad, **kind).lines()
+        self.assertIn("vertices/0: a vertex is three whole numbers", told["fault"])
+        answer = self.server.ask("/check", "POST", text)  # a stream, by its type
+        self.assertEqual(answer.lines()[-1]["verdict"], "invalid")
+        self.assertEqual(self.server.ask("/check", "POST", b"", **kind).lines()[0]["status"], 1)
+
+    def test_a_whole_file_that_is_too_long(self):
+        with Within(whole=1_024) as server:
+            kind = {"Content-Type": "application/city+json"}
+            for body in (b" " * 1_025, gzip.compress(b" " * 9_999)):
+                self.assertEqual(server.ask("/check", "POST", body, **kind).status, 413)
+            self.assertEqual(server.ask("/check", "POST", b" " * 1_024, **kind).status, 200)
+            self.assertEqual(server.ask("/check", "POST", b" " * 1_025).status, 200)
 
     def test_plain_packed_and_in_chunks(self):
         text = (EXAMPLES / "delivery.city.jsonl").read_bytes()
         wanted = self.wanted(EXAMPLES / "delivery.city.jsonl")
         packed, halves = gzip.compress(text), gzip.compress(text[:99]) + gzip.compress(text[99:])
-        for body, headers in ((text, {}), (packed, {}), (packed, {"Content-Encoding": "gzip"}), (halves, {}),
-                              (iter([text[:9], text[9:500], text[500:]]), {"Transfer-Encoding": "chunked"}),
-                              (iter([packed[:1], packed[1:]]), {"Transfer-Encoding": "chunked"})):
+        for body, headers in (
+            (text, {}),
+            (packed, {}),
+            (packed, {"Content-Encoding": "gzip"}),
+            (halves, {}),
+            (iter([text[:9], text[9:500], text[500:]]), {"Transfer-Encoding": "chunked"}),
+            (iter([packed[:1], packed[1:]]), {"Transfer-Encoding": "chunked"}),
+        ):
             told = self.server.ask("/check", "POST", body, **headers).lines()
             size = told[-1].pop("size")
-            self.assertEqual(told[-1], {name: value for name, value in wanted[-1].items() if name != "size"})
+            self.assertEqual(
+                told[-1], {name: value for name, value in wanted[-1].items() if name != "size"}
+            )
             self.assertIn(size, (len(text), len(packed), len(halves)))
 
     def test_reports_are_bounded(self):
@@ -70,17 +108,26 @@ class Verdicts(Served):
     def test_counts_of_reasons_are_of_all_reports(self):
         """Also where only some of them are answered."""
         lines = [b"{}\n", b"[\n", feature("a", last=9)] * 900 + [b"{}\n"] * 500
-        told = self.server.ask("/check?keep_going&summary&max_reports=7", "POST", HEADER + b"".join(lines)).lines()
+        told = self.server.ask(
+            "/check?keep_going&summary&max_reports=7", "POST", HEADER + b"".join(lines)
+        ).lines()
         self.assertEqual([each["kind"] for each in told], ["report"] * 7 + ["result", "reasons"])
         self.assertEqual(told[7]["refused"], 3_200)
-        self.assertEqual({each["code"]: each["lines"] for each in told[8]["reasons"]}, {4: 900, 10: 1_400, 25: 900})
-        told = self.server.ask("/check?keep_going&summary", "POST", HEADER + b"".join(lines)).lines()
+        self.assertEqual(
+            {each["code"]: each["lines"] for each in told[8]["reasons"]},
+            {4: 900, 10: 1_400, 25: 900},
+        )
+        told = self.server.ask(
+            "/check?keep_going&summary", "POST", HEADER + b"".join(lines)
+        ).lines()
         self.assertEqual([each["kind"] for each in told], ["result", "reasons"])
 
     def test_streams_by_chance_in_pieces_by_chance(self):
         for seed in range(250):
             text, chance = support.stream_by_chance(seed), random.Random(-seed)
-            options = dict(keep_going=chance.random() < 0.6, line_limit=chance.choice((400, 600, 1 << 20)))
+            options = dict(
+                keep_going=chance.random() < 0.6, line_limit=chance.choice((400, 600, 1 << 20))
+            )
             result = io.BytesIO()
             try:
                 wanted = cityseq.filter(io.BytesIO(text), result, jobs=1, **options)
@@ -92,7 +139,7 @@ class Verdicts(Served):
                 kept = b""
                 while body:
                     pieces = [body[:size] for size in [chance.randrange(1, 900)]]
-                    body = body[len(pieces[0]):]
+                    body = body[len(pieces[0]) :]
                     coming = fed.cut(pieces)
                     while tasks := list(islice(coming, chance.randrange(1, 4))):
                         # parts that are judged late, and none of them in order
@@ -101,10 +148,16 @@ class Verdicts(Served):
                 kept += b"".join(bytes(fed.take(task())) for task in fed.end())
             told = fed.result()
             self.assertEqual(kept, result.getvalue(), seed)
-            self.assertEqual((told.status, told.lines, told.features, told.refused),
-                             (wanted.status, wanted.lines, wanted.features, wanted.refused), seed)
-            self.assertEqual([(each.line, each.byte, each.code) for each in fed.reports],
-                             [(each.line, each.byte, each.code) for each in wanted.reports], seed)
+            self.assertEqual(
+                (told.status, told.lines, told.features, told.refused),
+                (wanted.status, wanted.lines, wanted.features, wanted.refused),
+                seed,
+            )
+            self.assertEqual(
+                [(each.line, each.byte, each.code) for each in fed.reports],
+                [(each.line, each.byte, each.code) for each in wanted.reports],
+                seed,
+            )
 
     def test_no_more_is_unpacked_than_is_judged(self):
         packed = gzip.compress(HEADER + (b" " * 999 + b"\n") * 300_000)
@@ -135,19 +188,31 @@ class Verdicts(Served):
                 return Gzip.more(member, packed, most)
 
         text = os.urandom(1 << 18)
-        for packed, most in ((gzip.compress(b"") * 20_000, 32), (gzip.compress(text) + bytes(1 << 18), 4)):
+        for packed, most in (
+            (gzip.compress(b"") * 20_000, 32),
+            (gzip.compress(text) + bytes(1 << 18), 4),
+        ):
             given.clear()
             with mock.patch("cityseq.run.feed.Gzip", Counted):
                 unpacking = Unpacking(True, 1 << 30)
-            found = b"".join(piece for begin in range(0, len(packed), 1 << 17) for piece in unpacking.feed(packed[begin : begin + (1 << 17)]))
+            found = b"".join(
+                piece
+                for begin in range(0, len(packed), 1 << 17)
+                for piece in unpacking.feed(packed[begin : begin + (1 << 17)])
+            )
             self.assertEqual((found, unpacking.end()), (b"" if most == 32 else text, b""))
             self.assertLess(sum(given), most * len(packed))
 
     def test_members_in_pieces_by_chance(self):
         chance = random.Random(16)
         for _ in range(60):
-            texts = [chance.randbytes(chance.choice((0, 1, 9, 700, 5_000))) for _ in range(chance.randrange(1, 9))]
-            packed = b"".join(gzip.compress(each) + bytes(chance.choice((0, 0, 3, 900))) for each in texts)
+            texts = [
+                chance.randbytes(chance.choice((0, 1, 9, 700, 5_000)))
+                for _ in range(chance.randrange(1, 9))
+            ]
+            packed = b"".join(
+                gzip.compress(each) + bytes(chance.choice((0, 0, 3, 900))) for each in texts
+            )
             unpacking, found = Unpacking(None, 1 << 30), b""
             while packed:
                 size = chance.choice((1, 2, 30, 600, 9_000))
@@ -156,11 +221,16 @@ class Verdicts(Served):
             self.assertEqual(found + unpacking.end(), b"".join(texts))
 
     def test_filter_writes_what_the_command_writes(self):
-        for name, query, words in (("town", "type=Road", ("--type", "Road")), ("sample", "lod=2.2&exclude", ("--lod", "2.2", "--exclude")),
-                                   ("town", "bbox=1001,2001,1005,2005", ("--bbox", "1001,2001,1005,2005"))):
+        for name, query, words in (
+            ("town", "type=Road", ("--type", "Road")),
+            ("sample", "lod=2.2&exclude", ("--lod", "2.2", "--exclude")),
+            ("town", "bbox=1001,2001,1005,2005", ("--bbox", "1001,2001,1005,2005")),
+        ):
             text = (self.folder / f"{name}.city.jsonl").read_bytes()
             answer = self.server.ask(f"/filter?{query}", "POST", text)
-            self.assertEqual((answer.status, answer.headers["Content-Type"]), (200, "application/city+json-seq"))
+            self.assertEqual(
+                (answer.status, answer.headers["Content-Type"]), (200, "application/city+json-seq")
+            )
             self.assertEqual(answer.body, self.filtered(name, *words))
 
     def test_the_verdict_is_the_last_line(self):
@@ -169,7 +239,9 @@ class Verdicts(Served):
         self.assertEqual(answer.headers["Content-Type"], "application/x-ndjson")
         *_, last = answer.lines()
         self.assertEqual((last["kind"], last["verdict"]), ("result", "invalid"))
-        kept = b"".join(line for line in answer.body.splitlines(True) if not line.startswith(b'{"kind"'))
+        kept = b"".join(
+            line for line in answer.body.splitlines(True) if not line.startswith(b'{"kind"')
+        )
         output, _, _ = command("filter", "--keep-going", str(EXAMPLES / "delivery.city.jsonl"))
         self.assertEqual(kept, output)
 
@@ -178,12 +250,17 @@ class Verdicts(Served):
         for text in (HEADER[:-1], HEADER + feature("a")[:-1], HEADER + feature("a")):
             answer = self.server.ask("/filter?verdict=last", "POST", text)
             self.assertEqual(answer.body.splitlines()[:-1], text.splitlines())
-            self.assertEqual((answer.lines()[-1]["kind"], answer.lines()[-1]["verdict"]), ("result", "valid"))
+            self.assertEqual(
+                (answer.lines()[-1]["kind"], answer.lines()[-1]["verdict"]), ("result", "valid")
+            )
             self.assertEqual(self.server.ask("/filter", "POST", text).body, text)
 
     def test_an_invalid_stream_is_broken_off(self):
         text = HEADER + feature("b") * 40_000 + b"{}\n" + feature("b") * 4_000
-        head = b"POST /filter HTTP/1.1\r\nHost: localhost\r\nConnection: close\r\nContent-Length: %d\r\n\r\n" % len(text)
+        head = (
+            b"POST /filter HTTP/1.1\r\nHost: localhost\r\nConnection: close\r\nContent-Length: %d\r\n\r\n"
+            % len(text)
+        )
         with self.server.socket() as connection:
             threading.Thread(target=self.sent, args=(connection, head + text)).start()
             answer = rest_of(connection)
@@ -207,8 +284,10 @@ class Verdicts(Served):
 
     def test_a_client_that_waits_to_go_on(self):
         with socket.create_connection((self.server.host, self.server.port), 30) as connection:
-            connection.sendall(b"POST /check HTTP/1.1\r\nHost: localhost\r\nExpect: 100-continue\r\nConnection: close\r\n"
-                               b"Content-Length: %d\r\n\r\n" % len(HEADER))
+            connection.sendall(
+                b"POST /check HTTP/1.1\r\nHost: localhost\r\nExpect: 100-continue\r\nConnection: close\r\n"
+                b"Content-Length: %d\r\n\r\n" % len(HEADER)
+            )
             self.assertTrue(connection.recv(100).startswith(b"HTTP/1.1 100 "))
             connection.sendall(HEADER)
             self.assertIn(b'"verdict": "valid"', b"".join(iter(lambda: connection.recv(4096), b"")))
@@ -216,4 +295,6 @@ class Verdicts(Served):
     def test_bodies_leave_no_file(self):
         before = set(os.listdir(tempfile.gettempdir()))
         self.server.ask("/check", "POST", HEADER + feature("b") * 50_000)
-        self.assertFalse({name for name in set(os.listdir(tempfile.gettempdir())) - before if "cityseq" in name})
+        self.assertFalse(
+            {name for name in set(os.listdir(tempfile.gettempdir())) - before if "cityseq" in name}
+        )

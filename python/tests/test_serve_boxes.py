@@ -13,21 +13,43 @@ from .support import HEADER, command, feature
 
 WITHOUT = MISSING or ("" if find_spec("pyproj") else "pyproj is not there")
 if not WITHOUT:
+    from pyproj import CRS, Transformer
+
     from cityseq.coordinates.boxes import meet, meet_on_earth, pieces
     from cityseq.coordinates.projection import Projection
-    from pyproj import CRS, Transformer
 
 WORLD = (-180, -90, 180, 90)
 EPSG = "http://www.opengis.net/def/crs/EPSG/0/{}"
 # a place of each system, with places over the antimeridian and near poles among them
 PLACES = {
-    7415: (4.37, 52.01), 28992: (6.9, 53.3), 25832: (6.96, 50.94), 2154: (2.35, 48.86),
-    3812: (4.35, 50.85), 3301: (24.75, 59.44), 3416: (16.37, 48.21), 27700: (-1.9, 52.5),
-    32760: (179.99, -16.5), 9377: (-74.1, 4.6), 2056: (8.54, 47.37), 5845: (18.07, 59.33),
-    3031: (166.7, -77.8), 3413: (-68.7, 89.9), 3460: (179.99, -16.8), 3832: (-179.99, -16.8),
-    3857: (13.4, 52.5), 3338: (-179.9, 52), 4979: (139.7, 35.7), 4326: (179.99, -16.8),
-    3034: (9, 50), 3978: (-75.7, 45.4), 5514: (17.1, 48.15), 31370: (4.35, 50.85),
-    2180: (21, 52.2), 32601: (-179.99, 65.5), 5041: (100, 89.99), 32040: (-95.4, 29.8),
+    7415: (4.37, 52.01),
+    28992: (6.9, 53.3),
+    25832: (6.96, 50.94),
+    2154: (2.35, 48.86),
+    3812: (4.35, 50.85),
+    3301: (24.75, 59.44),
+    3416: (16.37, 48.21),
+    27700: (-1.9, 52.5),
+    32760: (179.99, -16.5),
+    9377: (-74.1, 4.6),
+    2056: (8.54, 47.37),
+    5845: (18.07, 59.33),
+    3031: (166.7, -77.8),
+    3413: (-68.7, 89.9),
+    3460: (179.99, -16.8),
+    3832: (-179.99, -16.8),
+    3857: (13.4, 52.5),
+    3338: (-179.9, 52),
+    4979: (139.7, 35.7),
+    4326: (179.99, -16.8),
+    3034: (9, 50),
+    3978: (-75.7, 45.4),
+    5514: (17.1, 48.15),
+    31370: (4.35, 50.85),
+    2180: (21, 52.2),
+    32601: (-179.99, 65.5),
+    5041: (100, 89.99),
+    32040: (-95.4, 29.8),
 }
 
 
@@ -35,8 +57,10 @@ def move_of(code):
     """The way from degrees to a system and back, as pyproj has it."""
     system = CRS.from_epsg(code)
     flat = system.sub_crs_list[0] if system.is_compound else system
-    there, back = (Transformer.from_crs(*pair, always_xy=True).transform
-                   for pair in (("OGC:CRS84", flat), (flat, "OGC:CRS84")))
+    there, back = (
+        Transformer.from_crs(*pair, always_xy=True).transform
+        for pair in (("OGC:CRS84", flat), (flat, "OGC:CRS84"))
+    )
     return there, lambda x, y: turned_back(*back(x, y))
 
 
@@ -56,15 +80,26 @@ def features_of(code, spread, count, chance):
         west, south = to((x + 180) % 360 - 180, y)
         if math.isfinite(west) and math.isfinite(south):
             size = metre * chance.choice((0, 1, 10, 10, 100, 5_000))
-            found.append((west, south, west + size * chance.random(), south + size * chance.random()))
+            found.append(
+                (west, south, west + size * chance.random(), south + size * chance.random())
+            )
     return found
 
 
 def boxes_near(code, spread, count, chance):
     """Boxes of degrees: half worlds, and boxes of all sizes near the place of a system."""
     x, y = PLACES[code]
-    found = [WORLD, (0, 0, 180, 90), (-180, 0, 0, 90), (-180, -90, 0, 0), (0, -90, 180, 0),
-             (90, -90, -90, 90), (-180, -90, 180, y), (-180, y, 180, 90), (-180, -89, 180, 89)]
+    found = [
+        WORLD,
+        (0, 0, 180, 90),
+        (-180, 0, 0, 90),
+        (-180, -90, 0, 0),
+        (0, -90, 180, 0),
+        (90, -90, -90, 90),
+        (-180, -90, 180, y),
+        (-180, y, 180, 90),
+        (-180, -89, 180, 89),
+    ]
     for _ in range(count):
         size = chance.choice((0.2, 1, 3)) * spread
         west, east = sorted(x + chance.uniform(-size, size) for _ in "ab")
@@ -75,15 +110,19 @@ def boxes_near(code, spread, count, chance):
 
 def has(box, x, y):
     """Whether a box of degrees has a point."""
-    return any(west <= x <= east and south <= y <= north for west, south, east, north in pieces(box))
+    return any(
+        west <= x <= east and south <= y <= north for west, south, east, north in pieces(box)
+    )
 
 
 def selected(way, box, extents):
     """Which extents a box of degrees selects."""
     found = way.reach(box)
     return {
-        number for number, extent in enumerate(extents)
-        if found.box is not None and meet(extent, found.box)
+        number
+        for number, extent in enumerate(extents)
+        if found.box is not None
+        and meet(extent, found.box)
         and (found.reaches is None or found.reaches(extent))
     }
 
@@ -96,7 +135,9 @@ def faults_of(code, spread, count, chance):
     flat = flat.sub_crs_list[0].to_epsg() if flat.is_compound else code
     way = Projection(flat, (min(edges[0]), min(edges[1]), max(edges[2]), max(edges[3])))
     degrees, (_, back) = list(map(way.degrees, extents)), move_of(code)
-    points = [[back(x, y) for x in (e[0], (e[0] + e[2]) / 2, e[2]) for y in (e[1], e[3])] for e in extents]
+    points = [
+        [back(x, y) for x in (e[0], (e[0] + e[2]) / 2, e[2]) for y in (e[1], e[3])] for e in extents
+    ]
     for extent, told, corners in zip(extents, degrees, points):
         if not all(has(told, *corner) for corner in corners):
             yield "a corner lies outside", extent, told
@@ -159,15 +200,23 @@ class Moved(unittest.TestCase):
         west, south, east, north = Projection(2154, extent).degrees(extent)
         _, back = move_of(2154)
         for step in range(1001):
-            for x, y in (back(400_000 + 600 * step, 6_200_000), back(400_000 + 600 * step, 6_900_000),
-                         back(400_000, 6_200_000 + 700 * step), back(1_000_000, 6_200_000 + 700 * step)):
+            for x, y in (
+                back(400_000 + 600 * step, 6_200_000),
+                back(400_000 + 600 * step, 6_900_000),
+                back(400_000, 6_200_000 + 700 * step),
+                back(1_000_000, 6_200_000 + 700 * step),
+            ):
                 self.assertTrue(west <= x <= east and south <= y <= north, (step, x, y))
         self.assertAlmostEqual(north, back(700_000, 6_900_000)[1], delta=0.001)
         self.assertAlmostEqual(west, back(400_000, 6_900_000)[0], delta=0.001)
 
     def test_conics_have_degrees(self):
-        for code, place in ((2154, (2.346, 48.856)), (3812, (4.35, 50.85)), (3301, (24.75, 59.44)),
-                            (3416, (16.37, 48.21))):
+        for code, place in (
+            (2154, (2.346, 48.856)),
+            (3812, (4.35, 50.85)),
+            (3301, (24.75, 59.44)),
+            (3416, (16.37, 48.21)),
+        ):
             x, y = move_of(code)[0](*place)
             found = self.around(code, (x, y, x + 1, y + 1))
             self.assertEqual((found[0], found[1]), place)
@@ -193,19 +242,26 @@ class Moved(unittest.TestCase):
 
     def test_pieces(self):
         for box, wanted in (
-                ((1, 2, 3, 4), [(1, 2, 3, 4)]), (WORLD, [WORLD]),
-                ((177, 2, -177, 4), [(177, 2, 180, 4), (-180, 2, -177, 4)]),
-                ((170, 2, 190, 4), [(170, 2, 180, 4), (-180, 2, -170, 4)]),
-                ((190, 2, 200, 4), [(-170, 2, -160, 4)]), ((0, 2, 720, 4), [(-180, 2, 180, 4)])):
+            ((1, 2, 3, 4), [(1, 2, 3, 4)]),
+            (WORLD, [WORLD]),
+            ((177, 2, -177, 4), [(177, 2, 180, 4), (-180, 2, -177, 4)]),
+            ((170, 2, 190, 4), [(170, 2, 180, 4), (-180, 2, -170, 4)]),
+            ((190, 2, 200, 4), [(-170, 2, -160, 4)]),
+            ((0, 2, 720, 4), [(-180, 2, 180, 4)]),
+        ):
             self.assertEqual(pieces(box), wanted)
-        self.assertEqual(meet_on_earth((170, 0, -170, 9), (-175, 5, 175, 12)),
-                         [(170, 5, 175, 9), (-175, 5, -170, 9)])
+        self.assertEqual(
+            meet_on_earth((170, 0, -170, 9), (-175, 5, 175, 12)),
+            [(170, 5, 175, 9), (-175, 5, -170, 9)],
+        )
 
     def test_degrees_beyond_180(self):
         """A stream of degrees may count them from 0 to 360."""
-        for extents in ([(179.0, -17, 179.5, -16), (180.5, -17, 181, -16)],
-                        [(1.0, -17, 2, -16), (265.0, -17, 266, -16), (359, -17, 359.5, -16)],
-                        [(-190.0, -17, -189, -16), (-170, -17, -169, -16)]):
+        for extents in (
+            [(179.0, -17, 179.5, -16), (180.5, -17, 181, -16)],
+            [(1.0, -17, 2, -16), (265.0, -17, 266, -16), (359, -17, 359.5, -16)],
+            [(-190.0, -17, -189, -16), (-170, -17, -169, -16)],
+        ):
             edges = list(zip(*extents))
             way = Projection(4326, (min(edges[0]), -17, max(edges[2]), -16))
             for number, (west, _, east, _) in enumerate(extents):
@@ -240,8 +296,12 @@ def stream(code, x, y):
 class Asked(unittest.TestCase):
     """One server over streams in several systems."""
 
-    STREAMS = {"paris": (2154, (2.346, 48.856)), "delft": (7415, (4.37, 52.01)),
-               "fiji": (3460, (180, -16.8)), "nowhere": (None, (0, 0))}
+    STREAMS = {
+        "paris": (2154, (2.346, 48.856)),
+        "delft": (7415, (4.37, 52.01)),
+        "fiji": (3460, (180, -16.8)),
+        "nowhere": (None, (0, 0)),
+    }
     ALL = ["f0", "f1", "f2", "f3", "f4"]
 
     @classmethod
@@ -295,7 +355,9 @@ class Answers(Asked):
         self.assertEqual([round(edge, 2) for edge in told], [2.35, 48.86, 2.35, 48.86])
 
     def test_over_the_antimeridian(self):
-        west, south, east, north = self.server.ask("/collections/fiji").json()["extent"]["spatial"]["bbox"][0]
+        west, south, east, north = self.server.ask("/collections/fiji").json()["extent"]["spatial"][
+            "bbox"
+        ][0]
         self.assertTrue(179.99 < west < 180 and -180 < east < -179.99, (west, east))
         told = {each["id"]: each["geometry"] for each in self.items("fiji/items")}
         kinds = [told[name]["type"] for name in self.ALL]
@@ -306,7 +368,9 @@ class Answers(Asked):
         box = "179.9,-17,-179.9,-16"
         self.assertEqual(self.ids(f"fiji/items?bbox={box}"), self.ALL)
         self.assertEqual(self.ids("fiji/items?bbox=-180,-90,180,90"), self.ALL)
-        halves = self.ids("fiji/items?bbox=179,-17,180,-16"), self.ids("fiji/items?bbox=-180,-17,-179,-16")
+        halves = self.ids("fiji/items?bbox=179,-17,180,-16"), self.ids(
+            "fiji/items?bbox=-180,-17,-179,-16"
+        )
         self.assertEqual(halves, (["f0", "f1", "f2"], ["f2", "f3", "f4"]))
         self.assertEqual(self.ids("delft/items?bbox=170,50,-170,60"), [])
         self.assertEqual(self.ids("delft/items?bbox=4.4,-90,4.3,90"), [])
@@ -315,13 +379,21 @@ class Answers(Asked):
     def test_six_numbers(self):
         """Heights are left out."""
         self.assertEqual(self.ids("delft/items?bbox=4.3,52,-900,4.4,52.1,-800"), self.ALL)
-        for box in ("4.3,52,9,4.4,52.1,-9", "1,2,3,4,5", "1,2,3,4,5,x", "1,2,3,4,5,6,7", "4.3,52.1,4.4,52",
-                    "4.3,52.1,0,4.4,52,1"):
+        for box in (
+            "4.3,52,9,4.4,52.1,-9",
+            "1,2,3,4,5",
+            "1,2,3,4,5,x",
+            "1,2,3,4,5,6,7",
+            "4.3,52.1,4.4,52",
+            "4.3,52.1,0,4.4,52,1",
+        ):
             self.assertEqual(self.status(f"delft/items?bbox={box}"), 400, box)
 
     def test_west_of_east_where_there_are_no_degrees(self):
         rd = EPSG.format(7415)
-        self.assertEqual(self.status(f"delft/items?bbox=90000,400000,80000,500000&bbox-crs={rd}"), 400)
+        self.assertEqual(
+            self.status(f"delft/items?bbox=90000,400000,80000,500000&bbox-crs={rd}"), 400
+        )
         self.assertEqual(self.status("delft/items?bbox=90000,400000,80000,500000"), 400)
         self.assertEqual(self.status("nowhere/items?bbox=3,0,1,1"), 400)
         self.assertEqual(self.ids("nowhere/items?bbox=-30,-1,30,2"), self.ALL)
@@ -331,15 +403,22 @@ class Answers(Asked):
         degrees, flat, both = EPSG.format(4326), EPSG.format(28992), EPSG.format(7415)
         self.assertEqual(told["crs"][1:], [degrees, flat, both])
         self.assertEqual(told["storageCrs"], both)
-        first, = self.items("delft/items?limit=1")
-        turned, = self.items(f"delft/items?limit=1&crs={degrees}")
-        self.assertEqual([point[::-1] for point in turned["geometry"]["coordinates"][0]],
-                         [first["geometry"]["coordinates"][0][at] for at in (0, 3, 2, 1, 0)])
+        (first,) = self.items("delft/items?limit=1")
+        (turned,) = self.items(f"delft/items?limit=1&crs={degrees}")
+        self.assertEqual(
+            [point[::-1] for point in turned["geometry"]["coordinates"][0]],
+            [first["geometry"]["coordinates"][0][at] for at in (0, 3, 2, 1, 0)],
+        )
         same = [self.items(f"delft/items?crs={system}") for system in (flat, both)]
         self.assertEqual(same[0], same[1])
-        for box, system in (("52,4.3,52.1,4.4", degrees), ("80000,440000,90000,450000", flat),
-                            ("80000,440000,90000,450000", both)):
-            self.assertEqual(self.ids(f"delft/items?bbox={box}&bbox-crs={system}"), self.ALL, system)
+        for box, system in (
+            ("52,4.3,52.1,4.4", degrees),
+            ("80000,440000,90000,450000", flat),
+            ("80000,440000,90000,450000", both),
+        ):
+            self.assertEqual(
+                self.ids(f"delft/items?bbox={box}&bbox-crs={system}"), self.ALL, system
+            )
         self.assertEqual(self.ids(f"delft/items?bbox=4.3,52,4.4,52.1&bbox-crs={degrees}"), [])
         answer = self.server.ask(f"/collections/delft/items?crs={flat}")
         self.assertEqual(answer.headers["Content-Crs"], f"<{flat}>")
@@ -353,8 +432,8 @@ class Anew(Asked):
 
     def test_pages_of_an_index_that_was_built_anew(self):
         first = self.server.ask("/collections/delft/items?limit=2").json()
-        following, = (link["href"] for link in first["links"] if link["rel"] == "next")
-        path = following[len(self.server.url) - 1:]
+        (following,) = (link["href"] for link in first["links"] if link["rel"] == "next")
+        path = following[len(self.server.url) - 1 :]
         self.assertEqual(self.server.ask(path).json()["features"][0]["id"], "f2")
         self.index()  # of the same stream
         self.wait_for("delft/items", 200)

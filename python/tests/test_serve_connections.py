@@ -86,7 +86,9 @@ class Slow(Served):
     def setUpClass(cls):
         super().setUpClass()
         path = cls.folder / "long.city.jsonl"
-        path.write_bytes(HEADER + b"".join(feature(f"name-{number:06}") for number in range(20_000)))
+        path.write_bytes(
+            HEADER + b"".join(feature(f"name-{number:06}") for number in range(20_000))
+        )
         command("index", "--output", str(cls.folder / "long.gpkg"), str(path))
 
     def near(self, **limits):
@@ -111,7 +113,7 @@ class Slow(Served):
                 connection.sendall(b" ")
                 time.sleep(0.05)
                 self.assertLess(time.monotonic() - begin, 20)
-            self.assertIn(b"fewer than 100 bytes a second came", connection.recv(1 << 16))
+            self.assertIn(b"fewer than 100 bytes a second came", rest_of(connection))
 
     def test_a_body_that_stops_is_ended(self):
         """Also after a part of the answer was written, while the next bytes of the body are waited for."""
@@ -119,16 +121,23 @@ class Slow(Served):
             for size in (0, 8 << 10):
                 with server.socket() as connection:
                     begin = time.monotonic()
-                    connection.sendall(POST % (b"filter", 99_999_999) + HEADER + feature("b") * size)
+                    connection.sendall(
+                        POST % (b"filter", 99_999_999) + HEADER + feature("b") * size
+                    )
                     found = rest_of(connection) if size else connection.recv(1 << 16)
                 self.assertLess(time.monotonic() - begin, 20)
-                self.assertTrue(found.startswith(b"HTTP/1.1 200 " if size else b"HTTP/1.1 408 "), found[:200])
+                self.assertTrue(
+                    found.startswith(b"HTTP/1.1 200 " if size else b"HTTP/1.1 408 "), found[:200]
+                )
                 self.assertNotIn(b"\r\n0\r\n", found)
 
     def test_a_client_that_reads_no_answer_is_dropped(self):
         """One long answer, and short ones that wait in the connection."""
         request = b"GET %b HTTP/1.1\r\nHost: localhost\r\n\r\n"
-        for sent in (request % b"/collections/long/items?f=city-json-seq", request % PATH.encode() * 30):
+        for sent in (
+            request % b"/collections/long/items?f=city-json-seq",
+            request % PATH.encode() * 30,
+        ):
             with self.near(idle=0.2) as server, server.socket(small=True) as connection:
                 connection.sendall(sent)
                 self.assertTrue(soon(lambda: server.process.server.busy))
@@ -141,7 +150,9 @@ class Slow(Served):
     def test_a_client_that_reads_slowly_is_served(self):
         """What it takes is seen, also if the system could hold the whole for it."""
         with self.near(idle=1) as server, server.socket(small=True) as connection:
-            connection.sendall(b"GET /collections/long/items?f=city-json-seq HTTP/1.1\r\nHost: localhost\r\nConnection: close\r\n\r\n")
+            connection.sendall(
+                b"GET /collections/long/items?f=city-json-seq HTTP/1.1\r\nHost: localhost\r\nConnection: close\r\n\r\n"
+            )
             pieces, begin = [b" "], time.monotonic()
             while pieces[-1]:
                 pieces.append(connection.recv(1 << 15))
@@ -180,7 +191,15 @@ class Slow(Served):
                     self.assertTrue(soon(lambda: server.process.server.busy))
                     connection.setsockopt(socket.SOL_SOCKET, socket.SO_LINGER, RESET)
                 self.assertTrue(soon(lambda: not server.process.server.busy))
-            self.assertTrue(soon(lambda: not [each for each in gc.get_objects() if isinstance(each, (Body, Fed, Judgement))]))
+            self.assertTrue(
+                soon(
+                    lambda: not [
+                        each
+                        for each in gc.get_objects()
+                        if isinstance(each, (Body, Fed, Judgement))
+                    ]
+                )
+            )
 
 
 def is_served(server):
@@ -202,14 +221,19 @@ class Reading(Served):
     def test_a_body_is_never_read_as_a_request(self):
         """Also not if the same head was answered a moment ago, with its body still to come."""
         body = b"GET /smuggled HTTP/1.1\r\nHost: localhost\r\n\r\n"
-        for path, more in (("/conformance", b"Content-Length: %d" % len(body)), ("/collections", b"Transfer-Encoding: chunked")):
+        for path, more in (
+            ("/conformance", b"Content-Length: %d" % len(body)),
+            ("/collections", b"Transfer-Encoding: chunked"),
+        ):
             head = b"GET %b HTTP/1.1\r\nHost: localhost\r\n%b\r\n\r\n" % (path.encode(), more)
             sent = body if b"Length" in more else b"%x\r\n%b\r\n0\r\n\r\n" % (len(body), body)
             with self.server.socket() as connection:
                 connection.sendall(head)
                 time.sleep(0.1)
                 connection.sendall(sent)
-                connection.sendall(b"GET /last HTTP/1.1\r\nHost: localhost\r\nConnection: close\r\n\r\n")
+                connection.sendall(
+                    b"GET /last HTTP/1.1\r\nHost: localhost\r\nConnection: close\r\n\r\n"
+                )
                 answer = rest_of(connection)
             self.assertEqual(answer.count(b"HTTP/1.1 200 "), 1, answer)
             self.assertEqual(answer.count(b"HTTP/1.1 404 "), 1, answer)
@@ -220,7 +244,14 @@ class Reading(Served):
             connection.sendall(POST % (b"check?line_limit=999", 1_000) + HEADER)
             time.sleep(0.1)
             connection.setsockopt(socket.SOL_SOCKET, socket.SO_LINGER, RESET)
-        self.assertTrue(soon(lambda: any('"POST /check?line_limit=999 HTTP/1.1" 499 ' in line for line in self.server.log)), self.server.log[-1:])
+        self.assertTrue(
+            soon(
+                lambda: any(
+                    '"POST /check?line_limit=999 HTTP/1.1" 499 ' in line for line in self.server.log
+                )
+            ),
+            self.server.log[-1:],
+        )
 
     def test_a_broken_answer_is_seen_as_broken(self):
         """By HTTP/1.1 it has no last chunk. By HTTP/1.0 the connection is reset."""
@@ -236,7 +267,9 @@ class Reading(Served):
         os.utime(path, ns=(about.st_atime_ns, about.st_mtime_ns))
         with Serving(self.folder / "long.gpkg") as server:
             for form in ("city-json-seq", "geojson&limit=20000"):
-                request = f"GET /collections/long/items?f={form} HTTP/1.1\r\nHost: localhost\r\n\r\n"
+                request = (
+                    f"GET /collections/long/items?f={form} HTTP/1.1\r\nHost: localhost\r\n\r\n"
+                )
                 answer = server.raw(request.encode())
                 self.assertTrue(answer.startswith(b"HTTP/1.1 200 "), answer[:200])
                 self.assertGreater(len(answer), 1 << 20)

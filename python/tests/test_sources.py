@@ -6,10 +6,10 @@ import subprocess
 import sys
 import unittest
 
+import cityseq
+
 from . import support
 from .support import HEADER, PLAIN, InFolder, feature, numbered
-
-import cityseq
 
 GOOD = HEADER + feature("a") + feature("b", "Road")
 BROKEN = HEADER + feature("a") + feature("b", last=4) + feature("c")

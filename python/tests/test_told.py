@@ -10,15 +10,15 @@ import tarfile
 import unittest
 from decimal import Decimal
 
-from . import support
-from .support import HEADER, PLAIN, feature
-
 import cityseq
+from cityseq.engine.escape import quoted, shown
 from cityseq.engine.place_hints import met
 from cityseq.engine.query import asked
 from cityseq.engine.reports import excerpt_of, find_id
-from cityseq.engine.escape import quoted, shown
 from cityseq.engine.world import box_of, normal, plain
+
+from . import support
+from .support import HEADER, PLAIN, feature
 
 sys.path.insert(0, os.path.join(support.ROOT, "python"))
 import make_reasons  # noqa: E402
@@ -31,7 +31,7 @@ def example(name):
 
 
 class Explanations(unittest.TestCase):
-    """Those of the package are those of docs/REASONS.md."""
+    """Those of the package are those of docs/RULES.md."""
 
     def test_they_are_those_of_the_document(self):
         for code, wanted in make_reasons.read_reasons().items():
@@ -53,6 +53,7 @@ class Explanations(unittest.TestCase):
 
     def test_the_library_has_the_same_words(self):
         from cityseq.engine.library import library
+
         self.assertEqual(
             [library().reason_text(code) for code in range(1, 40)],
             [
@@ -71,7 +72,7 @@ class Reports(unittest.TestCase):
             (str(report), report.id), ("line 3, byte 144: 25 vertex index out of range", "b2")
         )
         excerpt, caret = report.caret().split("\n")
-        self.assertEqual(excerpt[len(caret) - 1:][:3], "4]]")
+        self.assertEqual(excerpt[len(caret) - 1 :][:3], "4]]")
 
     def test_ids(self):
         for line, wanted in (
@@ -102,7 +103,7 @@ class Reports(unittest.TestCase):
         ):
             told = excerpt_of(line, place)
             self.assertEqual(told[1], wanted[1], line)
-            self.assertTrue(told[0].startswith(wanted[0][:wanted[1]]), line)
+            self.assertTrue(told[0].startswith(wanted[0][: wanted[1]]), line)
 
     def test_any_place_of_any_bytes(self):
         chance = random.Random(5)

@@ -13,10 +13,10 @@ from http.server import BaseHTTPRequestHandler, ThreadingHTTPServer
 from unittest import mock
 from urllib.parse import unquote, urlsplit
 
-from .support import HEADER, InFolder, command, feature
-
 import cityseq
 from cityseq.sources import web_client
+
+from .support import HEADER, InFolder, command, feature
 
 NGINX = shutil.which("nginx") or shutil.which("nginx", path="/usr/sbin")
 

@@ -9,22 +9,21 @@ from functools import partial
 from typing import Any
 
 from .. import __version__
-from ..engine.structs import USUAL_DEPTH, USUAL_LINE
-from ..indexes.cut import cut, cut_each
 from ..engine.escape import shown
 from ..engine.faults import RequestError
-from ..indexes.line_reader import IndexedStream
-from .json_objects import result_object
-from ..indexes.lookup import Index
-from ..sources.outputs import Writer
-from ..sources.packed import LEVEL
 from ..engine.query import Work
+from ..engine.structs import USUAL_DEPTH, USUAL_LINE
+from ..indexes.cut import cut, cut_each
+from ..indexes.line_reader import IndexedStream
+from ..indexes.lookup import Index
 from ..run.results import Result
+from ..sources.outputs import Limit, Writer
+from ..sources.packed import LEVEL
 from ..sources.source import size_of
 from .file_lists import ids_of, texts_of
-from .output import say
+from .json_objects import result_object
+from .output import Bar, say
 from .printers import printer_for
-from .progress import Bar
 from .requests import RULES, Filter
 from .stream_commands import unmatched_of
 from .targets import make_folder, refuse_read, targets_of
@@ -38,6 +37,7 @@ UNFIT = {
     "keep_partial": "a cut by an index leaves nothing in part: leave --keep-partial out",
     "record": "a record has files that were read whole: leave --record out",
     "resume": "--resume is for a --record",
+    "cluster": "a cut by an index reads little: leave --cluster out",
 }
 
 
@@ -95,8 +95,8 @@ def _cut(request: Filter, index: Index) -> int:
 
 
 def _say_packed(index: Index) -> None:
-    """Says that packed streams are read from their beginning, in one line."""
-    packed = [stream.path for stream in index.streams if stream.packing is not None]
+    """Says that packed streams without blocks are read from their beginning, in one line."""
+    packed = [stream.path for stream in index.streams if stream.is_slow]
     if len(packed) == 1:
         say(f"{shown(packed[0])}: it is packed, so the cut reads it from its beginning")
     elif packed:
@@ -141,8 +141,9 @@ def _folders(paths: Sequence[str]) -> Iterator[None]:
 def _results(
     request: Filter, index: Index, work: Work, outputs: list[str], writer: Any
 ) -> list[Result]:
+    limit = Limit.of(request.limit)
     if request.output_dir is None:
-        return [cut(index, work, outputs[0], request.jobs, writer)]
+        return [cut(index, work, outputs[0], request.jobs, writer, limit)]
     index.check()  # before anything is made
     targets = dict(zip((stream.number for stream in index.streams), outputs))
 
@@ -151,4 +152,4 @@ def _results(
 
     folders = [os.path.dirname(output) for output in outputs]
     with _folders(list(dict.fromkeys([request.output_dir, *folders]))):
-        return cut_each(index, work, output_of, request.jobs, writer)
+        return cut_each(index, work, output_of, request.jobs, writer, limit)

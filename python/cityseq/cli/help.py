@@ -45,7 +45,8 @@ Examples:
 
 Kept lines are copied byte for byte, in order. A feature is kept if it meets each option from --id
 to --bbox that is given. With --exclude it is kept if it does not. Without these options every
-feature is kept.
+feature is kept. --limit leaves out all features after the first N of these. The lines after them
+are judged nevertheless.
 The run stops at the first invalid line. Features before it have been written to standard output,
 and OUTPUT is not made. With --keep-going the run leaves out invalid lines and goes on. An invalid
 header still ends it.
@@ -74,6 +75,19 @@ feature, which maps show, and the place of its line. If a stream is invalid, no 
 An index describes the files as they are: build it again if one changes. If only their times
 changed, as by a copy, --refresh reads the files and writes the new times.
 See '{0} --help' for the exit status.""",
+    "pack": """\
+Examples:
+  {0} pack delivery/*.city.jsonl
+  {0} pack --output small.city.jsonl.gz large.city.jsonl.gz
+  {0} pack --verify delivery/*.gz
+
+The command packs each FILE in blocks of 64 KB, each with its checksum (BGZF). gzip unpacks such an
+archive as any other. `index` notes where its blocks are, and `filter --index` unpacks only those
+that have selected features. The archive of FILE is FILE.gz, which must not be there yet. A FILE
+that other programs packed is unpacked first. If its name ends in .gz, the archive takes its place.
+With --verify the command reads whole archives and compares all checksums. If the empty last block
+is missing, an archive of blocks is cut short, and the status is 3.
+See '{0} --help' for the exit status.""",
     "report": """\
 Examples:
   {0} report --output delivery.html north.city.jsonl.gz south.city.jsonl.gz
@@ -83,6 +97,25 @@ The command judges each FILE as `check --keep-going` does. OUTPUT is one page of
 nothing. It shows whether each FILE is valid, what is in it, a map, the invalid lines with their
 fixes, and the ids that more than one feature has. The page needs Jinja2 and matplotlib. The status
 is that of `check`.
+See '{0} --help' for the exit status.""",
+    "split": """\
+Examples:
+  {0} split town.city.json --output town.city.jsonl
+  {0} split town.city.json.gz | {0} check
+
+OUTPUT is a stream: a header, and a feature for each main city object with all that its `children`
+reach. Each part keeps its spelling, and only indices change. The command judges no geometry: use
+`check` for that. If the file has a fault, the status is 1, standard error gives its path in the
+file, and OUTPUT is not made.
+See '{0} --help' for the exit status.""",
+    "collect": """\
+Examples:
+  {0} collect town.city.jsonl --output town.city.json
+  {0} collect north.city.jsonl.gz south.city.jsonl.gz --output region.city.json.gz
+
+OUTPUT is one CityJSON object with the city objects of each STREAM, in order. Equal vertices are
+there once. The transforms must be equal, or shift by whole multiples of the scale. Two features may
+have one id only if they are equal.
 See '{0} --help' for the exit status.""",
     "serve": """\
 Examples:

@@ -6,21 +6,21 @@ from collections.abc import Iterator, Sequence
 from functools import partial
 
 from .. import __version__
-from ..engine.memory import keep_room
-from ..indexes.builder import Builder
+from ..engine.escape import shown
 from ..engine.faults import RequestError
+from ..engine.memory import keep_room
+from ..engine.query import Work, asked
+from ..indexes.builder import Builder
 from ..indexes.index_lines import shown_object
 from ..indexes.index_run import Indexed, by_threads, checked, written
-from .json_objects import result_object
 from ..indexes.lookup import Index
-from ..engine.query import Work, asked
 from ..run.results import Result
 from ..sources.same_file import refuse_same, refuse_standard
 from ..sources.source import size_of
 from .file_lists import files_of
-from .output import put
+from .json_objects import result_object
+from .output import Bar, put, say
 from .printers import Printer, printer_for
-from .progress import Bar
 from .requests import WriteIndex
 from .stream_commands import total_of
 
@@ -69,6 +69,8 @@ def _build(request: WriteIndex) -> int:
     output = request.output
     if output is None or output == "-":
         raise RequestError("an index is written to a file: name it by --output")
+    if request.footprints and request.cluster is not None:
+        raise RequestError("--footprints and --cluster do not go together")
     files = _files(request, output)
     work = asked(
         "check",
@@ -88,11 +90,32 @@ def _build(request: WriteIndex) -> int:
             size = size_of(result.file)
             printer.result(result, lambda: result_object(result, request, __version__, size, None))
 
-        builder = Builder(output)
+        builder = Builder(output, request.footprints)
         streams = _streams(request, files, work, builder, printer, bar)
-        written(builder, lambda: by_threads(streams, request.jobs), work, take)
+        begun: list[Indexed] = []
+        noted = (begun.append(each) or each for each in streams)  # type: ignore[func-returns-value]
+        if request.cluster is None:
+            written(builder, lambda: by_threads(noted, request.jobs), work, take)
+        else:
+            from ..cluster.jobs import PART, connected  # few runs need it
+            from ..dask import write_index
+
+            with connected(request.cluster) as client:
+                write_index(client, builder, noted, work, request.part_size or PART, take)
         printer.close()
+    if not request.quiet and not request.json:
+        _say_slow([each.path for each in begun if each.is_slow])
     return worst
+
+
+def _say_slow(packed: list[str]) -> None:
+    """Says which packed streams a cut unpacks from their beginning, and what ends that."""
+    if packed:
+        several = f"{len(packed):,} packed streams"
+        say(
+            f"{shown(packed[0]) if len(packed) == 1 else several}: a cut unpacks all of it;"
+            " run 'cityseq-run pack' on it and index it again, to make cuts fast"
+        )
 
 
 def _streams(
@@ -105,4 +128,13 @@ def _streams(
 ) -> Iterator[Indexed]:
     for number, file in enumerate(files, 1):
         progress = partial(bar.add, file)
-        yield Indexed(number, file, work, builder, request.part_size, printer.report, progress)
+        yield Indexed(
+            number,
+            file,
+            work,
+            builder,
+            request.part_size,
+            printer.report,
+            progress,
+            request.cluster is not None,
+        )

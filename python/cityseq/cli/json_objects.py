@@ -1,7 +1,7 @@
 """The JSON of the command: objects with a kind and a version. docs/json.md describes them."""
 from __future__ import annotations
 
-from typing import TYPE_CHECKING, Any, Counter, Dict, List, Optional, Union
+from typing import TYPE_CHECKING, Any, Counter
 
 from ..engine.reports import Report, explain
 from ..run.results import Info, Result
@@ -15,14 +15,14 @@ if TYPE_CHECKING:
 VERSION = 1  # of the objects: it changes if a member is renamed, removed or changes its meaning
 LONGEST = 40  # digits before or after the point of a number that is written out
 MOST = 1 << 53  # a double has every whole number up to this
-Object = Dict[str, Any]
+Object = dict[str, Any]
 
 
 def object_of(kind: str, members: Object) -> Object:
     return {"kind": kind, "version": VERSION, **members}
 
 
-def exact(number: "Decimal") -> Union[int, float, str]:
+def exact(number: "Decimal") -> int | float | str:
     """Returns a JSON number if each reader gets the exact value from it. Else returns its text."""
     from decimal import Decimal  # only `info` needs it, and it takes long to load
 
@@ -72,7 +72,7 @@ def _counts(result: Result) -> Object:
 def _of_info(info: Info) -> Object:
     from decimal import Decimal
 
-    box: Optional[List[Any]] = (
+    box: list[Any] | None = (
         None if info.box is None else [exact(Decimal(edge)) for edge in info.box.split(",")]
     )
     return {
@@ -90,7 +90,7 @@ def _of_info(info: Info) -> Object:
 
 
 def result_object(
-    result: Result, request: Request, program: str, size: Optional[int], sha256: Optional[str]
+    result: Result, request: Request, program: str, size: int | None, sha256: str | None
 ) -> Object:
     """Returns the object of a file's result, without the reports."""
     members = {

@@ -14,7 +14,19 @@ from ..engine.faults import CityseqError, Status, WriteFault
 from ..engine.query import UnknownType
 from .output import drop_output, flush, hold_descriptors, put, say, write_whole_outputs
 from .parser import Answered, Mistake, read_words
-from .requests import Check, Explain, Filter, Info, Request, Serve, WriteIndex, WriteReport
+from .requests import (
+    Check,
+    CollectStreams,
+    Explain,
+    Filter,
+    Info,
+    Pack,
+    Request,
+    Serve,
+    SplitFile,
+    WriteIndex,
+    WriteReport,
+)
 
 USUAL_NAME = "cityseq-run"
 STOPPED = 128  # plus the number of the signal
@@ -61,10 +73,22 @@ def _run(request: Request) -> int:
             from .index_command import run as run_index
 
             return run_index(request)
+        case Pack():
+            from .pack_command import run as run_pack
+
+            return run_pack(request)
         case WriteReport():
             from .report_command import run as run_report
 
             return run_report(request, program_name())
+        case SplitFile():
+            from .convert_commands import run_split
+
+            return run_split(request)
+        case CollectStreams():
+            from .convert_commands import run_collect
+
+            return run_collect(request)
         case Serve():
             from ..serve import run as run_server
 

@@ -6,7 +6,19 @@ from dataclasses import dataclass
 from typing import Any
 
 from ..engine.structs import DEPTH_LIMITS, LINE_LIMITS
-from .requests import Check, Explain, Filter, Info, Request, Serve, WriteIndex, WriteReport
+from .requests import (
+    Check,
+    CollectStreams,
+    Explain,
+    Filter,
+    Info,
+    Pack,
+    Request,
+    Serve,
+    SplitFile,
+    WriteIndex,
+    WriteReport,
+)
 from .values import one_of, size, whole_number
 
 MOST_JOBS, MOST_BYTES, MOST_SECONDS = 4_096, 1 << 40, 1_000_000
@@ -90,8 +102,13 @@ KEEP_GOING = Option("keep-going", "Report each invalid line and go on with the n
 TREE = Option(
     "tree", "Reject a feature unless `children` lead from its main city object to all" " others"
 )
+WHOLE = Option(
+    "whole",
+    "Each FILE is a whole CityJSON file, also if its name does not end in .city.json or"
+    " .city.json.gz",
+)
 QUERY = (
-    Option("exclude", "Keep the features that the options below do not select"),
+    Option("exclude", "Keep the features that the options up to --bbox do not select"),
     Option("id", "Select features by id: one id, or several with commas between them", "IDS"),
     Option(
         "ids-from",
@@ -107,15 +124,28 @@ QUERY = (
         " write --bbox=-5,0,5,9 if it begins with a minus",
         "MINX,MINY,MAXX,MAXY",
     ),
+    Option(
+        "limit",
+        "Keep at most this many features in all, the first ones; 0 keeps the header",
+        "N",
+        whole_number(0, MOST_BYTES),
+    ),
+)
+LEVEL = Option(
+    "level",
+    "Pack outputs by this level, from {} to {}; a higher level takes longer"
+    " [default: 4]".format(*LEVELS),
+    "LEVEL",
+    whole_number(*LEVELS),
+)
+OUTPUT = Option(
+    "output",
+    "Write to this file when the run has ended well; pack it if the name ends in" " .gz or .zst",
+    "OUTPUT",
+    short="o",
 )
 OUTPUTS = (
-    Option(
-        "output",
-        "Write to this file when the run has ended well; pack it if the name ends in"
-        " .gz or .zst",
-        "OUTPUT",
-        short="o",
-    ),
+    OUTPUT,
     Option(
         "output-dir",
         "Write the output of each FILE to a file of the same name in this folder",
@@ -123,13 +153,7 @@ OUTPUTS = (
     ),
     Option("keep-folders", "With --output-dir: keep the folders in the name of each FILE"),
     Option("keep-partial", "Leave an output that is not whole as OUTPUT.part"),
-    Option(
-        "level",
-        "Pack outputs by this level, from {} to {}; a higher level takes longer"
-        " [default: 4]".format(*LEVELS),
-        "LEVEL",
-        whole_number(*LEVELS),
-    ),
+    LEVEL,
 )
 JOBS = Option(
     "jobs",
@@ -149,6 +173,11 @@ PART_SIZE = Option(
     "Judge parts of this many bytes [default: 4 MiB or less]",
     "BYTES",
     size(1, MOST_BYTES),
+)
+CLUSTER = Option(
+    "cluster",
+    "Let the workers of this scheduler of Dask judge each FILE, such as tcp://scheduler:8786",
+    "ADDRESS",
 )
 RUNS = (FILES_FROM, NULL, JOBS, PART_SIZE)
 JSON = Option(
@@ -198,12 +227,23 @@ INDEX = (
     Option(
         "output", "Write the index to this file when all streams were read", "OUTPUT", short="o"
     ),
+    Option("footprints", "Add a layer with the ground of each feature, which takes longer"),
     Option("show", "Describe an index, and list the ids that more than one feature has", "INDEX"),
     Option(
         "refresh",
         "Write the new times of streams into an index if their content is the same",
         "INDEX",
     ),
+)
+PACKS = (
+    Option("output", "Write the archive of one FILE to this file", "OUTPUT", short="o"),
+    Option("verify", "Read archives, report those that are broken or cut short, and pack nothing"),
+    LEVEL,
+    FILES_FROM,
+    NULL,
+    JOBS,
+    PROGRESS,
+    QUIET,
 )
 PAGE = (
     Option(
@@ -232,6 +272,12 @@ SERVES = (
     Option(
         "max-body",
         "Reject a body of more bytes, also after it is unpacked",
+        "BYTES",
+        size(1, MOST_BYTES),
+    ),
+    Option(
+        "max-whole",
+        "Reject a whole CityJSON file of more bytes; each takes up to 4 times as many in memory",
         "BYTES",
         size(1, MOST_BYTES),
     ),
@@ -271,12 +317,23 @@ COMMANDS = {
         Command(
             "Check whether a stream is valid, and count its lines and features",
             Check,
-            (*LIMITS, KEEP_GOING, TREE, *RUNS, *PRINTING, FORMAT, *RECORDS),
+            (*LIMITS, KEEP_GOING, TREE, WHOLE, *RUNS, CLUSTER, *PRINTING, FORMAT, *RECORDS),
         ),
         Command(
             "Copy the header and the features that a query selects",
             Filter,
-            (*LIMITS, KEEP_GOING, TREE, *QUERY, *CUTS, *OUTPUTS, *RUNS, *PRINTING, *FILTER_RECORDS),
+            (
+                *LIMITS,
+                KEEP_GOING,
+                TREE,
+                *QUERY,
+                *CUTS,
+                *OUTPUTS,
+                *RUNS,
+                CLUSTER,
+                *PRINTING,
+                *FILTER_RECORDS,
+            ),
         ),
         Command(
             "Summarise a valid stream: types, LoDs, extent and memory",
@@ -284,20 +341,47 @@ COMMANDS = {
             (
                 *LIMITS,
                 TREE,
+                WHOLE,
                 Option("lods", "Count the features with each text of an LoD"),
                 *RUNS,
+                CLUSTER,
                 *PRINTING,
             ),
         ),
         Command(
             "Write an index of streams as a GeoPackage; `filter` cuts streams by it",
             WriteIndex,
-            (*LIMITS, KEEP_GOING, TREE, *INDEX, *RUNS, JSON, MAX_REPORTS, SUMMARY, PROGRESS, QUIET),
+            (
+                *LIMITS,
+                KEEP_GOING,
+                TREE,
+                *INDEX,
+                *RUNS,
+                CLUSTER,
+                JSON,
+                MAX_REPORTS,
+                SUMMARY,
+                PROGRESS,
+                QUIET,
+            ),
         ),
+        Command("Pack files so that a cut by an index reads only a part of them", Pack, PACKS),
         Command(
             "Write a page about a delivery: verdicts, contents, a map and invalid lines",
             WriteReport,
-            (*LIMITS, TREE, *PAGE, *RUNS, PAGE_JSON, PROGRESS, QUIET),
+            (*LIMITS, TREE, WHOLE, *PAGE, *RUNS, PAGE_JSON, PROGRESS, QUIET),
+        ),
+        Command(
+            "Make a stream of a whole CityJSON file, with a feature for each main city object",
+            SplitFile,
+            (LIMITS[0], OUTPUT, QUIET),
+            "[FILE]",
+        ),
+        Command(
+            "Make one whole CityJSON file of streams",
+            CollectStreams,
+            (*LIMITS, OUTPUT, FILES_FROM, NULL, QUIET),
+            "[STREAM]...",
         ),
         Command(
             "Serve streams by their indexes, and a page that checks files",

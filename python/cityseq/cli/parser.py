@@ -8,7 +8,6 @@ from typing import Any, NoReturn
 
 from ..engine.escape import shown
 from ..engine.faults import RequestError
-from .help import command_help, program_help, usage
 from .options import COMMANDS, Command
 from .requests import Request
 
@@ -47,7 +46,7 @@ class _Help(argparse.Action):
     """Asks for the help on a command."""
 
     def __call__(self, parser: Any, *_: Any) -> NoReturn:
-        raise Answered(command_help(parser.prog, parser.command))
+        raise Answered(_help(parser.prog, parser.command))
 
 
 class _Parser(argparse.ArgumentParser):
@@ -56,7 +55,7 @@ class _Parser(argparse.ArgumentParser):
     def __init__(self, program: str, command: Command) -> None:
         super().__init__(
             program,
-            usage(program, command),
+            "",  # a mistake has a usage of its own
             add_help=False,
             allow_abbrev=False,
             argument_default=argparse.SUPPRESS,
@@ -98,6 +97,13 @@ class _Parser(argparse.ArgumentParser):
         return _mistake(self.prog, f"there is no option {name}", tip, self.command)
 
 
+def _help(program: str, command: Command | None) -> str:
+    """Returns the help on a command, or on all of them."""
+    from .help import command_help, program_help  # few runs need it
+
+    return program_help(program) if command is None else command_help(program, command)
+
+
 def _reader(read: Callable[[str], Any]) -> Callable[[str], Any]:
     """Returns the same function for argparse, which shows only its own kind of error."""
 
@@ -120,6 +126,8 @@ def _tip(word: str, others: Sequence[str]) -> str | None:
 
 def _mistake(program: str, what: str, tip: str | None, command: Command | None = None) -> Mistake:
     """Returns a mistake with a tip, the usage, and where the help is."""
+    from .help import usage  # only mistakes need it
+
     name = program if command is None else f"{program} {command.name}"
     tips = [f"  tip: {tip}"] if tip else []
     lines = [f"error: {what}", *tips, usage(program, command), f"See '{name} --help'."]
@@ -142,14 +150,14 @@ def read_words(program: str, version: str, words: Sequence[str]) -> Request:
         Mistake: They are wrong.
     """
     if not words:
-        raise Mistake(program_help(program))
+        raise Mistake(_help(program, None))
     first, *rest = words
     if first in ("-h", "--help") or (first == "help" and not rest):
-        raise Answered(program_help(program))
+        raise Answered(_help(program, None))
     if first in ("-V", "--version"):
         raise Answered(f"{program} {version}")
     if first == "help":
-        raise Answered(command_help(program, _command(program, rest[0])))
+        raise Answered(_help(program, _command(program, rest[0])))
     if first == "--explain":  # its first name
         first = "explain"
     command = _command(program, first)

@@ -13,8 +13,7 @@ from typing import Any
 from ..engine.escape import fitting, quoted, shown
 from ..engine.reports import Report, explain
 from ..run.results import Info, Result
-from .output import encoding, is_terminal, put, say
-from .progress import Bar
+from .output import Bar, encoding, is_terminal, put, say
 from .requests import Check, Filter
 from .requests import Info as InfoRequest
 from .requests import WriteIndex

@@ -145,7 +145,7 @@ def refuse_unrecorded(request: Check | Filter, files: Iterable[str]) -> None:
         raise RequestError("--resume is for a --record")
     if isinstance(request, Filter) and request.record is not None and request.output_dir is None:
         raise RequestError("filter has a --record only with --output-dir")
-    if request.record == "-":
+    if request.record in ("", "-"):
         raise RequestError("a record is a file: name it by --record")
     if request.record is not None and not all(map(is_path, files)):
         raise RequestError("what is recorded are files: standard input has no name")

@@ -4,18 +4,17 @@ from __future__ import annotations
 import json
 import shlex
 
-from ..engine.memory import keep_room
 from ..delivery.report_run import How, checked, report
 from ..engine.escape import shown
 from ..engine.faults import RequestError
+from ..engine.memory import keep_room
 from ..engine.query import asked
 from ..run.results import Result
 from ..sources.same_file import refuse_same, refuse_standard
 from .file_lists import files_of
 from .options import COMMANDS
-from .output import put, say
+from .output import Bar, put, say
 from .printers import counts
-from .progress import Bar
 from .requests import WriteReport
 from .stream_commands import total_of
 
@@ -47,7 +46,8 @@ def run(request: WriteReport, program: str) -> int:
             _print(result, request)
 
         words = _words(request, program)
-        how = How(request.jobs, request.part_size, request.title, words, bar.add, take)
+        whole = request.whole or None
+        how = How(request.jobs, request.part_size, request.title, words, bar.add, take, whole)
         delivery = report(files, output, work, how)
     if request.json:
         put(json.dumps(delivery.json_object()))

@@ -10,7 +10,7 @@ from typing import Any, ClassVar
 from ..engine.structs import USUAL_DEPTH, USUAL_LINE
 
 RULES = ("line_limit", "depth", "tree", "keep_going")
-SELECTION = ("exclude", "id", "ids_from", "type", "lod", "bbox")
+SELECTION = ("exclude", "id", "ids_from", "type", "lod", "bbox", "limit")
 
 
 @dataclass(repr=False, eq=False)
@@ -25,13 +25,14 @@ class Rules:
 
 @dataclass(repr=False, eq=False)
 class Files:
-    """Which files are read, and by how many threads."""
+    """Which files are read, and by how many threads or by which cluster."""
 
     files: list[str] = field(default_factory=list)
     files_from: str | None = None
     null: bool = False
     jobs: int | None = None
     part_size: int | None = None
+    cluster: str | None = None
 
 
 @dataclass(repr=False, eq=False)
@@ -79,9 +80,15 @@ class Request:
 class StreamRequest(Request, Rules, Files, Printing, Recording):
     """Checks, filters or summarises streams."""
 
+    whole: ClassVar[bool] = False  # of requests without this option
+
     @property
     def is_plain(self) -> bool:
-        return not self.files and self.files_from is None
+        return not self.files and self.files_from is None and not self.whole
+
+    @property
+    def options(self) -> dict[str, Any]:
+        return {**super().options, **({"whole": True} if self.whole else {})}
 
 
 @dataclass(repr=False, eq=False)
@@ -90,6 +97,7 @@ class Check(StreamRequest):
 
     command: ClassVar[str] = "check"
     format: str | None = None
+    whole: bool = False  # type: ignore[misc]
 
 
 @dataclass(repr=False, eq=False)
@@ -104,6 +112,7 @@ class Filter(StreamRequest):
     type: str | None = None
     lod: str | None = None
     bbox: str | None = None
+    limit: int | None = None
     index: str | None = None
     base: str | None = None
     output: str = "-"
@@ -128,6 +137,7 @@ class Info(StreamRequest):
 
     command: ClassVar[str] = "info"
     lods: bool = False
+    whole: bool = False  # type: ignore[misc]
 
 
 @dataclass(repr=False, eq=False)
@@ -136,8 +146,25 @@ class WriteIndex(Request, Rules, Files, Printing):
 
     command: ClassVar[str] = "index"
     output: str | None = None
+    footprints: bool = False
     show: str | None = None
     refresh: str | None = None
+
+
+@dataclass(repr=False, eq=False)
+class Pack(Request):
+    """Packs files so that they can be cut, or verifies archives."""
+
+    command: ClassVar[str] = "pack"
+    files: list[str] = field(default_factory=list)
+    files_from: str | None = None
+    null: bool = False
+    output: str | None = None
+    verify: bool = False
+    level: int | None = None
+    jobs: int | None = None
+    progress: bool = False
+    quiet: bool = False
 
 
 @dataclass(repr=False, eq=False)
@@ -147,6 +174,32 @@ class WriteReport(Request, Rules, Files, Printing):
     command: ClassVar[str] = "report"
     output: str | None = None
     title: str | None = None
+    whole: bool = False
+
+
+@dataclass(repr=False, eq=False)
+class SplitFile(Request):
+    """Makes a stream of a whole file."""
+
+    command: ClassVar[str] = "split"
+    files: list[str] = field(default_factory=list)
+    output: str = "-"
+    line_limit: int = USUAL_LINE
+    quiet: bool = False
+
+
+@dataclass(repr=False, eq=False)
+class CollectStreams(Request):
+    """Makes one CityJSON object of streams."""
+
+    command: ClassVar[str] = "collect"
+    files: list[str] = field(default_factory=list)
+    files_from: str | None = None
+    null: bool = False
+    output: str = "-"
+    line_limit: int = USUAL_LINE
+    depth: int = USUAL_DEPTH
+    quiet: bool = False
 
 
 @dataclass(repr=False, eq=False)
@@ -172,6 +225,7 @@ class Serve(Request):
     max_requests: int = 100
     max_bodies: int = 32
     max_body: int = 16 << 30
+    max_whole: int = 64 << 20
     max_features: int = 100_000
     max_seconds: int = 3_600
     idle_seconds: int = 30

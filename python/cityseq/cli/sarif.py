@@ -12,9 +12,8 @@ from ..engine.escape import quoted, shown
 from ..engine.faults import RequestError
 from ..engine.reports import Report, explain
 from ..run.results import Result
-from .output import put
+from .output import Bar, put
 from .printers import Object, Printer
-from .progress import Bar
 from .requests import Check
 
 CODES = tuple(code for code in range(1, 32) if not 6 <= code <= 9)

@@ -4,26 +4,26 @@ from __future__ import annotations
 import os
 import sys
 from collections import deque
-from collections.abc import Sequence
-from contextlib import closing
+from collections.abc import Iterable, Iterator, Sequence
+from contextlib import closing, contextmanager
 from dataclasses import dataclass, field
 from functools import cached_property, partial
 from typing import TYPE_CHECKING, Any
 
 from .. import __version__
-from ..engine.memory import keep_room
+from ..convert import stream_of
 from ..engine.faults import RequestError
-from ..sources.outputs import Writer
-from ..sources.packed import LEVEL
+from ..engine.memory import keep_room
 from ..engine.query import Work, asked
 from ..engine.reports import Report, explain
 from ..run.results import Result
-from ..run.streams import Stream, results
+from ..run.streams import Results, Stream, results
+from ..sources.outputs import Limit, Writer
+from ..sources.packed import LEVEL
 from ..sources.source import is_path, size_of
 from .file_lists import files_of, ids_of, texts_of
-from .output import is_terminal, put, say
+from .output import Bar, is_terminal, put, say
 from .printers import Reports, printer_for
-from .progress import Bar
 from .requests import Check, Explain, Filter, Info
 from .targets import make_folder, refuse_read, targets_of
 
@@ -151,13 +151,19 @@ class Run:
             self._printer.report(each)
 
         return Stream(
-            file,
+            self._source(file),
             self._work,
             self._request.part_size,
             writer,
             report,
             partial(self._bar.add, file),
         )
+
+    def _source(self, file: str) -> Any:
+        """Returns the stream of a file, which may be a whole CityJSON file."""
+        if isinstance(self._request, Filter):
+            return file
+        return stream_of(file, self._request.whole or None)
 
     def take(self, result: Result) -> int:
         """Prints the result of a file, records it, and returns its status."""
@@ -205,10 +211,13 @@ def _writers(request: Request, files: Sequence[str], see: Any) -> list[Writer | 
     """Returns the writer of each file's output. Only `filter` has outputs."""
     if not isinstance(request, Filter):
         return [None] * len(files)
-    return [
-        Writer(output, request.keep_partial, level=request.level or LEVEL, see=see)
-        for output in targets_of(request, files)
-    ]
+    writers: list[Writer | None] = []
+    limit = Limit.of(request.limit)
+    for output in targets_of(request, files):
+        writer = Writer(output, request.keep_partial, level=request.level or LEVEL, see=see)
+        writer.limit = limit
+        writers.append(writer)
+    return writers
 
 
 def _make_folders(request: Filter, outputs: Sequence[str]) -> None:
@@ -230,6 +239,8 @@ def _checked_outputs(request: Request, files: Sequence[str]) -> list[str]:
     ids_from = request.ids_from if isinstance(request, Filter) else None
     refuse_read([*files, ids_from, request.files_from], [*outputs, request.record])
     if isinstance(request, (Check, Filter)) and (request.resume or request.record is not None):
+        if isinstance(request, Filter) and request.limit is not None:
+            raise RequestError("with --limit an output depends on other files: leave --record out")
         from .record import refuse_unrecorded
 
         refuse_unrecorded(request, files)
@@ -240,6 +251,8 @@ def unmatched_of(request: Filter, ids: list[str] | bytes | None) -> UnmatchedIds
     """Returns what finds the ids of a list that match no feature. None if that is not wanted."""
     is_wanted = request.json or not request.quiet
     if request.ids_from is None or ids is None or request.exclude or not is_wanted:
+        return None
+    if request.limit is not None:  # it leaves out features that match
         return None
     from .unmatched import UnmatchedIds  # few runs need it
 
@@ -262,6 +275,24 @@ class _Outcome:
         self.features += result.features
 
 
+@contextmanager
+def _results(request: Request, work: Work, streams: Iterable[Stream]) -> Iterator[Results]:
+    """Gives the results of streams, by threads or by a cluster."""
+    if request.cluster is None:
+        with closing(results(streams, request.jobs)) as found:
+            yield found
+        return
+    from ..cluster.jobs import PART, Cluster, connected  # few runs need it
+    from ..cluster.runs import Runs
+
+    if request.jobs is not None:
+        raise RequestError("--jobs is for threads: leave it out with --cluster")
+    with connected(request.cluster) as client:
+        runs = Runs(Cluster(client, work, request.part_size or PART))
+        with closing(runs.results(streams)) as found:
+            yield found
+
+
 def _judge_all(request: Request, work: Work, files: Sequence[str], see: Any) -> _Outcome:
     """Judges the files, in order."""
     total = total_of(files, request.progress)
@@ -269,7 +300,7 @@ def _judge_all(request: Request, work: Work, files: Sequence[str], see: Any) -> 
         rest, worst = run.skip(files)
         outcome = _Outcome(worst, len(rest) == len(files))
         streams = map(run.stream, rest, _writers(request, rest, see))
-        with closing(results(streams, request.jobs)) as found:
+        with _results(request, work, streams) as found:
             for result in found:
                 outcome.add(run.take(result), result)
         run.close()

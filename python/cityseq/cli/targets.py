@@ -33,7 +33,9 @@ def targets_in(request: Filter, files: Sequence[str]) -> list[str]:
         raise RequestError("with --output-dir there is no --output: each FILE has its own")
     if "-" in files:
         raise RequestError("with --output-dir each FILE has a name: standard input has none")
-    folder = request.output_dir or ""
+    if not request.output_dir:
+        raise RequestError("the name of the folder of --output-dir is empty")
+    folder = request.output_dir
     targets: dict[str, str] = {}
     for file in files:
         target = os.path.realpath(_name_in(folder, file, request.keep_folders))

@@ -6,8 +6,8 @@ import re
 from typing import Any
 
 from ..engine.escape import quoted, shown
-from ..sources.packed import Text
 from ..engine.reports import USUAL_BEGIN, find_id
+from ..sources.packed import Text
 from .output import put, say
 from .requests import Filter
 

@@ -1,12 +1,13 @@
-"""Boxes on a map.
+"""Boxes on a map, and their digits.
 
 A box is (west, south, east, north). In degrees its west may be greater than its east: then it lies
 over the antimeridian, as RFC 7946 has it."""
 from __future__ import annotations
 
-from typing import Iterable, Sequence, Tuple
+from collections.abc import Iterable, Sequence
+from math import ceil, floor
 
-Extent = Tuple[float, float, float, float]
+Extent = tuple[float, float, float, float]
 TURN = 360.0
 
 
@@ -50,3 +51,26 @@ def meet_on_earth(one: Sequence[float], other: Sequence[float]) -> list[Extent]:
     """Returns what two boxes of degrees have in common: none, one or more boxes."""
     found = (meet(first, second) for first in pieces(one) for second in pieces(other))
     return [each for each in found if each is not None]
+
+
+DIGITS = 15  # of a decimal that a float has exactly
+PARTS = 10**9  # of a degree: about 0.1 mm
+
+
+def short(value: float | None) -> float | None:
+    """Returns a number with at most 15 digits. An index has numbers that are rounded outward: this
+    returns the decimal that was rounded, if it has no more digits."""
+    return None if value is None else float(f"{value:.{DIGITS}g}")
+
+
+def near(point: tuple[float, float], is_degrees: bool) -> list[float]:
+    """Returns a point without needless digits."""
+    return [round(edge, 9) if is_degrees else float(f"{edge:.{DIGITS}g}") for edge in point]
+
+
+def edges(extent: Extent, is_degrees: bool) -> list[float]:
+    """Returns the edges of an extent. Degrees are rounded outward."""
+    if not is_degrees:
+        return [float(f"{edge:.{DIGITS}g}") for edge in extent]
+    west, south, east, north = (edge * PARTS for edge in extent)
+    return [floor(west) / PARTS, floor(south) / PARTS, ceil(east) / PARTS, ceil(north) / PARTS]

@@ -3,12 +3,13 @@
 from __future__ import annotations
 
 import re
+from collections.abc import Sequence
 from functools import cached_property
-from typing import Any, Sequence
+from typing import Any
 
 from ..engine.faults import RequestError
 from ..indexes.geopackage import SYSTEM
-from .boxes import Extent, around, meet, pieces
+from .boxes import Extent, around, meet, near, pieces
 from .projection import Facts, Projection, Reach, facts_of, has_pyproj
 
 CRS84 = "http://www.opengis.net/def/crs/OGC/1.3/CRS84"
@@ -107,6 +108,17 @@ class System:
             raise RequestError("the box is empty: west of it is east of its east")
         parts = pieces(box)
         return Reach(around(parts), lambda extent: any(meet(extent, part) for part in parts))
+
+    def points_in(
+        self, system: str | None, points: Sequence[tuple[float, float]]
+    ) -> list[list[float]] | None:
+        """Returns points of the stream in a system, in the order of its axes. None if one has no
+        place there."""
+        is_own = self.is_own(system)
+        moved = points if is_own else self._projection.points(points)
+        if moved is None:
+            return None
+        return [list(self.turned((*near(point, not is_own), 0, 0), system)[:2]) for point in moved]
 
     def extent_in(self, system: str | None, extent: Extent) -> Extent | None:
         """Returns an extent of the stream in a system, with east first. Its west is greater than

@@ -3,7 +3,8 @@ are counted by the cells of a grid, whose cells grow with it."""
 from __future__ import annotations
 
 import math
-from typing import Any, Callable, Dict, List, Optional, Tuple
+from collections.abc import Callable
+from typing import Any
 
 from .extras import needed
 from .facts import Area, Named, Point, Rectangle
@@ -57,7 +58,7 @@ def _level(least: float) -> int:
     return max(LEAST, math.frexp(least)[1]) if least > 0 else LEAST
 
 
-def _added_up(columns: Any, rows: Any, counts: Any = None) -> Tuple[Any, Any, Any]:
+def _added_up(columns: Any, rows: Any, counts: Any = None) -> tuple[Any, Any, Any]:
     """Returns each cell once, with the sum of its counts, or how often it is there."""
     if not len(columns):
         return columns, rows, np.empty(0, "i8")
@@ -82,7 +83,7 @@ class Grid:
         self._level = LEAST
         self._columns, self._rows = np.empty(0, "i8"), np.empty(0, "i8")
         self._counts = np.empty(0, "i8")
-        self._waiting: List[Any] = []
+        self._waiting: list[Any] = []
         self._size = 0
 
     def add(self, x: Any, y: Any) -> None:
@@ -126,7 +127,7 @@ class Grid:
         self._level = level
         self._merge(columns, rows, counts)
 
-    def cells(self) -> Tuple[float, Dict[Tuple[int, int], int], Dict[Tuple[int, int], int]]:
+    def cells(self) -> tuple[float, dict[tuple[int, int], int], dict[tuple[int, int], int]]:
         """Returns the size of a cell and the count of each, first of those that fit a map, and then
         of those that are far from them."""
         self._sort()
@@ -135,8 +136,8 @@ class Grid:
             self._coarsen(self._level + 1)
             columns, rows, is_far = self._columns, self._rows, self._is_far()
         found = zip(columns.tolist(), rows.tolist(), self._counts.tolist(), is_far.tolist())
-        near: Dict[Tuple[int, int], int] = {}
-        far: Dict[Tuple[int, int], int] = {}
+        near: dict[tuple[int, int], int] = {}
+        far: dict[tuple[int, int], int] = {}
         for column, row, count, is_one in found:
             (far if is_one else near)[column, row] = count
         return 2.0**self._level, near, far
@@ -149,7 +150,7 @@ class Rim:
     """The features that lie farthest to each side."""
 
     def __init__(self) -> None:
-        self._sides: List[List[Tuple[float, Named]]] = [[], [], [], []]
+        self._sides: list[list[tuple[float, Named]]] = [[], [], [], []]
 
     def add(self, x: Any, y: Any, named: Callable[[int], Named]) -> None:
         """Takes the middles of features. `named` names one of them by its number."""
@@ -163,7 +164,7 @@ class Rim:
             side.sort(key=lambda each: -each[0])
             del side[MOST_STRAYS:]
 
-    def within(self, places: List[Rectangle]) -> List[Named]:
+    def within(self, places: list[Rectangle]) -> list[Named]:
         """Returns those whose middle lies in one of some places."""
         found = dict.fromkeys(each for side in self._sides for _, each in side)
         return [each for each in found if any(_lies_in(each.middle, place) for place in places)]
@@ -176,17 +177,21 @@ def _lies_in(point: Point, place: Rectangle) -> bool:
 class Place:
     """Gathers the places of all features in one coordinate system."""
 
-    def __init__(self, reference_system: Optional[str]) -> None:
+    def __init__(self, reference_system: str | None) -> None:
         self.reference_system = reference_system
         self.files, self.features = 0, 0
-        self.boxes: List[Optional[str]] = []
+        self.boxes: list[str | None] = []
         self._grid, self._rim = Grid(), Rim()
-        self._extents: List[Rectangle] = []
-        self._spots: List[Point] = []
+        self._extents: list[Rectangle] = []
+        self._spots: list[Point] = []
 
     def add(
-        self, xmin: Any, xmax: Any, ymin: Any, ymax: Any,
-        named: Optional[Callable[[int, Point], Named]] = None,
+        self,
+        xmin: Any,
+        xmax: Any,
+        ymin: Any,
+        ymax: Any,
+        named: Callable[[int, Point], Named] | None = None,
     ) -> None:
         """Takes the extents of features, in world coordinates, as arrays. `named` names one of them
         by its number, with its middle; without it none has a name."""
@@ -213,7 +218,7 @@ class Place:
         """Whether enough invalid features are marked."""
         return len(self._spots) >= MOST_SPOTS
 
-    def mark(self, spots: List[Point]) -> None:
+    def mark(self, spots: list[Point]) -> None:
         """Takes the places of invalid features, in world coordinates."""
         spots = [spot for spot in spots if all(abs(edge) < FARTHEST for edge in spot)]
         self._spots += spots[: MOST_SPOTS - len(self._spots)]
@@ -226,29 +231,41 @@ class Place:
             extents, places = _split(extents)
             apart = len(places)
         return Area(
-            self.reference_system, self.files, self.features, joined(self.boxes), size, cells,
-            extents, self._spots, apart, places, self._rim.within(places),
+            self.reference_system,
+            self.files,
+            self.features,
+            joined(self.boxes),
+            size,
+            cells,
+            extents,
+            self._spots,
+            apart,
+            places,
+            self._rim.within(places),
         )
 
 
-def rectangles(size: float, cells: Dict[Tuple[int, int], int]) -> List[Rectangle]:
+def rectangles(size: float, cells: dict[tuple[int, int], int]) -> list[Rectangle]:
     """Returns cells as rectangles."""
-    return [(column * size, row * size, (column + 1) * size, (row + 1) * size)
-            for column, row in cells]
+    return [
+        (column * size, row * size, (column + 1) * size, (row + 1) * size) for column, row in cells
+    ]
 
 
-def _split(extents: List[Rectangle]) -> Tuple[List[Rectangle], List[Rectangle]]:
+def _split(extents: list[Rectangle]) -> tuple[list[Rectangle], list[Rectangle]]:
     """Returns the extents that lie near each other, and those that are far from them."""
     xmin, ymin, xmax, ymax = np.array(extents).T
     with np.errstate(all="ignore"):
         usual = float(np.median(np.maximum(xmax - xmin, ymax - ymin)))
     x, y = xmin / 2 + xmax / 2, ymin / 2 + ymax / 2
     is_far = far_from_others(x, y, np.ones(len(extents), "i8"), usual)
-    return ([each for each, is_one in zip(extents, is_far) if not is_one],
-            [each for each, is_one in zip(extents, is_far) if is_one])
+    return (
+        [each for each, is_one in zip(extents, is_far) if not is_one],
+        [each for each, is_one in zip(extents, is_far) if is_one],
+    )
 
 
-def joined(boxes: List[Optional[str]]) -> Optional[str]:
+def joined(boxes: list[str | None]) -> str | None:
     """Returns the box around boxes, each as `--bbox` takes it. None if there is no box, or if a
     query cannot have one of them."""
     from decimal import Decimal

@@ -2,8 +2,9 @@
 from __future__ import annotations
 
 import math
+from collections.abc import Iterable, Sequence
 from dataclasses import dataclass, replace
-from typing import Any, Dict, Iterable, List, Sequence, Tuple
+from typing import Any
 
 from .areas import rectangles
 from .drawing import RIGHT, ROLES, SMALL, WIDTH, drawn, figure
@@ -62,12 +63,12 @@ class Map:
 
     svg: str
     told: str
-    shades: List[Tuple[int, int, int]]
+    shades: list[tuple[int, int, int]]
     hidden: int
     overview: str = ""
 
 
-def rectangles_of(area: Area) -> List[Rectangle]:
+def rectangles_of(area: Area) -> list[Rectangle]:
     """Returns the extents of an area, or its cells if there are too many features."""
     return area.extents or rectangles(area.size, area.cells)
 
@@ -79,7 +80,7 @@ def coarse(area: Area) -> Area:
     xmin, ymin, xmax, ymax = _around(found) if found else (0.0, 0.0, 0.0, 0.0)
     greatest = max(abs(edge) for edge in (xmin, ymin, xmax, ymax))
     side = max(xmax - xmin, ymax - ymin, greatest * 1e-9, 1e-300) / (COARSE - 1)
-    size, cells = 2.0 ** math.ceil(math.log2(side)), {}  # type: Tuple[float, Dict[Any, int]]
+    size, cells = 2.0 ** math.ceil(math.log2(side)), {}  # type: tuple[float, dict[Any, int]]
     for (left, low, right, high), count in zip(found, counts):
         cell = int((left / 2 + right / 2) // size), int((low / 2 + high / 2) // size)
         cells[cell] = cells.get(cell, 0) + count
@@ -96,8 +97,11 @@ def view_of(area: Area) -> View:
     found = rectangles_of(area) or [(x, y, x, y) for x, y in area.spots]
     xmin, ymin, xmax, ymax = _around(found)
     reach = max(xmax - xmin, ymax - ymin) / 4
-    near = [(x, y) for x, y in area.spots
-            if xmin - reach <= x <= xmax + reach and ymin - reach <= y <= ymax + reach]
+    near = [
+        (x, y)
+        for x, y in area.spots
+        if xmin - reach <= x <= xmax + reach and ymin - reach <= y <= ymax + reach
+    ]
     return _view([(xmin, ymin, xmax, ymax), *((x, y, x, y) for x, y in near)])
 
 
@@ -111,7 +115,7 @@ def _view(found: Sequence[Rectangle]) -> View:
     return View((xmin + xmax - width) / 2, (ymin + ymax - width * ratio) / 2, width, ratio)
 
 
-def _blank(view: View) -> Tuple[Any, Any]:
+def _blank(view: View) -> tuple[Any, Any]:
     """Returns a figure of a part of the world, and its axes, with nothing drawn yet."""
     made, axes = figure(view.ratio / view.pixel, LEFT, BOTTOM)
     axes.set_xlim(0, 1)
@@ -149,8 +153,15 @@ def _overview(area: Area, name: str) -> str:
     for number, stray in enumerate(area.strays, 1):
         x, y = view.of(stray.middle)
         side = (-1, "right") if x > 0.9 else (1, "left")
-        axes.text(x + side[0] * STRAY * view.pixel, y, str(number), ha=side[1], va="center",
-                  fontsize=SMALL, color=ROLES["ink"])
+        axes.text(
+            x + side[0] * STRAY * view.pixel,
+            y,
+            str(number),
+            ha=side[1],
+            va="center",
+            fontsize=SMALL,
+            color=ROLES["ink"],
+        )
     told = f"{area.apart:,} features far from the others, which lie in the box of the map"
     return drawn(made, name, "Overview", told)
 
@@ -184,18 +195,24 @@ def _box_of(extent: Rectangle, view: View, least: float) -> Rectangle:
 def _fill(axes: Any, boxes: Iterable[Rectangle], role: str) -> None:
     """Draws rectangles as one path."""
     path = needed("matplotlib.path").Path
-    corners = np.array([
-        ((left, low), (right, low), (right, high), (left, high), (left, low))
-        for left, low, right, high in boxes
-    ])
+    corners = np.array(
+        [
+            ((left, low), (right, low), (right, high), (left, high), (left, low))
+            for left, low, right, high in boxes
+        ]
+    )
     if not len(corners):
         return
     codes = np.array([path.MOVETO, path.LINETO, path.LINETO, path.LINETO, path.CLOSEPOLY])
-    _add(axes, corners.reshape(-1, 2), np.tile(codes, len(corners)),
-         {"facecolor": ROLES[role], "edgecolor": "none"})
+    _add(
+        axes,
+        corners.reshape(-1, 2),
+        np.tile(codes, len(corners)),
+        {"facecolor": ROLES[role], "edgecolor": "none"},
+    )
 
 
-def _cross(axes: Any, spots: List[Point], arm: float) -> None:
+def _cross(axes: Any, spots: list[Point], arm: float) -> None:
     """Marks points as one path."""
     if not spots:
         return
@@ -207,26 +224,24 @@ def _cross(axes: Any, spots: List[Point], arm: float) -> None:
         _add(axes, ends, codes, {"facecolor": "none", "edgecolor": ROLES[role], "linewidth": width})
 
 
-def _add(axes: Any, vertices: Any, codes: Any, style: Dict[str, Any]) -> None:
+def _add(axes: Any, vertices: Any, codes: Any, style: dict[str, Any]) -> None:
     path = needed("matplotlib.path").Path(vertices, codes)
     axes.add_artist(needed("matplotlib.patches").PathPatch(path, **style)).set_zorder(3)
 
 
-def _draw_cells(axes: Any, area: Area, view: View) -> List[Tuple[int, int, int]]:
+def _draw_cells(axes: Any, area: Area, view: View) -> list[tuple[int, int, int]]:
     """Draws cells, darker where there are more features, and returns what each shade means."""
     greatest = max(area.cells.values(), default=1)
-    sorted_out: Dict[int, List[Tuple[int, Rectangle]]] = {}
-    for (rectangle, count) in zip(rectangles_of(area), area.cells.values()):
+    sorted_out: dict[int, list[tuple[int, Rectangle]]] = {}
+    for rectangle, count in zip(rectangles_of(area), area.cells.values()):
         shade = 1 + int((SHADES - 1) * math.log(count) / math.log(max(greatest, 2)) + 1e-9)
         sorted_out.setdefault(shade, []).append((count, rectangle))
     for shade, found in sorted_out.items():
         _fill(axes, (_box_of(each, view, 0) for _, each in found), f"shade-{shade}")
-    return [
-        (shade, min(found)[0], max(found)[0]) for shade, found in sorted(sorted_out.items())
-    ]
+    return [(shade, min(found)[0], max(found)[0]) for shade, found in sorted(sorted_out.items())]
 
 
-def histogram(lengths: Dict[int, int], name: str) -> str:
+def histogram(lengths: dict[int, int], name: str) -> str:
     """Draws how many lines have each length, by powers of two."""
     powers = range(min(lengths), max(lengths) + 1)
     counts = [lengths.get(power, 0) for power in powers]
@@ -236,8 +251,9 @@ def histogram(lengths: Dict[int, int], name: str) -> str:
     axes.set_ylim(0, max(counts) * 1.05)
     step = 1 + len(counts) // 8
     places = range(0, len(counts) + 1, step)
-    axes.xaxis.set_ticks([place - 0.05 for place in places],
-                         [size_of_power(powers[0] + place) for place in places])
+    axes.xaxis.set_ticks(
+        [place - 0.05 for place in places], [size_of_power(powers[0] + place) for place in places]
+    )
     locator = needed("matplotlib.ticker").MaxNLocator(4, integer=True)
     ticks = [value for value in locator.tick_values(0, max(counts)) if 0 < value <= max(counts)]
     axes.yaxis.set_ticks(ticks, [f"{value:,.0f}" for value in ticks])
@@ -247,8 +263,15 @@ def histogram(lengths: Dict[int, int], name: str) -> str:
         axes.spines[side].set_visible(False)
     if len(counts) <= MOST_BARS:
         for place, count in enumerate(counts):
-            axes.text(place + 0.45, count, f"{count:,}", ha="center", va="bottom",
-                      fontsize=SMALL, color=ROLES["ink"])
+            axes.text(
+                place + 0.45,
+                count,
+                f"{count:,}",
+                ha="center",
+                va="bottom",
+                fontsize=SMALL,
+                color=ROLES["ink"],
+            )
     told = "; ".join(
         f"{count:,} from {size_of_power(power)}" for power, count in sorted(lengths.items())
     )

@@ -4,7 +4,8 @@ from __future__ import annotations
 
 import io
 import re
-from typing import Any, Dict, Iterator, List, Tuple
+from collections.abc import Iterator
+from typing import Any
 from xml.etree import ElementTree
 from xml.sax.saxutils import escape
 
@@ -19,8 +20,13 @@ SMALL = 12  # pixels of letters
 SETTINGS = {"svg.fonttype": "none", "axes.unicode_minus": False, "path.simplify": False}
 # Colours that name what they colour: the rules of the page have each name as a class.
 ROLES = {
-    "ground": "#000101", "ink": "#010101", "rule": "#020202", "extent": "#030303",
-    "spot": "#040404", "bar": "#050505", "stray": "#070707",
+    "ground": "#000101",
+    "ink": "#010101",
+    "rule": "#020202",
+    "extent": "#030303",
+    "spot": "#040404",
+    "bar": "#050505",
+    "stray": "#070707",
     **{f"shade-{n}": f"#0600{n:02x}" for n in range(1, 8)},
 }
 _NAMES = {colour: name for name, colour in ROLES.items()}
@@ -71,10 +77,10 @@ def _parts(element: Any) -> Iterator[str]:
         yield f"<{name}{told}>{escape(element.text or '')}</{name}>"
 
 
-def _attributes(element: Any) -> Iterator[Tuple[str, str]]:
+def _attributes(element: Any) -> Iterator[tuple[str, str]]:
     """Yields the attributes that an element keeps. Its colours become a class."""
     style = _style_of(element.get("style", ""))
-    classes: List[str] = [
+    classes: list[str] = [
         f"{way}-{_NAMES[style[way]]}" for way in ("fill", "stroke") if style.get(way) in _NAMES
     ]
     if classes:
@@ -92,7 +98,7 @@ def _attributes(element: Any) -> Iterator[Tuple[str, str]]:
         yield "font-size", style["font"].split("px")[0]
 
 
-def _style_of(text: str) -> Dict[str, str]:
+def _style_of(text: str) -> dict[str, str]:
     pairs = (pair.split(":", 1) for pair in text.split(";") if ":" in pair)
     return {name.strip(): value.strip() for name, value in pairs}
 

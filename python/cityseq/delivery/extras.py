@@ -8,7 +8,9 @@ from typing import Any
 from ..engine.faults import CityseqError
 
 PACKAGES = {
-    "jinja2": "python3-jinja2", "numpy": "python3-numpy", "matplotlib": "python3-matplotlib"
+    "jinja2": "python3-jinja2",
+    "numpy": "python3-numpy",
+    "matplotlib": "python3-matplotlib",
 }
 
 

@@ -3,7 +3,7 @@ from __future__ import annotations
 
 from collections import Counter
 from dataclasses import dataclass, field
-from typing import TYPE_CHECKING, Any, Dict, List, Optional, Tuple, TypeVar
+from typing import TYPE_CHECKING, Any, TypeVar
 
 from ..engine.faults import Status
 from ..engine.reports import Explanation, Report, explain
@@ -16,8 +16,8 @@ if TYPE_CHECKING:
 
 EXAMPLES = 3  # reports of each reason that are kept as examples
 Key = TypeVar("Key")
-Rectangle = Tuple[float, float, float, float]  # xmin, ymin, xmax, ymax, in world coordinates
-Point = Tuple[float, float]
+Rectangle = tuple[float, float, float, float]  # xmin, ymin, xmax, ymax, in world coordinates
+Point = tuple[float, float]
 
 
 @dataclass
@@ -33,9 +33,9 @@ class Contents:
     """
 
     features: int = 0
-    types: Dict[str, int] = field(default_factory=dict)
-    lods: Dict[str, int] = field(default_factory=dict)
-    lengths: Dict[int, int] = field(default_factory=dict)
+    types: dict[str, int] = field(default_factory=dict)
+    lods: dict[str, int] = field(default_factory=dict)
+    lengths: dict[int, int] = field(default_factory=dict)
 
     def add(self, other: "Contents") -> None:
         """Adds the contents of other features."""
@@ -45,7 +45,7 @@ class Contents:
         _add(self.lengths, other.lengths)
 
 
-def _add(counts: Dict[Key, int], others: Dict[Key, int]) -> None:
+def _add(counts: dict[Key, int], others: dict[Key, int]) -> None:
     """Adds counts to others, and sorts all by their names."""
     both = {name: counts.get(name, 0) + count for name, count in others.items()}
     ordered = sorted({**counts, **both}.items())
@@ -71,21 +71,21 @@ class File:
 
     name: str
     status: Status = Status.VALID
-    size: Optional[int] = None
-    sha256: Optional[str] = None
+    size: int | None = None
+    sha256: str | None = None
     lines: int = 0
     invalid: int = 0
-    end: Optional[Report] = None
-    fault: Optional[str] = None
-    hints: List[str] = field(default_factory=list)
-    scale: List["Decimal"] = field(default_factory=list)
-    translate: List["Decimal"] = field(default_factory=list)
-    reference_system: Optional[str] = None
-    ranges: Tuple[Range, Range, Range] = (None, None, None)
-    box: Optional[str] = None
-    extent: Tuple["Extent", "Extent", "Extent"] = (None, None, None)
+    end: Report | None = None
+    fault: str | None = None
+    hints: list[str] = field(default_factory=list)
+    scale: list["Decimal"] = field(default_factory=list)
+    translate: list["Decimal"] = field(default_factory=list)
+    reference_system: str | None = None
+    ranges: tuple[Range, Range, Range] = (None, None, None)
+    box: str | None = None
+    extent: tuple["Extent", "Extent", "Extent"] = (None, None, None)
     longest: int = 0
-    peaks: Tuple[int, int, int] = (0, 0, 0)
+    peaks: tuple[int, int, int] = (0, 0, 0)
     contents: Contents = field(default_factory=Contents)
 
     @property
@@ -101,7 +101,7 @@ class Reason:
     code: int
     lines: int = 0
     files: int = 0
-    examples: List[Report] = field(default_factory=list)
+    examples: list[Report] = field(default_factory=list)
 
     @property
     def explanation(self) -> Explanation:
@@ -113,8 +113,8 @@ class Reasons:
     """Counts reports by their reasons, and keeps the first ones for each."""
 
     def __init__(self) -> None:
-        self._found: Dict[int, Reason] = {}
-        self._last: Dict[int, str] = {}
+        self._found: dict[int, Reason] = {}
+        self._last: dict[int, str] = {}
 
     def add(self, report: Report) -> None:
         """Counts a report. All reports of one file come together."""
@@ -126,7 +126,7 @@ class Reasons:
         if len(reason.examples) < EXAMPLES:
             reason.examples.append(report)
 
-    def listed(self) -> List[Reason]:
+    def listed(self) -> list[Reason]:
         """Returns the reasons, the most frequent first."""
         return sorted(self._found.values(), key=lambda reason: (-reason.lines, reason.code))
 
@@ -138,7 +138,7 @@ class RepeatedId:
 
     id: str
     count: int
-    places: List[Tuple[str, int]]
+    places: list[tuple[str, int]]
 
 
 @dataclass
@@ -153,7 +153,7 @@ class Repeated:
 
     ids: int = 0
     features: int = 0
-    first: List[RepeatedId] = field(default_factory=list)
+    first: list[RepeatedId] = field(default_factory=list)
 
 
 @dataclass(frozen=True)
@@ -185,17 +185,17 @@ class Area:
         strays: The names of the first of them.
     """
 
-    reference_system: Optional[str]
+    reference_system: str | None
     files: int = 0
     features: int = 0
-    box: Optional[str] = None
+    box: str | None = None
     size: float = 1.0
-    cells: Dict[Tuple[int, int], int] = field(default_factory=dict)
-    extents: List[Rectangle] = field(default_factory=list)
-    spots: List[Point] = field(default_factory=list)
+    cells: dict[tuple[int, int], int] = field(default_factory=dict)
+    extents: list[Rectangle] = field(default_factory=list)
+    spots: list[Point] = field(default_factory=list)
     apart: int = 0
-    places: List[Rectangle] = field(default_factory=list)
-    strays: List[Named] = field(default_factory=list)
+    places: list[Rectangle] = field(default_factory=list)
+    strays: list[Named] = field(default_factory=list)
 
 
 @dataclass
@@ -232,19 +232,19 @@ class Delivery:
 
     title: str
     run: Run
-    files: List[File] = field(default_factory=list)
-    areas: List[Area] = field(default_factory=list)
-    reasons: List[Reason] = field(default_factory=list)
+    files: list[File] = field(default_factory=list)
+    areas: list[Area] = field(default_factory=list)
+    reasons: list[Reason] = field(default_factory=list)
     repeated: Repeated = field(default_factory=Repeated)
-    reports: List[Report] = field(default_factory=list)
-    report_files: Tuple[str, ...] = ()
+    reports: list[Report] = field(default_factory=list)
+    report_files: tuple[str, ...] = ()
 
     @property
     def status(self) -> Status:
         """The greatest status of all files, as the status of `check`."""
         return max((file.status for file in self.files), default=Status.VALID)
 
-    def json_object(self) -> Dict[str, Any]:
+    def json_object(self) -> dict[str, Any]:
         """Returns all facts as one object of JSON, which docs/report.schema.json describes. It has
         only the examples of reports."""
         from .json_object import delivery_object  # few callers need it
@@ -280,6 +280,6 @@ class Delivery:
         return max((file.longest for file in self.files), default=0)
 
     @property
-    def peaks(self) -> Tuple[int, ...]:
+    def peaks(self) -> tuple[int, ...]:
         """The greatest peaks of all files."""
         return tuple(max((file.peaks[n] for file in self.files), default=0) for n in range(3))

@@ -2,13 +2,13 @@
 from __future__ import annotations
 
 from decimal import Decimal
-from typing import Any, Dict, List, Optional
+from typing import Any
 
 from ..cli.json_objects import exact, report_object
 from .facts import Area, Contents, Delivery, File, Reason, Repeated
 
 VERSION = 1  # it changes if a member is removed, renamed or changes its meaning
-Object = Dict[str, Any]
+Object = dict[str, Any]
 
 
 def delivery_object(delivery: Delivery) -> Object:
@@ -48,7 +48,7 @@ def _contents(contents: Contents) -> Object:
     }
 
 
-def _box(box: Optional[str]) -> Optional[List[Any]]:
+def _box(box: str | None) -> list[Any] | None:
     return None if box is None else [exact(Decimal(edge)) for edge in box.split(",")]
 
 

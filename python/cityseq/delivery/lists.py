@@ -6,12 +6,12 @@ import io
 import json
 import os
 import re
-from typing import Any, List, Tuple
+from typing import Any
 
 from ..cli.json_objects import report_object
-from ..sources.outputs import Writer
-from ..engine.reports import Report
 from ..engine.escape import shown
+from ..engine.reports import Report
+from ..sources.outputs import Writer
 
 COLUMNS = ("file", "line", "byte", "code", "reason", "feature", "hint", "excerpt", "fix")
 SIGNS = "=+-@\uff1d\uff0b\uff0d\uff20"  # a spreadsheet may compute a cell that begins with them
@@ -24,7 +24,7 @@ TOGETHER = 1 << 16  # characters of one write
 MARK = "\ufeff"  # marks UTF-8 for spreadsheets
 
 
-def names_of_lists(page: str) -> Tuple[str, str]:
+def names_of_lists(page: str) -> tuple[str, str]:
     """Returns the names of the CSV file and of the JSON lines next to a page."""
     stem, suffix = os.path.splitext(page)
     start = stem if suffix.lower() in (".html", ".htm") else page
@@ -39,11 +39,17 @@ def cell(text: str) -> str:
     return f"'{told}" if text.startswith(FORMULAS) or told.startswith(FORMULAS) else told
 
 
-def row_of(report: Report) -> List[Any]:
+def row_of(report: Report) -> list[Any]:
     """Returns the cells of a report, in the order of the columns."""
     return [
-        cell(report.file), report.line, report.byte, report.code, report.text,
-        cell(report.id or ""), cell(report.met or ""), cell(report.excerpt),
+        cell(report.file),
+        report.line,
+        report.byte,
+        report.code,
+        report.text,
+        cell(report.id or ""),
+        cell(report.met or ""),
+        cell(report.excerpt),
         cell(report.explanation.fix),
     ]
 

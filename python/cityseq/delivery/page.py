@@ -5,10 +5,11 @@ import base64
 import hashlib
 import json
 import os
-from typing import Any, Dict, Iterator, List, Optional, Sequence, Tuple
+from collections.abc import Iterator, Sequence
+from typing import Any
 
-from ..engine.reports import Report, explain
 from ..engine.escape import shown
+from ..engine.reports import Report, explain
 from ..engine.world import plain
 from .charts import Map, coarse, histogram, map_of, size_of_power
 from .extras import needed
@@ -27,7 +28,7 @@ ORDER = ("fault", "invalid", "valid")  # of the rows of files
 WORDS = {"valid": "valid", "invalid": "invalid", "fault": "not judged"}
 
 
-def cut(text: Optional[str]) -> str:
+def cut(text: str | None) -> str:
     """Returns a text of a stream with its controls escaped, cut if it is long."""
     told = text or ""
     if len(told) <= MOST_SIGNS:
@@ -35,7 +36,7 @@ def cut(text: Optional[str]) -> str:
     return f"{shown(told[:MOST_SIGNS])}\u2026 ({len(told):,} signs)"
 
 
-def size(count: Optional[int]) -> str:
+def size(count: int | None) -> str:
     """Returns a number of bytes in words."""
     if count is None:
         return "unknown"
@@ -58,7 +59,7 @@ def counted(count: int, one: str, many: str = "") -> str:
     return f"{count:,} {one if count == 1 else many or one + 's'}"
 
 
-def split_at(excerpt: str, column: int) -> Tuple[str, str, str]:
+def split_at(excerpt: str, column: int) -> tuple[str, str, str]:
     """Returns an excerpt before the place, the character at it, and the rest. The column counts the
     columns of a terminal, where some characters are two columns wide."""
     from unicodedata import east_asian_width
@@ -70,7 +71,7 @@ def split_at(excerpt: str, column: int) -> Tuple[str, str, str]:
     return excerpt, END, ""
 
 
-def near(report: Report) -> Tuple[str, str, str]:
+def near(report: Report) -> tuple[str, str, str]:
     """Returns the text near the place of a report, for a row of the table."""
     before, sign, after = split_at(shown(report.excerpt), report.column)
     return before[-NEAR:], sign, after[:NEAR]
@@ -86,8 +87,9 @@ def verdict_of(delivery: Delivery) -> str:
         parts.append(f"{found['valid']:,} {'is' if found['valid'] == 1 else 'are'} valid")
     if found["invalid"]:
         lines = counted(delivery.invalid, "invalid line")
-        parts.append(f"{found['invalid']:,} {'is' if found['invalid'] == 1 else 'are'} invalid"
-                     f" ({lines})")
+        parts.append(
+            f"{found['invalid']:,} {'is' if found['invalid'] == 1 else 'are'} invalid" f" ({lines})"
+        )
     if found["fault"]:
         verb = "was" if found["fault"] == 1 else "were"
         parts.append(f"{found['fault']:,} {verb} not judged")
@@ -103,22 +105,21 @@ def worst(delivery: Delivery) -> str:
     return next((each for each in ("invalid", "fault") if found[each]), "valid")
 
 
-def by_verdict(files: Sequence[File]) -> List[File]:
+def by_verdict(files: Sequence[File]) -> list[File]:
     """Returns files in the order of their rows: first those that a reader must look at."""
     return sorted(files, key=lambda file: ORDER.index(file.verdict))
 
 
-def row_of(report: Report, numbers: Dict[str, int]) -> List[Any]:
+def row_of(report: Report, numbers: dict[str, int]) -> list[Any]:
     """Returns a report as a row for the page's script."""
     name = "" if report.id is None else cut(report.id)
-    return [numbers[report.file], report.line, report.byte, report.code, name,
-            *near(report)]
+    return [numbers[report.file], report.line, report.byte, report.code, name, *near(report)]
 
 
-def data_of(reports: Sequence[Report], files: Sequence[File], room: int) -> Tuple[str, int]:
+def data_of(reports: Sequence[Report], files: Sequence[File], room: int) -> tuple[str, int]:
     """Returns the table of reports as JSON for a page, and how many reports are in it. They are as
     many as fit into `room` bytes."""
-    numbers, names, rows = {}, [], []  # type: Tuple[Dict[str, int], List[str], List[str]]
+    numbers, names, rows = {}, [], []  # type: tuple[dict[str, int], list[str], list[str]]
     for report in reports:
         if report.file not in numbers:
             numbers[report.file] = len(names)
@@ -154,7 +155,7 @@ def _sum(text: str) -> str:
     return f"'sha256-{base64.b64encode(digest).decode()}'"
 
 
-def _bars(counts: Dict[Any, int], whole: int) -> List[Tuple[Any, int, float]]:
+def _bars(counts: dict[Any, int], whole: int) -> list[tuple[Any, int, float]]:
     """Returns the rows of a bar chart: name, count, and how long the bar is in percent."""
     return [(name, count, round(100 * count / whole, 2)) for name, count in counts.items()]
 
@@ -167,9 +168,9 @@ def _code(text: str) -> Any:
     return markup.Markup("").join(code(part) if n % 2 else part for n, part in enumerate(parts))
 
 
-def _maps(delivery: Delivery) -> List[Tuple[Any, Map]]:
+def _maps(delivery: Delivery) -> list[tuple[Any, Map]]:
     """Returns the areas that have a place, and a map of each."""
-    found: List[Tuple[Any, Map]] = []
+    found: list[tuple[Any, Map]] = []
     room = MAP_BYTES
     for area in [area for area in delivery.areas if area.features or area.spots][:MOST_MAPS]:
         name = f"map-{len(found)}"
@@ -182,7 +183,7 @@ def _maps(delivery: Delivery) -> List[Tuple[Any, Map]]:
     return found
 
 
-def _extents(file: File) -> Iterator[Tuple[str, str, str]]:
+def _extents(file: File) -> Iterator[tuple[str, str, str]]:
     """Yields each axis with its least and greatest world coordinate."""
     for axis, extent in zip("xyz", file.extent):
         if extent is not None:
@@ -193,22 +194,41 @@ def html(delivery: Delivery) -> str:
     """Returns the page."""
     jinja2, markup = needed("jinja2"), needed("markupsafe").Markup
     environment = jinja2.Environment(
-        loader=jinja2.FunctionLoader(_read), autoescape=True, undefined=jinja2.StrictUndefined,
-        trim_blocks=True, lstrip_blocks=True,
+        loader=jinja2.FunctionLoader(_read),
+        autoescape=True,
+        undefined=jinja2.StrictUndefined,
+        trim_blocks=True,
+        lstrip_blocks=True,
     )
     environment.filters.update(
-        cut=cut, size=size, count="{:,}".format, plain=plain, power=size_of_power, code=_code)
-    environment.globals.update(counted=counted, share=share, split_at=split_at, near=near,
-                               bars=_bars, extents=_extents, words=WORDS)
+        cut=cut, size=size, count="{:,}".format, plain=plain, power=size_of_power, code=_code
+    )
+    environment.globals.update(
+        counted=counted,
+        share=share,
+        split_at=split_at,
+        near=near,
+        bars=_bars,
+        extents=_extents,
+        words=WORDS,
+    )
     script, style = _read("page.js"), _read("page.css")
     contents = delivery.contents
     given = {
-        "delivery": delivery, "contents": contents, "verdict": verdict_of(delivery),
-        "worst": worst(delivery), "files": by_verdict(delivery.files),
-        "maps": _maps(delivery), "script": markup(script), "style": markup(style),
-        "script_sum": markup(_sum(script)), "style_sum": markup(_sum(style)),
+        "delivery": delivery,
+        "contents": contents,
+        "verdict": verdict_of(delivery),
+        "worst": worst(delivery),
+        "files": by_verdict(delivery.files),
+        "maps": _maps(delivery),
+        "script": markup(script),
+        "style": markup(style),
+        "script_sum": markup(_sum(script)),
+        "style_sum": markup(_sum(style)),
         "lengths": markup(histogram(contents.lengths, "lengths")) if contents.lengths else "",
-        "detailed": MOST_DETAILED, "most_files": MOST_FILES, "static_rows": STATIC_ROWS,
+        "detailed": MOST_DETAILED,
+        "most_files": MOST_FILES,
+        "static_rows": STATIC_ROWS,
     }
     template = environment.get_template("page.html")
     room = MOST_BYTES - len(template.render(data="", in_page=0, **given).encode("utf-8"))

@@ -3,22 +3,24 @@ from __future__ import annotations
 
 import os
 import time
+from collections.abc import Callable, Sequence
 from contextlib import closing
 from dataclasses import dataclass
 from functools import partial
-from typing import TYPE_CHECKING, Any, Callable, List, Optional, Sequence, Tuple
+from typing import TYPE_CHECKING, Any
 
 from .. import __version__
 from ..engine.faults import RequestError, WriteFault
-from ..indexes.index_run import by_threads, is_special
-from ..sources.outputs import Writer, part_of
 from ..engine.query import Work
-from ..sources.file_state import sha256_of, time_now
+from ..indexes.index_run import by_threads, is_special
+from ..run.pool import Job, Pool
 from ..run.results import Result
 from ..run.streams import usual_jobs
+from ..sources.file_state import sha256_of, time_now
+from ..sources.outputs import Writer, part_of
+from ..sources.parts import expanded
 from ..sources.same_file import refuse_same
 from ..sources.source import is_path, size_of
-from ..run.pool import Job, Pool
 from .extras import need_all, needed
 from .facts import Delivery, Run
 
@@ -43,14 +45,16 @@ class How:
         words: What the page says about how it was made.
         progress: Is called with a file, and how many bytes of it were done since the call before.
         take: Is called with the result of each file.
+        whole: Whether the files are whole CityJSON files. None: their names say it.
     """
 
-    jobs: Optional[int] = None
-    size: Optional[int] = None
-    title: Optional[str] = None
+    jobs: int | None = None
+    size: int | None = None
+    title: str | None = None
     words: str = "cityseq.report"
-    progress: Optional[Callable[[str, int], None]] = None
+    progress: Callable[[str, int], None] | None = None
     take: Callable[[Result], None] = _nothing
+    whole: bool | None = None
 
 
 def of_bytes(progress: Callable[[int], None]) -> Callable[[str, int], None]:
@@ -58,14 +62,14 @@ def of_bytes(progress: Callable[[int], None]) -> Callable[[str, int], None]:
     return lambda _, size: progress(size)
 
 
-def checked(paths: Any, output: Any) -> Tuple[List[str], Optional[str]]:
+def checked(paths: Any, output: Any) -> tuple[list[str], str | None]:
     """Returns the paths of the files and of the page.
 
     Raises:
         RequestError: No path is given. One is not a path, or is that of a device or a pipe.
     """
     listed = [paths] if isinstance(paths, (str, bytes, os.PathLike)) else list(paths)
-    for path in listed:
+    for path in (listed := expanded(listed)):
         if not is_path(path) or is_special(path):
             raise RequestError(f"a report is about regular files by their paths: {path!r} is none")
     named = [os.fsdecode(path) for path in listed]
@@ -83,7 +87,7 @@ class Hashes:
 
     def __init__(self, names: Sequence[str]) -> None:
         self._crew, self._is_stopped = Pool(HASHES), False
-        self._jobs: List[Job[Optional[str]]] = [
+        self._jobs: list[Job[str | None]] = [
             self._crew.submit(partial(sha256_of, name, lambda: self._is_stopped)) for name in names
         ]
 
@@ -94,7 +98,7 @@ class Hashes:
         self._is_stopped = True
         self._crew.__exit__()
 
-    def of(self, number: int) -> Optional[str]:
+    def of(self, number: int) -> str | None:
         """Returns the SHA-256 of a file. None if it cannot be read."""
         return self._jobs[number].result()
 
@@ -158,17 +162,14 @@ def report(paths: Any, output: Any, work: Work, how: How) -> Delivery:
 
 
 def _survey(
-    delivery: Delivery, names: Sequence[str], work: Work, how: How, lists: "Optional[Lists]"
+    delivery: Delivery, names: Sequence[str], work: Work, how: How, lists: "Lists | None"
 ) -> None:
     """Judges the files, and fills the facts of a delivery."""
     from .survey import Survey, Surveyed
 
     clock = time.monotonic()
     with Survey(names, lists) as survey, Hashes(names) as hashes:
-        surveyed = (
-            Surveyed(number, name, work, survey, how)
-            for number, name in enumerate(names)
-        )
+        surveyed = (Surveyed(number, name, work, survey, how) for number, name in enumerate(names))
         for file in survey.files:
             file.size = _size(file.name)
         with closing(by_threads(surveyed, how.jobs)) as results:
@@ -184,12 +185,12 @@ def _survey(
     delivery.run.seconds = time.monotonic() - clock
 
 
-def _size(name: str) -> Optional[int]:
+def _size(name: str) -> int | None:
     try:
         return size_of(name)
     except OSError:
         return None
 
 
-def _title(page: Optional[str]) -> str:
+def _title(page: str | None) -> str:
     return os.path.splitext(os.path.basename(page))[0] if page else "delivery"

@@ -4,29 +4,20 @@ from __future__ import annotations
 
 import json
 from bisect import bisect_right
+from collections.abc import Callable, Iterable, Iterator, Sequence
 from contextlib import ExitStack, suppress
 from dataclasses import dataclass, field, replace
 from decimal import DecimalException
 from functools import partial
 from itertools import chain, groupby
-from typing import (
-    TYPE_CHECKING,
-    Any,
-    Callable,
-    Dict,
-    Iterable,
-    Iterator,
-    List,
-    Optional,
-    Sequence,
-    Tuple,
-)
+from typing import TYPE_CHECKING, Any
 
+from ..convert import stream_of
 from ..engine.judge import Answer, judge, refused_memory
 from ..engine.library import Text, library
 from ..engine.query import Work
 from ..engine.records import IdsOf, Records, spelled_ids
-from ..engine.reports import Invalid, Report
+from ..engine.reports import TOO_LONG, Invalid, Report
 from ..engine.structs import LOD_CLASSES
 from ..engine.tally import Range
 from ..engine.world import box_of, extent_of, read_json
@@ -34,13 +25,12 @@ from ..indexes.geopackage import system_of
 from ..indexes.vectors import AXES, RECORD
 from ..run.results import Result
 from ..run.streams import Stream
-from ..sources.chunks import Chunk
+from ..sources.chunks import TAIL, Chunk
 from .areas import Place
 from .extras import needed
 from .facts import Area, Contents, File, Named, Point, Reasons, Repeated
-from .id_hashes import Hash, Hashed
 from .lists import Lists
-from .repeated import Ids, text_of
+from .repeated import Hash, Hashed, Ids, text_of
 
 if TYPE_CHECKING:
     from .report_run import How
@@ -51,7 +41,7 @@ TOGETHER = 8_192  # records that are taken at once: a part may have only a few
 MANY = 256  # features of a part whose ids are hashed by the thread that judges it
 MOST_REPORTS = 10_000  # reports that are kept for the table in the page
 NEAR_THE_END = 16 << 20  # bytes at the end of an invalid line that are searched for vertices
-Ranges = Tuple[Range, Range, Range]
+Ranges = tuple[Range, Range, Range]
 
 
 # ---- where invalid features are
@@ -62,10 +52,10 @@ class Marked(Answer):
     """The answer for some lines, with the middle of the vertices of each invalid feature. A feature
     that cannot be read has none."""
 
-    middles: List[Point] = field(default_factory=list)
+    middles: list[Point] = field(default_factory=list)
 
 
-def middle_of(line: bytes) -> Optional[Point]:
+def middle_of(line: bytes) -> Point | None:
     """Returns the middle of the vertices of a feature, as the numbers in its line. It is the median
     of x and of y, because one wrong vertex hardly moves these. None if they cannot be read."""
     begin = line.rfind(b'"vertices"', -NEAR_THE_END)
@@ -83,14 +73,15 @@ def middle_of(line: bytes) -> Optional[Point]:
 def middles_of(invalid: Iterable[Invalid]) -> Iterator[Point]:
     """Yields the middle of each invalid feature that has one."""
     for lines in invalid:
-        for (line, _, _), content in lines.contents():
-            middle = middle_of(content) if line > 1 else None
+        for (line, _, code), content in lines.contents():
+            text = content[-TAIL:] if code == TOO_LONG else content
+            middle = middle_of(text) if line > 1 else None
             if middle is not None:
                 yield middle
 
 
 def marked(
-    chunk: Chunk, work: Work, size: Optional[int], ids_of: IdsOf, is_marked: Callable[[], bool]
+    chunk: Chunk, work: Work, size: int | None, ids_of: IdsOf, is_marked: Callable[[], bool]
 ) -> Answer:
     """Returns the answer for a chunk, with the middles of its invalid features. The middles are
     left out if the map has enough of them."""
@@ -118,16 +109,16 @@ class Entry:
 
     number: int
     place: Place
-    scale: List[Any]
-    translate: List[Any]
-    reference_system: Optional[str]
+    scale: list[Any]
+    translate: list[Any]
+    reference_system: str | None
     types: Any = field(default_factory=_zeros)
     lods: Any = field(default_factory=_zeros)
     lengths: Any = field(default_factory=_zeros)
     features: int = 0
     longest: int = 0
     ranges: Ranges = (None, None, None)
-    waiting: List[Tuple[Records, int]] = field(default_factory=list)  # with ids as `ids_of` has
+    waiting: list[tuple[Records, int]] = field(default_factory=list)  # with ids as `ids_of` has
     waits: int = 0
 
     def world(self, axis: int, vertices: Any) -> Any:
@@ -148,11 +139,17 @@ class Entry:
             return
         x, y, z = (_wider(before, some, axis) for before, axis in zip(self.ranges, AXES))
         self.ranges = x, y, z
-        ends = [[self.world(n, some[f"{AXES[n]}{edge}"]) for edge in ("min", "max")]
-                for n in (0, 1)]
+        ends = [
+            [self.world(n, some[f"{AXES[n]}{edge}"]) for edge in ("min", "max")] for n in (0, 1)
+        ]
         across, along = ((np.minimum(*axis), np.maximum(*axis)) for axis in ends)
-        self.place.add(across[0], across[1], along[0], along[1],
-                       lambda n, middle: named(int(numbers[n]), middle))
+        self.place.add(
+            across[0],
+            across[1],
+            along[0],
+            along[1],
+            lambda n, middle: named(int(numbers[n]), middle),
+        )
 
     def contents(self) -> Contents:
         """Returns the contents of the features."""
@@ -176,8 +173,9 @@ def _bits(sets: Any) -> Any:
 def _wider(before: Range, records: Any, axis: str) -> Range:
     """Returns the least range that has a range and those of records in it."""
     least, greatest = int(records[f"{axis}min"].min()), int(records[f"{axis}max"].max())
-    return (least, greatest) if before is None else (
-        min(least, before[0]), max(greatest, before[1]))
+    return (
+        (least, greatest) if before is None else (min(least, before[0]), max(greatest, before[1]))
+    )
 
 
 # ---- the delivery
@@ -186,12 +184,12 @@ def _wider(before: Range, records: Any, axis: str) -> Range:
 class Survey:
     """Takes the results of all files, in order. Leaving a `with` block closes it."""
 
-    def __init__(self, names: Sequence[str], lists: Optional[Lists]) -> None:
+    def __init__(self, names: Sequence[str], lists: Lists | None) -> None:
         self.files = [File(name) for name in names]
         self.reasons = Reasons()
-        self.reports: List[Report] = []
+        self.reports: list[Report] = []
         self._lists = lists
-        self._places: Dict[Optional[str], Place] = {}
+        self._places: dict[str | None, Place] = {}
         self._stack = ExitStack()
         self._ids, self._hash = self._stack.enter_context(Ids()), Hash()
 
@@ -241,7 +239,7 @@ class Survey:
         found = np.frombuffer(b"".join([records.raw for records, _ in waiting]), RECORD)
         counts = [len(records.ids) for records, _ in waiting]
         lines = found["line"] + np.repeat(np.array([lines for _, lines in waiting], "i8"), counts)
-        ends: List[int] = []
+        ends: list[int] = []
         groups = list(self._hashed([records.ids for records, _ in waiting]))
         for ids in groups:
             begin = ends[-1] if ends else 0
@@ -265,11 +263,9 @@ class Survey:
                 spellings = list(chain.from_iterable(group))
                 yield self._hash.of_spellings(spellings)
 
-    def mark(self, entry: Entry, middles: List[Point]) -> None:
+    def mark(self, entry: Entry, middles: list[Point]) -> None:
         """Takes the middles of invalid features, as vertices of the file."""
-        entry.place.mark([
-            (float(entry.world(0, x)), float(entry.world(1, y))) for x, y in middles
-        ])
+        entry.place.mark([(float(entry.world(0, x)), float(entry.world(1, y))) for x, y in middles])
 
     def report(self, report: Report) -> None:
         """Takes a report.
@@ -283,7 +279,7 @@ class Survey:
         if self._lists is not None:
             self._lists.add(report)
 
-    def end(self, number: int, result: Result, entry: Optional[Entry]) -> None:
+    def end(self, number: int, result: Result, entry: Entry | None) -> None:
         """Takes the result of a file."""
         file = self.files[number]
         file.status, file.fault = result.status, result.fault
@@ -306,7 +302,7 @@ class Survey:
         """Returns the ids that appear twice or more."""
         return self._ids.repeated([file.name for file in self.files])
 
-    def areas(self) -> List[Area]:
+    def areas(self) -> list[Area]:
         """Returns the area of each coordinate system, that with the most features first."""
         found = [place.area() for place in self._places.values()]
         return sorted(found, key=lambda area: -area.features)
@@ -318,11 +314,11 @@ class Surveyed:
     def __init__(self, number: int, path: str, work: Work, survey: Survey, how: "How") -> None:
         """Takes the number of the file, from 0, and the options of the run."""
         self._number, self._survey = number, survey
-        self._entry: Optional[Entry] = None
+        self._entry: Entry | None = None
         progress = None if how.progress is None else partial(how.progress, path)
         records = replace(work, kind="records")
         self.stream = Stream(
-            path,
+            stream_of(path, how.whole),
             records,
             how.size,
             None,

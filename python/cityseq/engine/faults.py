@@ -3,7 +3,7 @@ that the program `cityseq` ends with."""
 from __future__ import annotations
 
 import enum
-from typing import Any, Optional, Type, TypeVar
+from typing import Any, TypeVar
 
 Fault = TypeVar("Fault", bound="CityseqError")
 READ_FAULTS = (OSError, EOFError, ValueError)  # what a read may raise
@@ -35,9 +35,7 @@ class CityseqError(Exception):
 
     status = Status.BAD_REQUEST
 
-    def __init__(
-        self, words: str, result: Optional[Any] = None, file: Optional[str] = None
-    ) -> None:
+    def __init__(self, words: str, result: Any | None = None, file: str | None = None) -> None:
         super().__init__(words)
         self.words, self.result, self.file = words, result, file
 
@@ -48,7 +46,7 @@ class CityseqError(Exception):
         return type(self), (self.words, self.result, self.file), {"__cause__": self.__cause__}
 
     @classmethod
-    def of(cls: Type[Fault], what: str, cause: BaseException, file: Optional[str]) -> Fault:
+    def of(cls: type[Fault], what: str, cause: BaseException, file: str | None) -> Fault:
         """Returns the fault for an error of the system: what failed, and why."""
         fault = cls(f"{what}: {why(cause)}", None, file)
         fault.__cause__ = cause
@@ -109,7 +107,7 @@ def why(fault: BaseException) -> str:
     return " ".join(str(told).split())
 
 
-def read_fault(cause: BaseException, file: Optional[str]) -> ReadFault:
+def read_fault(cause: BaseException, file: str | None) -> ReadFault:
     """Returns the fault of a read with this cause."""
     if isinstance(cause, ReadFault):
         return cause
@@ -117,6 +115,6 @@ def read_fault(cause: BaseException, file: Optional[str]) -> ReadFault:
     return kind.of("read fault", cause, file)
 
 
-def write_fault(cause: BaseException, file: Optional[str]) -> WriteFault:
+def write_fault(cause: BaseException, file: str | None) -> WriteFault:
     """Returns the fault of a write with this cause."""
     return cause if isinstance(cause, WriteFault) else WriteFault.of("write fault", cause, file)

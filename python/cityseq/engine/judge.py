@@ -17,11 +17,11 @@ from .library import Text, library
 from .query import Work
 from .reports import Described, Invalid, Report, report_of_end
 from .structs import CallStatus, RawAnswer
-from .tally import Tally
 
 if TYPE_CHECKING:
     from ..sources.chunks import Chunk
     from .records import IdsOf, Records
+    from .tally import Tally
 
 SMALL = 1 << 19  # bytes that are judged by one call: they stay in the processor's cache
 HEADERS = 4  # a part is at least this many times as long as the header
@@ -164,6 +164,8 @@ def _call(
         answer, reports, output = library().filter(header, part, request, room)
         return Answer(answer, length, output=[output]), reports
     if work.kind == "info":
+        from .tally import Tally  # few runs need it
+
         answer, reports, tally = library().tally(header, part, request, room)
         return Answer(answer, length, tally=Tally(tally)), reports
     answer, reports = library().check(header, part, request, room)
@@ -209,9 +211,7 @@ def judge_lines(
     return answer
 
 
-def judge(
-    chunk: Chunk, work: Work, size: int | None = None, ids_of: IdsOf | None = None
-) -> Answer:
+def judge(chunk: Chunk, work: Work, size: int | None = None, ids_of: IdsOf | None = None) -> Answer:
     """Judges a chunk of a stream, in parts of the given size, or as long as suits the work.
     `ids_of` reads the ids of records, as their lines spell them if it is None."""
     joined = Answer(parts=0)

@@ -181,9 +181,14 @@ _lock = threading.Lock()
 _loaded: Library | None = None
 
 
-def _load() -> Library:
+def library_path() -> str:
+    """Returns the path of the library."""
     package = os.path.dirname(os.path.dirname(os.path.abspath(__file__)))
-    path = os.environ.get("CITYSEQ_LIBRARY") or os.path.join(package, "libcityseq.so")
+    return os.environ.get("CITYSEQ_LIBRARY") or os.path.join(package, "libcityseq.so")
+
+
+def _load() -> Library:
+    path = library_path()
     if not os.path.isfile(path):
         raise LibraryMissing(
             f"there is no library {path}: build it, and put it there or name it by CITYSEQ_LIBRARY"

@@ -4,7 +4,8 @@ from __future__ import annotations
 
 import json
 import re
-from typing import Any, Callable, Dict, Iterator, List, Optional, Tuple
+from collections.abc import Callable, Iterator
+from typing import Any
 
 from .escape import quoted
 
@@ -22,8 +23,8 @@ SECOND_HEADER = (
     "the line is a second header, as where two streams were joined: remove it if both headers have"
     " the same transform, and else keep the streams apart"
 )
-Needs = Tuple[
-    str, Dict[str, Any], Tuple[str, ...]
+Needs = tuple[
+    str, dict[str, Any], tuple[str, ...]
 ]  # what an object is, the object, and the members that it needs
 
 
@@ -31,28 +32,28 @@ def _decoded(text: bytes) -> Any:
     return json.loads(text.decode("utf-8"))
 
 
-def _string_at(line: bytes, place: int) -> Optional[str]:
+def _string_at(line: bytes, place: int) -> str | None:
     """Returns the string at a place, with its escapes undone."""
     found = STRING.match(line, place)
     return _decoded(found.group()) if found else None
 
 
-def _name_before(line: bytes, place: int) -> Optional[str]:
+def _name_before(line: bytes, place: int) -> str | None:
     """Returns the name of the member whose value is at a place."""
     found = NAME_BEFORE.search(line[max(0, place - VALUE) : place])
     return _decoded(found.group(1)) if found else None
 
 
-def _word_at(line: bytes, place: int) -> Optional[str]:
+def _word_at(line: bytes, place: int) -> str | None:
     found = WORD.match(line, place, place + VALUE)
     return found.group().decode("ascii") if found else None
 
 
-def _list(value: Any) -> List[Any]:
+def _list(value: Any) -> list[Any]:
     return value if isinstance(value, list) else []
 
 
-def _members(value: Any) -> Dict[str, Any]:
+def _members(value: Any) -> dict[str, Any]:
     return value if isinstance(value, dict) else {}
 
 
@@ -68,7 +69,7 @@ def _of_geometry(geometry: Any) -> Iterator[Needs]:
         yield "the semantic surface", _members(surface), ("type",)
 
 
-def _of_header(root: Dict[str, Any]) -> Iterator[Needs]:
+def _of_header(root: dict[str, Any]) -> Iterator[Needs]:
     yield "the header", root, ("type", "version", "transform", "CityObjects", "vertices")
     yield "transform", _members(root.get("transform")), ("scale", "translate")
     templates = _members(root.get("geometry-templates"))
@@ -77,7 +78,7 @@ def _of_header(root: Dict[str, Any]) -> Iterator[Needs]:
         yield from _of_geometry(geometry)
 
 
-def _of_feature(root: Dict[str, Any]) -> Iterator[Needs]:
+def _of_feature(root: dict[str, Any]) -> Iterator[Needs]:
     yield "the feature", root, ("type", "id", "CityObjects", "vertices")
     for name, told in _members(root.get("CityObjects")).items():
         kind = _members(told).get("type")
@@ -90,7 +91,7 @@ def _of_feature(root: Dict[str, Any]) -> Iterator[Needs]:
             yield from _of_geometry(geometry)
 
 
-def _missing(line: bytes, place: int, is_header: bool) -> Optional[str]:
+def _missing(line: bytes, place: int, is_header: bool) -> str | None:
     """Describes which member the object at a place lacks. It reads the whole line, because the
     place alone does not show what the object is."""
     root = _decoded(line)
@@ -104,43 +105,43 @@ def _missing(line: bytes, place: int, is_header: bool) -> Optional[str]:
     return None
 
 
-def _kind(line: bytes, place: int, _: bool) -> Optional[str]:
+def _kind(line: bytes, place: int, _: bool) -> str | None:
     sign, name = chr(line[place]), _name_before(line, place)
     what = "an item of a list" if name is None else f"the value of {quoted(name)}"
     return f"{what} is {KINDS.get(sign, 'a number')}"
 
 
-def _string(words: str) -> Callable[[bytes, int, bool], Optional[str]]:
+def _string(words: str) -> Callable[[bytes, int, bool], str | None]:
     """Returns a function that describes the string at a place with these words."""
 
-    def told(line: bytes, place: int, _: bool) -> Optional[str]:
+    def told(line: bytes, place: int, _: bool) -> str | None:
         text = _string_at(line, place)
         return None if text is None else words.format(quoted(text))
 
     return told
 
 
-def _value(words: str) -> Callable[[bytes, int, bool], Optional[str]]:
+def _value(words: str) -> Callable[[bytes, int, bool], str | None]:
     """Returns a function that describes the number at a place with these words."""
 
-    def told(line: bytes, place: int, _: bool) -> Optional[str]:
+    def told(line: bytes, place: int, _: bool) -> str | None:
         word = _word_at(line, place)
         return None if word is None else words.format(word)
 
     return told
 
 
-def _owner(words: str) -> Callable[[bytes, int, bool], Optional[str]]:
+def _owner(words: str) -> Callable[[bytes, int, bool], str | None]:
     """Returns a function that describes the city object at a place with these words."""
 
-    def told(line: bytes, place: int, _: bool) -> Optional[str]:
+    def told(line: bytes, place: int, _: bool) -> str | None:
         name = _name_before(line, place)
         return None if name is None else words.format(quoted(name))
 
     return told
 
 
-def _object_type(line: bytes, place: int, _: bool) -> Optional[str]:
+def _object_type(line: bytes, place: int, _: bool) -> str | None:
     text = _string_at(line, place)
     if text is None:
         return None
@@ -152,7 +153,7 @@ def _object_type(line: bytes, place: int, _: bool) -> Optional[str]:
     return f"the type is {quoted(text)}" + (f": is {near[0]} meant?" if near else "")
 
 
-READERS: Dict[int, Callable[[bytes, int, bool], Optional[str]]] = {
+READERS: dict[int, Callable[[bytes, int, bool], str | None]] = {
     10: _missing,
     11: _string("the name is {}"),
     12: _kind,
@@ -173,7 +174,7 @@ READERS: Dict[int, Callable[[bytes, int, bool], Optional[str]]] = {
 }
 
 
-def met(line: bytes, place: int, code: int, is_header: bool) -> Optional[str]:
+def met(line: bytes, place: int, code: int, is_header: bool) -> str | None:
     """Describes what is at the place of a broken rule. Returns None if it cannot be read."""
     read = READERS.get(code)
     if read is None or not place < len(line) <= LONGEST:

@@ -29,7 +29,7 @@ USUAL_BEGIN = re.compile(
 
 @dataclass(frozen=True)
 class Explanation:
-    """What a reason means, and how a producer of data fixes it, as in docs/REASONS.md."""
+    """What a reason means, and how a producer of data fixes it, as in docs/RULES.md."""
 
     code: int
     text: str
@@ -204,21 +204,24 @@ class Invalid:
         return [code for _, _, _, code in RAW.iter_unpack(self.raw)]
 
     def contents(self) -> Iterator[tuple[tuple[int, int, int], bytes]]:
-        """Yields line, byte and code of each report, and the content of its line."""
+        """Yields line, byte and code of each report, and the content of its line. Some bytes of a
+        line that is too long may be missing after that byte."""
         for line, begin, place, code in RAW.iter_unpack(self.raw):
-            yield (line, place, code), self._content(begin, place, code)
+            yield (line, place, code), self._content(begin, None)
 
-    def _content(self, begin: int, place: int, code: int) -> bytes:
+    def _content(self, begin: int, most: int | None) -> bytes:
+        """Returns the content of the line that begins here, or its first bytes."""
         length = len(self.header)
         text, left = (self.header, 0) if begin < length else (self.part, begin - length)
-        if code == TOO_LONG:  # the rest of the line may not have been read
-            return bytes(text[left : left + place + 1])
+        if most is not None:
+            return bytes(text[left : left + most])
         end = text.find(b"\n", left)
         return bytes(text[left : end if end >= 0 else len(text)])
 
     def __iter__(self) -> Iterator[Report]:
-        for numbers, content in self.contents():
-            yield Report.of_line(self.file, numbers, content).moved(self.lines)
+        for line, begin, place, code in RAW.iter_unpack(self.raw):
+            content = self._content(begin, place + 1 if code == TOO_LONG else None)
+            yield Report.of_line(self.file, (line, place, code), content).moved(self.lines)
 
     def moved(self, lines: int) -> Invalid:
         """Returns the same lines with `lines` added to their numbers."""

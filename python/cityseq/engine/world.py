@@ -5,9 +5,10 @@ from __future__ import annotations
 import decimal
 import json
 import sys
-from collections.abc import Iterable, Iterator
+from collections.abc import Callable, Iterable, Iterator
 from decimal import Decimal
-from typing import Any
+from functools import partial
+from typing import Any, TypeVar
 
 from .tally import Range
 
@@ -15,7 +16,8 @@ Extent = tuple[Decimal, Decimal] | None
 UNITS, GREATEST = -18, Decimal(10) ** 18  # a box takes multiples of 10^-18, below 10^18 in size
 DIGITS = 200  # of a world coordinate, at most
 ENOUGH = 800  # digits: more than a number in the middle between two floats has
-NESTED = 1_100  # more arrays and objects than a header may have open at once
+NESTED = 1_100  # more arrays and objects than a line may have open at once
+Value = TypeVar("Value")
 
 
 def exact_number(spelling: str) -> Decimal:
@@ -28,17 +30,23 @@ def exact_number(spelling: str) -> Decimal:
         return Decimal("NaN") if digits.strip("-0.") else Decimal()
 
 
-def read_json(text: str) -> Any:
-    """Reads JSON with exact numbers. A valid header may be deeper than Python reads by itself."""
+def deep(read: Callable[[], Value]) -> Value:
+    """Returns what a reader of JSON returns. A valid line may be deeper than Python reads by
+    itself."""
     try:
-        return json.loads(text, parse_float=exact_number, parse_int=exact_number)
+        return read()
     except RecursionError:
         limit = sys.getrecursionlimit()
         sys.setrecursionlimit(limit + NESTED)
         try:
-            return json.loads(text, parse_float=exact_number, parse_int=exact_number)
+            return read()
         finally:
             sys.setrecursionlimit(limit)
+
+
+def read_json(text: str) -> Any:
+    """Reads JSON with exact numbers."""
+    return deep(partial(json.loads, text, parse_float=exact_number, parse_int=exact_number))
 
 
 def transform_of(header: bytes) -> tuple[list[Decimal], list[Decimal]]:

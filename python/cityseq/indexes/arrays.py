@@ -17,7 +17,7 @@ def _vectors() -> Any:
     return vectors
 
 
-def vectors_for(count: int) -> Any:
-    """Returns the module `vectors` for so many rows. None if they are few, or if numpy is not
-    installed."""
-    return _vectors() if count >= MANY else None
+def vectors_for(count: int, many: int = MANY) -> Any:
+    """Returns the module `vectors` for so many rows. None if they are fewer than `many`, or if
+    numpy is not installed."""
+    return _vectors() if count >= many else None

@@ -8,6 +8,7 @@ import sqlite3
 from contextlib import contextmanager, suppress
 from dataclasses import dataclass, field
 from functools import lru_cache
+from itertools import repeat
 from typing import (
     Any,
     Callable,
@@ -21,33 +22,27 @@ from typing import (
     Tuple,
 )
 
-from . import columns, geopackage, id_table
-from ..engine.library import library
-from ..engine.structs import LOD_CLASSES
-from .arrays import vectors_for
-from .bulk import Column, Same, insert, same_if_equal
-from .columns import NOWHERE, Ranges
 from ..engine.extents import World, wider
 from ..engine.faults import WriteFault, write_fault
-from .full_disk import database_fault
-from .geopackage import (
-    MOST_FEATURES,
-    TREE,
-    UNDEFINED,
-    geometry_start,
-    readable,
-    system_of,
-)
-from ..sources.outputs import Part, target_of
+from ..engine.library import library
 from ..engine.query import Work
-from ..engine.records import Records, stored, stored_as_columns
-from .replacement import replaceable
+from ..engine.records import Column, Records, Same, same_if_equal, stored, stored_as_columns
 from ..engine.reports import Report
-from .rtree import ROW, Tree
-from ..run.results import Result
-from .sorting import Sorter
-from ..sources.source import State
+from ..engine.structs import LOD_CLASSES
 from ..engine.world import read_json
+from ..run.results import Result
+from ..sources.outputs import Part, checked_output, target_of
+from ..sources.source import State, is_url
+from . import columns, footprints, geopackage, id_table
+from .arrays import vectors_for
+from .blocks import Blocks
+from .bulk import insert
+from .columns import NOWHERE, Ranges
+from .full_disk import database_fault
+from .geopackage import MOST_FEATURES, TREE, UNDEFINED, geometry_start, readable, system_of
+from .replacement import replaceable
+from .rtree import ROW, Tree
+from .sorting import Sorter
 
 PAGE = 1 << 14  # bytes of a page of the database: small ones leave more of them unused
 CACHE = 8 << 20  # bytes of the database that are in memory
@@ -73,12 +68,14 @@ class File(NamedTuple):
         packing: How it is packed, by the word that the index uses.
         state: Its size and time.
         content: Its hash.
+        blocks: Its blocks, if it is packed by BGZF.
     """
 
     path: str
     packing: Optional[str]
     state: State
     content: str
+    blocks: Optional[Blocks] = None
 
 
 @dataclass
@@ -160,13 +157,14 @@ def _named(sets: Column, names: Callable[[int], str]) -> Column:
 class Builder:
     """Writes an index to `.NAME.*.part`, and renames it when it is whole."""
 
-    def __init__(self, path: str) -> None:
-        """Takes the name of the index. It opens no file.
+    def __init__(self, path: str, has_footprints: bool = False) -> None:
+        """Takes the name of the index, and whether it has footprints. It opens no file.
 
         Raises:
+            RequestError: The name is empty.
             WriteFault: An index cannot have this name.
         """
-        self.name, self._fid = path, 0
+        self.name, self.has_footprints, self._fid = checked_output(path), has_footprints, 0
         self._systems: Set[int] = set()  # of coordinates
         self._opened: Optional[sqlite3.Connection] = None
         self._usual: Optional[Tuple[Any, ...]] = None  # the uniform columns of the first feature
@@ -209,6 +207,8 @@ class Builder:
                 self._base.execute(f"PRAGMA {setting}")
             self._base.execute("BEGIN")
             geopackage.create(self._base)
+            if self.has_footprints:
+                self._base.execute(footprints.TABLE)
 
     def begin(self, number: int, header: bytes) -> Entry:
         """Begins the next stream, whose header is valid."""
@@ -220,7 +220,9 @@ class Builder:
         Raises:
             WriteFault: They cannot be written.
         """
-        numbers = range(self._fid + 1, self._fid + 1 + len(records.ids))
+        grounded: Any = records.ids
+        ids = grounded.ids if isinstance(grounded, footprints.Grounded) else grounded
+        numbers = range(self._fid + 1, self._fid + 1 + len(ids))
         if numbers.stop > MOST_FEATURES:
             raise WriteFault(f"write fault: more than {MOST_FEATURES:,} features", None, self.name)
         self._fid += len(numbers)
@@ -228,7 +230,7 @@ class Builder:
             records, lines, numbers, entry.world, geometry_start(entry.system)
         )
         entry.widen(made.ranges)
-        names, exact, hashes = stored_as_columns(records.ids)
+        names, exact, hashes = stored_as_columns(ids)
         geometry, zmin, zmax = (
             _filled(column, made.has_place) for column in (made.geometry, made.zmin, made.zmax)
         )
@@ -242,6 +244,13 @@ class Builder:
             Same(entry.number),
             exact,
         )
+        if isinstance(grounded, footprints.Grounded):
+            geometry = geometry if isinstance(geometry, Same) else list(geometry)
+            boxes = repeat(geometry.value) if isinstance(geometry, Same) else geometry
+            pairs = zip(grounded.footprints, map(footprints.of_box, boxes))
+            grounds = [one or box for one, box in pairs]
+            with telling_of(self.name):
+                insert(self._base, geopackage.FOOTPRINTS, numbers, grounds)
         others = (numbers, geometry, made.line, made.begin, made.length, names)
         with telling_of(self.name):
             insert(self._base, "features", *others, *self._stored(uniform))
@@ -306,6 +315,8 @@ class Builder:
         )
         with telling_of(self.name):
             self._base.execute(f"INSERT INTO streams VALUES ({','.join('?' * len(row))})", row)
+            if file.blocks is not None:
+                file.blocks.write(self._base, entry.number)
 
     def finish(self, work: Work, program: str) -> None:
         """Writes the rest, and gives the file its name.
@@ -339,10 +350,11 @@ class Builder:
         if len(self._systems) == 1:
             return next(iter(self._systems))
         if len(self._systems) > 1:
-            start = geometry_start(UNDEFINED)
+            start = geometry_start(UNDEFINED)[:8]
             moved: Callable[[bytes], bytes] = lambda geom: start + geom[len(start) :]
             self._base.create_function("moved", 1, moved)
-            self._base.execute("UPDATE features SET geom = moved(geom) WHERE geom NOT NULL")
+            for layer in ("features", *([geopackage.FOOTPRINTS] if self.has_footprints else [])):
+                self._base.execute(f"UPDATE {layer} SET geom = moved(geom) WHERE geom NOT NULL")
         return UNDEFINED
 
     def discard(self) -> None:
@@ -358,7 +370,9 @@ class Builder:
 def _path_columns(path: str, index: str) -> Tuple[str, Optional[bytes]]:
     """Returns the path of a stream for an index. A path below the folder of the index, or below the
     folder that this one is in, is relative to it, so that both can be moved together. Links of
-    folders are followed, since a folder above a linked one is that of its target."""
+    folders are followed, since a folder above a linked one is that of its target. A URL stays."""
+    if is_url(path):
+        return path, None
     folder, (above, name) = os.path.dirname(os.path.realpath(index)), os.path.split(path)
     whole = os.path.join(os.path.realpath(above or os.curdir), name)
     around = os.path.dirname(folder)

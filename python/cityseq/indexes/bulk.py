@@ -5,18 +5,11 @@ from __future__ import annotations
 import sqlite3
 from functools import lru_cache
 from itertools import chain, islice
-from typing import Any, Iterable, NamedTuple, Sequence, Union
+from typing import Sequence
+
+from ..engine.records import Column, Same
 
 VALUES = 700  # of one statement: older versions of SQLite take at most 999
-
-
-class Same(NamedTuple):
-    """A column that has one value in all rows."""
-
-    value: Any
-
-
-Column = Union[Same, Iterable[Any]]
 
 
 @lru_cache(maxsize=1_024)
@@ -26,15 +19,8 @@ def _statement(table: str, columns: Sequence[bool], rows: int) -> str:
     first, width = sum(columns), columns.count(False)
     same, others = iter(range(1, first + 1)), iter(range(first + 1, first + rows * width + 1))
     numbers = [next(same) if column else 0 for column in columns]
-    made = (
-        ",".join(f"?{number or next(others)}" for number in numbers) for _ in range(rows)
-    )
+    made = (",".join(f"?{number or next(others)}" for number in numbers) for _ in range(rows))
     return f"INSERT INTO {table} VALUES {','.join(f'({row})' for row in made)}"
-
-
-def same_if_equal(values: Sequence[Any]) -> Column:
-    """Returns a column of these values, which are at least one."""
-    return Same(values[0]) if values.count(values[0]) == len(values) else values
 
 
 def insert(base: sqlite3.Connection, table: str, *columns: Column) -> None:

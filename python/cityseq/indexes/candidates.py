@@ -3,11 +3,11 @@ from __future__ import annotations
 
 from typing import Any, List, Optional, Tuple
 
-from ..engine.structs import LOD_CLASSES
 from ..engine.extents import box_of
+from ..engine.query import Work
+from ..engine.structs import LOD_CLASSES
 from .geopackage import TREE
 from .id_table import WANTED, want
-from ..engine.query import Work
 
 LINE = 2_048  # bytes of a stream that are judged in the time that it takes to find and read a line
 SMALL = 16 << 20  # bytes of streams that are not worth an estimate

@@ -6,11 +6,11 @@ import struct
 from itertools import compress
 from typing import TYPE_CHECKING, Iterable, List, NamedTuple, Optional, Sequence, Tuple
 
-from .bulk import Column, same_if_equal
 from ..engine.extents import World
+from ..engine.records import Column, same_if_equal
+from ..engine.tally import Range
 from .geopackage import polygons
 from .rtree import cells_of, keys_of
-from ..engine.tally import Range
 
 if TYPE_CHECKING:
     from ..engine.records import Records
@@ -88,9 +88,7 @@ def columns_of(
 
 
 def _ranges(edges: List[List[int]]) -> Ranges:
-    x, y, z = (
-        (min(least), max(greatest)) for least, greatest in zip(edges[::2], edges[1::2])
-    )
+    x, y, z = ((min(least), max(greatest)) for least, greatest in zip(edges[::2], edges[1::2]))
     return x, y, z
 
 

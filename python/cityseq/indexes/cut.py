@@ -8,12 +8,12 @@ from itertools import chain
 from typing import TYPE_CHECKING, Any, Callable, Iterable, Iterator, List, Optional, Tuple
 
 from ..engine.faults import OutOfDate, RequestError, Status, write_fault
-from .line_reader import OTHER_LINES, IndexedStream, Row, header_of, lines_of, placed
-from ..sources.outputs import Batch, Target, Writer
 from ..engine.query import Work
 from ..run.results import Result
 from ..run.streams import Stream, results
+from ..sources.outputs import Batch, Limit, Target, Writer
 from ..sources.source import PIECE, is_path
+from .line_reader import OTHER_LINES, IndexedStream, Row, header_of, lines_of, placed
 
 if TYPE_CHECKING:
     from .lookup import Index
@@ -64,15 +64,18 @@ class _Cut:
         work: The query.
         jobs: How many threads judge. None is one for each processor.
         writer: Makes the writer of an output.
+        limit: How many features all outputs may have.
     """
 
     index: "Index"
     work: Work
     jobs: Optional[int]
     writer: Callable[..., Writer] = Writer
+    limit: Optional[Limit] = None
 
     def written(self, name: str, selections: Selections, writer: Writer) -> Result:
         """Judges the selected lines again, and writes those that are kept."""
+        writer.limit = self.limit
         with closing(self._texts(selections)) as texts:  # type: ignore[type-var]
             source: Any = _Lines(name, texts)
             (result,) = results([Stream(source, self.work, output=writer)], self.jobs)
@@ -109,12 +112,14 @@ class _Cut:
         is_first, lacks_end = True, False
         base = self.index.base
         for stream, rows in selections if base is None else _needed(selections):
-            with placed(stream, base) as place:
+            with placed(stream, base, self.index.blocks) as place:
                 header = header_of(stream, place)
                 if is_first:
                     yield header
                 is_first = False
                 for part, numbers in lines_of(stream, place, rows):
+                    if self.limit is not None and not self.limit.left:
+                        break
                     if lacks_end:
                         if not self._keeps_some(stream, header, part, numbers):
                             continue
@@ -150,9 +155,10 @@ def cut(
     output: Target,
     jobs: Optional[int],
     writer: Callable[..., Writer] = Writer,
+    limit: Optional[Limit] = None,
 ) -> Result:
     """Writes what a query keeps of all streams of an index. They have one header and one output.
-    `writer` makes the writer of an output.
+    `writer` makes the writer of an output, and `limit` is how many features it may have.
 
     Raises:
         CityseqError: As `Index.filter` does.
@@ -163,7 +169,7 @@ def cut(
             "each stream has its own header, and so its own output: name a folder by --output-dir"
         )
     index.check()
-    made = _Cut(index, work, jobs, writer)
+    made = _Cut(index, work, jobs, writer, limit)
     name, selections = streams[0].path, index.selections(work)
     if is_path(output):
         return _counted(made.written(name, selections, writer(output)), streams)
@@ -176,15 +182,17 @@ def cut_each(
     output_of: Callable[[IndexedStream], str],
     jobs: Optional[int],
     writer: Callable[..., Writer] = Writer,
+    limit: Optional[Limit] = None,
 ) -> List[Result]:
     """Writes what a query keeps of each stream to an output of its own. The outputs get their names
-    when all are whole. `writer` makes the writer of an output.
+    when all are whole. `writer` makes the writer of an output, and `limit` is how many features all
+    may have.
 
     Raises:
         CityseqError: As `Index.filter` does. No output is there then.
     """
     index.check()
-    made, results = _Cut(index, work, jobs, writer), []
+    made, results = _Cut(index, work, jobs, writer, limit), []
     with Batch() as batch:
         for stream, rows in index.selections(work):
             target = writer(output_of(stream), batch=batch)

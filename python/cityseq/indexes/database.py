@@ -78,6 +78,7 @@ class Database:
         self._stop: Optional[BaseException] = None
         self._state: Any = None  # of a file that is read without locks
         self._is_counted = False
+        self.tables: Set[str] = set()  # after `check_tables`
         try:
             state = os.stat(self._file)
         except OSError as fault:
@@ -186,6 +187,7 @@ class Database:
             tree = found.get(geopackage.TREE, (0, ""))[1]
             if not is_whole or not isinstance(tree, str) or not R_TREE.match(tree):
                 raise ReadFault(NO_INDEX, None, self.path)
+            self.tables = {name for name, (root, _) in found.items() if root}
 
     def columns(self, table: str) -> Set[str]:
         """Returns the names of the columns of a table."""
@@ -219,7 +221,7 @@ class Database:
             triggers = self._base.execute("SELECT name FROM sqlite_master WHERE type = 'trigger'")
             names = {name for name, in triggers}
             (last,) = self._base.execute("SELECT max(fid) FROM features").fetchone()
-        is_whole = names.issuperset(geopackage.GUARDS) and (last or 0) == total
+        is_whole = names.issuperset(geopackage.guards(self.tables)) and (last or 0) == total
         if not is_whole or self.is_changed():
             raise OutOfDate.because(INDEX_CHANGED, self.path)
 

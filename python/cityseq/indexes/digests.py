@@ -9,7 +9,7 @@ from zlib import crc32
 
 from ..run.pool import Job, Pool
 from ..sources.regular import RegularFile
-from ..sources.source import State, state_of
+from ..sources.source import State, open_raw, state_of
 
 BLOCK = 1 << 16  # bytes that have a CRC-32: most lie in one part
 SIZE = 16  # bytes of a hash
@@ -32,12 +32,12 @@ def digest_of(path: str, is_stopped: Callable[[], bool] = lambda: False) -> Opti
     the file. It tells a copy from a file with other content, unless somebody forged that.
     """
     digest = hashlib.blake2b(digest_size=SIZE)
-    with open(path, "rb") as file:
-        before = state_of(file.fileno())
+    with open_raw(path) as file:
+        before = state_of(file)
         while not is_stopped():
             block = file.read(BLOCK)
             if not block:
-                return Digest(digest.hexdigest(), before, state_of(file.fileno()))
+                return Digest(digest.hexdigest(), before, state_of(file))
             digest.update(crc32(block).to_bytes(4, "little"))
     return None
 
@@ -46,8 +46,8 @@ class HashedFile(RegularFile):
     """A regular file that is judged. The threads that read its parts make the CRC-32s of the blocks
     in them, while they have the bytes at hand."""
 
-    def __init__(self, descriptor: int) -> None:
-        super().__init__(descriptor)
+    def __init__(self, file: Any) -> None:
+        super().__init__(file)
         self._sums = array("q", [UNKNOWN]) * -(-self.size // BLOCK)
 
     def read(self, begin: int, end: int) -> tuple[memoryview, OSError | None]:

@@ -13,7 +13,7 @@ import sqlite3
 import struct
 from contextlib import suppress
 from itertools import repeat
-from typing import Any, Iterator, Optional, Sequence, Tuple
+from typing import Any, Container, Iterator, Optional, Sequence, Tuple
 
 VERSION = 4  # of the tables: it changes if a column is removed, renamed or changes its meaning
 APPLICATION = 0x47504B47  # "GPKG"
@@ -21,6 +21,8 @@ GEOPACKAGE = 10_300  # GeoPackage 1.3
 MOST_FEATURES = (1 << 32) - 1  # whose numbers fit in `feature_ids`
 UNDEFINED = -1  # the coordinate system is not known
 TABLE, COLUMN = "features", "geom"
+FOOTPRINTS = "footprints"  # another layer, which not all indexes have
+LAYERS = {TABLE: "POLYGON", FOOTPRINTS: "MULTIPOLYGON"}
 TREE = f"rtree_{TABLE}_{COLUMN}"
 SYSTEM = re.compile(
     r"(?:https?://www\.opengis\.net/def/crs/EPSG/[^/]+/|urn:ogc:def:crs:EPSG:[^:]*:)(\d{1,9})/?\Z"
@@ -52,6 +54,8 @@ CREATE TABLE gpkg_geometry_columns (
 CREATE TABLE gpkg_extensions (
   table_name TEXT, column_name TEXT, extension_name TEXT NOT NULL, definition TEXT NOT NULL,
   scope TEXT NOT NULL, CONSTRAINT ge_tce UNIQUE (table_name, column_name, extension_name));
+CREATE TABLE gpkg_ogr_contents (
+  table_name TEXT NOT NULL PRIMARY KEY, feature_count INTEGER DEFAULT NULL);
 """
 
 OURS = """
@@ -96,13 +100,18 @@ BEGIN
   UPDATE cityseq_index SET changed = 1 WHERE changed = 0;
 END
 """
-GUARDED = ("features", "feature_ids", "streams")
+GUARDED = ("features", "feature_ids", "streams", "blocks")
 EVENTS = {
     f"cityseq_{table}_{event.lower()}": (event, table)
     for table in GUARDED
     for event in ("INSERT", "UPDATE", "DELETE")
 }
-GUARDS = tuple(EVENTS)
+
+
+def guards(tables: Container[str]) -> list[str]:
+    """Returns the names of the triggers that an index with these tables has."""
+    return [name for name, (_, table) in EVENTS.items() if table in tables]
+
 
 # The triggers of the extension `gpkg_rtree_index`: other programs may change the layer.
 TRIGGERS = """
@@ -137,8 +146,16 @@ BEGIN
   DELETE FROM {tree} WHERE id = OLD.fid;
 END;
 """
+# GDAL reads the number of rows of a layer from `gpkg_ogr_contents`, and names the triggers so.
+COUNTER = """
+CREATE TRIGGER trigger_{event}_feature_count_{table} AFTER {event} ON {table}
+BEGIN
+  UPDATE gpkg_ogr_contents SET feature_count = feature_count {sign} 1 WHERE table_name = '{table}';
+END
+"""
 CONTENTS = (
     ("features", "The extent of each feature, and where its line is"),
+    (FOOTPRINTS, "The ground of each feature, or its extent if it has none"),
     ("streams", "The streams that were indexed"),
     ("reports", "The invalid lines, which are left out"),
 )
@@ -223,11 +240,15 @@ def describe(base: sqlite3.Connection, system: int) -> None:
     if system not in (-1, 0, 4326):
         systems.append((f"EPSG:{system}", system, "EPSG", system, "undefined", ""))
     base.executemany("INSERT INTO gpkg_spatial_ref_sys VALUES (?,?,?,?,?,?)", systems)
+    select = "SELECT name FROM sqlite_master WHERE type = 'table'"
+    tables = {name for name, in base.execute(select)}
     bounds = base.execute(
         "SELECT min(xmin), min(ymin), max(xmax), max(ymax) FROM streams"
     ).fetchone()
     for name, description in CONTENTS:
-        is_layer = name == TABLE
+        is_layer = name in LAYERS
+        if name not in tables:
+            continue
         base.execute(
             "INSERT INTO gpkg_contents (table_name, data_type, identifier, description, min_x,"
             " min_y, max_x, max_y, srs_id) VALUES (?,?,?,?,?,?,?,?,?)",
@@ -235,8 +256,14 @@ def describe(base: sqlite3.Connection, system: int) -> None:
             + (bounds if is_layer else (None,) * 4)
             + (system if is_layer else None,),
         )
-    base.execute(
-        "INSERT INTO gpkg_geometry_columns VALUES (?,?,'POLYGON',?,0,0)", (TABLE, COLUMN, system)
+        base.execute(
+            f"INSERT INTO gpkg_ogr_contents SELECT '{name}', coalesce(max(fid), 0) FROM {name}"
+        )
+        for event, sign in (("insert", "+"), ("delete", "-")):
+            base.execute(COUNTER.format(event=event, table=name, sign=sign))
+    base.executemany(
+        "INSERT INTO gpkg_geometry_columns VALUES (?,?,?,?,0,0)",
+        [(name, COLUMN, kind, system) for name, kind in LAYERS.items() if name in tables],
     )
     extension = "http://www.geopackage.org/spec130/#extension_rtree"
     base.executemany(
@@ -245,7 +272,8 @@ def describe(base: sqlite3.Connection, system: int) -> None:
             (TABLE, COLUMN, "gpkg_rtree_index", extension, "write-only"),
             *(
                 (table, None, "cityseq_index", "docs/geopackage.md of cityseq", "read-write")
-                for table in ("cityseq_index", "feature_ids")
+                for table in ("cityseq_index", "feature_ids", "blocks")
+                if table in tables
             ),
         ),
     )
@@ -254,5 +282,6 @@ def describe(base: sqlite3.Connection, system: int) -> None:
     for each in TRIGGERS.format(tree=TREE, table=TABLE, geom=COLUMN, box=box).split("\nEND;\n"):
         if each.strip():
             base.execute(f"{each}\nEND")
-    for guard, (event, table) in EVENTS.items():
+    for guard in guards(tables):
+        event, table = EVENTS[guard]
         base.execute(GUARD.format(name=guard, event=event, table=table))

@@ -12,9 +12,9 @@ from itertools import chain, groupby
 from operator import itemgetter
 from typing import Any, Dict, Iterable, Iterator, List, Sequence, Tuple
 
-from .bulk import insert
 from ..engine.faults import OutOfDate
 from ..engine.records import hash_of, stored
+from .bulk import insert
 
 HALF = 16  # bits of a hash
 LOWER = (1 << HALF) - 1
@@ -26,8 +26,14 @@ _SPLIT = struct.Struct(f">3s{ENTRY.size}s")  # the key of a row, and the entry
 _HASH, _NUMBER = 0, 1
 # Where each byte of a key and its entry comes from: which byte of the hash or of the number.
 _FROM = (
-    (_HASH, 0), (_HASH, 1), (_NUMBER, 0), (_HASH, 2), (_HASH, 3),
-    (_NUMBER, 1), (_NUMBER, 2), (_NUMBER, 3),
+    (_HASH, 0),
+    (_HASH, 1),
+    (_NUMBER, 0),
+    (_HASH, 2),
+    (_HASH, 3),
+    (_NUMBER, 1),
+    (_NUMBER, 2),
+    (_NUMBER, 3),
 )
 CREATE_WANTED = "CREATE TEMP TABLE wanted (fid INTEGER, id TEXT, exact BLOB)"
 CREATE_ALIKE = "CREATE TEMP TABLE alike (hash INTEGER, fid INTEGER)"

@@ -1,12 +1,14 @@
 """The description of an index, as lines of text and as JSON."""
 from __future__ import annotations
 
+from decimal import Decimal
 from typing import TYPE_CHECKING, Any, Dict, Iterator, List, Optional, Sequence
 
-from .database import INDEX_CHANGED
-from ..engine.faults import OutOfDate, ReadFault
-from .line_reader import IndexedStream, check_file
 from ..engine.escape import quoted, shown
+from ..engine.faults import OutOfDate, ReadFault
+from ..engine.world import plain
+from .database import INDEX_CHANGED
+from .line_reader import IndexedStream, check_file
 
 if TYPE_CHECKING:
     from .lookup import Index
@@ -44,7 +46,10 @@ def _state(index: "Index", stream: IndexedStream) -> Optional[str]:
 
 
 def _boxed(extent: Extent) -> str:
-    return "" if extent is None else " bbox " + ",".join(map(repr, extent))
+    """Returns a box as `--bbox` takes it: each edge with at most 15 digits, as a float has them
+    exactly."""
+    edges = [] if extent is None else [plain(Decimal(f"{edge:.15g}")) for edge in extent]
+    return f" bbox {','.join(edges)}" if edges else ""
 
 
 def lines(index: "Index") -> Iterator[str]:

@@ -16,17 +16,19 @@ from itertools import chain
 from queue import Empty, LifoQueue
 from typing import Any, Callable, Generator, Iterator, NamedTuple
 
-from ..engine.library import library
-from ..engine.structs import CallStatus, RawFeature
-from .builder import names_of_lods, names_of_types
 from ..coordinates.boxes import Extent
 from ..engine.extents import World
 from ..engine.faults import OutOfDate, ReadFault
-from .line_reader import IndexedStream, Row, header_of, lines_of, placed
-from ..run.features import fault_of
-from .lookup import Index
+from ..engine.library import library
 from ..engine.query import Work
 from ..engine.records import unescaped
+from ..engine.structs import CallStatus, RawFeature
+from ..run.features import fault_of
+from .builder import names_of_lods, names_of_types
+from .database import INDEX_CHANGED
+from .footprints import Polygon, polygons_of
+from .line_reader import IndexedStream, Row, header_of, lines_of, placed
+from .lookup import Index
 
 TOGETHER = 1 << 18  # bytes of lines that are judged together
 
@@ -81,6 +83,11 @@ class Pool:
         finally:
             self._free.put(index)
 
+    def blocks(self, stream: IndexedStream, begin: int, end: int) -> list[tuple[int, int]]:
+        """Does what `Index.blocks` does."""
+        with self.index() as index:
+            return index.blocks(stream, begin, end)
+
     def close(self) -> None:
         """Closes those that no call has."""
         while not self._free.empty():
@@ -126,6 +133,7 @@ class Found(NamedTuple):
         objects, geometries: How many it has.
         types, lods: The names of its types, and the classes of its LoDs.
         extent: The least x and y and the greatest x and y, if it has a vertex.
+        footprint: Its ground as polygons. Empty if the index has none, or only the extent.
         heights: The least and the greatest z, if it has a vertex.
     """
 
@@ -138,16 +146,19 @@ class Found(NamedTuple):
     lods: list[str]
     extent: Extent | None
     heights: tuple[float, float] | None
+    footprint: list[Polygon]
 
 
 @dataclass(frozen=True)
 class Block:
-    """Some features of a page, as the library returns them."""
+    """Some features of a page, as the library returns them. `fids` has the number of each line's
+    feature in the index."""
 
     source: OpenStream
     part: bytes
     raws: list[RawFeature]
     numbers: list[int]
+    fids: dict[int, int]
 
     def lines(self) -> bytes:
         """Returns their lines, byte for byte."""
@@ -164,12 +175,15 @@ class Block:
 
     def features(self) -> list[Found]:
         """Returns the facts of each feature."""
-        return list(map(self._found, self.raws))
+        fids = [self.fids[self.numbers[raw.line - 2]] for raw in self.raws]
+        with self.source.pool.index() as index:
+            footprints = index.footprints(fids)
+        return [self._found(raw, footprints.get(fid)) for raw, fid in zip(self.raws, fids)]
 
-    def _found(self, raw: RawFeature) -> Found:
+    def _found(self, raw: RawFeature, footprint: Any) -> Found:
         begin, end = raw.begin + raw.id_begin + 1, raw.begin + raw.id_begin + raw.id_length - 1
         types, lods = names_of_types(raw.types), names_of_lods(raw.lods)
-        z, axis = raw.ranges[2], self.source.world.z
+        z, axis, extent = raw.ranges[2], self.source.world.z, self._extent(raw)
         return Found(
             self.numbers[raw.line - 2],
             raw.length,
@@ -178,8 +192,9 @@ class Block:
             raw.geometries,
             types.split(",") if types else [],
             lods.split(",") if lods else [],
-            self._extent(raw),
+            extent,
             axis.interval(z.least, z.greatest) if z.some and axis is not None else None,
+            _ground(footprint, extent, self.source.stream.path),
         )
 
     def _extent(self, raw: RawFeature) -> Extent | None:
@@ -190,6 +205,24 @@ class Block:
         west, east = world.x.interval(x.least, x.greatest)
         south, north = world.y.interval(y.least, y.greatest)
         return west, south, east, north
+
+
+def _ground(footprint: Any, extent: Extent | None, path: str) -> list[Polygon]:
+    """Returns the polygons of a footprint. Empty if there is none, or it is the extent.
+
+    Raises:
+        OutOfDate: It is no footprint.
+    """
+    if footprint is None or extent is None:
+        return []
+    try:
+        polygons = polygons_of(footprint)
+    except ValueError:
+        raise OutOfDate.because(INDEX_CHANGED, path) from None
+    points = [point for polygon in polygons for ring in polygon for point in ring]
+    west, south, east, north = extent
+    corners = [(west, south), (east, south), (east, north), (west, north), (west, south)]
+    return [] if points in (corners, []) else polygons
 
 
 def _joined(parts: Iterator[tuple[bytes, list[int]]]) -> Iterator[tuple[bytes, list[int]]]:
@@ -231,6 +264,7 @@ class Page:
         self._after, self._reaches = after, reaches
         self.header = b""
         self.next: int | None = None
+        self._fids: dict[int, int] = {}
         self._blocks = self._read()
 
     def block(self) -> Block | None:
@@ -253,7 +287,8 @@ class Page:
 
     def _read(self) -> Generator[Block, None, None]:
         stream = self._source.stream
-        with placed(stream, self._source.pool.base) as place:
+        pool = self._source.pool
+        with placed(stream, pool.base, pool.blocks) as place:
             self.header = header_of(stream, place)
             is_empty, more = True, True
             while is_empty and more:
@@ -273,6 +308,8 @@ class Page:
         rows = found[: self._limit]
         if rows:
             self._after = rows[-1][0]
+        first = source.stream.first_fid - 1
+        self._fids = {row.line: first + number for number, row in rows}
         return [row for _, row in rows], len(found) > self._limit
 
     def _judged(self, part: bytes, numbers: list[int]) -> Block:
@@ -283,5 +320,5 @@ class Page:
             raise OutOfDate.because("the stream has other lines", self._source.stream.path)
         if answer.status != CallStatus.COMPLETE:
             raise fault_of(answer, self.header, part, 0, self._source.stream.path)
-        block = Block(self._source, part, list(raws), numbers)
+        block = Block(self._source, part, list(raws), numbers, self._fids)
         return block if self._reaches is None else block.within(self._reaches)

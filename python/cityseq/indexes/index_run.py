@@ -6,17 +6,21 @@ from collections import deque
 from collections.abc import Callable, Iterable, Iterator, Sequence
 from contextlib import closing
 from dataclasses import replace
+from functools import partial
 from typing import Any, Protocol
 
+from ..convert import refuse_whole
 from ..engine.faults import CityseqError, MemoryFault, ReadFault, RequestError, read_fault
 from ..engine.judge import Answer
 from ..engine.query import Work
 from ..engine.reports import Report
 from ..run.results import Result
-from ..run.streams import ChunkSource, Judge, Results, Stream, results
+from ..run.streams import Judge, Results, Stream, results
 from ..sources.chunk_reader import Chunks
+from ..sources.parts import expanded
 from ..sources.same_file import refuse_same
-from ..sources.source import CHANGED, State, is_packed, is_path
+from ..sources.source import CHANGED, State, is_packed, is_path, is_url
+from .blocks import Blocks
 from .builder import Builder, Entry, File
 from .digests import Digest, Digests, HashedFile
 
@@ -26,7 +30,11 @@ Progress = Callable[[int], None] | None
 
 class Indexed:
     """A stream whose records go to an index. The threads that judge a file also hash it. Another
-    thread hashes a packed file, or one that a cluster judges."""
+    thread hashes a packed file, or one that a cluster judges.
+
+    Attributes:
+        is_slow: Whether a cut has to unpack the stream from its beginning, after `end`.
+    """
 
     def __init__(
         self,
@@ -37,15 +45,15 @@ class Indexed:
         size: int | None = None,
         tell: Tell = None,
         progress: Progress = None,
-        *,
-        chunks: ChunkSource | None = None,
-        judge_by: Judge | None = None,
+        is_elsewhere: bool = False,
     ) -> None:
-        """Takes the number of the stream in the index, from 1. The others are those of `Stream`."""
-        self._number, self._path, self._builder = number, path, builder
+        """Takes the number of the stream in the index, from 1, and whether a cluster judges it. The
+        others are those of `Stream`."""
+        self._number, self.path, self._builder = number, path, builder
         self._keep_going = work.keep_going
         self._entry: Entry | None = None
-        is_read_here = chunks is None and not is_packed(path)
+        self._blocks, self.is_slow = Blocks(), False
+        is_read_here = not is_elsewhere and not is_packed(path)
         self._digest: Any = None if is_read_here else builder.digests.submit(path)
         self._then = tell
         records = replace(work, kind="records")
@@ -57,10 +65,18 @@ class Indexed:
             self._report,
             progress,
             take=[self._take],
-            judge_by=judge_by,
-            chunks=chunks or Chunks(path, records, size, HashedFile),
+            judge_by=None if is_elsewhere else self._judge(records, size),
+            chunks=Chunks(path, records, size, HashedFile, self._blocks.add),
         )
         self._fold = self.stream.fold
+
+    def _judge(self, work: Work, size: int | None) -> Judge | None:
+        """Returns what judges a chunk if the index has footprints. Otherwise that is usual."""
+        if not self._builder.has_footprints:
+            return None
+        from .footprints import judge_ground  # few runs need it
+
+        return partial(judge_ground, work=work, size=size)
 
     def _report(self, report: Report) -> None:
         if self._then is None:
@@ -92,7 +108,10 @@ class Indexed:
             try:
                 unpacker = self.stream.chunks.unpacker
                 packing = None if unpacker is None else unpacker.packing.name.lower()
-                file = File(self._path, packing, self._state(), self._hash())
+                has_blocks = packing is not None and self._blocks.are_all
+                self.is_slow = packing is not None and not has_blocks
+                blocks = self._blocks if has_blocks else None
+                file = File(self.path, packing, self._state(), self._hash(), blocks)
                 self._builder.end(self._begun(), file, result)
             except CityseqError as fault:
                 result.fail(fault)
@@ -103,11 +122,11 @@ class Indexed:
         try:
             content, is_changed = self._content()
         except OSError as fault:
-            raise read_fault(fault, self._path) from fault
+            raise read_fault(fault, self.path) from fault
         except MemoryError as fault:
-            raise MemoryFault("out of memory", None, self._path) from fault
+            raise MemoryFault("out of memory", None, self.path) from fault
         if is_changed:
-            raise ReadFault(f"read fault: {CHANGED}", None, self._path)
+            raise ReadFault(f"read fault: {CHANGED}", None, self.path)
         return content
 
     def _content(self) -> tuple[str, bool]:
@@ -116,7 +135,7 @@ class Indexed:
         if self._digest is None and isinstance(chunks, Chunks):
             if isinstance(chunks.regular, HashedFile):
                 return chunks.regular.content(), chunks.is_changed
-        job = self._digest or self._builder.digests.submit(self._path)
+        job = self._digest or self._builder.digests.submit(self.path)
         digest: Digest = job.result()
         return digest.content, not digest.before == digest.after == self._state()
 
@@ -164,9 +183,11 @@ def checked(paths: Any, output: Any) -> list[str]:
             are one file, or the output is one of them.
     """
     listed = [paths] if isinstance(paths, (str, bytes, os.PathLike)) else list(paths)
-    for path in listed:
+    for path in (listed := expanded(listed)):
         if not is_path(path) or is_special(path):
             raise RequestError(f"an index is of regular files by their paths: {path!r} is none")
+        if is_url(path) and "?" in path:
+            raise RequestError("an index stores no URL with a query, which may have a key in it")
     if not is_path(output):
         raise RequestError(f"an index is written to a path: {output!r} is none")
     named = [os.fsdecode(path) for path in listed]
@@ -174,6 +195,7 @@ def checked(paths: Any, output: Any) -> list[str]:
         raise RequestError("no stream is given that can be indexed")
     if len({os.path.realpath(path) for path in named}) < len(named):
         raise RequestError("one stream is given twice")
+    refuse_whole(named)
     refuse_same(named, [output])
     return named
 
@@ -217,9 +239,10 @@ def index(
     size: int | None,
     tell: Tell,
     progress: Progress,
+    footprints: bool = False,
 ) -> list[Result]:
     """Writes an index of streams. The arguments are those of `cityseq.index`."""
-    builder = Builder(os.fsdecode(output))
+    builder = Builder(os.fsdecode(output), footprints)
     made: list[Result] = []
     streams = (
         Indexed(number, path, work, builder, size, tell, progress)

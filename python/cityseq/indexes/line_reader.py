@@ -9,16 +9,18 @@ from contextlib import contextmanager
 from dataclasses import dataclass
 from typing import Any, Iterable, Iterator, List, NamedTuple, Optional, Tuple
 
+from ..engine.faults import READ_FAULTS, OutOfDate, ReadFault, read_fault
 from ..engine.structs import LINE_LIMITS
-from .database import INDEX_CHANGED
-from ..engine.faults import OutOfDate, ReadFault, read_fault
 from ..sources.packed import Unpacker
 from ..sources.regular import RegularFile
-from ..engine.faults import READ_FAULTS
-from ..sources.source import CHANGED, Reader, opened, state_of
+from ..sources.remote import RangePlace
+from ..sources.source import CHANGED, Reader, is_url, open_raw, opened, remote_of, state_of
+from .blocks import BlockPlace, Find
+from .database import INDEX_CHANGED
 
 NEAR = 1 << 16  # bytes: lines that are nearer than this are read together
 MOST = 4 << 20  # bytes that are read together, unless one line has more
+NO_RANGES = "a packed stream has no ranges: serve it unpacked, or pack and index it again"
 SHORTER, OTHER_LINES = "the stream is shorter", "the stream has other lines"
 
 
@@ -47,6 +49,7 @@ class IndexedStream:
         number: The `fid` of its row.
         path: Where the stream is. A stored path may be relative to the folder of the index.
         told_path: The path as it was stored.
+        has_blocks: Whether the index knows the blocks of a packed stream.
     """
 
     number: int
@@ -71,6 +74,12 @@ class IndexedStream:
     ymax: Optional[float]
     zmin: Optional[float]
     zmax: Optional[float]
+    has_blocks: bool = False
+
+    @property
+    def is_slow(self) -> bool:
+        """Whether it has to be unpacked from its beginning."""
+        return self.packing is not None and not self.has_blocks
 
     def compare(self, size: int, mtime_ns: int) -> None:
         """Raises `OutOfDate` if the file has another size or time."""
@@ -78,6 +87,7 @@ class IndexedStream:
             told = "longer" if size > self.size else "shorter"
         elif mtime_ns != self.mtime_ns:
             told = "newer" if mtime_ns > self.mtime_ns else "older"
+            told = "another one" if is_url(self.path) else told
         else:
             return
         raise OutOfDate.because(f"the stream is {told}", self.path)
@@ -97,24 +107,24 @@ class IndexedStream:
         return World(scale, translate).is_flat
 
 
-def _confirm(stream: IndexedStream, descriptor: int) -> None:
+def _confirm(stream: IndexedStream, file: Any) -> None:
     """Checks after the last read that a file has not changed since the first one.
 
     Raises:
         ReadFault: It has.
     """
-    if state_of(descriptor) != (stream.size, stream.mtime_ns):
+    if state_of(file) != (stream.size, stream.mtime_ns):
         raise ReadFault(f"read fault: {CHANGED}", None, stream.path)
 
 
 class FilePlace:
-    """A plain file."""
+    """The bytes of a file."""
 
     near = NEAR
 
     def __init__(self, stream: IndexedStream, reader: Reader) -> None:
         self._stream, self._file = stream, reader.file
-        stream.compare(*state_of(reader.file.fileno()))
+        stream.compare(*state_of(reader.file))
         self._placed = RegularFile(reader.file.fileno())
 
     def read(self, begin: int, end: int) -> bytes:
@@ -127,18 +137,42 @@ class FilePlace:
 
     def confirm(self) -> None:
         """Raises `ReadFault` if the file has changed since it was opened."""
-        _confirm(self._stream, self._file.fileno())
+        _confirm(self._stream, self._file)
+
+
+class RemotePlace(RangePlace):
+    """A plain file by its URL."""
+
+    def __init__(self, stream: IndexedStream, reader: Reader) -> None:
+        super().__init__(stream.size)
+        self._stream, self._file = stream, reader.file
+        remote: Any = remote_of(reader.file)
+        self._placed = RegularFile(remote)
+        stream.compare(*remote.state)
+
+    def asked(self, begin: int, end: int) -> bytes:
+        """Returns the bytes of a range. Raises `ReadFault` if they cannot be read."""
+        room = bytearray(end - begin)
+        _, fault = self._placed.fill(memoryview(room), begin)
+        if fault is not None:
+            raise read_fault(fault, self._stream.path)
+        return bytes(room)
+
+    def confirm(self) -> None:
+        """Raises `ReadFault` if the file has changed since it was opened."""
+        _confirm(self._stream, self._file)
 
 
 class PackedPlace:
-    """A packed file. It is read from its beginning, so places may only rise, or fall by one."""
+    """A packed file without blocks. It is read from its beginning, so places may only rise, or fall
+    by one."""
 
     near = NEAR
 
     def __init__(self, stream: IndexedStream, reader: Reader) -> None:
         self._stream, self._reader = stream, reader
         self._held, self._begin, self._end = bytearray(), 0, 0
-        stream.compare(*state_of(reader.file.fileno()))
+        stream.compare(*state_of(reader.file))
 
     def read(self, begin: int, end: int) -> bytes:
         """Returns the bytes from one place of the unpacked text to another, or as many as there
@@ -172,12 +206,13 @@ class PackedPlace:
                 file.finish_member()
             except READ_FAULTS as fault:
                 raise read_fault(fault, self._stream.path) from fault
-        _confirm(self._stream, file.fileno())
+        _confirm(self._stream, file)
 
 
 @contextmanager
-def placed(stream: IndexedStream, base: Optional[str]) -> Iterator[Any]:
+def placed(stream: IndexedStream, base: Optional[str], find: Find) -> Iterator[Any]:
     """Gives an object that reads a stream by places: from a file, or a web server below a URL.
+    `find` finds the blocks of a packed stream.
 
     Raises:
         OutOfDate: The stream is not as the index has it.
@@ -187,16 +222,17 @@ def placed(stream: IndexedStream, base: Optional[str]) -> Iterator[Any]:
         from ..sources.web import WebPlace  # few runs need it
 
         with WebPlace(stream, base) as place:
-            yield place
+            yield BlockPlace(stream, place, find) if stream.has_blocks else place
         return
     check_file(stream)  # a pipe would wait for a writer when it is opened
     with opened(stream.path) as reader:
-        kind: Any = FilePlace if stream.packing is None else PackedPlace
+        plain: Any = RemotePlace if is_url(stream.path) else FilePlace
+        kind: Any = PackedPlace if stream.is_slow else plain
         try:
             of_file = kind(stream, reader)
         except READ_FAULTS as fault:
             raise read_fault(fault, stream.path) from fault
-        yield of_file
+        yield BlockPlace(stream, of_file, find) if stream.has_blocks else of_file
         of_file.confirm()
 
 
@@ -216,6 +252,10 @@ def check_file(stream: IndexedStream) -> None:
         ReadFault: It is missing, or no regular file.
     """
     try:
+        if is_url(stream.path):
+            with open_raw(stream.path) as file:
+                stream.compare(*file.raw.remote.state)
+            return
         state = os.stat(stream.path)
     except OSError as fault:
         raise read_fault(fault, stream.path) from fault
@@ -259,8 +299,7 @@ def _line(stream: IndexedStream, text: bytes, begin: int, length: int) -> bytes:
 
 
 def _all_lines(stream: IndexedStream, place: Any) -> Iterator[Tuple[bytes, List[int]]]:
-    """Yields the lines after the header of a stream, some together, with 0 as the number of each.
-    """
+    """Yields the lines after the header of a stream, some together, each with the number 0."""
     begin, rest = stream.header_length, [b""]  # of a line that has not ended
     text = place.read(begin, begin + MOST)
     while text:

@@ -2,25 +2,38 @@
 from __future__ import annotations
 
 import os
-from dataclasses import dataclass
+from dataclasses import dataclass, replace
 from itertools import chain, groupby
-from typing import Any, Dict, Iterator, List, Optional, Tuple, Union
+from typing import Any, Dict, Iterator, List, Optional, Sequence, Tuple, Union
 
-from . import geopackage
-from ..engine.library import library
-from ..engine.structs import CallStatus
-from .database import INDEX_CHANGED, Database
 from ..engine.faults import OutOfDate, ReadFault, RequestError
-from .line_reader import AllLines, IndexedStream, Row, check_file, header_of, lines_of, placed
-from .id_table import SAME_ID, find_alike, want
-from .index_rows import OPTIONS, REPORTS, STREAMS, checked
-from ..run.features import Feature, fault_of, feature_of
-from ..sources.outputs import Target
-from .candidates import has_more, reads_all, terms_of
+from ..engine.library import library
 from ..engine.query import Box, Texts, Work, asked
 from ..engine.records import hash_of, id_of
+from ..engine.structs import CallStatus
+from ..run.features import Feature, fault_of, feature_of
 from ..run.results import Result
+from ..sources.outputs import Limit, Target
+from ..sources.source import is_url
+from . import geopackage
+from .blocks import BETWEEN
+from .candidates import has_more, reads_all, terms_of
+from .database import INDEX_CHANGED, Database
+from .geopackage import FOOTPRINTS as LAYER
+from .id_table import SAME_ID, find_alike, want
+from .index_rows import OPTIONS, REPORTS, STREAMS, checked
+from .line_reader import (
+    NO_RANGES,
+    AllLines,
+    IndexedStream,
+    Row,
+    check_file,
+    header_of,
+    lines_of,
+    placed,
+)
 
+TOGETHER = 500  # footprints of one query: older versions of SQLite take at most 999 values
 COLUMNS = {
     "cityseq_index": ("version", *OPTIONS, "changed", "places"),
     "features": ("fid", "stream", "line", "begin", "length", "id", "id_exact", "types", "lods"),
@@ -138,10 +151,32 @@ class Index:
             for row in rows:
                 number, text, exact, *others = checked("streams", STREAMS, row, self.path)
                 told = text if exact is None else os.fsdecode(exact)
-                path = os.path.join(folder, told)
+                path = told if is_url(told) else os.path.join(folder, told)
                 if told.startswith(f"{os.pardir}{os.sep}"):
                     path = os.path.normpath(path)  # no part of the folder is a link
-                yield IndexedStream(number, path, told, *others)
+                stream = IndexedStream(number, path, told, *others)
+                yield replace(stream, has_blocks=self._has_blocks(number))
+
+    def _has_blocks(self, number: int) -> bool:
+        """Whether a stream has blocks. Indexes of plain streams, and older ones, have none."""
+        select = "SELECT EXISTS (SELECT 1 FROM blocks WHERE stream = ?)"
+        return "blocks" in self._base.tables and bool(
+            self._base.execute(select, (number,)).fetchone()[0]
+        )
+
+    def _length(self, stream: IndexedStream) -> int:
+        """Returns the bytes of a stream: of its text, if the index knows its blocks."""
+        select = "SELECT max(begin) FROM blocks WHERE stream = ?"
+        if not stream.has_blocks:
+            return stream.size
+        (length,) = self._base.execute(select, (stream.number,)).fetchone()
+        return length if type(length) is int else stream.size
+
+    def blocks(self, stream: IndexedStream, begin: int, end: int) -> List[Tuple[int, int]]:
+        """Returns where the blocks begin that have the text of a stream between two places, in the
+        text and in the file. The last row has the ends of the last block."""
+        with self._base.reading():
+            return self._base.execute(BETWEEN, (stream.number, begin, end)).fetchall()
 
     def _check_streams(self) -> None:
         """Checks that the index has streams, that their features follow one another, and that no
@@ -162,6 +197,18 @@ class Index:
                 if other != stream.path:
                     words = f"it has the same URL as {other}: give each stream a name of its own"
                     raise RequestError(words, None, stream.path)
+
+    def footprints(self, fids: Sequence[int]) -> Dict[int, Any]:
+        """Returns the footprints of features, by their numbers in the index, if it has any."""
+        found: Dict[int, Any] = {}
+        if LAYER in self._base.tables:
+            with self._base.reading():
+                for begin in range(0, len(fids), TOGETHER):
+                    some = fids[begin : begin + TOGETHER]
+                    marks = ",".join("?" * len(some))
+                    select = f"SELECT fid, geom FROM {LAYER} WHERE fid IN ({marks})"
+                    found.update(self._base.execute(select, some))
+        return found
 
     # ---- which lines
 
@@ -225,8 +272,8 @@ class Index:
         if self.base is not None or any(stream.refused for stream in self.streams):
             return False
         features = sum(stream.features for stream in self.streams)
-        size = sum(stream.size for stream in self.streams)
         with self._base.reading():
+            size = sum(map(self._length, self.streams))
             return features > 0 and reads_all(self._base, work, features, size)
 
     def _found(
@@ -285,15 +332,14 @@ class Index:
         Raises:
             OutOfDate: The index was changed, or a file has another size or time.
             ReadFault: One is missing.
-            RequestError: One is packed, so a web server has no ranges of it.
+            RequestError: One is packed without blocks, so a web server has no ranges of it.
         """
         self._check_index()
         for stream in self.streams:
             if self.base is None:
                 check_file(stream)
-            elif stream.packing is not None:
-                words = "a packed stream has no ranges: serve it unpacked"
-                raise RequestError(words, None, stream.path)
+            elif stream.is_slow:
+                raise RequestError(NO_RANGES, None, stream.path)
 
     # ---- features
 
@@ -326,7 +372,7 @@ class Index:
             has_no_box = work.box is not None and not stream.is_flat
             if first is None and not has_no_box:
                 continue
-            with placed(stream, self.base) as place:
+            with placed(stream, self.base, self.blocks) as place:
                 header = header_of(stream, place)
                 if has_no_box:
                     yield from kept(work, stream, header, b"", [])
@@ -342,6 +388,7 @@ class Index:
         types: Optional[Texts] = None,
         lods: Optional[Texts] = None,
         box: Optional[Box] = None,
+        limit: Optional[int] = None,
         jobs: Optional[int] = None,
     ) -> Result:
         """Writes what `cityseq.filter` writes of the streams, but reads only the selected lines.
@@ -351,7 +398,8 @@ class Index:
         Args:
             output: A path, `-` for standard output, or a binary file. Nothing is written unless
                 all was read and is valid.
-            ids, types, lods, box, jobs: As for `cityseq.filter`.
+            ids, types, lods, box, limit, jobs: As for `cityseq.filter`. After the last feature that
+                the limit takes no more lines are read.
 
         Returns:
             The counts that `cityseq.filter` returns. Lines and rejected lines are those of the
@@ -362,7 +410,8 @@ class Index:
         """
         from .cut import cut  # `select` does not need it
 
-        return cut(self, self.work(ids, types, lods, box), output, jobs)
+        work = self.work(ids, types, lods, box)
+        return cut(self, work, output, jobs, limit=Limit.of(limit))
 
     # ---- what is in it
 

@@ -15,7 +15,8 @@ from functools import lru_cache
 from itertools import compress
 from typing import Callable, Iterable, Iterator, List, Sequence, Tuple
 
-from .bulk import Same, insert
+from ..engine.records import Same
+from .bulk import insert
 
 ROOT = 1
 CELL = struct.Struct(">q4f")

@@ -7,7 +7,7 @@ from typing import TYPE_CHECKING, Any, List, Sequence, Tuple
 import numpy as np
 
 from ..engine.extents import Axis, World
-from .bulk import Column, Same
+from ..engine.records import Column, Same
 from .columns import Columns, Ranges
 from .rtree import INWARD, LOWER, OUTWARD, UPPER
 
@@ -16,11 +16,25 @@ if TYPE_CHECKING:
 
 AXES = ("x", "y", "z")
 RECORD = np.dtype(
-    [(name, "i8") for name in ("line", "begin", "length", "id_begin", "id_length", "objects",
-                               "geometries", "types", "lods")]
+    [
+        (name, "i8")
+        for name in (
+            "line",
+            "begin",
+            "length",
+            "id_begin",
+            "id_length",
+            "objects",
+            "geometries",
+            "types",
+            "lods",
+        )
+    ]
     + [(f"{axis}{end}", "i8") for axis in AXES for end in ("", "min", "max")]
 )
 EXACT = 1 << 53  # whole numbers below this are floats
+SMALL = 1 << 24  # between vertices: sums of their products are exact
+_POLYGON = [("order", "u1"), ("kind", "<u4"), ("rings", "<u4"), ("count", "<u4")]
 SPLIT = 2.0**27 + 1  # splits a float in two halves of 26 bits
 ROW = np.dtype([("key", ">u8"), ("number", ">i8"), ("edges", ">f4", 4)])
 # each byte as two, with a zero between each two bits
@@ -140,6 +154,68 @@ def _polygons(start: bytes, x: Interval, y: Interval) -> List[bytes]:
         made["ring"][:, place] = edge
     polygons: List[bytes] = made.view(f"V{made.itemsize}").tolist()
     return polygons
+
+
+def polygons(
+    surfaces: List[Any], vertices: bytes, axes: Sequence[Axis], scale: Sequence[float], steep: float
+) -> Tuple[int, bytes, List[Any]]:
+    """Returns surfaces as polygons in WKB, as the module `footprints` makes them: how many have a
+    place on a map, these, and the surfaces that are left. Those have holes or a rare length. All
+    are left if a number is too large for floats.
+
+    Args:
+        surfaces: The surfaces, as texts or as rings of the numbers of vertices.
+        vertices: The text of all vertices.
+        axes: The maps of x and y to world coordinates.
+        scale: How long the units of x, y and z are.
+        steep: The least share of the area of a surface that is not vertical.
+    """
+    lengths = [
+        each.count(b",") + 1 if isinstance(each, bytes) and b"[" not in each else 0
+        for each in surfaces
+    ]
+    length = max(set(lengths), key=lengths.count)
+    if length < 3:
+        return 0, b"", surfaces
+    points = np.fromstring(vertices.translate(None, b"[] \t\r\n"), "i8", sep=",").reshape(-1, 3)
+    if not all(map(_are_exact, axes, points.T[:2])) or np.ptp(points, axis=0).max() > SMALL:
+        return 0, b"", surfaces
+    rings = b",".join(each for each, count in zip(surfaces, lengths) if count == length)
+    others = [each for each, count in zip(surfaces, lengths) if count != length]
+    corners = points[np.fromstring(rings, "i8", sep=",").reshape(-1, length)]
+    up = _turns(corners, np.array(scale), steep)
+    places = np.stack(
+        [
+            (corners[..., way] * axis.scale + axis.shift) / axis.unit
+            for way, axis in enumerate(axes)
+        ],
+        axis=2,
+    )[up != 0]
+    left = np.where((up[up != 0] > 0)[:, None, None], places, places[:, ::-1])
+    made: Any = np.empty(len(left), _POLYGON + [("points", "<f8", (length + 1, 2))])
+    made["order"], made["kind"], made["rings"], made["count"] = 1, 3, 1, length + 1
+    made["points"][:, :-1], made["points"][:, -1] = left, left[:, 0]
+    return len(made), made.tobytes(), others
+
+
+def _are_exact(axis: Axis, values: Any) -> bool:
+    """Whether the quotients of some vertices are the nearest floats."""
+    farthest = max(abs(int(values.min())), abs(int(values.max())))
+    return bool(max(farthest * abs(axis.scale) + abs(axis.shift), axis.unit) < EXACT)
+
+
+def _turns(corners: Any, scale: Any, steep: float) -> Any:
+    """Returns for each ring a number above 0 if it turns left on a map, and below 0 if it turns
+    right. 0 if it has no area there, or is vertical."""
+    here = (corners - corners[:, :1]).astype("f8")
+    after = np.roll(here, -1, axis=1)
+    fore, back = [1, 2, 0], [2, 0, 1]
+    normals = ((here - after)[..., fore] * (here + after)[..., back]).sum(axis=1)
+    wide, high, deep = scale
+    normals = normals * np.array([high * deep, wide * deep, wide * high])
+    up = normals[:, 2]
+    aside = np.hypot(normals[:, 0], normals[:, 1])
+    return np.where(np.abs(up) > steep * aside, up, 0)
 
 
 def _cells(numbers: Any, x: Interval, y: Interval) -> bytes:

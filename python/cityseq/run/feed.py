@@ -7,7 +7,7 @@ from collections.abc import Callable, Iterable, Iterator
 from functools import partial
 from typing import Any
 
-from ..engine.faults import ReadFault
+from ..engine.faults import InvalidStream, ReadFault
 from ..engine.judge import SMALL, Answer, judge
 from ..engine.library import Text
 from ..engine.query import Work
@@ -124,10 +124,16 @@ class Fed:
     """
 
     def __init__(
-        self, work: Work, unpacking: Unpacking, most_reports: int, counts_codes: bool
+        self,
+        work: Work,
+        unpacking: Unpacking,
+        most_reports: int,
+        counts_codes: bool,
+        is_whole: bool = False,
     ) -> None:
         """Takes the work, the unpacking, and how many reports are kept. `counts_codes` is whether
-        the reasons of all other reports are counted too."""
+        the reasons of all other reports are counted too. `is_whole` is whether the body is a whole
+        CityJSON file. It waits until all of it has come."""
         reports: list[Report] = []
         codes: Counter[int] = Counter()
 
@@ -141,6 +147,7 @@ class Fed:
         self._fold = Fold(self._cutter, work, tell=keep)
         self._unpacking, self._most_reports = unpacking, most_reports
         self._counts_codes = counts_codes
+        self._whole: list[bytes] | None = [] if is_whole else None
 
     @property
     def ended(self) -> bool:
@@ -161,7 +168,9 @@ class Fed:
         """
         for piece in pieces:
             for text in self._unpacking.feed(piece):
-                if not self.ended:
+                if self._whole is not None:
+                    self._whole.append(text)
+                elif not self.ended:
                     yield from self._tasks(self._cutter.feed(text))
 
     def end(self) -> Iterator[Task]:
@@ -171,9 +180,25 @@ class Fed:
             Broken: The body is cut short.
         """
         rest = self._unpacking.end()
-        if not self.ended:
+        if self._whole is not None:
+            whole, self._whole = b"".join([*self._whole, rest]), []
+            yield from self._of_whole(whole)
+        elif not self.ended:
             yield from self._tasks(self._cutter.feed(rest))
             yield from self._tasks(self._cutter.end())
+
+    def _of_whole(self, whole: bytes) -> Iterator[Task]:
+        """Yields calls that judge the stream of a whole file."""
+        from ..convert.whole import WholeFile  # few bodies need it
+
+        file = WholeFile(whole)
+        try:
+            while piece := file.read(SMALL):
+                yield from self._tasks(self._cutter.feed(piece))
+            yield from self._tasks(self._cutter.end())
+        except InvalidStream as fault:
+            fault.file = BODY
+            yield from self._tasks(self._cutter.end(fault))
 
     def take(self, answer: Answer) -> Text:
         """Joins the answer of the next chunk, and returns its output."""
@@ -192,10 +217,7 @@ class Fed:
         Raises:
             CityseqError: A fault ended the run, such as refused memory.
         """
-        result = self._fold.finish()
-        if result.raises is not None:
-            raise result.raises
-        return result
+        return self._fold.finish().raised()
 
     def _tasks(self, chunks: Iterable[Chunk]) -> Iterator[Task]:
         return (partial(judge, chunk, self.work) for chunk in chunks)

@@ -103,7 +103,7 @@ class Fold:
             origin.file,
             Status(is_invalid),
             joined.lines,
-            joined.kept,
+            self._features,
             joined.refused,
             *joined.peaks,
             end=joined.end,
@@ -115,6 +115,12 @@ class Fold:
         elif isinstance(result, Info) and not self.has_ended and joined.tally is not None:
             result.fill(origin.header, joined.tally)
         return result
+
+    @property
+    def _features(self) -> int:
+        """How many features were kept: with a limit those that were written."""
+        output = self._output
+        return self.joined.kept if output is None or output.limit is None else output.features
 
     def _hints(self) -> list[str]:
         """Returns what the file may be, if its first line ended the run."""

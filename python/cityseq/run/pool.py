@@ -35,10 +35,18 @@ def _start(call: Callable[..., None], *given: Any) -> None:
 
 def _has_stack() -> bool:
     """Whether the calling thread surely has a stack of that size. It must be the first thread of
-    the process, and the system must allow the size."""
+    the process, and the system must allow the size and have the memory: if a stack cannot grow, the
+    process is killed."""
     limit = resource.getrlimit(resource.RLIMIT_STACK)[0]
-    is_enough = limit == resource.RLIM_INFINITY or limit >= STACK
-    return is_enough and threading.current_thread() is threading.main_thread()
+    if threading.current_thread() is not threading.main_thread() or 0 <= limit < STACK:
+        return False
+    try:
+        from mmap import mmap  # few runs need it
+
+        mmap(-1, STACK).close()
+    except (ImportError, MemoryError, OSError):
+        return False
+    return True
 
 
 class Job(Generic[T]):

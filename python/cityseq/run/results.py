@@ -6,11 +6,11 @@ from typing import TYPE_CHECKING
 
 from ..engine.faults import CityseqError, InvalidStream, Status
 from ..engine.reports import Report
-from ..engine.tally import Range, Tally
 
 if TYPE_CHECKING:
     from decimal import Decimal
 
+    from ..engine.tally import Range, Tally
     from ..engine.world import Extent
 
 
@@ -64,8 +64,9 @@ class Result:
         self.raises = fault
 
     def raised(self) -> Result:
-        """Returns the same. Raises the fault that ended the run, if one did, with this result."""
-        if self.raises is not None:
+        """Returns the same. Raises the fault that ended the run, if one did, with this result. A
+        whole file that cannot be split is a verdict, and no such fault."""
+        if self.raises is not None and not isinstance(self.raises, InvalidStream):
             self.raises.result = self
             raise self.raises
         return self

@@ -30,7 +30,7 @@ Results = Generator[Result, None, None]
 Judge = Callable[[Chunk], Answer]
 
 
-def _packed(judge: Judge, pack: Callable[[bytes], bytes], chunk: Chunk) -> Answer:
+def packed(judge: Judge, pack: Callable[[bytes], bytes], chunk: Chunk) -> Answer:
     """Returns the answer for a chunk, with its output packed unless that is short. So all threads
     pack."""
     answer = judge(chunk)
@@ -81,11 +81,12 @@ class Stream:
             judge_by: Judges a chunk. None is the library, in this process.
             chunks: The chunks of the source. None cuts it in this process.
         """
-        self.source, self.work = source, work
+        self.source, self.work, self.output = source, work, output
         self.chunks: ChunkSource = chunks or Chunks(source, work, size)
         self.judge = judge_by or partial(judge, work=work, size=size)
-        if output is not None and output.packing is not None:
-            self.judge = partial(_packed, self.judge, output.pack)
+        self.is_limited = output is not None and output.limit is not None
+        if output is not None and output.packing is not None and not self.is_limited:
+            self.judge = partial(packed, self.judge, output.pack)
         self.fold = Fold(self.chunks, work, output=output, tell=tell, take=take)
         self._progress, self._taken = progress, 0
 
@@ -173,12 +174,14 @@ class _Run:
 
     def take(self, is_next: bool) -> None:
         """Takes the answers of the first call. Reports and records wait until this stream is the
-        first one."""
+        first one. So do all answers if the streams share a limit."""
         answers, is_last = self.calls[0].result()
         self.calls.popleft()  # not before: an interrupted wait leaves the call for `close`
         self.is_read = self.is_read or is_last
-        waits = self.held or any(
-            answer.refused or answer.end is not None or answer.records for answer in answers
+        waits = (
+            self.held
+            or self.stream.is_limited
+            or any(answer.refused or answer.end is not None or answer.records for answer in answers)
         )
         if is_next or not waits:
             self.add(answers)
@@ -207,9 +210,11 @@ class _Order:
     all pipes and sockets, since a read may wait for ever. Packed files are read in pool threads if
     there are several, or only one thread."""
 
-    def __init__(self, submit: Callable[[Callable[[], Answers]], Any], ahead: int) -> None:
-        """Takes what begins a call and returns its job, and how many calls are begun before the
-        first is awaited."""
+    def __init__(
+        self, submit: Callable[[Callable[[], Answers]], Any], ahead: Callable[[], int]
+    ) -> None:
+        """Takes what begins a call and returns its job, and what says how many calls are begun
+        before the first is awaited."""
         self._submit, self._ahead = submit, ahead
         self._runs: deque[_Run] = deque()
 
@@ -221,8 +226,10 @@ class _Order:
                 self._runs.append(run)
                 if not is_sliced:
                     yield from self._read(run)
-                yield from self._taken(self._ahead)
+                yield from self._taken(self._ahead())
             yield from self._taken(0)
+            if self._runs:
+                raise RuntimeError("a stream has no result")
         finally:
             for run in self._runs:
                 run.close()
@@ -232,16 +239,16 @@ class _Order:
         """Begins a call for each chunk of a stream, while the stream has not ended."""
         for chunk in run.chunks:
             run.calls.append(self._submit(partial(_answer_of, run.stream.judge, chunk)))
-            yield from self._taken(0 if chunk.is_pause else self._ahead)
+            yield from self._taken(0 if chunk.is_pause else self._ahead())
             if run.is_read:
                 break
 
     def _taken(self, most: int) -> Results:
         """Takes answers until at most `most` calls wait, and yields the results that are there."""
         while self._runs:
-            self._begin_slices()
             run = self._runs[0]
-            run.release()
+            run.release()  # first: a stream that holds answers begins no call
+            self._begin_slices()
             if run.calls:
                 are_many = sum(len(each.calls) + len(each.held) for each in self._runs) > most
                 if not run.calls[0].done() and not are_many and len(self._runs) < MOST_RUNS:
@@ -295,7 +302,7 @@ def results(streams: Iterable[Stream], jobs: int | None) -> Results:
 
 def _by_pool(streams: Iterable[Stream], jobs: int) -> Results:
     with Pool(jobs) as pool:
-        yield from _Order(pool.submit, jobs + AHEAD).results(_shared_out(streams, jobs))
+        yield from _Order(pool.submit, lambda: jobs + AHEAD).results(_shared_out(streams, jobs))
 
 
 def _shared_out(streams: Iterable[Stream], jobs: int) -> Iterator[tuple[Stream, bool]]:
@@ -307,8 +314,10 @@ def _shared_out(streams: Iterable[Stream], jobs: int) -> Iterator[tuple[Stream, 
 
 
 def results_by(
-    streams: Iterable[Stream], submit: Callable[[Callable[[], Answers]], Any], ahead: int
+    streams: Iterable[Stream],
+    submit: Callable[[Callable[[], Answers]], Any],
+    ahead: Callable[[], int],
 ) -> Results:
     """Yields the result of each stream, in order. `submit` begins a call elsewhere, and returns its
-    future. `ahead` calls begin before the first is awaited."""
+    future. `ahead` says how many calls begin before the first is awaited."""
     return _Order(submit, ahead).results((stream, False) for stream in streams)

@@ -15,7 +15,8 @@
 """
 from __future__ import annotations
 
-from typing import TYPE_CHECKING, Any, Awaitable, Callable, Optional
+from collections.abc import Awaitable, Callable
+from typing import TYPE_CHECKING, Any
 
 from ..engine.faults import RequestError
 
@@ -43,10 +44,10 @@ def _require() -> None:
 
 def app(
     *indexes: Any,
-    base: Optional[str] = None,
-    url: Optional[str] = None,
-    cors: Optional[str] = None,
-    jobs: Optional[int] = None,
+    base: str | None = None,
+    url: str | None = None,
+    cors: str | None = None,
+    jobs: int | None = None,
     limits: Any = None,
 ) -> "web.Application":
     """Returns an application of aiohttp that serves indexes.

@@ -3,22 +3,21 @@ from __future__ import annotations
 
 import gzip
 import zlib
+from collections.abc import Callable, Iterator
 from contextlib import closing
 from hashlib import blake2b
-from typing import Callable, Iterator
 
 from aiohttp import web
 
 from ..indexes.index_pages import Page
-from .bounds import Pace
+from .bounds import Calls, Pace
 from .formats import accepted
-from .logs import SENT
-from .threads import Calls
 
 WHOLE = 1 << 20  # bytes: a shorter answer has its length in its head
 PIECE = 1 << 16  # bytes that are written at once
 PACKED = 1 << 10  # bytes: a shorter answer is not packed
 LEVEL = 4  # of gzip
+SENT = "sent"  # the item of an answer in pieces that has how many bytes were sent
 
 
 def _takes_gzip(request: web.Request) -> bool:

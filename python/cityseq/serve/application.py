@@ -5,9 +5,9 @@ import asyncio
 import re
 import socket
 import struct
+from collections.abc import Awaitable, Callable, Iterator
 from contextlib import contextmanager, suppress
 from functools import partial
-from typing import Awaitable, Callable, Iterator
 from urllib.parse import urlsplit
 
 from aiohttp import web
@@ -16,17 +16,16 @@ from ..cli.output import say
 from ..engine.faults import CityseqError
 from . import bodies
 from .answers import send
-from .bounds import Pace, Places
+from .bounds import Calls, Pace, Places
 from .catalogue import Catalogue
 from .context import Context, Resource, accept_of
 from .formats import HTML, PROBLEM, choose, dumped
 from .html import Pages
 from .links import Links, base_of, host_of, is_known
+from .parameters import Query
 from .problems import Problem, forget, logged, problem_of
-from .queries import Query
 from .resources import table
 from .settings import Settings
-from .threads import Calls
 
 Handler = Callable[[web.Request], Awaitable[web.StreamResponse]]
 POLICY = (

@@ -7,9 +7,10 @@ from __future__ import annotations
 import asyncio
 import json
 from collections import deque
+from collections.abc import AsyncGenerator, Iterable
 from contextlib import aclosing
 from itertools import islice
-from typing import Any, AsyncGenerator, Iterable
+from typing import Any
 
 from aiohttp import web
 
@@ -23,10 +24,9 @@ from ..run.feed import Fed, OtherPacking, Task, TooLong, Unpacking
 from .answers import write
 from .bounds import Pace
 from .context import Context
-from .formats import CITY_JSON_SEQ, LINES
+from .formats import CITY_JSON, CITY_JSON_SEQ, LINES
+from .parameters import Query
 from .problems import Problem, forget
-from .queries import Query
-from .settings import Limits
 
 GO_ON = "100-continue"
 Wanted = Check | Filter
@@ -71,14 +71,15 @@ def _work(wanted: Wanted, query: Query) -> Work:
     )
 
 
-def _is_packed(request: web.Request, limits: Limits) -> bool | None:
-    """Returns whether a body is packed. None if its first bytes must show it.
+def _is_packed(request: web.Request, most: int) -> bool | None:
+    """Returns whether a body of at most so many bytes is packed. None if its first bytes must show
+    it.
 
     Raises:
         BodyFault: It is packed in another way, or its stated length is too long.
     """
-    if request.content_length is not None and request.content_length > limits.body:
-        raise TooLong.than(limits.body)
+    if request.content_length is not None and request.content_length > most:
+        raise TooLong.than(most)
     coding = request.headers.get("Content-Encoding", "identity").strip().lower()
     if coding in ("gzip", "x-gzip"):
         return True
@@ -94,10 +95,10 @@ async def expected(_: web.Request) -> None:
 class Body:
     """The body of a request."""
 
-    def __init__(self, request: web.Request, limits: Limits) -> None:
+    def __init__(self, request: web.Request, most: int) -> None:
         self._content, self._transport = request.content, request.transport
         self._pace: Pace = request["reading"]
-        self._most = limits.body
+        self._most = most
 
     @property
     def size(self) -> int:
@@ -143,14 +144,17 @@ class Judgement:
         """
         request, query, limits = context.request, context.query, context.server.limits
         self._wanted, self._calls = _asked_of(command, query), context.server.calls
-        unpacking = Unpacking(_is_packed(request, limits), limits.body)
+        is_whole = command == "check" and request.content_type == CITY_JSON.media_type
+        most = min(limits.whole, limits.body) if is_whole else limits.body
+        unpacking = Unpacking(_is_packed(request, most), most)
         self.fed = Fed(
             _work(self._wanted, query),
             unpacking,
             self._wanted.max_reports or 0,
             self._wanted.summary,
+            is_whole,
         )
-        self._body = Body(request, limits)
+        self._body = Body(request, most)
 
     async def outputs(self) -> AsyncGenerator[list[Text], None]:
         """Yields the outputs of parts that have been judged, while others are read.

@@ -3,15 +3,15 @@ from __future__ import annotations
 
 import os
 import re
+from collections.abc import Iterator
 from dataclasses import dataclass
 from functools import cached_property
 from hashlib import sha256
-from typing import Iterator
 
 from ..coordinates.systems import System
 from ..engine.faults import RequestError
 from ..indexes.index_pages import OpenStream, Pool
-from ..indexes.line_reader import IndexedStream
+from ..indexes.line_reader import NO_RANGES, IndexedStream
 from .links import segment
 from .problems import Problem
 from .settings import Settings
@@ -70,7 +70,7 @@ class Catalogue:
 
         Raises:
             ReadFault: One cannot be read, or is no index.
-            RequestError: The base is no URL, or a stream that is below it is packed.
+            RequestError: The base is no URL, or a stream that is below it is packed without blocks.
         """
         self._collections: dict[str, Collection] = {}
         self._pools = [Pool(path, settings.base) for path in settings.indexes]
@@ -80,8 +80,8 @@ class Catalogue:
                     self._add(pool, stream)
 
     def _add(self, pool: Pool, stream: IndexedStream) -> None:
-        if pool.base is not None and stream.packing is not None:
-            raise RequestError(f"{stream.path}: a packed stream has no ranges: serve it unpacked")
+        if pool.base is not None and stream.is_slow:
+            raise RequestError(f"{stream.path}: {NO_RANGES}")
         name = first = name_of(stream.told_path)
         number = 1
         while name in self._collections:

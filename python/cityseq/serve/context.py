@@ -1,17 +1,17 @@
 """Resources, and what is known when a request for one is answered."""
 from __future__ import annotations
 
+from collections.abc import Awaitable, Callable
 from dataclasses import dataclass
 from functools import cached_property
-from typing import TYPE_CHECKING, Any, Awaitable, Callable
+from typing import TYPE_CHECKING, Any
 
 from aiohttp import web
 
 from .catalogue import Collection
 from .formats import HTML, Format, choose, dumped
 from .links import Link, Links
-from .parameters import Parameter, of_format
-from .queries import Query
+from .parameters import Parameter, Query, of_format
 
 if TYPE_CHECKING:
     from .application import Server

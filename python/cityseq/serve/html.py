@@ -2,14 +2,15 @@
 from __future__ import annotations
 
 import os
-from typing import Any, Sequence
+from collections.abc import Sequence
+from typing import Any
 
 import jinja2
 
 from .. import __version__
 from ..coordinates.boxes import around
-from ..indexes.index_pages import Found
 from ..engine.escape import shown
+from ..indexes.index_pages import Found
 from .problems import Problem
 
 FOLDER = os.path.dirname(os.path.abspath(__file__))
@@ -30,7 +31,8 @@ def number(value: float) -> str:
 
 
 def boxes(features: Sequence[Found]) -> list[tuple[Found, dict[str, str]]]:
-    """Returns the features that have an extent, with the rectangle of each on a map."""
+    """Returns the features that have an extent, with the rectangle of each on a map, and the path
+    of its ground, which may be empty."""
     placed = [(found, found.extent) for found in features if found.extent is not None]
     if not placed:
         return []
@@ -46,7 +48,15 @@ def boxes(features: Sequence[Found]) -> list[tuple[Found, dict[str, str]]]:
             "width": max((east - west) * scale, LEAST),
             "height": max((north - south) * scale, LEAST),
         }
-        found.append((feature, {name: f"{value:.1f}" for name, value in rectangle.items()}))
+        shape = {name: f"{value:.1f}" for name, value in rectangle.items()}
+        rings = (ring for polygon in feature.footprint for ring in polygon)
+        places = (
+            [(left + (x - whole[0]) * scale, top + (whole[3] - y) * scale) for x, y in ring]
+            for ring in rings
+        )
+        lines = ("L".join(f"{x:.1f},{y:.1f}" for x, y in ring) for ring in places)
+        shape["path"] = "".join(f"M{line}Z" for line in lines)
+        found.append((feature, shape))
     return found
 
 

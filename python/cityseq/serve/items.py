@@ -1,28 +1,27 @@
 """Cuts of a collection: pages of its features, and one of them."""
 from __future__ import annotations
 
+from collections.abc import Callable, Iterator
 from contextlib import closing
 from decimal import ROUND_CEILING, ROUND_FLOOR, Decimal
 from functools import partial
-from typing import Any, Callable, Iterator, NamedTuple
+from typing import Any, NamedTuple
 
 from aiohttp import web
 
-from ..engine.cityjson import whole
 from ..coordinates.boxes import Extent
 from ..coordinates.systems import may_be_degrees
 from ..engine.faults import RequestError
-from ..indexes.index_pages import Block, Found, Page
 from ..engine.world import plain
+from ..indexes.index_pages import Block, Found, Page
 from .answers import send_page
 from .catalogue import Collection, name_of
 from .context import Context
+from .encodings import feature_of, whole
 from .formats import CITY_JSON, CITY_JSON_SEQ, GEOJSON, HTML, JSON, Format, dumped
-from .geojson import feature_of
 from .links import Link, header_of
-from .parameters import MOST_ON_A_PAGE, ON_A_PAGE, SELECTION, USUAL_LIMIT
+from .parameters import MOST_ON_A_PAGE, ON_A_PAGE, SELECTION, USUAL_LIMIT, Query, unescaped
 from .problems import Problem
-from .queries import Query, unescaped
 
 LISTS = ("ids", "type", "lod")
 SELECTS = [each.name for each in SELECTION]
@@ -288,7 +287,7 @@ async def item(context: Context) -> web.StreamResponse:
     collection = asked.collection
     name = unescaped(context.request.raw_path.partition("?")[0].rpartition("/")[2])
     header, block = await context.server.calls.call(find, collection, name)
-    (feature,) = block.features()
+    (feature,) = await context.server.calls.call(block.features)
     path = collection.item_path(feature.id)
     links = asked.links_of(path, lambda form: {"crs": asked.crs_as(form)})
     if asked.chosen == HTML:

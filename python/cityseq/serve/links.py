@@ -2,7 +2,8 @@
 from __future__ import annotations
 
 import ipaddress
-from typing import Any, Callable, Dict, Sequence
+from collections.abc import Callable, Sequence
+from typing import Any
 from urllib.parse import quote, quote_plus, urlsplit
 
 from aiohttp import web
@@ -11,7 +12,7 @@ from .formats import Format
 from .problems import Problem
 from .settings import Settings
 
-Link = Dict[str, str]
+Link = dict[str, str]
 LONGEST = 2_000  # characters of a header with links
 
 

@@ -1,14 +1,21 @@
-"""The parameters of requests, as OpenAPI has them. `queries` reads their texts by the schemas."""
+"""The parameters of requests, as OpenAPI has them, and how their texts are read: strictly, so each
+must be known, and appear once."""
 from __future__ import annotations
 
+import re
+from collections.abc import Sequence
 from dataclasses import dataclass
-from typing import Any, Dict, Sequence
+from datetime import date
+from decimal import Decimal, InvalidOperation
+from typing import Any
+from urllib.parse import unquote_to_bytes
 
 from ..engine.structs import USUAL_DEPTH, USUAL_LINE
 from .formats import Format
+from .problems import Problem
 from .settings import MOST_REPORTS, REPORTS, Limits
 
-Object = Dict[str, Any]
+Object = dict[str, Any]
 USUAL_LIMIT = 1_000
 ON_A_PAGE, MOST_ON_A_PAGE = 50, 1_000  # features as HTML: usually, and at most
 STRING: Object = {"type": "string"}
@@ -154,3 +161,146 @@ def of_judging(limits: Limits) -> tuple[Parameter, ...]:
             _whole(0, MOST_REPORTS, REPORTS),
         ),
     )
+
+
+NUMBER = re.compile(r"[-+]?(?:\d+\.?\d*|\.\d+)(?:[eE][-+]?\d+)?\Z", re.ASCII)
+NUMBERS = "bbox has four numbers, minx,miny,maxx,maxy, or six with heights"
+LONGEST_NUMBER = 100
+WHOLE = re.compile(r"\+?0*(\d+)\Z", re.ASCII)
+DIGITS = 15  # of a whole number
+MOST = 10**DIGITS - 1
+CLOCK = r"(?:[01]\d|2[0-3]):[0-5]\d"
+DATE_TIME = re.compile(  # second 60 is a leap second
+    rf"(\d{{4}}-\d\d-\d\d)(?:T{CLOCK}:(?:[0-5]\d|60)(?:\.\d+)?(?:Z|[-+]{CLOCK}))?\Z",
+    re.ASCII | re.IGNORECASE,
+)
+FLAGS = {"": True, "true": True, "1": True, "false": False, "0": False}
+
+
+def unescaped(text: str) -> str:
+    """Returns a text of a URL without its escapes.
+
+    Raises:
+        Problem: It is not UTF-8.
+    """
+    try:
+        return unquote_to_bytes(text).decode("utf-8")
+    except UnicodeError:
+        raise Problem(400, f"what is escaped is not UTF-8: {text}") from None
+
+
+class Query:
+    """The parameters of a request."""
+
+    def __init__(self, raw: str, known: Sequence[Parameter]) -> None:
+        """Takes the text after the `?`, and the parameters that it may have.
+
+        Raises:
+            Problem: A parameter is not known, or appears twice.
+        """
+        self._known = {each.name: each for each in known}
+        self._raw: dict[str, str] = {}
+        for pair in filter(None, raw.split("&")):
+            name, _, value = pair.replace("+", " ").partition("=")
+            name = unescaped(name)
+            if name not in self._known:
+                names = ", ".join(self._known)
+                raise Problem(400, f"there is no parameter {name}: it is one of {names}")
+            if name in self._raw:
+                raise Problem(400, f"the parameter {name} is given twice")
+            self._raw[name] = value
+        if self._raw.get("f") == "html" and not self._raw.get("bbox", " "):
+            del self._raw["bbox"]  # the field of the form is empty
+
+    def __contains__(self, name: str) -> bool:
+        return name in self._raw
+
+    def text(self, name: str) -> str | None:
+        """Returns the text of a parameter, if it is there."""
+        raw = self._raw.get(name)
+        return None if raw is None else unescaped(raw)
+
+    def texts(self, name: str) -> list[str] | None:
+        """Returns the texts of a parameter, separated by commas. An escaped comma is part of a
+        text."""
+        raw = self._raw.get(name)
+        return None if raw is None else [unescaped(each) for each in raw.split(",")]
+
+    def flag(self, name: str) -> bool:
+        """Returns whether a parameter is `true`, or is there without a value."""
+        text = self.text(name)
+        if text is None:
+            return False
+        if text not in FLAGS:
+            raise Problem(400, f"{name} is true or false: {text}")
+        return FLAGS[text]
+
+    def number(self, name: str) -> int:
+        """Returns the whole number of a parameter, or the one that its schema has for it."""
+        schema, text = self._known[name].schema, self.text(name)
+        if text is None:
+            return int(schema["default"])
+        return _count(name, text, schema["minimum"], schema.get("maximum", MOST))
+
+    def limit(self, most: int, usual: int) -> int:
+        """Returns how many features are asked for, at most `most`. By the standard it is no mistake
+        to ask for more."""
+        text = self.text("limit")
+        return min(most, usual if text is None else _count("limit", text, 1, 10 * MOST + 9))
+
+    def box(self) -> list[Decimal] | None:
+        """Returns the two first and the two last edges of the box that is asked for, or None.
+        Heights of a box of six numbers are left out. Which edge is the west one depends on the
+        system."""
+        text = self.text("bbox")
+        if text is None:
+            return None
+        numbers = [_number(edge.strip(), text) for edge in text.split(",")]
+        if len(numbers) not in (4, 6):
+            raise Problem(400, f"{NUMBERS}: {text}")
+        if len(numbers) == 6:
+            if numbers[2] > numbers[5]:
+                raise Problem(400, f"the box is empty: its third number is above its sixth: {text}")
+            del numbers[5], numbers[2]
+        return numbers
+
+    def check_time(self) -> None:
+        """Checks that `datetime` is a time or an interval. No feature has a time, so it selects
+        all."""
+        text = self.text("datetime")
+        if text is None:
+            return
+        parts = text.split("/")
+        are_times = (_is_time(part) or (len(parts) == 2 and part in ("", "..")) for part in parts)
+        if len(parts) > 2 or not all(are_times):
+            raise Problem(400, f"datetime is a time as of RFC 3339, or two with / between: {text}")
+
+
+def _count(name: str, text: str, least: int, greatest: int) -> int:
+    """Returns a whole number. Of one with more than 16 digits only these are read."""
+    found = WHOLE.match(text)
+    number = 0 if found is None else min(int(found[1][: DIGITS + 1]), greatest + 1)
+    if found is None or not least <= number <= greatest:
+        raise Problem(400, f"{name} is a whole number from {least} to {greatest}: {text}")
+    return number
+
+
+def _is_time(text: str) -> bool:
+    """Returns whether a text is a date, or a date and a time, that there is."""
+    found = DATE_TIME.match(text)
+    try:
+        return found is not None and bool(date.fromisoformat(found.group(1)))
+    except ValueError:
+        return False
+
+
+def _number(text: str, whole: str) -> Decimal:
+    if len(text) > LONGEST_NUMBER or not NUMBER.match(text):
+        raise Problem(400, f"{NUMBERS}: {whole}")
+    try:
+        number = Decimal(text)
+    except InvalidOperation:  # its exponent has too many digits
+        number = Decimal("Infinity")
+    if number != 0 and not (number.is_finite() and abs(number.adjusted()) <= LONGEST_NUMBER):
+        raise Problem(400, f"a number of bbox is out of range: {whole}")
+    return number

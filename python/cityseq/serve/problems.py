@@ -5,6 +5,7 @@ import errno
 from http import HTTPStatus
 from typing import Any
 
+from ..engine.escape import shown
 from ..engine.faults import (
     CityseqError,
     InvalidStream,
@@ -14,9 +15,8 @@ from ..engine.faults import (
     RequestError,
     why,
 )
-from ..run.feed import BodyFault, OtherPacking, TooLong
 from ..indexes.index_pages import Replaced
-from ..engine.escape import shown
+from ..run.feed import BodyFault, OtherPacking, TooLong
 
 LONGEST = 1_000  # characters of a detail: it may contain what a client sent
 NO_DESCRIPTOR = (errno.EMFILE, errno.ENFILE)

@@ -77,7 +77,8 @@ def _judging(limits: Limits) -> tuple[Resource, ...]:
             check,
             (LINES,),
             (*of_judging(limits), SUMMARY),
-            description="An object a line: each report, then the result.",
+            description="An object a line: each report, then the result. A body of the type"
+            " application/city+json is a whole CityJSON file.",
         ),
         Resource(
             "/filter",

@@ -2,7 +2,7 @@
 from __future__ import annotations
 
 from dataclasses import dataclass, field
-from typing import Any, Optional, Tuple
+from typing import Any
 from urllib.parse import urlsplit
 
 from ..cli.requests import Serve
@@ -22,6 +22,7 @@ class Limits:
         bodies: Bodies that it takes at once.
         connections: Connections that are open. One more is closed at once.
         body: Bytes of a body, as it comes and after it is unpacked.
+        whole: The same of a whole CityJSON file, which is in memory.
         seconds: Seconds for a request in all.
         idle: Seconds that it waits for a client that sends and takes nothing.
         rate: Bytes that a client must send or take in a second in which the server waits for it.
@@ -35,6 +36,7 @@ class Limits:
     bodies: int = Serve.max_bodies
     connections: int = CONNECTIONS
     body: int = Serve.max_body
+    whole: int = Serve.max_whole
     seconds: float = Serve.max_seconds
     idle: float = Serve.idle_seconds
     rate: float = Serve.min_rate
@@ -58,12 +60,12 @@ class Settings:
         limits: Its limits.
     """
 
-    indexes: Tuple[str, ...] = ()
-    base: Optional[str] = None
-    url: Optional[str] = None
-    names: Tuple[str, ...] = ()
-    cors: Optional[str] = None
-    jobs: Optional[int] = None
+    indexes: tuple[str, ...] = ()
+    base: str | None = None
+    url: str | None = None
+    names: tuple[str, ...] = ()
+    cors: str | None = None
+    jobs: int | None = None
     limits: Limits = field(default_factory=Limits)
 
     def __post_init__(self) -> None:

@@ -8,9 +8,9 @@ from ..engine.judge import SMALL, part_size
 from ..engine.query import Work
 from .chunks import Chunk, file_chunks
 from .cutter import HEAD, Cutter
-from .packed import Unpacker
+from .packed import Note, Unpacker
 from .regular import RegularFile, regular_file
-from .source import PIECE, Reader, Source, State, Watch, is_path, name_of, opened
+from .source import PIECE, Reader, Source, State, Watch, is_path, name_of, opened, watch_of
 
 PART = 4 << 20  # bytes of a chunk, unless one line is longer
 
@@ -49,13 +49,16 @@ class Chunks:
         work: Work,
         size: int | None = None,
         kind: type[RegularFile] = RegularFile,
+        note: Note | None = None,
     ) -> None:
-        """Takes the size of chunks, and the class of a regular file. None is the usual size."""
+        """Takes the size of chunks, the class of a regular file, and what gets the members of a
+        packed one. None is the usual size."""
         self.file, self.header, self.head = name_of(source), b"", b""
         self.watch: Watch | None = None
         self.unpacker: Unpacker | None = None
         self.regular: RegularFile | None = None
         self._source, self._work, self._size, self._kind = source, work, size, kind
+        self._note = note
         self._usual = SMALL if work.kind == "records" else PART
 
     @property
@@ -71,7 +74,9 @@ class Chunks:
     def __iter__(self) -> Generator[Chunk, None, None]:
         try:
             with opened(self._source) as reader:
-                self.watch = Watch.of(reader.file)
+                self.watch = watch_of(reader.file)
+                if isinstance(reader.file, Unpacker):
+                    reader.file.note = self._note
                 yield from self._of(reader)
         except ReadFault as fault:
             yield Chunk(self.file, is_last=True, fault=fault)
@@ -105,4 +110,4 @@ class Chunks:
     def _of_file(self, file: RegularFile) -> Iterator[Chunk]:
         work = self._work
         size = part_size(work, self._usual, self.header, self._size)
-        return file_chunks(self.file, self.header, file, size, work.line_limit, work.keep_going)
+        return file_chunks(self.file, self.header, file, size, work)

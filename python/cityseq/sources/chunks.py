@@ -6,7 +6,10 @@ from dataclasses import dataclass
 
 from ..engine.faults import CityseqError
 from ..engine.library import Text, library
-from .regular import RegularFile
+from ..engine.query import Work
+from .regular import LOOK, RegularFile
+
+TAIL = 1 << 22  # bytes at the end of a line that is too long: a report finds its vertices there
 
 
 def whole_lines(text: Text) -> int:
@@ -72,12 +75,14 @@ class FileChunk(Chunk):
         source: The file.
         line_limit: The most bytes in a line.
         keep_going: Whether a line that is too long is followed by others.
+        has_tails: Whether a line that is too long is read up to its end, to keep some bytes there.
     """
 
     end: int = 0
     source: RegularFile | None = None
     line_limit: int = 0
     keep_going: bool = False
+    has_tails: bool = False
 
     @property
     def length(self) -> int:
@@ -91,6 +96,7 @@ class FileChunk(Chunk):
         read = self.source.read_own if is_own else self.source.read
         begin, end, is_cut, fault = self._bounds(self.source)
         step, is_first, is_over = size, self.is_first, begin >= end
+        self.source.expect(end)
         while not is_over:
             wanted = end if end - begin <= step + step // 4 else begin + step
             part, failed = read(begin, wanted)
@@ -102,7 +108,8 @@ class FileChunk(Chunk):
                 step *= 4  # for a longer line
                 continue
             if length or is_first:
-                yield begin, bytearray(part) + b"\n" if is_cut and is_whole else part[:length]
+                is_end = is_cut and is_whole
+                yield begin, bytearray(part) + self._tail(end) + b"\n" if is_end else part[:length]
             fault = failed or fault
             begin, step, is_first = begin + length, size, False
         if fault is not None:
@@ -125,13 +132,21 @@ class FileChunk(Chunk):
             return begin, found, False, None
         return begin, last, self.keep_going and last < source.size, None
 
+    def _tail(self, cut: int) -> bytes:
+        """Returns the end of a line that is too long, after the byte where it was cut."""
+        if not self.has_tails or self.source is None:
+            return b""
+        found = self.source.line_end(cut, self.source.size)
+        end = self.source.size if found is None else found - 1
+        return self.source.look(max(cut, end - TAIL), end)
+
 
 def file_chunks(
-    file: str, header: bytes, source: RegularFile, size: int, line_limit: int, keep_going: bool
+    file: str, header: bytes, source: RegularFile, size: int, work: Work
 ) -> Iterator[FileChunk]:
     """Yields chunks of `size` bytes of a regular file, from the end of its header on."""
-    for begin in range(len(header), source.size, size):
-        end = min(begin + size, source.size)
+    begin = len(header)
+    for end in _ends(source, begin, size, work.line_limit):
         yield FileChunk(
             file,
             header,
@@ -140,6 +155,28 @@ def file_chunks(
             is_last=end == source.size,
             end=end,
             source=source,
-            line_limit=line_limit,
-            keep_going=keep_going,
+            line_limit=work.line_limit,
+            keep_going=work.keep_going,
+            has_tails=work.kind == "records",
         )
+        begin = end
+
+
+def _ends(source: RegularFile, begin: int, size: int, line_limit: int) -> Iterator[int]:
+    """Yields where chunks end. Short chunks in which no line begins are joined to the one before,
+    because a chunk takes time of its own. A long chunk without a line is rare."""
+    while begin < source.size:
+        end = begin + size
+        if size < LOOK and end < source.size:
+            last = min(end + line_limit, source.size)
+            try:
+                after = source.line_end(end - 1, last)
+            except OSError:  # who reads the lines finds it too
+                after = end
+            found = after or last
+            joined = found if found == source.size else end + (found - end) // size * size
+            if after is None and end < joined < source.size:  # the line is too long
+                yield end
+            end = joined
+        begin = min(end, source.size)
+        yield begin

@@ -7,7 +7,7 @@ from ..engine.faults import CityseqError
 from ..engine.judge import part_size
 from ..engine.library import library
 from ..engine.query import Work
-from .chunks import Chunk, whole_lines
+from .chunks import TAIL, Chunk, whole_lines
 
 HEAD = 65_536  # bytes at the beginning of a stream that are kept, to say what it may be
 
@@ -33,6 +33,7 @@ class Cutter:
         self._rest = bytearray()
         self._seen = 0  # bytes at the beginning of the rest that have no LF
         self._too_long = b""  # the beginning of a line that is too long and has not ended
+        self._tail = bytearray()  # what has come of its end
         self._is_first = self.is_open = True
 
     def feed(self, piece: bytes) -> Iterator[Chunk]:
@@ -73,7 +74,8 @@ class Cutter:
             self.header, self.head = bytes(self._rest), bytes(self._rest[:HEAD])
             self._rest.clear()
         if self._too_long:
-            self._rest = bytearray(self._too_long)
+            self._drop(len(self._rest))
+            self._rest = bytearray(self._too_long) + self._tail
         text = self._take(len(self._rest) if fault is None else whole_lines(self._rest))
         yield self._chunk(text, is_last=True, fault=fault)
 
@@ -116,7 +118,9 @@ class Cutter:
         """Keeps the beginning of a line that is too long: one byte more than the limit, which is
         enough to reject it. If the run does not go on after it, yields it."""
         beginning = self._rest[: self._work.line_limit + 1]
-        self._rest.clear()
+        del self._rest[: len(beginning)]
+        self._tail.clear()
+        self._drop(len(self._rest))
         self._seen = 0
         if self._work.keep_going:
             self._too_long = bytes(beginning)
@@ -124,14 +128,22 @@ class Cutter:
             self.is_open = False
             yield self._chunk(beginning, is_last=True)
 
+    def _drop(self, count: int) -> None:
+        """Drops the next bytes of a line that is too long. Keeps its end if records are asked for:
+        a report finds the vertices there."""
+        if self._work.kind == "records":
+            self._tail += self._rest[:count]
+            del self._tail[:-TAIL]
+        del self._rest[:count]
+
     def _end_of_too_long(self) -> Iterator[Chunk]:
         """Searches for the end of a line that is too long, and yields the line if it is there."""
-        end = self._rest.find(b"\n") + 1
-        if not end:
-            self._rest.clear()
+        end = self._rest.find(b"\n")
+        self._drop(end if end >= 0 else len(self._rest))
+        if end < 0:
             return
-        text, self._too_long = bytearray(self._too_long) + b"\n", b""
-        del self._rest[:end]
+        text, self._too_long = bytearray(self._too_long) + self._tail + b"\n", b""
+        del self._rest[:1]
         yield self._chunk(text)
 
     def _take(self, end: int) -> bytearray:

@@ -50,11 +50,11 @@ GEO = "It is GeoJSON: cityseq reads CityJSONSeq, which has other objects and nee
 ARRAY = "It is a JSON array: write each of its items on a line of its own, without the brackets."
 MANY_LINES = (
     "It is one JSON text over many lines: a stream has a header and then each feature on one line."
-    " Convert it, as by cjseq."
+    " Make a stream of it, as by cityseq-run split."
 )
 ONE_LINE = (
     "It is one CityJSON object with all city objects: a stream has none in its first line."
-    " Convert it, as by cjseq."
+    " Make a stream of it, as by cityseq-run split."
 )
 FEATURE_FIRST = (
     "Its first line is a feature: put the header before it, the line that has the transform."

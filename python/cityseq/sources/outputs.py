@@ -9,6 +9,7 @@ import select
 import stat
 import sys
 from contextlib import suppress
+from functools import partial
 from typing import IO, Any, Callable, List, Optional, Tuple, Union
 
 from ..engine.faults import RequestError, write_fault
@@ -17,11 +18,26 @@ from .source import is_path, name_of
 
 Target = Union[str, bytes, "os.PathLike[Any]", IO[bytes]]
 
+OTHER_PACKINGS = (".xz", ".lzma", ".bz2", ".lz4", ".br", ".z", ".zip", ".7z", ".tgz")
 PART = ".part"  # the end of a file's name until it is whole
 LONGEST = 255  # bytes of a file's name
 NEW = os.O_RDWR | os.O_CREAT | os.O_EXCL | getattr(os, "O_CLOEXEC", 0)
 USUAL_MODE = 0o666  # of a new file, before the system's mask
 OWN_MODE = 0o600  # what its owner may do while the file is written
+
+
+def checked_output(path: str) -> str:
+    """Returns the path of an output.
+
+    Raises:
+        RequestError: It is empty, or it names a packing that is not there.
+    """
+    if not path:
+        raise RequestError("the name of an output is empty")
+    if path.lower().endswith(OTHER_PACKINGS):
+        words = "cityseq packs by gzip or Zstandard: let the name end in .gz or .zst"
+        raise RequestError(words, None, path)
+    return path
 
 
 def target_of(path: str) -> Optional[str]:
@@ -219,9 +235,47 @@ class _Decoded:
         return len(text)
 
 
+class Limit:
+    """How many features may still be written, to all outputs of a run.
+
+    Attributes:
+        left: Their number.
+    """
+
+    def __init__(self, most: int) -> None:
+        self.left = most
+
+    @classmethod
+    def of(cls, most: Optional[int]) -> Optional["Limit"]:
+        """Returns the limit of so many features. None if there is none.
+
+        Raises:
+            RequestError: It is no number of features.
+        """
+        if most is None:
+            return None
+        if isinstance(most, bool) or not isinstance(most, int) or most < 0:
+            raise RequestError(f"a limit is a whole number from 0: {most!r}")
+        return cls(most)
+
+    def end(self, text: bytes, begin: int) -> int:
+        """Returns where those of the lines of a text end that may be written. Each line from
+        `begin` on is a feature."""
+        while self.left and begin < len(text):
+            begin = text.find(b"\n", begin) + 1 or len(text)
+            self.left -= 1
+        return begin
+
+
 class Writer:
     """Writes to a target: a path, `-` for standard output, or a binary file. A path is opened at
-    the first call of `write` or `close`. So the file exists even if nothing is kept."""
+    the first call of `write` or `close`. So the file exists even if nothing is kept.
+
+    Attributes:
+        limit: How many features may be written. None sets no limit. Otherwise each text has whole
+            lines, and the first one begins with the header.
+        features: How many features were written, if there is a limit.
+    """
 
     def __init__(
         self,
@@ -240,6 +294,10 @@ class Writer:
             batch: Gives a whole path its name, if it is there.
             level: How well an output is packed, from 1 to 9.
             see: Is called with each text before it is packed, in any thread.
+
+        Raises:
+            RequestError: An output cannot be this.
+            WriteFault: The package for its packing is missing.
         """
         if isinstance(target, io.TextIOBase) or not (
             isinstance(target, (str, bytes, os.PathLike)) or hasattr(target, "write")
@@ -248,10 +306,12 @@ class Writer:
         if isinstance(target, bytes):
             target = os.fsdecode(target)
         self.name = name_of(target)
-        self._path = os.fsdecode(target) if is_path(target) else None  # type: ignore[arg-type]
+        self._path = checked_output(self.name) if is_path(target) else None
         self._part: Optional[Part] = None  # where the path is written until it is whole
         self._file: Any = target if hasattr(target, "write") else None
         self._keep_partial, self._batch, self._level, self._see = keep_partial, batch, level, see
+        self.limit: Optional[Limit] = None
+        self.features, self._has_header = 0, False
         if self.packing is not None:
             try:
                 require(self.packing)
@@ -270,6 +330,14 @@ class Writer:
             self._see(text)
         return pack(text, self.packing, self._level)
 
+    @property
+    def packer(self) -> Optional[Callable[[Text], bytes]]:
+        """What packs a text in another process. None if the output is not packed, or if this
+        process must see the text."""
+        if self.packing is None or self._see is not None:
+            return None
+        return partial(pack, packing=self.packing, level=self._level)
+
     def write_packed(self, text: bytes) -> None:
         """Writes bytes that `pack` returned."""
         try:
@@ -281,10 +349,20 @@ class Writer:
         """Writes all of these bytes. Packs them if the output is packed."""
         if self._see is not None:
             self._see(text)
+        if self.limit is not None:
+            text = self._limited(bytes(text), self.limit)
         try:
             write_all(self._opened(), text)
         except (OSError, ValueError) as fault:
             raise write_fault(fault, self.name) from fault
+
+    def _limited(self, text: bytes, limit: Limit) -> bytes:
+        """Returns the header, and the features that may still be written."""
+        begin = 0 if self._has_header else text.find(b"\n") + 1 or len(text)
+        self._has_header, before = True, limit.left
+        end = limit.end(text, begin)
+        self.features += before - limit.left
+        return text[:end]
 
     def close(self, whole: bool) -> None:
         """Flushes the output, and closes a file that was opened here. Renames the file if it is

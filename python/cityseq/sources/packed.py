@@ -10,12 +10,15 @@ import enum
 import io
 import struct
 import zlib
+from collections.abc import Callable
 from importlib import import_module
 from typing import IO, Any
 
 Text = bytes | bytearray | memoryview
+Note = Callable[[int, int, bool], None]
 
 READ = 1 << 17  # bytes of an archive that are read at once
+HEAD = 18  # bytes before the text of a block of BGZF
 READ_ZSTD = 1 << 11  # fewer, since all that they unpack to is in memory
 BLOCK = 65_280  # bytes of a text in a block of BGZF
 LEVEL = 4  # how well a text is packed, from 1 to 9
@@ -62,11 +65,22 @@ def _zstandard() -> Any:
         raise OSError("there is no zstandard for Python: install python3-zstandard") from None
 
 
+def is_block(head: bytes) -> bool:
+    """Whether a member of gzip with these first bytes is a block of BGZF, which gives its own
+    length."""
+    return head.startswith(Packing.GZIP.mark) and head[3:4] == b"\4" and head[12:16] == b"BC\2\0"
+
+
+def block_length(head: bytes) -> int:
+    """Returns the length that a block of BGZF gives itself."""
+    return int.from_bytes(head[16:HEAD], "little") + 1
+
+
 class Gzip:
     """Unpacks the members of a gzip archive."""
 
     faults: tuple[type[Exception], ...] = (zlib.error,)
-    read = READ
+    read, head = READ, HEAD
 
     @staticmethod
     def member() -> Any:
@@ -83,7 +97,7 @@ class Gzip:
 class _Zstd:
     """Unpacks the frames of a Zstandard archive."""
 
-    read = READ_ZSTD
+    read, head = READ_ZSTD, len(Packing.ZSTD.mark)
 
     def __init__(self) -> None:
         zstandard = _zstandard()
@@ -102,11 +116,16 @@ class _Zstd:
 
 
 class Unpacker(io.RawIOBase):
-    """The text of a packed file. One member of the file follows another.
+    """The text of a packed file. One member of the file follows another. An archive of BGZF is cut
+    short if its last block is not empty.
 
     Attributes:
         packing: How the file is packed.
         taken: How many bytes of the file were read.
+        note: Is called at the beginning of each member and at the end of the archive, with the
+            bytes of the text and of the file before it, and whether a block of BGZF or the end is
+            there.
+        packed: The file.
     """
 
     def __init__(self, file: IO[bytes], packing: Packing, head: bytes = b"") -> None:
@@ -119,7 +138,11 @@ class Unpacker(io.RawIOBase):
         self._has_begun = False
         self._packed = head
         self._text = b""
+        self._length = self._begun = 0  # bytes of text, all and before the last member
+        self._is_block = False  # whether the last member is a block of BGZF
         self.taken = len(head)
+        self.note: Note | None = None
+        self.packed = file
 
     def fileno(self) -> int:
         """The descriptor of the packed file."""
@@ -164,6 +187,7 @@ class Unpacker(io.RawIOBase):
     def _more(self, most: int) -> bytes:
         """Returns some more text of a member, or none if more of the file must be read."""
         text = self._kind.more(self._member, self._packed, most)
+        self._length += len(text)
         is_whole = self._member.eof
         self._packed = (
             self._member.unused_data if is_whole else getattr(self._member, "unconsumed_tail", b"")
@@ -187,14 +211,20 @@ class Unpacker(io.RawIOBase):
         while True:
             if self._has_begun:
                 self._packed = self._packed.lstrip(b"\0")
-            if len(self._packed) >= len(self._mark) or not self._fill():
+            if len(self._packed) >= self._kind.head or not self._fill():
                 break
-        if not self._packed:
-            return False
-        if not self._packed.startswith(self._mark):
+        if self._packed and not self._packed.startswith(self._mark):
             raise OSError("what is there is no archive")
-        self._member, self._has_begun = self._kind.member(), True
-        return True
+        if not self._packed and self._is_block and self._length > self._begun:
+            raise EOFError("the archive is cut short: its empty last block is missing")
+        self._is_block, self._begun = is_block(self._packed), self._length
+        if self.note is not None:
+            self.note(
+                self._length, self.taken - len(self._packed), self._is_block or not self._packed
+            )
+        if self._packed:
+            self._member, self._has_begun = self._kind.member(), True
+        return bool(self._packed)
 
 
 def _block(text: Text, level: int) -> bytes:

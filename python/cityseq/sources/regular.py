@@ -4,18 +4,22 @@ from __future__ import annotations
 import io
 import os
 import stat
-from typing import Any
+from typing import TYPE_CHECKING, Any
 
 from ..engine.library import library
 from ..engine.memory import Room
+from .source import remote_of
+
+if TYPE_CHECKING:
+    from .remote import RemoteFile
 
 PIECE = 1 << 20  # the most bytes of one read
 LOOK = 1 << 14  # bytes of the first read for the end of a line
 _room = Room()  # for the parts of a thread, one after another
 
 
-class RegularFile:
-    """A regular file that is read at any place. It stays open as long as this object exists."""
+class _Descriptor:
+    """A file of this system. It stays open as long as this object exists."""
 
     def __init__(self, descriptor: int) -> None:
         self._descriptor = -1
@@ -26,15 +30,45 @@ class RegularFile:
         if self._descriptor >= 0:
             os.close(self._descriptor)
 
-    @property
-    def state(self) -> tuple[int, int]:
-        """The size, and the time of change in nanoseconds."""
+    def state_now(self) -> tuple[int, int]:
+        """Returns the size, and the time of change in nanoseconds."""
         told = os.fstat(self._descriptor)
         return told.st_size, told.st_mtime_ns
 
-    def look(self, begin: int, end: int) -> bytes:
+    def read(self, begin: int, end: int) -> bytes:
         """Returns the bytes between two places, or those that one read gives."""
         return os.pread(self._descriptor, end - begin, begin)
+
+    def expect(self, end: int) -> None:
+        """Does nothing: the system reads ahead."""
+
+    def fill(self, room: memoryview, begin: int) -> int:
+        """Fills some of a room from a place on. Returns how many bytes it read."""
+        return os.preadv(self._descriptor, [room], begin)
+
+
+class RegularFile:
+    """A regular file, or one by its URL, that is read at any place."""
+
+    def __init__(self, file: int | RemoteFile) -> None:
+        """Takes a descriptor, or the file of a URL."""
+        self._file: Any = _Descriptor(file) if isinstance(file, int) else file
+        self.size = self._file.size
+
+    @property
+    def state(self) -> tuple[int, int]:
+        """The size, and the time of change in nanoseconds, or what stands for it."""
+        state: tuple[int, int] = self._file.state_now()
+        return state
+
+    def look(self, begin: int, end: int) -> bytes:
+        """Returns the bytes between two places, or those that one read gives."""
+        found: bytes = self._file.read(begin, end)
+        return found
+
+    def expect(self, end: int) -> None:
+        """Notes that this thread will read up to a place."""
+        self._file.expect(end)
 
     def line_end(self, begin: int, last: int) -> int | None:
         """Returns the place after the first LF between two places. None if there is none."""
@@ -56,7 +90,7 @@ class RegularFile:
         count = 0
         try:
             while count < len(room):
-                read = os.preadv(self._descriptor, [room[count:]], begin + count)
+                read = self._file.fill(room[count:], begin + count)
                 if read == 0:
                     break
                 count += read
@@ -88,6 +122,9 @@ class RegularFile:
 
 def regular_file(file: Any, kind: type[RegularFile] = RegularFile) -> RegularFile | None:
     """Returns the regular file of a file object, as one of this kind. None if it has none."""
+    remote = remote_of(file)
+    if remote is not None:
+        return kind(remote) if isinstance(file, io.BufferedReader) else None
     try:
         if (
             isinstance(file, io.BufferedReader)

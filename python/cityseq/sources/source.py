@@ -3,21 +3,30 @@ from __future__ import annotations
 
 import contextlib
 import io
+import mmap
 import os
 import select
 import stat
 import sys
 from collections.abc import Iterator
-from typing import IO, TYPE_CHECKING, Any, Union
+from typing import IO, TYPE_CHECKING, Any, Protocol, Union
 
-from ..engine.faults import READ_FAULTS, ReadFault, RequestError, read_fault
+from ..engine.faults import (
+    READ_FAULTS,
+    CityseqError,
+    InvalidStream,
+    ReadFault,
+    RequestError,
+    read_fault,
+)
 from .packed import Packing, Unpacker, may_be_packed, packing_by_mark, packing_of
 
 if TYPE_CHECKING:
     from array import array
-    from mmap import mmap
 
-    Buffer = Union[bytes, bytearray, memoryview, array[Any], mmap]
+    from .remote import RemoteFile
+
+    Buffer = Union[bytes, bytearray, memoryview, array[Any], mmap.mmap]
 
 Source = Union[str, "os.PathLike[Any]", "Buffer", IO[bytes]]
 
@@ -34,10 +43,26 @@ def is_path(source: Any) -> bool:
     return isinstance(source, (str, os.PathLike)) and os.fsdecode(source) != "-"
 
 
+def is_url(source: Any) -> bool:
+    """Whether a source is a URL that `fsspec` reads, such as s3://bucket/town.city.jsonl."""
+    if not isinstance(source, str) or "://" not in source:
+        return False
+    scheme = source.partition("://")[0]
+    signs = scheme.replace("+", "").replace("-", "").replace(".", "").replace(":", "")
+    return scheme[:1].isalpha() and signs.isascii() and signs.isalnum()
+
+
+def remote_of(file: Any) -> RemoteFile | None:
+    """Returns the file of a URL that a file object reads or unpacks. None for other files."""
+    inner = file.packed if isinstance(file, Unpacker) else file
+    return getattr(getattr(inner, "raw", None), "remote", None)
+
+
 def bytes_of(source: Any) -> memoryview | None:
-    """Returns the bytes of a source that is an object with bytes, such as `bytes` or an array. None
-    for other sources."""
-    if isinstance(source, (str, os.PathLike)) or hasattr(source, "read"):
+    """Returns the bytes of a source that is an object with bytes, such as `bytes`, an array or a
+    mapped file. None for other sources."""
+    is_file = hasattr(source, "read") and not isinstance(source, mmap.mmap)
+    if is_file or isinstance(source, (str, os.PathLike)):
         return None
     try:
         return memoryview(source).cast("B")
@@ -47,6 +72,8 @@ def bytes_of(source: Any) -> memoryview | None:
 
 def name_of(source: Any) -> str:
     """Returns the name of a source in reports."""
+    if is_url(source):
+        return str(source).partition("?")[0]  # a query may have a key in it
     if isinstance(source, (str, os.PathLike)):
         return os.fsdecode(source)
     if bytes_of(source) is not None:
@@ -61,6 +88,10 @@ def size_of(source: Any) -> int | None:
     held = bytes_of(source)
     if held is not None:
         return held.nbytes
+    if is_url(source):
+        with contextlib.suppress(OSError), open_raw(source) as file:
+            return file.raw.remote.size  # type: ignore[no-any-return]
+        return None
     return os.path.getsize(source) if is_path(source) and os.path.isfile(source) else None
 
 
@@ -88,7 +119,7 @@ class Reader:
         first bytes show that it is packed."""
         self.file, self.name = file, name
         self._read: Any = getattr(file, "read1", None) or file.read
-        self.fault: ReadFault | None = None
+        self.fault: CityseqError | None = None
         self._poll = _poll_of(file)
         self._has_begun = is_text
 
@@ -110,6 +141,8 @@ class Reader:
                 self._has_begun = True
                 piece = self._text_of(piece, most)
             return piece
+        except InvalidStream as fault:  # of a whole file
+            self.fault, self._read = fault, io.BytesIO().read
         except READ_FAULTS as fault:
             self.fault, self._read = read_fault(fault, self.name), io.BytesIO().read
         return b""
@@ -138,10 +171,34 @@ class Reader:
         return self._piece(most)
 
 
+def open_raw(path: str) -> Any:
+    """Returns the file object of a path or of a URL, which gives the bytes as they are."""
+    if not is_url(path):
+        return open(path, "rb")
+    from .remote import open_url  # few runs need it
+
+    return open_url(path)
+
+
+def _raw_or_parts(path: str) -> Any:
+    """Returns the same as `open_raw`, or what reads the parts of a folder."""
+    try:
+        return open_raw(path)
+    except IsADirectoryError as fault:
+        from .parts import PartsReader  # few runs need it
+
+        try:
+            return PartsReader(path)
+        except FileNotFoundError:
+            raise fault from None
+
+
 def _open_path(path: str) -> Any:
     """Returns the file object of a path. It unpacks a packed file."""
-    file = open(path, "rb")
+    file = _raw_or_parts(path)
     try:
+        if not isinstance(file, io.BufferedReader):
+            return file
         packing = packing_of(file.peek(len(Packing.ZSTD.mark)), path)
         return file if packing is None else Unpacker(file, packing)
     except BaseException:
@@ -174,23 +231,35 @@ def _open(source: Source) -> Any:
 def is_packed(source: Any) -> bool:
     """Whether a source is the path of a packed file."""
     try:
-        if not is_path(source) or not os.path.isfile(source):
+        if not is_url(source) and not (is_path(source) and os.path.isfile(source)):
             return False
-        with open(source, "rb") as file:
+        with open_raw(source) as file:
             return packing_of(file.peek(len(Packing.ZSTD.mark)), os.fsdecode(source)) is not None
     except OSError:
         return False
 
 
-def state_of(descriptor: int) -> State:
-    """Returns the size of an open file, and its time of change in nanoseconds. If one of them
-    differs later, the file has changed."""
-    told = os.fstat(descriptor)
+def state_of(file: Any) -> State:
+    """Returns the size of an open file, and its time of change in nanoseconds, or what stands for
+    it if the file has a URL. If one of them differs later, the file has changed."""
+    remote = remote_of(file)
+    if remote is not None:
+        return remote.state_now()
+    told = os.fstat(file if isinstance(file, int) else file.fileno())
     return told.st_size, told.st_mtime_ns
 
 
-class Watch:
-    """Shows whether a regular file has changed since the watch was made."""
+class Watch(Protocol):
+    """Shows whether a file has changed since the watch was made."""
+
+    state: State
+
+    def is_changed(self) -> bool:
+        """Whether the file is in another state than at the beginning."""
+
+
+class _Watch:
+    """A watch of a regular file of this system."""
 
     def __init__(self, descriptor: int) -> None:
         self._descriptor = -1
@@ -201,25 +270,28 @@ class Watch:
         if self._descriptor >= 0:
             os.close(self._descriptor)
 
-    @classmethod
-    def of(cls, file: Any) -> Watch | None:
-        """Returns a watch of the file of a file object. None if there is no regular file."""
-        try:
-            descriptor = file.fileno()
-            return cls(descriptor) if stat.S_ISREG(os.fstat(descriptor).st_mode) else None
-        except (AttributeError, OSError, ValueError):
-            return None
-
     def is_changed(self) -> bool:
         """Whether the file is in another state than at the beginning."""
         return state_of(self._descriptor) != self.state
+
+
+def watch_of(file: Any) -> Watch | None:
+    """Returns a watch of the file of a file object. None if it is neither regular nor of a URL."""
+    remote = remote_of(file)
+    if remote is not None:
+        return remote
+    try:
+        descriptor = file.fileno()
+        return _Watch(descriptor) if stat.S_ISREG(os.fstat(descriptor).st_mode) else None
+    except (AttributeError, OSError, ValueError):
+        return None
 
 
 @contextlib.contextmanager
 def opened(source: Source) -> Iterator[Reader]:
     """Yields a reader of a source, and closes what was opened for it."""
     name = name_of(source)
-    if hasattr(source, "read"):
+    if hasattr(source, "read") and bytes_of(source) is None:
         yield Reader(source, name)
         return
     if isinstance(source, str) and source == "-":

@@ -10,13 +10,12 @@ from urllib.parse import quote, urljoin, urlsplit, urlunsplit
 from .. import __version__
 from ..engine.faults import OutOfDate, ReadFault, RequestError, read_fault
 from ..indexes.line_reader import SHORTER, IndexedStream
+from .remote import RangePlace
 from .web_client import FAULTS, LEAST_RATE, Watch, ask, cause_of, without_credentials
 
 REDIRECTIONS = 5
 MOVED = (301, 302, 303, 307, 308)
 CONTENT_RANGE = re.compile(r"bytes (\d{1,19})-(\d{1,19})/(\d{1,19}|\*)\Z")
-WEB_NEAR = 1 << 19  # bytes: a request takes longer than to read these
-AHEAD = 1 << 16  # bytes that are read with the header
 PIECE = 1 << 14  # bytes of a body that are read at once
 OTHER_RANGE = "the server answers with another range than was asked for"
 
@@ -48,16 +47,14 @@ def _origin(url: str) -> Any:
     return parts.scheme, parts.hostname, parts.port
 
 
-class WebPlace:
+class WebPlace(RangePlace):
     """A stream on a web server."""
 
-    near = WEB_NEAR
-
     def __init__(self, stream: IndexedStream, base: str) -> None:
+        super().__init__(stream.size)
         self._stream, self._url = stream, url_of(base, stream.told_path)
         self._origin, self._credentials = _origin(self._url), without_credentials(base)[1]
         self._state: Optional[str] = None  # from the answer with the first range
-        self._head = b""  # the beginning of the stream
 
     def __enter__(self) -> "WebPlace":
         return self
@@ -65,24 +62,7 @@ class WebPlace:
     def __exit__(self, *_: Any) -> None:
         pass
 
-    def read(self, begin: int, end: int) -> bytes:
-        """Returns the bytes from one place to another, or as many as there are.
-
-        Raises:
-            OutOfDate: The stream on the server is not the one of the index.
-            ReadFault: The server does not answer in time, or answers with something else.
-        """
-        end = min(end, self._stream.size)
-        if begin >= end:
-            return b""
-        if end <= len(self._head):
-            return self._head[begin:end]
-        if begin > 0:
-            return self._asked(begin, end)
-        self._head = self._asked(0, min(max(end, AHEAD), self._stream.size))
-        return self._head[:end]
-
-    def _asked(self, begin: int, end: int) -> bytes:
+    def asked(self, begin: int, end: int) -> bytes:
         """Returns the bytes of a range that the server sends."""
         with Watch() as watch:
             try:

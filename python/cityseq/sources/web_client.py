@@ -98,7 +98,8 @@ def _pools() -> Any:
     """Returns the kinds of pools, by scheme. Their connections can be watched."""
     found = {}
     for scheme, kind in (
-        ("http", urllib3.HTTPConnectionPool), ("https", urllib3.HTTPSConnectionPool)
+        ("http", urllib3.HTTPConnectionPool),
+        ("https", urllib3.HTTPSConnectionPool),
     ):
         connection = type("Watched", (_Noted, kind.ConnectionCls), {})
         found[scheme] = type("WatchedPool", (kind,), {"ConnectionCls": connection})

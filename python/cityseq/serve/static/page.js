@@ -122,7 +122,7 @@ function answered(file, text) {
   if (result.verdict === "valid") {
     return { kind: "valid", title: "Valid", lines: [`${file.name}: ${counts}`], parts: [] };
   }
-  const ends = result.ended_at === null ? count(result.refused, "invalid line", "invalid lines")
+  const ends = result.fault !== null ? result.fault : result.ended_at === null ? count(result.refused, "invalid line", "invalid lines")
     : `the run ended at line ${result.ended_at.toLocaleString("en")}`;
   const told = { kind: "invalid", title: "Not valid", lines: [`${file.name}: ${counts}, ${ends}`, ...result.hints], parts: [] };
   if (reports.length) {
@@ -162,7 +162,8 @@ function advance(name, event) {
 
 /** Sends a file. What comes of it is there when the server has answered. */
 function check(file, name) {
-  const most = Number(form.dataset.most);
+  const isWhole = /\.city\.json(\.gz)?$/.test(file.name);
+  const most = Number(isWhole ? form.dataset.whole : form.dataset.most);
   if (file.size > most) {
     return Promise.resolve(unchecked(file, `it has ${bytes(file.size)}, and the server takes ${bytes(most)}`));
   }
@@ -170,7 +171,7 @@ function check(file, name) {
   return new Promise((done) => {
     request = new XMLHttpRequest();
     request.open("POST", `${form.dataset.check}?keep_going=true&summary=true&max_reports=${TOLD}${tree ? "&tree=true" : ""}`);
-    request.setRequestHeader("Content-Type", "application/octet-stream");
+    request.setRequestHeader("Content-Type", isWhole ? "application/city+json" : "application/octet-stream");
     request.upload.onprogress = (event) => advance(name, event);
     request.onload = () => {
       const { status, responseText } = request;

@@ -1,0 +1,79 @@
+"""What the workers of a cluster do. Each answer comes with the worker and its engine."""
+from __future__ import annotations
+
+import glob
+import hashlib
+import os
+import pickle
+from collections.abc import Callable
+from functools import lru_cache, partial
+from typing import Any
+
+from .. import __version__
+from ..engine.judge import Answer
+from ..engine.library import library_path
+from ..engine.query import Work
+from ..indexes.digests import Digest, digest_of
+from ..run.pool import in_thread
+from ..run.streams import packed
+from ..sources.ranges import RangeChunk, judge_range
+
+Answered = tuple[str, str, Any]  # the worker, its engine, and the answer if that is the right one
+
+
+@lru_cache(maxsize=None)
+def engine() -> str:
+    """Returns the version of this package, and hashes of its modules and of its library."""
+    package = os.path.dirname(os.path.dirname(os.path.abspath(__file__)))
+    modules = sorted(glob.glob(os.path.join(package, "**", "*.py"), recursive=True))
+    found = [__version__]
+    for paths in (modules, [library_path()]):
+        digest = hashlib.sha256()
+        for path in paths:
+            with open(path, "rb") as file:
+                digest.update(file.read())
+        found.append(digest.hexdigest()[:12])
+    return "{}, package {}, library {}".format(*found)
+
+
+@lru_cache(maxsize=4)
+def _work_of(packed_work: bytes) -> Work:
+    work: Work = pickle.loads(packed_work)
+    return work
+
+
+def answered(worker: str, wanted: str, task: bytes, work: bytes) -> Answered:
+    """Does a task if this process has the engine that is wanted."""
+    found = engine()
+    if found != wanted:
+        return worker, found, None
+    function, *given = pickle.loads(task)
+    return worker, found, in_thread(partial(function, *given, work=_work_of(work)))
+
+
+def guard() -> Callable[[str, bytes, bytes], Answered]:
+    """Returns what a worker calls. It is sent whole, so that a worker without this module, or with
+    an older one, can say so."""
+
+    def guarded(wanted: str, task: bytes, work: bytes) -> Answered:
+        from distributed import get_worker
+
+        worker = get_worker().address
+        try:
+            from cityseq.cluster.tasks import answered
+        except ImportError as missing:
+            return worker, f"no such package ({missing})", None
+        return answered(worker, wanted, task, work)
+
+    return guarded
+
+
+def judge_packed(chunk: RangeChunk, pack: Callable[[bytes], bytes], work: Work) -> Answer:
+    """Judges a chunk, and packs its output."""
+    judge: Callable[[Any], Answer] = partial(judge_range, work=work)
+    return packed(judge, pack, chunk)
+
+
+def hash_file(path: str, work: Work) -> Digest | None:
+    """Returns the hash of a file. Raises `OSError` if it cannot be read."""
+    return digest_of(path)

@@ -1,0 +1,198 @@
+"""Files by URLs of `fsspec`, such as s3://bucket/town.city.jsonl. They are read by ranges."""
+from __future__ import annotations
+
+import errno
+import hashlib
+import io
+import os
+import threading
+from collections.abc import Callable
+from importlib import import_module
+from typing import Any
+from urllib.parse import urlsplit
+
+from ..engine.faults import CityseqError, RequestError, why
+
+BLOCK = 4 << 20  # bytes of one request for lines that follow each other
+BUFFER = 1 << 20  # bytes that are read ahead of what is read once, such as a header
+NEAR = 1 << 19  # bytes: a request takes longer than to read these
+AHEAD = 1 << 16  # bytes that are read with the header
+# What shows that a file has changed, by the names that file systems give it.
+MARKS = "ETag etag Content-MD5 md5Hash LastModified last_modified updated mtime".split()
+
+
+def name_of_url(url: str) -> str:
+    """Returns the name of a file by its URL, without the query, which may have a key in it."""
+    return url.partition("?")[0]
+
+
+def system_of(url: str) -> tuple[Any, str]:
+    """Returns the file system of a URL, and the path there.
+
+    Raises:
+        RequestError: The URL has a password.
+        CityseqError: The package fsspec, or the one for this scheme, is missing.
+    """
+    if urlsplit(url).password is not None:
+        raise RequestError("a URL has no password: put it into the configuration of fsspec")
+    try:
+        found: tuple[Any, str] = import_module("fsspec.core").url_to_fs(url)
+        return found
+    except ImportError as missing:
+        words = f"a URL needs fsspec and its package for this scheme: {why(missing)}"
+        raise CityseqError(words, None, name_of_url(url)) from None
+    except Exception as fault:
+        raise OSError(_words(fault)) from None
+
+
+def _words(fault: BaseException) -> str:
+    """Returns the words of a fault, without a URL, which may have a key in it."""
+    status = getattr(fault, "status", None)
+    words = why(fault) if status is None else f"the server answers {status}"
+    return type(fault).__name__ if "://" in words or "@" in words or "?" in words else words
+
+
+class _Block(threading.local):
+    """The bytes that a thread has read, and where they begin. It will read lines up to `end`."""
+
+    text = b""
+    begin = end = 0
+
+
+class RemoteFile:
+    """A file by its URL, which any thread may read at any place.
+
+    Attributes:
+        size: How many bytes the file has.
+        state: The size, and what stands for the time of change, when this object was made.
+    """
+
+    def __init__(self, url: str) -> None:
+        """Asks for the size. Raises `OSError` if there is no such file."""
+        self._system, self._path = system_of(url)
+        self._block = _Block()
+        self.state = self.state_now()
+        self.size = self.state[0]
+
+    def state_now(self) -> tuple[int, int]:
+        """Returns the state that the file has now. Raises `OSError` if it has none."""
+        self._call(self._system.invalidate_cache)
+        told = self._call(self._system.info, self._path)
+        if told.get("type") == "directory":
+            raise IsADirectoryError(errno.EISDIR, os.strerror(errno.EISDIR))
+        if not isinstance(told.get("size"), int):
+            raise OSError("the server does not say how long it is")
+        marks = [str(told[name]) for name in MARKS if told.get(name) is not None]
+        if not marks:
+            try:
+                marks = [str(self._system.modified(self._path))]
+            except Exception:  # few file systems have it
+                marks = []
+        mark = hashlib.sha256("\n".join(marks).encode()).digest()
+        return told["size"], int.from_bytes(mark[:7], "big")
+
+    def is_changed(self) -> bool:
+        """Whether the file is in another state than at the beginning, or cannot be reached."""
+        try:
+            return self.state_now() != self.state
+        except OSError:
+            return True
+
+    def read(self, begin: int, end: int) -> bytes:
+        """Returns the bytes between two places, or those that one request gives. There are none at
+        the end of the file only."""
+        wanted = min(end, self.size) - begin
+        if wanted <= 0:
+            return b""
+        piece = self._call(self._system.cat_file, self._path, start=begin, end=begin + wanted)
+        if not piece:
+            raise OSError("a read gave nothing")
+        if len(piece) > wanted:
+            raise OSError("the answer has another range than was asked for")
+        return bytes(piece)
+
+    def expect(self, end: int) -> None:
+        """Notes that this thread will read up to a place, so that it makes few requests."""
+        self._block.end = end
+
+    def fill(self, room: memoryview, begin: int) -> int:
+        """Fills some of a room from a place on. Returns how many bytes it read."""
+        block = self._block
+        if not block.begin <= begin < block.begin + len(block.text):
+            end = max(begin + len(room), min(begin + BLOCK, block.end))
+            block.text, block.begin = self.read(begin, end), begin
+        at = begin - block.begin
+        piece = block.text[at : at + len(room)]
+        room[: len(piece)] = piece
+        return len(piece)
+
+    @staticmethod
+    def _call(call: Callable[..., Any], *given: Any, **named: Any) -> Any:
+        """Makes a call of a file system. Raises `OSError` with words that have no URL."""
+        try:
+            return call(*given, **named)
+        except MemoryError:
+            raise
+        except FileNotFoundError:
+            raise FileNotFoundError(errno.ENOENT, os.strerror(errno.ENOENT)) from None
+        except Exception as fault:
+            raise OSError(_words(fault)) from None
+
+
+class _Raw(io.RawIOBase):
+    """Reads a remote file from its beginning."""
+
+    def __init__(self, remote: RemoteFile) -> None:
+        super().__init__()
+        self.remote, self._place = remote, 0
+
+    def readable(self) -> bool:
+        return True
+
+    def readinto(self, room: Any) -> int:
+        """Fills some of a room. Returns how many bytes it read, and 0 at the end."""
+        piece = self.remote.read(self._place, self._place + len(room))
+        room[: len(piece)] = piece
+        self._place += len(piece)
+        return len(piece)
+
+
+def open_url(url: str) -> io.BufferedReader:
+    """Opens the file of a URL. Raises `OSError` if that is not possible."""
+    return io.BufferedReader(_Raw(RemoteFile(url)), BUFFER)
+
+
+class RangePlace:
+    """A stream that is read by its places, in few requests.
+
+    Attributes:
+        near: Lines with fewer bytes between them are read together.
+    """
+
+    near = NEAR
+
+    def __init__(self, size: int) -> None:
+        """Takes the size of the stream."""
+        self._size = size
+        self._head = b""  # the beginning of the stream
+
+    def read(self, begin: int, end: int) -> bytes:
+        """Returns the bytes from one place to another, or as many as there are.
+
+        Raises:
+            OutOfDate: The stream is not the one of the index.
+            ReadFault: It cannot be read.
+        """
+        end = min(end, self._size)
+        if begin >= end:
+            return b""
+        if end <= len(self._head):
+            return self._head[begin:end]
+        if begin > 0:
+            return self.asked(begin, end)
+        self._head = self.asked(0, min(max(end, AHEAD), self._size))
+        return self._head[:end]
+
+    def asked(self, begin: int, end: int) -> bytes:
+        """Returns the bytes of a range."""
+        raise NotImplementedError
