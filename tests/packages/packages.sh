@@ -5,7 +5,7 @@
 # left out, and says so.
 set -u
 missing=()
-for package in python3-distributed python3-zstandard python3-tqdm python3-mypy python3-flake8 python3-psycopg2 python3-geopandas python3-gdal \
+for package in python3-distributed python3-zstandard python3-tqdm python3-mypy python3-flake8 black isort python3-lark python3-psycopg2 python3-geopandas python3-gdal \
   python3-jinja2 python3-matplotlib python3-jsonschema python3-aiohttp python3-pyproj python3-urllib3 python3-fsspec python3-owslib gdal-bin nginx-light \
   libnginx-mod-stream gunicorn \
   postgresql curl valgrind mandoc pkg-config zsh fish; do
