@@ -11,9 +11,9 @@ and the commit. The newest value of a figure counts. If another command measured
 
 docs/MEASURED.md has a table of each group. README.md and docs/STATUS.md can cite figures in a
 paragraph between `<!-- figures: TEXT -->` and `<!-- figures end -->`. A name in braces in the text
-becomes the value. All values of a paragraph are of one day and one machine, so no sentence mixes
-versions. With --check the documents are compared and not written, and the status is 1 if one is
-old. With --add a value is added that bench/run does not find.
+becomes the value, and `{day}` the day. All values of a paragraph are of one day and one machine, so
+no sentence mixes versions. With --check the documents are compared and not written, and the status
+is 1 if one is old. With --add a value is added that bench/run does not find.
 """
 
 import argparse
@@ -121,10 +121,12 @@ class Figures:
             KeyError: there is no such figure.
             ValueError: the values are not of one day and one machine.
         """
-        names = re.findall(r"\{([\w-]+)\}", text)
+        names = [name for name in re.findall(r"\{([\w-]+)\}", text) if name != "day"]
         runs = {(self.newest(name)["date"], self.newest(name)["machine"]) for name in names}
         if len(runs) > 1:
             raise ValueError(f"values of several runs in one paragraph: {', '.join(names)}")
+        for day, _ in runs:
+            text = text.replace("{day}", day)
         for name in names:
             text = text.replace(f"{{{name}}}", self.newest(name)["value"])
         words = " ".join(text.split())

@@ -426,10 +426,10 @@ def check_figures_of(tool, report):
             figures.table("G"),
         )
         page = figures.page(
-            "- x\n  <!-- figures: It takes {b} s. -->\n  old\n  <!-- figures end -->\nrest\n"
+            "- x\n  <!-- figures: On {day} {b} s. -->\n  old\n  <!-- figures end -->\nrest\n"
         )
         report.count(
-            "-->\n  It takes 1 s.\n  <!--" in page
+            "-->\n  On 2026-01-01 1 s.\n  <!--" in page
             and page.endswith("end -->\nrest\n")
             and "old" not in page,
             page,
