@@ -1,13 +1,13 @@
 #!/usr/bin/env python3
-"""Writes the options of both commands into manual pages and completions. Those of `cityseq` are
-what its help says, and those of `cityseq-run` are the table of the package.
+"""Writes the options of both commands into manual pages, completions and the guide. Those of
+`cityseq` are what its help says, and those of `cityseq-run` are the table of the package.
 
     packaging/options.py [--write] [PROGRAM]
 
 PROGRAM is the built program, crates/cityseq/out/cityseq if left out. Without --write it looks
 whether all is as it would be written, prints what differs, and its last line is 'N passed, M
 failed'. In a manual page it writes what is between the lines '.\\" commands', '.\\" options' and
-'.\\" end'.
+'.\\" end', and in docs/GUIDE.md what is between the marks of options.
 """
 import json
 import os
@@ -21,6 +21,8 @@ from typing import Dict, List, Optional
 
 ROOT = Path(__file__).resolve().parent.parent
 MAN, COMPLETIONS = ROOT / "packaging" / "man", ROOT / "packaging" / "completions"
+GUIDE = ROOT / "docs" / "GUIDE.md"
+GUIDE_MARKS = "<!-- options: made by packaging/options.py -->\n", "<!-- options: end -->\n"
 COMMAND = re.compile(r"^ {2,4}([a-z][a-z-]*) {2,}(.*)$")
 OPTION = re.compile(r"^ +(?:(-\w), )?(--[a-z][a-z0-9-]*)(?:[ =]<?([A-Z][A-Z,]*)>?)?(?: {2,}(.*))?$")
 COMMAND_TITLES = ("Commands:", "positional arguments:")
@@ -451,6 +453,46 @@ def fish(command):
     return "\n".join([*lines, "", f"{within} -f -a '{' '.join(command.helps)}'"]) + "\n"
 
 
+# ---- the guide
+
+
+def shown_helps(command, words):
+    """The help of a program and of its commands, as blocks of a document that tests run."""
+    for more in ([], *([name] for name in command.helps)):
+        ran = subprocess.run([*words, *more, "--help"], stdout=subprocess.PIPE, check=True)
+        line = " ".join([command.name, *more, "--help"])
+        yield f"```console\n$ {line}\n{ran.stdout.decode('utf-8')}```\n"
+
+
+def table_row(option, owners):
+    """A row of a table: the option, what it does, and the commands that have it."""
+    value = "" if option.value is None else f" {option.value}"
+    names = ", ".join([*(f"`{name}`" for name in option.names[:-1]), f"`{option.name}{value}`"])
+    about = re.sub(r"([|*<>])", r"\\\1", option.about)
+    return f"| {names} | {about} | {', '.join(f'`{name}`' for name in owners)} |"
+
+
+def table(command):
+    """The options of all commands as a table."""
+    owners = {}
+    for name, help_on in command.helps.items():
+        for option in help_on.options:
+            if option.name != "--help":
+                owners.setdefault(option, []).append(name)
+    rows_of_all = [table_row(option, names) for option, names in owners.items()]
+    head = ["| Option | What it does | Commands |", "|---|---|---|"]
+    return "\n".join([*head, *rows_of_all]) + "\n"
+
+
+def guide(program, words, package):
+    """The guide, with the help of the program and the options of the package as they are."""
+    text = GUIDE.read_text(encoding="utf-8")
+    before, rest = text.split(GUIDE_MARKS[0], 1)
+    helps = "\n".join(shown_helps(program, words))
+    body = f"\n### {program.name}\n\n{helps}\n### {package.name}\n\n{table(package)}"
+    return "".join([before, GUIDE_MARKS[0], body, GUIDE_MARKS[1], rest.split(GUIDE_MARKS[1], 1)[1]])
+
+
 # ---- files
 
 
@@ -466,7 +508,9 @@ def main():
     words = [word for word in sys.argv[1:] if word != "--write"]
     program = os.path.abspath(words[0]) if words else str(ROOT / "crates/cityseq/out/cityseq")
     passed = failed = 0
-    for path, text in [*files(read("cityseq", [program])), *files(of_package())]:
+    of_program, package = read("cityseq", [program]), of_package()
+    written = [*files(of_program), *files(package), (GUIDE, guide(of_program, [program], package))]
+    for path, text in written:
         if "--write" in sys.argv:
             path.write_text(text, encoding="utf-8")
         if path.is_file() and path.read_text(encoding="utf-8") == text:

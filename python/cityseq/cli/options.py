@@ -258,7 +258,7 @@ PAGE_JSON = Option("json", "Write all facts as one object (see docs/report.schem
 SERVES = (
     Option("host", "Listen at this address, or at all addresses of this name", "HOST"),
     Option("port", "Listen at this port; 0 is a free one", "PORT", whole_number(0, 65_535)),
-    Option("url", "Begin links with this URL, by which clients know the server", "URL"),
+    Option("url", "Begin links with this URL, which clients use", "URL"),
     Option("cors", "Let the pages of this origin read the answers; * is any origin", "ORIGIN"),
     Option("base", "Read the streams from a web server, below this URL", "URL"),
     JOBS,
