@@ -9,11 +9,11 @@ measures it, and a pattern that finds it in the output of that command. A goal i
 that is good. bench/results/figures.csv has the values, each with the command, the day, the machine
 and the commit. The newest value of a figure counts. If another command measured it, it says which.
 
-docs/MEASURED.md has a table of each group. README.md and docs/STATUS.md can cite figures in a
-paragraph between `<!-- figures: TEXT -->` and `<!-- figures end -->`. A name in braces in the text
-becomes the value, and `{day}` the day. All values of a paragraph are of one day and one machine, so
-no sentence mixes versions. With --check the documents are compared and not written, and the status
-is 1 if one is old. With --add a value is added that bench/run does not find.
+docs/MEASURED.md has a table of each group. README.md can cite figures in a paragraph between
+`<!-- figures: TEXT -->` and `<!-- figures end -->`. A name in braces in the text becomes the value,
+and `{day}` the day. All values of a paragraph are of one day and one machine, so no sentence mixes
+versions. With --check the documents are compared and not written, and the status is 1 if one is
+old. With --add a value is added that bench/run does not find.
 """
 
 import argparse
@@ -28,7 +28,7 @@ from typing import Iterable, Mapping, Optional
 
 ROOT = Path(__file__).resolve().parent.parent
 RESULTS = Path("bench") / "results"
-DOCUMENTS = Path("README.md"), Path("docs/MEASURED.md"), Path("docs/STATUS.md")
+DOCUMENTS = Path("README.md"), Path("docs/MEASURED.md")
 COLUMNS = 130
 TABLE = re.compile(r"(<!-- figures of (.*) -->\n)(?:(?!<!-- ).*\n)*(<!-- figures end -->)")
 CITED = re.compile(
