@@ -19,7 +19,7 @@ quick:                  ## look at layout, names and tests, without a proof
 	@tests/quick.sh
 
 documents:              ## write what scripts know into the documents
-	@tools/rules.py && tools/clauses.py && tools/figures.py
+	@tools/rules.py && tools/clauses.py && tools/figures.py && tools/json_tables.py
 	@tools/base.py --write docs/PROOF.md > /dev/null && python3 python/make_reasons.py
 
 install:                ## install what is built into PREFIX, below DESTDIR

@@ -14,6 +14,11 @@ from .support import HEADER, PLAIN, InFolder, command
 from .test_sources import GOOD
 from .test_told import example
 
+try:
+    import jsonschema
+except ImportError:
+    jsonschema = None
+
 TYPES = {
     "string": str,
     "number": (int, float),
@@ -48,8 +53,16 @@ def tables():
     return found
 
 
+def fits_the_schema(told):
+    """Looks whether an object is as docs/json.schema.json says, if jsonschema is there."""
+    if jsonschema is not None:
+        jsonschema.validate(told, SCHEMA)
+
+
 TABLES = tables()
-COMMON = TABLES[""]
+COMMON, OPTIONS = TABLES[""], TABLES["options"]
+with open(os.path.join(support.ROOT, "docs", "json.schema.json"), encoding="utf-8") as schema:
+    SCHEMA = json.load(schema)
 
 
 class Documented(InFolder):
@@ -65,8 +78,9 @@ class Documented(InFolder):
         for told in objects:
             self.fits(told, {**COMMON, **TABLES[told["kind"]]})
             self.assertEqual(told["version"], 1)
+            fits_the_schema(told)
             if told["kind"] in ("result", "record"):
-                wanted = TABLES["options"]
+                wanted = {name: types for name, types in OPTIONS.items() if name != "whole"}
                 self.fits(
                     told["options"],
                     wanted if told["command"] == "filter" else dict(list(wanted.items())[:4]),

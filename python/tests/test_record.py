@@ -9,7 +9,7 @@ import cityseq
 from cityseq.cli.record import Record
 
 from .support import HEADER, PLAIN, command, feature
-from .test_json import COMMON, TABLES, Documented
+from .test_json import COMMON, TABLES, Documented, fits_the_schema
 from .test_sources import BROKEN, GOOD
 from .test_told import example
 
@@ -30,6 +30,7 @@ class Checked(Documented):
         lines = [json.loads(line) for line in self.record.read_bytes().splitlines()]
         for told in lines:
             self.fits(told, {**COMMON, **TABLES["record"]})
+            fits_the_schema(told)
         return lines
 
     def run_again(self, *words):

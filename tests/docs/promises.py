@@ -11,6 +11,7 @@ section on what is left to tests.
 Of docs/RULES.md: each code with its name and its text, and each function of that table, which is what
 tools/rules.py makes of the sources.
 Of docs/MEASURED.md and README.md: the figures are those of bench/results.
+Of docs/json.md: the tables are those of its schema.
 A name that is not there is printed. The last line is 'N passed, M failed', over the names, and the status
 is 0 if none failed.
 """
@@ -445,6 +446,40 @@ def check_figures_of(tool, report):
                 report.count(True, "")
 
 
+SMALL_SCHEMA = {
+    "$defs": {
+        "decimal": {"type": ["number", "string"]},
+        "it": {
+            "properties": {
+                "kind": {"const": "it"},
+                "a": {"type": "integer", "description": "x"},
+                "b": {"type": "integer", "description": "x"},
+                "c": {
+                    "type": ["array", "null"],
+                    "items": {"$ref": "#/$defs/decimal"},
+                    "minItems": 3,
+                    "description": "y",
+                },
+            }
+        },
+    }
+}
+
+
+def check_json(report):
+    """The tables of the document are new, and the tool makes those of a small schema."""
+    tool = tool_of("json_tables")
+    report.place = "docs/json.md"
+    is_new = (ROOT / tool.DOCUMENT).read_text() == tool.document()
+    report.count(is_new, "a table is old: run tools/json_tables.py")
+    report.place = "tools/json_tables.py"
+    marks = "<!-- it: made by tools/json_tables.py -->\n", "<!-- it: end -->\n"
+    made = tool.page(f"a\n{marks[0]}old\n{marks[1]}b\n", SMALL_SCHEMA)
+    rows = "| `a`, `b` | number | x |\n| `c` | array of three decimals, or null | y |\n"
+    wanted = f"a\n{marks[0]}{tool.HEAD}\n{rows}{marks[1]}b\n"
+    report.count(made == wanted, f"made {made}")
+
+
 def anchor(number, text):
     return "#" + re.sub(r"[^a-z0-9-]", "", f"{number}-{text}".lower().replace(" ", "-"))
 
@@ -456,6 +491,7 @@ def main():
     check_index(report)
     check_reasons(code, report)
     check_figures(report)
+    check_json(report)
     print(f"{report.passed} passed, {report.failed} failed")
     return report.failed > 0
 
