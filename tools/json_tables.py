@@ -3,8 +3,8 @@
 
     tools/json_tables.py [--check]
 
-A table is between `<!-- NAME: made by tools/json_tables.py -->` and `<!-- NAME: end -->`. It has the
-members of the definition NAME of the schema, without `kind` and `version`, which all objects have.
+A table is between `<!-- NAME: made by tools/json_tables.py -->` and `<!-- NAME: end -->`. It has
+the members of the definition NAME of the schema, without `kind` and `version`, which all have.
 Members that follow each other with one type and one description are in one row. With --check the
 document is compared and not written, and the status is 1 if a table is old.
 """
