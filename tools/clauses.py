@@ -21,7 +21,7 @@ ROOT = Path(__file__).resolve().parent.parent
 INDEX = Path("docs") / "CLAUSES.md"
 FOLDERS = "must-fail", "wrong-bodies"
 WIDEST = 150  # characters of a cell that a list fills
-LONGEST = 160  # characters of the sentences in a cell
+LONGEST, MOST_WORDS = 160, 25  # characters and words of the sentence in a cell
 
 OWNER = re.compile(r"(?:pub(?:\(\w+\))? )?(?:unsafe )?(impl|trait)\b(?: (\w+) for)? (\w+)")
 FUNCTION = re.compile(r"( *)(pub(?:\(\w+\))? )?(?:const )?(?:unsafe )?(?:extern \"C\" )?fn (\w+)")
@@ -34,7 +34,7 @@ HEAD = """# Clauses
 [PROMISES](PROMISES.md) says what a user relies on, and [PROOF](PROOF.md) what must be believed.
 
 A *clause* is a named fact in the contract of a function. The prover has shown each one. A row
-has the first sentences of the comment in the source. A clause without a comment of its own is in
+has the first sentence of the comment in the source. A clause without a comment of its own is in
 the row of its function. *Edits* are wrong changes of that function, and the check must
 reject each. If a function has none, the functions that it calls have some. A *record* groups facts
 that several clauses share, such as `Feeds`. Crates without edits are left out: they have tests.
@@ -77,20 +77,15 @@ class Function:
     edits: list[str] = field(default_factory=list)
 
 
-def sentences_of(comment: str) -> str:
-    """Returns the first sentences of a comment, as many as a cell holds.
-
-    One that is too long alone is cut at a word.
-    """
+def sentence_of(comment: str) -> str:
+    """Returns the first sentence of a comment. A long one ends early, after one of its parts."""
     first = comment.split("\n\n")[0]
     words = re.sub(r"\[(`[^`\]]*`)\](?:\([^)]*\))?", r"\1", " ".join(first.split()))
-    shown, *others = re.split(r"(?<=[.:]) (?=[A-Z`])", words.replace("|", "\\|"))
-    for sentence in others:
-        if len(shown) + 1 + len(sentence) > LONGEST:
-            break
-        shown += f" {sentence}"
-    if len(shown) > LONGEST:
-        shown = shown[: LONGEST - 3].rsplit(" ", 1)[0] + " .."
+    shown = re.split(r"(?<=[.:]) (?=[A-Z`])", words.replace("|", "\\|"))[0]
+    if len(shown) > LONGEST or len(shown.split()) > MOST_WORDS:
+        kept = " ".join(shown[: LONGEST - 3].rsplit(" ", 1)[0].split()[:MOST_WORDS])
+        parts = re.split(r"(?<=[;:,]) ", kept)
+        shown = (" ".join(parts[:-1]) or kept).rstrip(";:,") + " .."
         if shown.count("`") % 2:
             shown = shown.rsplit(" `", 1)[0] + " .."
     return shown.removesuffix(":") + "." * shown.endswith(":")
@@ -195,7 +190,7 @@ def cells_of(names: list[str]) -> list[str]:
 def rows_of(function: Function, link: str) -> Iterator[str]:
     """Yields the rows of a function: what is in one cell too many comes in a further row."""
     bare = [name for group in function.groups if not group.comment for name in group.clauses]
-    first = [cells_of(bare), [sentences_of(function.comment)], cells_of(function.edits)]
+    first = [cells_of(bare), [sentence_of(function.comment)], cells_of(function.edits)]
     name = f"[`{function.name}`]({link})"
     for number in range(max(map(len, first))):
         cells = [column[number] if number < len(column) else "" for column in first]
@@ -203,7 +198,7 @@ def rows_of(function: Function, link: str) -> Iterator[str]:
     for group in function.groups:
         if group.comment:
             for number, cell in enumerate(cells_of(group.clauses)):
-                sentence = sentences_of(group.comment) if number == 0 else ""
+                sentence = sentence_of(group.comment) if number == 0 else ""
                 yield f"|  | {cell} | {sentence} |  |"
 
 
@@ -238,7 +233,7 @@ def records_of(crate: Path) -> list[str]:
             if found := re.match(r"pub record (\w+)", line):
                 body = "\n".join(lines[number + 1 :]).split("\n\n")[0]
                 parts = cells_of(re.findall(r"^  pub (\w+) ", body, re.M))
-                sentence = sentences_of(comment_above(lines, number, "--"))
+                sentence = sentence_of(comment_above(lines, number, "--"))
                 link = f"[`{found[1]}`](../crates/{crate.name}/{path.relative_to(crate)})"
                 rows.append(f"| {link} | {parts[0]} | {sentence} |")
                 rows += [f"|  | {cell} |  |" for cell in parts[1:]]

@@ -556,9 +556,9 @@ class Command(InFolder):
                 [
                     "streams 1",
                     "features 3",
-                    "rejected lines 0",
+                    "invalid lines 0",
                     "bbox 10,20,11,21",
-                    f"stream {path} lines 4 features 3 rejected 0 bbox 10,20,11,21",
+                    f"stream {path} lines 4 features 3 invalid 0 bbox 10,20,11,21",
                     'repeated id "a\\u202e" in 2 features',
                     f"    {path} line 2",
                     f"    {path} line 4",

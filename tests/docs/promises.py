@@ -289,12 +289,10 @@ def check_index(report):
     groups = [(group.comment, group.clauses) for group in functions[0].groups]
     wanted = [("", ["unnamed"]), ("A lid is needed.\nNothing else is.", ["lid", "same"])]
     report.count(groups == wanted, f"groups {groups}")
-    shown = tool.sentences_of(functions[0].comment)
-    report.count(
-        shown == "Returns what is in the box: a toy. It stays there.", f"other sentences: {shown}"
-    )
-    shown = tool.sentences_of("One. " + "Two" * 60 + ".")
-    report.count(shown == "One.", f"a sentence that does not fit: {shown}")
+    shown = tool.sentence_of(functions[0].comment)
+    report.count(shown == "Returns what is in the box: a toy.", f"other sentences: {shown}")
+    shown = tool.sentence_of("One, " + "two " * 30 + "three.")
+    report.count(shown == "One ..", f"a sentence that does not fit: {shown}")
     report.count(
         tool.function_at(functions, SMALL, "drop(1);") is functions[1],
         "an edit of another function",
@@ -305,7 +303,7 @@ def check_index(report):
     )
     long = " ".join(["word"] * 60)
     report.count(
-        len(tool.sentences_of(long)) <= 160
+        len(tool.sentence_of(long)) <= 160
         and len(max(tool.cells_of([long[:80]] * 3), key=len)) <= 160,
         "a long cell",
     )

@@ -165,7 +165,7 @@ def try_page(browser, url, folder, megabytes, check):
     driver.get(url + "?f=html")
     drop(browser, EXAMPLES / "delivery.city.jsonl")
     said = wait(browser, verdict)
-    is_right = said and said.startswith("Not valid") and "5 invalid lines" in said
+    is_right = said and said.startswith("Invalid") and "5 invalid lines" in said
     check("an invalid file", is_right, said)
     report = driver.find_element(By.ID, "report").text
     wanted = ("vertex index out of range", "p2", "Fix:", "^")
@@ -183,7 +183,7 @@ def try_page(browser, url, folder, megabytes, check):
     driver.find_element(By.ID, "file").send_keys(str(EXAMPLES / "broken.city.jsonl"))
     driver.find_element(By.ID, "start").send_keys(Keys.ENTER)
     said = wait(browser, verdict)
-    check("by keyboard", said and said.startswith("Not valid"), said)
+    check("by keyboard", said and said.startswith("Invalid"), said)
     focused = driver.switch_to.active_element.get_attribute("id")
     check("the verdict has the focus", focused == "verdict", focused)
 
@@ -211,11 +211,11 @@ def try_many(browser, url, folder, check):
     driver.get(url + "?f=html")
     drop(browser, EXAMPLES / "delivery.city.jsonl", EXAMPLES / "town.city.jsonl")
     said = wait(browser, verdict)
-    check("two files", said and said.startswith("2 files") and "1 valid, 1 not valid" in said, said)
+    check("two files", said and said.startswith("2 files") and "1 valid, 1 invalid" in said, said)
     found = [each.text for each in driver.find_elements(By.CSS_SELECTOR, "#report .verdict")]
     is_right = (
         len(found) == 2
-        and found[0].startswith("Not valid\ndelivery.city.jsonl")
+        and found[0].startswith("Invalid\ndelivery.city.jsonl")
         and (found[1].startswith("Valid\ntown.city.jsonl"))
     )
     check("a verdict on each", is_right, found)

@@ -57,7 +57,7 @@ def lines(index: "Index") -> Iterator[str]:
     streams = index.streams
     yield f"streams {len(streams)}"
     yield f"features {sum(stream.features for stream in streams)}"
-    yield f"rejected lines {sum(stream.refused for stream in streams)}"
+    yield f"invalid lines {sum(stream.refused for stream in streams)}"
     extent = _extent(streams)
     if extent is not None:
         yield _boxed(extent).lstrip()
@@ -65,7 +65,7 @@ def lines(index: "Index") -> Iterator[str]:
     if why is not None:
         yield why
     for stream in streams:
-        counts = f"lines {stream.lines} features {stream.features} rejected {stream.refused}"
+        counts = f"lines {stream.lines} features {stream.features} invalid {stream.refused}"
         yield f"stream {shown(stream.path)} {counts}{_boxed(_extent([stream]))}"
         if stream.reference_system is not None:
             yield f"    reference system {quoted(stream.reference_system)}"

@@ -402,7 +402,7 @@ class Index:
                 the limit takes no more lines are read.
 
         Returns:
-            The counts that `cityseq.filter` returns. Lines and rejected lines are those of the
+            The counts that `cityseq.filter` returns. Lines and invalid lines are those of the
             whole streams, from the index.
 
         Raises:

@@ -270,7 +270,7 @@ async def filter(context: Context) -> web.StreamResponse:
                 await write(request, response, b"".join(kept))
                 kept = []
             if judgement.fed.ended and "begun" in request and not is_last:
-                raise Problem(400, "a line of the stream is not valid")
+                raise Problem(400, "a line of the stream is invalid")
     told = judgement.told()
     if is_last:
         await write(request, response, told if last[-1:] == b"\n" else b"\n" + told)

@@ -36,7 +36,7 @@ BODY: Object = {
     },
 }
 REFUSED: Object = {
-    "description": "The stream is not valid, and nothing was sent.",
+    "description": "The stream is invalid, and nothing was sent.",
     "content": {LINES.media_type: {"schema": STRING}},
 }
 COMPONENTS: Object = {

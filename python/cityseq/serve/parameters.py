@@ -144,15 +144,15 @@ def of_judging(limits: Limits) -> tuple[Parameter, ...]:
     """Returns the parameters that say how a body is judged."""
     return (
         Parameter("keep_going", "Report each invalid line, and go on.", FLAG),
-        Parameter("tree", "Refuse a feature of which a city object is not reached.", FLAG),
+        Parameter("tree", "Reject a feature if its main city object does not reach all others.", FLAG),
         Parameter(
             "line_limit",
-            "Refuse a line with more bytes.",
+            "Reject a line with more bytes.",
             _whole(1, limits.line_limit, USUAL_LINE),
         ),
         Parameter(
             "depth",
-            "Refuse a line with more arrays and objects open at once.",
+            "Reject a line with more arrays and objects open at once.",
             _whole(1, limits.depth, USUAL_DEPTH),
         ),
         Parameter(

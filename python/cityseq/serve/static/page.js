@@ -124,7 +124,7 @@ function answered(file, text) {
   }
   const ends = result.fault !== null ? result.fault : result.ended_at === null ? count(result.refused, "invalid line", "invalid lines")
     : `the run ended at line ${result.ended_at.toLocaleString("en")}`;
-  const told = { kind: "invalid", title: "Not valid", lines: [`${file.name}: ${counts}, ${ends}`, ...result.hints], parts: [] };
+  const told = { kind: "invalid", title: "Invalid", lines: [`${file.name}: ${counts}, ${ends}`, ...result.hints], parts: [] };
   if (reports.length) {
     const whole = reasons.reduce((sum, each) => sum + each.lines, 0);
     const list = reports.slice(0, SHOWN).map(reported);
@@ -195,7 +195,7 @@ function section(told) {
 /** The verdict on several files. */
 function verdictOf(results) {
   const worst = ["invalid", "fault", "valid"].find((kind) => results.some((each) => each.kind === kind));
-  const words = { valid: "valid", invalid: "not valid", fault: "not checked" };
+  const words = { valid: "valid", invalid: "invalid", fault: "not checked" };
   const counts = Object.entries(words).map(([kind, word]) => [results.filter((each) => each.kind === kind).length, word])
     .filter(([number]) => number).map(([number, word]) => `${number.toLocaleString("en")} ${word}`);
   return { kind: worst, title: count(results.length, "file", "files"), lines: [counts.join(", ")] };
