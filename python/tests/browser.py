@@ -117,7 +117,7 @@ class Browser:
             self._take(told)
 
     def load(self, path, width=1280, dark=False, height=900):
-        """Loads a file from disk, as a screen of this width shows it."""
+        """Loads a file from disk or a URL, as a screen of this width shows it."""
         self.call(
             "Emulation.setDeviceMetricsOverride",
             width=width,
@@ -130,7 +130,7 @@ class Browser:
             features=[{"name": "prefers-color-scheme", "value": "dark" if dark else "light"}],
         )
         self.requests, self.said, self._events = [], [], []
-        self.call("Page.navigate", url=path.as_uri())
+        self.call("Page.navigate", url=path if isinstance(path, str) else path.as_uri())
         while "Page.loadEventFired" not in self._events:
             self._take(self._next())
 

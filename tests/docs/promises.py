@@ -12,6 +12,7 @@ Of docs/RULES.md: each code with its name and its text, and each function of tha
 tools/rules.py makes of the sources.
 Of docs/MEASURED.md and README.md: the figures are those of bench/results.
 Of docs/json.md: the tables are those of its schema.
+Of all documents: they have no more words than their goals.
 A name that is not there is printed. The last line is 'N passed, M failed', over the names, and the status
 is 0 if none failed.
 """
@@ -478,6 +479,20 @@ def check_json(report):
     report.count(made == wanted, f"made {made}")
 
 
+def check_words(report):
+    """No document has too many words, and the tool counts those that no tool made."""
+    tool = tool_of("words")
+    report.place = "tools/words.py"
+    for line in [*tool.too_long(list(tool.counts())), None]:
+        report.count(line is None, line)
+    text = "a b\n<!-- x: made by y -->\nc d\n<!-- x: end -->\ne\n"
+    text += "<!-- figures: {f} -->\n3 g\n<!-- figures end -->\n"
+    counted = tool.count_of("README.md", text)
+    report.count((counted.by_hand, counted.made) == (3, 22), f"counted {counted}")
+    missed = list(tool.too_long([tool.Count("README.md", tool.TOTAL + 1, 0)]))
+    report.count(len(missed) == 2, f"missed {missed}")
+
+
 def anchor(number, text):
     return "#" + re.sub(r"[^a-z0-9-]", "", f"{number}-{text}".lower().replace(" ", "-"))
 
@@ -490,6 +505,7 @@ def main():
     check_reasons(code, report)
     check_figures(report)
     check_json(report)
+    check_words(report)
     print(f"{report.passed} passed, {report.failed} failed")
     return report.failed > 0
 
