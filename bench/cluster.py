@@ -110,7 +110,9 @@ def main():
     settings = {
         "n_workers": THREADS,
         "threads_per_worker": 1,
-        "dashboard_address": None,
+        "host": "127.0.0.1",
+        "dashboard_address": "127.0.0.1:0",
+        "worker_dashboard_address": "127.0.0.1:0",
     }
     with tempfile.TemporaryDirectory() as room:
         folder = Path(room)

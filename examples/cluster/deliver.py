@@ -81,6 +81,7 @@ def main(client: Client, folder: Path, files: int) -> int:
 if __name__ == "__main__":
     place = Path(sys.argv[1]).absolute()
     place.mkdir()
-    with LocalCluster(n_workers=3, threads_per_worker=1, dashboard_address=None) as cluster:
+    loopback = {"dashboard_address": "127.0.0.1:0", "worker_dashboard_address": "127.0.0.1:0"}
+    with LocalCluster(n_workers=3, threads_per_worker=1, host="127.0.0.1", **loopback) as cluster:
         with Client(cluster) as local:
             sys.exit(main(local, place, int(sys.argv[2]) if len(sys.argv) > 2 else 2_000))

@@ -3,7 +3,6 @@ import contextlib
 import gzip
 import io
 import json
-import logging
 import os
 import pickle
 import subprocess
@@ -21,14 +20,11 @@ from cityseq.engine.query import asked
 from cityseq.sources.packed import BLOCK, Packer
 from cityseq.sources.ranges import RangeChunks, Sight, Sizes, begin
 
-from . import support
+from . import clusters, support
+from .clusters import WithCluster, distributed
 from .support import HEADER, InFolder, feature
 
-try:
-    import distributed
-except ImportError:
-    distributed = None
-else:
+if distributed is not None:
     import cityseq.dask
     from cityseq.cluster import folders, jobs, tasks
 
@@ -69,36 +65,6 @@ def rss():
     import resource
 
     return resource.getrusage(resource.RUSAGE_SELF).ru_maxrss << 10
-
-
-@unittest.skipIf(distributed is None, "distributed is not there")
-class WithCluster(InFolder):
-    """Two workers of one thread, each a process of its own, in a folder of their own."""
-
-    @classmethod
-    def setUpClass(cls):
-        os.environ["PYTHONPATH"] = os.path.join(support.ROOT, "python")
-        for name in ("scheduler", "client", "nanny", "worker", "core", "utils"):
-            logging.getLogger(f"distributed.{name}").setLevel(logging.CRITICAL)
-        cls.before = os.getcwd()
-        cls.cluster = distributed.LocalCluster(
-            n_workers=2,
-            threads_per_worker=1,
-            processes=True,
-            host="127.0.0.1",
-            dashboard_address=None,
-            silence_logs=logging.CRITICAL,
-        )
-        cls.client = distributed.Client(cls.cluster)
-
-    @classmethod
-    def tearDownClass(cls):
-        cls.client.close()
-        cls.cluster.close()
-
-    def setUp(self):
-        super().setUp()
-        self.addCleanup(os.chdir, self.before)
 
 
 class Wrong(WithCluster):
@@ -471,26 +437,14 @@ class Many(WithCluster):
 class Workers(InFolder):
     """Workers that join, that are missing, and that end."""
 
-    def started(self, workers):
-        os.environ["PYTHONPATH"] = os.path.join(support.ROOT, "python")
-        for name in ("scheduler", "client", "nanny", "worker", "core", "utils"):
-            logging.getLogger(f"distributed.{name}").setLevel(logging.CRITICAL)
-        cluster = distributed.LocalCluster(
-            n_workers=workers,
-            threads_per_worker=1,
-            processes=True,
-            host="127.0.0.1",
-            dashboard_address=None,
-            silence_logs=logging.CRITICAL,
-        )
-        self.addCleanup(cluster.close)
-        client = distributed.Client(cluster)
-        self.addCleanup(client.close)
+    def begun(self, workers):
+        cluster, client = clusters.begun(workers)
+        self.addCleanup(clusters.end, cluster, client)
         return cluster, client
 
     def test_no_worker_and_then_one(self):
         path = self.file(lines(10))
-        cluster, client = self.started(0)
+        cluster, client = self.begun(0)
         threading.Timer(3, cluster.scale, (1,)).start()
         with mock.patch.object(jobs, "PATIENCE", 0.5):
             with self.assertLogs("cityseq.dask", "WARNING") as log:
@@ -512,26 +466,29 @@ class Workers(InFolder):
         told, processes = os.path.join(room.name, "scheduler.json"), []
         for kind in ("scheduler", "worker"):
             words = [sys.executable, "-W", "ignore", "-m", f"distributed.cli.dask_{kind}"]
-            words += ["--no-dashboard", "--scheduler-file", told]
+            words += [*clusters.WORDS, "--scheduler-file", told]
             words += ["--port", "0"] if kind == "scheduler" else ["--nthreads", "1", "--no-nanny"]
             pipe = subprocess.DEVNULL
-            processes.append(subprocess.Popen(words, cwd=room.name, stdout=pipe, stderr=pipe))
+            settings = clusters.settings()
+            processes.append(
+                subprocess.Popen(words, cwd=room.name, env=settings, stdout=pipe, stderr=pipe)
+            )
             self.addCleanup(processes[-1].wait)
             self.addCleanup(processes[-1].kill)
-        for name in ("client", "core", "utils"):
-            logging.getLogger(f"distributed.{name}").setLevel(logging.CRITICAL)
+        clusters.quiet()
         while not os.path.exists(told) or not os.path.getsize(told):
             time.sleep(0.1)
         source, output = self.file(lines(2_000)), self.folder / "output"
-        with distributed.Client(scheduler_file=told) as client:
-            with self.assertRaisesRegex(cityseq.CityseqError, "is gone, or its tasks"):
-                cityseq.dask.filter(
-                    client,
-                    source,
-                    output,
-                    part_size=5_000,
-                    progress=lambda _: processes[0].kill(),
-                )
+        client = distributed.Client(scheduler_file=told)
+        self.addCleanup(clusters.leave, client)
+        with self.assertRaisesRegex(cityseq.CityseqError, "is gone, or its tasks"):
+            cityseq.dask.filter(
+                client,
+                source,
+                output,
+                part_size=5_000,
+                progress=lambda _: processes[0].kill(),
+            )
         self.assertEqual(os.listdir(self.folder), [source.name])
 
 

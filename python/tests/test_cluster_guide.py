@@ -1,4 +1,5 @@
 """What the guide and the examples say about many machines, followed in an empty folder."""
+import contextlib
 import os
 import re
 import shutil
@@ -7,12 +8,8 @@ import subprocess
 import sys
 import unittest
 
+from .clusters import HOST, WORDS, distributed, listening
 from .support import ROOT, InFolder
-
-try:
-    import distributed
-except ImportError:
-    distributed = None
 
 MANIFEST = "_manifest.json"
 
@@ -20,8 +17,18 @@ MANIFEST = "_manifest.json"
 def free_port():
     """A port that nothing listens at."""
     with socket.socket() as found:
-        found.bind(("127.0.0.1", 0))
+        found.bind((HOST, 0))
         return found.getsockname()[1]
+
+
+def of_session(leader):
+    """The processes of a session that can be looked at."""
+    import psutil
+
+    for each in psutil.process_iter():
+        with contextlib.suppress(psutil.Error, ProcessLookupError):
+            if os.getsid(each.pid) == leader:
+                yield each
 
 
 def blocks_of(path, heading=None):
@@ -78,6 +85,7 @@ class Followed(InFolder):
                 log.append(line.decode())
                 if log[-1] == "end\n":
                     break
+            self.assertLessEqual(listening(of_session(ran.pid)), {HOST})
         finally:
             subprocess.run(["pkill", "-KILL", "-s", str(ran.pid)], check=False)
             ran.stdout.close()
@@ -115,9 +123,10 @@ class Followed(InFolder):
             self.assertIn(name, unit)
             unit = unit.replace(name, value)
         shutil.copy(os.path.join(ROOT, "examples", "town.city.jsonl"), self.room)
+        loopback = " ".join(WORDS)  # the pages are about many machines
         for begin in (worker, unit):
             check = "cityseq-run check --cluster tcp://127.0.0.1:8786 town.city.jsonl"
-            begun = f"{scheduler} --host 127.0.0.1 &\n{begin} &\n"
+            begun = f"{scheduler} {loopback} &\n{begin} {loopback} &\n"
             said = self.run_all(f"{begun}{check} || {{ sleep 5; {check}; }}")
             self.assertIn("valid lines=5 features=4\n", said)
             self.port = str(free_port())

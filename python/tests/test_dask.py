@@ -2,7 +2,6 @@
 run."""
 import gzip
 import io
-import logging
 import os
 import random
 import time
@@ -12,13 +11,10 @@ from unittest import mock
 import cityseq
 
 from . import support
+from .clusters import HOST, WithCluster, distributed, listening
 from .support import HEADER, InFolder, feature, numbered
 
-try:
-    import distributed
-except ImportError:
-    distributed = None
-else:
+if distributed is not None:
     import cityseq.dask
     from cityseq.engine.judge import Answer
     from cityseq.engine.query import asked
@@ -76,31 +72,14 @@ class Ranges(InFolder):
         )
 
 
-@unittest.skipIf(distributed is None, "distributed is not there")
-class Clusters(InFolder):
+class Clusters(WithCluster):
     """Two workers, each a process of its own."""
 
-    @classmethod
-    def setUpClass(cls):
-        os.environ["PYTHONPATH"] = os.path.join(support.ROOT, "python")
-        for name in ("scheduler", "client", "nanny", "worker"):
-            logging.getLogger(f"distributed.{name}").setLevel(
-                logging.CRITICAL
-            )  # that a worker died is what is tested
-        cls.cluster = distributed.LocalCluster(
-            n_workers=2,
-            threads_per_worker=1,
-            processes=True,
-            host="127.0.0.1",
-            dashboard_address=None,
-            silence_logs=logging.CRITICAL,
-        )
-        cls.client = distributed.Client(cls.cluster)
+    def test_all_ports_are_on_loopback(self):
+        import psutil
 
-    @classmethod
-    def tearDownClass(cls):
-        cls.client.close()
-        cls.cluster.close()
+        here = psutil.Process()
+        self.assertEqual(listening([here, *here.children(recursive=True)]), {HOST})
 
     def test_the_examples(self):
         paths = [

@@ -34,6 +34,7 @@ import flaky  # noqa: E402
 import cityseq  # noqa: E402
 import cityseq.dask  # noqa: E402
 from cityseq.cluster import jobs  # noqa: E402
+from tests.clusters import WORDS  # noqa: E402
 from tests.support import stream_by_chance  # noqa: E402
 
 MEGABYTES = 60
@@ -47,7 +48,7 @@ class Cluster:
         self.folder = pathlib.Path(tempfile.mkdtemp(dir=folder))
         self.file = self.folder / "scheduler.json"
         self.processes = []
-        self.scheduler = self.begun("scheduler", "--host", "127.0.0.1", "--port", "0")
+        self.scheduler = self.begun("scheduler", "--port", "0")
         while not self.file.exists() or not self.file.stat().st_size:
             time.sleep(0.1)
         self.workers = [self.worker(**settings) for _ in range(workers)]
@@ -65,7 +66,7 @@ class Cluster:
                     "ignore",
                     "-m",
                     f"distributed.cli.dask_{kind}",
-                    "--no-dashboard",
+                    *WORDS,
                     "--scheduler-file",
                     str(self.file),
                     *words,

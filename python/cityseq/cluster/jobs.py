@@ -43,6 +43,14 @@ class Lost(CityseqError):
     """The cluster cannot go on, so no later file has a result."""
 
 
+def _quiet() -> None:
+    """Ends the messages of Dask and of what it stands on. Its import gives some of these loggers a
+    level of their own, and asyncio tells of futures that a client left."""
+    for name in ("asyncio", *logging.root.manager.loggerDict):
+        if name.partition(".")[0] in ("asyncio", "distributed", "tornado"):
+            logging.getLogger(name).setLevel(logging.CRITICAL)
+
+
 @contextmanager
 def connected(address: str) -> Iterator[Any]:
     """Gives a client of the scheduler at an address. Nothing but this package writes messages then.
@@ -50,11 +58,10 @@ def connected(address: str) -> Iterator[Any]:
     Raises:
         CityseqError: There is no scheduler.
     """
-    logging.getLogger("distributed").setLevel(logging.CRITICAL)
+    distributed = _module("distributed")
+    _quiet()
     try:
-        client = _module("distributed").Client(address, timeout=CONNECT, set_as_default=False)
-    except CityseqError:
-        raise
+        client = distributed.Client(address, timeout=CONNECT, set_as_default=False)
     except Exception as fault:
         raise Lost(f"there is no scheduler of Dask at {address}: {type(fault).__name__}") from fault
     try:

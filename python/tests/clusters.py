@@ -1,0 +1,90 @@
+"""Clusters of Dask whose every port is on loopback. The tests of a module share one."""
+import contextlib
+import logging
+import os
+import unittest
+
+from .support import ROOT, InFolder
+
+try:
+    import distributed
+except ImportError:
+    distributed = None
+
+HOST = "127.0.0.1"
+# what each scheduler and worker is given, since the page of each is on all addresses otherwise
+WORDS = ("--host", HOST, "--no-dashboard", "--dashboard-address", f"{HOST}:0")
+WAIT = 1.0  # seconds for a client to end whose scheduler is gone
+_shared = []
+
+
+def quiet():
+    """Lets Dask say nothing: that workers and schedulers end is what is tested."""
+    for name in ("distributed", "distributed.client"):  # the import of Dask gives each a level
+        logging.getLogger(name).setLevel(logging.CRITICAL)
+
+
+def settings():
+    """The settings of a process that finds this package."""
+    return {**os.environ, "PYTHONPATH": os.path.join(ROOT, "python")}
+
+
+def begun(workers):
+    """A cluster of workers of one thread, each a process of its own, and a client of it."""
+    os.environ.update(settings())
+    quiet()
+    cluster = distributed.LocalCluster(
+        n_workers=workers,
+        threads_per_worker=1,
+        processes=True,
+        host=HOST,
+        dashboard_address=f"{HOST}:0",
+        worker_dashboard_address=f"{HOST}:0",
+        silence_logs=logging.CRITICAL,
+    )
+    return cluster, distributed.Client(cluster)
+
+
+def end(cluster, client):
+    """Ends what `begun` has begun."""
+    client.close()
+    cluster.close()
+
+
+def leave(client):
+    """Ends a client whose scheduler is gone, which would look for it for half a minute."""
+    with contextlib.suppress(distributed.TimeoutError):
+        client.close(WAIT)
+
+
+def _end_shared():
+    end(*_shared)
+    _shared.clear()
+
+
+@unittest.skipIf(distributed is None, "distributed is not there")
+class WithCluster(InFolder):
+    """Two workers of one thread, each a process of its own, in a folder of their own."""
+
+    @classmethod
+    def setUpClass(cls):
+        if not _shared:
+            _shared.extend(begun(2))
+            unittest.addModuleCleanup(_end_shared)
+        cls.cluster, cls.client = _shared
+
+    def setUp(self):
+        super().setUp()
+        self.addCleanup(os.chdir, os.getcwd())
+
+
+def listening(processes):
+    """The addresses at which these processes of psutil listen."""
+    import psutil
+
+    return {
+        each.laddr.ip
+        for process in processes
+        for each in process.connections("inet")
+        if each.status == psutil.CONN_LISTEN
+    }
