@@ -20,7 +20,8 @@ _shared = []
 
 def quiet():
     """Lets Dask say nothing: that workers and schedulers end is what is tested."""
-    for name in ("distributed", "distributed.client"):  # the import of Dask gives each a level
+    # the import of Dask gives two of them a level, and Dask writes to that of asyncio too
+    for name in ("distributed", "distributed.client", "asyncio"):
         logging.getLogger(name).setLevel(logging.CRITICAL)
 
 

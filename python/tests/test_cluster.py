@@ -435,12 +435,32 @@ class Many(WithCluster):
 
 @unittest.skipIf(distributed is None, "distributed is not there")
 class Workers(InFolder):
-    """Workers that join, that are missing, and that end."""
+    """Workers that join, that are missing, and that end, and schedulers that are not there."""
 
     def begun(self, workers):
         cluster, client = clusters.begun(workers)
         self.addCleanup(clusters.end, cluster, client)
         return cluster, client
+
+    def test_the_command_says_nothing_that_dask_says(self):
+        text = (
+            "import logging, distributed\n"
+            "def fails(*given, **named):\n"
+            "    for name in ('asyncio.events', 'distributed.client', 'tornado.application'):\n"
+            "        logging.getLogger(name).error('a future was left')\n"
+            "    raise OSError\n"
+            "distributed.Client = fails\n"
+            "from cityseq.cli.main import main\n"
+            "raise SystemExit(main(['check', 'a', '--cluster', 'tcp://127.0.0.1:9']))\n"
+        )
+        ran = subprocess.run(
+            [sys.executable, "-W", "ignore", "-c", text],
+            capture_output=True,
+            text=True,
+            env=clusters.settings(),
+        )
+        wanted = "there is no scheduler of Dask at tcp://127.0.0.1:9: OSError\n"
+        self.assertEqual((ran.stdout, ran.stderr, ran.returncode), ("", wanted, 2))
 
     def test_no_worker_and_then_one(self):
         path = self.file(lines(10))
