@@ -43,22 +43,24 @@ extern "C" {
 
 /* The interface that this file declares. cityseq_interface returns that of the library.
  *
+ * 3: A cityseq_feature has where the attributes of its main city object are. An answer has `list` and `item`, which say what a
+ *    fault of a request is about.
  * 2: cityseq_tally is now cityseq_info, so that in C++ the struct needs no keyword. New are cityseq_features, the joins,
  *    cityseq_part_end, cityseq_line_begin, cityseq_stack, cityseq_memory and cityseq_version. A report has `begin`, and a tally
  *    has the transform. There are constants for the reasons and for the sizes of a tally. NULL is allowed if there are no bytes.
  *    After CITYSEQ_NO_MEMORY all counts are 0. After it and CITYSEQ_BAD_REQUEST a tally is as it was.
  * 1: the first one. */
-#define CITYSEQ_INTERFACE 2
+#define CITYSEQ_INTERFACE 3
 
 /* The version of cityseq that this file belongs to. */
 #define CITYSEQ_VERSION "0.2.0"
 
 /* How a call ended. After CITYSEQ_BAD_REQUEST and CITYSEQ_NO_MEMORY nothing was judged: output, reports and tally are as they
- * were. Then all fields of the answer but status and code are 0. */
+ * were. Then all fields of the answer but status, code, list and item are 0. */
 enum cityseq_status {
     CITYSEQ_COMPLETE = 0,    /* All lines were read, and none was the end. */
     CITYSEQ_REFUSED = 1,     /* A line is invalid: line, place and code say which, where and why. */
-    CITYSEQ_BAD_REQUEST = 2, /* The request is wrong. code is a cityseq_fault. */
+    CITYSEQ_BAD_REQUEST = 2, /* The request is wrong. code is a cityseq_fault, and list and item say where it is. */
     CITYSEQ_NO_ROOM = 4,     /* cityseq_filter alone: the next kept line does not fit in the output. */
     CITYSEQ_NO_MEMORY = 5    /* No memory was granted. */
 };
@@ -74,6 +76,14 @@ enum cityseq_fault {
     CITYSEQ_BOX_RANGE = 7,    /* A number of the box is out of range. */
     CITYSEQ_EMPTY_BOX = 8,    /* The least edge of the box is above the greatest. */
     CITYSEQ_TOO_LONG = 9      /* The header and the part have more than 2^60 bytes. */
+};
+
+/* Which list of a request has a fault. */
+enum cityseq_list {
+    CITYSEQ_LIST_IDS = 1,
+    CITYSEQ_LIST_TYPES = 2,
+    CITYSEQ_LIST_LODS = 3,
+    CITYSEQ_LIST_BOX = 4
 };
 
 /* Why a line is invalid: the code of an answer whose status is CITYSEQ_REFUSED, and of a report. docs/RULES.md explains each. */
@@ -154,6 +164,8 @@ struct cityseq_answer {
     uint64_t peak_tokens; /* The most tokens. */
     uint64_t peak_depth;  /* The most open arrays and objects. */
     uint64_t written;     /* The bytes of output that cityseq_filter wrote. Else 0. */
+    uint64_t list;        /* The list of the request that has the fault, a cityseq_list. 0 if no list has one. */
+    uint64_t item;        /* The text or number in this list, from 0. Else 0. */
 };
 
 /* The least and the greatest whole number on an axis. */
@@ -192,6 +204,8 @@ struct cityseq_feature {
     uint64_t length;                /* The bytes of the line, without LF. */
     uint64_t id_begin;              /* Where the string of its id begins in the line, in bytes from 0. */
     uint64_t id_length;             /* The bytes of that string, with quotes and escapes. */
+    uint64_t attributes_begin;      /* Where `attributes` of the city object of that id begin in the line. Else 0. */
+    uint64_t attributes_length;     /* Their bytes, whatever kind of value they are. 0 if there are none. */
     uint64_t objects;               /* The number of its city objects. */
     uint64_t geometries;            /* The number of their geometries. */
     uint64_t types;                 /* Bit n is set if a city object has the type of number n. */

@@ -85,8 +85,9 @@ class Vectors(InFolder):
             for _ in range(3):
                 pair = sorted(chance.randrange(-reach, reach) for _ in range(2))
                 axes += (1, *pair) if has_place else (0, 0, 0)
+            spans = (30, 4, 60, 20)
             sets = (chance.randrange(3), 1, 1 << chance.randrange(9), chance.choice((4, 4, 6)))
-            raw.append(RECORD.pack(number + 2, number * 301, 300, 30, 4, *sets, *axes))
+            raw.append(RECORD.pack(number + 2, number * 301, 300, *spans, *sets, *axes))
         return Records(chance.randrange(1 << 40), b"".join(raw), [b"id"] * count)
 
     def told(self, made):

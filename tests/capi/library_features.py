@@ -27,12 +27,26 @@ NUMBERS = (
     "length",
     "id_begin",
     "id_length",
+    "attributes_begin",
+    "attributes_length",
     "objects",
     "geometries",
     "types",
     "lods",
 )
-COUNTS = ("line", "place", "lines", "kept", "refused", "bytes", "tokens", "depth", "written")
+COUNTS = (
+    "line",
+    "place",
+    "lines",
+    "kept",
+    "refused",
+    "bytes",
+    "tokens",
+    "depth",
+    "written",
+    "list",
+    "item",
+)
 COMPLETE, REFUSED = 0, 1
 ROOM = 64
 
@@ -125,6 +139,24 @@ def lod_class(geometry: dict[str, Any], header: dict[str, Any]) -> int:
     return int(lod[0]) if isinstance(lod, str) and lod[:1] in tuple("01234") else 5
 
 
+def first_of(text: str, begin: int, stop: int, wanted: str) -> tuple[int, int] | None:
+    """Where the value of the first member of this name begins and stops, of the object in text."""
+    for name, start, _, end in members_of(text[begin:stop]):
+        if name == wanted:
+            return begin + start, begin + end
+    return None
+
+
+def attributes_in(text: str) -> tuple[int, int]:
+    """Where the attributes of the main city object begin, in bytes, and how long they are."""
+    place: tuple[int, int] | None = (0, len(text))
+    for name in ("CityObjects", json.loads(text)["id"], "attributes"):
+        place = place and first_of(text, *place, name)
+    if not place:
+        return 0, 0
+    return len(text[: place[0]].encode()), len(text[place[0] : place[1]].encode())
+
+
 def told_of(
     line: bytes, number: int, begin: int, header: dict[str, Any], types: dict[str, int]
 ) -> Told:
@@ -138,7 +170,8 @@ def told_of(
     geometries = [geometry for each in objects for geometry in each.get("geometry", [])]
     vertices = first["vertices"][1]
     place = (number, begin, len(line), len(text[:start].encode()), len(text[start:stop].encode()))
-    numbers = place + (
+    numbers = place + attributes_in(text)
+    numbers += (
         len(objects),
         len(geometries),
         sum(1 << n for n in {types[each["type"]] for each in objects}),

@@ -14,7 +14,7 @@ from .memory import Room
 from .query import Work
 from .structs import RawAnswer
 
-RECORD = struct.Struct("=9Q" + "Qqq" * 3)  # `struct cityseq_feature`
+RECORD = struct.Struct("=11Q" + "Qqq" * 3)  # `struct cityseq_feature`
 MEMBERS = RECORD.size // 8  # each of 8 bytes, below 2^63
 SHORTEST = 64  # bytes: every feature is longer
 USUAL = 8_192  # features of a part that fit at first

@@ -5,7 +5,7 @@ import ctypes
 import enum
 from ctypes import c_bool, c_char_p, c_int32, c_int64, c_size_t, c_uint32, c_uint64
 
-INTERFACE = 2
+INTERFACE = 3
 LINE_LIMITS, DEPTH_LIMITS = (1, 1_073_741_824), (1, 1_024)
 USUAL_LINE, USUAL_DEPTH = 8_388_608, 64
 TYPES, LOD_CLASSES = 33, ("0", "1", "2", "3", "4", "other")
@@ -85,6 +85,8 @@ class RawAnswer(ctypes.Structure):
             "peak_tokens",
             "peak_depth",
             "written",
+            "list",
+            "item",
         )
     ]
 
@@ -124,6 +126,8 @@ class RawFeature(ctypes.Structure):
         ("length", c_uint64),
         ("id_begin", c_uint64),
         ("id_length", c_uint64),
+        ("attributes_begin", c_uint64),
+        ("attributes_length", c_uint64),
         ("objects", c_uint64),
         ("geometries", c_uint64),
         ("types", c_uint64),

@@ -58,7 +58,7 @@ def columns_of(
         world: The map from vertices to world coordinates.
         start: The beginning of each polygon.
     """
-    line, begin, length, _, _, objects, geometries, types, lods, *vertices = records.columns()
+    line, begin, length, _, _, _, _, objects, geometries, types, lods, *vertices = records.columns()
     some = vertices[0]
     edges = [list(compress(vertices[place], some)) for place in (1, 2, 4, 5, 7, 8)]
     columns = Columns(

@@ -24,6 +24,8 @@ RECORD = np.dtype(
             "length",
             "id_begin",
             "id_length",
+            "attributes_begin",
+            "attributes_length",
             "objects",
             "geometries",
             "types",

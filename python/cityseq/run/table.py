@@ -23,8 +23,8 @@ TOGETHER = 16_384  # features whose columns are made together
 MANY = 131_072  # features after which numpy is loaded, which takes as long as it saves for so many
 COUNTS, SETS = ("line", "length", "objects", "geometries"), ("types", "lods")
 EDGES = ("xmin", "xmax", "ymin", "ymax", "zmin", "zmax")
-MEMBERS = {"line": 0, "length": 2, "objects": 5, "geometries": 6, "types": 7, "lods": 8}
-RANGES = (9, 12, 15)  # of a record: whether a feature has vertices, the least and the greatest one
+MEMBERS = {"line": 0, "length": 2, "objects": 7, "geometries": 8, "types": 9, "lods": 10}
+RANGES = (11, 14, 17)  # of a record: whether a feature has vertices, the least and the greatest one
 EXACT = 1 << 53  # whole numbers below this are floats
 
 
