@@ -5,10 +5,12 @@ use Rattle.cj_stream.specs.declared.ending.End.{End}
 use Rattle.cj_stream.specs.declared.ending.End.TheVariants.{Complete, Refused, ReadFault, ReadLimit, WriteFault}
 use Rattle.cj_stream.specs.declared.ending.End.TheVariants.{Memory as NoMemory}
 use Rattle.cj_stream.specs.declared.running.Outcome.{Outcome}
+use Rattle.cityseq_c.specs.FaultPlace.{fault_place}
 use Rattle.cityseq_c.specs.Request.{fault_code}
 use Rattle.cityseq_c.specs.declared.answer.Answer.{Answer}
 use Rattle.cityseq_c.specs.declared.request.NotJudged.{NotJudged}
 use Rattle.cityseq_c.specs.declared.request.NotJudged.TheVariants.{Fault, Memory}
+use Rattle.cityseq_c.specs.declared.request.Request.{Request}
 
 -- the status of an end
 abbrev pub status_of : End → ℕ
@@ -58,11 +60,13 @@ answer_of o written = record {
   peak_tokens = o.peaks.tokens;
   peak_depth = o.peaks.depth;
   written = written;
+  list = 0;
+  item = 0;
 }
 
--- what is told where nothing was read
-abbrev pub not_judged : ℕ → ℕ → Answer
-not_judged status code = record {
+-- what is told where nothing was read, with where the fault of the request is
+abbrev pub not_judged : ℕ → ℕ → ℕ → ℕ → Answer
+not_judged status code list item = record {
   status = status;
   code = code;
   line = 0;
@@ -74,10 +78,13 @@ not_judged status code = record {
   peak_tokens = 0;
   peak_depth = 0;
   written = 0;
+  list = list;
+  item = item;
 }
 
--- what is told, by how it went
-abbrev pub answer_to : Result Outcome NotJudged → ℕ → Answer
-answer_to (Ok outcome) written = answer_of outcome written
-answer_to (Err (Fault fault)) written = not_judged 2 (fault_code fault)
-answer_to (Err Memory) written = not_judged 5 0
+-- what is told of a request, by how it went
+abbrev pub answer_to : Request → Result Outcome NotJudged → ℕ → Answer
+answer_to r (Ok outcome) written = answer_of outcome written
+answer_to r (Err (Fault fault)) written =
+    not_judged 2 (fault_code fault) (fault_place r fault).list (fault_place r fault).item
+answer_to r (Err Memory) written = not_judged 5 0 0 0

@@ -49,7 +49,7 @@ Goes c also (Err why) = DeclinesCall c.request c.header c.part why × (c.new ≡
 pub record Calls (c : Call) (also : Rules → Outcome → Type 0) (written : ℕ) (answer : Answer) : Type 0 where
   pub went : Result Outcome NotJudged
   pub goes : Goes c also went
-  pub told : answer ≡ answer_to went written
+  pub told : answer ≡ answer_to c.request went written
 
 -- a check
 abbrev pub Checks : Call → Answer → Type 0

@@ -1,10 +1,10 @@
 -- The records of the features that are kept: where each stands in a part, and what is in it.
 use Rattle.std.specs.Prelude.{◌≡◌, ℕ, zero, suc, ◌+◌, ◌<◌, ◌^◌, List, [], ◌∷◌, ◌++◌, Bool, true, false, Option}
 use Rattle.std.specs.Prelude.{Some, None, ℤ, if◌then◌else◌, MatchOption, codes, drop, get_or, length, min, nat_lt}
-use Rattle.std.specs.Prelude.{slice_set, take}
+use Rattle.std.specs.Prelude.{option_and_then, slice_set, take}
 use Rattle.std.specs.List.{AllZip, filter, flat_map}
 use Rattle.std.specs.Str.{bytes_eq, chars}
-use Rattle.cj_spans.specs.Meaning.Parts.{member_of}
+use Rattle.cj_spans.specs.Meaning.Parts.{first_named, member_if, member_of, text_of}
 use Rattle.cj_spans.specs.Places.{spelling_of}
 use Rattle.cj_spans.specs.Meaning.Tree.{Tree, start_of}
 use Rattle.cj_feature.specs.Meaning.CityObject.{object_geometries}
@@ -70,6 +70,20 @@ pub record HasId (i : Item) (f : FeatureRecord) : Type 0 where
   pub begin : f.id_begin ≡ start_of id
   pub long : f.id_length ≡ length (spelling_of i.line.content id)
 
+-- the main city object of a feature: the first one that has the id of the feature as its name
+abbrev pub main_object : Tree → Option Tree
+main_object t = option_and_then (λ id. first_named id (objects_of t))
+    (option_and_then text_of (member_of (chars (codes "id")) t))
+
+-- its attributes: the value of its first member of this name
+abbrev pub attributes_in : Tree → Option Tree
+attributes_in t = member_if (chars (codes "attributes")) (main_object t)
+
+-- where a value begins in a line, and how long it is as it is spelled there; 0 and 0 where there is none
+abbrev pub HasSpan : List ℕ → Option Tree → ℕ → ℕ → Type 0
+HasSpan line None begin long = (begin ≡ 0) × (long ≡ 0)
+HasSpan line (Some t) begin long = (begin ≡ start_of t) × (long ≡ length (spelling_of line t))
+
 -- a record has the range of a feature's vertices on an axis
 pub record HasRange (i : Item) (f : FeatureRecord) (axis : ℕ) : Type 0 where
   pub range : Option (ℤ × ℤ)
@@ -82,6 +96,7 @@ pub record IsRecordOf (x : Spot) (f : FeatureRecord) : Type 0 where
   pub begin : f.begin ≡ x.begin
   pub long : f.length ≡ length x.item.line.content
   pub id : HasId x.item f
+  pub attributes : HasSpan x.item.line.content (attributes_in x.item.tree) f.attributes_begin f.attributes_length
   pub objects : f.objects ≡ capped (length (objects_of x.item.tree))
   pub geometries : f.geometries ≡ capped (length (flat_map object_geometries (objects_of x.item.tree)))
   pub types : f.types ≡ bits (is_among (type_numbers x.item.tree)) type_count

@@ -2,6 +2,7 @@ pub mod Answer
 pub mod Begins
 pub mod Called
 pub mod Cutting
+pub mod FaultPlace
 pub mod Features
 pub mod Joined
 pub mod Judged

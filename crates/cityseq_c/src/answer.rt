@@ -2,7 +2,8 @@
 ghost use Rattle.std.specs.Prelude.{◌≡◌, Result};
 ghost use Rattle.cityseq_c.specs.Answer.{answer_of, answer_to, not_judged};
 
-use crate::request::NotJudged;
+use crate::fault_place::{FaultPlace, fault_place};
+use crate::request::{NotJudged, Request};
 use crate::words::reason_of;
 use cj_stream::{End, Outcome, Peaks};
 
@@ -37,12 +38,16 @@ pub struct Answer {
     pub peak_depth: u64,
     /// The number of bytes of output that were written.
     pub written: u64,
+    /// The list of the request that has the fault, and the text or number in it ([`FaultPlace`]).
+    /// Else 0.
+    pub list: u64,
+    pub item: u64,
 }
 
-/// Returns the answer of a call that judged nothing. It has a status and a code, and all counts are
-/// 0.
-fn answer_without_lines(status: u32, code: u32) -> Answer
-    ensures { result ≡ not_judged status code }
+/// Returns the answer of a call that judged nothing. It has a status, a code, and where the fault
+/// of the request is. All counts are 0.
+fn answer_without_lines(status: u32, code: u32, place: FaultPlace) -> Answer
+    ensures { result ≡ not_judged status code place.list place.item }
 {
     Answer {
         status,
@@ -56,6 +61,8 @@ fn answer_without_lines(status: u32, code: u32) -> Answer
         peak_tokens: 0,
         peak_depth: 0,
         written: 0,
+        list: place.list,
+        item: place.item,
     }
 }
 
@@ -86,6 +93,8 @@ fn answer_of_outcome(outcome: Outcome, written: u64) -> Answer
         peak_tokens: outcome.peaks.tokens,
         peak_depth: outcome.peaks.depth,
         written,
+        list: 0,
+        item: 0,
     }
 }
 
@@ -97,14 +106,21 @@ impl Answer {
     ghost use Rattle.cityseq_c.specs.Called.{IsUnjudged};
     ghost use Rattle.cityseq_c.specs.Joined.{both_answers, ended_by, outcome_by, IsAnswerOf};
 
-    /// Returns the answer of a call, from its outcome or from why nothing was judged.
-    pub fn of(judged: Result<Outcome, NotJudged>, written: usize) -> Answer
-        ensures { result ≡ answer_to judged written }
+    /// Returns the answer of a call with this request, from its outcome or from why nothing was
+    /// judged.
+    pub fn of(
+        request: &Request<'_>,
+        judged: Result<Outcome, NotJudged>,
+        written: usize,
+    ) -> Answer
+        ensures { result ≡ answer_to request.now judged written }
     {
         match judged {
             Ok(outcome) => answer_of_outcome(outcome, written as u64),
-            Err(NotJudged::Fault(fault)) => answer_without_lines(2, fault.code()),
-            Err(NotJudged::Memory) => answer_without_lines(5, 0),
+            Err(NotJudged::Fault(fault)) => {
+                answer_without_lines(2, fault.code(), fault_place(request, fault))
+            }
+            Err(NotJudged::Memory) => answer_without_lines(5, 0, FaultPlace { list: 0, item: 0 }),
         }
     }
 
@@ -149,12 +165,13 @@ impl Answer {
     /// with the first part, and `next` is for the header with the second.
     ///
     /// If this answer is not complete, it is the answer for both. If nothing of the next part was
-    /// judged, the answer has its status and code, with the counts of this one. Counts stop at
-    /// 2^64 - 1.
+    /// judged, the answer has its status, code, list and item, with the counts of this one. Counts
+    /// stop at 2^64 - 1.
     pub fn then(&self, next: &Answer, header_length: usize) -> Answer
         ensures ended { self.now.status ≢ 0 → result ≡ self.now }
         ensures unjudged { self.now.status ≡ 0 → IsUnjudged next.now
-            → result ≡ record self.now { status = next.now.status; code = next.now.code } }
+            → result ≡ record self.now { status = next.now.status; code = next.now.code; list = next.now.list;
+            item = next.now.item } }
         ensures judged { (ended : End) → self.now.status ≡ 0 → ended_by next.now ≡ Some ended
             → result ≡ both_answers self.now next.now ended header_length }
         ensures account { (rules : Rules) (h a b : List ℕ) → IsCut h a → self.now.lines + next.now.lines < 2 ^ 64
@@ -175,6 +192,8 @@ impl Answer {
             None => Answer {
                 status: next.status,
                 code: next.code,
+                list: next.list,
+                item: next.item,
                 ..*self
             },
         }

@@ -11,6 +11,7 @@
 //! The modules:
 //!
 //! - `request`: a request as C has it, and its faults. `query` makes the query of its texts.
+//!   `fault_place` finds which text or number is at fault.
 //! - `judging`: judges a header and a part as one stream.
 //! - `answer`: the result of a call for C, and that of two parts as one.
 //! - `cutting`: where a part ends. `finder`: where lines begin.
@@ -42,6 +43,7 @@ ghost use Rattle.cityseq_c.specs.Words.{reason_words, type_words, IsCopied};
 
 mod answer;
 mod cutting;
+mod fault_place;
 mod features;
 mod finder;
 mod judging;
@@ -81,9 +83,9 @@ const STACK: usize = 2_097_152;
 /// another number.
 #[unsafe(no_mangle)]
 pub extern "C" fn cityseq_interface() -> u32
-    ensures { result ≡ 2 }
+    ensures { result ≡ 3 }
 {
-    2
+    3
 }
 
 /// Judges the lines of a stream. It writes the first reports to `reports`, as many as fit.
@@ -98,12 +100,10 @@ pub extern "C" fn cityseq_check(
     ensures checks { Checks (call request.now header.now part.now reports.old reports.new) result }
     ensures fits { result.status ≢ 4 }
     ensures unjudged { IsUnjudged result
-        → (result ≡ not_judged result.status result.code) × (reports.new ≡ reports.old) }
+        → (result ≡ not_judged result.status result.code result.list result.item) × (reports.new ≡ reports.old) }
 {
-    Answer::of(
-        judge(alloc, header, part, request, &mut IgnoreSink, reports),
-        0,
-    )
+    let judged = judge(alloc, header, part, request, &mut IgnoreSink, reports);
+    Answer::of(request, judged, 0)
 }
 
 /// Judges the lines of a stream. It writes the header and the kept features to `output`, byte for
@@ -119,12 +119,12 @@ pub extern "C" fn cityseq_filter(
 ) -> Answer
     ensures filters { Filters (call request.now header.now part.now reports.old reports.new) output.old
         output.new result }
-    ensures unjudged { IsUnjudged result → (result ≡ not_judged result.status result.code) × (reports.new ≡ reports.old)
+    ensures unjudged { IsUnjudged result → (result ≡ not_judged result.status result.code result.list result.item) × (reports.new ≡ reports.old)
         × (output.new ≡ output.old) }
 {
     let mut room = Room::new(output);
     let judged = judge(alloc, header, part, request, &mut room, reports);
-    Answer::of(judged, room.written())
+    Answer::of(request, judged, room.written())
 }
 
 /// Judges the lines of a stream, and tallies the kept features. It reports as [`cityseq_check`]
@@ -140,7 +140,7 @@ pub extern "C" fn cityseq_info(
 ) -> Answer
     ensures tallies { TalliesPart (call request.now header.now part.now reports.old reports.new) tally.new result }
     ensures fits { result.status ≢ 4 }
-    ensures unjudged { IsUnjudged result → (result ≡ not_judged result.status result.code) × (reports.new ≡ reports.old)
+    ensures unjudged { IsUnjudged result → (result ≡ not_judged result.status result.code result.list result.item) × (reports.new ≡ reports.old)
         × (tally.new ≡ tally.old) }
 {
     laws::puts_are_tallied();
@@ -149,7 +149,7 @@ pub extern "C" fn cityseq_info(
     if judged.is_ok() {
         *tally = Tally::of(&sink);
     }
-    Answer::of(judged, 0)
+    Answer::of(request, judged, 0)
 }
 
 /// Judges the lines of a stream. It writes a record of each kept feature to `records`, in order, as
@@ -166,11 +166,12 @@ pub extern "C" fn cityseq_features(
     ensures lists { Lists (call request.now header.now part.now reports.old reports.new) records.old
         records.new result }
     ensures fits { result.status ≢ 4 }
-    ensures unjudged { IsUnjudged result → (result ≡ not_judged result.status result.code) × (reports.new ≡ reports.old)
+    ensures unjudged { IsUnjudged result → (result ≡ not_judged result.status result.code result.list result.item) × (reports.new ≡ reports.old)
         × (records.new ≡ records.old) }
 {
     let mut listed = Listed::new(part, records);
-    Answer::of(judge(alloc, header, part, request, &mut listed, reports), 0)
+    let judged = judge(alloc, header, part, request, &mut listed, reports);
+    Answer::of(request, judged, 0)
 }
 
 /// Returns the answer for a header with the lines of two parts, from the answers for the header
@@ -180,7 +181,8 @@ pub extern "C" fn cityseq_features(
 pub extern "C" fn cityseq_answer_then(first: &Answer, next: &Answer, header_length: usize) -> Answer
     ensures ended { first.now.status ≢ 0 → result ≡ first.now }
     ensures unjudged { first.now.status ≡ 0 → IsUnjudged next.now
-        → result ≡ record first.now { status = next.now.status; code = next.now.code } }
+        → result ≡ record first.now { status = next.now.status; code = next.now.code; list = next.now.list;
+        item = next.now.item } }
     ensures judged { (ended : End) → first.now.status ≡ 0 → ended_by next.now ≡ Some ended
         → result ≡ both_answers first.now next.now ended header_length }
     ensures account { (rules : Rules) (h a b : List ℕ) → IsCut h a → first.now.lines + next.now.lines < 2 ^ 64

@@ -21,6 +21,10 @@ const HEADER: &[u8] =
 const FEATURE: &[u8] =
     b"{\"type\":\"CityJSONFeature\",\"id\":\"b1\",\"CityObjects\":{\"b1\":{\"type\":\"Building\",\"geometry\":[{\"type\":\"MultiSurface\",\"lod\":\"2.2\",\"boundaries\":[[[0,1,2,3]]]}]}},\"vertices\":[[0,0,0],[1000,0,0],[1000,1000,0],[0,1000,0]]}\n";
 
+/// A feature whose main city object comes last. Its attributes are the 9 bytes from byte 168 on.
+const FURNISHED: &[u8] =
+    b"{\"type\":\"CityJSONFeature\",\"id\":\"a\",\"CityObjects\":{\"b\":{\"type\":\"BuildingPart\",\"parents\":[\"a\"],\"attributes\":{\"n\":1}},\"a\":{\"type\":\"Building\",\"children\":[\"b\"],\"attributes\":{\"n\":[2]}}},\"vertices\":[]}\n";
+
 /// The same feature with an index that is one too great, and then a line that is no JSON text.
 const BROKEN: &[u8] =
     b"{\"type\":\"CityJSONFeature\",\"id\":\"b1\",\"CityObjects\":{\"b1\":{\"type\":\"Building\",\"geometry\":[{\"type\":\"MultiSurface\",\"lod\":\"2.2\",\"boundaries\":[[[0,1,2,4]]]}]}},\"vertices\":[[0,0,0],[1000,0,0],[1000,1000,0],[0,1000,0]]}\n{\n";
@@ -57,6 +61,21 @@ fn checked(alloc: Global, header: &[u8], part: &[u8], request: &Request) -> Answ
     cityseq_check(alloc, header, part, request, &mut [])
 }
 
+/// Checks the feature, by a request.
+fn asked(alloc: Global, request: &Request) -> Answer {
+    checked(alloc, HEADER, FEATURE, request)
+}
+
+/// Checks the feature, by a request with a box.
+fn boxed(alloc: Global, bbox: &[u8]) -> Answer {
+    let request = Request {
+        asks_box: true,
+        bbox,
+        ..USUAL
+    };
+    asked(alloc, &request)
+}
+
 /// Writes the feature to an output, by the usual request.
 fn filtered(alloc: Global, output: &mut [u8]) -> Answer {
     cityseq_filter(alloc, HEADER, FEATURE, &USUAL, output, &mut [])
@@ -67,9 +86,9 @@ fn tallied(alloc: Global, tally: &mut Tally) -> Answer {
     cityseq_info(alloc, HEADER, FEATURE, &USUAL, tally, &mut [])
 }
 
-/// Lists the feature, by the usual request.
-fn listed(alloc: Global, records: &mut [FeatureRecord]) -> Answer {
-    cityseq_features(alloc, HEADER, FEATURE, &USUAL, records, &mut [])
+/// Lists a feature, by the usual request.
+fn listed(alloc: Global, part: &[u8], records: &mut [FeatureRecord]) -> Answer {
+    cityseq_features(alloc, HEADER, part, &USUAL, records, &mut [])
 }
 
 // ---- comparisons
@@ -78,6 +97,11 @@ fn listed(alloc: Global, records: &mut [FeatureRecord]) -> Answer {
 fn check_ended(rt: &impl Abort, answer: Answer, wanted: (u32, u32, u64, u64)) {
     let ended = (answer.status, answer.code, answer.line, answer.place);
     assert_eq!(rt; ended, wanted);
+}
+
+/// Checks the fault of a request, and where it is: the code, the list and the item.
+fn check_fault(rt: &impl Abort, answer: Answer, wanted: (u32, u64, u64)) {
+    assert_eq!(rt; (answer.code, answer.list, answer.item), wanted);
 }
 
 /// Checks the counts of an answer: lines, kept features, reported lines, and bytes of output.
@@ -259,6 +283,8 @@ const NO_RECORD: FeatureRecord = FeatureRecord {
     length: 0,
     id_begin: 0,
     id_length: 0,
+    attributes_begin: 0,
+    attributes_length: 0,
     objects: 0,
     geometries: 0,
     types: 0,
@@ -289,6 +315,11 @@ fn check_objects(rt: &impl Abort, record: &FeatureRecord, wanted: (u64, u64, u64
     assert_eq!(rt; counts, wanted);
 }
 
+/// Checks a record: where the attributes begin, and their length.
+fn check_attributes(rt: &impl Abort, record: &FeatureRecord, wanted: (u64, u64)) {
+    assert_eq!(rt; (record.attributes_begin, record.attributes_length), wanted);
+}
+
 /// Checks the number of the line of a record.
 fn check_line(rt: &impl Abort, record: &FeatureRecord, wanted: u64) {
     assert_eq!(rt; record.line, wanted);
@@ -297,12 +328,22 @@ fn check_line(rt: &impl Abort, record: &FeatureRecord, wanted: u64) {
 #[test]
 fn a_feature_is_listed(rt: HostRuntime) -> Result<(), Fail> {
     let mut records = [NO_RECORD; 2];
-    let answer = listed(rt.alloc(), &mut records);
+    let answer = listed(rt.alloc(), FEATURE, &mut records);
     check_ended(&rt, answer, (0, 0, 0, 0));
     check_place(&rt, &records[0], (2, 0, 210, 31, 4));
     check_objects(&rt, &records[0], (1, 1, 2, 4));
     check_range(&rt, records[0].ranges[0], (1, 0, 1000));
+    check_attributes(&rt, &records[0], (0, 0));
     check_line(&rt, &records[1], 0);
+    Ok(())
+}
+
+#[test]
+fn attributes_of_the_main_city_object_are_listed(rt: HostRuntime) -> Result<(), Fail> {
+    let mut records = [NO_RECORD; 1];
+    let answer = listed(rt.alloc(), FURNISHED, &mut records);
+    check_ended(&rt, answer, (0, 0, 0, 0));
+    check_attributes(&rt, &records[0], (168, 9));
     Ok(())
 }
 
@@ -346,8 +387,31 @@ fn an_unknown_type_is_told(rt: HostRuntime) -> Result<(), Fail> {
         types: b"Building\nHouse",
         ..USUAL
     };
-    let answer = checked(rt.alloc(), HEADER, FEATURE, &request);
-    check_ended(&rt, answer, (2, 5, 0, 0));
+    check_fault(&rt, asked(rt.alloc(), &request), (5, 2, 1));
+    Ok(())
+}
+
+#[test]
+fn a_text_that_is_not_utf8_is_told(rt: HostRuntime) -> Result<(), Fail> {
+    let request = Request {
+        asks_ids: true,
+        ids: b"a",
+        asks_lods: true,
+        lods: b"1\n2\n\xff\n\xff",
+        ..USUAL
+    };
+    check_fault(&rt, asked(rt.alloc(), &request), (4, 3, 2));
+    Ok(())
+}
+
+#[test]
+fn a_wrong_box_is_told(rt: HostRuntime) -> Result<(), Fail> {
+    check_fault(&rt, boxed(rt.alloc(), b"0,0,1"), (6, 4, 3));
+    check_fault(&rt, boxed(rt.alloc(), b"0,0,1,x"), (6, 4, 3));
+    check_fault(&rt, boxed(rt.alloc(), b"0,0,1,1,1"), (6, 4, 4));
+    check_fault(&rt, boxed(rt.alloc(), b"0,1e18,1,1e18"), (7, 4, 1));
+    check_fault(&rt, boxed(rt.alloc(), b"2,3,1,1"), (8, 4, 0));
+    check_fault(&rt, boxed(rt.alloc(), b"0,3,1,1"), (8, 4, 1));
     Ok(())
 }
 
@@ -482,6 +546,6 @@ fn check_interface(rt: &impl Abort, wanted: u32) {
 
 #[test]
 fn the_interface_has_its_number(rt: HostRuntime) -> Result<(), Fail> {
-    check_interface(&rt, 2);
+    check_interface(&rt, 3);
     Ok(())
 }

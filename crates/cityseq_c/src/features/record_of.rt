@@ -1,15 +1,17 @@
 //! The record of a feature: where it is in a part, and what is in it.
-ghost use Rattle.std.specs.Prelude.{◌≡◌, ◌≤◌, Bool, get_or, length, nat_lt, sum};
+ghost use Rattle.std.specs.Prelude.{◌≡◌, ◌≤◌, Bool, IfSome, get_or, length, nat_lt, option_map, sum};
 ghost use Rattle.std.specs.List.{flat_map};
-ghost use Rattle.cj_feature.specs.View.{feature_header, feature_tree};
+ghost use Rattle.cj_spans.specs.View.{line_of, tree};
+ghost use Rattle.cj_feature.specs.View.{feature_header, feature_line, feature_tree};
 ghost use Rattle.cj_feature.specs.Meaning.CityObject.{object_geometries};
 ghost use Rattle.cj_stream.specs.Meaning.Criteria.{objects_of};
 ghost use Rattle.cj_stream.specs.Item.{feature_item};
 ghost use Rattle.cj_stream.specs.Tallied.{capped, lod_classes, type_numbers};
-ghost use Rattle.cityseq_c.specs.Features.{IsRecordOf, bits, is_among};
+ghost use Rattle.cityseq_c.specs.Features.{HasSpan, IsRecordOf, attributes_in, bits, is_among};
+ghost use Rattle.cityseq_c.specs.Features.{main_object as main_object_in};
 
 use crate::tally::{Range, range_of};
-use cj_stream::{Feature, LOD_CLASSES, ObjectType, count_lods, widen_all};
+use cj_stream::{Feature, LOD_CLASSES, Node, ObjectType, count_lods, widen_all};
 
 /// A kept feature, as C has it.
 #[repr(C)]
@@ -25,6 +27,11 @@ pub struct FeatureRecord {
     pub id_begin: u64,
     /// The number of bytes of that string, with quotes and escapes.
     pub id_length: u64,
+    /// Where the attributes of its main city object begin in the line, in bytes from 0. 0 if it has
+    /// none.
+    pub attributes_begin: u64,
+    /// The number of bytes of these attributes. 0 if there are none.
+    pub attributes_length: u64,
     /// The number of its city objects.
     pub objects: u64,
     /// The number of their geometries.
@@ -91,6 +98,42 @@ fn tally_geometries(feature: &Feature) -> (u64, u64)
     (sum_of(&counts), bits_of(&counts))
 }
 
+/// Returns the main city object of a feature: the first one with the id of the feature.
+fn main_object<'a>(feature: &Feature<'a>) -> Option<Node<'a>>
+    ensures tree { option_map tree result ≡ main_object_in (feature_tree feature.now) }
+    ensures line { IfSome result (λ n. line_of n ≡ feature_line feature.now) }
+{
+    let id = feature.id();
+    for object in feature.objects() {
+        if object.id.same_text(id) {
+            return Some(object.node);
+        }
+    }
+    None
+}
+
+/// Returns the attributes of the main city object of a feature. None if it has none.
+fn attributes_of<'a>(feature: &Feature<'a>) -> Option<Node<'a>>
+    ensures tree { option_map tree result ≡ attributes_in (feature_tree feature.now) }
+    ensures line { IfSome result (λ n. line_of n ≡ feature_line feature.now) }
+{
+    match main_object(feature) {
+        Some(object) => object.get("attributes"),
+        None => None,
+    }
+}
+
+/// Returns where the attributes of the main city object of a feature begin in the line, and how
+/// many bytes they have. Both are 0 if there are none.
+fn attributes_span(feature: &Feature) -> (u64, u64)
+    ensures { HasSpan (feature_line feature.now) (attributes_in (feature_tree feature.now)) result.0 result.1 }
+{
+    match attributes_of(feature) {
+        Some(attributes) => (attributes.start(), attributes.bytes().len() as u64),
+        None => (0, 0),
+    }
+}
+
 impl FeatureRecord {
     /// Returns the record of a feature. Its line has this number and begins at this byte of the
     /// part.
@@ -99,6 +142,7 @@ impl FeatureRecord {
             → IsRecordOf (record { line = line; begin = begin; item = feature_item feature.now lf }) result }
     {
         let id = feature.id();
+        let (attributes_begin, attributes_length) = attributes_span(feature);
         let (objects, types) = tally_objects(feature);
         let (geometries, lods) = tally_geometries(feature);
         let mut ranges = [None; 3];
@@ -110,6 +154,8 @@ impl FeatureRecord {
             length: feature.bytes().len() as u64,
             id_begin: id.start(),
             id_length: id.bytes().len() as u64,
+            attributes_begin,
+            attributes_length,
             objects,
             geometries,
             types,
