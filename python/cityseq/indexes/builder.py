@@ -22,6 +22,8 @@ from typing import (
     Tuple,
 )
 
+from ..attributes.columns import AttributeColumns
+from ..attributes.values import Columns
 from ..engine.extents import World, wider
 from ..engine.faults import WriteFault, write_fault
 from ..engine.library import library
@@ -38,6 +40,7 @@ from .arrays import vectors_for
 from .blocks import Blocks
 from .bulk import insert
 from .columns import NOWHERE, Ranges
+from .details import Details, Wanted
 from .full_disk import database_fault
 from .geopackage import MOST_FEATURES, TREE, UNDEFINED, geometry_start, readable, system_of
 from .replacement import replaceable
@@ -157,14 +160,16 @@ def _named(sets: Column, names: Callable[[int], str]) -> Column:
 class Builder:
     """Writes an index to `.NAME.*.part`, and renames it when it is whole."""
 
-    def __init__(self, path: str, has_footprints: bool = False) -> None:
-        """Takes the name of the index, and whether it has footprints. It opens no file.
+    def __init__(self, path: str, wanted: Wanted = Wanted()) -> None:
+        """Takes the name of the index, and what it has of the lines. It opens no file.
 
         Raises:
             RequestError: The name is empty.
             WriteFault: An index cannot have this name.
         """
-        self.name, self.has_footprints, self._fid = checked_output(path), has_footprints, 0
+        self.name, self.wanted, self._fid = checked_output(path), wanted, 0
+        names = wanted.attributes
+        self._attributes = None if names is None else AttributeColumns(names)
         self._systems: Set[int] = set()  # of coordinates
         self._opened: Optional[sqlite3.Connection] = None
         self._usual: Optional[Tuple[Any, ...]] = None  # the uniform columns of the first feature
@@ -207,7 +212,7 @@ class Builder:
                 self._base.execute(f"PRAGMA {setting}")
             self._base.execute("BEGIN")
             geopackage.create(self._base)
-            if self.has_footprints:
+            if self.wanted.footprints:
                 self._base.execute(footprints.TABLE)
 
     def begin(self, number: int, header: bytes) -> Entry:
@@ -220,9 +225,9 @@ class Builder:
         Raises:
             WriteFault: They cannot be written.
         """
-        grounded: Any = records.ids
-        ids = grounded.ids if isinstance(grounded, footprints.Grounded) else grounded
-        numbers = range(self._fid + 1, self._fid + 1 + len(ids))
+        given: Any = records.ids
+        details = given if isinstance(given, Details) else Details(given)
+        numbers = range(self._fid + 1, self._fid + 1 + len(details.ids))
         if numbers.stop > MOST_FEATURES:
             raise WriteFault(f"write fault: more than {MOST_FEATURES:,} features", None, self.name)
         self._fid += len(numbers)
@@ -230,7 +235,7 @@ class Builder:
             records, lines, numbers, entry.world, geometry_start(entry.system)
         )
         entry.widen(made.ranges)
-        names, exact, hashes = stored_as_columns(ids)
+        names, exact, hashes = stored_as_columns(details.ids)
         geometry, zmin, zmax = (
             _filled(column, made.has_place) for column in (made.geometry, made.zmin, made.zmax)
         )
@@ -244,18 +249,31 @@ class Builder:
             Same(entry.number),
             exact,
         )
-        if isinstance(grounded, footprints.Grounded):
+        if details.footprints is not None:
             geometry = geometry if isinstance(geometry, Same) else list(geometry)
-            boxes = repeat(geometry.value) if isinstance(geometry, Same) else geometry
-            pairs = zip(grounded.footprints, map(footprints.of_box, boxes))
-            grounds = [one or box for one, box in pairs]
-            with telling_of(self.name):
-                insert(self._base, geopackage.FOOTPRINTS, numbers, grounds)
+            self._add_footprints(numbers, details.footprints, geometry)
         others = (numbers, geometry, made.line, made.begin, made.length, names)
         with telling_of(self.name):
-            insert(self._base, "features", *others, *self._stored(uniform))
+            stored = self._stored(uniform)
+            values = self._values(details.attributes, numbers)
+            insert(self._base, "features", *others, *stored, *values)
         self._cells.add(made.cells)
         self._ids.add(id_table.joined(hashes, numbers))
+
+    def _add_footprints(
+        self, numbers: range, grounds: Sequence[Optional[bytes]], geometry: Column
+    ) -> None:
+        """Writes the footprints of features, which are their extents if they have no ground."""
+        boxes = repeat(geometry.value) if isinstance(geometry, Same) else geometry
+        made = [ground or footprints.of_box(box) for ground, box in zip(grounds, boxes)]
+        with telling_of(self.name):
+            insert(self._base, geopackage.FOOTPRINTS, numbers, made)
+
+    def _values(self, met: Optional[Columns], numbers: range) -> Sequence[Column]:
+        """Returns the columns of attributes, which are the last ones of the table."""
+        if self._attributes is None or met is None:
+            return []
+        return self._attributes.rows(self._base, met, numbers)
 
     def _stored(self, columns: Sequence[Column]) -> Sequence[Column]:
         """Returns those of the uniform columns that rows have from now on. The others have had one
@@ -266,6 +284,8 @@ class Builder:
             self._usual = (*heights, *others, None)  # few ids need `id_exact`
         pairs = zip(columns, self._usual)
         differing = [place for place, (column, usual) in enumerate(pairs) if column != Same(usual)]
+        if self._attributes is not None:
+            differing = [len(columns) - 1]  # columns of attributes follow
         self._add_columns(differing[-1] + 1 if differing else 0)
         return columns[: self._count]
 
@@ -273,6 +293,8 @@ class Builder:
         """Adds uniform columns to the table, until it has so many."""
         usual = self._usual or geopackage.NO_FEATURE
         geopackage.add_columns(self._base, self._count, count, usual)
+        if self._attributes is not None and self._count < count:
+            self._attributes.begin(self._base)
         self._count = max(self._count, count)
 
     def report(self, number: int, report: Report) -> None:
@@ -331,6 +353,8 @@ class Builder:
             self._add_columns(len(geopackage.UNIFORM))
             count = self._cells.count
             Tree(base, TREE).write(self._cells.rows(), count, self._fid)
+            if self._attributes is not None:
+                self._attributes.end(base)
             geopackage.describe(base, system)
             options = (work.tree, work.keep_going, work.line_limit, work.depth)
             base.execute(
@@ -353,7 +377,7 @@ class Builder:
             start = geometry_start(UNDEFINED)[:8]
             moved: Callable[[bytes], bytes] = lambda geom: start + geom[len(start) :]
             self._base.create_function("moved", 1, moved)
-            for layer in ("features", *([geopackage.FOOTPRINTS] if self.has_footprints else [])):
+            for layer in ("features", *([geopackage.FOOTPRINTS] if self.wanted.footprints else [])):
                 self._base.execute(f"UPDATE {layer} SET geom = moved(geom) WHERE geom NOT NULL")
         return UNDEFINED
 
@@ -364,6 +388,8 @@ class Builder:
                 self._opened.close()
         self._cells.close()
         self._ids.close()
+        if self._attributes is not None:
+            self._attributes.close()
         self._part.discard()
 
 

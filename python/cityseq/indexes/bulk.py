@@ -29,7 +29,7 @@ def insert(base: sqlite3.Connection, table: str, *columns: Column) -> None:
     pattern = tuple(isinstance(column, Same) for column in columns)
     same = tuple(column.value for column in columns if isinstance(column, Same))
     others = [column for column in columns if not isinstance(column, Same)]
-    width, together = len(others), (VALUES - len(same)) // len(others)
+    width, together = len(others), max((VALUES - len(same)) // len(others), 1)
     values = chain.from_iterable(zip(*others))
     whole = _statement(table, pattern, together)
     part = tuple(islice(values, together * width))

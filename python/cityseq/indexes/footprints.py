@@ -12,18 +12,15 @@ import re
 import struct
 from collections.abc import Iterable, Iterator, Sequence
 from decimal import Decimal
-from functools import lru_cache, partial
+from functools import lru_cache
 from itertools import chain, islice, repeat
 from math import hypot
-from typing import Any, NamedTuple, Union
+from typing import Any, Union
 
 from ..engine.extents import World
-from ..engine.judge import Answer, judge
 from ..engine.library import Text
-from ..engine.query import Work
-from ..engine.records import MEMBERS, spelled_ids
+from ..engine.records import MEMBERS
 from ..engine.world import read_json
-from ..sources.chunks import Chunk
 from .arrays import vectors_for
 from .geopackage import FOOTPRINTS, geometry_start, system_of
 
@@ -47,13 +44,6 @@ Place = tuple[Vertex, Point]
 Polygon = list[list[Point]]  # closed rings: the exterior one, and then holes
 Ring = Sequence[int]
 Surface = Union[bytes, list[Ring]]  # a text, or its rings
-
-
-class Grounded(NamedTuple):
-    """The ids of the features of a part, and their footprints, None for those without ground."""
-
-    ids: list[bytes]
-    footprints: list[bytes | None]
 
 
 def _read(text: bytes) -> Any:
@@ -295,18 +285,13 @@ def _place(header: bytes) -> _Place:
     return _Place(header)
 
 
-def _grounded(header: bytes, part: Text, raw: bytes) -> Grounded:
-    """Returns the ids and the footprints of the features of a part, by their records."""
+def in_part(header: bytes, part: Text, raw: bytes) -> list[bytes | None]:
+    """Returns the footprints of the features of a part, by their records. None for those without
+    ground."""
     numbers = memoryview(raw).cast("q")
     begins, lengths = numbers[1::MEMBERS].tolist(), numbers[2::MEMBERS].tolist()
     lines = (bytes(part[begin : begin + length]) for begin, length in zip(begins, lengths))
-    footprints = [_place(header).footprint(line) for line in lines]
-    return Grounded(spelled_ids(part, raw), footprints)
-
-
-def judge_ground(chunk: Chunk, work: Work, size: int | None) -> Answer:
-    """Judges a chunk. Its records have the footprints of the features with their ids."""
-    return judge(chunk, work, size, partial(_grounded, chunk.header))
+    return [_place(header).footprint(line) for line in lines]
 
 
 def polygons_of(geometry: Any) -> list[Polygon]:

@@ -100,7 +100,8 @@ BEGIN
   UPDATE cityseq_index SET changed = 1 WHERE changed = 0;
 END
 """
-GUARDED = ("features", "feature_ids", "streams", "blocks")
+ATTRIBUTES = "cityseq_attributes"  # a table that not all indexes have
+GUARDED = ("features", "feature_ids", "streams", "blocks", ATTRIBUTES)
 EVENTS = {
     f"cityseq_{table}_{event.lower()}": (event, table)
     for table in GUARDED
@@ -272,7 +273,7 @@ def describe(base: sqlite3.Connection, system: int) -> None:
             (TABLE, COLUMN, "gpkg_rtree_index", extension, "write-only"),
             *(
                 (table, None, "cityseq_index", "docs/geopackage.md of cityseq", "read-write")
-                for table in ("cityseq_index", "feature_ids", "blocks")
+                for table in ("cityseq_index", "feature_ids", "blocks", ATTRIBUTES)
                 if table in tables
             ),
         ),

@@ -22,6 +22,7 @@ from ..sources.same_file import refuse_same
 from ..sources.source import CHANGED, State, is_packed, is_path, is_url
 from .blocks import Blocks
 from .builder import Builder, Entry, File
+from .details import Wanted, judge_details
 from .digests import Digest, Digests, HashedFile
 
 Tell = Callable[[Report], None] | None
@@ -71,12 +72,11 @@ class Indexed:
         self._fold = self.stream.fold
 
     def _judge(self, work: Work, size: int | None) -> Judge | None:
-        """Returns what judges a chunk if the index has footprints. Otherwise that is usual."""
-        if not self._builder.has_footprints:
+        """Returns what judges a chunk if the index has more than records of it. Otherwise that is
+        usual."""
+        if not any(self._builder.wanted):
             return None
-        from .footprints import judge_ground  # few runs need it
-
-        return partial(judge_ground, work=work, size=size)
+        return partial(judge_details, work=work, size=size, wanted=self._builder.wanted)
 
     def _report(self, report: Report) -> None:
         if self._then is None:
@@ -239,10 +239,10 @@ def index(
     size: int | None,
     tell: Tell,
     progress: Progress,
-    footprints: bool = False,
+    wanted: Wanted = Wanted(),
 ) -> list[Result]:
     """Writes an index of streams. The arguments are those of `cityseq.index`."""
-    builder = Builder(os.fsdecode(output), footprints)
+    builder = Builder(os.fsdecode(output), wanted)
     made: list[Result] = []
     streams = (
         Indexed(number, path, work, builder, size, tell, progress)

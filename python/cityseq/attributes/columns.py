@@ -1,0 +1,339 @@
+"""The columns of an index for attributes: their names, and their types by what is met.
+
+A column has no type while rows are written, so each value keeps its own. If texts come after
+numbers, the numbers that are there become texts at the end. A number with an unusual spelling waits
+in a file until then."""
+from __future__ import annotations
+
+import re
+import sqlite3
+import tempfile
+from collections.abc import Iterable, Iterator, Sequence
+from dataclasses import dataclass, field
+from typing import Any, NamedTuple
+
+from ..engine.faults import RequestError
+from ..engine.records import Column, Same, stored
+from ..indexes import geopackage
+from ..indexes.geopackage import ATTRIBUTES, readable
+from .values import ALL, MOST, Asked, Columns, Spelled, number_of
+
+LONGEST = 100  # characters of the name of a column
+EXACT = 1 << 53  # whole numbers up to this are floats too
+HELD = 1 << 20  # bytes of spellings that wait in memory
+COLUMNS = ("fid", "geom", "line", "begin", "length", "id", *geopackage.UNIFORM)
+TAKEN = ("bytes", "rowid", "oid", "_rowid_")  # names in GeoJSON, and others that SQLite knows
+BOOL, WHOLE, WIDE, REAL, TEXT = 1, 2, 4, 8, 16  # kinds of values; WIDE is a whole number
+USUAL = {type(None): 0, bool: BOOL, float: REAL, str: TEXT}
+FORMATS = {
+    "date": re.compile(r"\d{4}-(?:0[1-9]|1[0-2])-(?:0[1-9]|[12]\d|3[01])", re.ASCII),
+    "date-time": re.compile(
+        r"\d{4}-(?:0[1-9]|1[0-2])-(?:0[1-9]|[12]\d|3[01])[Tt](?:[01]\d|2[0-3]):[0-5]\d:[0-5]\d"
+        r"(?:\.\d+)?(?:[Zz]|[-+](?:[01]\d|2[0-3]):[0-5]\d)",
+        re.ASCII,
+    ),
+}
+CREATE = f"""
+CREATE TABLE {ATTRIBUTES} (
+  fid INTEGER PRIMARY KEY NOT NULL, name TEXT NOT NULL, name_exact BLOB,
+  column_name TEXT NOT NULL, type TEXT NOT NULL, format TEXT, first_fid INTEGER)
+"""
+
+
+def quoted(name: str) -> str:
+    """Returns the name of a column as SQL has it."""
+    escaped = name.replace('"', '""')
+    return f'"{escaped}"'
+
+
+def checked_names(names: str | Iterable[str]) -> Asked:
+    """Returns names of attributes, each once. The text `all`, which is in no list, asks for all.
+
+    Raises:
+        RequestError: One is no text, or they are more than a table of SQLite takes.
+    """
+    if names == ALL:
+        return ALL
+    listed = [names] if isinstance(names, str) else list(names)
+    for name in listed:
+        if not isinstance(name, str):
+            raise RequestError(f"attributes are named by texts: {name!r} is none")
+    found = tuple(dict.fromkeys(listed))
+    if len(found) > MOST:
+        raise RequestError(
+            f"an index takes at most {MOST} attributes: {len(found):,} are more than SQLite takes"
+        )
+    return found
+
+
+class ColumnNames:
+    """Names of columns, of which no two are equal but for case."""
+
+    def __init__(self, taken: Iterable[str]) -> None:
+        self._taken = {name.casefold() for name in taken}
+
+    def new(self, name: str) -> str:
+        """Returns the name of the column for an attribute, and takes it. If it is taken, `_2` or a
+        higher number follows it."""
+        text = readable(name)[:LONGEST].strip() or "attribute"
+        made, number = text, 1
+        while made.casefold() in self._taken:
+            number += 1
+            made = f"{text}_{number}"
+        self._taken.add(made.casefold())
+        return made
+
+
+def _kind(value: Any) -> int:
+    """Returns the kind of a value that is not None."""
+    if isinstance(value, Spelled):
+        number = number_of(value)
+        return TEXT if number is None else REAL if isinstance(number, float) else WHOLE
+    if isinstance(value, bool):
+        return BOOL
+    if isinstance(value, int):
+        return WHOLE if -EXACT <= value <= EXACT else WIDE
+    return REAL if isinstance(value, float) else TEXT
+
+
+def _kinds(values: Sequence[Any]) -> int:
+    """Returns the kinds of values."""
+    found = 0
+    for kind in set(map(type, values)):
+        if kind in USUAL:
+            found |= USUAL[kind]
+        elif kind is int:
+            numbers = [value for value in values if type(value) is int]
+            found |= _kind(max(numbers)) | _kind(min(numbers))
+        else:
+            for value in values:
+                found |= _kind(value) if type(value) is kind else 0
+    return found
+
+
+def _spelling(value: Any) -> str | None:
+    """Returns a value as it is spelled."""
+    if value is None or isinstance(value, str):
+        return value
+    return str(value).lower() if isinstance(value, bool) else repr(value)
+
+
+@dataclass
+class AttributeColumn:
+    """An attribute, as far as its values were met.
+
+    Attributes:
+        name: Its name in the streams.
+        column: The name of its column.
+        kinds: The kinds of its values.
+        first: The first feature with each kind.
+        only_bools: The feature before which all values are bools, if there are other ones.
+        formats: The formats that all its texts have.
+        is_turned: Whether there are rows with numbers, and texts after them.
+    """
+
+    name: str
+    column: str
+    kinds: int = 0
+    first: dict[int, int] = field(default_factory=dict)
+    only_bools: int = 0
+    formats: list[str] = field(default_factory=lambda: list(FORMATS))
+    is_turned: bool = False
+
+    @property
+    def is_text(self) -> bool:
+        """Whether the column has texts. No float has the value of a wide number."""
+        return bool(self.kinds & TEXT) or self.kinds & (WIDE | REAL) == WIDE | REAL
+
+    @property
+    def type(self) -> str:
+        """The type of the column."""
+        if self.is_text or not self.kinds:
+            return "TEXT"
+        return "REAL" if self.kinds & REAL else "INTEGER"
+
+    @property
+    def format(self) -> str | None:
+        """What all values are, if JSON Schema has a name for it."""
+        if self.kinds == BOOL:
+            return "boolean"
+        return self.formats[0] if self.kinds == TEXT and self.formats else None
+
+    @property
+    def cause(self) -> int | None:
+        """The first feature that shows the type of the column."""
+        if self.is_text:
+            return self.first[TEXT if self.kinds & TEXT else WIDE]
+        return min(self.first.values(), default=None)
+
+    def meet(self, values: Sequence[Any], fids: range) -> None:
+        """Takes the next values."""
+        kinds, was_text = _kinds(values), self.is_text
+        if self.kinds == BOOL and kinds & ~BOOL:
+            self.only_bools = fids.start
+        new = kinds & ~self.kinds
+        if new:
+            self.is_turned = self.is_turned or bool(self.kinds) and not was_text
+            for fid, value in zip(fids, values):
+                if value is not None:
+                    self.first.setdefault(_kind(value), fid)
+            self.kinds |= kinds
+        if self.kinds == TEXT and self.formats:
+            texts = [value for value in values if value is not None]
+            self.formats = [
+                name for name in self.formats if all(map(FORMATS[name].fullmatch, texts))
+            ]
+
+    def column_of(self, values: list[Any], spellings: Spellings, number: int, fids: range) -> Column:
+        """Returns values as rows have them. Spellings that may be needed at the end are kept."""
+        if self.is_text:
+            return values if self.kinds == TEXT else list(map(_spelling, values))
+        types = set(map(type, values))
+        if bool in types and self.kinds != BOOL or Spelled in types:
+            for fid, value in zip(fids, values):
+                if isinstance(value, (bool, Spelled)):
+                    spellings.add(number, fid, str(_spelling(value)))
+            values = [number_of(each) if isinstance(each, Spelled) else each for each in values]
+        return Same(None) if types == {type(None)} else values
+
+
+class Spellings:
+    """How some numbers are spelled, in a file that has no name."""
+
+    def __init__(self) -> None:
+        self._file: Any = None
+
+    def add(self, attribute: int, fid: int, spelled: str) -> None:
+        """Keeps how the value of a feature is spelled."""
+        if self._file is None:
+            self._file = tempfile.SpooledTemporaryFile(HELD, "w+", encoding="ascii", newline="\n")
+        self._file.write(f"{attribute} {fid} {spelled}\n")
+
+    def of(self, attribute: int) -> Iterator[tuple[str, int]]:
+        """Yields how values of an attribute are spelled, and the features."""
+        if self._file is not None:
+            self._file.seek(0)
+            for line in self._file:
+                number, fid, spelled = line.rstrip("\n").split(" ")
+                if int(number) == attribute:
+                    yield spelled, int(fid)
+
+    def close(self) -> None:
+        """Removes the file."""
+        if self._file is not None:
+            self._file.close()
+
+
+class AttributeColumns:
+    """The columns of an index for attributes."""
+
+    def __init__(self, names: Asked) -> None:
+        """Takes the names of the attributes, or `ALL`."""
+        self.names = names
+        self._columns = ColumnNames([*COLUMNS, *TAKEN])
+        self._found: dict[str, AttributeColumn] = {}
+        self._spellings = Spellings()
+
+    def begin(self, base: sqlite3.Connection) -> None:
+        """Adds the columns whose names are known, after all others."""
+        for name in () if self.names == ALL else self.names:
+            self._add(base, name)
+
+    def _add(self, base: sqlite3.Connection, name: str) -> None:
+        if len(self._found) == MOST:
+            raise RequestError(
+                f"the streams have more than {MOST} attributes: name those for the index by"
+                " --attributes"
+            )
+        self._found[name] = made = AttributeColumn(name, self._columns.new(name))
+        base.execute(f"ALTER TABLE features ADD COLUMN {quoted(made.column)}")
+
+    def rows(self, base: sqlite3.Connection, met: Columns, fids: range) -> list[Column]:
+        """Returns the columns of the next features.
+
+        Raises:
+            RequestError: There are too many attributes.
+        """
+        for name in met:
+            if name not in self._found:
+                self._add(base, name)
+        columns: list[Column] = []
+        for number, (name, attribute) in enumerate(self._found.items()):
+            values = met.get(name)
+            if values is None:
+                columns.append(Same(None))
+                continue
+            attribute.meet(values, fids)
+            columns.append(attribute.column_of(values, self._spellings, number, fids))
+        return columns
+
+    def end(self, base: sqlite3.Connection) -> None:
+        """Gives the columns their types, and writes the table of attributes."""
+        for number, attribute in enumerate(self._found.values()):
+            if attribute.is_text and attribute.is_turned:
+                self._turn(base, number, attribute)
+        _set_types(base, list(self._found.values()))
+        base.execute(CREATE)
+        base.executemany(
+            f"INSERT INTO {ATTRIBUTES} VALUES (NULL,?,?,?,?,?,?)",
+            [
+                (*stored(each.name), each.column, each.type, each.format, each.cause)
+                for each in self._found.values()
+            ],
+        )
+
+    def _turn(self, base: sqlite3.Connection, number: int, attribute: AttributeColumn) -> None:
+        """Makes texts of the numbers in a column."""
+        name = quoted(attribute.column)
+        base.create_function("spelling", 1, _spelling)
+        update = f"UPDATE features SET {name} = "
+        bools = f"CASE {name} WHEN 1 THEN 'true' ELSE 'false' END"
+        is_number = f"typeof({name}) IN ('integer', 'real')"
+        if attribute.first.get(BOOL, attribute.only_bools) < attribute.only_bools:
+            base.execute(
+                f"{update}{bools} WHERE fid < ? AND {is_number}", (attribute.only_bools,)
+            )
+        base.execute(f"{update}spelling({name}) WHERE {is_number}")
+        base.executemany(f"{update}? WHERE fid = ?", self._spellings.of(number))
+
+    def close(self) -> None:
+        """Removes what waits in a file."""
+        self._spellings.close()
+
+
+def _set_types(base: sqlite3.Connection, attributes: list[AttributeColumn]) -> None:
+    """Writes the types of columns into the text of the table, whose last columns they are. No
+    statement of SQLite changes a type without writing all rows anew."""
+    if not attributes:
+        return
+    select = "SELECT sql FROM sqlite_master WHERE type = 'table' AND name = 'features'"
+    (text,) = base.execute(select).fetchone()
+    names = [quoted(each.column) for each in attributes]
+    end = "".join(f", {name}" for name in names) + ")"
+    if not text.endswith(end):
+        raise sqlite3.DatabaseError("the columns of attributes are not the last ones")
+    typed = "".join(f", {name} {each.type}" for name, each in zip(names, attributes)) + ")"
+    base.execute("PRAGMA writable_schema = ON")
+    base.execute(
+        "UPDATE sqlite_master SET sql = ? WHERE type = 'table' AND name = 'features'",
+        (text[: -len(end)] + typed,),
+    )
+    base.execute("PRAGMA writable_schema = RESET")
+
+
+class Attribute(NamedTuple):
+    """An attribute of an index.
+
+    Attributes:
+        name: Its name in the streams.
+        column: The name of its column.
+        type: The type of its column.
+        format: `boolean`, `date` or `date-time` if all values are so, or None.
+        first: The first feature that shows the type, if any has a value.
+    """
+
+    name: str
+    column: str
+    type: str
+    format: str | None
+    first: int | None

@@ -1,0 +1,322 @@
+"""The attributes of features, which are those of the main city object. Only their text is read, and
+of that only what is asked for, because a feature may have very many."""
+from __future__ import annotations
+
+import json
+import re
+from collections.abc import Iterable, Iterator, Sequence
+from contextlib import suppress
+from functools import lru_cache, partial
+from itertools import chain, islice
+from typing import Any, Union
+
+from ..engine.library import Text
+from ..engine.records import MEMBERS, RECORD
+from ..engine.world import deep
+from ..indexes.geopackage import readable
+
+ALL = "all"
+MOST = 900  # attributes of an index: older versions of SQLite take at most 999 values of a row
+LONGEST = 18  # digits of a whole number that has at most 64 bits, whichever they are
+READABLE = 4_000  # digits of a whole number that Python reads
+SPACE = re.compile(r"[ \t\r\n]*")
+MINUS_ZERO = re.compile(rb"-0(?![\d.])")
+DIGITS = 15  # that each float keeps
+BETWEEN = re.compile(r"[ \t\r\n]*[,:}]")
+ESCAPED_NAME = re.compile(rb'\\.[^"\\]*"[ \t\r\n]*:')
+VALUE = re.compile(
+    rb"[ \t\r\n]*:[ \t\r\n]*(?:(-?\d+)(?![\d.eE])|(-?\d[-+.\deE]*)"
+    rb'|"([^"\\]*)"|("(?:[^"\\]|\\.)*")|(?:(true)|(false)|(null)))'
+)
+Columns = dict[str, list[Any]]
+Asked = Union[tuple[str, ...], str]  # names, or `ALL`
+
+
+class Spelled(str):
+    """A number as it is spelled, because no number of SQLite has this spelling."""
+
+    __slots__ = ()
+
+
+def whole(text: str) -> int | Spelled:
+    """Returns a whole number. It is a text if it has more than 64 bits, or is -0."""
+    if len(text) > LONGEST:
+        number = int(text) if len(text) < READABLE else 1 << 64
+        return number if -(1 << 63) <= number < 1 << 63 else Spelled(text)
+    return int(text) if text != "-0" else Spelled(text)
+
+
+def fraction(text: str) -> float | Spelled:
+    """Returns a number as a float, or as a text if the float has another spelling."""
+    number = float(text)
+    return number if repr(number) == text else Spelled(text)
+
+
+def number_of(spelled: str) -> int | float | None:
+    """Returns the number of a spelling, or None if it has more than 64 bits, or more than all
+    floats."""
+    number = whole(spelled) if spelled.lstrip("-").isdigit() else float(spelled)
+    if isinstance(number, Spelled):
+        return 0 if spelled == "-0" else None
+    return number if abs(number) != float("inf") else None
+
+
+_DECODER = json.JSONDecoder(parse_float=str, parse_int=str, parse_constant=str)
+
+
+def _skip(text: str, at: int) -> int:
+    """Returns where the white space from a place on ends."""
+    found = SPACE.match(text, at)
+    return at if found is None else found.end()
+
+
+def _value(text: str, at: int) -> tuple[Any, int]:
+    """Returns a value and where it ends."""
+    return deep(partial(_DECODER.raw_decode, text, at))
+
+
+def spans(text: str, at: int = 0) -> Iterator[tuple[str, int, int]]:
+    """Yields the members of an object that begins at a place: the name, and where the value begins
+    and ends."""
+    at = _skip(text, _skip(text, at) + 1)
+    while text[at] != "}":
+        name, at = _value(text, at)
+        begin = _skip(text, _skip(text, at) + 1)
+        _, end = _value(text, begin)
+        yield name, begin, end
+        at = _skip(text, end)
+        if text[at] == ",":
+            at = _skip(text, at + 1)
+
+
+def members(spelled: bytes) -> dict[str, str]:
+    """Returns the members of an object, each as it is spelled. Of a repeated name the first
+    counts."""
+    text = spelled.decode("utf-8")
+    found: dict[str, str] = {}
+    for name, begin, end in spans(text):
+        found.setdefault(name, text[begin:end])
+    return found
+
+
+# ---- where the attributes are
+
+
+def _found(line: bytes, name: str) -> bytes:
+    """Returns the attributes of the city object with a name, as a valid line spells them."""
+    objects = next((each for key, each in members(line).items() if key == "CityObjects"), "{}")
+    main = members(objects.encode("utf-8")).get(name, "{}")
+    return members(main.encode("utf-8")).get("attributes", "").encode("utf-8")
+
+
+def texts_of(part: Text, raw: bytes) -> list[bytes]:
+    """Returns the attributes of the features of a part, by their records, as the lines spell them.
+    The text is empty if a feature has none."""
+    numbers = memoryview(raw).cast("q")
+    begins, *places = (numbers[member::MEMBERS].tolist() for member in range(1, 7))
+    if MEMBERS == 20:
+        _, _, _, firsts, lengths = places
+        pairs = zip(begins, firsts, lengths)
+        return [bytes(part[at + first : at + first + length]) for at, first, length in pairs]
+    found = []
+    for at, length, begin, size in zip(begins, *places[:3]):
+        line = bytes(part[at : at + length])
+        found.append(_found(line, json.loads(line[begin : begin + size])))
+    return found
+
+
+def text_of(line: bytes, name: str, place: tuple[int, int]) -> bytes:
+    """Returns the attributes of a feature as its line spells them. It has the name, and the place
+    where they begin and how long they are."""
+    if RECORD.size == 160:
+        return line[place[0] : place[0] + place[1]]
+    return _found(line, name)
+
+
+# ---- values
+
+
+def _finite(text: str) -> float | str:
+    number = float(text)
+    return number if abs(number) != float("inf") else text
+
+
+def _ordered(pairs: list[tuple[str, Any]]) -> dict[str, Any]:
+    """Returns an object with its names in order. Of a repeated name the first counts."""
+    found: dict[str, Any] = {}
+    for name, value in pairs:
+        found.setdefault(name, value)
+    return found
+
+
+_TOLD = json.JSONDecoder(
+    parse_float=_finite,  # type: ignore[arg-type]
+    parse_int=lambda text: int(text) if len(text) < READABLE else text,  # type: ignore[arg-type]
+    object_pairs_hook=_ordered,
+)
+
+
+def told(text: bytes) -> dict[str, Any]:
+    """Returns attributes as Python reads JSON. There are none if they are no object. Of a repeated
+    name the first counts. A number that is greater than all floats, or too long for Python, is a
+    text."""
+    if not text.startswith(b"{"):
+        return {}
+    found: dict[str, Any] = deep(partial(_TOLD.decode, text.decode("utf-8")))
+    return found
+
+
+def _plain(spelled: str) -> Any:
+    """Returns a value by its spelling: an array or an object is a text."""
+    if spelled[0] in "[{":
+        return readable(spelled)
+    if spelled[0] == '"':
+        return readable(json.loads(spelled))
+    if spelled[0] in "tfn":
+        return json.loads(spelled)
+    return whole(spelled) if spelled.lstrip("-").isdigit() else fraction(spelled)
+
+
+def _slowly(text: bytes) -> dict[str, Any]:
+    """Returns the values of attributes, whatever they are."""
+    if not text.startswith(b"{"):
+        return {}
+    return {name: _plain(spelled) for name, spelled in members(text).items()}
+
+
+def _is_flat(text: bytes) -> bool:
+    """Whether no bracket or brace follows the first byte."""
+    return b"[" not in text and text.find(b"{", 1) < 0
+
+
+# ---- the values of some names
+
+
+def _of_match(found: re.Match[bytes]) -> Any:
+    """Returns a value that is no array and no object."""
+    group = found.lastindex
+    if group == 3:
+        return found[3].decode("utf-8")
+    if group == 1:
+        return whole(found[1].decode("ascii"))
+    if group == 2:
+        return fraction(found[2].decode("ascii"))
+    if group == 4:
+        return readable(json.loads(found[4]))
+    return {5: True, 6: False}.get(group or 0)
+
+
+@lru_cache(maxsize=64)
+def _needles(names: tuple[str, ...]) -> list[bytes] | None:
+    """Returns the names as JSON strings. None if one begins as the text between two strings may, so
+    that it could be found there."""
+    if any(BETWEEN.match(name) for name in names):
+        return None
+    spelled = (json.dumps(name, ensure_ascii=False) for name in names)
+    return [each.encode("utf-8", "surrogatepass") for each in spelled]
+
+
+def _sought(text: bytes, needle: bytes) -> Any:
+    """Returns the value of the first name that is spelled so: a string with a colon after it."""
+    at = text.find(needle)
+    while at >= 0:
+        found = VALUE.match(text, at + len(needle))
+        if found is not None:
+            return _of_match(found)
+        at = text.find(needle, at + 1)
+    return None
+
+
+def _chosen(text: bytes, names: tuple[str, ...], needles: list[bytes] | None) -> Iterable[Any]:
+    """Returns the values of these names. Others are not read if no member is an array or an object,
+    and no name has an escape."""
+    has_escape = b"\\" in text and ESCAPED_NAME.search(text) is not None
+    if needles is None or has_escape or not _is_flat(text):
+        return map(_slowly(text).get, names)
+    return [_sought(text, needle) for needle in needles]
+
+
+# ---- the values of all names
+
+# floats are bytes at first, and whole numbers may be too long
+_FAST = json.JSONDecoder(parse_float=str.encode)  # type: ignore[arg-type]
+
+
+def _read(texts: Sequence[bytes]) -> list[Any]:
+    """Returns values of JSON. Of a repeated name the last counts."""
+    joined = b"[%s]" % b",".join([text or b"0" for text in texts])
+    if MINUS_ZERO.search(joined) is None:
+        with suppress(ValueError, RecursionError):
+            found: list[Any] = _FAST.decode(joined.decode("utf-8"))
+            return found
+    return list(map(_slowly, texts))
+
+
+def _objects(texts: Sequence[bytes]) -> list[dict[str, Any]]:
+    """Returns the attributes of features. Floats are spelled."""
+    objects = _read(texts)
+    for number, (text, each) in enumerate(zip(texts, objects)):
+        # as many names as strings with a colon after them: none is repeated
+        if not isinstance(each, dict) or not _is_flat(text) or text.count(b'":') != len(each):
+            objects[number] = _slowly(text)
+    return objects
+
+
+def _are_usual(spelled: list[bytes]) -> bool:
+    """Whether all these floats are spelled as Python spells them: with few digits, and without an
+    exponent or a 0 at the end. False if that takes a closer look."""
+    text = b"\n".join([*spelled, b""])
+    if max(map(len, spelled)) > DIGITS + 1 or text.count(b"0\n") != text.count(b".0\n"):
+        return False
+    return not any(sign in text for sign in (b"e", b"E", b"0.0000", b"-0.0"))
+
+
+def _numbers(values: list[Any]) -> list[Any]:
+    """Returns the values of an attribute with its floats as numbers."""
+    types = set(map(type, values))
+    if bytes in types:
+        usual = _are_usual([value for value in values if type(value) is bytes])
+        read: Any = float if usual else lambda spelled: fraction(spelled.decode("ascii"))
+        values = [read(value) if type(value) is bytes else value for value in values]
+    whole_numbers = [value for value in values if type(value) is int] if int in types else [0]
+    if max(whole_numbers) >= 1 << 63 or min(whole_numbers) < -(1 << 63):
+        values = [_in_bits(value) if type(value) is int else value for value in values]
+    return values
+
+
+def _in_bits(number: int) -> int | Spelled:
+    return number if -(1 << 63) <= number < 1 << 63 else Spelled(number)
+
+
+def _transposed(objects: list[dict[str, Any]]) -> Columns:
+    """Returns the values of objects by the names. If these are too many, some are left out."""
+    names = list(objects[0])
+    if len(names) <= MOST and all(list(each) == names for each in objects):
+        return dict(zip(names, map(list, zip(*map(dict.values, objects)))))
+    some = islice(dict.fromkeys(chain.from_iterable(objects)), MOST + 1)
+    return {name: [each.get(name) for each in objects] for name in some}
+
+
+def _all(texts: Sequence[bytes]) -> Columns:
+    """Returns the values of all attributes, or of more than there may be."""
+    columns = {
+        name: _numbers(values) for name, values in _transposed(_objects(texts)).items()
+    }
+    if any(b"\\u" in text for text in texts):  # only this makes a text that needs an escape
+        for name, values in columns.items():
+            columns[name] = [readable(value) if type(value) is str else value for value in values]
+    return columns
+
+
+def columns_of(texts: Sequence[bytes], names: Asked) -> Columns:
+    """Returns the values of attributes of features, by the names.
+
+    A value is None, a bool, an int of at most 64 bits, a float, a text, or a `Spelled` number. An
+    array or an object is a text as it is spelled. A text with NUL or a lone surrogate is escaped as
+    in JSON.
+    """
+    if isinstance(names, str):
+        return _all(texts)
+    needles = _needles(names)
+    rows = [_chosen(text, names, needles) for text in texts]
+    return {name: list(column) for name, column in zip(names, zip(*rows))}
