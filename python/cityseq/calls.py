@@ -318,6 +318,7 @@ def index(
     *,
     options: Options | None = None,
     footprints: bool = False,
+    attributes: Texts | None = None,
     jobs: int | None = None,
     line_limit: int = USUAL_LINE,
     depth: int = USUAL_DEPTH,
@@ -338,6 +339,8 @@ def index(
             packed.
         output: The path of the index.
         footprints: Whether the index has a layer with the ground of each feature.
+        attributes: The names of attributes that get columns, or the text "all" for all of them.
+            They are those of the main city object of each feature.
         keep_going: Whether to leave out invalid lines. The table `reports` then lists them.
 
     Returns:
@@ -352,14 +355,17 @@ def index(
             another file that is no index.
         LibraryMissing: The library is not there, or it is another version.
     """
-    from .indexes.index_run import checked  # few runs need it
+    from .attributes.columns import checked_names  # few runs need it
+    from .indexes.details import Wanted
+    from .indexes.index_run import checked
     from .indexes.index_run import index as indexed
 
     made = Options(Limits(line_limit, depth), keep_going, tree, jobs, part_size)
     how = one_options(options, made)
     work, named = work_of("check", how), checked(paths, output)
+    wanted = Wanted(footprints, None if attributes is None else checked_names(attributes))
     with watched(progress, named) as done:
-        how_run = how.jobs, how.part_size, on_report, done, footprints
+        how_run = how.jobs, how.part_size, on_report, done, wanted
         return indexed(named, output, work, *how_run)
 
 

@@ -11,11 +11,12 @@ from itertools import chain, islice
 from typing import Any, Union
 
 from ..engine.library import Text
-from ..engine.records import MEMBERS, RECORD
+from ..engine.records import MEMBERS
 from ..engine.world import deep
 from ..indexes.geopackage import readable
 
 ALL = "all"
+PLACES = 1, 5, 6  # of a record: the line, and where its attributes begin and how long they are
 MOST = 900  # attributes of an index: older versions of SQLite take at most 999 values of a row
 LONGEST = 18  # digits of a whole number that has at most 64 bits, whichever they are
 READABLE = 4_000  # digits of a whole number that Python reads
@@ -99,38 +100,13 @@ def members(spelled: bytes) -> dict[str, str]:
     return found
 
 
-# ---- where the attributes are
-
-
-def _found(line: bytes, name: str) -> bytes:
-    """Returns the attributes of the city object with a name, as a valid line spells them."""
-    objects = next((each for key, each in members(line).items() if key == "CityObjects"), "{}")
-    main = members(objects.encode("utf-8")).get(name, "{}")
-    return members(main.encode("utf-8")).get("attributes", "").encode("utf-8")
-
-
 def texts_of(part: Text, raw: bytes) -> list[bytes]:
     """Returns the attributes of the features of a part, by their records, as the lines spell them.
     The text is empty if a feature has none."""
     numbers = memoryview(raw).cast("q")
-    begins, *places = (numbers[member::MEMBERS].tolist() for member in range(1, 7))
-    if MEMBERS == 20:
-        _, _, _, firsts, lengths = places
-        pairs = zip(begins, firsts, lengths)
-        return [bytes(part[at + first : at + first + length]) for at, first, length in pairs]
-    found = []
-    for at, length, begin, size in zip(begins, *places[:3]):
-        line = bytes(part[at : at + length])
-        found.append(_found(line, json.loads(line[begin : begin + size])))
-    return found
-
-
-def text_of(line: bytes, name: str, place: tuple[int, int]) -> bytes:
-    """Returns the attributes of a feature as its line spells them. It has the name, and the place
-    where they begin and how long they are."""
-    if RECORD.size == 160:
-        return line[place[0] : place[0] + place[1]]
-    return _found(line, name)
+    lines, begins, lengths = (numbers[member::MEMBERS].tolist() for member in PLACES)
+    places = zip(lines, begins, lengths)
+    return [bytes(part[line + begin : line + begin + length]) for line, begin, length in places]
 
 
 # ---- values

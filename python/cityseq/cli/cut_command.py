@@ -44,7 +44,12 @@ UNFIT = {
 def run(request: Filter) -> int:
     """Cuts streams by an index, and returns the status."""
     if request.index is None:
-        raise RequestError("--base is for --index")
+        if request.where is None:
+            raise RequestError("--base is for --index")
+        raise RequestError(
+            "--where needs an index: make one by 'cityseq-run index --attributes', and name it by"
+            " --index"
+        )
     with Index(request.index, base=request.base) as index:
         return _cut(request, index)
 
@@ -68,7 +73,8 @@ def _cut(request: Filter, index: Index) -> int:
     """Writes what a query keeps, to one output or to one for each stream."""
     _refuse(request, index)
     ids = ids_of(request.id, request.ids_from, request.null)
-    work = index.work(ids, texts_of(request.type), texts_of(request.lod), request.bbox)
+    types, lods = texts_of(request.type), texts_of(request.lod)
+    work = index.work(ids, types, lods, request.bbox, request.where)
     paths = [stream.path for stream in index.streams]
     outputs = [request.output] if request.output_dir is None else targets_of(request, paths)
     read = [index.path, request.ids_from, *(paths if index.base is None else [])]

@@ -6,11 +6,14 @@ from collections.abc import Iterator, Sequence
 from functools import partial
 
 from .. import __version__
+from ..attributes.columns import checked_names
+from ..attributes.values import ALL
 from ..engine.escape import shown
 from ..engine.faults import RequestError
 from ..engine.memory import keep_room
 from ..engine.query import Work, asked
 from ..indexes.builder import Builder
+from ..indexes.details import Wanted
 from ..indexes.index_lines import shown_object
 from ..indexes.index_run import Indexed, by_threads, checked, written
 from ..indexes.lookup import Index
@@ -64,13 +67,25 @@ def _files(request: WriteIndex, output: str) -> list[str]:
     return files
 
 
+def _wanted(request: WriteIndex) -> Wanted:
+    """Returns what the index has of the lines."""
+    names = request.attributes
+    if request.cluster is not None:
+        for option, is_given in (("footprints", request.footprints), ("attributes", names)):
+            if is_given:
+                raise RequestError(f"--{option} and --cluster do not go together")
+    if names is None:
+        return Wanted(request.footprints)
+    listed = [name for name in names if name is not None]
+    return Wanted(request.footprints, checked_names(ALL if len(listed) < len(names) else listed))
+
+
 def _build(request: WriteIndex) -> int:
     """Writes an index and the result of each file."""
     output = request.output
     if output is None or output == "-":
         raise RequestError("an index is written to a file: name it by --output")
-    if request.footprints and request.cluster is not None:
-        raise RequestError("--footprints and --cluster do not go together")
+    wanted = _wanted(request)
     files = _files(request, output)
     work = asked(
         "check",
@@ -90,7 +105,7 @@ def _build(request: WriteIndex) -> int:
             size = size_of(result.file)
             printer.result(result, lambda: result_object(result, request, __version__, size, None))
 
-        builder = Builder(output, request.footprints)
+        builder = Builder(output, wanted)
         streams = _streams(request, files, work, builder, printer, bar)
         begun: list[Indexed] = []
         noted = (begun.append(each) or each for each in streams)  # type: ignore[func-returns-value]

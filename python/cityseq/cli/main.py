@@ -93,7 +93,7 @@ def _run(request: Request) -> int:
             from ..serve import run as run_server
 
             return run_server(request)
-        case Filter() if request.index is not None or request.base is not None:
+        case Filter() if (request.index, request.where, request.base) != (None, None, None):
             from .cut_command import run as run_cut
 
             return run_cut(request)

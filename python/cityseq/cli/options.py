@@ -19,7 +19,7 @@ from .requests import (
     WriteIndex,
     WriteReport,
 )
-from .values import one_of, size, whole_number
+from .values import names, one_of, size, whole_number
 
 MOST_JOBS, MOST_BYTES, MOST_SECONDS = 4_096, 1 << 40, 1_000_000
 LEVELS = 1, 9
@@ -35,6 +35,7 @@ class Option:
         value: What its value is called. None if it takes no value.
         read: Reads the value. Raises `ValueError` if the value is wrong.
         short: The letter of its short form, if it has one.
+        repeats: Whether it may be given more than once. It reads lists then.
     """
 
     name: str
@@ -42,6 +43,7 @@ class Option:
     value: str | None = None
     read: Callable[[str], Any] = str
     short: str | None = None
+    repeats: bool = False
 
     @property
     def field(self) -> str:
@@ -221,6 +223,12 @@ CUTS = (
         "Read only the selected lines of the streams of this index, without any FILE",
         "INDEX",
     ),
+    Option(
+        "where",
+        "With --index: select features by their attributes, such as"
+        " \"year > 1990 AND status = 'in use'\" (CQL2 text)",
+        "FILTER",
+    ),
     Option("base", "With --index: read the streams from a web server, below this URL", "URL"),
 )
 INDEX = (
@@ -228,6 +236,14 @@ INDEX = (
         "output", "Write the index to this file when all streams were read", "OUTPUT", short="o"
     ),
     Option("footprints", "Add a layer with the ground of each feature, which takes longer"),
+    Option(
+        "attributes",
+        "Add a column for each of these attributes, or for `all`; write a name with a comma in"
+        " double quotes; the option may be repeated",
+        "NAMES",
+        names,
+        repeats=True,
+    ),
     Option("show", "Describe an index, and list the ids that more than one feature has", "INDEX"),
     Option(
         "refresh",

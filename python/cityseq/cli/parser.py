@@ -42,6 +42,13 @@ class _Once(argparse.Action):
         setattr(namespace, self.dest, True if self.nargs == 0 else values)
 
 
+class _Many(argparse.Action):
+    """Adds the values of an option to those that are there."""
+
+    def __call__(self, _: Any, namespace: argparse.Namespace, values: Any, *__: Any) -> None:
+        setattr(namespace, self.dest, [*getattr(namespace, self.dest, []), *values])
+
+
 class _Help(argparse.Action):
     """Asks for the help on a command."""
 
@@ -67,7 +74,8 @@ class _Parser(argparse.ArgumentParser):
             takes: dict[str, Any] = {"nargs": 0}
             if option.value is not None:
                 takes = {"type": _reader(option.read), "metavar": option.value}
-            self.add_argument(*option.names, dest=option.field, action=_Once, **takes)
+            action = _Many if option.repeats else _Once
+            self.add_argument(*option.names, dest=option.field, action=action, **takes)
         self.add_argument("files", nargs="*")
 
     def error(self, message: str) -> NoReturn:

@@ -114,6 +114,7 @@ class Filter(StreamRequest):
     bbox: str | None = None
     limit: int | None = None
     index: str | None = None
+    where: str | None = None
     base: str | None = None
     output: str = "-"
     output_dir: str | None = None
@@ -124,6 +125,10 @@ class Filter(StreamRequest):
     @property
     def is_plain(self) -> bool:
         return super().is_plain and self.index is None
+
+    @property
+    def options(self) -> dict[str, Any]:
+        return {**super().options, **({} if self.where is None else {"where": self.where})}
 
     @property
     def writes_to_standard_output(self) -> bool:
@@ -147,6 +152,7 @@ class WriteIndex(Request, Rules, Files, Printing):
     command: ClassVar[str] = "index"
     output: str | None = None
     footprints: bool = False
+    attributes: list[str | None] | None = None
     show: str | None = None
     refresh: str | None = None
 

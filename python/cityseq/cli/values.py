@@ -1,8 +1,10 @@
 """Reads the values of options: whole numbers, sizes and words."""
 from __future__ import annotations
 
+import re
 from collections.abc import Callable
 
+NAME = re.compile(r'\s*(?:"((?:[^"]|"")*)"\s*|([^",][^,]*))(,|\Z)')
 UNITS = {"K": 10, "M": 20, "G": 30}  # each is a power of two
 MOST_DIGITS = 20
 
@@ -45,3 +47,20 @@ def one_of(*words: str) -> Callable[[str], str]:
         return text
 
     return read
+
+
+def names(text: str) -> list[str | None]:
+    """Returns names that have commas between them. A name with a comma is in double quotes, and a
+    quote in it is doubled. None stands for the word `all` without quotes. Raises `ValueError`."""
+    found: list[str | None] = []
+    at, more = 0, ","
+    while more:
+        name = NAME.match(text, at)
+        if name is None:
+            raise ValueError(f"{text!r} has no name from character {at + 1} on")
+        at, more = name.end(), name[3]
+        plain = (name[2] or "").strip()
+        found.append(name[1].replace('""', '"') if name[1] is not None else plain)
+        if found[-1] == "all" and name[1] is None:
+            found[-1] = None
+    return found

@@ -124,7 +124,7 @@ def _limit(value: int, least: int, greatest: int, what: str) -> int:
 @dataclass(frozen=True)
 class Work:
     """A request in the library's form, and the call that answers it. The kind is `check`, `filter`,
-    `info` or `records`."""
+    `info` or `records`. `where` is a condition that an index alone looks at."""
 
     kind: str
     line_limit: int = USUAL_LINE
@@ -137,6 +137,7 @@ class Work:
     lods: bytes | None = None
     box: bytes | None = None
     exact_lods: bool = False
+    where: tuple[str, tuple[Any, ...]] | None = None
 
     @property
     def reads_ids(self) -> bool:

@@ -38,9 +38,10 @@ def _edges(work: Work) -> Optional[List[float]]:
 
 
 def _of_names(work: Work) -> Terms:
-    """Returns the conditions for the types and LoDs of a query."""
-    conditions: List[str] = []
-    values: List[Any] = []
+    """Returns the conditions for the attributes, types and LoDs of a query."""
+    sql, given = work.where or ("", ())
+    conditions: List[str] = [f"({sql})"] if sql else []
+    values: List[Any] = list(given)
     for column, names in (("types", work.types), ("lods", _classes(work.lods))):
         if names is not None:
             each = names.decode("utf-8").split("\n")
@@ -87,7 +88,7 @@ def reads_all(base: Any, work: Work, features: int, size: int) -> bool:
     """Whether to read streams of so many features and bytes takes less time than to read the lines
     that a query may keep, by an estimate. False for small streams."""
     most = size * features // (size + LINE * features)  # lines that take as much time
-    if size < SMALL or work.ids is not None and work.ids.count(b"\n") < most:
+    if size < SMALL or work.where is not None or work.ids is not None and work.ids.count(b"\n") < most:
         return False
     conditions, values = _of_names(work)
     if conditions:

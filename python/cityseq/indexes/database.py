@@ -7,11 +7,14 @@ import re
 import sqlite3
 import stat
 from contextlib import contextmanager
+from time import monotonic
 from typing import Any, Dict, Iterable, Iterator, List, Optional, Set
 
-from ..engine.faults import OutOfDate, ReadFault, read_fault
+from ..attributes.where import INSTANT, LIKE, instant, pattern_of
+from ..engine.faults import OutOfDate, ReadFault, RequestError, read_fault
 from . import geopackage
 
+SECONDS = 60  # of a search
 STEPS = 50_000  # of SQLite's machine, after which Python may run the handlers of signals
 BESIDE = ("-wal", "-journal")  # what SQLite leaves next to a database that it has not finished
 NO_INDEX = "read fault: it is no index of cityseq"
@@ -76,6 +79,7 @@ class Database:
         """
         self.path, self._file = path, os.path.realpath(path)
         self._stop: Optional[BaseException] = None
+        self._end: Optional[float] = None  # of a search, by the clock
         self._state: Any = None  # of a file that is read without locks
         self._is_counted = False
         self.tables: Set[str] = set()  # after `check_tables`
@@ -114,6 +118,8 @@ class Database:
             turns = self._turns()
             next(turns)
             base.set_progress_handler(turns.__next__, STEPS)
+            base.create_function(LIKE, 2, self._is_like, deterministic=True)
+            base.create_function(INSTANT, 1, instant, deterministic=True)
             if not is_index(base):
                 raise ReadFault(NO_INDEX, None, self.path)
             return base
@@ -129,12 +135,47 @@ class Database:
         while True:
             try:
                 while True:
+                    self._look()
                     yield 0
             except GeneratorExit:
                 raise
             except BaseException as stop:
                 self._stop = stop
                 yield 1
+
+    def _look(self) -> None:
+        """Raises `RequestError` if a search takes too long."""
+        if self._end is not None and monotonic() > self._end:
+            raise RequestError(f"the filter takes more than {SECONDS} seconds to find features")
+
+    def _is_like(self, pattern: Any, text: Any) -> Optional[bool]:
+        """Whether a text is like a pattern."""
+        if not isinstance(text, str) or not isinstance(pattern, str):
+            return None
+        try:
+            return pattern_of(pattern).matches(text, self._look)
+        except BaseException as stop:
+            self._stop = stop
+            raise
+
+    def search(self, select: str, given: Iterable[Any] = ()) -> Iterator[Any]:
+        """Yields the rows of a query. The caller asks for them in a block of `reading`.
+
+        Raises:
+            RequestError: To find them takes too long, without the time that the caller takes.
+        """
+        rows, left = self.execute(select, given), float(SECONDS)
+        while True:
+            begin = monotonic()
+            self._end = begin + left
+            try:
+                row = rows.fetchone()
+            finally:
+                self._end = None
+            left -= monotonic() - begin
+            if row is None:
+                return
+            yield row
 
     def _state_now(self) -> Any:
         try:

@@ -94,6 +94,14 @@ REPORTS: Dict[str, Test] = {
     "text": _is_text,
     "id": _or_null(_is_text),
 }
+ATTRIBUTES: Dict[str, Test] = {
+    "name": _is_text,
+    "name_exact": _or_null(lambda value: isinstance(value, bytes)),
+    "column_name": _is_text,
+    "type": lambda value: value in ("INTEGER", "REAL", "TEXT"),
+    "format": lambda value: value in (None, "boolean", "date", "date-time"),
+    "first_fid": _or_null(_is_count),
+}
 
 
 def checked(table: str, tests: Dict[str, Test], row: Sequence[Any], path: str) -> Sequence[Any]:

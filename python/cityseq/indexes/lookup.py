@@ -6,6 +6,11 @@ from dataclasses import dataclass, replace
 from itertools import chain, groupby
 from typing import Any, Dict, Iterator, List, Optional, Sequence, Tuple, Union
 
+from ..attributes.columns import FORMATS, Attribute
+from ..attributes.columns import quoted as named
+from ..attributes.cql2 import Filter, parsed
+from ..attributes.where import Condition, Translation
+from ..engine.escape import quoted, shown
 from ..engine.faults import OutOfDate, ReadFault, RequestError
 from ..engine.library import library
 from ..engine.query import Box, Texts, Work, asked
@@ -19,8 +24,10 @@ from . import geopackage
 from .blocks import BETWEEN
 from .candidates import has_more, reads_all, terms_of
 from .database import INDEX_CHANGED, Database
+from .geopackage import ATTRIBUTES
 from .geopackage import FOOTPRINTS as LAYER
 from .id_table import SAME_ID, find_alike, want
+from .index_rows import ATTRIBUTES as ATTRIBUTE_ROWS
 from .index_rows import OPTIONS, REPORTS, STREAMS, checked
 from .line_reader import (
     NO_RANGES,
@@ -82,6 +89,7 @@ class Index:
         path: Its path.
         streams: The streams of the index, in order.
         tree, keep_going, line_limit, depth: How the streams were judged. Cuts are judged so too.
+        attributes: The attributes that a filter can name, by their columns.
     """
 
     def __init__(self, path: Any, *, base: Optional[str] = None) -> None:
@@ -106,6 +114,7 @@ class Index:
             self.tree, self.keep_going, self.line_limit, self.depth = self._options()
             self.streams = list(self._streams())
             self._check_streams()
+            self.attributes = self._attributes()
         except BaseException:
             self._base.close()
             raise
@@ -156,6 +165,20 @@ class Index:
                     path = os.path.normpath(path)  # no part of the folder is a link
                 stream = IndexedStream(number, path, told, *others)
                 yield replace(stream, has_blocks=self._has_blocks(number))
+
+    def _attributes(self) -> Dict[str, Attribute]:
+        """Returns the attributes of the index by their columns."""
+        if ATTRIBUTES not in self._base.tables:
+            return {}
+        columns, found = self._base.columns("features"), {}
+        with self._base.reading():
+            select = f"SELECT {', '.join(ATTRIBUTE_ROWS)} FROM {ATTRIBUTES} ORDER BY fid"
+            for row in self._base.execute(select):
+                name, exact, column, *others = checked(ATTRIBUTES, ATTRIBUTE_ROWS, row, self.path)
+                if column not in columns:
+                    raise OutOfDate.because(INDEX_CHANGED, self.path)
+                found[column] = Attribute(id_of(name, exact), column, *others)
+        return found
 
     def _has_blocks(self, number: int) -> bool:
         """Whether a stream has blocks. Indexes of plain streams, and older ones, have none."""
@@ -218,13 +241,14 @@ class Index:
         types: Optional[Texts] = None,
         lods: Optional[Texts] = None,
         box: Optional[Box] = None,
+        where: Union[str, Filter, None] = None,
     ) -> Work:
         """Returns the work for a query. It is judged as the streams of the index were.
 
         Raises:
             RequestError: An argument has a value that it may not have.
         """
-        return asked(
+        work = asked(
             "filter",
             ids=ids,
             types=types,
@@ -234,6 +258,37 @@ class Index:
             line_limit=self.line_limit,
             depth=self.depth,
         )
+        return work if where is None else replace(work, where=self._condition(where))
+
+    def _condition(self, where: Union[str, Filter]) -> Condition:
+        """Returns the condition of SQL for a filter."""
+        filter = parsed(where) if isinstance(where, str) else where
+        return Translation(self.attributes, self._in_the_way).condition(filter)
+
+    def _in_the_way(self, attribute: Attribute, kind: Optional[str]) -> Optional[str]:
+        """Returns words on the first feature that shows the type of an attribute, or whose text is
+        not of a kind. None if there is none."""
+        column, fid = named(attribute.column), attribute.first
+        with self._base.reading():
+            if kind is not None:
+                texts = self._base.search(
+                    f"SELECT fid, {column} FROM features WHERE {column} NOT NULL ORDER BY fid"
+                )
+                is_kind = FORMATS[kind].fullmatch
+                fid = next((fid for fid, text in texts if not is_kind(str(text))), None)
+            row = self._base.execute(
+                f"SELECT id, id_exact, line, stream, {column} FROM features WHERE fid = ?", (fid,)
+            ).fetchone()
+        if row is None:
+            return None
+        name, exact, line, stream, value = row
+        paths = {each.number: each.path for each in self.streams}
+        try:
+            told = quoted(value) if isinstance(value, str) else f"{value}"
+            where = f"line {int(line)} of {shown(paths[stream])}"
+            return f"feature {quoted(id_of(name, exact))}, in {where}, has {told}"
+        except (AttributeError, KeyError, TypeError, ValueError):
+            raise OutOfDate.because(INDEX_CHANGED, self.path) from None
 
     def rows(self, work: Work) -> Iterator[Row]:
         """Yields where the lines are that a query may keep, in order. It misses none."""
@@ -290,7 +345,7 @@ class Index:
             which = f" WHERE {' AND '.join(conditions)}" if conditions else ""
             select = "SELECT fid, stream, line, begin, length FROM features"
             # `yield from` would close the cursor with the generator, perhaps after the database
-            for row in self._base.execute(f"{select}{which} ORDER BY fid{end}", given):
+            for row in self._base.search(f"{select}{which} ORDER BY fid{end}", given):
                 yield row
         if self._base.is_changed():
             raise OutOfDate.because(INDEX_CHANGED, self.path)
@@ -350,11 +405,14 @@ class Index:
         types: Optional[Texts] = None,
         ids: Optional[Texts] = None,
         lods: Optional[Texts] = None,
+        where: Optional[str] = None,
     ) -> Selection:
         """Returns the features that a query selects. They can be iterated over once. To leave the
         iteration early and close the streams at once, use it in a `with` block.
 
-        The arguments are those of `cityseq.filter`. Each feature is judged again.
+        The arguments are those of `cityseq.filter`, and `where`: a filter in CQL2 text, such as
+        "year > 1990 AND status = 'in use'". It names columns of `attributes`. Each feature is
+        judged again, but only the index knows the attributes.
 
         Raises:
             OutOfDate: A stream is not the one that was indexed.
@@ -363,7 +421,7 @@ class Index:
             RequestError: An argument has a value that it may not have.
         """
         self.check()
-        return Selection(self._features(self.work(ids, types, lods, box)))
+        return Selection(self._features(self.work(ids, types, lods, box, where)))
 
     def _features(self, work: Work) -> Any:
         for stream, rows in self._selected(work):
@@ -388,6 +446,7 @@ class Index:
         types: Optional[Texts] = None,
         lods: Optional[Texts] = None,
         box: Optional[Box] = None,
+        where: Optional[str] = None,
         limit: Optional[int] = None,
         jobs: Optional[int] = None,
     ) -> Result:
@@ -400,6 +459,7 @@ class Index:
                 all was read and is valid.
             ids, types, lods, box, limit, jobs: As for `cityseq.filter`. After the last feature that
                 the limit takes no more lines are read.
+            where: As for `select`.
 
         Returns:
             The counts that `cityseq.filter` returns. Lines and invalid lines are those of the
@@ -410,7 +470,7 @@ class Index:
         """
         from .cut import cut  # `select` does not need it
 
-        work = self.work(ids, types, lods, box)
+        work = self.work(ids, types, lods, box, where)
         return cut(self, work, output, jobs, limit=Limit.of(limit))
 
     # ---- what is in it

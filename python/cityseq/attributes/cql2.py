@@ -1,0 +1,247 @@
+"""Filters in CQL2 text (OGC 21-065r2): Basic CQL2, and the Advanced Comparison Operators.
+
+A grammar reads them. What comes of it are nested tuples, which `where` translates to SQL."""
+from __future__ import annotations
+
+import re
+from decimal import Decimal, InvalidOperation
+from functools import lru_cache
+from typing import Any, NamedTuple, Union
+
+from ..engine.escape import shown
+from ..engine.faults import RequestError
+from .columns import FORMATS
+
+LONGEST = 10_000  # characters
+DEEPEST = 100  # brackets and NOTs around each other
+MOST = 900  # values: older versions of SQLite take at most 999
+AROUND = 20  # characters of a filter that a fault shows
+GRAMMAR = r"""
+?start: either
+either: both (_OR both)*
+both: factor (_AND factor)*
+?factor: _NOT factor -> negation | primary
+?primary: "(" either ")" | comparison | BOOLEAN -> constant
+?comparison: name OPERATOR literal | literal OPERATOR name -> turned
+    | name _LIKE STRING -> like | name _NOT _LIKE STRING -> unlike
+    | name _BETWEEN number _AND number -> between
+    | name _NOT _BETWEEN number _AND number -> outside
+    | name _IN "(" literal ("," literal)* ")" -> among
+    | name _NOT _IN "(" literal ("," literal)* ")" -> not_among
+    | name _IS _NULL -> null | name _IS _NOT _NULL -> not_null
+name: NAME | QUOTED
+?literal: STRING -> text | number | BOOLEAN -> flag | instant
+number: NUMBER
+instant: KIND "(" STRING ")"
+OPERATOR: "<>" | "<=" | ">=" | "=" | "<" | ">"
+STRING: /'(?:[^'\\]|''|\\'|\\(?!'))*'/
+QUOTED: /"(?:[^"]|"")+"/
+NUMBER: /[-+]?(?:[0-9]+(?:\.[0-9]*)?|\.[0-9]+)(?:[eE][-+]?[0-9]+)?/
+KIND.3: /(?:DATE|TIMESTAMP)(?=\s*\()/i
+BOOLEAN.2: /(?:TRUE|FALSE)(?![\w.:])/i
+_AND.2: /AND(?![\w.:])/i
+_OR.2: /OR(?![\w.:])/i
+_NOT.2: /NOT(?![\w.:])/i
+_LIKE.2: /LIKE(?![\w.:])/i
+_BETWEEN.2: /BETWEEN(?![\w.:])/i
+_IN.2: /IN(?![\w.:])/i
+_IS.2: /IS(?![\w.:])/i
+_NULL.2: /NULL(?![\w.:])/i
+NAME: /(?!\d)[\w:][\w.:]*/
+%import common.WS
+%ignore WS
+"""
+
+
+class Instant(NamedTuple):
+    """A date, or a date and a time with its zone. The kind is that of `FORMATS`."""
+
+    kind: str
+    text: str
+
+
+Literal = Union[str, Decimal, bool, Instant]
+
+
+class Constant(NamedTuple):
+    """True or false."""
+
+    value: bool
+
+
+class Comparison(NamedTuple):
+    """A comparison of a column with a value, by an operator of SQL."""
+
+    name: str
+    operator: str
+    value: Literal
+
+
+class Like(NamedTuple):
+    """Whether the texts of a column are like a pattern."""
+
+    name: str
+    pattern: str
+
+
+class Between(NamedTuple):
+    """Whether the numbers of a column lie between two, or are one of them."""
+
+    name: str
+    low: Decimal
+    high: Decimal
+
+
+class Among(NamedTuple):
+    """Whether the values of a column are among some."""
+
+    name: str
+    values: tuple[Literal, ...]
+
+
+class Null(NamedTuple):
+    """Whether a column has no value."""
+
+    name: str
+
+
+class Not(NamedTuple):
+    """What is true if another one is false."""
+
+    inner: "Filter"
+
+
+class Joined(NamedTuple):
+    """Several, with `AND` or `OR` between them."""
+
+    word: str
+    inner: tuple["Filter", ...]
+
+
+Filter = Union[Constant, Comparison, Like, Between, Among, Null, Not, Joined]
+QUOTE = re.compile(r"\\'|''")  # in a text
+TURNED = {"<": ">", ">": "<", "<=": ">=", ">=": "<="}
+
+
+def _number(spelled: str) -> Decimal:
+    """Returns a number. If no decimal has its exponent, one that is as great or as small for all
+    columns."""
+    try:
+        return Decimal(spelled)
+    except InvalidOperation:
+        digits, _, power = spelled.lower().partition("e")
+        sign = "-" if digits.startswith("-") else ""
+        if not digits.strip("+-.0"):
+            return Decimal(0)
+        return Decimal(f"{sign}{'1e-9999' if power.startswith('-') else 'Infinity'}")
+
+
+class _Tree:
+    """Makes a filter of what the grammar finds. The methods have the names of the rules, and take
+    what was made of the parts."""
+
+    def either(self, parts: list[Any]) -> Any:
+        return Joined("OR", tuple(parts)) if len(parts) > 1 else parts[0]
+
+    def both(self, parts: list[Any]) -> Any:
+        return Joined("AND", tuple(parts)) if len(parts) > 1 else parts[0]
+
+    def negation(self, parts: list[Any]) -> Not:
+        return Not(parts[0])
+
+    def constant(self, parts: list[Any]) -> Constant:
+        return Constant(self.flag(parts))
+
+    def comparison(self, parts: list[Any]) -> Comparison:
+        return Comparison(parts[0], str(parts[1]), parts[2])
+
+    def turned(self, parts: list[Any]) -> Comparison:
+        return Comparison(parts[2], TURNED.get(str(parts[1]), str(parts[1])), parts[0])
+
+    def like(self, parts: list[Any]) -> Like:
+        return Like(parts[0], self.text(parts[1:]))
+
+    def unlike(self, parts: list[Any]) -> Not:
+        return Not(self.like(parts))
+
+    def between(self, parts: list[Any]) -> Between:
+        return Between(*parts)
+
+    def outside(self, parts: list[Any]) -> Not:
+        return Not(self.between(parts))
+
+    def among(self, parts: list[Any]) -> Among:
+        return Among(parts[0], tuple(parts[1:]))
+
+    def not_among(self, parts: list[Any]) -> Not:
+        return Not(self.among(parts))
+
+    def null(self, parts: list[Any]) -> Null:
+        return Null(parts[0])
+
+    def not_null(self, parts: list[Any]) -> Not:
+        return Not(self.null(parts))
+
+    def name(self, parts: list[Any]) -> str:
+        text = str(parts[0])
+        return text[1:-1].replace('""', '"') if text.startswith('"') else text
+
+    def text(self, parts: list[Any]) -> str:
+        return QUOTE.sub("'", str(parts[0])[1:-1])
+
+    def number(self, parts: list[Any]) -> Decimal:
+        return _number(str(parts[0]))
+
+    def flag(self, parts: list[Any]) -> bool:
+        return str(parts[0]).upper() == "TRUE"
+
+    def instant(self, parts: list[Any]) -> Instant:
+        kind = "date" if str(parts[0]).upper() == "DATE" else "date-time"
+        text = self.text(parts[1:])
+        if FORMATS[kind].fullmatch(text) is None:
+            raise RequestError(f"the filter has a {kind} that is none as of RFC 3339: {shown(text)}")
+        return Instant(kind, text)
+
+
+@lru_cache(maxsize=1)
+def _parser() -> Any:
+    """Returns the parser.
+
+    Raises:
+        RequestError: The package is missing that it needs.
+    """
+    try:
+        from lark import Lark
+    except ImportError as fault:
+        raise RequestError(
+            "a filter needs lark for Python: install python3-lark, or cityseq with the extra where"
+        ) from fault
+    return Lark(GRAMMAR, parser="lalr", transformer=_Tree())
+
+
+def parsed(text: str) -> Filter:
+    """Returns the filter of a text.
+
+    Raises:
+        RequestError: It is too long, or is no filter. The words show where.
+    """
+    if len(text) > LONGEST:
+        raise RequestError(f"a filter has at most {LONGEST:,} characters, and not {len(text):,}")
+    parser = _parser()
+    from lark.exceptions import UnexpectedInput
+
+    try:
+        found: Filter = parser.parse(text)
+        return found
+    except UnexpectedInput as fault:
+        at = fault.pos_in_stream
+        if at is None or at >= len(text) or _is_end(fault):
+            words = "the filter ends too early"
+        else:
+            rest = text[at : at + AROUND] + (".." if len(text) > at + AROUND else "")
+            words = f"the filter is no CQL2 text from character {at + 1} on: {shown(rest)}"
+        raise RequestError(words) from None
+
+
+def _is_end(fault: Any) -> bool:
+    return getattr(getattr(fault, "token", None), "type", "") == "$END"

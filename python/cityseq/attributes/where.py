@@ -1,0 +1,279 @@
+"""Filters as conditions of SQL. Names are those of columns, in quotes, and each value is bound: no
+text of a user is SQL."""
+from __future__ import annotations
+
+import re
+from collections.abc import Callable, Mapping, Sequence
+from datetime import datetime, timedelta
+from decimal import ROUND_FLOOR, Decimal
+from functools import lru_cache
+from math import copysign, inf
+from typing import Any, NamedTuple, Union
+
+from ..engine.escape import quoted as in_quotes
+from ..engine.escape import shown
+from ..engine.faults import RequestError
+from ..indexes.geopackage import readable
+from .columns import FORMATS, Attribute, quoted
+from .cql2 import (
+    DEEPEST,
+    MOST,
+    Among,
+    Between,
+    Comparison,
+    Constant,
+    Filter,
+    Instant,
+    Joined,
+    Like,
+    Literal,
+    Not,
+    Null,
+)
+
+NAMED = 20  # columns that a fault names
+WINDOW = 1 << 16  # characters of a text between two looks at the clock
+BITS = 1 << 63
+LIKE, INSTANT = "cityseq_like", "cityseq_instant"  # functions of SQL
+WILD = re.compile(r"\\([%_\\])|(%)|(_)|(.)", re.DOTALL)
+BELOW = {"<": "<=", "<=": "<=", ">": ">", ">=": ">"}  # than a value: the same of the number below
+ABOVE = {"<": "<", "<=": "<", ">": ">=", ">=": ">="}
+Number = Union[int, float]
+
+
+class Condition(NamedTuple):
+    """A condition of SQL, and the values in it."""
+
+    sql: str
+    values: tuple[Any, ...]
+
+
+# ---- numbers
+
+
+def _near(number: Decimal, is_whole: bool) -> Number:
+    """Returns a number as SQLite has it in a column of its type: the same, or the nearest one. If
+    the column has whole numbers, that is the one below."""
+    if number.is_finite() and number.adjusted() < 20:
+        below = int(number.to_integral_value(ROUND_FLOOR))
+        if (is_whole or below == number) and -BITS <= below < BITS:
+            return below
+    return copysign(inf, number) if is_whole else float(number)
+
+
+def bound(number: Decimal, is_whole: bool, operator: str) -> tuple[str, Number]:
+    """Returns the operator and the number for a comparison that is exact. A fraction is compared as
+    a float, because the numbers of a column are floats too."""
+    near = _near(number, is_whole)
+    is_fraction = not is_whole and number != number.to_integral_value()
+    if near == number or is_fraction and 0 < abs(near) < inf:
+        return operator, near
+    if operator in ("=", "<>"):
+        return operator, inf  # no column has it
+    return (BELOW if near < number else ABOVE)[operator], near
+
+
+# ---- texts
+
+
+class Pattern:
+    """A pattern of LIKE, as pieces with any text between them."""
+
+    def __init__(self, pattern: str) -> None:
+        pieces: list[list[str]] = [[]]
+        for escaped, anything, one, other in WILD.findall(pattern):
+            if anything:
+                pieces.append([])
+            else:
+                pieces[-1].append("." if one else re.escape(escaped or other))
+        self._pieces = [re.compile("".join(piece), re.DOTALL) for piece in pieces]
+        self._lengths = [len(piece) for piece in pieces]
+
+    def matches(self, text: str, look: Callable[[], object]) -> bool:
+        """Returns whether a text is like the pattern. It calls `look` from time to time, which may
+        raise an exception."""
+        first, *others = self._pieces
+        if not others:
+            return first.fullmatch(text) is not None
+        last, end = others.pop(), len(text) - self._lengths[-1]
+        at = self._lengths[0]
+        if first.match(text) is None or end < at or last.fullmatch(text, end) is None:
+            return False
+        for piece, length in zip(others, self._lengths[1:]):
+            at = self._found(piece, length, text, (at, end), look)
+            if at < 0:
+                return False
+        return True
+
+    @staticmethod
+    def _found(
+        piece: re.Pattern[str],
+        length: int,
+        text: str,
+        within: tuple[int, int],
+        look: Callable[[], object],
+    ) -> int:
+        """Returns where a piece ends that lies between two places of a text, or -1."""
+        (at, end), step = within, WINDOW // (length + 1) + 1
+        for begin in range(at, end - length + 1, step):
+            look()
+            found = piece.search(text, begin, min(begin + step + length - 1, end))
+            if found is not None:
+                return found.end()
+        return -1
+
+
+@lru_cache(maxsize=256)
+def pattern_of(text: str) -> Pattern:
+    """Returns the pattern of a text."""
+    return Pattern(text)
+
+
+def instant(text: Any) -> str | None:
+    """Returns a date and a time in UTC, so that texts have the order of the times. None for other
+    values."""
+    if not isinstance(text, str) or FORMATS["date-time"].fullmatch(text) is None:
+        return None
+    told, zone = (text[:-1], "") if text[-1] in "Zz" else (text[:-6], text[-6:])
+    whole, _, part = told.upper().partition(".")
+    if zone:
+        hours, minutes = int(zone[1:3]), int(zone[4:])
+        shift = timedelta(hours=hours, minutes=minutes) * (-1 if zone[0] == "-" else 1)
+        try:
+            whole = (datetime.fromisoformat(whole) - shift).isoformat()
+        except (OverflowError, ValueError):  # no such day, or before the year 1
+            return None
+    return f"{whole}.{part.rstrip('0')}"
+
+
+# ---- filters
+
+
+class Translation:
+    """Translates a filter for the columns of an index."""
+
+    def __init__(
+        self,
+        columns: Mapping[str, Attribute],
+        in_the_way: Callable[[Attribute, str | None], str | None],
+    ) -> None:
+        """Takes the columns by their names, and what returns words on the first feature whose value
+        is the reason that a column has its type, or that is not of a format. None if there is none.
+        """
+        self._columns, self._in_the_way = columns, in_the_way
+        self._values: list[Any] = []
+
+    def condition(self, filter: Filter) -> Condition:
+        """Returns the condition.
+
+        Raises:
+            RequestError: A column is not known, a value is of another type than its column, or the
+                filter is too deep or has too many values.
+        """
+        sql = self._sql(filter, 0)
+        if len(self._values) > MOST:
+            raise RequestError(f"a filter has at most {MOST} values, and not {len(self._values):,}")
+        return Condition(sql, tuple(self._values))
+
+    def _sql(self, filter: Filter, depth: int) -> str:
+        if depth > DEEPEST:
+            raise RequestError(f"a filter has at most {DEEPEST} brackets and NOT in each other")
+        match filter:
+            case Constant(value):
+                return "1" if value else "0"
+            case Not(inner):
+                return f"NOT ({self._sql(inner, depth + 1)})"
+            case Joined(word, inner):
+                return _balanced(word, [self._sql(each, depth + 1) for each in inner])
+            case Null(name):
+                return f"{_sql_name(self._column(name))} IS NULL"
+            case Like(name, pattern):
+                return self._like(self._column(name), pattern)
+            case Among(name, values):
+                return self._among(self._column(name), values)
+            case Between(name, low, high):
+                column = self._column(name)
+                edges = self._compared(column, ">=", low), self._compared(column, "<=", high)
+                return f"({edges[0]} AND {edges[1]})"
+            case Comparison(name, operator, value):
+                return self._compared(self._column(name), operator, value)
+
+    def _column(self, name: str) -> Attribute:
+        if name in self._columns:
+            return self._columns[name]
+        if not self._columns:
+            raise RequestError("the index has no attributes: build it again with --attributes")
+        named = [each.column for each in self._columns.values() if each.name == name]
+        same = [each for each in self._columns if each.casefold() == name.casefold()]
+        known = ", ".join(map(in_quotes, (named or same or list(self._columns))[:NAMED]))
+        raise RequestError(f"there is no attribute {in_quotes(name)} in the index: it has {known}")
+
+    def _check(self, column: Attribute, value: Literal) -> None:
+        """Checks that a value can be compared with a column."""
+        is_text, wanted = column.type == "TEXT", value.kind if isinstance(value, Instant) else None
+        fits = isinstance(value, (str, Instant)) == is_text
+        if column.first is None or fits and wanted in (None, column.format):
+            return
+        found = self._in_the_way(column, wanted if fits else None)
+        if found is not None:
+            kind, of = _told(value), "texts" if is_text else "numbers"
+            words = f"the attribute {in_quotes(column.column)} has {of}, and {kind}"
+            raise RequestError(f"{words}: {found}")
+
+    def _compared(self, column: Attribute, operator: str, value: Literal) -> str:
+        self._check(column, value)
+        name = _sql_name(column)
+        if isinstance(value, Decimal):
+            operator, number = bound(value, column.type == "INTEGER", operator)
+            self._values.append(number)
+        elif isinstance(value, Instant):
+            name = _moment(name, value)
+            self._values.append(_key(value))
+        else:
+            self._values.append(readable(value) if isinstance(value, str) else int(value))
+        return f"{name} {operator} ?"
+
+    def _among(self, column: Attribute, values: Sequence[Literal]) -> str:
+        parts = [self._compared(column, "=", value) for value in values]
+        names = {part.removesuffix(" = ?") for part in parts}
+        if len(names) > 1:  # dates, and times
+            return _balanced("OR", parts)
+        return f"{names.pop()} IN ({','.join('?' * len(parts))})"
+
+    def _like(self, column: Attribute, pattern: str) -> str:
+        self._check(column, pattern)
+        self._values.append(readable(pattern))
+        return f"{LIKE}(?, {_sql_name(column)})"
+
+
+def _sql_name(column: Attribute) -> str:
+    # a name with its table is never a text for SQLite, which other names in quotes may be
+    return f"features.{quoted(column.column)}"
+
+
+def _moment(name: str, value: Instant) -> str:
+    return f"{INSTANT}({name})" if value.kind == "date-time" else name
+
+
+def _key(value: Instant) -> str | None:
+    return instant(value.text) if value.kind == "date-time" else value.text
+
+
+def _told(value: Literal) -> str:
+    """Returns a value with its kind, for a fault."""
+    match value:
+        case bool():
+            return f"{str(value).upper()} is a boolean"
+        case Decimal():
+            return f"{shown(str(value)[:NAMED])} is a number"
+        case Instant(kind, text):
+            return f"{shown(text)} is a {kind}"
+    return f"{in_quotes(value)} is a text"
+
+
+def _balanced(word: str, parts: list[str]) -> str:
+    """Joins conditions so that few are in each other: SQLite bounds that."""
+    while len(parts) > 1:
+        pairs = [parts[at : at + 2] for at in range(0, len(parts), 2)]
+        parts = [f"({f' {word} '.join(pair)})" if len(pair) > 1 else pair[0] for pair in pairs]
+    return parts[0]
