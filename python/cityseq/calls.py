@@ -288,19 +288,25 @@ def table(
     lods: Texts | None = None,
     box: Box | None = None,
     exclude: bool = False,
+    attributes: Texts | None = None,
     line_limit: int = USUAL_LINE,
     depth: int = USUAL_DEPTH,
     keep_going: bool = False,
     tree: bool = False,
 ) -> dict[str, Any]:
     """Returns the features that a query selects as columns, which `pandas.DataFrame` takes. The
-    arguments are those of `features`.
+    other arguments are those of `features`.
+
+    Args:
+        attributes: The names of attributes of the main city object that get columns, or the text
+            "all" for all of them. A name that another column has, also but for case, gets `_2`.
 
     Returns:
         A column for each of `id`, `line`, `length` in bytes, `objects`, `geometries`, `types`,
         `lods`, and `xmin`, `xmax`, `ymin`, `ymax`, `zmin`, `zmax`. The last six are world
             coordinates as the nearest floats, and NaN if a feature has no vertex. A coordinate that
-            is greater than all floats is infinite.
+            is greater than all floats is infinite. The columns of attributes follow. They have
+            values as Python reads JSON, and None if a feature lacks the attribute.
 
     Raises:
         CityseqError: As `features` does.
@@ -309,7 +315,11 @@ def table(
 
     how = one_options(options, Options(Limits(line_limit, depth), keep_going, tree))
     work = work_of("filter", how, one_query(query, Query(ids, types, lods, box, exclude)))
-    return tabled(source, work)
+    if attributes is None:
+        return tabled(source, work)
+    from .attributes.columns import checked_names  # few runs need it
+
+    return tabled(source, work, checked_names(attributes))
 
 
 def index(

@@ -296,6 +296,10 @@ class AttributeColumns:
         base.execute(f"{update}spelling({name}) WHERE {is_number}")
         base.executemany(f"{update}? WHERE fid = ?", self._spellings.of(number))
 
+    def unmet(self) -> list[str]:
+        """Returns the names of attributes that no feature has."""
+        return [each.name for each in self._found.values() if not each.kinds]
+
     def close(self) -> None:
         """Removes what waits in a file."""
         self._spellings.close()

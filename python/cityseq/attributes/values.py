@@ -296,3 +296,21 @@ def columns_of(texts: Sequence[bytes], names: Asked) -> Columns:
     needles = _needles(names)
     rows = [_chosen(text, names, needles) for text in texts]
     return {name: list(column) for name, column in zip(names, zip(*rows))}
+
+
+def _number_told(value: Any) -> Any:
+    """Returns a value as Python reads JSON."""
+    return _TOLD.decode(value) if isinstance(value, Spelled) else value
+
+
+def rows_of(texts: Sequence[bytes], names: Asked) -> list[dict[str, Any]]:
+    """Returns attributes of features as Python reads JSON."""
+    needles = None if isinstance(names, str) else _needles(names)
+    found = []
+    for text in texts:
+        if needles is None or b"\\" in text or not _is_flat(text):
+            found.append(told(text))
+        else:
+            values = [_number_told(_sought(text, needle)) for needle in needles]
+            found.append(dict(zip(names, values)))
+    return found

@@ -8,7 +8,7 @@ from functools import partial
 from .. import __version__
 from ..attributes.columns import checked_names
 from ..attributes.values import ALL
-from ..engine.escape import shown
+from ..engine.escape import quoted, shown
 from ..engine.faults import RequestError
 from ..engine.memory import keep_room
 from ..engine.query import Work, asked
@@ -120,6 +120,8 @@ def _build(request: WriteIndex) -> int:
         printer.close()
     if not request.quiet and not request.json:
         _say_slow([each.path for each in begun if each.is_slow])
+        for name in builder.unmet:
+            say(f"no feature has a value of the attribute {quoted(name)}")
     return worst
 
 

@@ -381,6 +381,11 @@ class Builder:
                 self._base.execute(f"UPDATE {layer} SET geom = moved(geom) WHERE geom NOT NULL")
         return UNDEFINED
 
+    @property
+    def unmet(self) -> Sequence[str]:
+        """The attributes that are wanted, and that no feature has."""
+        return () if self._attributes is None else self._attributes.unmet()
+
     def discard(self) -> None:
         """Removes what was written, if the index is not whole."""
         if self._opened is not None:

@@ -61,6 +61,10 @@ def lines(index: "Index") -> Iterator[str]:
     extent = _extent(streams)
     if extent is not None:
         yield _boxed(extent).lstrip()
+    for each in index.attributes.values():
+        of = "" if each.name == each.column else f" of {quoted(each.name)}"
+        kind = "" if each.format is None else f" {each.format}"
+        yield f"attribute {quoted(each.column)}{of} {each.type}{kind}"
     why = _fault(index)
     if why is not None:
         yield why
@@ -92,6 +96,15 @@ def shown_object(index: "Index", program: str) -> Dict[str, Any]:
             "features": sum(stream.features for stream in index.streams),
             "bbox": _extent(index.streams),
             "fault": _fault(index),
+            "attributes": [
+                {
+                    "name": each.name,
+                    "column": each.column,
+                    "type": each.type,
+                    "format": each.format,
+                }
+                for each in index.attributes.values()
+            ],
             "streams": [
                 {
                     "file": stream.path,

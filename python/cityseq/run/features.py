@@ -5,6 +5,7 @@ import builtins
 import json
 from collections.abc import Iterator
 from dataclasses import dataclass, field
+from functools import cached_property
 from typing import TYPE_CHECKING, Any
 
 from ..engine.faults import CityseqError, InvalidStream, MemoryFault
@@ -38,6 +39,8 @@ class Feature:
         ranges: The least and greatest vertex on x, y and z, as the numbers in the line. Each is
             None if the feature has no vertex.
         header: The first line of the stream.
+        attributes_place: Where the attributes of the main city object begin in `bytes`, and how
+            long they are: 0 and 0 if it has none.
     """
 
     line: int
@@ -49,6 +52,16 @@ class Feature:
     lods: tuple[str, ...]
     ranges: tuple[Range, Range, Range]
     header: builtins.bytes = field(repr=False)
+    attributes_place: tuple[int, int] = field(default=(0, 0), repr=False)
+
+    @cached_property
+    def attributes(self) -> dict[str, Any]:
+        """The attributes of the main city object, as Python reads JSON. There are none if they are
+        no object. Of a repeated name the first counts."""
+        from ..attributes.values import told  # few runs need it
+
+        begin, length = self.attributes_place
+        return told(self.bytes[begin : begin + length])
 
     def json(self) -> Any:
         """Returns the feature as Python's JSON reader gives it."""
@@ -82,6 +95,7 @@ def feature_of(raw: RawFeature, header: bytes, part: Text, lines: int) -> Featur
         set_bits(raw.lods, LOD_CLASSES),
         (x, y, z),
         header,
+        (raw.attributes_begin, raw.attributes_length),
     )
 
 

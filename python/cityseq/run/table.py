@@ -4,6 +4,7 @@ from __future__ import annotations
 import sys
 from array import array
 from functools import lru_cache
+from itertools import chain
 from math import nan
 from typing import TYPE_CHECKING, Any
 
@@ -17,6 +18,8 @@ from .features import fault_of, parts_of, set_bits
 
 if TYPE_CHECKING:
     from decimal import Decimal
+
+    from ..attributes.values import Asked
 
 ROOM = 1 << 19  # bytes of lines that are read at once
 TOGETHER = 16_384  # features whose columns are made together
@@ -79,7 +82,9 @@ class _World:
 class _Table:
     """The columns of a table, to which rows are added."""
 
-    def __init__(self) -> None:
+    def __init__(self, attributes: Asked = ()) -> None:
+        self._attributes = attributes
+        self._rows: list[dict[str, Any]] = []
         self.columns: dict[str, Any] = {"id": []}
         self.columns.update({name: array("Q") for name in COUNTS})
         self.columns.update({name: [] for name in SETS})
@@ -95,6 +100,10 @@ class _Table:
         self._world = self._world or [_World(*axis) for axis in zip(*transform_of(header))]
         ids = records_of.all_unescaped(records_of.spelled_ids(part, raw))
         self.columns["id"] += ids
+        if self._attributes:
+            from ..attributes.values import rows_of, texts_of  # few runs need it
+
+            self._rows += rows_of(texts_of(part, raw), self._attributes)
         self._waiting.append((raw, lines))
         self._waits += len(ids)
         if self._waits >= TOGETHER:
@@ -107,6 +116,16 @@ class _Table:
         for column, values in (self._by_numpy() if is_fast else self._plainly()).items():
             self.columns[column].extend(values)
         self._waiting, self._waits = [], 0
+
+    def add_attributes(self) -> None:
+        """Adds the columns of attributes. A name that is taken gets a number."""
+        from ..attributes.columns import ColumnNames  # few runs need it
+
+        asked = self._attributes
+        names = dict.fromkeys(chain.from_iterable(self._rows)) if isinstance(asked, str) else asked
+        columns = ColumnNames(self.columns)
+        for name in names:
+            self.columns[columns.new(name)] = [row.get(name) for row in self._rows]
 
     def _plainly(self) -> dict[str, Any]:
         columns = records_of.columns_of(b"".join([raw for raw, _ in self._waiting]))
@@ -161,9 +180,9 @@ def _numpy() -> Any:
     return numpy
 
 
-def table(source: Source, work: Work) -> dict[str, Any]:
+def table(source: Source, work: Work, attributes: Asked = ()) -> dict[str, Any]:
     """Returns the columns of a table with a row for each kept feature."""
-    made, file, lines = _Table(), name_of(source), 0
+    made, file, lines = _Table(attributes), name_of(source), 0
     for header, part in parts_of(source, work, ROOM):
         answer, _, raw = records_of.call(work, header, part, 0)
         if raw:
@@ -172,4 +191,6 @@ def table(source: Source, work: Work) -> dict[str, Any]:
             raise fault_of(answer, header, part, lines, file)
         lines += answer.lines - 1
     made.end()
+    if attributes:
+        made.add_attributes()
     return made.columns
