@@ -234,8 +234,13 @@ class AttributeColumns:
         self._found: dict[str, AttributeColumn] = {}
         self._spellings = Spellings()
 
+    @property
+    def are_last(self) -> bool:
+        """Whether the columns follow all others, since their names are not known yet."""
+        return self.names == ALL
+
     def begin(self, base: sqlite3.Connection) -> None:
-        """Adds the columns whose names are known, after all others."""
+        """Adds the columns whose names are known."""
         for name in () if self.names == ALL else self.names:
             self._add(base, name)
 
@@ -306,23 +311,22 @@ class AttributeColumns:
 
 
 def _set_types(base: sqlite3.Connection, attributes: list[AttributeColumn]) -> None:
-    """Writes the types of columns into the text of the table, whose last columns they are. No
+    """Writes the types of columns into the text of the table, where they follow one another. No
     statement of SQLite changes a type without writing all rows anew."""
-    if not attributes:
-        return
-    select = "SELECT sql FROM sqlite_master WHERE type = 'table' AND name = 'features'"
-    (text,) = base.execute(select).fetchone()
     names = [quoted(each.column) for each in attributes]
-    end = "".join(f", {name}" for name in names) + ")"
-    if not text.endswith(end):
-        raise sqlite3.DatabaseError("the columns of attributes are not the last ones")
-    typed = "".join(f", {name} {each.type}" for name, each in zip(names, attributes)) + ")"
+    if not names:
+        return
+    untyped = "".join(f", {name}" for name in names)
+    typed = "".join(f", {name} {each.type}" for name, each in zip(names, attributes))
+    of_table = "type = 'table' AND name = 'features'"
+    (text,) = base.execute(f"SELECT sql FROM sqlite_master WHERE {of_table}").fetchone()
+    before, _, after = text.partition(untyped)
     base.execute("PRAGMA writable_schema = ON")
-    base.execute(
-        "UPDATE sqlite_master SET sql = ? WHERE type = 'table' AND name = 'features'",
-        (text[: -len(end)] + typed,),
-    )
+    base.execute(f"UPDATE sqlite_master SET sql = ? WHERE {of_table}", (before + typed + after,))
     base.execute("PRAGMA writable_schema = RESET")
+    types = {row[1]: row[2] for row in base.execute("PRAGMA table_info(features)")}
+    if any(types.get(each.column) != each.type for each in attributes):
+        raise sqlite3.DatabaseError("the types of columns cannot be written")
 
 
 class Attribute(NamedTuple):

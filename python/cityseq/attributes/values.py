@@ -4,10 +4,10 @@ from __future__ import annotations
 
 import json
 import re
-from collections.abc import Iterable, Iterator, Sequence
+from collections.abc import Callable, Iterable, Iterator, Sequence
 from contextlib import suppress
 from functools import lru_cache, partial
-from itertools import chain, islice
+from itertools import chain, compress, islice
 from typing import Any, Union
 
 from ..engine.library import Text
@@ -168,18 +168,20 @@ def _is_flat(text: bytes) -> bool:
 # ---- the values of some names
 
 
-def _of_match(found: re.Match[bytes]) -> Any:
-    """Returns a value that is no array and no object."""
-    group = found.lastindex
-    if group == 3:
-        return found[3].decode("utf-8")
-    if group == 1:
-        return whole(found[1].decode("ascii"))
-    if group == 2:
-        return fraction(found[2].decode("ascii"))
-    if group == 4:
-        return readable(json.loads(found[4]))
-    return {5: True, 6: False}.get(group or 0)
+def _read_text(spelled: bytes) -> str:
+    return readable(json.loads(spelled))
+
+
+# how the groups of `VALUE` are read
+READ: tuple[Callable[[bytes], Any], ...] = (
+    lambda spelled: whole(spelled.decode("ascii")),
+    lambda spelled: fraction(spelled.decode("ascii")),
+    bytes.decode,
+    _read_text,
+    lambda _: True,
+    lambda _: False,
+    lambda _: None,
+)
 
 
 @lru_cache(maxsize=64)
@@ -192,24 +194,44 @@ def _needles(names: tuple[str, ...]) -> list[bytes] | None:
     return [each.encode("utf-8", "surrogatepass") for each in spelled]
 
 
-def _sought(text: bytes, needle: bytes) -> Any:
-    """Returns the value of the first name that is spelled so: a string with a colon after it."""
-    at = text.find(needle)
-    while at >= 0:
-        found = VALUE.match(text, at + len(needle))
-        if found is not None:
-            return _of_match(found)
-        at = text.find(needle, at + 1)
-    return None
+def _sought(texts: Iterable[bytes], needle: bytes) -> list[Any]:
+    """Returns the values of a name in simple texts: a string with a colon after it is a name."""
+    found, length, match = [], len(needle), VALUE.match
+    for text in texts:
+        at, value = text.find(needle), None
+        while at >= 0:
+            member = match(text, at + length)
+            if member is not None and member.lastindex is not None:
+                value = READ[member.lastindex - 1](member[member.lastindex])
+                break
+            at = text.find(needle, at + 1)
+        found.append(value)
+    return found
 
 
-def _chosen(text: bytes, names: tuple[str, ...], needles: list[bytes] | None) -> Iterable[Any]:
-    """Returns the values of these names. Others are not read if no member is an array or an object,
-    and no name has an escape."""
-    has_escape = b"\\" in text and ESCAPED_NAME.search(text) is not None
-    if needles is None or has_escape or not _is_flat(text):
-        return map(_slowly(text).get, names)
-    return [_sought(text, needle) for needle in needles]
+def _is_simple(text: bytes) -> bool:
+    """Whether no member is an array or an object, and no name has an escape."""
+    return _is_flat(text) and (b"\\" not in text or ESCAPED_NAME.search(text) is None)
+
+
+def _has_flat(texts: Sequence[bytes], joined: bytes) -> bool:
+    """Whether all texts are flat. The empty ones are features without attributes."""
+    return b"[" not in joined and joined.count(b"{") + texts.count(b"") == len(texts)
+
+
+def _some(texts: Sequence[bytes], names: tuple[str, ...]) -> Columns:
+    """Returns the values of these names. Others are not read in simple texts."""
+    needles, joined = _needles(names), b"".join(texts)
+    if needles is not None and b"\\" not in joined and _has_flat(texts, joined):
+        return {name: _sought(texts, needle) for name, needle in zip(names, needles)}
+    hard = [needles is None or not _is_simple(text) for text in texts]
+    simple = [b"" if is_hard else text for is_hard, text in zip(hard, texts)] if any(hard) else texts
+    columns = {name: _sought(simple, needle) for name, needle in zip(names, needles or ())}
+    for row in compress(range(len(texts)), hard):
+        found = _slowly(texts[row])
+        for name in names:
+            columns.setdefault(name, [None] * len(texts))[row] = found.get(name)
+    return columns
 
 
 # ---- the values of all names
@@ -293,9 +315,7 @@ def columns_of(texts: Sequence[bytes], names: Asked) -> Columns:
     """
     if isinstance(names, str):
         return _all(texts)
-    needles = _needles(names)
-    rows = [_chosen(text, names, needles) for text in texts]
-    return {name: list(column) for name, column in zip(names, zip(*rows))}
+    return _some(texts, names)
 
 
 def _number_told(value: Any) -> Any:
@@ -304,13 +324,8 @@ def _number_told(value: Any) -> Any:
 
 
 def rows_of(texts: Sequence[bytes], names: Asked) -> list[dict[str, Any]]:
-    """Returns attributes of features as Python reads JSON."""
-    needles = None if isinstance(names, str) else _needles(names)
-    found = []
-    for text in texts:
-        if needles is None or b"\\" in text or not _is_flat(text):
-            found.append(told(text))
-        else:
-            values = [_number_told(_sought(text, needle)) for needle in needles]
-            found.append(dict(zip(names, values)))
-    return found
+    """Returns attributes of features as Python reads JSON. If names are given, others may lack."""
+    if isinstance(names, str) or any(b"\\" in text or not _is_flat(text) for text in texts):
+        return list(map(told, texts))
+    columns = _some(texts, names)
+    return [dict(zip(names, map(_number_told, row))) for row in zip(*columns.values())]

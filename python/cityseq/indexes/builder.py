@@ -170,6 +170,7 @@ class Builder:
         self.name, self.wanted, self._fid = checked_output(path), wanted, 0
         names = wanted.attributes
         self._attributes = None if names is None else AttributeColumns(names)
+        self._are_last = self._attributes is not None and self._attributes.are_last
         self._systems: Set[int] = set()  # of coordinates
         self._opened: Optional[sqlite3.Connection] = None
         self._usual: Optional[Tuple[Any, ...]] = None  # the uniform columns of the first feature
@@ -214,6 +215,8 @@ class Builder:
             geopackage.create(self._base)
             if self.wanted.footprints:
                 self._base.execute(footprints.TABLE)
+            if self._attributes is not None:
+                self._attributes.begin(self._base)
 
     def begin(self, number: int, header: bytes) -> Entry:
         """Begins the next stream, whose header is valid."""
@@ -254,9 +257,10 @@ class Builder:
             self._add_footprints(numbers, details.footprints, geometry)
         others = (numbers, geometry, made.line, made.begin, made.length, names)
         with telling_of(self.name):
-            stored = self._stored(uniform)
+            uniform = self._stored(uniform)
             values = self._values(details.attributes, numbers)
-            insert(self._base, "features", *others, *stored, *values)
+            last = (*uniform, *values) if self._are_last else (*values, *uniform)
+            insert(self._base, "features", *others, *last)
         self._cells.add(made.cells)
         self._ids.add(id_table.joined(hashes, numbers))
 
@@ -270,7 +274,7 @@ class Builder:
             insert(self._base, geopackage.FOOTPRINTS, numbers, made)
 
     def _values(self, met: Optional[Columns], numbers: range) -> Sequence[Column]:
-        """Returns the columns of attributes, which are the last ones of the table."""
+        """Returns the columns of attributes."""
         if self._attributes is None or met is None:
             return []
         return self._attributes.rows(self._base, met, numbers)
@@ -284,8 +288,8 @@ class Builder:
             self._usual = (*heights, *others, None)  # few ids need `id_exact`
         pairs = zip(columns, self._usual)
         differing = [place for place, (column, usual) in enumerate(pairs) if column != Same(usual)]
-        if self._attributes is not None:
-            differing = [len(columns) - 1]  # columns of attributes follow
+        if self._are_last:
+            differing = [len(columns) - 1]
         self._add_columns(differing[-1] + 1 if differing else 0)
         return columns[: self._count]
 
@@ -293,8 +297,6 @@ class Builder:
         """Adds uniform columns to the table, until it has so many."""
         usual = self._usual or geopackage.NO_FEATURE
         geopackage.add_columns(self._base, self._count, count, usual)
-        if self._attributes is not None and self._count < count:
-            self._attributes.begin(self._base)
         self._count = max(self._count, count)
 
     def report(self, number: int, report: Report) -> None:
