@@ -8,7 +8,7 @@ from __future__ import annotations
 import re
 import sqlite3
 import tempfile
-from collections.abc import Iterable, Iterator, Sequence
+from collections.abc import Iterable, Iterator, Mapping, Sequence
 from dataclasses import dataclass, field
 from typing import Any, NamedTuple
 
@@ -345,3 +345,11 @@ class Attribute(NamedTuple):
     type: str
     format: str | None
     first: int | None
+
+
+def properties_of(told: Mapping[str, Any], known: Mapping[str, Attribute]) -> dict[str, Any]:
+    """Returns the attributes of a feature by the names of their columns. Those that the index has
+    no columns for get such names too."""
+    columns = {each.name: each.column for each in known.values()}
+    names = ColumnNames([*COLUMNS, *TAKEN, *known])
+    return {columns.get(name) or names.new(name): value for name, value in told.items()}

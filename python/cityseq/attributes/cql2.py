@@ -16,7 +16,14 @@ LONGEST = 10_000  # characters
 DEEPEST = 100  # brackets and NOTs around each other
 MOST = 900  # values: older versions of SQLite take at most 999
 AROUND = 20  # characters of a filter that a fault shows
-GRAMMAR = r"""
+# the signs of names
+FIRST = (
+    r":_A-Za-z\u00c0-\u00d6\u00d8-\u00f6\u00f8-\u02ff\u0370-\u037d\u037f-\u1fff\u200c\u200d"
+    r"\u2070-\u218f\u2c00-\u2fef\u3001-\ud7ff\uf900-\ufdcf\ufdf0-\ufffd\U00010000-\U000effff"
+)
+REST = rf"{FIRST}.0-9\u0300-\u036f\u203f\u2040"
+WORDS = ("AND", "OR", "NOT", "LIKE", "BETWEEN", "IN", "IS", "NULL")
+GRAMMAR = rf"""
 ?start: either
 either: both (_OR both)*
 both: factor (_AND factor)*
@@ -38,19 +45,13 @@ STRING: /'(?:[^'\\]|''|\\'|\\(?!'))*'/
 QUOTED: /"(?:[^"]|"")+"/
 NUMBER: /[-+]?(?:[0-9]+(?:\.[0-9]*)?|\.[0-9]+)(?:[eE][-+]?[0-9]+)?/
 KIND.3: /(?:DATE|TIMESTAMP)(?=\s*\()/i
-BOOLEAN.2: /(?:TRUE|FALSE)(?![\w.:])/i
-_AND.2: /AND(?![\w.:])/i
-_OR.2: /OR(?![\w.:])/i
-_NOT.2: /NOT(?![\w.:])/i
-_LIKE.2: /LIKE(?![\w.:])/i
-_BETWEEN.2: /BETWEEN(?![\w.:])/i
-_IN.2: /IN(?![\w.:])/i
-_IS.2: /IS(?![\w.:])/i
-_NULL.2: /NULL(?![\w.:])/i
-NAME: /(?!\d)[\w:][\w.:]*/
-%import common.WS
-%ignore WS
-"""
+BOOLEAN.2: /(?:TRUE|FALSE)(?![{REST}])/i
+NAME: /[{FIRST}][{REST}]*/
+SPACE: /\s+/
+%ignore SPACE
+""" + "\n".join(
+    rf"_{word}.2: /{word}(?![{REST}])/i" for word in WORDS
+)
 
 
 class Instant(NamedTuple):

@@ -16,6 +16,8 @@ from itertools import chain
 from queue import Empty, LifoQueue
 from typing import Any, Callable, Generator, Iterator, NamedTuple
 
+from ..attributes.columns import Attribute, properties_of
+from ..attributes.values import told
 from ..coordinates.boxes import Extent
 from ..engine.extents import World
 from ..engine.faults import OutOfDate, ReadFault
@@ -135,6 +137,7 @@ class Found(NamedTuple):
         extent: The least x and y and the greatest x and y, if it has a vertex.
         footprint: Its ground as polygons. Empty if the index has none, or only the extent.
         heights: The least and the greatest z, if it has a vertex.
+        attributes: Its attributes as Python reads JSON, by the names of the columns.
     """
 
     line: int
@@ -147,6 +150,7 @@ class Found(NamedTuple):
     extent: Extent | None
     heights: tuple[float, float] | None
     footprint: list[Polygon]
+    attributes: dict[str, Any]
 
 
 @dataclass(frozen=True)
@@ -177,13 +181,15 @@ class Block:
         """Returns the facts of each feature."""
         fids = [self.fids[self.numbers[raw.line - 2]] for raw in self.raws]
         with self.source.pool.index() as index:
-            footprints = index.footprints(fids)
-        return [self._found(raw, footprints.get(fid)) for raw, fid in zip(self.raws, fids)]
+            footprints, known = index.footprints(fids), index.attributes
+        return [self._found(raw, footprints.get(fid), known) for raw, fid in zip(self.raws, fids)]
 
-    def _found(self, raw: RawFeature, footprint: Any) -> Found:
+    def _found(self, raw: RawFeature, footprint: Any, known: dict[str, Attribute]) -> Found:
         begin, end = raw.begin + raw.id_begin + 1, raw.begin + raw.id_begin + raw.id_length - 1
         types, lods = names_of_types(raw.types), names_of_lods(raw.lods)
         z, axis, extent = raw.ranges[2], self.source.world.z, self._extent(raw)
+        place = raw.begin + raw.attributes_begin
+        attributes = told(bytes(self.part[place : place + raw.attributes_length]))
         return Found(
             self.numbers[raw.line - 2],
             raw.length,
@@ -195,6 +201,7 @@ class Block:
             extent,
             axis.interval(z.least, z.greatest) if z.some and axis is not None else None,
             _ground(footprint, extent, self.source.stream.path),
+            properties_of(attributes, known),
         )
 
     def _extent(self, raw: RawFeature) -> Extent | None:

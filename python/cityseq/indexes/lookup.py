@@ -285,7 +285,7 @@ class Index:
         paths = {each.number: each.path for each in self.streams}
         try:
             told = quoted(value) if isinstance(value, str) else f"{value}"
-            where = f"line {int(line)} of {shown(paths[stream])}"
+            where = f"line {int(line)} of {shown(os.path.basename(paths[stream]))}"
             return f"feature {quoted(id_of(name, exact))}, in {where}, has {told}"
         except (AttributeError, KeyError, TypeError, ValueError):
             raise OutOfDate.because(INDEX_CHANGED, self.path) from None

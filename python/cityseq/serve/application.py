@@ -24,6 +24,7 @@ from .html import Pages
 from .links import Links, base_of, host_of, is_known
 from .parameters import Query
 from .problems import Problem, forget, logged, problem_of
+from .queryables import of_attributes
 from .resources import table
 from .settings import Settings
 
@@ -194,10 +195,14 @@ class Server:
 
     async def answer(self, resource: Resource, request: web.Request) -> web.StreamResponse:
         """Answers a request for a resource."""
+        known = [*resource.known]
+        if resource.filters:
+            collection = self.catalogue.find(request.match_info["collectionId"])
+            known += of_attributes(collection.attributes.values(), known)
         context = Context(
             request,
             resource,
-            Query(request.raw_path.partition("?")[2], resource.known),
+            Query(request.raw_path.partition("?")[2], known),
             Links(base_of(request, self.settings)),
             self,
         )

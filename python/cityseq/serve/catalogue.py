@@ -3,11 +3,12 @@ from __future__ import annotations
 
 import os
 import re
-from collections.abc import Iterator
+from collections.abc import Iterator, Mapping
 from dataclasses import dataclass
 from functools import cached_property
 from hashlib import sha256
 
+from ..attributes.columns import Attribute
 from ..coordinates.systems import System
 from ..engine.faults import RequestError
 from ..indexes.index_pages import OpenStream, Pool
@@ -29,9 +30,11 @@ class Collection(OpenStream):
 
     Attributes:
         id: Its name in URLs.
+        attributes: The attributes that queries can name, by their columns.
     """
 
     id: str
+    attributes: Mapping[str, Attribute]
 
     @cached_property
     def system(self) -> System:
@@ -77,9 +80,11 @@ class Catalogue:
         for pool in self._pools:
             with pool.index() as index:
                 for stream in index.streams:
-                    self._add(pool, stream)
+                    self._add(pool, stream, index.attributes)
 
-    def _add(self, pool: Pool, stream: IndexedStream) -> None:
+    def _add(
+        self, pool: Pool, stream: IndexedStream, attributes: Mapping[str, Attribute]
+    ) -> None:
         if pool.base is not None and stream.is_slow:
             raise RequestError(f"{stream.path}: {NO_RANGES}")
         name = first = name_of(stream.told_path)
@@ -87,7 +92,7 @@ class Catalogue:
         while name in self._collections:
             number += 1
             name = f"{first}-{number}"
-        self._collections[name] = Collection(pool, stream, name)
+        self._collections[name] = Collection(pool, stream, name, attributes)
 
     def __iter__(self) -> Iterator[Collection]:
         return iter(self._collections.values())

@@ -32,6 +32,7 @@ class Resource:
         conforms: The classes of requirements that it conforms to.
         relations: The links to it from the first page: relation, title and format.
         description: More about it. A resource that has one takes a body.
+        filters: Whether it has a parameter for each attribute of its collection.
     """
 
     path: str
@@ -44,6 +45,7 @@ class Resource:
     conforms: tuple[str, ...] = ()
     relations: tuple[tuple[str, str, Format], ...] = ()
     description: str = ""
+    filters: bool = False
 
     @property
     def methods(self) -> tuple[str, ...]:

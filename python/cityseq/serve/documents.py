@@ -10,11 +10,12 @@ from aiohttp import web
 from .. import __version__
 from ..coordinates.boxes import edges
 from ..coordinates.systems import CRS84
-from .catalogue import Collection
+from .catalogue import Catalogue, Collection
 from .context import Context, Resource
-from .formats import CITY_JSON, CITY_JSON_SEQ, HTML, ITEMS, JSON, LINES, PROBLEM, Format
+from .formats import CITY_JSON, CITY_JSON_SEQ, HTML, ITEMS, JSON, LINES, PROBLEM, SCHEMA, Format
 from .links import Link, Links
 from .parameters import STRING, Object, Parameter
+from .queryables import RELATION, of_all
 
 TITLE = "City models by cityseq"
 DESCRIPTION = (
@@ -86,13 +87,16 @@ def _variables(path: str, names: Sequence[str]) -> list[Object]:
     ]
 
 
-def _operation(resource: Resource, names: Sequence[str]) -> Object:
+def _operation(resource: Resource, catalogue: Catalogue) -> Object:
+    names = [each.id for each in catalogue]
     is_get = "GET" in resource.methods
     given = [
         {"$ref": f"#/components/parameters/{each.name}"} if is_get else each.told()
         for each in resource.parameters
     ]
     formats = [each.told() for each in resource.known if each not in resource.parameters]
+    if resource.filters:
+        formats += [each.told() for each in of_all(catalogue, resource.known)]
     operation = {
         "operationId": resource.name,
         "summary": resource.summary,
@@ -106,7 +110,7 @@ def _operation(resource: Resource, names: Sequence[str]) -> Object:
 
 def definition(context: Context) -> Object:
     """Returns the definition of the API."""
-    names = [each.id for each in context.server.catalogue]
+    catalogue = context.server.catalogue
     resources = context.server.resources
     gets = [each for each in resources if "GET" in each.methods]
     return {
@@ -115,7 +119,7 @@ def definition(context: Context) -> Object:
         "servers": [{"url": context.links.base}],
         "tags": [{"name": FEATURES}, {"name": JUDGING}],
         "paths": {
-            each.path: {each.methods[0].lower(): _operation(each, names)} for each in resources
+            each.path: {each.methods[0].lower(): _operation(each, catalogue)} for each in resources
         },
         "components": {
             "parameters": {one.name: one.told() for each in gets for one in each.parameters},
@@ -193,6 +197,7 @@ def _described(links: Links, collection: Collection, own: list[Link] | None = No
                 )
                 for each in ITEMS
             ),
+            links.to(f"{path}/queryables", RELATION, "What queries can name", SCHEMA),
         ],
         "features": collection.stream.features,
         "storageExtent": None if extent is None else edges(extent, False),

@@ -3,13 +3,11 @@ feature as a CityJSON object of its own, with every number as the stream spells 
 from __future__ import annotations
 
 import json
-import re
-from functools import partial
 from typing import Any
 
+from ..attributes.values import members
 from ..coordinates.boxes import Extent, edges, pieces, short
 from ..coordinates.systems import System
-from ..engine.world import deep
 from ..indexes.footprints import Polygon
 from ..indexes.index_pages import Found
 
@@ -69,40 +67,12 @@ def feature_of(found: Found, system: System, asked: str | None) -> dict[str, Any
             "zmax": short(high),
             "line": found.line,
             "bytes": found.size,
+            **found.attributes,
         },
     }
 
 
 OF_FEATURES = ("CityObjects", "vertices", "appearance")  # members that a feature has itself
-_DECODER = json.JSONDecoder(parse_float=str, parse_int=str, parse_constant=str)
-_SPACE = re.compile(r"[ \t\r\n]*")
-
-
-def _skip(text: str, at: int) -> int:
-    """Returns where the white space from a place on ends."""
-    found = _SPACE.match(text, at)
-    return at if found is None else found.end()
-
-
-def _value(text: str, at: int) -> tuple[Any, int]:
-    """Returns a value and where it ends."""
-    return deep(partial(_DECODER.raw_decode, text, at))
-
-
-def members(line: bytes) -> dict[str, str]:
-    """Returns the members of an object, each as it is spelled."""
-    text = line.decode("utf-8")
-    found: dict[str, str] = {}
-    at = _skip(text, _skip(text, 0) + 1)
-    while text[at] != "}":
-        name, at = _value(text, at)
-        begin = _skip(text, _skip(text, at) + 1)
-        _, end = _value(text, begin)
-        found.setdefault(name, text[begin:end])
-        at = _skip(text, end)
-        if text[at] == ",":
-            at = _skip(text, at + 1)
-    return found
 
 
 def whole(header: bytes, line: bytes) -> bytes:

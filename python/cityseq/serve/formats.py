@@ -4,8 +4,10 @@ from __future__ import annotations
 import json
 from collections.abc import Iterator, Sequence
 from dataclasses import dataclass
+from functools import partial
 from typing import Any
 
+from ..engine.world import deep
 from .problems import Problem
 
 LONGEST = 100  # characters of the name of a file
@@ -67,17 +69,19 @@ OPENAPI = Format(
     "OpenAPI 3.0",
     ("application/vnd.oai.openapi+json", "application/json"),
 )
+SCHEMA = Format("schema", "application/schema+json", "JSON Schema", ("application/json",))
 PROBLEM = Format("problem", "application/problem+json", "a problem", ("application/json",))
 LINES = Format("lines", "application/x-ndjson", "an object a line")
 PAGES = (JSON, HTML)  # of documents
+SCHEMAS = (SCHEMA, HTML)
 ITEMS = (GEOJSON, CITY_JSON_SEQ, HTML)  # of pages of features
 ITEM = (GEOJSON, CITY_JSON, CITY_JSON_SEQ, HTML)  # of a feature
-ALIASES = {"json": (GEOJSON, OPENAPI), "cityjson": (CITY_JSON,), "cityjsonseq": (CITY_JSON_SEQ,)}
+ALIASES = {"json": (GEOJSON, OPENAPI, SCHEMA), "cityjson": (CITY_JSON,), "cityjsonseq": (CITY_JSON_SEQ,)}
 
 
 def dumped(told: Any) -> bytes:
     """Returns JSON in ASCII, so that a lone surrogate in an id is an escape."""
-    return json.dumps(told, separators=(",", ":")).encode("ascii")
+    return deep(partial(json.dumps, told, separators=(",", ":"))).encode("ascii")
 
 
 def accepted(header: str) -> Iterator[tuple[str, float]]:

@@ -1,8 +1,10 @@
 """Pages for people, from templates that escape all texts."""
 from __future__ import annotations
 
+import json
 import os
 from collections.abc import Sequence
+from functools import partial
 from typing import Any
 
 import jinja2
@@ -10,6 +12,7 @@ import jinja2
 from .. import __version__
 from ..coordinates.boxes import around
 from ..engine.escape import shown
+from ..engine.world import deep
 from ..indexes.index_pages import Found
 from .problems import Problem
 
@@ -23,6 +26,13 @@ def brief(text: str) -> str:
     """Returns a text from a stream as a page shows it: one line, without the rest if it is long.
     Characters that cannot be printed are escaped, so that none changes the line."""
     return shown(text if len(text) <= LONGEST else f"{text[:LONGEST]}\u2026")
+
+
+def told(value: Any) -> str:
+    """Returns a value of an attribute as a page shows it: a text, or JSON."""
+    if isinstance(value, str):
+        return value
+    return deep(partial(json.dumps, value, ensure_ascii=False))
 
 
 def number(value: float) -> str:
@@ -76,7 +86,7 @@ class Pages:
             lstrip_blocks=True,
             undefined=jinja2.StrictUndefined,
         )
-        self._templates.filters.update(brief=brief, number=number, boxes=boxes)
+        self._templates.filters.update(brief=brief, told=told, number=number, boxes=boxes)
         self._templates.globals.update(
             version=__version__, width=f"{WIDTH:g}", height=f"{HEIGHT:g}"
         )

@@ -22,10 +22,11 @@ from .formats import CITY_JSON, CITY_JSON_SEQ, GEOJSON, HTML, JSON, Format, dump
 from .links import Link, header_of
 from .parameters import MOST_ON_A_PAGE, ON_A_PAGE, SELECTION, USUAL_LIMIT, Query, unescaped
 from .problems import Problem
+from .queryables import filter_of, of_attributes
 
 LISTS = ("ids", "type", "lod")
 SELECTS = [each.name for each in SELECTION]
-NOT_SELECTIVE = {"datetime", "bbox-crs"}
+NOT_SELECTIVE = {"datetime", "bbox-crs", "filter-lang", "filter-crs"}
 A_BOX = "0,0,0,0"  # any box: a query that selects nothing still needs a stream that has places
 STEP = Decimal("1e-9")  # a transformed box is rounded outward to a multiple of this
 WAYS = (ROUND_FLOOR, ROUND_FLOOR, ROUND_CEILING, ROUND_CEILING)
@@ -145,6 +146,10 @@ class Items(Cut):
         self.limit, self.after = query.limit(self.most, usual), query.number("after")
         query.check_time()
         self._selected = _selected(query, self.collection)
+        attributes, known = self.collection.attributes, context.resource.known
+        self._filter = filter_of(query, attributes, known)
+        if "filter-crs" in query:
+            self.collection.system.asked(query.text("filter-crs"), "filter-crs")
         if query.text("mark") not in (None, self.collection.mark):
             raise Problem(
                 410,
@@ -153,7 +158,7 @@ class Items(Cut):
             )
         self.selects: dict[str, Any] = {
             name: query.texts(name) if name in LISTS else query.text(name)
-            for name in SELECTS
+            for name in [*SELECTS, *(each.name for each in of_attributes(attributes.values(), known))]
             if name in query
         }
 
@@ -168,7 +173,7 @@ class Items(Cut):
         after = collection.stream.features if selected.is_none else self.after
         with collection.pool.index() as index:
             ids, types, lods = map(self.query.texts, LISTS)
-            work = index.work(ids, types, lods, selected.text)
+            work = index.work(ids, types, lods, selected.text, self._filter)
             if not self.has_limit and work.lods is None and selected.reaches is None:
                 # this takes less time than to make a page
                 if index.has_more(work, collection.stream, after, self.limit):

@@ -89,7 +89,7 @@ class Links:
     def url(self, path: str, **parameters: Any) -> str:
         """Returns the URL of a path, with parameters. Those that are None are left out."""
         given = {name: value for name, value in parameters.items() if value is not None}
-        text = "&".join(f"{name}={_value(value)}" for name, value in given.items())
+        text = "&".join(f"{quote_plus(name)}={_value(value)}" for name, value in given.items())
         return f"{self.base}{path}" + (f"?{text}" if text else "")
 
     def local(self, path: str) -> str:

@@ -18,6 +18,7 @@ from .settings import MOST_REPORTS, REPORTS, Limits
 Object = dict[str, Any]
 USUAL_LIMIT = 1_000
 ON_A_PAGE, MOST_ON_A_PAGE = 50, 1_000  # features as HTML: usually, and at most
+LANGUAGE = "cql2-text"
 STRING: Object = {"type": "string"}
 TEXTS: Object = {"type": "array", "items": STRING}
 FLAG: Object = {"type": "boolean", "default": False}
@@ -108,6 +109,18 @@ SELECTION = (
     Parameter("ids", "Features with one of these ids.", TEXTS),
     Parameter("type", "Features with a city object of one of these types.", TEXTS),
     Parameter("lod", "Features with a geometry of one of these LoDs.", TEXTS),
+    Parameter(
+        "filter",
+        "Features whose attributes fit this filter, in CQL2 text. It names queryables of the"
+        " collection.",
+        STRING,
+    ),
+    Parameter(
+        "filter-lang",
+        "The language of filter.",
+        {"type": "string", "enum": [LANGUAGE], "default": LANGUAGE},
+    ),
+    Parameter("filter-crs", "The system of geometries in filter. It can have none.", URI),
 )
 PAGING = (
     Parameter(
@@ -209,8 +222,10 @@ class Query:
             if name in self._raw:
                 raise Problem(400, f"the parameter {name} is given twice")
             self._raw[name] = value
-        if self._raw.get("f") == "html" and not self._raw.get("bbox", " "):
-            del self._raw["bbox"]  # the field of the form is empty
+        if self._raw.get("f") == "html":
+            for field in ("bbox", "filter"):  # fields of the form, which may be empty
+                if not self._raw.get(field, " "):
+                    del self._raw[field]
 
     def __contains__(self, name: str) -> bool:
         return name in self._raw

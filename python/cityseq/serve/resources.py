@@ -5,9 +5,10 @@ from __future__ import annotations
 from .bodies import check, filter
 from .context import Resource
 from .documents import api, collection, collections, conformance, landing
-from .formats import CITY_JSON_SEQ, HTML, ITEM, ITEMS, JSON, LINES, OPENAPI, PAGES
+from .formats import CITY_JSON_SEQ, HTML, ITEM, ITEMS, JSON, LINES, OPENAPI, PAGES, SCHEMAS
 from .items import item, items
 from .parameters import CRS, QUERY, SUMMARY, of_items, of_judging
+from .queryables import FILTERS, QUERYABLES, has_filters, queryables
 from .settings import Limits
 
 CONF = "http://www.opengis.net/spec/ogcapi-features-1/1.0/conf/"
@@ -41,6 +42,15 @@ DOCUMENTS = (
         relations=(("data", "The collections", JSON),),
     ),
     Resource(ONE, "describeCollection", "A collection", collection, PAGES, statuses=(404,)),
+    Resource(
+        f"{ONE}/queryables",
+        "getQueryables",
+        "The attributes that queries can name",
+        queryables,
+        SCHEMAS,
+        statuses=(404,),
+        conforms=QUERYABLES,
+    ),
 )
 ANSWERED = (
     "The header and the kept lines, byte for byte. The answer begins before the body has ended, so"
@@ -59,7 +69,8 @@ def _features(limits: Limits) -> tuple[Resource, ...]:
             ITEMS,
             of_items(limits),
             (404, 410, 502),
-            (GEOJSON, SYSTEMS),
+            (GEOJSON, SYSTEMS, *(FILTERS if has_filters() else ())),
+            filters=True,
         ),
         Resource(
             f"{PAGE}/{{featureId}}", "getFeature", "A feature", item, ITEM, (CRS,), (404, 502)
