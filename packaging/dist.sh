@@ -25,7 +25,7 @@ name=cityseq-$version-linux-x86_64
 documents=$scratch/$name/share/doc/cityseq
 PREFIX=/$name DESTDIR=$scratch LIBDIR='' ZSHDIR='' RELOCATABLE=1 packaging/install.sh install
 mkdir -p "$documents/examples"
-cp README.md CHANGELOG.md SECURITY.md docs/GUIDE.md docs/report.png docs/RULES.md \
+cp README.md CHANGELOG.md SECURITY.md docs/GUIDE.md docs/RULES.md \
   docs/VERSIONS.md out/NOTICES "$documents/"
 cp c/example.c examples/*.city.jsonl "$documents/examples/"
 settle "$scratch/$name"
