@@ -34,7 +34,7 @@ _cityseq_run() {
       mapfile -t COMPREPLY < <(compgen -W 'sarif' -- "$current")
       return
       ;;
-    --line-limit | --depth | -j | --jobs | --part-size | --cluster | --max-reports | --id | --lod | --bbox | --limit | --base | --level | --title | --host | --port | --url | --cors | --max-requests | --max-bodies | --max-body | --max-whole | --max-features | --max-seconds | --idle-seconds | --min-rate | --stop-seconds)
+    --line-limit | --depth | -j | --jobs | --part-size | --cluster | --max-reports | --id | --lod | --bbox | --limit | --where | --base | --level | --attributes | --title | --host | --port | --url | --cors | --max-requests | --max-bodies | --max-body | --max-whole | --max-features | --max-seconds | --idle-seconds | --min-rate | --stop-seconds)
       return
       ;;
   esac
@@ -49,9 +49,9 @@ _cityseq_run() {
     filter)
       options='
         --line-limit --depth --keep-going --tree --exclude --id --ids-from --type --lod --bbox
-        --limit --index --base -o --output --output-dir --keep-folders --keep-partial --level
-        --files-from --null -j --jobs --part-size --cluster --json --sha256 --max-reports
-        --summary --progress -q --quiet --record --resume -h --help'
+        --limit --index --where --base -o --output --output-dir --keep-folders --keep-partial
+        --level --files-from --null -j --jobs --part-size --cluster --json --sha256
+        --max-reports --summary --progress -q --quiet --record --resume -h --help'
       files=yes
       ;;
     info)
@@ -62,9 +62,9 @@ _cityseq_run() {
       ;;
     index)
       options='
-        --line-limit --depth --keep-going --tree -o --output --footprints --show --refresh
-        --files-from --null -j --jobs --part-size --cluster --json --max-reports --summary
-        --progress -q --quiet -h --help'
+        --line-limit --depth --keep-going --tree -o --output --footprints --attributes --show
+        --refresh --files-from --null -j --jobs --part-size --cluster --json --max-reports
+        --summary --progress -q --quiet -h --help'
       files=yes
       ;;
     pack)
