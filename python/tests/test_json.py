@@ -80,7 +80,8 @@ class Documented(InFolder):
             self.assertEqual(told["version"], 1)
             fits_the_schema(told)
             if told["kind"] in ("result", "record"):
-                wanted = {name: types for name, types in OPTIONS.items() if name != "whole"}
+                optional = {"whole", "where"} - set(told["options"])
+                wanted = {name: OPTIONS[name] for name in OPTIONS if name not in optional}
                 self.fits(
                     told["options"],
                     wanted if told["command"] == "filter" else dict(list(wanted.items())[:4]),
