@@ -184,7 +184,9 @@ class AttributeColumn:
                 name for name in self.formats if all(map(FORMATS[name].fullmatch, texts))
             ]
 
-    def column_of(self, values: list[Any], spellings: Spellings, number: int, fids: range) -> Column:
+    def column_of(
+        self, values: list[Any], spellings: Spellings, number: int, fids: range
+    ) -> Column:
         """Returns values as rows have them. Spellings that may be needed at the end are kept."""
         if self.is_text:
             return values if self.kinds == TEXT else list(map(_spelling, values))
@@ -295,9 +297,7 @@ class AttributeColumns:
         bools = f"CASE {name} WHEN 1 THEN 'true' ELSE 'false' END"
         is_number = f"typeof({name}) IN ('integer', 'real')"
         if attribute.first.get(BOOL, attribute.only_bools) < attribute.only_bools:
-            base.execute(
-                f"{update}{bools} WHERE fid < ? AND {is_number}", (attribute.only_bools,)
-            )
+            base.execute(f"{update}{bools} WHERE fid < ? AND {is_number}", (attribute.only_bools,))
         base.execute(f"{update}spelling({name}) WHERE {is_number}")
         base.executemany(f"{update}? WHERE fid = ?", self._spellings.of(number))
 

@@ -6,6 +6,7 @@ from __future__ import annotations
 import re
 from decimal import Decimal, InvalidOperation
 from functools import lru_cache
+from itertools import chain
 from typing import Any, NamedTuple, Union
 
 from ..engine.escape import shown
@@ -13,8 +14,8 @@ from ..engine.faults import RequestError
 from .columns import FORMATS
 
 LONGEST = 10_000  # characters
-DEEPEST = 100  # brackets and NOTs around each other
-MOST = 900  # values: older versions of SQLite take at most 999
+DEEPEST = 20  # AND in OR in AND, and so on: the parser of SQLite has a small stack
+MOST = 800  # comparisons and values: SQLite takes at most 999 of each
 AROUND = 20  # characters of a filter that a fault shows
 # the signs of names
 FIRST = (
@@ -41,7 +42,7 @@ name: NAME | QUOTED
 number: NUMBER
 instant: KIND "(" STRING ")"
 OPERATOR: "<>" | "<=" | ">=" | "=" | "<" | ">"
-STRING: /'(?:[^'\\]|''|\\'|\\(?!'))*'/
+STRING: /'(?:[^'\\]|''|\\['\\]|\\(?!['\\]))*'/
 QUOTED: /"(?:[^"]|"")+"/
 NUMBER: /[-+]?(?:[0-9]+(?:\.[0-9]*)?|\.[0-9]+)(?:[eE][-+]?[0-9]+)?/
 KIND.3: /(?:DATE|TIMESTAMP)(?=\s*\()/i
@@ -120,7 +121,7 @@ class Joined(NamedTuple):
 
 
 Filter = Union[Constant, Comparison, Like, Between, Among, Null, Not, Joined]
-QUOTE = re.compile(r"\\'|''")  # in a text
+QUOTE = re.compile(r"(\\\\)|\\'|''")  # in a text
 TURNED = {"<": ">", ">": "<", "<=": ">=", ">=": "<="}
 
 
@@ -137,15 +138,23 @@ def _number(spelled: str) -> Decimal:
         return Decimal(f"{sign}{'1e-9999' if power.startswith('-') else 'Infinity'}")
 
 
+def _joined(word: str, parts: list[Any]) -> Any:
+    """Joins filters, of which some may be joined by this word already."""
+    if len(parts) == 1:
+        return parts[0]
+    inner = (each.inner if getattr(each, "word", "") == word else (each,) for each in parts)
+    return Joined(word, tuple(chain.from_iterable(inner)))
+
+
 class _Tree:
     """Makes a filter of what the grammar finds. The methods have the names of the rules, and take
     what was made of the parts."""
 
     def either(self, parts: list[Any]) -> Any:
-        return Joined("OR", tuple(parts)) if len(parts) > 1 else parts[0]
+        return _joined("OR", parts)
 
     def both(self, parts: list[Any]) -> Any:
-        return Joined("AND", tuple(parts)) if len(parts) > 1 else parts[0]
+        return _joined("AND", parts)
 
     def negation(self, parts: list[Any]) -> Not:
         return Not(parts[0])
@@ -188,7 +197,7 @@ class _Tree:
         return text[1:-1].replace('""', '"') if text.startswith('"') else text
 
     def text(self, parts: list[Any]) -> str:
-        return QUOTE.sub("'", str(parts[0])[1:-1])
+        return QUOTE.sub(lambda found: found[1] or "'", str(parts[0])[1:-1])
 
     def number(self, parts: list[Any]) -> Decimal:
         return _number(str(parts[0]))
@@ -200,7 +209,9 @@ class _Tree:
         kind = "date" if str(parts[0]).upper() == "DATE" else "date-time"
         text = self.text(parts[1:])
         if FORMATS[kind].fullmatch(text) is None:
-            raise RequestError(f"the filter has a {kind} that is none as of RFC 3339: {shown(text)}")
+            raise RequestError(
+                f"the filter has a {kind} that is none as of RFC 3339: {shown(text)}"
+            )
         return Instant(kind, text)
 
 

@@ -23,6 +23,7 @@ READABLE = 4_000  # digits of a whole number that Python reads
 SPACE = re.compile(r"[ \t\r\n]*")
 MINUS_ZERO = re.compile(rb"-0(?![\d.])")
 DIGITS = 15  # that each float keeps
+SPACED = re.compile(rb"[ \t\r\n]:")
 BETWEEN = re.compile(r"[ \t\r\n]*[,:}]")
 ESCAPED_NAME = re.compile(rb'\\.[^"\\]*"[ \t\r\n]*:')
 VALUE = re.compile(
@@ -225,7 +226,9 @@ def _some(texts: Sequence[bytes], names: tuple[str, ...]) -> Columns:
     if needles is not None and b"\\" not in joined and _has_flat(texts, joined):
         return {name: _sought(texts, needle) for name, needle in zip(names, needles)}
     hard = [needles is None or not _is_simple(text) for text in texts]
-    simple = [b"" if is_hard else text for is_hard, text in zip(hard, texts)] if any(hard) else texts
+    simple = (
+        [b"" if is_hard else text for is_hard, text in zip(hard, texts)] if any(hard) else texts
+    )
     columns = {name: _sought(simple, needle) for name, needle in zip(names, needles or ())}
     for row in compress(range(len(texts)), hard):
         found = _slowly(texts[row])
@@ -250,12 +253,19 @@ def _read(texts: Sequence[bytes]) -> list[Any]:
     return list(map(_slowly, texts))
 
 
+def _differ(text: bytes, count: int) -> bool:
+    """Whether no name of an object is repeated, if so many are different: no more colons may follow
+    a name. False if that takes a closer look."""
+    if text.count(b":") == count:
+        return True
+    return text.count(b'":') == count and SPACED.search(text) is None
+
+
 def _objects(texts: Sequence[bytes]) -> list[dict[str, Any]]:
     """Returns the attributes of features. Floats are spelled."""
     objects = _read(texts)
     for number, (text, each) in enumerate(zip(texts, objects)):
-        # as many names as strings with a colon after them: none is repeated
-        if not isinstance(each, dict) or not _is_flat(text) or text.count(b'":') != len(each):
+        if not isinstance(each, dict) or not _is_flat(text) or not _differ(text, len(each)):
             objects[number] = _slowly(text)
     return objects
 
@@ -297,9 +307,7 @@ def _transposed(objects: list[dict[str, Any]]) -> Columns:
 
 def _all(texts: Sequence[bytes]) -> Columns:
     """Returns the values of all attributes, or of more than there may be."""
-    columns = {
-        name: _numbers(values) for name, values in _transposed(_objects(texts)).items()
-    }
+    columns = {name: _numbers(values) for name, values in _transposed(_objects(texts)).items()}
     if any(b"\\u" in text for text in texts):  # only this makes a text that needs an escape
         for name, values in columns.items():
             columns[name] = [readable(value) if type(value) is str else value for value in values]

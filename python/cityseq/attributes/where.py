@@ -38,6 +38,8 @@ LIKE, INSTANT = "cityseq_like", "cityseq_instant"  # functions of SQL
 WILD = re.compile(r"\\([%_\\])|(%)|(_)|(.)", re.DOTALL)
 BELOW = {"<": "<=", "<=": "<=", ">": ">", ">=": ">"}  # than a value: the same of the number below
 ABOVE = {"<": "<", "<=": "<", ">": ">=", ">=": ">="}
+OTHER = {"AND": "OR", "OR": "AND"}
+OPPOSITE = {"=": "<>", "<>": "=", "<": ">=", ">=": "<", ">": "<=", "<=": ">"}
 Number = Union[int, float]
 
 
@@ -162,6 +164,7 @@ class Translation:
         """
         self._columns, self._in_the_way = columns, in_the_way
         self._values: list[Any] = []
+        self._left = MOST  # comparisons and values
 
     def condition(self, filter: Filter) -> Condition:
         """Returns the condition.
@@ -170,33 +173,41 @@ class Translation:
             RequestError: A column is not known, a value is of another type than its column, or the
                 filter is too deep or has too many values.
         """
-        sql = self._sql(filter, 0)
-        if len(self._values) > MOST:
-            raise RequestError(f"a filter has at most {MOST} values, and not {len(self._values):,}")
+        sql = self._sql(filter, True, 0)
         return Condition(sql, tuple(self._values))
 
-    def _sql(self, filter: Filter, depth: int) -> str:
-        if depth > DEEPEST:
-            raise RequestError(f"a filter has at most {DEEPEST} brackets and NOT in each other")
+    def _sql(self, filter: Filter, is_so: bool, depth: int) -> str:
+        """Returns the condition that a filter is true, or that it is false, at a depth."""
+        while isinstance(filter, Not):
+            filter, is_so = filter.inner, not is_so
+        if isinstance(filter, Joined):
+            if depth == DEEPEST:
+                raise RequestError(f"a filter has at most {DEEPEST} times AND in OR in AND")
+            word = filter.word if is_so else OTHER[filter.word]
+            parts = [self._sql(each, is_so, depth + 1) for each in filter.inner]
+            return f"({f' {word} '.join(parts)})"
+        self._count(1)
         match filter:
             case Constant(value):
-                return "1" if value else "0"
-            case Not(inner):
-                return f"NOT ({self._sql(inner, depth + 1)})"
-            case Joined(word, inner):
-                return _balanced(word, [self._sql(each, depth + 1) for each in inner])
+                return "1" if value is is_so else "0"
             case Null(name):
-                return f"{_sql_name(self._column(name))} IS NULL"
+                return f"{_sql_name(self._column(name))} {'IS' if is_so else 'NOT'} NULL"
             case Like(name, pattern):
-                return self._like(self._column(name), pattern)
+                return self._like(self._column(name), pattern, is_so)
             case Among(name, values):
-                return self._among(self._column(name), values)
+                return self._among(self._column(name), values, is_so)
             case Between(name, low, high):
-                column = self._column(name)
-                edges = self._compared(column, ">=", low), self._compared(column, "<=", high)
-                return f"({edges[0]} AND {edges[1]})"
+                edges = Comparison(name, ">=", low), Comparison(name, "<=", high)
+                parts = [self._sql(edge, is_so, depth) for edge in edges]
+                return f"({(' AND ' if is_so else ' OR ').join(parts)})"
             case Comparison(name, operator, value):
+                operator = operator if is_so else OPPOSITE[operator]
                 return self._compared(self._column(name), operator, value)
+
+    def _count(self, more: int) -> None:
+        self._left -= more
+        if self._left < 0:
+            raise RequestError(f"a filter has at most {MOST} comparisons and values")
 
     def _column(self, name: str) -> Attribute:
         if name in self._columns:
@@ -233,17 +244,19 @@ class Translation:
             self._values.append(readable(value) if isinstance(value, str) else int(value))
         return f"{name} {operator} ?"
 
-    def _among(self, column: Attribute, values: Sequence[Literal]) -> str:
+    def _among(self, column: Attribute, values: Sequence[Literal], is_so: bool) -> str:
+        self._count(len(values) - 1)
         parts = [self._compared(column, "=", value) for value in values]
         names = {part.removesuffix(" = ?") for part in parts}
-        if len(names) > 1:  # dates, and times
-            return _balanced("OR", parts)
-        return f"{names.pop()} IN ({','.join('?' * len(parts))})"
+        if len(names) > 1:  # only a column without values is compared with all kinds
+            del self._values[-len(parts) :]
+            return f"{_sql_name(column)} = NULL"
+        return f"{names.pop()} {'' if is_so else 'NOT '}IN ({','.join('?' * len(parts))})"
 
-    def _like(self, column: Attribute, pattern: str) -> str:
+    def _like(self, column: Attribute, pattern: str, is_so: bool) -> str:
         self._check(column, pattern)
         self._values.append(readable(pattern))
-        return f"{LIKE}(?, {_sql_name(column)})"
+        return f"{'' if is_so else 'NOT '}{LIKE}(?, {_sql_name(column)})"
 
 
 def _sql_name(column: Attribute) -> str:
@@ -269,11 +282,3 @@ def _told(value: Literal) -> str:
         case Instant(kind, text):
             return f"{shown(text)} is a {kind}"
     return f"{in_quotes(value)} is a text"
-
-
-def _balanced(word: str, parts: list[str]) -> str:
-    """Joins conditions so that few are in each other: SQLite bounds that."""
-    while len(parts) > 1:
-        pairs = [parts[at : at + 2] for at in range(0, len(parts), 2)]
-        parts = [f"({f' {word} '.join(pair)})" if len(pair) > 1 else pair[0] for pair in pairs]
-    return parts[0]

@@ -164,11 +164,12 @@ class Database:
         Raises:
             RequestError: To find them takes too long, without the time that the caller takes.
         """
-        rows, left = self.execute(select, given), float(SECONDS)
+        rows, left = None, float(SECONDS)
         while True:
             begin = monotonic()
             self._end = begin + left
             try:
+                rows = rows or self.execute(select, given)
                 row = rows.fetchone()
             finally:
                 self._end = None
