@@ -2,6 +2,7 @@
 import contextlib
 import logging
 import os
+import tempfile
 import unittest
 
 from .support import ROOT, InFolder
@@ -34,6 +35,7 @@ def begun(workers):
     """A cluster of workers of one thread, each a process of its own, and a client of it."""
     os.environ.update(settings())
     quiet()
+    room = tempfile.TemporaryDirectory()  # not the folder that all clusters of the machine share
     cluster = distributed.LocalCluster(
         n_workers=workers,
         threads_per_worker=1,
@@ -42,7 +44,9 @@ def begun(workers):
         dashboard_address=f"{HOST}:0",
         worker_dashboard_address=f"{HOST}:0",
         silence_logs=logging.CRITICAL,
+        local_directory=room.name,
     )
+    cluster.room = room
     return cluster, distributed.Client(cluster)
 
 
@@ -50,6 +54,7 @@ def end(cluster, client):
     """Ends what `begun` has begun."""
     client.close()
     cluster.close()
+    cluster.room.cleanup()
 
 
 def leave(client):

@@ -49,6 +49,11 @@ def right_engine():
     importlib.reload(tasks)
 
 
+def say_little(size):
+    """Runs on a worker, whose tasks for several parts then end with this many bytes of answers."""
+    tasks.SENT = size
+
+
 def ran(*words):
     """What the command writes, says and answers in this process."""
     from cityseq.cli.main import main
@@ -345,6 +350,73 @@ class Many(WithCluster):
         self.assertEqual(there, list(cityseq.check_files(paths)))
         self.assertEqual(begun, ["begin"] * 5)
 
+    def tasks_of(self, call, *given, **options):
+        """What a call returns, and the parts of each task that judged some."""
+        asked = []
+        usual = jobs.Cluster.task
+
+        def task(cluster, kind, file, function, *more):
+            if function is tasks.judge_all:
+                asked.append([chunk.number for chunk in more[-1]])
+            return usual(cluster, kind, file, function, *more)
+
+        with mock.patch.object(jobs.Cluster, "task", task):
+            found = call(self.client, *given, **options)
+            return (found if hasattr(found, "status") else list(found)), asked
+
+    def test_short_parts_are_few_tasks(self):
+        source = self.file(lines(12_000))
+        length = source.stat().st_size - len(HEADER)
+        for size, in_task in ((4_000, 64), (100_000, 11), (2 << 20, 1)):
+            with self.subTest(size):
+                (found,), asked = self.tasks_of(cityseq.dask.check, source, part_size=size)
+                self.assertEqual(found, cityseq.check(source))
+                parts = list(range(-(-length // size)))
+                wanted = [parts[each : each + in_task] for each in range(0, len(parts), in_task)]
+                self.assertEqual(asked, wanted)
+
+    def test_long_answers_are_several(self):
+        text = lines(600)[:-2] + b"\n" + lines(600, "c")[len(HEADER) :]
+        source, options = self.file(text), {"keep_going": True, "part_size": 3_000}
+        (wanted,), few = self.tasks_of(cityseq.dask.check, source, **options)
+        self.assertEqual((wanted.features, wanted.refused), (1_199, 1))
+        self.client.run(say_little, 5_000)
+        self.addCleanup(self.client.run, say_little, tasks.SENT)
+        here, there = io.BytesIO(), io.BytesIO()
+        cityseq.filter(source, here, keep_going=True)
+        found, many = self.tasks_of(cityseq.dask.filter, source, there, **options)
+        self.assertEqual((found, there.getvalue()), (wanted, here.getvalue()))
+        self.assertGreater(len(many), 10 * len(few))
+        with mock.patch.object(tasks, "SENT", 5_000):
+            path, work = str(source), asked("filter", keep_going=True)
+            chunks = RangeChunks(path, path, begin(path, path, Sizes(3_000, -1), work))
+            answers = tasks.judge_all(tasks.judge_range, (), chunks, work)
+        self.assertEqual(len(answers), 2)
+
+    def test_a_part_that_ends_each_worker(self):
+        source, now, usual = self.file(lines(60)), [], jobs.Job._begin
+        ends = len(HEADER) + 3 * 1_000
+        usual_task = jobs.Cluster.task
+
+        def task(cluster, kind, file, function, *more):
+            now[:] = [function is tasks.judge_all and 3 in (each.number for each in more[-1])]
+            return usual_task(cluster, kind, file, function, *more)
+
+        def begin_job(job):
+            usual(job)
+            job.is_deadly = getattr(job, "is_deadly", now[0])
+            if job.is_deadly:
+                job._fetched = Future()
+                job._fetched.set_exception(distributed.scheduler.KilledWorker("task", None, 3))
+
+        with mock.patch.object(jobs.Job, "_begin", begin_job):
+            with mock.patch.object(jobs.Cluster, "task", task):
+                (found,), asked = self.tasks_of(cityseq.dask.check, source, part_size=1_000)
+        before = source.read_bytes()[len(HEADER) : ends].count(b"\n") + 1
+        self.assertEqual((found.status, found.features), (5, before))
+        self.assertIn("it may need more memory", found.fault)
+        self.assertEqual([len(each) for each in asked[1:]], [1, 1, 1, 1])
+
     def test_many_ids_are_sent_once(self):
         source, ids = self.file(lines(2_000)), [f"b{number}" for number in range(0, 90_000, 3)]
         here, there = io.BytesIO(), io.BytesIO()
@@ -498,7 +570,7 @@ class Workers(InFolder):
         clusters.quiet()
         while not os.path.exists(told) or not os.path.getsize(told):
             time.sleep(0.1)
-        source, output = self.file(lines(2_000)), self.folder / "output"
+        source, output = self.file(lines(30_000)), self.folder / "output"
         client = distributed.Client(scheduler_file=told)
         self.addCleanup(clusters.leave, client)
         with self.assertRaisesRegex(cityseq.CityseqError, "is gone, or its tasks"):

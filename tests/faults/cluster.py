@@ -34,7 +34,7 @@ import flaky  # noqa: E402
 import cityseq  # noqa: E402
 import cityseq.dask  # noqa: E402
 from cityseq.cluster import jobs  # noqa: E402
-from tests.clusters import WORDS  # noqa: E402
+from tests.clusters import HOST, WORDS  # noqa: E402
 from tests.support import stream_by_chance  # noqa: E402
 
 MEGABYTES = 60
@@ -290,23 +290,56 @@ def deadly(counts, folder, _):
         each.unlink()
 
 
+@contextlib.contextmanager
+def seen_workers():
+    """Gives the set of the workers whose results come."""
+    did, usual = set(), jobs.Job.result
+
+    def result(job, *given):
+        value = usual(job, *given)
+        did.add(job.worker)
+        return value
+
+    jobs.Job.result = result
+    yield did
+    jobs.Job.result = usual
+
+
 def joins(counts, folder, path):
     """Lets workers join while others judge, and the first one while a run waits."""
     with Cluster(folder, workers=0) as cluster:
-        did, usual = set(), jobs.Job.result
-
-        def result(job, *given):
-            value = usual(job, *given)
-            did.add(job.worker)
-            return value
-
-        jobs.Job.result = result
         timers = [threading.Timer(2 + turn, cluster.worker) for turn in range(3)]
         for each in timers:
             each.start()
-        found = list(cityseq.dask.check(cluster.client, [path] * 12, part_size=256 << 10))
-        jobs.Job.result = usual
+        with seen_workers() as did:
+            found = list(cityseq.dask.check(cluster.client, [path] * 12, part_size=256 << 10))
         counts.row(f"{len(did)} workers that joined later", len(did) == 3 and all(found))
+
+
+def adapts(counts, folder, path):
+    """Lets a cluster begin workers as they are needed, beside one that has them from the start."""
+    settings = {
+        "threads_per_worker": 1,
+        "host": HOST,
+        "dashboard_address": f"{HOST}:0",
+        "worker_dashboard_address": f"{HOST}:0",
+        "local_directory": str(folder / "space"),
+        "silence_logs": logging.CRITICAL,
+    }
+    os.environ["PYTHONPATH"] = str(ROOT / "python")
+    paths, taken = [path] * 40, []
+    for is_adaptive in (False, True):
+        with distributed.LocalCluster(n_workers=0 if is_adaptive else 3, **settings) as cluster:
+            cluster.adapt(minimum=0, maximum=3, interval="200ms") if is_adaptive else None
+            with distributed.Client(cluster) as client, seen_workers() as did:
+                begin = time.monotonic()
+                found = list(cityseq.dask.check(client, paths, part_size=1 << 20))
+                taken.append(time.monotonic() - begin)
+    shutil.rmtree(folder / "space", ignore_errors=True)
+    told = f"{taken[1]:.1f} s, three fixed workers {taken[0]:.1f} s"
+    right = len(found) == 40 and all(found) and len(did) == 3
+    counts.row(f"{len(did)} workers of adapt()", right, told)
+    print(f"adapt(): {told}")
 
 
 def two_clients(counts, folder, path):
@@ -483,6 +516,7 @@ def main():
             kills,
             deadly,
             joins,
+            adapts,
             two_clients,
             wrong_library,
             full_disks,

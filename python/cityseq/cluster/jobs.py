@@ -17,10 +17,13 @@ from typing import Any
 from ..engine.faults import CityseqError, MemoryFault, ReadFault, RequestError, read_fault, why
 from ..engine.judge import Answer
 from ..engine.query import Work
-from .tasks import Answered, engine, guard
+from ..sources.ranges import RangeChunk
+from .tasks import Answered, engine, guard, judge_all
 
 PART = 32 << 20  # bytes of a part
-AHEAD, LEAST = 2, 64  # tasks that wait or run for each thread of a worker, and at least
+AHEAD = 2  # tasks that wait or run for each thread of a worker
+LEAST = 64  # parts that wait or are judged, at least
+BATCH, MOST = 1 << 20, 64  # bytes of short parts that are one task, and how many of them
 HELD = 256 << 20  # bytes of the parts whose output or records wait
 RETRIES = 3  # of a task that fails
 INLINE = 1 << 16  # bytes of a request that are sent with each task; more are sent to a worker once
@@ -154,7 +157,8 @@ class Cluster:
 
     def ahead(self) -> int:
         """Returns how many parts are judged or wait: more if workers join."""
-        ahead = max(LEAST, AHEAD * self.threads())
+        in_task = min(max(BATCH // self.size, 1), MOST)
+        ahead = max(LEAST, AHEAD * in_task * self.threads())
         return max(min(ahead, HELD // self.size), AHEAD) if self.is_heavy else ahead
 
     def say_if_idle(self) -> None:
@@ -252,21 +256,88 @@ class Job:
         return fault
 
 
-class Answering:
-    """A part that is judged elsewhere. Its result is as `run.streams` takes it."""
+class Batch:
+    """Parts of a stream that one task judges, because they are short. The task begins when it has
+    enough of them, or when the first answer is wanted. If it leaves some out, another follows."""
 
-    def __init__(self, job: Job, is_last: bool) -> None:
-        self._job, self._is_last = job, is_last
-        self.done, self.cancel = job.done, job.cancel
+    def __init__(self, cluster: Cluster, judge: Any) -> None:
+        """Takes the cluster, and the partial call that judges a part on a worker."""
+        self._cluster, self.judge = cluster, judge
+        self._chunks: list[RangeChunk] = []
+        self._answers: list[Answer] = []
+        self._size, self._asked, self._most = 0, 0, MOST
+        self._job: Job | None = None
 
-    def result(self) -> tuple[list[Answer], bool]:
-        """Returns the answer, and whether no part follows. Raises `Lost`."""
+    @property
+    def is_open(self) -> bool:
+        """Whether more parts may be added."""
+        return self._job is None and not self._answers
+
+    def add(self, chunk: RangeChunk) -> Answering:
+        """Adds a part, and returns its answer to come."""
+        self._chunks.append(chunk)
+        self._size += chunk.length
+        if chunk.is_last or self._size >= BATCH or len(self._chunks) == MOST:
+            self._begin()
+        return Answering(self, len(self._chunks) - 1, chunk.is_last)
+
+    def _begin(self) -> None:
+        """Begins a task for the parts that have no answer."""
+        rest = self._chunks[len(self._answers) :][: self._most]
+        self._asked = len(rest)
+        given = judge_all, self.judge.func, self.judge.args, rest
+        self._job = self._cluster.task(self._cluster.work.kind, rest[0].file, *given)
+
+    def done(self, number: int) -> bool:
+        """Whether the answer of a part is here, or the task that it may come from has ended."""
+        return number < len(self._answers) or self._job is not None and self._job.done()
+
+    def cancel(self) -> None:
+        """Lets the cluster forget the task."""
+        if self._job is not None:
+            self._job.cancel()
+
+    def answer(self, number: int) -> Answer:
+        """Returns the answer of a part. Raises `Lost`."""
+        while number >= len(self._answers):
+            if self._job is None:
+                self._begin()
+            self._take()
+        return self._answers[number]
+
+    def _take(self) -> None:
+        """Takes the answers of the task. If it failed, a task for each part shows which of them is
+        to blame."""
+        assert self._job is not None
         try:
-            answer: Answer = self._job.result()
+            found: list[Answer] = self._job.result(self._asked == 1)
         except Lost:
             raise
         except CityseqError as fault:
-            return [Answer(parts=0, fault=fault)], True
-        if isinstance(answer.fault, ReadFault):
-            self._job.named(answer.fault)
-        return [answer], self._is_last
+            if self._asked > 1:
+                self._most, self._job = 1, None
+                return
+            found = [Answer(parts=0, fault=fault)]
+        else:
+            for each in found:
+                if isinstance(each.fault, ReadFault):
+                    self._job.named(each.fault)
+        self._answers += found
+        self._job = None
+
+
+class Answering:
+    """A part that is judged elsewhere. Its result is as `run.streams` takes it."""
+
+    def __init__(self, batch: Batch, number: int, is_last: bool) -> None:
+        self._batch, self._number, self._is_last = batch, number, is_last
+        self.cancel = batch.cancel
+
+    def done(self) -> bool:
+        """Whether the result is probably here."""
+        return self._batch.done(self._number)
+
+    def result(self) -> tuple[list[Answer], bool]:
+        """Returns the answer, and whether no part follows. Raises `Lost`."""
+        answer = self._batch.answer(self._number)
+        return [answer], self._is_last or answer.fault is not None

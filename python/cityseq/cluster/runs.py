@@ -23,7 +23,7 @@ from ..sources.ranges import (
     sight_of,
 )
 from ..sources.source import is_path, is_url, name_of
-from .jobs import AHEAD, HELD, PART, Answering, Cluster, Job, Lost
+from .jobs import AHEAD, HELD, PART, Batch, Cluster, Job, Lost
 from .tasks import judge_packed
 
 LOOKED_AT = 64  # files whose beginnings are read together
@@ -105,6 +105,7 @@ class Runs:
             has_whole: Whether the task that begins a short file also judges it.
         """
         self._cluster, self._judge_by, self._has_whole = cluster, judge_by, has_whole
+        self._batch: Batch | None = None
 
     def results(self, streams: Iterable[Stream]) -> Results:
         """Yields the result of each stream, in order. Raises `CityseqError` if the scheduler is
@@ -115,9 +116,9 @@ class Runs:
         judge, chunk = call.args
         if isinstance(judge, _Judged):
             return _Ready(call())
-        kind = self._cluster.work.kind
-        job = self._cluster.task(kind, chunk.file, judge.func, chunk, *judge.args)
-        return Answering(job, chunk.is_last)
+        if self._batch is None or self._batch.judge is not judge or not self._batch.is_open:
+            self._batch = Batch(self._cluster, judge)
+        return self._batch.add(chunk)
 
     def _placed(self, streams: Iterable[Stream]) -> Iterator[Stream]:
         """Yields each stream, with the chunks that workers judge, when its file has been begun."""

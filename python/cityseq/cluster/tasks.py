@@ -5,7 +5,7 @@ import glob
 import hashlib
 import os
 import pickle
-from collections.abc import Callable
+from collections.abc import Callable, Iterable, Sequence
 from functools import lru_cache, partial
 from typing import Any
 
@@ -13,11 +13,14 @@ from .. import __version__
 from ..engine.judge import Answer
 from ..engine.library import library_path
 from ..engine.query import Work
+from ..engine.structs import CallStatus
 from ..indexes.digests import Digest, digest_of
 from ..run.pool import in_thread
 from ..run.streams import packed
 from ..sources.ranges import RangeChunk, judge_range
 
+SENT = 4 << 20  # bytes of answers with which a task for several parts ends
+REPORT = 256  # bytes of a report that is sent, about
 Answered = tuple[str, str, Any]  # the worker, its engine, and the answer if that is the right one
 
 
@@ -66,6 +69,28 @@ def guard() -> Callable[[str, bytes, bytes], Answered]:
         return answered(worker, wanted, task, work)
 
     return guarded
+
+
+def _weight(answer: Answer) -> int:
+    """Returns about how many bytes an answer has when it is sent."""
+    records = sum(len(each.raw) + sum(map(len, each.ids)) for each in answer.records)
+    return sum(map(len, answer.output)) + records + REPORT * answer.refused
+
+
+def judge_all(
+    judge: Callable[..., Answer], given: Sequence[Any], chunks: Iterable[RangeChunk], work: Work
+) -> list[Answer]:
+    """Judges chunks, one after another: each by a call that gets it, what is given, and the work.
+    Ends after an answer that ends the stream, and after that with which the answers are long."""
+    answers: list[Answer] = []
+    weight = 0
+    for chunk in chunks:
+        answers.append(judge(chunk, *given, work=work))
+        weight += _weight(answers[-1])
+        has_ended = answers[-1].status != CallStatus.COMPLETE or answers[-1].fault is not None
+        if has_ended or weight >= SENT:
+            break
+    return answers
 
 
 def judge_packed(chunk: RangeChunk, pack: Callable[[bytes], bytes], work: Work) -> Answer:
