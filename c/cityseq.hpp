@@ -1,5 +1,5 @@
-// cityseq for C++17, over cityseq.h: requests that own their texts, and streams that come in pieces
-// of any size.
+// cityseq for C++17, over cityseq.h: requests that own their texts, streams that come in pieces of
+// any size, and the features of a stream that lies in memory.
 //
 //     auto write = [](std::string_view lines) { std::cout << lines; };
 //     auto asked = cityseq::request().types({"Building"});
@@ -8,9 +8,14 @@
 //         ;
 //     cityseq::answer answer = stream.finish();
 //
+//     cityseq::transform world(header);
+//     for (const cityseq::feature &each : cityseq::features(header, part, asked))
+//         if (each.ranges[0].some)
+//             std::cout << each.id() << ' ' << world.x(each.ranges[0].least) << '\n';
+//
 // Errors are exceptions:
 //
-// - bad_request, if a request is wrong.
+// - bad_request, if a request is wrong. It says which text or number is at fault.
 // - std::bad_alloc, if no memory was granted.
 // - Whatever a callback throws.
 //
@@ -21,8 +26,11 @@
 #include "cityseq.h"
 
 #include <algorithm>
+#include <array>
+#include <cmath>
 #include <cstddef>
 #include <cstdint>
+#include <cstdlib>
 #include <functional>
 #include <ios>
 #include <istream>
@@ -39,20 +47,35 @@ using answer = ::cityseq_answer;
 using report = ::cityseq_report;
 using tally = ::cityseq_tally;
 
-// A request is wrong. code() returns a cityseq_fault.
+// A request is wrong. code() returns a cityseq_fault. list() returns the cityseq_list that has the
+// fault, or 0, and item() the text or number in it, from 0.
 class bad_request : public std::invalid_argument {
   public:
-    explicit bad_request(std::uint32_t code)
-        : std::invalid_argument("cityseq: bad request, fault " + std::to_string(code)),
-          code_(code) {}
+    explicit bad_request(const answer &got)
+        : std::invalid_argument("cityseq: bad request, fault " + std::to_string(got.code) +
+                                (got.list ? ", list " + std::to_string(got.list) + ", item " +
+                                                std::to_string(got.item)
+                                          : std::string())),
+          code_(got.code), list_(got.list), item_(got.item) {}
 
     std::uint32_t code() const noexcept { return code_; }
+    std::uint64_t list() const noexcept { return list_; }
+    std::uint64_t item() const noexcept { return item_; }
 
   private:
     std::uint32_t code_;
+    std::uint64_t list_, item_;
 };
 
 namespace detail {
+
+// Throws if nothing was judged.
+inline void throw_unless_judged(const answer &got) {
+    if (got.status == CITYSEQ_BAD_REQUEST)
+        throw bad_request(got);
+    if (got.status == CITYSEQ_NO_MEMORY)
+        throw std::bad_alloc();
+}
 
 // Returns the text that `call` writes. The call writes it as far as it fits, and returns how many
 // bytes it has.
@@ -180,6 +203,24 @@ class request {
     part ids_, types_, lods_, box_;
 };
 
+// Where a part is in a stream: the lines and the bytes between the header and the part.
+struct part_offset {
+    std::uint64_t lines = 0, bytes = 0;
+
+    // Returns that of the next part, from the answer for this part and the bytes that it has.
+    part_offset after(const answer &got, std::uint64_t part_length) const noexcept {
+        return {lines + (got.lines ? got.lines - 1 : 0), bytes + part_length};
+    }
+};
+
+// Returns a report of a part, with its line and its `begin` counted from the beginning of the
+// stream.
+inline report moved(report one, const part_offset &by) noexcept {
+    one.line += by.lines;
+    one.begin += by.bytes;
+    return one;
+}
+
 // Takes whole lines of the output, one or more, the header first. The text is valid only during the
 // call.
 using kept_lines = std::function<void(std::string_view lines)>;
@@ -254,7 +295,7 @@ class stream {
           most_(static_cast<std::size_t>(asked_.line_limit()) + 1) {
         // An empty stream is judged first, to find what is wrong with the request.
         const ::cityseq_request raw = asked_.raw();
-        throw_unless_judged(::cityseq_check(nullptr, 0, nullptr, 0, &raw, nullptr, 0));
+        detail::throw_unless_judged(::cityseq_check(nullptr, 0, nullptr, 0, &raw, nullptr, 0));
         if (reported_)
             reports_.resize(64);
     }
@@ -279,13 +320,6 @@ class stream {
         stream &of_;
         bool done_ = false;
     };
-
-    static void throw_unless_judged(const answer &got) {
-        if (got.status == CITYSEQ_BAD_REQUEST)
-            throw bad_request(got.code);
-        if (got.status == CITYSEQ_NO_MEMORY)
-            throw std::bad_alloc();
-    }
 
     // Returns the number of bytes up to and with the first LF, or of all if there is no LF.
     static std::size_t line_end(std::string_view piece) noexcept {
@@ -336,9 +370,8 @@ class stream {
     // Judges the header and the first `length` bytes of the part, and calls back.
     void judge(std::size_t length) {
         const answer got = call(length);
-        throw_unless_judged(got);
-        const std::uint64_t before = judged_ ? answer_.lines - 1 : 0;
-        const std::uint64_t bytes = judged_bytes_;
+        detail::throw_unless_judged(got);
+        const part_offset here = offset_;
         const std::size_t front = judged_ ? header_.size() : 0;
         answer_ = judged_ ? ::cityseq_answer_then(&answer_, &got, header_.size()) : got;
         if (got.status != CITYSEQ_COMPLETE)
@@ -347,15 +380,11 @@ class stream {
             tally_ = ::cityseq_tally_then(&tally_, &part_tally_);
         judged_ = true;
         part_.erase(0, length);
-        judged_bytes_ += length + left_out_;
+        offset_ = here.after(got, length + left_out_);
         left_out_ = 0;
         whole_ = 0;
-        for (std::size_t i = 0; reported_ && i < got.refused; i++) {
-            report one = reports_[i];
-            one.line += before;
-            one.begin += bytes;
-            reported_(one);
-        }
+        for (std::size_t i = 0; reported_ && i < got.refused; i++)
+            reported_(moved(reports_[i], here));
         if (kept_ && got.written > front)
             kept_(std::string_view(output_).substr(front,
                                                    static_cast<std::size_t>(got.written) - front));
@@ -391,13 +420,13 @@ class stream {
     kept_lines kept_;
     told_report reported_;
     std::size_t part_length_;
-    std::size_t most_;      // The most bytes that are held of a line's content.
-    std::string header_;    // The header, or its first bytes.
-    std::string part_;      // The lines after those that were judged, and a begun one.
-    std::size_t begun_ = 0; // The bytes of the line that has begun.
-    std::size_t whole_ = 0; // The bytes of the whole lines of the part.
-    std::uint64_t left_out_ = 0;     // The bytes of a line of the part that are not held.
-    std::uint64_t judged_bytes_ = 0; // The bytes of all parts that were judged.
+    std::size_t most_;           // The most bytes that are held of a line's content.
+    std::string header_;         // The header, or its first bytes.
+    std::string part_;           // The lines after those that were judged, and a begun one.
+    std::size_t begun_ = 0;      // The bytes of the line that has begun.
+    std::size_t whole_ = 0;      // The bytes of the whole lines of the part.
+    std::uint64_t left_out_ = 0; // The bytes of a line of the part that are not held.
+    part_offset offset_;         // That of the part.
     std::string output_;
     std::vector<report> reports_;
     bool has_header_ = false; // Whether an LF has ended the header.
@@ -405,6 +434,256 @@ class stream {
     state state_ = state::open;
     answer answer_ = {};
     cityseq::tally tally_ = {}, part_tally_ = {};
+};
+
+namespace detail {
+
+// Appends a code point in UTF-8. A lone surrogate becomes three bytes.
+inline void append_code(std::string &text, std::uint32_t code) {
+    const auto put = [&](std::uint32_t byte) { text += static_cast<char>(byte); };
+    if (code < 0x80)
+        return put(code);
+    if (code < 0x800) {
+        put(0xC0 | code >> 6);
+    } else if (code < 0x10000) {
+        put(0xE0 | code >> 12);
+        put(0x80 | (code >> 6 & 0x3F));
+    } else {
+        put(0xF0 | code >> 18);
+        put(0x80 | (code >> 12 & 0x3F));
+        put(0x80 | (code >> 6 & 0x3F));
+    }
+    put(0x80 | (code & 0x3F));
+}
+
+// Goes along the spelling of a JSON string, between its quotes.
+class spelling {
+  public:
+    explicit spelling(std::string_view left) : left_(left) {}
+
+    std::string text() {
+        std::string found;
+        while (!left_.empty()) {
+            const char next = take();
+            if (next == '\\')
+                append_code(found, escape());
+            else
+                found += next;
+        }
+        return found;
+    }
+
+  private:
+    char take() {
+        if (left_.empty())
+            throw std::invalid_argument("cityseq: a JSON string is cut short");
+        const char next = left_.front();
+        left_.remove_prefix(1);
+        return next;
+    }
+
+    // Returns the code point of an escape, behind its backslash. Two escapes may be one code point.
+    std::uint32_t escape() {
+        static constexpr std::string_view names = "\"\\/bfnrt", codes = "\"\\/\b\f\n\r\t";
+        const char name = take();
+        if (name != 'u') {
+            const std::size_t at = names.find(name);
+            if (at == std::string_view::npos)
+                throw std::invalid_argument("cityseq: no escape of JSON");
+            return static_cast<unsigned char>(codes[at]);
+        }
+        const std::uint32_t first = unit();
+        if (first < 0xD800 || first > 0xDBFF || left_.substr(0, 2) != "\\u")
+            return first;
+        spelling after(left_.substr(2));
+        const std::uint32_t second = after.unit();
+        if (second < 0xDC00 || second > 0xDFFF)
+            return first;
+        left_ = after.left_;
+        return 0x10000 + ((first - 0xD800) << 10) + (second - 0xDC00);
+    }
+
+    // Returns the number of four hexadecimal digits.
+    std::uint32_t unit() {
+        std::uint32_t value = 0;
+        for (int i = 0; i < 4; i++) {
+            const std::size_t digit =
+                std::string_view("0123456789abcdef0123456789ABCDEF").find(take());
+            if (digit == std::string_view::npos)
+                throw std::invalid_argument("cityseq: no escape of JSON");
+            value = value << 4 | static_cast<std::uint32_t>(digit % 16);
+        }
+        return value;
+    }
+
+    std::string_view left_;
+};
+
+// Returns the digits of a decimal, without its power.
+inline std::string digits_of(const ::cityseq_decimal &number) {
+    std::array<std::uint32_t, 4> parts = {
+        static_cast<std::uint32_t>(number.high >> 32), static_cast<std::uint32_t>(number.high),
+        static_cast<std::uint32_t>(number.low >> 32), static_cast<std::uint32_t>(number.low)};
+    std::string digits;
+    do {
+        std::uint64_t rest = 0;
+        for (std::uint32_t &part : parts) {
+            rest = rest << 32 | part;
+            part = static_cast<std::uint32_t>(rest / 10);
+            rest %= 10;
+        }
+        digits += static_cast<char>('0' + rest);
+    } while (parts != std::array<std::uint32_t, 4>{});
+    std::reverse(digits.begin(), digits.end());
+    return digits;
+}
+
+// Returns the float that is nearest to a decimal times 10^power.
+inline double nearest(const ::cityseq_decimal &number, std::int64_t power = 0) {
+    const std::string text = (number.negative ? "-" : "") + digits_of(number) + "e" +
+                             std::to_string(number.power + power);
+    return std::strtod(text.c_str(), nullptr); // without a point, so in any locale
+}
+
+} // namespace detail
+
+// Returns the text of a JSON string in UTF-8, from its spelling with quotes. A lone surrogate
+// becomes three bytes, which no text in UTF-8 has. Throws std::invalid_argument if the spelling has
+// no quotes or a wrong escape.
+inline std::string unescaped(std::string_view spelled) {
+    if (spelled.size() < 2 || spelled.front() != '"' || spelled.back() != '"')
+        throw std::invalid_argument("cityseq: no JSON string");
+    return detail::spelling(spelled.substr(1, spelled.size() - 2)).text();
+}
+
+// The map from the numbers of vertices to world coordinates, as floats.
+//
+// A coordinate is the float nearest to `vertex * scale + translate` if the numbers are small. That
+// is so if scale and translate are multiples of a unit, a power of ten that is not below 10^-22,
+// and vertex * scale and translate together are below 2^53 units. Else scale, translate, the
+// product and the sum are each rounded.
+class transform {
+  public:
+    // Takes the transform of a tally. Throws std::invalid_argument if the tally has none.
+    explicit transform(const tally &of) {
+        if (!of.transformed)
+            throw std::invalid_argument("cityseq: no transform");
+        for (std::size_t i = 0; i < 3; i++)
+            axes_[i] = axis(of.scale[i], of.translate[i]);
+    }
+
+    // Takes the transform of a header, with or without its LF. Throws std::invalid_argument if the
+    // header is invalid.
+    explicit transform(std::string_view header, std::uint64_t line_limit = request().line_limit())
+        : transform(tally_of(header, line_limit)) {}
+
+    // Returns the world coordinate of a vertex on an axis: 0 is x, 1 is y, and 2 is z.
+    double operator()(std::size_t axis, std::int64_t vertex) const {
+        return axes_.at(axis).coordinate(vertex);
+    }
+    double x(std::int64_t vertex) const { return axes_[0].coordinate(vertex); }
+    double y(std::int64_t vertex) const { return axes_[1].coordinate(vertex); }
+    double z(std::int64_t vertex) const { return axes_[2].coordinate(vertex); }
+
+  private:
+    static constexpr double exact = 9007199254740992.0; // 2^53: whole numbers up to it are floats
+
+    struct axis {
+        double scale = 0, translate = 0;
+        // The same as multiples of 1 / unit. The unit is 0 if they are not known to be exact.
+        double scale_units = 0, translate_units = 0, unit = 0;
+
+        axis() = default;
+        axis(const ::cityseq_decimal &by, const ::cityseq_decimal &plus)
+            : scale(detail::nearest(by)), translate(detail::nearest(plus)) {
+            const std::int64_t power = -std::min({by.power, plus.power, 0});
+            if (power > 22)
+                return;
+            unit = detail::nearest({0, 0, 0, 1}, power);
+            scale_units = detail::nearest(by, power);
+            translate_units = detail::nearest(plus, power);
+        }
+
+        double coordinate(std::int64_t vertex) const {
+            const double number = static_cast<double>(vertex), size = std::fabs(number);
+            const double most = size * std::fabs(scale_units) + std::fabs(translate_units);
+            if (unit != 0 && size < exact && most < exact)
+                return (number * scale_units + translate_units) / unit;
+            return size == 0 ? translate : number * scale + translate;
+        }
+    };
+
+    static tally tally_of(std::string_view header, std::uint64_t line_limit) {
+        const ::cityseq_request raw = request().line_limit(line_limit).raw();
+        tally found = {};
+        detail::throw_unless_judged(
+            ::cityseq_info(header.data(), header.size(), nullptr, 0, &raw, &found, nullptr, 0));
+        return found;
+    }
+
+    std::array<axis, 3> axes_;
+};
+
+// A kept feature: its record, and its line, which is in the part.
+struct feature : ::cityseq_feature {
+    std::string_view text; // The line without its LF.
+
+    // Returns the id, without the escapes of JSON.
+    std::string id() const {
+        return unescaped(
+            text.substr(static_cast<std::size_t>(id_begin), static_cast<std::size_t>(id_length)));
+    }
+
+    // Returns the attributes of its main city object, as the line spells them, or an empty text if
+    // it has none.
+    std::string_view attributes() const {
+        return text.substr(static_cast<std::size_t>(attributes_begin),
+                           static_cast<std::size_t>(attributes_length));
+    }
+};
+
+// The kept features of a header and a part, in order. They point into the part. With keep_going, a
+// request also gets those after an invalid line.
+class features {
+  public:
+    features(std::string_view header, std::string_view part, const request &asked = {}) {
+        const ::cityseq_request raw = asked.raw();
+        std::vector<::cityseq_feature> records(std::min<std::size_t>(part.size() / 64 + 1, 4096));
+        while (true) {
+            answer_ = ::cityseq_features(header.data(), header.size(), part.data(), part.size(),
+                                         &raw, records.data(), records.size(), nullptr, 0);
+            detail::throw_unless_judged(answer_);
+            if (answer_.kept <= records.size())
+                break;
+            records.resize(static_cast<std::size_t>(answer_.kept));
+        }
+        records.resize(static_cast<std::size_t>(answer_.kept));
+        all_.reserve(records.size());
+        for (const ::cityseq_feature &one : records)
+            all_.push_back({one, part.substr(static_cast<std::size_t>(one.begin),
+                                             static_cast<std::size_t>(one.length))});
+    }
+
+    // Takes a whole stream: its first line is the header.
+    explicit features(std::string_view text, const request &asked = {})
+        : features(text.substr(0, header_of(text)), text.substr(header_of(text)), asked) {}
+
+    std::vector<feature>::const_iterator begin() const noexcept { return all_.begin(); }
+    std::vector<feature>::const_iterator end() const noexcept { return all_.end(); }
+    std::size_t size() const noexcept { return all_.size(); }
+    const feature &operator[](std::size_t place) const { return all_.at(place); }
+
+    // Returns the answer for the header and the part. It says whether a line is invalid.
+    const cityseq::answer &told() const noexcept { return answer_; }
+
+  private:
+    static std::size_t header_of(std::string_view text) noexcept {
+        const std::size_t lf = text.find('\n');
+        return lf == std::string_view::npos ? text.size() : lf + 1;
+    }
+
+    cityseq::answer answer_ = {};
+    std::vector<feature> all_;
 };
 
 // Feeds an input to a stream, up to the end of one of them, and finishes the stream. A failed read

@@ -23,9 +23,9 @@ enum { threads = 8, rounds = 50, rooms = 9 };
 
 /* This number of the interface must keep these sizes. A library may replace another of the same
  * number, and its callers are not built again. */
-_Static_assert(CITYSEQ_INTERFACE == 2, "the sizes below are those of interface 2");
+_Static_assert(CITYSEQ_INTERFACE == 3, "the sizes below are those of interface 3");
 _Static_assert(sizeof(struct cityseq_request) == 88 && sizeof(struct cityseq_report) == 32, "sizes");
-_Static_assert(sizeof(struct cityseq_answer) == 80 && sizeof(struct cityseq_feature) == 144, "sizes");
+_Static_assert(sizeof(struct cityseq_answer) == 96 && sizeof(struct cityseq_feature) == 160, "sizes");
 _Static_assert(sizeof(struct cityseq_tally) == 544, "sizes");
 
 /* The results for a stream, joined from its parts. */
@@ -318,7 +318,22 @@ static struct cityseq_answer ask(const struct cityseq_request *request, const ch
 static void refuses(const char *name, struct cityseq_request request, enum cityseq_fault fault)
 {
     struct cityseq_answer answer = ask(&request, header_line, good_line);
-    row(name, answer.status == CITYSEQ_BAD_REQUEST && answer.code == fault && answer.lines == 0);
+    row(name, answer.status == CITYSEQ_BAD_REQUEST && answer.code == fault && answer.lines == 0 && !answer.list && !answer.item);
+}
+
+/* Whether a request is refused for an item of a list. */
+static void places(const char *name, struct cityseq_request request, enum cityseq_fault fault, enum cityseq_list list,
+                   uint64_t item)
+{
+    struct cityseq_answer answer = ask(&request, header_line, good_line);
+    row(name, answer.status == CITYSEQ_BAD_REQUEST && answer.code == fault && answer.list == list && answer.item == item);
+}
+
+/* The same for a number of a box. */
+static void boxes(const char *box, enum cityseq_fault fault, uint64_t item)
+{
+    struct cityseq_request r = CITYSEQ_USUAL;
+    r.asks_box = 1, r.box = box, r.box_length = strlen(box), places(box, r, fault, CITYSEQ_LIST_BOX, item);
 }
 
 static void wrong_requests(void)
@@ -328,18 +343,41 @@ static void wrong_requests(void)
     r.line_limit = 1073741825, refuses("a line limit above 2^30", r, CITYSEQ_LINE_LIMIT);
     r = usual, r.depth_limit = 0, refuses("no depth", r, CITYSEQ_DEPTH_LIMIT);
     r = usual, r.depth_limit = 1025, refuses("a depth above 1,024", r, CITYSEQ_DEPTH_LIMIT);
-    r = usual, r.asks_types = 1, r.types = "Building\nHouse", r.types_length = 14;
-    refuses("an unknown type", r, CITYSEQ_UNKNOWN_TYPE);
-    r = usual, r.asks_ids = 1, r.ids = "\xff", r.ids_length = 1, refuses("an id that is not UTF-8", r, CITYSEQ_NOT_UTF8);
-    r = usual, r.asks_box = 1, r.box = "1,2,3", r.box_length = 5, refuses("three numbers", r, CITYSEQ_BAD_BOX);
-    r.box = "0,0,1e18,1", r.box_length = 10, refuses("a great number", r, CITYSEQ_BOX_RANGE);
-    r.box = "1,0,0,1", r.box_length = 7, refuses("an empty box", r, CITYSEQ_EMPTY_BOX);
     struct cityseq_answer answer = ask(&usual, "{}", good_line);
     row("a header without LF", answer.status == CITYSEQ_BAD_REQUEST && answer.code == CITYSEQ_NO_LINE);
     answer = ask(&usual, "{}\n{}\n", "");
     row("a header of two lines", answer.status == CITYSEQ_BAD_REQUEST && answer.code == CITYSEQ_NO_LINE);
     answer = ask(&usual, "", "");
     row("nothing at all", answer.status == CITYSEQ_REFUSED && answer.code == 1 && answer.line == 1);
+}
+
+/* Which text or number has the fault: the first one that breaks a rule, counted from 0. */
+static void wrong_items(void)
+{
+    struct cityseq_request usual = CITYSEQ_USUAL, r = usual;
+    r.asks_types = 1, r.types = "Building\nHouse\nHut", r.types_length = 18;
+    places("an unknown type", r, CITYSEQ_UNKNOWN_TYPE, CITYSEQ_LIST_TYPES, 1);
+    r.types = "Road\n\nRoad", r.types_length = 10, places("an empty type", r, CITYSEQ_UNKNOWN_TYPE, CITYSEQ_LIST_TYPES, 1);
+    r.types = "Road\nRoad\xc3", r.types_length = 10, places("a cut type", r, CITYSEQ_NOT_UTF8, CITYSEQ_LIST_TYPES, 1);
+    r.types = "Road\nHut", r.types_length = 8, r.asks_ids = 1, r.ids = "\xff", r.ids_length = 1;
+    places("an id before a type", r, CITYSEQ_NOT_UTF8, CITYSEQ_LIST_IDS, 0);
+    r = usual, r.asks_ids = 1, r.ids = "a\n\n\xff\xff\nb\n\xff", r.ids_length = 8;
+    places("the third id", r, CITYSEQ_NOT_UTF8, CITYSEQ_LIST_IDS, 2);
+    r = usual, r.asks_lods = 1, r.lods = "2\n\x80", r.lods_length = 3, r.types = "\xff", r.types_length = 1;
+    places("an LoD", r, CITYSEQ_NOT_UTF8, CITYSEQ_LIST_LODS, 1);
+    boxes("0,0,\xff,1", CITYSEQ_NOT_UTF8, 2);
+    boxes("", CITYSEQ_BAD_BOX, 0);
+    boxes("1,2,3", CITYSEQ_BAD_BOX, 3);
+    boxes("1,2,3,", CITYSEQ_BAD_BOX, 3);
+    boxes("1,2,3,4,5", CITYSEQ_BAD_BOX, 4);
+    boxes("1,2,3,4,5,x", CITYSEQ_BAD_BOX, 4);
+    boxes("1, 2,3,4", CITYSEQ_BAD_BOX, 1);
+    boxes("1e99,2,+3,4", CITYSEQ_BAD_BOX, 2);
+    boxes("0,0,1e18,1", CITYSEQ_BOX_RANGE, 2);
+    boxes("0,0,1,1e-19", CITYSEQ_BOX_RANGE, 3);
+    boxes("1,0,0,1", CITYSEQ_EMPTY_BOX, 0);
+    boxes("1,1,0,0", CITYSEQ_EMPTY_BOX, 0);
+    boxes("0,1,0,0", CITYSEQ_EMPTY_BOX, 1);
 }
 
 /* What a query of some texts keeps of the good feature. */
@@ -457,11 +495,16 @@ static void joins(void)
     r.depth_limit = 0, next = ask(&r, header_line, good_line), all = cityseq_answer_then(&first, &next, header);
     next = first, next.status = CITYSEQ_BAD_REQUEST, next.code = CITYSEQ_DEPTH_LIMIT;
     row("a bad request", are_same(all, next));
+    r.depth_limit = 64, r.asks_types = 1, r.types = "Road\nHut", r.types_length = 8;
+    next = ask(&r, header_line, good_line), all = cityseq_answer_then(&first, &next, header);
+    next = first, next.status = CITYSEQ_BAD_REQUEST, next.code = CITYSEQ_UNKNOWN_TYPE;
+    next.list = CITYSEQ_LIST_TYPES, next.item = 1, r.asks_types = 0;
+    row("a bad request with its place", are_same(all, next));
     memset(&next, 0, sizeof next), next.status = CITYSEQ_NO_MEMORY, all = cityseq_answer_then(&first, &next, header);
     next = first, next.status = CITYSEQ_NO_MEMORY;
     row("a part without memory", are_same(all, next));
     row("nothing after that", are_same(cityseq_answer_then(&all, &first, header), all));
-    r.depth_limit = 64, next = ask(&r, header_line, "{\n"), all = cityseq_answer_then(&first, &next, header);
+    next = ask(&r, header_line, "{\n"), all = cityseq_answer_then(&first, &next, header);
     row("a part with an invalid line", all.status == CITYSEQ_REFUSED && all.line == 3 && all.place == 1 && all.code == 4 &&
                                            all.lines == 2 && all.kept == 1 && all.written == header + good);
     row("nothing after that either", are_same(cityseq_answer_then(&all, &first, header), all));
@@ -607,7 +650,7 @@ static void nulls(void)
     r.asks_ids = 0, r.asks_types = r.asks_lods = r.exclude = 1;
     row("no type and no LoD, left out", ask(&r, header_line, good_line).kept == 1);
     r.asks_box = 1, a = ask(&r, header_line, good_line);
-    row("no box at all", a.status == CITYSEQ_BAD_REQUEST && a.code == CITYSEQ_BAD_BOX);
+    row("no box at all", a.status == CITYSEQ_BAD_REQUEST && a.code == CITYSEQ_BAD_BOX && a.list == CITYSEQ_LIST_BOX && !a.item);
     row("no end", cityseq_part_end(NULL, 0, 0) == 0 && cityseq_part_end(NULL, 0, 9) == 0);
     row("no text", cityseq_reason_text(4, NULL, 0) == 6 && cityseq_type_name(1, NULL, 0) == 8 && cityseq_version(NULL, 0) == 5);
 }
@@ -701,6 +744,7 @@ int main(int count, char **words)
     if (count > 2)
         return try_stream(count, words);
     wrong_requests();
+    wrong_items();
     queries();
     little_room();
     longer_room();

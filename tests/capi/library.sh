@@ -95,6 +95,9 @@ else
   row 'the tests of streams are compiled' \
     "$cpp_compiler" $strict_cpp $sanitizers tests/capi/library_stream.cpp c/out/libcityseq.a -o "$scratch/stream"
   count "$scratch/stream" vectors examples
+  row 'the tests of helpers are compiled' \
+    "$cpp_compiler" $strict_cpp $sanitizers tests/capi/library_helpers.cpp c/out/libcityseq.a -o "$scratch/helpers"
+  count "$scratch/helpers"
 fi
 if command -v valgrind > "$scratch/unread"; then
   row 'rows under valgrind' valgrind -q --error-exitcode=9 --leak-check=full "$scratch/library" rows

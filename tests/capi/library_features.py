@@ -49,6 +49,14 @@ COUNTS = (
 )
 COMPLETE, REFUSED = 0, 1
 ROOM = 64
+ATTRIBUTES = (
+    b"",
+    b'"attributes":null,',
+    b'"attributes": {"h":[1, 2]} ,',
+    b'"attr\\u0069butes":"\xc3\xa9",',
+    b'"attributes":-1.5e3,"attribute":1,',
+)
+OTHERS = (b"", b"", b'"\xe2\x82\xac":{"type":"Road","attributes":{"a":1}},')
 
 
 class Request(ctypes.Structure):
@@ -196,6 +204,16 @@ def wanted_of(text: bytes, kept: list[bytes], types: dict[str, int]) -> list[Tol
     return wanted
 
 
+def with_attributes(chance: random.Random, text: bytes) -> bytes:
+    """The same stream, with attributes and a second city object in some features."""
+    lines = text.split(b"\n")
+    for at, line in enumerate(lines):
+        line = line.replace(b'"geometry":', chance.choice(ATTRIBUTES) + b'"geometry":')
+        line = line.replace(b'"CityObjects":{"', b'"CityObjects":{' + chance.choice(OTHERS) + b'"')
+        lines[at] = line.replace(b'"id":"a"', chance.choice((b'"id":"a"', b'"id" : "\\u0061"')))
+    return b"\n".join(lines)
+
+
 def told_by(record: Record) -> Told:
     """What a record says."""
     return Told(
@@ -256,7 +274,7 @@ def main(path: str, program: str) -> int:
         tried.append((row["name"], try_stream(library, program, row["text"], query, limits)))
     for number in range(STREAMS):
         chance = random.Random(number)
-        text, options = random_stream(chance), chance.choice(OPTIONS)
+        text, options = with_attributes(chance, random_stream(chance)), chance.choice(OPTIONS)
         wrong = try_stream(library, program, text, options, (8388608, 64))
         tried.append((f"random stream {number}", wrong))
     for name, wrong in tried:
