@@ -43,8 +43,7 @@ extern "C" {
 
 /* The interface that this file declares. cityseq_interface returns that of the library.
  *
- * 3: A cityseq_feature has where the attributes of its main city object are. An answer has `list` and `item`, which say what a
- *    fault of a request is about.
+ * 3: A feature has `attributes_begin` and `attributes_length`, and an answer has `list` and `item`.
  * 2: cityseq_tally is now cityseq_info, so that in C++ the struct needs no keyword. New are cityseq_features, the joins,
  *    cityseq_part_end, cityseq_line_begin, cityseq_stack, cityseq_memory and cityseq_version. A report has `begin`, and a tally
  *    has the transform. There are constants for the reasons and for the sizes of a tally. NULL is allowed if there are no bytes.
@@ -72,13 +71,13 @@ enum cityseq_fault {
     CITYSEQ_NO_LINE = 3,      /* The header is not one line with its LF. It may lack the LF if the part is empty. */
     CITYSEQ_NOT_UTF8 = 4,     /* A text is not UTF-8. */
     CITYSEQ_UNKNOWN_TYPE = 5, /* No city object type has this name. */
-    CITYSEQ_BAD_BOX = 6,      /* The box is not four numbers with commas between them. */
+    CITYSEQ_BAD_BOX = 6,      /* The box is not four numbers with commas between them. Item 3 may be missing. Item 4 is a fifth. */
     CITYSEQ_BOX_RANGE = 7,    /* A number of the box is out of range. */
-    CITYSEQ_EMPTY_BOX = 8,    /* The least edge of the box is above the greatest. */
+    CITYSEQ_EMPTY_BOX = 8,    /* The least edge of the box is above the greatest: item 0 on x, or else 1 on y. */
     CITYSEQ_TOO_LONG = 9      /* The header and the part have more than 2^60 bytes. */
 };
 
-/* Which list of a request has a fault. */
+/* The lists of a request. */
 enum cityseq_list {
     CITYSEQ_LIST_IDS = 1,
     CITYSEQ_LIST_TYPES = 2,
@@ -164,8 +163,8 @@ struct cityseq_answer {
     uint64_t peak_tokens; /* The most tokens. */
     uint64_t peak_depth;  /* The most open arrays and objects. */
     uint64_t written;     /* The bytes of output that cityseq_filter wrote. Else 0. */
-    uint64_t list;        /* The list of the request that has the fault, a cityseq_list. 0 if no list has one. */
-    uint64_t item;        /* The text or number in this list, from 0. Else 0. */
+    uint64_t list;        /* Of a bad request, the list that is at fault, a cityseq_list. Else 0. */
+    uint64_t item;        /* The first text or number in this list that is at fault, from 0. Else 0. */
 };
 
 /* The least and the greatest whole number on an axis. */
@@ -204,8 +203,8 @@ struct cityseq_feature {
     uint64_t length;                /* The bytes of the line, without LF. */
     uint64_t id_begin;              /* Where the string of its id begins in the line, in bytes from 0. */
     uint64_t id_length;             /* The bytes of that string, with quotes and escapes. */
-    uint64_t attributes_begin;      /* Where `attributes` of the city object of that id begin in the line. Else 0. */
-    uint64_t attributes_length;     /* Their bytes, whatever kind of value they are. 0 if there are none. */
+    uint64_t attributes_begin;      /* Where `attributes` of the city object with that id begin in the line, from 0. Else 0. */
+    uint64_t attributes_length;     /* The bytes of that value, of whatever kind. 0 if that city object has none. */
     uint64_t objects;               /* The number of its city objects. */
     uint64_t geometries;            /* The number of their geometries. */
     uint64_t types;                 /* Bit n is set if a city object has the type of number n. */
@@ -246,8 +245,8 @@ struct cityseq_answer cityseq_features(const char *header, size_t header_length,
 
 /* The answer for a header with the lines of two parts, from the answers for the header with each. The first part ends with an LF.
  * `header_length` is that of the calls, since the length of the output counts the header once. If the first answer is not
- * CITYSEQ_COMPLETE, it is the answer for both. If nothing of the next part was judged, the answer has its status and code, with
- * the counts of the first. Counts stop at 2^64 - 1. */
+ * CITYSEQ_COMPLETE, it is the answer for both. If nothing of the next part was judged, the answer has its status, code, list
+ * and item, with the counts of the first. Counts stop at 2^64 - 1. */
 struct cityseq_answer cityseq_answer_then(const struct cityseq_answer *first, const struct cityseq_answer *next,
                                           size_t header_length) CITYSEQ_NOT_NULL(1, 2);
 

@@ -53,11 +53,12 @@ module _ {S : Type 0} (law : SinkLaw S) (r : Request) (header part : List ℕ) (
   status-judged NoMemory judged is = judged
 
   -- where nothing was judged the answer is a status and a code alone, and all is as it was
-  pub unjudged : (went : Result Outcome NotJudged) (answer : Answer) (written : ℕ) → answer ≡ answer_to went written
+  pub unjudged : (went : Result Outcome NotJudged) (answer : Answer) (written : ℕ) → answer ≡ answer_to r went written
       → IfOk went (λ o. (rules : Rules) × IsAsked r rules × Judged law (stream_of rules (header ++ part)) o
       (lent s old) (lent t new))
       → OnErr went ((t ≡ s) × (new ≡ old))
-      → IsUnjudged answer → (answer ≡ not_judged answer.status answer.code) × (new ≡ old) × (t ≡ s)
+      → IsUnjudged answer → (answer ≡ not_judged answer.status answer.code answer.list answer.item) × (new ≡ old)
+      × (t ≡ s)
   unjudged (Ok o) answer written is ok unread which =
       absurd (status-judged o.ended ok.2.tells.judged
       (let same : answer.status ≡ status_of o.ended = ap (λ a. a.status) is in rw same at which))
@@ -74,11 +75,11 @@ unknown-err Known (Ok o) other = absurd (cc other)
 unknown-err Known (Err why) other = tt
 
 -- an answer tells how many bytes were written
-told-written : (went : Result Outcome NotJudged) (answer : Answer) (written : ℕ) → answer ≡ answer_to went written
-    → answer ≡ answer_to went answer.written
-told-written (Ok o) answer written is = is ∙ ap (λ n. answer_to (Ok o) n) (sym (ap (λ a. a.written) is))
-told-written (Err (Fault fault)) answer written is = is
-told-written (Err Memory) answer written is = is
+told-written : (r : Request) (went : Result Outcome NotJudged) (answer : Answer) (written : ℕ)
+    → answer ≡ answer_to r went written → answer ≡ answer_to r went answer.written
+told-written r (Ok o) answer written is = is ∙ ap (λ n. answer_to r (Ok o) n) (sym (ap (λ a. a.written) is))
+told-written r (Err (Fault fault)) answer written is = is
+told-written r (Err Memory) answer written is = is
 
 -- what else comes of a call that was judged counts for what it tells
 module _ (r : Request) (header part : List ℕ) (old new : List Told) (before after : List ℕ) (written : ℕ)
@@ -87,18 +88,18 @@ module _ (r : Request) (header part : List ℕ) (old new : List Told) (before af
   GoesCopied n went =
       Goes (call r header part old new) (λ rules o. Copied rules (header ++ part) before after n o) went
 
-  goes-told : (went : Result Outcome NotJudged) → answer ≡ answer_to went written → GoesCopied written went
+  goes-told : (went : Result Outcome NotJudged) → answer ≡ answer_to r went written → GoesCopied written went
       → GoesCopied answer.written went
   goes-told (Ok o) is h =
       (h.0, h.1, h.2, subst (λ n. Copied h.0 (header ++ part) before after n o) (sym (ap (λ a. a.written) is)) h.3)
   goes-told (Err why) is h = h
 
-  pub filters : (went : Result Outcome NotJudged) → answer ≡ answer_to went written → GoesCopied written went
+  pub filters : (went : Result Outcome NotJudged) → answer ≡ answer_to r went written → GoesCopied written went
       → Filters (call r header part old new) before after answer
   filters went is h = record {
     went = went;
     goes = goes-told went is h;
-    told = told-written went answer written is;
+    told = told-written r went answer written is;
   }
 
 -- ---- a sink that never fails
@@ -118,8 +119,10 @@ full-end WriteFault is = refl
 full-end NoMemory is = absurd (omega (arith, is))
 
 -- so no call over it answers that an output does not fit
-pub never-full : (went : Result Outcome NotJudged) (answer : Answer) (written : ℕ) → answer ≡ answer_to went written
-    → IfOk went (λ o. o.ended ≡ WriteFault → HasRisen 0 0) → answer.status ≡ 4 → ⊥
-never-full (Ok o) answer written is cause full = no-rise (cause (full-end o.ended (sym (ap (λ a. a.status) is) ∙ full)))
-never-full (Err (Fault fault)) answer written is cause full = absurd (omega (arith, sym (ap (λ a. a.status) is) ∙ full))
-never-full (Err Memory) answer written is cause full = absurd (omega (arith, sym (ap (λ a. a.status) is) ∙ full))
+pub never-full : (r : Request) (went : Result Outcome NotJudged) (answer : Answer) (written : ℕ)
+    → answer ≡ answer_to r went written → IfOk went (λ o. o.ended ≡ WriteFault → HasRisen 0 0) → answer.status ≡ 4 → ⊥
+never-full r (Ok o) answer written is cause full =
+    no-rise (cause (full-end o.ended (sym (ap (λ a. a.status) is) ∙ full)))
+never-full r (Err (Fault fault)) answer written is cause full =
+    absurd (omega (arith, sym (ap (λ a. a.status) is) ∙ full))
+never-full r (Err Memory) answer written is cause full = absurd (omega (arith, sym (ap (λ a. a.status) is) ∙ full))

@@ -15,7 +15,9 @@ pub mod ItemLemmas
 pub mod JudgedLemmas
 pub mod LineCutLemmas
 pub mod ListLemmas
+pub mod MainLemmas
 pub mod NarrowLemmas
+pub mod PlaceLemmas
 pub mod RangeLemmas
 pub mod RecordLemmas
 pub mod ReportLemmas

@@ -1,7 +1,14 @@
 -- Worked rows: where features stand, and the record of one.
-use Rattle.std.proofs.Common.{◌≡◌, ℕ, zero, suc, true, ◌<◌, List, [], ◌∷◌, ◌++◌, None, Some, get_or, length, lit≤, map, refl, arith, ◌∙◌}
+use Rattle.std.proofs.Common.{◌≡◌, ℕ, zero, suc, false, true, ◌<◌, List, [], ◌∷◌, ◌++◌, None, Some, get_or, length, lit≤, map, refl, arith, ◌∙◌}
 use Rattle.std.specs.List.{filter}
 use Rattle.std.specs.Str.{chars}
+use lib.Utf8.{encode}
+use Rattle.std.specs.Str.{is_utf8}
+use Rattle.cj_decimal.specs.Meaning.Reading.{digits_front, digits_rest, begins}
+use Rattle.cj_decimal.specs.Meaning.Reading.{is_empty, begins_digit, body, is_int, is_frac, frac_digits, after_frac}
+use Rattle.cj_decimal.specs.Meaning.Reading.{exp_digits, is_whole_digits, is_exp, exp_value}
+use Rattle.cj_decimal.proofs.Classes.{class}
+use Rattle.cj_decimal.proofs.Grammar.{spells_test}
 use Rattle.cj_spans.specs.declared.reason.Reason.{Reason}
 use Rattle.cj_spans.specs.declared.reason.Reason.TheVariants.{Syntax}
 use Rattle.cj_spans.specs.Meaning.Text.{text, code_points_after, first_code_point, first_width}
@@ -20,8 +27,11 @@ use Rattle.cj_stream.specs.Verdict.{good_from, verdict, verdict_at}
 use Rattle.cj_stream.proofs.GoingRowLemmas.{same-verdict}
 use Rattle.cj_stream.proofs.RowLemmas.{comma_second, feature_third, feature_tree, header_first, header_tree, open_line}
 use Rattle.cj_stream.proofs.VerdictLemmas.{verdict-blank}
+use Rattle.cj_stream.proofs.BoxRowLemmas.{one, zero as naught}
+use Rattle.cj_stream.proofs.BoxTextLemmas.{no-class}
+use Rattle.cj_stream.specs.BoxText.{is_number}
 use Rattle.cityseq_c.specs.Features.{IsRecordOf, Spot, bits, spots_from}
-use Rattle.cityseq_c.specs.Rows.{BetweenRow, BitRow, BlankRow, RecordRow, small_record}
+use Rattle.cityseq_c.specs.Rows.{AttributesRow, BetweenRow, BitRow, BlankRow, FaultRow, RecordRow, small_record}
 use Rattle.cityseq_c.specs.Tally.{range_of}
 
 -- the lines of the features that are kept of some lines, and where these begin
@@ -58,6 +68,35 @@ pub bit : BitRow
 unfolding bits
 bit = (refl, refl)
 
+-- ---- attributes
+
+pub attributes : AttributesRow
+unfolding text code_points_after first_code_point first_width chars
+attributes = (
+  (refl, refl),
+  (λ h. absurd (omega (arith, h.0))),
+  (λ h. absurd (omega (arith, h.0))),
+  (refl, refl),
+)
+
+-- ---- faults of a request
+
+no-text : is_number [] ≡ false
+unfolding digits_front digits_rest begins is_empty begins_digit body is_int is_frac frac_digits after_frac exp_digits
+    is_whole_digits is_exp exp_value
+no-text = no-class [] (λ n. absurd (cc (spells_test [] n.0 n.1).0)) (class [])
+
+pub fault : FaultRow
+unfolding object_types is_utf8 chars encode
+fault = (
+  refl,
+  refl,
+  rw (naught.0, one.0, no-text) refl,
+  rw (naught.0, one.0) refl,
+  rw (naught.1, one.1) refl,
+  rw naught.1 refl,
+)
+
 -- the record of the small feature, with its tree
 small : Spot
 small = record {
@@ -85,6 +124,7 @@ shown t header e f = rw (e, f) (record {
   begin = refl;
   long = refl;
   id = record { id = _; member = refl; begin = refl; long = refl };
+  attributes = (refl, refl);
   objects = refl;
   geometries = refl;
   types = refl;

@@ -1,4 +1,4 @@
-use Rattle.cityseq_c.proofs.RowLemmas.{between, bit, blank, record_of}
+use Rattle.cityseq_c.proofs.RowLemmas.{attributes, between, bit, blank, record_of}
 use Rattle.cityseq_c.proofs.row_laws.feature_rows_compute.Goals as goal
 
 pub returns-clause-blank : goal.returns-clause-blank
@@ -12,3 +12,6 @@ returns-clause-record_of c = record_of
 
 pub returns-clause-bits : goal.returns-clause-bits
 returns-clause-bits c = bit
+
+pub returns-clause-attributes : goal.returns-clause-attributes
+returns-clause-attributes c = attributes

@@ -16,6 +16,7 @@ returns c lf = record {
     long = ap length c.bytes-2.ensures.spelling
         ∙ ap (λ l. length (spelling_of l (tree c.id-id.result))) c.id-id.ensures.line;
   };
+  attributes = c.attributes_span-attributes_begin.ensures;
   objects = c.tally_objects-objects.ensures.count;
   geometries = c.tally_geometries-geometries.ensures.count;
   types = c.tally_objects-objects.ensures.types;
