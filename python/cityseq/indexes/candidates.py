@@ -88,7 +88,12 @@ def reads_all(base: Any, work: Work, features: int, size: int) -> bool:
     """Whether to read streams of so many features and bytes takes less time than to read the lines
     that a query may keep, by an estimate. False for small streams."""
     most = size * features // (size + LINE * features)  # lines that take as much time
-    if size < SMALL or work.where is not None or work.ids is not None and work.ids.count(b"\n") < most:
+    if (
+        size < SMALL
+        or work.where is not None
+        or work.ids is not None
+        and work.ids.count(b"\n") < most
+    ):
         return False
     conditions, values = _of_names(work)
     if conditions:

@@ -82,9 +82,7 @@ class Catalogue:
                 for stream in index.streams:
                     self._add(pool, stream, index.attributes)
 
-    def _add(
-        self, pool: Pool, stream: IndexedStream, attributes: Mapping[str, Attribute]
-    ) -> None:
+    def _add(self, pool: Pool, stream: IndexedStream, attributes: Mapping[str, Attribute]) -> None:
         if pool.base is not None and stream.is_slow:
             raise RequestError(f"{stream.path}: {NO_RANGES}")
         name = first = name_of(stream.told_path)

@@ -76,7 +76,11 @@ PAGES = (JSON, HTML)  # of documents
 SCHEMAS = (SCHEMA, HTML)
 ITEMS = (GEOJSON, CITY_JSON_SEQ, HTML)  # of pages of features
 ITEM = (GEOJSON, CITY_JSON, CITY_JSON_SEQ, HTML)  # of a feature
-ALIASES = {"json": (GEOJSON, OPENAPI, SCHEMA), "cityjson": (CITY_JSON,), "cityjsonseq": (CITY_JSON_SEQ,)}
+ALIASES = {
+    "json": (GEOJSON, OPENAPI, SCHEMA),
+    "cityjson": (CITY_JSON,),
+    "cityjsonseq": (CITY_JSON_SEQ,),
+}
 
 
 def dumped(told: Any) -> bytes:

@@ -158,7 +158,10 @@ class Items(Cut):
             )
         self.selects: dict[str, Any] = {
             name: query.texts(name) if name in LISTS else query.text(name)
-            for name in [*SELECTS, *(each.name for each in of_attributes(attributes.values(), known))]
+            for name in [
+                *SELECTS,
+                *(each.name for each in of_attributes(attributes.values(), known)),
+            ]
             if name in query
         }
 

@@ -157,7 +157,9 @@ def of_judging(limits: Limits) -> tuple[Parameter, ...]:
     """Returns the parameters that say how a body is judged."""
     return (
         Parameter("keep_going", "Report each invalid line, and go on.", FLAG),
-        Parameter("tree", "Reject a feature if its main city object does not reach all others.", FLAG),
+        Parameter(
+            "tree", "Reject a feature if its main city object does not reach all others.", FLAG
+        ),
         Parameter(
             "line_limit",
             "Reject a line with more bytes.",

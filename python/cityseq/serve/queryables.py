@@ -21,7 +21,10 @@ if TYPE_CHECKING:
     from .context import Context
 
 RELATION = "http://www.opengis.net/def/rel/ogc/1.0/queryables"
-PART, CQL2 = "http://www.opengis.net/spec/ogcapi-features-3/1.0/conf/", "http://www.opengis.net/spec/cql2/1.0/conf/"
+PART, CQL2 = (
+    "http://www.opengis.net/spec/ogcapi-features-3/1.0/conf/",
+    "http://www.opengis.net/spec/cql2/1.0/conf/",
+)
 QUERYABLES = (f"{PART}queryables", f"{PART}queryables-query-parameters")
 FILTERS = (
     f"{PART}filter",
