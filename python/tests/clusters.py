@@ -31,15 +31,17 @@ def settings():
     return {**os.environ, "PYTHONPATH": os.path.join(ROOT, "python")}
 
 
-def begun(workers):
-    """A cluster of workers of one thread, each a process of its own, and a client of it."""
+def begun(workers, processes=True):
+    """A cluster of workers of one thread, and a client of it. Each worker is a process of its own,
+    or else a thread of this process, which begins at once."""
     os.environ.update(settings())
     quiet()
     room = tempfile.TemporaryDirectory()  # not the folder that all clusters of the machine share
     cluster = distributed.LocalCluster(
         n_workers=workers,
         threads_per_worker=1,
-        processes=True,
+        processes=processes,
+        protocol="tcp://",
         host=HOST,
         dashboard_address=f"{HOST}:0",
         worker_dashboard_address=f"{HOST}:0",

@@ -497,7 +497,8 @@ class Many(WithCluster):
             with self.subTest(words[0]):
                 there = ran(*words, "--cluster", self.cluster.scheduler_address)
                 self.assertEqual(there, ran(*words))
-        out, said, status = ran("check", source, "--cluster", "tcp://127.0.0.1:9")
+        with mock.patch.object(jobs, "CONNECT", 1.0):
+            out, said, status = ran("check", source, "--cluster", "tcp://127.0.0.1:9")
         self.assertEqual((out, said.count("\n"), status), (b"", 1, 2))
         self.assertIn("there is no scheduler of Dask at tcp://127.0.0.1:9", said)
         for words in (("--jobs", "3", str(source)), ("-",)):
@@ -508,11 +509,6 @@ class Many(WithCluster):
 @unittest.skipIf(distributed is None, "distributed is not there")
 class Workers(InFolder):
     """Workers that join, that are missing, and that end, and schedulers that are not there."""
-
-    def begun(self, workers):
-        cluster, client = clusters.begun(workers)
-        self.addCleanup(clusters.end, cluster, client)
-        return cluster, client
 
     def test_the_command_says_nothing_that_dask_says(self):
         text = (
@@ -536,21 +532,20 @@ class Workers(InFolder):
 
     def test_no_worker_and_then_one(self):
         path = self.file(lines(10))
-        cluster, client = self.begun(0)
-        threading.Timer(3, cluster.scale, (1,)).start()
-        with mock.patch.object(jobs, "PATIENCE", 0.5):
-            with self.assertLogs("cityseq.dask", "WARNING") as log:
-                (found,) = cityseq.dask.check(client, path)
+        cluster, client = clusters.begun(0, processes=False)
+        self.addCleanup(clusters.end, cluster, client)
+        begin = mock.Mock(side_effect=lambda _: cluster.scale(1))
+        with mock.patch.object(jobs, "PATIENCE", 0), mock.patch.object(jobs._log, "warning", begin):
+            (found,) = cityseq.dask.check(client, path)
         self.assertEqual(found.features, 10)
-        self.assertEqual(len(log.records), 1)
-        self.assertIn("no worker", log.output[0])
-        made = jobs.Cluster(client, asked("filter"), 1 << 20)
-        before = made.ahead()
-        cluster.scale(2)
-        client.wait_for_workers(2)
-        time.sleep(jobs.LOOK)
-        self.assertEqual(made.threads(), 2)
-        self.assertGreaterEqual(before, 2)
+        begin.assert_called_once_with("the cluster has no worker: waiting for one")
+        made = jobs.Cluster(client, asked("check"), 1 << 20)
+        with mock.patch.object(jobs, "LEAST", 1):
+            self.assertEqual(made.ahead(), jobs.AHEAD)
+            cluster.scale(2)
+            client.wait_for_workers(2)
+            time.sleep(jobs.LOOK)
+            self.assertEqual(made.ahead(), 2 * jobs.AHEAD)
 
     def test_a_scheduler_that_goes(self):
         room = tempfile.TemporaryDirectory()

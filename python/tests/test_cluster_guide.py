@@ -1,6 +1,7 @@
 """What the guide and the examples say about many machines, followed in an empty folder."""
 import contextlib
 import os
+import random
 import re
 import shutil
 import socket
@@ -15,10 +16,11 @@ MANIFEST = "_manifest.json"
 
 
 def free_port():
-    """A port that nothing listens at."""
-    with socket.socket() as found:
-        found.bind((HOST, 0))
-        return found.getsockname()[1]
+    """A port that nothing listens at, and which the system gives to no connection."""
+    while True:
+        with contextlib.suppress(OSError), socket.socket() as found:
+            found.bind((HOST, random.randrange(20_000, 32_000)))
+            return found.getsockname()[1]
 
 
 def of_session(leader):

@@ -327,7 +327,7 @@ def adapts(counts, folder, path):
         "silence_logs": logging.CRITICAL,
     }
     os.environ["PYTHONPATH"] = str(ROOT / "python")
-    paths, taken = [path] * 40, []
+    paths, taken = [path] * 8, []
     for is_adaptive in (False, True):
         with distributed.LocalCluster(n_workers=0 if is_adaptive else 3, **settings) as cluster:
             cluster.adapt(minimum=0, maximum=3, interval="200ms") if is_adaptive else None
@@ -337,7 +337,7 @@ def adapts(counts, folder, path):
                 taken.append(time.monotonic() - begin)
     shutil.rmtree(folder / "space", ignore_errors=True)
     told = f"{taken[1]:.1f} s, three fixed workers {taken[0]:.1f} s"
-    right = len(found) == 40 and all(found) and len(did) == 3
+    right = len(found) == 8 and all(found) and len(did) == 3
     counts.row(f"{len(did)} workers of adapt()", right, told)
     print(f"adapt(): {told}")
 
