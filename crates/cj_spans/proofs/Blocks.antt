@@ -24,8 +24,8 @@ shifted_few m s n l h =
     (div-lt_iff_lt-mul (pow_pos s)).1 (subst (λ k. m < k) (ap (λ k. 2 ^ k) (sym e) ∙ pow-add 2 (n - s) s) h)
 
 -- the marks from a later place on
-pub later : (b : List ℕ) (i j m s : ℕ) → AreMarkedTo b i j m → i + s ≤ j → AreMarkedTo b (i + s) j (m / 2 ^ s)
-later b i j m s a l =
+pub later : {b : List ℕ} {i j m : ℕ} (s : ℕ) → AreMarkedTo b i j m → i + s ≤ j → AreMarkedTo b (i + s) j (m / 2 ^ s)
+later {b} {i} {j} {m} s a l =
     let near = a.near in
     record {
       order = l;
@@ -44,8 +44,8 @@ pub record EndsDigits (b : List ℕ) (i m t : ℕ) : Type 0 where
   pub digits : (k : ℕ) → i ≤ k → k < i + t → is_digit (byte b k) ≡ true
   pub rest : AreMarked b (i + (t + 1)) (m / 2 ^ (t + 1))
 
-pub first_mark : (b : List ℕ) (i m : ℕ) → AreMarked b i m → 0 < m → m < 2 ^ 64 → EndsDigits b i m (trailing_zeros w64 m)
-first_mark b i m a l h =
+pub first_mark : {b : List ℕ} {i m : ℕ} → AreMarked b i m → 0 < m → m < 2 ^ 64 → EndsDigits b i m (trailing_zeros w64 m)
+first_mark {b} {i} {m} a l h =
     let t = trailing_zeros w64 m in
     let z = bit_at-trailing_zeros w64 m l h in
     let n = a.marked.near in let w = a.marked.within in
@@ -59,7 +59,7 @@ first_mark b i m a l h =
       digits = λ k low high.
           let e : i + (k - i) ≡ k = omega arith in
           subst (λ n. is_digit (byte b n) ≡ true) e (a.marked.digits (k - i) (omega arith) (z.2 (k - i) (omega arith)));
-      rest = record { stop = a.stop; marked = later b i a.stop m (t + 1) a.marked (omega arith) };
+      rest = record { stop = a.stop; marked = later (t + 1) a.marked (omega arith) };
     }
   where
     one_is_none : (x : ℕ) → x ≡ 1 → x ≡ 0 → ⊥
@@ -69,12 +69,11 @@ digit_range : (c : ℕ) → is_digit c ≡ true → (48 ≤ c) × (c ≤ 57)
 digit_range c h = (grind (arith, nat_tests), grind (arith, nat_tests))
 
 -- the digits before the lowest mark are a number, where a 0 stands alone
-pub block_number : (b : List ℕ) (i m t : ℕ) → EndsDigits b i m t → (t ≡ 0 → ⊥) → (byte b i ≡ 48 → t ≡ 1)
+pub block_number : {b : List ℕ} {i m t : ℕ} → EndsDigits b i m t → (t ≡ 0 → ⊥) → (byte b i ≡ 48 → t ≡ 1)
     → IsNumberUpTo b i (i + t)
-block_number b i m t e n z =
+block_number {b} {i} {t} e n z =
     let some : 0 < t = omega (arith, n) in
     let within = e.within in
-    (number_is b i (i + t) (digit_range (byte b i) (e.digits i (omega arith) (omega arith)))
-    (λ q. let one = z q in omega arith)
-    (λ j x r. read_to b j (i + 1) (i + t) x Whole (omega arith)
+    (number_is {b = b} i {k = i + t} (digit_range (byte b i) (e.digits i (omega arith) (omega arith)))
+    (λ q. let one = z q in omega arith) (λ j x r. read_to (i + t) (omega arith)
     (λ k low high. whole_stays (byte b k) (e.digits k (omega arith) high)) r) (omega arith) within).1

@@ -34,12 +34,12 @@ use Rattle.cj_spans.proofs.Verdicts.{spells, nest_of, sinks_deep, fronts_below, 
 
 -- ---- lines that have the same bytes up to a place
 
-transfer : {b : List ℕ} (c : List ℕ) (n : ℕ) → ((k : ℕ) → k < n → byte b k ≡ byte c k) → (s : State) → Reaches b start s
+transfer : {b : List ℕ} (c : List ℕ) (n : ℕ) → ((k : ℕ) → k < n → byte b k ≡ byte c k) → {s : State} → Reaches b start s
     → s.place ≤ n → Reaches c start s
-transfer c n same s here l = here
-transfer {b} c n same s (on t v r h) l =
-    let p = next_place t v r h in
-    on t v (transfer c n same t r (omega arith)) (ap (λ z. step z t) (sym (same t.place (omega arith))) ∙ h)
+transfer c n same here l = here
+transfer {b} c n same (on t v r h) l =
+    let p = next_place v r h in
+    on t v (transfer c n same r (omega arith)) (ap (λ z. step z t) (sym (same t.place (omega arith))) ∙ h)
 
 same_byte : (b rest : List ℕ) (i k : ℕ) → i ≤ length b → k < i → get_or b k 0 ≡ get_or (take i b ++ rest) k 0
 same_byte b rest i k l h = grind (arith, common_steps)
@@ -50,18 +50,17 @@ rest_byte b rest i n l = grind (arith, common_steps)
 length_with : (b rest : List ℕ) (i : ℕ) → i ≤ length b → length (take i b ++ rest) ≡ i + length rest
 length_with b rest i l = grind (arith, common_steps)
 
-pub text_front : (b : List ℕ) (i : ℕ) → i ≤ length b → BeginsText b i → IsJsonPrefix b i
-text_front b i l x =
+pub text_front : {b : List ℕ} {i : ℕ} → i ≤ length b → BeginsText b i → IsJsonPrefix b i
+text_front {b} {i} l x =
     let c = take i b ++ x.rest in
     let v = run_json c x.tree x.json in
     let p = (settled v.at _ v.settles).place in
     let q = length_with b x.rest i l in
-    let w = state_before c v.at i v.reached (omega arith) in
-    let e = w.place in
-    let r = transfer b i (λ k h. sym (same_byte b x.rest i k l h)) w.at w.reached (omega arith) in
+    let w = state_before i v.reached (omega arith) in
+    let r = transfer b i (λ k h. sym (same_byte b x.rest i k l h)) w.reached (omega arith) in
     record {
       open_count = length w.at.stack;
-      front = subst (λ n. JsonPrefix b 0 n (length w.at.stack)) w.place (inv_front w.at (inv_reaches b w.at r));
+      front = subst (λ n. JsonPrefix b 0 n (length w.at.stack)) w.place (inv_front (inv_reaches r));
     }
 
 -- ---- the open containers and what closes them
@@ -194,32 +193,29 @@ record Ended (c : List ℕ) (p : ℕ) : Type 0 where
   arrives : Arrives c start (idle After [] tokens (length c) p)
 
 -- one container is closed
-close_one : (c : List ℕ) (ks : List ℕ) (ts : List Token) (k j p : ℕ) (o : Option Token) → slice_get ts k ≡ o
+close_one : {c : List ℕ} (ks : List ℕ) (ts : List Token) (k j : ℕ) {p : ℕ} (o : Option Token) → slice_get ts k ≡ o
     → Arrives c start (idle After (k ∷ ks) ts j p) → IsContainer (option_map open_kind o)
     → byte c j ≡ closer (option_map open_kind o)
     → ((u : Token) → Reaches c start (idle After ks (slice_set ts k u) (suc j) p) → Ended c p) → Ended c p
-close_one c ks ts k j p None e a h b next = absurd h
-close_one c ks ts k j p (Some t) e a h b next =
+close_one ks ts k j None e a h b next = absurd h
+close_one ks ts k j {p} (Some t) e a h b next =
     let u = token_at t.start (suc j) (length ts) in
     let s = idle After (k ∷ ks) ts j p in
-    let r = arrive_on c start s (idle After ks (slice_set ts k u) (suc j) p)
-    (subst IsEnd (sym b) (closer_end (open_kind t) h)) a
+    let r = arrive_on (idle After ks (slice_set ts k u) (suc j) p) (subst IsEnd (sym b) (closer_end (open_kind t) h)) a
     (ap (λ z. step z s) b ∙ close_step k ks ts j p t (open_kind t) e refl h) in
     next u r
 
-close_all : (ks : List ℕ) (c cs : List ℕ) (ts : List Token) (j p : ℕ) → Arrives c start (idle After ks ts j p)
+close_all : (ks : List ℕ) {c cs : List ℕ} (ts : List Token) {j : ℕ} (p : ℕ) → Arrives c start (idle After ks ts j p)
     → AllContainers ks ts → closers ks ts ≡ cs → Has c j cs → Ended c p
-close_all [] c cs ts j p a all e h =
+close_all [] {c} {cs} ts {j} p a all e h =
     let n : length cs ≡ 0 = sym (ap length e) in
-    let w = h.whole in
     let q : j ≡ length c = omega arith in
     record { tokens = ts; arrives = subst (λ z. Arrives c start (idle After [] ts z p)) q a }
-close_all (k ∷ ks) c cs ts j p a all e h =
-    close_one c ks ts k j p (slice_get ts k) refl a all.0 (has_head c j _ _ (subst (Has c j) (sym e) h)) (λ u r.
-    close_all ks c (closers ks ts) (slice_set ts k u) (suc j) p
-    (arrived c start After ks (slice_set ts k u) (suc j) p r) (containers_set ks ts k u all.1 all.2)
-    (closers_set ks ts k u all.1)
-    (has_tail c j _ _ (subst (Has c j) (sym e) h)))
+close_all (k ∷ ks) {c} ts {j} p a all e h =
+    close_one ks ts k j (slice_get ts k) refl a all.0 (has_head c j _ _ (subst (Has c j) (sym e) h)) (λ u r.
+    close_all ks (slice_set ts k u) {j = suc j} p
+    (arrived After ks (slice_set ts k u) (suc j) p r) (containers_set ks ts k u all.1 all.2)
+    (closers_set ks ts k u all.1) (has_tail c j _ _ (subst (Has c j) (sym e) h)))
 
 -- ---- a value after the front
 
@@ -230,32 +226,31 @@ zero_step Ready ks ts j p h = refl
 zero_step FirstItem ks ts j p h = refl
 zero_step _ ks ts j p h = absurd h
 
-read_zero : (c : List ℕ) (m : Mode) (ks : List ℕ) (ts : List Token) (j p : ℕ) → BeginsValue m → byte c j ≡ 48
+read_zero : {c : List ℕ} (m : Mode) (ks : List ℕ) (ts : List Token) (j p : ℕ) → BeginsValue m → byte c j ≡ 48
     → Reaches c start (idle m ks ts j p)
     → Arrives c start (idle After ks (ts ++ token_at j (suc j) (suc (length ts)) ∷ []) (suc j) p)
-read_zero c m ks ts j p h e r = record {
+read_zero m ks ts j p h e r = record {
   at = state (in_atom After j Zero) ks ts (suc j) p;
   reached = on (idle m ks ts j p) (state (in_atom After j Zero) ks ts (suc j) p) r
       (ap (λ z. step z (idle m ks ts j p)) e ∙ zero_step m ks ts j p h);
   settles = refl;
 }
 
-read_colon : (c : List ℕ) (ks : List ℕ) (ts : List Token) (j p : ℕ) → byte c j ≡ 58
+read_colon : {c : List ℕ} (ks : List ℕ) (ts : List Token) (j p : ℕ) → byte c j ≡ 58
     → Arrives c start (idle AfterName ks ts j p) → Reaches c start (idle Ready ks ts (suc j) p)
-read_colon c ks ts j p e a =
-    arrive_on c start (idle AfterName ks ts j p) (idle Ready ks ts (suc j) p) (subst IsEnd (sym e) colon) a
-    (ap (λ z. step z (idle AfterName ks ts j p)) e)
+read_colon ks ts j p e a =
+    arrive_on (idle Ready ks ts (suc j) p) (subst IsEnd (sym e) colon) a (ap (λ z. step z (idle AfterName ks ts j p)) e)
 
-read_value : (c : List ℕ) (ks : List ℕ) (ts : List Token) (j p : ℕ) → byte c j ≡ 58 → byte c (suc j) ≡ 48
+read_value : {c : List ℕ} (ks : List ℕ) (ts : List Token) (j p : ℕ) → byte c j ≡ 58 → byte c (suc j) ≡ 48
     → Arrives c start (idle AfterName ks ts j p)
     → Arrives c start (idle After ks (ts ++ token_at (suc j) (suc (suc j)) (suc (length ts)) ∷ []) (suc (suc j)) p)
-read_value c ks ts j p e f a = read_zero c Ready ks ts (suc j) p tt f (read_colon c ks ts j p e a)
+read_value ks ts j p e f a = read_zero Ready ks ts (suc j) p tt f (read_colon ks ts j p e a)
 
 -- an empty name
-read_name : (c : List ℕ) (m : Mode) (ks : List ℕ) (ts : List Token) (j p : ℕ) → BeginsName m → byte c j ≡ 34
+read_name : {c : List ℕ} (m : Mode) (ks : List ℕ) (ts : List Token) (j p : ℕ) → BeginsName m → byte c j ≡ 34
     → byte c (suc j) ≡ 34 → Reaches c start (idle m ks ts j p)
     → Arrives c start (idle AfterName ks (ts ++ token_at j (suc (suc j)) (suc (length ts)) ∷ []) (suc (suc j)) p)
-read_name c m ks ts j p h e f r =
+read_name m ks ts j p h e f r =
     let s = state (in_atom AfterName j InString) ks ts (suc j) p in
     let q = on (idle m ks ts j p) s r (ap (λ z. step z (idle m ks ts j p)) e ∙ name_34 m ks ts j p h) in
     record {
@@ -264,14 +259,13 @@ read_name c m ks ts j p h e f r =
       settles = refl;
     }
 
-read_member : (c : List ℕ) (m : Mode) (ks : List ℕ) (ts : List Token) (j p : ℕ) → BeginsName m → byte c j ≡ 34
+read_member : {c : List ℕ} (m : Mode) (ks : List ℕ) (ts : List Token) (j p : ℕ) → BeginsName m → byte c j ≡ 34
     → byte c (suc j) ≡ 34 → byte c (suc (suc j)) ≡ 58 → byte c (suc (suc (suc j))) ≡ 48
     → Reaches c start (idle m ks ts j p)
     → Arrives c start (idle After ks (let us = with_name ts j (suc (suc j)) in
-    us ++ token_at (suc (suc (suc j))) (suc (suc (suc (suc j)))) (suc (length us)) ∷ [])
-    (suc (suc (suc (suc j)))) p)
-read_member c m ks ts j p h e f g i r =
-    read_value c ks (with_name ts j (suc (suc j))) (suc (suc j)) p g i (read_name c m ks ts j p h e f r)
+    us ++ token_at (suc (suc (suc j))) (suc (suc (suc (suc j)))) (suc (length us)) ∷ []) (suc (suc (suc (suc j)))) p)
+read_member m ks ts j p h e f g i r =
+    read_value ks (with_name ts j (suc (suc j))) (suc (suc j)) p g i (read_name m ks ts j p h e f r)
 
 -- bytes after which the value that is begun, or is to come, has ended
 record Finish (s : State) : Type 0 where
@@ -282,12 +276,12 @@ record Finish (s : State) : Type 0 where
   goes : (c : List ℕ) → Reaches c start s → ((n : ℕ) → n < length rest → byte c (s.place + n) ≡ get_or rest n 0)
       → Arrives c start (idle After stack tokens (s.place + length rest) s.deepest)
 
-place_at : (c : List ℕ) (j k x : ℕ) → j ≡ k → byte c k ≡ x → byte c j ≡ x
-place_at c j k x e h = ap (byte c) e ∙ h
+place_at : (c : List ℕ) (j k : ℕ) {x : ℕ} → j ≡ k → byte c k ≡ x → byte c j ≡ x
+place_at c j k e h = ap (byte c) e ∙ h
 
-arrives_at : (c ks : List ℕ) (ts : List Token) (j k p : ℕ) → j ≡ k → Arrives c start (idle After ks ts j p)
+arrives_at : {c : List ℕ} (ks : List ℕ) (ts : List Token) (j k p : ℕ) → j ≡ k → Arrives c start (idle After ks ts j p)
     → Arrives c start (idle After ks ts k p)
-arrives_at c ks ts j k p e a = subst (λ z. Arrives c start (idle After ks ts z p)) e a
+arrives_at {c} ks ts j k p e a = subst (λ z. Arrives c start (idle After ks ts z p)) e a
 
 finish_value : (m : Mode) (k p : ℕ) (ks : List ℕ) (ts : List Token) → BeginsValue m → AllContainers ks ts
     → Finish (idle m ks ts k p)
@@ -296,8 +290,8 @@ finish_value m k p ks ts h all = record {
   stack = ks;
   tokens = ts ++ token_at k (suc k) (suc (length ts)) ∷ [];
   containers = containers_more ks ts _ all;
-  goes = λ c r b. arrives_at c ks _ (suc k) (k + 1) p (omega arith)
-      (read_zero c m ks ts k p h (place_at c k (k + 0) 48 (omega arith) (b 0 (omega arith))) r);
+  goes = λ c r b. arrives_at ks _ (suc k) (k + 1) p (omega arith)
+      (read_zero m ks ts k p h (place_at c k (k + 0) (omega arith) (b 0 (omega arith))) r);
 }
 
 finish_name : (m : Mode) (k p : ℕ) (ks : List ℕ) (ts : List Token) → BeginsName m → AllContainers ks ts
@@ -308,11 +302,11 @@ finish_name m k p ks ts h all = record {
   tokens = let us = with_name ts k (suc (suc k)) in
       us ++ token_at (suc (suc (suc k))) (suc (suc (suc (suc k)))) (suc (length us)) ∷ [];
   containers = containers_more ks _ _ (containers_more ks ts _ all);
-  goes = λ c r b. arrives_at c ks _ (suc (suc (suc (suc k)))) (k + 4) p (omega arith)
-      (read_member c m ks ts k p h (place_at c k (k + 0) 34 (omega arith) (b 0 (omega arith)))
-      (place_at c (suc k) (k + 1) 34 (omega arith) (b 1 (omega arith)))
-      (place_at c (suc (suc k)) (k + 2) 58 (omega arith) (b 2 (omega arith)))
-      (place_at c (suc (suc (suc k))) (k + 3) 48 (omega arith) (b 3 (omega arith))) r);
+  goes = λ c r b. arrives_at ks _ (suc (suc (suc (suc k)))) (k + 4) p (omega arith)
+      (read_member m ks ts k p h (place_at c k (k + 0) (omega arith) (b 0 (omega arith)))
+      (place_at c (suc k) (k + 1) (omega arith) (b 1 (omega arith)))
+      (place_at c (suc (suc k)) (k + 2) (omega arith) (b 2 (omega arith)))
+      (place_at c (suc (suc (suc k))) (k + 3) (omega arith) (b 3 (omega arith))) r);
 }
 
 finish_tree : (k p : ℕ) (ks : List ℕ) (ts : List Token) → AllContainers ks ts → Finish (idle After ks ts k p)
@@ -321,7 +315,7 @@ finish_tree k p ks ts all = record {
   stack = ks;
   tokens = ts;
   containers = all;
-  goes = λ c r b. arrives_at c ks ts k (k + 0) p (omega arith) (arrived c start After ks ts k p r);
+  goes = λ c r b. arrives_at ks ts k (k + 0) p (omega arith) (arrived After ks ts k p r);
 }
 
 finish_colon : (k p : ℕ) (ks : List ℕ) (ts : List Token) → AllContainers ks ts → Finish (idle AfterName ks ts k p)
@@ -330,9 +324,9 @@ finish_colon k p ks ts all = record {
   stack = ks;
   tokens = ts ++ token_at (suc k) (suc (suc k)) (suc (length ts)) ∷ [];
   containers = containers_more ks ts _ all;
-  goes = λ c r b. arrives_at c ks _ (suc (suc k)) (k + 2) p (omega arith)
-      (read_value c ks ts k p (place_at c k (k + 0) 58 (omega arith) (b 0 (omega arith)))
-      (place_at c (suc k) (k + 1) 48 (omega arith) (b 1 (omega arith))) (arrived c start AfterName ks ts k p r));
+  goes = λ c r b. arrives_at ks _ (suc (suc k)) (k + 2) p (omega arith)
+      (read_value ks ts k p (place_at c k (k + 0) (omega arith) (b 0 (omega arith)))
+      (place_at c (suc k) (k + 1) (omega arith) (b 1 (omega arith))) (arrived AfterName ks ts k p r));
 }
 
 finish_scalar : (e k p : ℕ) (ks : List ℕ) (ts : List Token) (x : Lex) → AllContainers ks ts
@@ -346,7 +340,7 @@ finish_scalar e k p ks ts x all =
       containers = containers_more ks ts _ all;
       goes = λ c r b. record {
         at = state (in_atom After e z.last) ks ts (k + length z.rest) p;
-        reached = continues_reaches (continues_run z.rest c k k x x z.last still z.run b) start After e ks ts p r;
+        reached = continues_reaches (continues_run z.rest z.last still z.run b) After e ks ts p r;
         settles = ap (λ q. end_atom After e q (state (in_atom After e z.last) ks ts (k + length z.rest) p)) z.done;
       };
     }
@@ -361,9 +355,9 @@ front_byte [] ys n h = absurd (omega arith)
 front_byte (x ∷ xs) ys zero h = refl
 front_byte (x ∷ xs) ys (suc n) h = front_byte xs ys n (omega arith)
 
-finish_in_name : {b : List ℕ} (l k p : ℕ) (ks : List ℕ) (ts : List Token) (x : Lex) → InAtom b l k x → byte b l ≡ 34
+finish_in_name : {b : List ℕ} {l k : ℕ} (p : ℕ) (ks : List ℕ) (ts : List Token) {x : Lex} → InAtom b l k x → byte b l ≡ 34
     → AllContainers ks ts → Finish (state (in_atom AfterName l x) ks ts k p)
-finish_in_name l k p ks ts x w q all =
+finish_in_name {l} {k} p ks ts {x} w q all =
     let z = text_end x (in_text w q) in
     let n = length z.rest in
     let us = with_name ts l (k + n) in
@@ -374,40 +368,39 @@ finish_in_name l k p ks ts x w q all =
       tokens = us ++ token_at (suc (k + n)) (suc (suc (k + n))) (suc (length us)) ∷ [];
       containers = containers_more ks us _ (containers_more ks ts _ all);
       goes = λ c r b.
-          let f = continues_run z.rest c k k x x StringDone still z.run
+          let f = continues_run z.rest StringDone still z.run
           (λ i h. b i (omega arith) ∙ front_byte z.rest (58 ∷ 48 ∷ []) i h) in
           let s = state (in_atom AfterName l StringDone) ks ts (k + n) p in
           let a : Arrives c start (idle AfterName ks us (k + n) p) =
-          record { at = s; reached = continues_reaches f start AfterName l ks ts p r; settles = refl } in
-          arrives_at c ks _ (suc (suc (k + n))) (k + length (z.rest ++ 58 ∷ 48 ∷ [])) p (omega arith)
-          (read_value c ks us (k + n) p
-          (place_at c (k + n) (k + (n + 0)) 58 (omega arith)
+          record { at = s; reached = continues_reaches f AfterName l ks ts p r; settles = refl } in
+          arrives_at ks _ (suc (suc (k + n))) (k + length (z.rest ++ 58 ∷ 48 ∷ [])) p (omega arith)
+          (read_value ks us (k + n) p (place_at c (k + n) (k + (n + 0)) (omega arith)
           (b (n + 0) (omega arith) ∙ seam_byte z.rest (58 ∷ 48 ∷ []) 0))
-          (place_at c (suc (k + n)) (k + (n + 1)) 48 (omega arith)
+          (place_at c (suc (k + n)) (k + (n + 1)) (omega arith)
           (b (n + 1) (omega arith) ∙ seam_byte z.rest (58 ∷ 48 ∷ []) 1)) a);
     }
 
-finish : {b : List ℕ} (s : State) → Inv b s → Finish s
-finish s (ready k p ks ts c) = finish_value Ready k p ks ts tt (context_containers c)
-finish s (first_item e k p ks ts c o w) = let t = token_at e 0 0 in
+finish : {b : List ℕ} {s : State} → Inv b s → Finish s
+finish (ready k p ks ts c) = finish_value Ready k p ks ts tt (context_containers c)
+finish (first_item e k p ks ts c o w) = let t = token_at e 0 0 in
     finish_value FirstItem k p (length ts ∷ ks) (ts ++ t ∷ []) tt (just_inside ks ts t tt (context_containers c))
-finish s (after_tree e j k p ks ts t c v w) =
+finish (after_tree e j k p ks ts t c v w) =
     finish_tree k p ks (ts ++ flatten (length ts) t)
     (containers_more ks ts (flatten (length ts) t) (context_containers c))
-finish s (first_name e k p ks ts c o w) = let t = token_at e 0 1 in
+finish (first_name e k p ks ts c o w) = let t = token_at e 0 1 in
     finish_name FirstName k p (length ts ∷ ks) (ts ++ t ∷ []) tt (just_inside ks ts t tt (context_containers c))
-finish s (next_name e j k p ks ts us c o l w) =
+finish (next_name e j k p ks ts us c o l w) =
     let t = token_at e 0 1 in let fs = flatten_members (suc (length ts)) us in
     finish_name NextName k p (length ts ∷ ks) ((ts ++ t ∷ []) ++ fs) tt (inside ks ts t fs tt (context_containers c))
-finish s (after_name e j l m k p ks ts us c o ld w0 wd w) =
+finish (after_name e j l m k p ks ts us c o ld w0 wd w) =
     let t = token_at e 0 1 in let fs = flatten_members (suc (length ts)) us in
     let n = token_at l m (suc (length ((ts ++ t ∷ []) ++ fs))) in
     finish_colon k p (length ts ∷ ks) (((ts ++ t ∷ []) ++ fs) ++ n ∷ [])
     (containers_more (length ts ∷ ks) ((ts ++ t ∷ []) ++ fs) (n ∷ []) (inside ks ts t fs tt (context_containers c)))
-finish s (in_scalar e k p ks ts x c w) = finish_scalar e k p ks ts x (context_containers c)
-finish s (in_name e j l k p ks ts us x c o ld w0 q w) =
+finish (in_scalar e k p ks ts x c w) = finish_scalar e k p ks ts x (context_containers c)
+finish (in_name e j l k p ks ts us x c o ld w0 q w) =
     let t = token_at e 0 1 in let fs = flatten_members (suc (length ts)) us in
-    finish_in_name l k p (length ts ∷ ks) ((ts ++ t ∷ []) ++ fs) x w q (inside ks ts t fs tt (context_containers c))
+    finish_in_name p (length ts ∷ ks) ((ts ++ t ∷ []) ++ fs) w q (inside ks ts t fs tt (context_containers c))
 
 -- ---- fronts and texts
 
@@ -416,13 +409,13 @@ record TextOf (b : List ℕ) (i p : ℕ) : Type 0 where
   text : BeginsText b i
   nest_is : p ≡ nest text.tree
 
-state_text : (b : List ℕ) (i : ℕ) → i ≤ length b → (s : State) → Reaches b start s → s.place ≡ i → TextOf b i s.deepest
-state_text b i l s reached e =
-    let z = finish s (inv_reaches b s reached) in
+state_text : {b : List ℕ} {i : ℕ} → i ≤ length b → {s : State} → Reaches b start s → s.place ≡ i → TextOf b i s.deepest
+state_text {b} {i} l {s} reached e =
+    let z = finish (inv_reaches reached) in
     let cs = closers z.stack z.tokens in
     let rest = z.rest ++ cs in
     let c = take i b ++ rest in
-    let r = transfer c i (λ k h. same_byte b rest i k l h) s reached (omega arith) in
+    let r = transfer c i (λ k h. same_byte b rest i k l h) reached (omega arith) in
     let m = length z.rest in
     let a = z.goes c r (λ n h. ap (λ q. byte c (q + n)) e ∙ rest_byte b rest i n l ∙ front_byte z.rest cs n h) in
     let w1 = length_with b rest i l in
@@ -432,30 +425,30 @@ state_text b i l s reached e =
       bytes = λ n g. (let q : (s.place + m) + n ≡ i + (m + n) = omega arith in ap (byte c) q)
           ∙ rest_byte b rest i (m + n) l ∙ seam_byte z.rest cs n;
     } in
-    let d = close_all z.stack c cs z.tokens (s.place + m) s.deepest a z.containers refl h in
-    let t = spells d.arrives.at (inv_reaches c d.arrives.at d.arrives.reached) d.tokens s.deepest d.arrives.settles in
+    let d = close_all z.stack z.tokens s.deepest a z.containers refl h in
+    let t = spells (inv_reaches d.arrives.reached) d.tokens s.deepest d.arrives.settles in
     record {
       text = record { rest = rest; tree = t.tree; json = t.json };
-      nest_is = nest_of c t.tree d.arrives.at d.tokens s.deepest t.json d.arrives.reached d.arrives.settles;
+      nest_is = nest_of t.tree d.tokens s.deepest t.json d.arrives.reached d.arrives.settles;
     }
 
-pub front_text : (b : List ℕ) (i : ℕ) → i ≤ length b → IsJsonPrefix b i → BeginsText b i
-front_text b i l f = let v = front_runs f.front start Ready [] [] 0 tt here in
-    (state_text b i l v.at v.reached v.place).text
+pub front_text : {b : List ℕ} {i : ℕ} → i ≤ length b → IsJsonPrefix b i → BeginsText b i
+front_text l f = let v = front_runs f.front start Ready [] [] 0 tt here in
+    (state_text l v.reached v.place).text
 
 -- the place of a fault, told by texts
-pub first_fault : (b : List ℕ) (i : ℕ) → SyntaxAt b i → IsFirstFault b i
-first_fault b i s =
+pub first_fault : {b : List ℕ} {i : ℕ} → SyntaxAt b i → IsFirstFault b i
+first_fault {b} {i} s =
     let w = syntax_within s in
     record {
       within = w;
-      earlier = λ k h. front_text b (suc k) (omega arith) (fronts_below s k h);
+      earlier = λ k h. front_text (omega arith) (fronts_below s k h);
       here = λ l x. here_not s l x;
       whole = λ e t j. whole_not s e t j;
     }
   where
     here_not : SyntaxAt b i → i < length b → BeginsText b (suc i) → ⊥
-    here_not (stuck l f n) h x = n (text_front b (suc i) h x)
+    here_not (stuck l f n) h x = n (text_front h x)
     here_not (short e f n) h x = absurd (omega arith)
 
     whole_not : SyntaxAt b i → i ≡ length b → (t : Tree) → Json b t → ⊥
@@ -471,50 +464,48 @@ text_no_fault b t j i f = elim (eq-or-lt_of_le f.within) [
 ]
 
 -- a text that begins so opens as many containers as the line does
-text_nest : (b : List ℕ) (i n : ℕ) → i ≤ length b → JsonPrefix b 0 i n → (x : BeginsText b i) → n ≤ nest x.tree
-text_nest b i n l f x =
+text_nest : {b : List ℕ} {i : ℕ} (n : ℕ) → i ≤ length b → JsonPrefix b 0 i n → (x : BeginsText b i) → n ≤ nest x.tree
+text_nest {b} {i} n l f x =
     let c = take i b ++ x.rest in
     let u = front_runs f start Ready [] [] 0 tt here in
-    let r = transfer c i (λ k h. same_byte b x.rest i k l h) u.at u.reached (let e = u.place in omega arith) in
+    let r = transfer c i (λ k h. same_byte b x.rest i k l h) u.reached (let e = u.place in omega arith) in
     let v = run_json c x.tree x.json in
     let e = settled v.at _ v.settles in
-    let p = e.place in let d = e.deepest in
     let q = length_with b x.rest i l in
-    let w = state_before c v.at i v.reached (omega arith) in
-    let same : u.at ≡ w.at = same_state c u.at w.at r w.reached (u.place ∙ sym w.place) in
-    let o = u.open_count in let a = (lawful_reaches u.at u.reached).deep in let b2 = w.below in
+    let w = state_before i v.reached (omega arith) in
+    let same : u.at ≡ w.at = same_state r w.reached (u.place ∙ sym w.place) in
+    let a = (lawful_reaches u.reached).deep in
     let s : u.at.deepest ≡ w.at.deepest = ap (λ z. z.deepest) same in
     let g = rise-nest 0 0 x.tree (omega arith) in
     omega arith
 
 -- the place that is too deep, told by texts
-pub first_too_deep : (b : List ℕ) (d i : ℕ) → SinksAt b d i → IsFirstTooDeep b d i
-first_too_deep b d i a =
-    let k = sinks_deep b d i a in
+pub first_too_deep : {b : List ℕ} {d i : ℕ} → SinksAt b d i → IsFirstTooDeep b d i
+first_too_deep {b} {d} {i} a =
+    let k = sinks_deep a in
     let w = a.within in
     record {
-      begins = front_text b (suc i) (omega arith) (record { open_count = suc d; front = k.deep });
-      each = λ x. text_nest b (suc i) (suc d) (omega arith) k.deep x;
+      begins = front_text (omega arith) (record { open_count = suc d; front = k.deep });
+      each = λ x. text_nest (suc d) (omega arith) k.deep x;
       earlier = λ j h. shallow_text j h;
     }
   where
     shallow_text : (j : ℕ) → j < i → (x : BeginsText b (suc j)) × (nest x.tree ≤ d)
     shallow_text j h =
-        let at = a.at in let w = a.within in
-        let s = state_before b a.last (suc j) a.reached (omega arith) in
-        let t = state_text b (suc j) (omega arith) s.at s.reached s.place in
-        let n = t.nest_is in let c = s.below in let g = a.shallow in
+        let w = a.within in
+        let s = state_before (suc j) a.reached (omega arith) in
+        let t = state_text (omega arith) s.reached s.place in
         (t.text, omega arith)
 
 -- the clauses of the scan, under the limit that the stack had before it was emptied
 module _ (X : Type 0) (b : List ℕ) (old_stack empty_stack new_stack : BoundedList ℕ) (new : BoundedList Token)
     (d : Cleared old_stack empty_stack) where
-  pub answers_first_too_deep : (r : Result X LineFault) (i : ℕ) → RunAnswers b empty_stack r new new_stack
+  pub answers_first_too_deep : {r : Result X LineFault} (i : ℕ) → RunAnswers b empty_stack r new new_stack
       → r ≡ Err (TooDeep i) → IsFirstTooDeep b old_stack.limit i
-  answers_first_too_deep r i a e =
+  answers_first_too_deep i a e =
       subst (λ n. IsFirstTooDeep b n i) d.limit
-      (first_too_deep b empty_stack.limit i (subst (λ z. RunAnswers b empty_stack z new new_stack) e a).0)
+      (first_too_deep (subst (λ z. RunAnswers b empty_stack z new new_stack) e a).0)
 
-  pub answers_first_fault : (r : Result X LineFault) (i : ℕ) → RunAnswers b empty_stack r new new_stack
+  pub answers_first_fault : {r : Result X LineFault} (i : ℕ) → RunAnswers b empty_stack r new new_stack
       → r ≡ Err (Syntax i) → IsFirstFault b i
-  answers_first_fault r i a e = first_fault b i (run_syntax X b empty_stack new new_stack r i a e).0
+  answers_first_fault i a e = first_fault (run_syntax X b empty_stack new new_stack i a e).0

@@ -213,12 +213,12 @@ goes_phase (between m) c ks ts i p h = goes_read i p ts m c ks h.open_count h.de
 goes_phase (in_atom m a x) c ks ts i p h =
     goes_on m a x (lex_step x c) c ks ts i p h.began.1 h.began.0 h.open_count h.deep h.token_count
 
-pub goes : (s u : State) (c : ℕ) → IsLawful s → step c s ≡ Some u → Goes s.place s.deepest u
-goes s u c l h = subst (GoesIf s.place s.deepest) h (goes_phase s.phase c s.stack s.tokens s.place s.deepest l)
+pub goes : {s : State} (u : State) (c : ℕ) → IsLawful s → step c s ≡ Some u → Goes s.place s.deepest u
+goes {s} u c l h = subst (GoesIf s.place s.deepest) h (goes_phase s.phase c s.stack s.tokens s.place s.deepest l)
 
-pub lawful_reaches : {b : List ℕ} (s : State) → Reaches b start s → IsLawful s
-lawful_reaches s here = record { open_count = omega arith; deep = omega arith; token_count = omega arith; began = tt }
-lawful_reaches {b} s (on t u r h) = (goes t u (byte b t.place) (lawful_reaches t r) h).lawful
+pub lawful_reaches : {b : List ℕ} {s : State} → Reaches b start s → IsLawful s
+lawful_reaches here = record { open_count = omega arith; deep = omega arith; token_count = omega arith; began = tt }
+lawful_reaches {b} (on t u r h) = (goes u (byte b t.place) (lawful_reaches r) h).lawful
 
 -- where a scalar or a name ends, the law still holds
 settle_lawful : (m : Mode) (a : ℕ) (x : Lex) (r : Option Kind) (ks : List ℕ) (ts : List Token) (i p : ℕ) (t : State)
@@ -239,26 +239,26 @@ lawful_phase : (f : Phase) (ks : List ℕ) (ts : List Token) (i p : ℕ) (t : St
 lawful_phase (between m) ks ts i p t l h = subst IsLawful (some_same _ t h) l
 lawful_phase (in_atom m a x) ks ts i p t l h = settle_lawful m a x (lex_kind x) ks ts i p t l h
 
-pub lawful_settles : (s t : State) → IsLawful s → settle s ≡ Some t → IsLawful t
-lawful_settles s t l h = lawful_phase s.phase s.stack s.tokens s.place s.deepest t l h
+pub lawful_settles : {s : State} (t : State) → IsLawful s → settle s ≡ Some t → IsLawful t
+lawful_settles {s} t l h = lawful_phase s.phase s.stack s.tokens s.place s.deepest t l h
 
 -- ---- runs are determined
 
 suc_same : (m n : ℕ) → suc m ≡ suc n → m ≡ n
 suc_same m n h = omega arith
 
-pub next_place : {b : List ℕ} (t v : State) → Reaches b start t → step (byte b t.place) t ≡ Some v
+pub next_place : {b : List ℕ} {t : State} (v : State) → Reaches b start t → step (byte b t.place) t ≡ Some v
     → v.place ≡ suc t.place
-next_place {b} t v r h = (goes t v (byte b t.place) (lawful_reaches t r) h).place
+next_place {b} {t} v r h = (goes v (byte b t.place) (lawful_reaches r) h).place
 
-pub same_state : (b : List ℕ) (s u : State) → Reaches b start s → Reaches b start u → s.place ≡ u.place → s ≡ u
-same_state b s u here here e = refl
-same_state b s u here (on t v r h) e = let p = next_place t v r h in absurd (omega arith)
-same_state b s u (on t v r h) here e = let p = next_place t v r h in absurd (omega arith)
-same_state b s u (on t v r h) (on t2 v2 r2 h2) e =
-    let p = next_place t v r h in
-    let p2 = next_place t2 v2 r2 h2 in
-    let d : t ≡ t2 = same_state b t t2 r r2 (suc_same _ _ (sym p ∙ e ∙ p2)) in
+pub same_state : {b : List ℕ} {s u : State} → Reaches b start s → Reaches b start u → s.place ≡ u.place → s ≡ u
+same_state here here e = refl
+same_state here (on t v r h) e = let p = next_place v r h in absurd (omega arith)
+same_state (on t v r h) here e = let p = next_place v r h in absurd (omega arith)
+same_state {b} (on t v r h) (on t2 v2 r2 h2) e =
+    let p = next_place v r h in
+    let p2 = next_place v2 r2 h2 in
+    let d : t ≡ t2 = same_state r r2 (suc_same _ _ (sym p ∙ e ∙ p2)) in
     some_same v v2 (sym h ∙ ap (λ w. step (byte b w.place) w) d ∙ h2)
 
 -- the state at an earlier place
@@ -268,13 +268,12 @@ pub record Before (b : List ℕ) (s : State) (k : ℕ) : Type 0 where
   pub place : at.place ≡ k
   pub below : at.deepest ≤ s.deepest
 
-pub state_before : (b : List ℕ) (s : State) (k : ℕ) → Reaches b start s → k ≤ s.place → Before b s k
-state_before b s k here h = record { at = start; reached = here; place = omega arith; below = omega arith }
-state_before b s k (on t v r e) h =
-    let g = goes t v (byte b t.place) (lawful_reaches t r) e in
-    let p = g.place in let d = g.deepest in
+pub state_before : {b : List ℕ} {s : State} (k : ℕ) → Reaches b start s → k ≤ s.place → Before b s k
+state_before k here h = record { at = start; reached = here; place = omega arith; below = omega arith }
+state_before {b} k (on t v r e) h =
+    let g = goes v (byte b t.place) (lawful_reaches r) e in
     elim (eq-or-lt_of_le h) [
-      | inr l ↦ let z = state_before b t k r (omega arith) in let y = z.below in
+      | inr l ↦ let z = state_before k r (omega arith) in
           record { at = z.at; reached = z.reached; place = z.place; below = omega arith }
       | inl q ↦ record { at = v; reached = on t v r e; place = sym q; below = omega arith }
     ]

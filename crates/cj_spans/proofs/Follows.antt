@@ -14,8 +14,8 @@ use Rattle.cj_spans.proofs.Places.{run_atom, run_name}
 use Rattle.cj_spans.proofs.Lists.{length-snoc, items_more, members_more, array_done, object_done, array_empty, object_empty, slice_get-append, slice_get-seam, rise, rise_items, rise_members, rise_items-add, rise_members-add}
 use Rattle.cj_spans.proofs.Runs.{IsEnd, comma, colon, bracket, brace, Arrives, arrive_on, arrived, skip, skip_after, BeginsName, idle}
 
-is_end : {c : ℕ} (d : ℕ) → IsEnd d → c ≡ d → IsEnd c
-is_end d e h = subst IsEnd (sym h) e
+is_end : {c : ℕ} {d : ℕ} → IsEnd d → c ≡ d → IsEnd c
+is_end e h = subst IsEnd (sym h) e
 
 -- ---- single steps
 
@@ -26,10 +26,10 @@ open_91 Ready ks ts i p h = refl
 open_91 FirstItem ks ts i p h = refl
 open_91 _ ks ts i p h = absurd h
 
-pub open_array : (m : Mode) (ks : List ℕ) (ts : List Token) (i p c : ℕ) → BeginsValue m → c ≡ 91
+pub open_array : (m : Mode) (ks : List ℕ) (ts : List Token) (i p : ℕ) {c : ℕ} → BeginsValue m → c ≡ 91
     → step c (idle m ks ts i p)
     ≡ Some (idle FirstItem (length ts ∷ ks) (ts ++ token_at i 0 0 ∷ []) (suc i) (max p (suc (length ks))))
-open_array m ks ts i p c h e = ap (λ x. step x (idle m ks ts i p)) e ∙ open_91 m ks ts i p h
+open_array m ks ts i p h e = ap (λ x. step x (idle m ks ts i p)) e ∙ open_91 m ks ts i p h
 
 open_123 : (m : Mode) (ks : List ℕ) (ts : List Token) (i p : ℕ) → BeginsValue m
     → step 123 (idle m ks ts i p)
@@ -38,12 +38,12 @@ open_123 Ready ks ts i p h = refl
 open_123 FirstItem ks ts i p h = refl
 open_123 _ ks ts i p h = absurd h
 
-pub open_object : (m : Mode) (ks : List ℕ) (ts : List Token) (i p c : ℕ) → BeginsValue m → c ≡ 123
+pub open_object : (m : Mode) (ks : List ℕ) (ts : List Token) (i p : ℕ) {c : ℕ} → BeginsValue m → c ≡ 123
     → step c (idle m ks ts i p)
     ≡ Some (idle FirstName (length ts ∷ ks) (ts ++ token_at i 0 1 ∷ []) (suc i) (max p (suc (length ks))))
-open_object m ks ts i p c h e = ap (λ x. step x (idle m ks ts i p)) e ∙ open_123 m ks ts i p h
+open_object m ks ts i p h e = ap (λ x. step x (idle m ks ts i p)) e ∙ open_123 m ks ts i p h
 
-module _ (k : ℕ) (ks : List ℕ) (ts : List Token) (j p a c : ℕ) where
+module _ (k : ℕ) (ks : List ℕ) (ts : List Token) (j p a : ℕ) {c : ℕ} where
   end_empty_array : c ≡ 93 → slice_get ts k ≡ Some (token_at a 0 0)
       → step c (idle FirstItem (k ∷ ks) ts j p)
       ≡ Some (idle After ks (slice_set ts k (token_at a (suc j) (length ts))) (suc j) p)
@@ -81,13 +81,12 @@ module _ (k : ℕ) (ks : List ℕ) (ts : List Token) (j p a c : ℕ) where
 -- ---- names and values
 
 pub run_named : {b : List ℕ} {i l : ℕ} {a : Atom} → Named b i l a
-    → (s : State) (m : Mode) (ks : List ℕ) (ts : List Token) (p : ℕ) → BeginsName m → Reaches b s (idle m ks ts i p)
+    → {s : State} (m : Mode) (ks : List ℕ) (ts : List Token) (p : ℕ) → BeginsName m → Reaches b s (idle m ks ts i p)
     → Reaches b s (idle Ready ks (ts ++ token_at a.start a.stop (suc (length ts)) ∷ []) l p)
-run_named {b} (named i j k l before n after c) s m ks ts p h r =
+run_named {b} (named i j k l before n after c) m ks ts p h r =
     let us = ts ++ token_at j k (suc (length ts)) ∷ [] in
-    let named_at = skip_after after s AfterName ks us p (run_name n s m ks ts p h (skip before s m ks ts p r)) in
-    arrive_on b s (idle AfterName ks us l p) (idle Ready ks us (suc l) p) (is_end 58 colon c) named_at
-    (ap (λ x. step x (idle AfterName ks us l p)) c)
+    let named_at = skip_after after AfterName ks us p (run_name n m ks ts p h (skip before m ks ts p r)) in
+    arrive_on (idle Ready ks us (suc l) p) (is_end colon c) named_at (ap (λ x. step x (idle AfterName ks us l p)) c)
 
 -- past the led items of an open array
 pub record ReadItems (b : List ℕ) (s : State) (ks : List ℕ) (ts : List Token) (j p : ℕ) : Type 0 where
@@ -105,79 +104,79 @@ mutual
   pub run_value : {b : List ℕ} {i j : ℕ} {t : Tree} → Value b i j t
       → (s : State) (m : Mode) (ks : List ℕ) (ts : List Token) (p : ℕ) → BeginsValue m → Reaches b s (idle m ks ts i p)
       → Arrives b s (idle After ks (ts ++ flatten (length ts) t) j (rise (length ks) p t))
-  run_value {b} (atom k i j w) s m ks ts p h r = run_atom w s m ks ts p h r
+  run_value {b} (atom k i j w) s m ks ts p h r = run_atom w m ks ts p h r
   run_value {b} (empty_array i j o w c) s m ks ts p h r =
       let t = token_at i 0 0 in let us = ts ++ t ∷ [] in let f = token_at i (suc j) (length us) in
       let q = max p (suc (length ks)) in
       let r1 = on (idle m ks ts i p) (idle FirstItem (length ts ∷ ks) us (suc i) q) r
-      (open_array m ks ts i p (byte b i) h o) in
-      let a = skip w s FirstItem (length ts ∷ ks) us q r1 in
-      let g = end_empty_array (length ts) ks us j q i (byte b j) c (slice_get-seam ts [] t) in
+      (open_array m ks ts i p h o) in
+      let a = skip w FirstItem (length ts ∷ ks) us q r1 in
+      let g = end_empty_array (length ts) ks us j q i c (slice_get-seam ts [] t) in
       let r2 = on (idle FirstItem (length ts ∷ ks) us j q) (idle After ks (slice_set us (length ts) f) (suc j) q) a g in
       subst (λ vs. Arrives b s (idle After ks vs (suc j) q)) (array_empty ts t i (suc j))
-      (arrived b s After ks (slice_set us (length ts) f) (suc j) q r2)
+      (arrived After ks (slice_set us (length ts) f) (suc j) q r2)
   run_value {b} (full_array i j k us u o l w c) s m ks ts p h r =
       let d = length ks in let x = suc (length ts) in let t = token_at i 0 0 in let q = max p (suc d) in
       let fs = flatten_items x us in let vs = (ts ++ t ∷ []) ++ fs in let ys = flatten (length vs) u in
       let f = token_at i (suc k) (length (vs ++ ys)) in let n = rise_items (suc d) q us in let z = rise (suc d) n u in
       let r1 = on (idle m ks ts i p) (idle FirstItem (length ts ∷ ks) (ts ++ t ∷ []) (suc i) q) r
-      (open_array m ks ts i p (byte b i) h o) in
+      (open_array m ks ts i p h o) in
       let g = slice_get-seam ts [] t in
       let r2 = run_led l s FirstItem (length ts) ks (ts ++ t ∷ []) q i x (length-snoc ts t) g tt r1 in
       let a = run_padded w s r2.mode (length ts ∷ ks) vs n r2.begins r2.reached in
-      let e1 = end_array (length ts) ks (vs ++ ys) k z i (byte b k) c
+      let e1 = end_array (length ts) ks (vs ++ ys) k z i c
       (slice_get-append vs ys (length ts) t (slice_get-append (ts ++ t ∷ []) fs (length ts) t g)) in
-      let r3 = arrive_on b s (idle After (length ts ∷ ks) (vs ++ ys) k z)
-      (idle After ks (slice_set (vs ++ ys) (length ts) f) (suc k) z) (is_end 93 bracket c) a e1 in
+      let r3 = arrive_on
+      (idle After ks (slice_set (vs ++ ys) (length ts) f) (suc k) z) (is_end bracket c) a e1 in
       let v = array i (suc k) (add_item us u) in
       let e : slice_set (vs ++ ys) (length ts) f ≡ ts ++ flatten (length ts) v =
       ap (λ zs. slice_set zs (length ts) (token_at i (suc k) (length zs)))
-      (items_more (ts ++ t ∷ []) x us u (length-snoc ts t)) ∙ array_done ts t i (suc k) (add_item us u) in
+      (items_more (ts ++ t ∷ []) us u (length-snoc ts t)) ∙ array_done ts t i (suc k) (add_item us u) in
       subst (λ y. Arrives b s (idle After ks (ts ++ flatten (length ts) v) (suc k) y))
       (sym (rise_items-add (suc d) q us u))
       (subst (λ zs. Arrives b s (idle After ks zs (suc k) z)) e
-      (arrived b s After ks (slice_set (vs ++ ys) (length ts) f) (suc k) z r3))
+      (arrived After ks (slice_set (vs ++ ys) (length ts) f) (suc k) z r3))
   run_value {b} (empty_object i j o w c) s m ks ts p h r =
       let t = token_at i 0 1 in let us = ts ++ t ∷ [] in let f = token_at i (suc j) (length us) in
       let q = max p (suc (length ks)) in
       let r1 = on (idle m ks ts i p) (idle FirstName (length ts ∷ ks) us (suc i) q) r
-      (open_object m ks ts i p (byte b i) h o) in
-      let a = skip w s FirstName (length ts ∷ ks) us q r1 in
-      let g = end_empty_object (length ts) ks us j q i (byte b j) c (slice_get-seam ts [] t) in
+      (open_object m ks ts i p h o) in
+      let a = skip w FirstName (length ts ∷ ks) us q r1 in
+      let g = end_empty_object (length ts) ks us j q i c (slice_get-seam ts [] t) in
       let r2 = on (idle FirstName (length ts ∷ ks) us j q) (idle After ks (slice_set us (length ts) f) (suc j) q) a g in
       subst (λ vs. Arrives b s (idle After ks vs (suc j) q)) (object_empty ts t i (suc j))
-      (arrived b s After ks (slice_set us (length ts) f) (suc j) q r2)
+      (arrived After ks (slice_set us (length ts) f) (suc j) q r2)
   run_value {b} (full_object i j k l us n u o led_ms nm w c) s m ks ts p h r =
       let d = length ks in let x = suc (length ts) in let t = token_at i 0 1 in let q = max p (suc d) in
       let fs = flatten_members x us in let vs = (ts ++ t ∷ []) ++ fs in
       let v = token_at n.start n.stop (suc (length vs)) in let xs = vs ++ v ∷ [] in let ys = flatten (length xs) u in
       let f = token_at i (suc l) (length (xs ++ ys)) in let y = rise_members (suc d) q us in let z = rise (suc d) y u in
       let r1 = on (idle m ks ts i p) (idle FirstName (length ts ∷ ks) (ts ++ t ∷ []) (suc i) q) r
-      (open_object m ks ts i p (byte b i) h o) in
+      (open_object m ks ts i p h o) in
       let g = slice_get-seam ts [] t in
       let r2 = run_led_members led_ms s FirstName (length ts) ks (ts ++ t ∷ []) q i x (length-snoc ts t) g tt r1 in
-      let r3 = run_named nm s r2.mode (length ts ∷ ks) vs y r2.begins r2.reached in
+      let r3 = run_named nm r2.mode (length ts ∷ ks) vs y r2.begins r2.reached in
       let a = run_padded w s Ready (length ts ∷ ks) xs y tt r3 in
       let g2 = slice_get-append xs ys (length ts) t
       (slice_get-append vs (v ∷ []) (length ts) t (slice_get-append (ts ++ t ∷ []) fs (length ts) t g)) in
-      let e1 = end_object (length ts) ks (xs ++ ys) l z i (byte b l) c g2 in
-      let r4 = arrive_on b s (idle After (length ts ∷ ks) (xs ++ ys) l z)
-      (idle After ks (slice_set (xs ++ ys) (length ts) f) (suc l) z) (is_end 125 brace c) a e1 in
+      let e1 = end_object (length ts) ks (xs ++ ys) l z i c g2 in
+      let r4 = arrive_on
+      (idle After ks (slice_set (xs ++ ys) (length ts) f) (suc l) z) (is_end brace c) a e1 in
       let tree = object i (suc l) (add_member us n u) in
       let e : slice_set (xs ++ ys) (length ts) f ≡ ts ++ flatten (length ts) tree =
       ap (λ zs. slice_set zs (length ts) (token_at i (suc l) (length zs)))
-      (members_more (ts ++ t ∷ []) x us n u (length-snoc ts t)) ∙ object_done ts t i (suc l) (add_member us n u) in
+      (members_more (ts ++ t ∷ []) us n u (length-snoc ts t)) ∙ object_done ts t i (suc l) (add_member us n u) in
       subst (λ x. Arrives b s (idle After ks (ts ++ flatten (length ts) tree) (suc l) x))
       (sym (rise_members-add (suc d) q us n u))
       (subst (λ zs. Arrives b s (idle After ks zs (suc l) z)) e
-      (arrived b s After ks (slice_set (xs ++ ys) (length ts) f) (suc l) z r4))
+      (arrived After ks (slice_set (xs ++ ys) (length ts) f) (suc l) z r4))
 
   pub run_padded : {b : List ℕ} {i j : ℕ} {t : Tree} → Padded b i j t
       → (s : State) (m : Mode) (ks : List ℕ) (ts : List Token) (p : ℕ) → BeginsValue m → Reaches b s (idle m ks ts i p)
       → Arrives b s (idle After ks (ts ++ flatten (length ts) t) j (rise (length ks) p t))
   run_padded {b} (padded i j k l t before v after) s m ks ts p h r =
-      skip_after after s After ks (ts ++ flatten (length ts) t) (rise (length ks) p t)
-      (run_value v s m ks ts p h (skip before s m ks ts p r))
+      skip_after after After ks (ts ++ flatten (length ts) t) (rise (length ks) p t)
+      (run_value v s m ks ts p h (skip before m ks ts p r))
 
   pub run_led : {b : List ℕ} {i j : ℕ} {us : Items} → LedItems b i j us
       → (s : State) (m : Mode) (k : ℕ) (ks : List ℕ) (ts : List Token) (p a x : ℕ) → length ts ≡ x
@@ -195,16 +194,16 @@ mutual
       let t = token_at a 0 0 in let n = rise_items e p us in let z = rise e n u in
       let r1 = run_led before s m k ks ts p a x lx g h r in
       let at_comma = run_padded w s r1.mode (k ∷ ks) (ts ++ fs) n r1.begins r1.reached in
-      let q = more_items k ks ((ts ++ fs) ++ ys) l z a (byte b l) c
+      let q = more_items k ks ((ts ++ fs) ++ ys) l z a c
       (slice_get-append (ts ++ fs) ys k t (slice_get-append ts fs k t g)) in
-      let r2 = arrive_on b s (idle After (k ∷ ks) ((ts ++ fs) ++ ys) l z)
-      (idle Ready (k ∷ ks) ((ts ++ fs) ++ ys) (suc l) z) (is_end 44 comma c) at_comma q in
+      let r2 = arrive_on
+      (idle Ready (k ∷ ks) ((ts ++ fs) ++ ys) (suc l) z) (is_end comma c) at_comma q in
       record {
         mode = Ready;
         begins = tt;
         reached = subst (λ y. Reaches b s (idle Ready (k ∷ ks) (ts ++ flatten_items x (add_item us u)) (suc l) y))
             (sym (rise_items-add e p us u))
-            (subst (λ zs. Reaches b s (idle Ready (k ∷ ks) zs (suc l) z)) (items_more ts x us u lx) r2);
+            (subst (λ zs. Reaches b s (idle Ready (k ∷ ks) zs (suc l) z)) (items_more ts us u lx) r2);
       }
 
   pub run_led_members : {b : List ℕ} {i j : ℕ} {us : Members} → LedMembers b i j us
@@ -224,19 +223,19 @@ mutual
       let ys = flatten (length xs) u in
       let t = token_at a 0 1 in let y = rise_members e p us in let z = rise e y u in
       let r1 = run_led_members before s m k ks ts p a x lx g h r in
-      let r2 = run_named nm s r1.mode (k ∷ ks) (ts ++ fs) y r1.begins r1.reached in
+      let r2 = run_named nm r1.mode (k ∷ ks) (ts ++ fs) y r1.begins r1.reached in
       let at_comma = run_padded w s Ready (k ∷ ks) xs y tt r2 in
-      let q = more_members k ks (xs ++ ys) o z a (byte b o) c
+      let q = more_members k ks (xs ++ ys) o z a c
       (slice_get-append xs ys k t (slice_get-append (ts ++ fs) (v ∷ []) k t (slice_get-append ts fs k t g))) in
-      let r3 = arrive_on b s (idle After (k ∷ ks) (xs ++ ys) o z) (idle NextName (k ∷ ks) (xs ++ ys) (suc o) z)
-      (is_end 44 comma c) at_comma q in
+      let r3 = arrive_on (idle NextName (k ∷ ks) (xs ++ ys) (suc o) z)
+      (is_end comma c) at_comma q in
       record {
         mode = NextName;
         begins = tt;
         reached = subst (λ w. Reaches b s
             (idle NextName (k ∷ ks) (ts ++ flatten_members x (add_member us n u)) (suc o) w))
             (sym (rise_members-add e p us n u))
-            (subst (λ zs. Reaches b s (idle NextName (k ∷ ks) zs (suc o) z)) (members_more ts x us n u lx) r3);
+            (subst (λ zs. Reaches b s (idle NextName (k ∷ ks) zs (suc o) z)) (members_more ts us n u lx) r3);
       }
 
 pub run_json : (b : List ℕ) (t : Tree) → Json b t

@@ -39,8 +39,8 @@ kind_first Text s h = ap (λ z. kind_by (get_or z 0 0)) h.joined
 kind_first Array s h = absurd h
 kind_first Object s h = absurd h
 
-pub atom_kind : (b : List ℕ) (k : Kind) (i j : ℕ) → IsAtom b k i j → kind_by (byte b i) ≡ k
-atom_kind b k i j w = ap kind_by (first_byte b i j w.order w.within) ∙ kind_first k (slice_range b i j) w.spelled
+pub atom_kind : {b : List ℕ} {k : Kind} {i j : ℕ} → IsAtom b k i j → kind_by (byte b i) ≡ k
+atom_kind {b} {k} {i} {j} w = ap kind_by (first_byte b i j w.order w.within) ∙ kind_first k (slice_range b i j) w.spelled
 
 -- ---- trees up to a place, and past it
 
@@ -163,21 +163,21 @@ start-node b Array i j ts = refl
 start-node b Object i j ts = refl
 
 -- a span that holds these trees and no more
-shown : (b : List ℕ) (i j : ℕ) (k : Kind) (ss : List Span) (xs ys : List Tree) → kind_by (byte b i) ≡ k
+shown : (b : List ℕ) (i j : ℕ) {k : Kind} (ss : List Span) (xs ys : List Tree) → kind_by (byte b i) ≡ k
     → forest b ss ≡ xs ++ ys → AllIn j xs → Beyond j ys → forest b (span_at i j ∷ ss) ≡ node b k i j xs ∷ ys
 unfolding forest
-shown b i j k ss xs ys kd e a o =
+shown b i j ss xs ys kd e a o =
     ap (λ z. node b (kind_by (byte b i)) i j (held j z) ∷ past j z) e
     ∙ ap (λ z. node b (kind_by (byte b i)) i j z ∷ past j (xs ++ ys)) (held_all j xs ys a o)
     ∙ ap (λ z. node b (kind_by (byte b i)) i j xs ∷ z) (past_all j xs ys a o) ∙ ap (λ z. node b z i j xs ∷ ys) kd
 
-scalar_node : (b : List ℕ) (k : Kind) (i j : ℕ) → IsAtom b k i j → node b k i j [] ≡ scalar k (atom_at b i j)
-scalar_node b Null i j w = refl
-scalar_node b Truth i j w = refl
-scalar_node b Number i j w = refl
-scalar_node b Text i j w = refl
-scalar_node b Array i j w = absurd w.spelled
-scalar_node b Object i j w = absurd w.spelled
+scalar_node : {b : List ℕ} (k : Kind) {i j : ℕ} → IsAtom b k i j → node b k i j [] ≡ scalar k (atom_at b i j)
+scalar_node Null w = refl
+scalar_node Truth w = refl
+scalar_node Number w = refl
+scalar_node Text w = refl
+scalar_node Array w = absurd w.spelled
+scalar_node Object w = absurd w.spelled
 
 -- the trees all start before the place j, and are shown before what follows
 pub record Shows (b : List ℕ) (j : ℕ) (ss : List Span) (xs : List Tree) : Type 0 where
@@ -188,9 +188,9 @@ shows_none : (b : List ℕ) (j : ℕ) → Shows b j [] []
 shows_none b j = record { all = tt; shows = λ rest h. refl }
 
 -- two after one another
-shows_both : (b : List ℕ) (i j : ℕ) (ts us : List Span) (xs : List Tree) (y : Tree) (ys : List Tree) → i ≤ j
+shows_both : {b : List ℕ} {i j : ℕ} {ts us : List Span} {xs : List Tree} (y : Tree) (ys : List Tree) → i ≤ j
     → i ≤ start_of y → Shows b i ts xs → Shows b j us (y ∷ ys) → Shows b j (ts ++ us) (xs ++ y ∷ ys)
-shows_both b i j ts us xs y ys o l a c = record {
+shows_both {b} {i} {j} {ts} {us} {xs} y ys o l a c = record {
   all = all_append j xs (y ∷ ys) (all_more i j xs o a.all) c.all;
   shows = λ rest h.
       let e = c.shows rest h in
@@ -198,30 +198,30 @@ shows_both b i j ts us xs y ys o l a c = record {
       ∙ sym (append_assoc xs (y ∷ ys) (forest b rest));
 }
 
-shows_atom : (b : List ℕ) (k : Kind) (i j : ℕ) → IsAtom b k i j
+shows_atom : {b : List ℕ} {k : Kind} {i j : ℕ} → IsAtom b k i j
     → Shows b j (span_at i j ∷ []) (scalar k (atom_at b i j) ∷ [])
-shows_atom b k i j w = record {
+shows_atom {b} {k} {i} {j} w = record {
   all = (w.order, tt);
-  shows = λ rest h. shown b i j k rest [] (forest b rest) (atom_kind b k i j w) refl tt h
-      ∙ ap (λ z. z ∷ forest b rest) (scalar_node b k i j w);
+  shows = λ rest h. shown b i j rest [] (forest b rest) (atom_kind w) refl tt h
+      ∙ ap (λ z. z ∷ forest b rest) (scalar_node k w);
 }
 
 pub shows_named : {b : List ℕ} {i j : ℕ} {n : Atom} → Named b i j n
     → Shows b n.stop (span_at n.start n.stop ∷ []) (scalar Text n ∷ [])
-shows_named {b} (named i j k l w x y c) = shows_atom b Text j k x
+shows_named {b} (named i j k l w x y c) = shows_atom x
 
 -- a container that holds these
-shows_container : (b : List ℕ) (i j : ℕ) (k : Kind) (ss : List Span) (xs : List Tree) (t : Tree) → i < j
+shows_container : {b : List ℕ} (i : ℕ) {j : ℕ} (k : Kind) (ss : List Span) (xs : List Tree) {t : Tree} → i < j
     → kind_by (byte b i) ≡ k → Shows b j ss xs → node b k i j xs ≡ t → start_of t ≡ i
     → Shows b j (span_at i j ∷ ss) (t ∷ [])
-shows_container b i j k ss xs t o kd a e s = record {
+shows_container {b} i {j} k ss xs o kd a e s = record {
   all = (omega arith, tt);
-  shows = λ rest h. shown b i j k (ss ++ rest) xs (forest b rest) kd (a.shows rest h) a.all h
+  shows = λ rest h. shown b i j (ss ++ rest) xs (forest b rest) kd (a.shows rest h) a.all h
       ∙ ap (λ z. z ∷ forest b rest) e;
 }
 
-pub shows_more : (b : List ℕ) (i j : ℕ) (ss : List Span) (xs : List Tree) → i ≤ j → Shows b i ss xs → Shows b j ss xs
-shows_more b i j ss xs o a =
+pub shows_more : {b : List ℕ} {i : ℕ} (j : ℕ) {ss : List Span} {xs : List Tree} → i ≤ j → Shows b i ss xs → Shows b j ss xs
+shows_more {b} {i} j {xs} o a =
     record { all = all_more i j xs o a.all; shows = λ rest h. a.shows rest (beyond_less i j (forest b rest) o h) }
 
 pub shows_add : {b : List ℕ} {i j k : ℕ} {us : Items} {u : Tree} → LedItems b i j us → Padded b j k u
@@ -229,7 +229,7 @@ pub shows_add : {b : List ℕ} {i j k : ℕ} {us : Items} {u : Tree} → LedItem
     → Shows b k (items_preorder (add_item us u)) (list_of_items (add_item us u))
 shows_add {b} {i} {j} {k} {us} {u} l p f g =
     let q = padded_order p in
-    let h = shows_both b j k (items_preorder us) (preorder u) (list_of_items us) u [] (omega arith) q.0 f g in
+    let h = shows_both u [] (omega arith) q.0 f g in
     subst (λ ss. Shows b k ss (list_of_items (add_item us u))) (sym (items_preorder-add us u))
     (subst (Shows b k (items_preorder us ++ preorder u)) (sym (list-add us u)) h)
 
@@ -240,49 +240,47 @@ pub shows_add_member : {b : List ℕ} {i j k l : ℕ} {us : Members} {n : Atom} 
 shows_add_member {b} {i} {j} {k} {l} {us} {n} {u} ld nm p f g =
     let q = padded_order p in let r = named_order nm in
     let w = scalar Text n in
-    let pair = shows_both b n.stop l (span_at n.start n.stop ∷ []) (preorder u) (w ∷ []) u [] (omega arith)
-    (omega (arith, q.0)) (shows_named nm) g in
-    let h = shows_both b j l (members_preorder us) (span_at n.start n.stop ∷ preorder u) (names_and_values us) w
-    (u ∷ []) (omega arith) r.0 f pair in
+    let pair = shows_both u [] (omega arith) (omega (arith, q.0)) (shows_named nm) g in
+    let h = shows_both w (u ∷ []) (omega arith) r.0 f pair in
     subst (λ ss. Shows b l ss (names_and_values (add_member us n u))) (sym (members_preorder-add us n u))
     (subst (Shows b l (members_preorder us ++ span_at n.start n.stop ∷ preorder u)) (sym (names-add us n u)) h)
 
 mutual
   shows_value : {b : List ℕ} {i j : ℕ} {t : Tree} → Value b i j t → Shows b j (preorder t) (t ∷ [])
-  shows_value {b} (atom k i j w) = shows_atom b k i j w
+  shows_value {b} (atom k i j w) = shows_atom w
   shows_value {b} (empty_array i j o w c) = let h = w.order in
-      shows_container b i (suc j) Array [] [] (array i (suc j) no_items) (omega arith) (ap kind_by o)
+      shows_container i Array [] [] {t = array i (suc j) no_items} (omega arith) (ap kind_by o)
       (shows_none b (suc j)) refl refl
   shows_value {b} (full_array i j k us u o l p c) =
       let v = add_item us u in let a = led_order l in let q = padded_order p in
       let e = ap (array i (suc k)) (items_from-list v) in
-      shows_container b i (suc k) Array (items_preorder v) (list_of_items v) (array i (suc k) v) (omega arith)
-      (ap kind_by o) (shows_more b k (suc k) _ _ (omega arith) (shows_add l p (shows_led l) (shows_padded p))) e
+      shows_container i Array (items_preorder v) (list_of_items v) (omega arith)
+      (ap kind_by o) (shows_more (suc k) (omega arith) (shows_add l p (shows_led l) (shows_padded p))) e
       refl
   shows_value {b} (empty_object i j o w c) = let h = w.order in
-      shows_container b i (suc j) Object [] [] (object i (suc j) no_members) (omega arith) (ap kind_by o)
+      shows_container i Object [] [] {t = object i (suc j) no_members} (omega arith) (ap kind_by o)
       (shows_none b (suc j)) refl refl
   shows_value {b} (full_object i j k l us n u o ld nm p c) =
       let v = add_member us n u in let a = led_members_order ld in let q = padded_order p in let r = named_order nm in
       let e = ap (object i (suc l)) (members_from-list v) in
-      shows_container b i (suc l) Object (members_preorder v) (names_and_values v) (object i (suc l) v) (omega arith)
-      (ap kind_by o) (shows_more b l (suc l) _ _ (omega arith)
+      shows_container i Object (members_preorder v) (names_and_values v) (omega arith)
+      (ap kind_by o) (shows_more (suc l) (omega arith)
       (shows_add_member ld nm p (shows_led_members ld) (shows_padded p))) e refl
 
   pub shows_padded : {b : List ℕ} {i j : ℕ} {t : Tree} → Padded b i j t → Shows b j (preorder t) (t ∷ [])
-  shows_padded {b} (padded i j k l t w v x) = shows_more b k l (preorder t) (t ∷ []) x.order (shows_value v)
+  shows_padded {b} (padded i j k l t w v x) = shows_more l x.order (shows_value v)
 
   pub shows_led : {b : List ℕ} {i j : ℕ} {us : Items} → LedItems b i j us
       → Shows b j (items_preorder us) (list_of_items us)
   shows_led {b} (no_led i) = shows_none b i
   shows_led {b} (led i j k us u l p c) =
-      shows_more b k (suc k) _ _ (omega arith) (shows_add l p (shows_led l) (shows_padded p))
+      shows_more (suc k) (omega arith) (shows_add l p (shows_led l) (shows_padded p))
 
   pub shows_led_members : {b : List ℕ} {i j : ℕ} {us : Members} → LedMembers b i j us
       → Shows b j (members_preorder us) (names_and_values us)
   shows_led_members {b} (no_led_members i) = shows_none b i
   shows_led_members {b} (led_member i j k l us n u ld nm p c) =
-      shows_more b l (suc l) _ _ (omega arith) (shows_add_member ld nm p (shows_led_members ld) (shows_padded p))
+      shows_more (suc l) (omega arith) (shows_add_member ld nm p (shows_led_members ld) (shows_padded p))
 
 -- the spans of a JSON text show its tree and no other
 pub json_shown : (b : List ℕ) (t : Tree) → Json b t → forest b (preorder t) ≡ t ∷ []

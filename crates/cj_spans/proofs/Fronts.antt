@@ -27,15 +27,15 @@ pub record Live (b : List ℕ) (s : State) (j n : ℕ) : Type 0 where
   pub place : at.place ≡ j
   pub open_count : length at.stack ≡ n
 
-live : (b : List ℕ) (s t : State) → Arrives b s t → Live b s t.place (length t.stack)
-live b s t a = let e = settled a.at t a.settles in
+live : (b : List ℕ) (s : State) {t : State} → Arrives b s t → Live b s t.place (length t.stack)
+live b s {t} a = let e = settled a.at t a.settles in
     record { at = a.at; reached = a.reached; place = e.place; open_count = ap length e.stack }
 
-lives : {b : List ℕ} (s t : State) → Reaches b s t → Live b s t.place (length t.stack)
-lives s t r = record { at = t; reached = r; place = refl; open_count = refl }
+lives : {b : List ℕ} {s t : State} → Reaches b s t → Live b s t.place (length t.stack)
+lives {t} r = record { at = t; reached = r; place = refl; open_count = refl }
 
-live_n : {b : List ℕ} {s : State} {j : ℕ} (m n : ℕ) → m ≡ n → Live b s j m → Live b s j n
-live_n {b} {s} {j} m n e h = subst (λ k. Live b s j k) e h
+live_n : {b : List ℕ} {s : State} {j : ℕ} {m n : ℕ} → m ≡ n → Live b s j m → Live b s j n
+live_n {b} {s} {j} e h = subst (λ k. Live b s j k) e h
 
 -- inside an object, past its first members
 record InObject (b : List ℕ) (s : State) (ks : List ℕ) (k : ℕ) : Type 0 where
@@ -45,13 +45,13 @@ record InObject (b : List ℕ) (s : State) (ks : List ℕ) (k : ℕ) : Type 0 wh
   begins : BeginsName mode
   reached : Reaches b s (idle mode ks tokens k deepest)
 
-object_at : {b : List ℕ} (i j k : ℕ) (us : Members) → White b i j → byte b j ≡ 123 → LedMembers b (suc j) k us
-    → (s : State) (m : Mode) (ks : List ℕ) (ts : List Token) (p : ℕ) → BeginsValue m → Reaches b s (idle m ks ts i p)
+object_at : {b : List ℕ} {i j : ℕ} (k : ℕ) (us : Members) → White b i j → byte b j ≡ 123 → LedMembers b (suc j) k us
+    → {s : State} (m : Mode) (ks : List ℕ) (ts : List Token) (p : ℕ) → BeginsValue m → Reaches b s (idle m ks ts i p)
     → InObject b s (length ts ∷ ks) k
-object_at {b} i j k us w o ld s m ks ts p h r =
+object_at {b} {j} k us w o ld {s} m ks ts p h r =
     let t = token_at j 0 1 in let q = max p (suc (length ks)) in
-    let r1 = on (idle m ks ts j p) (idle FirstName (length ts ∷ ks) (ts ++ t ∷ []) (suc j) q) (skip w s m ks ts p r)
-    (open_object m ks ts j p (byte b j) h o) in
+    let r1 = on (idle m ks ts j p) (idle FirstName (length ts ∷ ks) (ts ++ t ∷ []) (suc j) q) (skip w m ks ts p r)
+    (open_object m ks ts j p h o) in
     let r2 = run_led_members ld s FirstName (length ts) ks (ts ++ t ∷ []) q j (suc (length ts)) (length-snoc ts t)
     (slice_get-seam ts [] t) tt r1 in
     record { mode = r2.mode; tokens = _; deepest = _; begins = r2.begins; reached = r2.reached }
@@ -61,40 +61,40 @@ mutual
       → (s : State) (m : Mode) (ks : List ℕ) (ts : List Token) (p : ℕ) → BeginsValue m
       → Reaches b s (idle m ks ts i p) → Live b s j (n + length ks)
   front_runs {b} (white i j w) s m ks ts p h r =
-      live_n _ _ (omega arith) (lives s (idle m ks ts j p) (skip w s m ks ts p r))
+      live_n (omega arith) (lives (skip w m ks ts p r))
   front_runs {b} (begun i j l k w g) s m ks ts p h r =
       let q = begun_reading g in
-      live_n _ _ (omega arith)
-      (lives s (state (in_atom After j q.last) ks ts l p) (run_begun q.inside s m ks ts p h (skip w s m ks ts p r)))
+      live_n (omega arith)
+      (lives (run_begun q.inside m ks ts p h (skip w m ks ts p r)))
   front_runs {b} (whole i j t w) s m ks ts p h r =
-      live_n _ _ (omega arith)
-      (live b s (idle After ks (ts ++ flatten (length ts) t) j (rise (length ks) p t)) (run_padded w s m ks ts p h r))
+      live_n (omega arith)
+      (live b s (run_padded w s m ks ts p h r))
   front_runs {b} (front_array i j k l n us w o ld q) s m ks ts p h r =
       let t = token_at j 0 0 in let y = max p (suc (length ks)) in
-      let r1 = on (idle m ks ts j p) (idle FirstItem (length ts ∷ ks) (ts ++ t ∷ []) (suc j) y) (skip w s m ks ts p r)
-      (open_array m ks ts j p (byte b j) h o) in
+      let r1 = on (idle m ks ts j p) (idle FirstItem (length ts ∷ ks) (ts ++ t ∷ []) (suc j) y) (skip w m ks ts p r)
+      (open_array m ks ts j p h o) in
       let r2 = run_led ld s FirstItem (length ts) ks (ts ++ t ∷ []) y j (suc (length ts)) (length-snoc ts t)
       (slice_get-seam ts [] t) tt r1 in
-      live_n _ _ (omega arith) (front_runs q s r2.mode (length ts ∷ ks) _ _ r2.begins r2.reached)
+      live_n {m = _} (omega arith) (front_runs q s r2.mode (length ts ∷ ks) _ _ r2.begins r2.reached)
   front_runs {b} (in_object i j k l n us w o ld f) s m ks ts p h r =
-      let q = object_at {b = b} i j k us w o ld s m ks ts p h r in
-      live_n _ _ (omega arith) (member_runs f s q.mode (length ts ∷ ks) q.tokens q.deepest q.begins q.reached)
+      let q = object_at {b = b} k us w o ld m ks ts p h r in
+      live_n (omega arith) (member_runs f s q.mode (length ts ∷ ks) q.tokens q.deepest q.begins q.reached)
 
   member_runs : {b : List ℕ} {i j n : ℕ} → MemberPrefix b i j n
       → (s : State) (m : Mode) (ks : List ℕ) (ts : List Token) (p : ℕ) → BeginsName m
       → Reaches b s (idle m ks ts i p) → Live b s j (n + length ks)
   member_runs {b} (before_name i j w) s m ks ts p h r =
-      live_n _ _ (omega arith) (lives s (idle m ks ts j p) (skip w s m ks ts p r))
+      live_n (omega arith) (lives (skip w m ks ts p r))
   member_runs {b} (front_name i j l w g) s m ks ts p h r =
       let z = begun_reading g in
-      live_n _ _ (omega arith) (lives s (state (in_atom AfterName j z.last) ks ts l p)
-      (run_begun_name z.inside (quote_first b j l g.rest g.order g.within g.spelled) s m ks ts p h
-      (skip w s m ks ts p r)))
+      live_n (omega arith) (lives
+      (run_begun_name z.inside (quote_first b j l g.rest g.order g.within g.spelled) m ks ts p h
+      (skip w m ks ts p r)))
   member_runs {b} (front_after_name i j k l w g v) s m ks ts p h r =
-      let z = run_name g s m ks ts p h (skip w s m ks ts p r) in
-      live_n _ _ (omega arith) (live b s (idle AfterName ks _ l p) (skip_after v s AfterName ks _ p z))
+      let z = run_name g m ks ts p h (skip w m ks ts p r) in
+      live_n {m = _} (omega arith) (live b s {t = idle AfterName ks _ l p} (skip_after v AfterName ks _ p z))
   member_runs {b} (in_value i j k n a named_at f) s m ks ts p h r =
-      front_runs f s Ready ks _ p tt (run_named named_at s m ks ts p h r)
+      front_runs f s Ready ks _ p tt (run_named named_at m ks ts p h r)
 
 -- ---- from states to fronts
 
@@ -125,25 +125,24 @@ context_front {b} (in_member e0 j0 k e ks ts us nm c o l d w) j n f =
     (in_object e0 e0 j0 j n us (no_white b e0) o l (in_value j0 k j n nm d (front_white w f))))
 
 -- what was read is a prefix, with as many containers open as the stack has
-pub inv_front : {b : List ℕ} (s : State) → Inv b s → JsonPrefix b 0 s.place (length s.stack)
-inv_front {b} s (ready k p ks ts c) = front_n _ _ (omega arith) (context_front c k 0 (white k k (no_white b k)))
-inv_front {b} s (first_item e k p ks ts c o w) =
+pub inv_front : {b : List ℕ} {s : State} → Inv b s → JsonPrefix b 0 s.place (length s.stack)
+inv_front {b} (ready k p ks ts c) = front_n _ _ (omega arith) (context_front c k 0 (white k k (no_white b k)))
+inv_front {b} (first_item e k p ks ts c o w) =
     front_n _ _ (omega arith)
-    (context_front c k 1 (front_array e e (suc e) k 0 no_items (no_white b e) o (no_led (suc e))
-    (white (suc e) k w)))
-inv_front {b} s (after_tree e j k p ks ts t c v w) =
+    (context_front c k 1 (front_array e e (suc e) k 0 no_items (no_white b e) o (no_led (suc e)) (white (suc e) k w)))
+inv_front {b} (after_tree e j k p ks ts t c v w) =
     front_n _ _ (omega arith) (context_front c k 0 (whole e k t (padded e e j k t (no_white b e) v w)))
-inv_front {b} s (first_name e k p ks ts c o w) =
+inv_front {b} (first_name e k p ks ts c o w) =
     front_n _ _ (omega arith)
     (context_front c k 1 (in_object e e (suc e) k 0 no_members (no_white b e) o (no_led_members (suc e))
     (before_name (suc e) k w)))
-inv_front {b} s (next_name e j k p ks ts us c o l w) =
+inv_front {b} (next_name e j k p ks ts us c o l w) =
     front_n _ _ (omega arith) (context_front c k 1 (in_object e e j k 0 us (no_white b e) o l (before_name j k w)))
-inv_front {b} s (after_name e j l m k p ks ts us c o ld w0 wd w) =
+inv_front {b} (after_name e j l m k p ks ts us c o ld w0 wd w) =
     front_n _ _ (omega arith)
     (context_front c k 1 (in_object e e j k 0 us (no_white b e) o ld (front_after_name j l m k w0 wd w)))
-inv_front {b} s (in_scalar e k p ks ts x c w) = let g = atom_begun w in
+inv_front {b} (in_scalar e k p ks ts x c w) = let g = atom_begun w in
     front_n _ _ (omega arith) (context_front c k 0 (begun e e k g.kind (no_white b e) g.begun))
-inv_front {b} s (in_name e j l k p ks ts us x c o ld w0 q w) =
+inv_front {b} (in_name e j l k p ks ts us x c o ld w0 q w) =
     front_n _ _ (omega arith)
     (context_front c k 1 (in_object e e j k 0 us (no_white b e) o ld (front_name j l k w0 (name_begun w q))))

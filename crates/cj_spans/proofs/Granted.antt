@@ -31,7 +31,7 @@ pub ok_no_fault : (v : Unit {0}) (f : LineFault) → ◌≡◌ {A = Result (Unit
 ok_no_fault v f h = cc
 
 -- a fault of the line is answered as it is
-module _ (r : Result (Unit {0}) ScanFault) (f : LineFault) (e : r ≡ Err (widened_fault f)) where
+module _ {r : Result (Unit {0}) ScanFault} (f : LineFault) (e : r ≡ Err (widened_fault f)) where
   pub fault_back : (g : LineFault) → r ≡ Err (widened_fault g) → ◌≡◌ {A = Result (Unit {0}) LineFault} (Err f) (Err g)
   fault_back g h = ap Err (one_fault f g (err_same _ _ (sym e ∙ h)))
 

@@ -115,7 +115,7 @@ climbs c s u h = subst (Climbs (length s.stack)) h (climbs_phase s.phase c s)
 module _ (b : List ℕ) (d : ℕ) where
   -- the machine comes no further
   unfoldable pub ends_at : (i : ℕ) (s : Sticks b start i) → s.last.deepest ≤ d → Judgement b d
-  ends_at i s h = broken i (sticks_syntax b i s) (sticks_nowhere b d i (record { sticks = s; shallow = h }))
+  ends_at i s h = broken i (sticks_syntax s) (sticks_nowhere b {d = d} i (record { sticks = s; shallow = h }))
 
   module _ (s : State) (r : Reaches b start s) (h : s.deepest ≤ d) where
     -- it has read the line, and may not end there
@@ -148,8 +148,8 @@ module _ (b : List ℕ) (d : ℕ) where
         let at : i ≡ length b = sym same.place ∙ e in
         let whole : settle s ≡ Some (state (between After) [] ts (length b) p) =
         k ∙ ap (λ n. Some (state (between After) [] ts n p)) at in
-        let t = spells s (inv_reaches b s r) ts p whole in
-        let deepest : p ≡ nest t.tree = nest_of b t.tree s ts p t.json r whole in
+        let t = spells (inv_reaches r) ts p whole in
+        let deepest : p ≡ nest t.tree = nest_of t.tree ts p t.json r whole in
         let deep : s.deepest ≡ p = same.deepest in
         spelled t.tree t.json (omega arith)
 
@@ -184,12 +184,12 @@ module _ (b : List ℕ) (d : ℕ) where
     unfoldable pub sinks : (u : State) → step (byte b s.place) s ≡ Some u → s.place < length b → d < u.deepest
         → Judgement b d
     sinks u k lt deep =
-        let lawful = lawful_reaches s r in
-        let g = (goes s u (byte b s.place) lawful k).deepest in
+        let lawful = lawful_reaches r in
+        let g = (goes u (byte b s.place) lawful k).deepest in
         let c = climbs (byte b s.place) s u k in
         let o = lawful.deep in
         let count : length u.stack ≡ suc d = omega arith in
-        sunk s.place (sinks_deep b d s.place (record {
+        sunk s.place (sinks_deep {b = b} {d = d} {i = s.place} (record {
           last = s;
           reached = r;
           at = refl;
@@ -204,7 +204,7 @@ module _ (b : List ℕ) (d : ℕ) where
         → (u : State) → step (byte b s.place) s ≡ Some u → (deep : Bool) → ltb d u.deepest ≡ deep → Judgement b d
     by_depth n later e u k true deep = sinks u k (omega arith) (ltb-true d u.deepest deep)
     by_depth n later e u k false deep =
-        let place = next_place s u r k in
+        let place = next_place u r k in
         let shallow : u.deepest ≤ d = grind (arith, nat_tests) in
         later u (on s u r k) shallow (omega arith)
 
@@ -235,11 +235,11 @@ say_same {b} (spelled t j n) (spelled u k m) = json_only b u t k j
 say_same (spelled t j n) (broken i s h) = json_no_syntax t j s
 say_same {b} {d} (spelled t j n) (sunk i s) = json_nowhere b d t j n i s
 say_same (broken i s h) (spelled t j n) = json_no_syntax t j s
-say_same {b} (broken i s h) (broken k r g) = one_syntax b i k s r
+say_same {b} (broken i s h) (broken k r g) = one_syntax s r
 say_same (broken i s h) (sunk k r) = h k r
 say_same {b} {d} (sunk i s) (spelled t j n) = json_nowhere b d t j n i s
 say_same (sunk i s) (broken k r g) = g i s
-say_same {b} {d} (sunk i s) (sunk k r) = one_deep b d i k s r
+say_same {b} {d} (sunk i s) (sunk k r) = one_deep s r
 
 -- what is answered, from what is found
 pub answer_of : {b : List ℕ} {d : ℕ} (j : Judgement b d) (r : Result (Unit {0}) LineFault)

@@ -25,17 +25,17 @@ use Rattle.cj_spans.proofs.Runs.{idle}
 use Rattle.cj_spans.proofs.Standing.{grown_more, grown_same, kept_same}
 use Rattle.cj_spans.proofs.Signs.{innermost_more}
 
-module _ {d : Kind} (b : List ℕ) (ts : BoundedList Token) where
+module _ {d : Kind} {b : List ℕ} {ts : BoundedList Token} where
   pub leads_here : (m : Mode) (i : ℕ) → LeadsIn d b ts m i ts m i
   leads_here m i = λ t0 s0 ks o s. (o, s)
 
-  pub leads_on : (us vs : BoundedList Token) (m n o : Mode) (i j k : ℕ) → LeadsIn d b ts m i us n j
+  pub leads_on : {us vs : BoundedList Token} {m n o : Mode} {i j k : ℕ} → LeadsIn d b ts m i us n j
       → LeadsIn d b us n j vs o k → LeadsIn d b ts m i vs o k
-  leads_on us vs m n o i j k f g = λ t0 s0 ks a s. let h = f t0 s0 ks a s in g t0 s0 ks h.0 h.1
+  leads_on f g = λ t0 s0 ks a s. let h = f t0 s0 ks a s in g t0 s0 ks h.0 h.1
 
-  pub stands_leads : (us : BoundedList Token) (m n : Mode) (i j : ℕ) → StandsIn d b ts m i → LeadsIn d b ts m i us n j
+  pub stands_leads : {us : BoundedList Token} {m n : Mode} {i j : ℕ} → StandsIn d b ts m i → LeadsIn d b ts m i us n j
       → StandsIn d b us n j
-  stands_leads us m n i j s f =
+  stands_leads s f =
       let h = f s.stands.tokens0 s.stands.stack0 s.stack s.innermost s.stands.standing in
       record {
         stack = s.stack;
@@ -49,41 +49,41 @@ module _ {d : Kind} (b : List ℕ) (ts : BoundedList Token) where
       }
 
   -- the same where the stack is known
-  pub stands_inside : (ks : BoundedList ℕ) (m : Mode) (i : ℕ) → Stands b ts ks m i
+  pub stands_inside : {ks : BoundedList ℕ} {m : Mode} {i : ℕ} → Stands b ts ks m i
       → IsInnermost d ks.elements ts.elements → StandsIn d b ts m i
-  stands_inside ks m i s a = record { stack = ks; stands = s; innermost = a }
+  stands_inside s a = record { stack = _; stands = s; innermost = a }
 
-  pub leads_from : (us : BoundedList Token) (ks : BoundedList ℕ) (m n o : Mode) (i j : ℕ)
+  pub leads_from : {us : BoundedList Token} (ks : BoundedList ℕ) {m n o : Mode} {i j : ℕ}
       → IsInnermost d ks.elements ts.elements → LeadsIn d b ts m i us n j → n ≡ o → (t0 : BoundedList Token)
       → (s0 : BoundedList ℕ) → Standing b t0 s0 ts ks m i → Standing b t0 s0 us ks o j
-  leads_from us ks m n o i j a f e t0 s0 s = subst (λ x. Standing b t0 s0 us ks x j) e (f t0 s0 ks a s).1
+  leads_from {us} ks {j} a f e t0 s0 s = subst (λ x. Standing b t0 s0 us ks x j) e (f t0 s0 ks a s).1
 
-  pub stands_from : (us : BoundedList Token) (ks : BoundedList ℕ) (m n o : Mode) (i j : ℕ) → Stands b ts ks m i
+  pub stands_from : {us : BoundedList Token} {ks : BoundedList ℕ} {m n o : Mode} {i j : ℕ} → Stands b ts ks m i
       → IsInnermost d ks.elements ts.elements → LeadsIn d b ts m i us n j → n ≡ o → Stands b us ks o j
-  stands_from us ks m n o i j s a f e = stands_on b ts us ks ks m o i j s (leads_from us ks m n o i j a f e)
+  stands_from {ks} s a f e = stands_on s (leads_from ks a f e)
 
-  pub innermost_from : (us : BoundedList Token) (ks : BoundedList ℕ) (m n : Mode) (i j : ℕ) → Stands b ts ks m i
+  pub innermost_from : {us : BoundedList Token} {ks : BoundedList ℕ} {m n : Mode} {i j : ℕ} → Stands b ts ks m i
       → IsInnermost d ks.elements ts.elements → LeadsIn d b ts m i us n j → IsInnermost d ks.elements us.elements
-  innermost_from us ks m n i j s a f = (f s.tokens0 s.stack0 ks a s.standing).0
+  innermost_from {ks} s a f = (f s.tokens0 s.stack0 ks a s.standing).0
 
 -- ---- numbers of an array
 
-pub kept_more : (ts us vs : List Token) → us ≡ ts ++ vs → KeepsTokens ts us
-kept_more ts us vs e = λ j t h. subst (λ z. slice_get z j ≡ Some t) (sym e) (slice_get-append ts vs j t h)
+pub kept_more : (ts : List Token) {us : List Token} (vs : List Token) → us ≡ ts ++ vs → KeepsTokens ts us
+kept_more ts vs e = λ j t h. subst (λ z. slice_get z j ≡ Some t) (sym e) (slice_get-append ts vs j t h)
 
-module _ (b : List ℕ) (ts us : BoundedList Token) (m : Mode) (i k : ℕ) (v : BeginsValue m) (n : IsNumberUpTo b i k)
+module _ {b : List ℕ} (ts us : BoundedList Token) (m : Mode) {i k : ℕ} (v : BeginsValue m) (n : IsNumberUpTo b i k)
     (e : Becomes ts (ts.elements ++ token_at i k (length ts.elements + 1) ∷ []) us) where
   pub leads_number : EndsItem (byte b k) → LeadsIn Array b ts m i us After k
   leads_number w = λ t0 s0 ks a s. (
-    innermost_more Array ks.elements ts.elements us.elements _ a e.elements,
-    standing_number b t0 s0 ts us ks m i k s v n w e,
+    innermost_more _ a e.elements,
+    standing_number us s v n w e,
   )
 
   -- and its comma
   pub leads_item : byte b k ≡ 44 → LeadsIn Array b ts m i us Ready (k + 1)
   leads_item c = λ t0 s0 ks a s.
       let h = leads_number (inl c) t0 s0 ks a s in
-      (h.0, standing_comma b t0 s0 us ks k h.1 n.within c h.0)
+      (h.0, standing_comma k h.1 n.within c h.0)
 
 pub kept_all : (ts us vs : List Token) → KeepsTokens ts us → KeepsTokens us vs → KeepsTokens ts vs
 kept_all ts us vs f g = λ k t h. g k t (f k t h)
@@ -94,23 +94,13 @@ kept_all ts us vs f g = λ k t h. g k t (f k t h)
 abbrev before_more : Next → Numbers
 before_more n = record { next = n; ended = false }
 
-pub reads_none : (b : List ℕ) (ts : BoundedList Token) (f : Next) → BeginsValue f.mode
-    → ReadsNumbers b ts f ts (before_more f)
-reads_none b ts f v = record {
-  leads = leads_here b ts f.mode f.place;
-  kept = λ k t h. h;
-  ended = λ t. cc;
-  begins = λ e. v;
-  order = omega arith;
-}
-
 -- one call after another
-pub reads_on : (b : List ℕ) (ts us vs : BoundedList Token) (f n : Next) (r : Numbers)
+pub reads_on : {b : List ℕ} {ts us vs : BoundedList Token} {f n : Next} {r : Numbers}
     → ReadsNumbers b ts f us (before_more n) → ReadsNumbers b us n vs r → ReadsNumbers b ts f vs r
-reads_on b ts us vs f n r x y =
+reads_on {b} {ts} {us} {vs} x y =
     let first = x.order in let more = y.order in
     record {
-      leads = leads_on b ts us vs f.mode n.mode r.next.mode f.place n.place r.next.place x.leads y.leads;
+      leads = leads_on x.leads y.leads;
       kept = kept_all ts.elements us.elements vs.elements x.kept y.kept;
       ended = y.ended;
       begins = y.begins;
@@ -118,41 +108,41 @@ reads_on b ts us vs f n r x y =
     }
 
 -- a number and its comma
-pub reads_item : (b : List ℕ) (ts us : BoundedList Token) (f : Next) (k : ℕ) → BeginsValue f.mode
+pub reads_item : {b : List ℕ} (ts us : BoundedList Token) (f : Next) {k : ℕ} → BeginsValue f.mode
     → IsNumberUpTo b f.place k → Becomes ts (ts.elements ++ token_at f.place k (length ts.elements + 1) ∷ []) us
     → byte b k ≡ 44 → ReadsNumbers b ts f us (before_more (record { mode = Ready; place = k + 1 }))
-reads_item b ts us f k v n e c =
+reads_item ts us f v n e c =
     let further = n.order in
     record {
-      leads = leads_item b ts us f.mode f.place k v n e c;
-      kept = kept_more ts.elements us.elements _ e.elements;
+      leads = leads_item ts us f.mode v n e c;
+      kept = kept_more ts.elements _ e.elements;
       ended = λ t. cc;
       begins = λ q. tt;
       order = omega arith;
     }
 
 -- the last number of an array
-pub reads_last : (b : List ℕ) (ts us : BoundedList Token) (f : Next) (k : ℕ) → BeginsValue f.mode
+pub reads_last : {b : List ℕ} (ts us : BoundedList Token) (f : Next) {k : ℕ} → BeginsValue f.mode
     → IsNumberUpTo b f.place k → Becomes ts (ts.elements ++ token_at f.place k (length ts.elements + 1) ∷ []) us
     → byte b k ≡ 93 → ReadsNumbers b ts f us (record { next = record { mode = After; place = k }; ended = true })
-reads_last b ts us f k v n e c =
+reads_last ts us f v n e c =
     let further = n.order in
     record {
-      leads = leads_number b ts us f.mode f.place k v n e (inr c);
-      kept = kept_more ts.elements us.elements _ e.elements;
+      leads = leads_number ts us f.mode v n e (inr c);
+      kept = kept_more ts.elements _ e.elements;
       ended = λ t. record { after = refl; within = n.within; bracket = c };
       begins = λ q. cc;
       order = omega arith;
     }
 
 -- what the calls need
-pub in_small : (d : Kind) (b : List ℕ) (ts : BoundedList Token) (m : Mode) (i : ℕ) → StandsIn d b ts m i → i < length b
+pub in_small : {d : Kind} {b : List ℕ} {ts : BoundedList Token} {m : Mode} {i : ℕ} → StandsIn d b ts m i → i < length b
     → FitsToken i ts
-in_small d b ts m i s l = stands_small b ts s.stack m i s.stands l
+in_small s l = stands_small s.stands l
 
-pub in_room : (d : Kind) (b : List ℕ) (ts : BoundedList Token) (m : Mode) (i : ℕ) → StandsIn d b ts m i → i < length b
+pub in_room : {d : Kind} {b : List ℕ} {ts : BoundedList Token} {m : Mode} {i : ℕ} → StandsIn d b ts m i → i < length b
     → BeginsValue m → length ts.elements < ts.limit
-in_room d b ts m i s l v = stands_room b ts s.stack m i s.stands l v
+in_room s l v = stands_room s.stands l v
 
 -- ---- an array that is not put on the stack
 
@@ -160,7 +150,7 @@ in_room d b ts m i s l v = stands_room b ts s.stack m i s.stands l v
 abbrev pub with_top : BoundedList ℕ → ℕ → BoundedList ℕ
 with_top ks k = record ks { elements = k ∷ ks.elements; peak = max ks.peak (suc (length ks.elements)) }
 
-module _ (b : List ℕ) (ts us : BoundedList Token) (ks : BoundedList ℕ) (m : Mode) (i : ℕ)
+module _ {ts us : BoundedList Token} {ks : BoundedList ℕ} (i : ℕ)
     (e : Becomes ts (ts.elements ++ token_at i 0 0 ∷ []) us) (w : IsWithin ts) (x : IsWithin ks)
     (f : length ks.elements < ks.limit) where
   -- the bracket opens it
@@ -181,58 +171,53 @@ module _ (b : List ℕ) (ts us : BoundedList Token) (ks : BoundedList ℕ) (m : 
         err = tt;
       }
 
-  pub flat_opened : BeginsValue m → i < length b → byte b i ≡ 91 → (t0 : BoundedList Token) (s0 : BoundedList ℕ)
-      → Standing b t0 s0 ts ks m i → Standing b t0 s0 us (with_top ks (length ts.elements)) FirstItem (i + 1)
-  flat_opened v l h = standing_opened Array FirstItem 91 opens_array b ts us ks (with_top ks (length ts.elements)) m i
-      (Open FirstItem) array_opens v l h
+  pub flat_opened : (b : List ℕ) (m : Mode) → BeginsValue m → i < length b → byte b i ≡ 91
+      → (t0 : BoundedList Token) (s0 : BoundedList ℕ) → Standing b t0 s0 ts ks m i → Standing b t0 s0 us (with_top ks (length ts.elements)) FirstItem (i + 1)
+  flat_opened b m v l h = standing_opened opens_array b m array_opens v l h
 
   pub flat_in : InArray (length ts.elements ∷ ks.elements) us.elements
-  flat_in = opened_in Array FirstItem 91 opens_array b ts us ks (with_top ks (length ts.elements)) m i
-      (Open FirstItem) array_opens
+  flat_in = opened_in opens_array array_opens
 
 pub top_there : (ks : List ℕ) (k : ℕ) (ts : List Token) (a : InArray (k ∷ ks) ts) → slice_get ts k ≡ Some a.token
 top_there ks k ts a = subst (λ z. slice_get ts z ≡ Some a.token) (sym (some_same k a.top a.innermost)) a.there
 
 -- the machine closes the innermost array, whose token is then whole
-array_closes : (ks : List ℕ) (k : ℕ) (ts us : List Token) (i : ℕ) → InArray (k ∷ ks) ts
+array_closes : (ks : List ℕ) (k : ℕ) (ts : List Token) {us : List Token} (i : ℕ) → InArray (k ∷ ks) ts
     → ((t : Token) → slice_get ts k ≡ Some t → us ≡ slice_set ts k (token_at t.start (suc i) (length ts)))
     → (p : ℕ) → read After 93 (idle After (k ∷ ks) ts i p) ≡ Some (idle After ks us (suc i) p)
-array_closes ks k ts us i a h p =
+array_closes ks k ts i a h p =
     let u = idle After (k ∷ ks) ts i p in
     let there = top_there ks k ts a in
     ap (λ o. after_token 93 k o u) there ∙ ap (λ g. after_in g 93 k a.token u) a.kind
     ∙ ap (λ z. Some (idle After ks z (suc i) p)) (sym (h a.token there))
 
 -- behind the bracket of an array that was never put on the stack, which notes an item more
-pub flat_closed : (b : List ℕ) (ts us : BoundedList Token) (ks ks1 : BoundedList ℕ) (k i : ℕ) → i < length b
+pub flat_closed : (b : List ℕ) {ts us : BoundedList Token} (ks : BoundedList ℕ) {ks1 : BoundedList ℕ} (k i : ℕ) → i < length b
     → byte b i ≡ 93 → InArray (k ∷ ks.elements) ts.elements → IsWithin ks → IsWithin ks1
     → ks1 ≡ record ks { peak = max ks.peak (length ks.elements + 1) }
     → ((t : Token) → slice_get ts.elements k ≡ Some t
     → us.elements ≡ slice_set ts.elements k (token_at t.start (suc i) (length ts.elements))) → Grown ts us
     → (t0 : BoundedList Token) (s0 : BoundedList ℕ) → Standing b t0 s0 ts (with_top ks k) After i
     → Standing b t0 s0 us ks1 After (i + 1)
-flat_closed b ts us ks ks1 k i l e a x y f h g t0 s0 s =
+flat_closed b {ts} {us} ks {ks1} k i l e a x y f h g t0 s0 s =
     let limit = ap (λ z. z.limit) f in
     let peak = ap (λ z. z.peak) f in
     let elements = ap (λ z. z.elements) f in
     let n : length ks1.elements ≡ length ks.elements = ap length elements in
     let p = x.below_peak in
-    standing_closed b t0 s0 ts us (with_top ks k) ks1 After i s l e g
-    (record {
+    standing_closed s l e g (record {
       limit = limit;
       peak = omega arith;
       room = λ r. subst IsTrue (sym (ap (λ z. z.reserved) f)) r;
       within = y;
-    })
-    (λ q. subst (λ z. read After 93 (idle After (k ∷ ks.elements) ts.elements i q)
-    ≡ Some (idle After z us.elements (suc i) q)) (sym elements)
-    (array_closes ks.elements k ts.elements us.elements i a h q))
+    }) (λ q. subst (λ z. read After 93 (idle After (k ∷ ks.elements) ts.elements i q)
+    ≡ Some (idle After z us.elements (suc i) q)) (sym elements) (array_closes ks.elements k ts.elements i a h q))
 
 -- the same stack, however it came to be
-pub standing_stack : (b : List ℕ) (ts : BoundedList Token) (ks ks1 : BoundedList ℕ) (k : ℕ) (m : Mode) (i : ℕ)
-    → Becomes ks (k ∷ ks.elements) ks1 → (t0 : BoundedList Token) (s0 : BoundedList ℕ)
+pub standing_stack : {b : List ℕ} {ts : BoundedList Token} (ks ks1 : BoundedList ℕ) (k : ℕ) {m : Mode} {i : ℕ}
+    → Becomes ks (k ∷ ks.elements) ks1 → {t0 : BoundedList Token} {s0 : BoundedList ℕ}
     → Standing b t0 s0 ts (with_top ks k) m i → Standing b t0 s0 ts ks1 m i
-standing_stack b ts ks ks1 k m i e t0 s0 s = record {
+standing_stack {b} {ts} ks ks1 k {m} {i} e s = record {
   deepest = s.deepest;
   settles = subst (λ z. ComesTo b start (state (between m) z ts.elements i s.deepest)) (sym e.elements) s.settles;
   place = s.place;
@@ -251,9 +236,9 @@ get_before (z ∷ ts) (suc k) zero u l = refl
 get_before (z ∷ ts) (suc k) (suc j) u l = get_before ts k j u (omega arith)
 
 -- an array stays the innermost, when tokens come behind it and the first of these is set
-pub outer_stays : (ks : List ℕ) (ts us vs : List Token) (k : ℕ) (t : Token) → InArray ks ts → length ts ≤ k
+pub outer_stays : (ks : List ℕ) (ts us : List Token) {vs : List Token} (k : ℕ) (t : Token) → InArray ks ts → length ts ≤ k
     → KeepsTokens ts us → vs ≡ slice_set us k t → InArray ks vs
-outer_stays ks ts us vs k t a l f e = record {
+outer_stays ks ts us k t a l f e = record {
   top = a.top;
   token = a.token;
   innermost = a.innermost;
@@ -265,28 +250,27 @@ outer_stays ks ts us vs k t a l f e = record {
 }
 
 -- an array opens with the bracket at the place i and is not put on the stack, and a call then leads to the mode n at j
-module _ (b : List ℕ) (ts us vs : BoundedList Token) (ks : BoundedList ℕ) (m n : Mode) (i j : ℕ)
-    (s : Stands b ts ks m i) (v : BeginsValue m) (l : i < length b) (h : byte b i ≡ 91)
-    (f : length ks.elements < ks.limit)
+module _ {b : List ℕ} {ts us : BoundedList Token} {ks : BoundedList ℕ} {m : Mode} {i : ℕ} (s : Stands b ts ks m i)
+    (v : BeginsValue m) (l : i < length b) (h : byte b i ≡ 91) (f : length ks.elements < ks.limit)
     (e : Becomes ts (ts.elements ++ token_at i 0 0 ∷ []) us) where
   abbrev top : BoundedList ℕ
   top = with_top ks (length ts.elements)
 
   opens_flat : (t0 : BoundedList Token) (s0 : BoundedList ℕ) → Standing b t0 s0 ts ks m i
       → Standing b t0 s0 us top FirstItem (i + 1)
-  opens_flat = let w = stands_within b ts ks m i s in flat_opened b ts us ks m i e w.0 w.1 f v l h
+  opens_flat = let w = stands_within s in flat_opened i e w.0 w.1 f b m v l h
 
   inside : InArray (length ts.elements ∷ ks.elements) us.elements
-  inside = let w = stands_within b ts ks m i s in flat_in b ts us ks m i e w.0 w.1 f
+  inside = let w = stands_within s in flat_in i e w.0 w.1 f
 
   pub flat_stands : StandsIn Array b us FirstItem (i + 1)
   flat_stands = record {
     stack = top;
-    stands = stands_on b ts us ks top m FirstItem i (i + 1) s opens_flat;
+    stands = stands_on s opens_flat;
     innermost = inside;
   }
 
-  module _ (g : LeadsIn Array b us FirstItem (i + 1) vs n j) where
+  module _ {vs : BoundedList Token} {n : Mode} {j : ℕ} (g : LeadsIn Array b us FirstItem (i + 1) vs n j) where
     pub flat_read : (t0 : BoundedList Token) (s0 : BoundedList ℕ) → Standing b t0 s0 ts ks m i
         → Standing b t0 s0 vs top n j
     flat_read t0 s0 z = (g t0 s0 top inside (opens_flat t0 s0 z)).1
@@ -295,7 +279,7 @@ module _ (b : List ℕ) (ts us vs : BoundedList Token) (ks : BoundedList ℕ) (m
     flat_innermost = (g s.tokens0 s.stack0 top inside (opens_flat s.tokens0 s.stack0 s.standing)).0
 
     pub flat_inside : StandsIn Array b vs n j
-    flat_inside = stands_leads b us vs FirstItem n (i + 1) j flat_stands g
+    flat_inside = stands_leads flat_stands g
 
 pub index_within : (ks : List ℕ) (k : ℕ) (ts : List Token) → InArray (k ∷ ks) ts → k < length ts
 index_within ks k ts a = slice_get_within ts k a.token (top_there ks k ts a)
@@ -311,10 +295,9 @@ array_refused ts ks i w x e = record {
   err = (refl, refl);
 }
 
-pub too_deep : (b : List ℕ) (ts : BoundedList Token) (ks : BoundedList ℕ) (m : Mode) (i : ℕ) → Stands b ts ks m i
-    → BeginsValue m → i < length b → byte b i ≡ 91 → length ks.elements ≡ ks.limit → (t0 : BoundedList Token)
-    → (s0 : BoundedList ℕ) → Standing b t0 s0 ts ks m i → GoesOn b t0 s0 (Err (TooDeep i)) ts ks
-too_deep b ts ks m i s v l h e t0 s0 z =
-    let w = stands_within b ts ks m i s in
-    standing_refused Array FirstItem 91 opens_array b ts ts ks ks m i (TooDeep i) (array_refused ts ks i w.0 w.1 e) v l
-    h t0 s0 z
+pub too_deep : {b : List ℕ} {ts : BoundedList Token} {ks : BoundedList ℕ} {m : Mode} {i : ℕ} → Stands b ts ks m i
+    → BeginsValue m → i < length b → byte b i ≡ 91 → length ks.elements ≡ ks.limit → {t0 : BoundedList Token}
+    → {s0 : BoundedList ℕ} → Standing b t0 s0 ts ks m i → GoesOn b t0 s0 (Err (TooDeep i)) ts ks
+too_deep {b} {ts} {ks} {m} {i} s v l h e z =
+    let w = stands_within s in
+    standing_refused opens_array (array_refused ts ks i w.0 w.1 e) v l h z

@@ -91,16 +91,16 @@ linked_none i k =
           subst (λ m. AllLinked m rest) q g;
     }
 
-linked_more : (i j k l n : ℕ) (ts : List Token) → k ≤ i → j ≤ l → Linked i j n ts → Linked k l n ts
-linked_more i j k l n ts f g h = record {
+linked_more : {i j : ℕ} (k l : ℕ) {n : ℕ} {ts : List Token} → k ≤ i → j ≤ l → Linked i j n ts → Linked k l n ts
+linked_more {i} {j} k l {ts} f g h = record {
   all = all_before_more j l ts g h.all;
   first = not_before_less k i ts f h.first;
   linked = λ rest m e o p. h.linked rest m e (not_before_less j l rest g o) p;
 }
 
-linked_both : (i j k n m : ℕ) (ts us : List Token) → i ≤ j → j ≤ k → m ≡ n + length ts → Linked i j n ts
+linked_both : {i j k n m : ℕ} {ts us : List Token} → i ≤ j → j ≤ k → m ≡ n + length ts → Linked i j n ts
     → Linked j k m us → Linked i k n (ts ++ us)
-linked_both i j k n m ts us f g e h q = record {
+linked_both {i} {j} {k} {n} {m} {ts} {us} f g e h q = record {
   all = all_before_append k ts us (all_before_more j k ts g h.all) q.all;
   first = not_before_append i j ts us f h.first q.first;
   linked = λ rest l d o p.
@@ -110,9 +110,9 @@ linked_both i j k n m ts us f g e h q = record {
 }
 
 -- a token over others
-linked_over : (i j n m : ℕ) (ts : List Token) → i < j → m ≡ suc n + length ts → Linked (suc i) j (suc n) ts
+linked_over : (i : ℕ) {j : ℕ} (n m : ℕ) {ts : List Token} → i < j → m ≡ suc n + length ts → Linked (suc i) j (suc n) ts
     → Linked i j n (token_at i j m ∷ ts)
-linked_over i j n m ts o e h = record {
+linked_over i {j} n m {ts} o e h = record {
   all = (o, h.all);
   first = omega arith;
   linked = λ rest l d f g. let b = before_all j ts rest h.all f in (omega arith, h.linked rest l (omega arith) f g);
@@ -120,79 +120,75 @@ linked_over i j n m ts o e h = record {
 
 linked_atom : (i j n : ℕ) → i < j → Linked i j n (token_at i j (suc n) ∷ [])
 linked_atom i j n o =
-    linked_over i j n (suc n) [] o (omega arith)
-    (linked_more j j (suc i) j (suc n) [] o (omega arith) (linked_none j (suc n)))
+    linked_over i n (suc n) o (omega arith) (linked_more (suc i) j o (omega arith) (linked_none j (suc n)))
 
 -- ---- the grammar
 
 linked_named : {b : List ℕ} {i j : ℕ} {n : Atom} → Named b i j n → (k : ℕ)
     → Linked i j k (token_at n.start n.stop (suc k) ∷ [])
 linked_named {b} (named i j k l w x y c) m = let e = w.order in let f = y.order in
-    linked_more j k i (suc l) m _ e (omega arith) (linked_atom j k m x.order)
+    linked_more i (suc l) e (omega arith) (linked_atom j k m x.order)
 
-linked_add : (i j k n : ℕ) (us : Items) (u : Tree) → i ≤ j → j ≤ k → Linked i j n (flatten_items n us)
+linked_add : {i j k n : ℕ} (us : Items) (u : Tree) → i ≤ j → j ≤ k → Linked i j n (flatten_items n us)
     → Linked j k (n + items_size us) (flatten (n + items_size us) u) → Linked i k n (flatten_items n (add_item us u))
-linked_add i j k n us u f g h q =
+linked_add {i} {k} {n} us u f g h q =
     let e = length-flatten_items n us in
-    subst (Linked i k n) (sym (flatten_items-add n us u))
-    (linked_both i j k n (n + items_size us) (flatten_items n us) (flatten (n + items_size us) u) f g
-    (omega arith) h q)
+    subst (Linked i k n) (sym (flatten_items-add n us u)) (linked_both f g (omega arith) h q)
 
-linked_add_member : (i j k l n : ℕ) (us : Members) (a : Atom) (u : Tree) → i ≤ j → j ≤ k → k ≤ l
+linked_add_member : {i j k l n : ℕ} (us : Members) (a : Atom) (u : Tree) → i ≤ j → j ≤ k → k ≤ l
     → Linked i j n (flatten_members n us) → let m = n + members_size us in
     Linked j k m (token_at a.start a.stop (suc m) ∷ []) → Linked k l (suc m) (flatten (suc m) u)
     → Linked i l n (flatten_members n (add_member us a u))
-linked_add_member i j k l n us a u f g h p q r =
+linked_add_member {i} {j} {l} {n} us a u f g h p q r =
     let m = n + members_size us in
     let e = length-flatten_members n us in
     let pair : Linked j l m (named_tokens m a u) =
-    linked_both j k l m (suc m) (token_at a.start a.stop (suc m) ∷ []) (flatten (suc m) u) g h (omega arith) q r in
-    subst (Linked i l n) (sym (flatten_members-add n us a u))
-    (linked_both i j l n m (flatten_members n us) (named_tokens m a u) f (omega arith) (omega arith) p pair)
+    linked_both g h (omega arith) q r in
+    subst (Linked i l n) (sym (flatten_members-add n us a u)) (linked_both f (omega arith) (omega arith) p pair)
 
 mutual
   linked_value : {b : List ℕ} {i j : ℕ} {t : Tree} → Value b i j t → (n : ℕ) → Linked i j n (flatten n t)
   linked_value {b} (atom k i j w) n = linked_atom i j n w.order
   linked_value {b} (empty_array i j o w c) n =
       let h = w.order in
-      linked_over i (suc j) n (suc n + 0) [] (omega arith) (omega arith)
-      (linked_more (suc i) (suc i) (suc i) (suc j) (suc n) [] (omega arith) (omega arith)
+      linked_over i n (suc n + 0) (omega arith) (omega arith)
+      (linked_more (suc i) (suc j) (omega arith) (omega arith)
       (linked_none (suc i) (suc n)))
   linked_value {b} (full_array i j k us u o l p c) n =
       let a = led_order l in let q = padded_ends p in let v = add_item us u in let e = length-flatten_items (suc n) v in
-      linked_over i (suc k) n (suc n + items_size v) (flatten_items (suc n) v) (omega arith) (omega arith)
-      (linked_more (suc i) k (suc i) (suc k) (suc n) (flatten_items (suc n) v) (omega arith) (omega arith)
-      (linked_add (suc i) j k (suc n) us u a q (linked_led l (suc n)) (linked_padded p (suc n + items_size us))))
+      linked_over i n (suc n + items_size v) (omega arith) (omega arith)
+      (linked_more (suc i) (suc k) (omega arith) (omega arith)
+      (linked_add us u a q (linked_led l (suc n)) (linked_padded p (suc n + items_size us))))
   linked_value {b} (empty_object i j o w c) n =
       let h = w.order in
-      linked_over i (suc j) n (suc n + 0) [] (omega arith) (omega arith)
-      (linked_more (suc i) (suc i) (suc i) (suc j) (suc n) [] (omega arith) (omega arith)
+      linked_over i n (suc n + 0) (omega arith) (omega arith)
+      (linked_more (suc i) (suc j) (omega arith) (omega arith)
       (linked_none (suc i) (suc n)))
   linked_value {b} (full_object i j k l us a u o ld nm p c) n =
       let f = led_members_order ld in let q = padded_ends p in let r = named_ends nm in let v = add_member us a u in
       let e = length-flatten_members (suc n) v in let m = suc n + members_size us in
-      linked_over i (suc l) n (suc n + members_size v) (flatten_members (suc n) v) (omega arith) (omega arith)
-      (linked_more (suc i) l (suc i) (suc l) (suc n) (flatten_members (suc n) v) (omega arith) (omega arith)
-      (linked_add_member (suc i) j k l (suc n) us a u f r q (linked_led_members ld (suc n)) (linked_named nm m)
+      linked_over i n (suc n + members_size v) (omega arith) (omega arith)
+      (linked_more (suc i) (suc l) (omega arith) (omega arith)
+      (linked_add_member us a u f r q (linked_led_members ld (suc n)) (linked_named nm m)
       (linked_padded p (suc m))))
 
   linked_padded : {b : List ℕ} {i j : ℕ} {t : Tree} → Padded b i j t → (n : ℕ) → Linked i j n (flatten n t)
-  linked_padded {b} (padded i j k l t w v x) n = linked_more j k i l n (flatten n t) w.order x.order (linked_value v n)
+  linked_padded {b} (padded i j k l t w v x) n = linked_more i l w.order x.order (linked_value v n)
 
   linked_led : {b : List ℕ} {i j : ℕ} {us : Items} → LedItems b i j us → (n : ℕ) → Linked i j n (flatten_items n us)
   linked_led {b} (no_led i) n = linked_none i n
   linked_led {b} (led i j k us u l p c) n =
       let a = led_order l in let q = padded_ends p in
-      linked_more i k i (suc k) n (flatten_items n (add_item us u)) (omega arith) (omega arith)
-      (linked_add i j k n us u a q (linked_led l n) (linked_padded p (n + items_size us)))
+      linked_more i (suc k) (omega arith) (omega arith)
+      (linked_add us u a q (linked_led l n) (linked_padded p (n + items_size us)))
 
   linked_led_members : {b : List ℕ} {i j : ℕ} {us : Members} → LedMembers b i j us → (n : ℕ)
       → Linked i j n (flatten_members n us)
   linked_led_members {b} (no_led_members i) n = linked_none i n
   linked_led_members {b} (led_member i j k l us a u ld nm p c) n =
       let f = led_members_order ld in let q = padded_ends p in let r = named_ends nm in let m = n + members_size us in
-      linked_more i l i (suc l) n (flatten_members n (add_member us a u)) (omega arith) (omega arith)
-      (linked_add_member i j k l n us a u f r q (linked_led_members ld n) (linked_named nm m)
+      linked_more i (suc l) (omega arith) (omega arith)
+      (linked_add_member us a u f r q (linked_led_members ld n) (linked_named nm m)
       (linked_padded p (suc m)))
 
 link_at : (n k : ℕ) (ts : List Token) (t : Token) → AllLinked n ts → slice_get ts k ≡ Some t

@@ -114,9 +114,9 @@ pub length-snoc : (ts : List Token) (o : Token) → length (ts ++ o ∷ []) ≡ 
 length-snoc ts o = let e = length-append ts (o ∷ []) in omega arith
 
 -- one item more
-pub items_more : (xs : List Token) (k : ℕ) (us : Items) (u : Tree) → length xs ≡ k → let vs =
+pub items_more : (xs : List Token) {k : ℕ} (us : Items) (u : Tree) → length xs ≡ k → let vs =
     xs ++ flatten_items k us in vs ++ flatten (length vs) u ≡ xs ++ flatten_items k (add_item us u)
-items_more xs k us u h =
+items_more xs {k} us u h =
     let fs = flatten_items k us in
     let n : length (xs ++ fs) ≡ k + items_size us = let e = length-append xs fs in let f = length-flatten_items k us in
     omega arith in
@@ -124,10 +124,10 @@ items_more xs k us u h =
     ∙ ap (λ zs. xs ++ zs) (sym (flatten_items-add k us u))
 
 -- one member more
-pub members_more : (xs : List Token) (k : ℕ) (us : Members) (n : Atom) (u : Tree) → length xs ≡ k
+pub members_more : (xs : List Token) {k : ℕ} (us : Members) (n : Atom) (u : Tree) → length xs ≡ k
     → let vs = xs ++ flatten_members k us in let ws = vs ++ token_at n.start n.stop (suc (length vs)) ∷ [] in
     ws ++ flatten (length ws) u ≡ xs ++ flatten_members k (add_member us n u)
-members_more xs k us n u h =
+members_more xs {k} us n u h =
     let fs = flatten_members k us in
     let vs = xs ++ fs in
     let v = token_at n.start n.stop (suc (length vs)) in

@@ -145,10 +145,10 @@ mark_of [] k t h = cc
 mark_of (u ∷ ts) zero t h = let e : u ≡ t = cc in ap has_mark (sym e)
 mark_of (u ∷ ts) (suc k) t h = mark_of ts k t h
 
-pub keeps : (old new : BoundedList Token) (n : ℕ) (t : Token) → slice_get old.elements n ≡ Some t
+pub keeps : (old : BoundedList Token) {new : BoundedList Token} (n : ℕ) (t : Token) → slice_get old.elements n ≡ Some t
     → new.elements ≡ slice_set old.elements n (with_mark t) → new ≡ record old { elements = new.elements }
     → IsWithin new → KeepsTokens old new
-keeps old new n t h e l w =
+keeps old {new} n t h e l w =
     let same = ap bare e ∙ bare_kept old.elements n t h in
     record {
       tokens = same;
@@ -173,8 +173,8 @@ line-of-document n d e = ap (λ (s : Source). s.line.now) e
 module _ (d : Doc) (a : AreOf (document_line d) (tokens_in (document_source d))) where
   pub the-document : (t : Tree) → Json (document_line d) t → document d ≡ t
   unfolding document document_line document_source tokens_in
-  the-document t j = one_tree d.source.line.now d.source.tokens.now a t j
+  the-document t j = one_tree a t j
 
   pub the-json : Json (document_line d) (document d)
   unfolding document document_line document_source tokens_in
-  the-json = its_tree d.source.line.now d.source.tokens.now a
+  the-json = its_tree a

@@ -19,22 +19,22 @@ use Rattle.cj_spans.proofs.Standing.{standing_small, standing_name_room, standin
 -- ---- one step of the machine
 
 -- a quote begins a string where a value or a name may begin
-string_begins : (m n : Mode) (c : ℕ) (ks : List ℕ) (ts : List Token) (i p : ℕ) → StringLeads m n → c ≡ 34
+string_begins : (m n : Mode) {c : ℕ} (ks : List ℕ) (ts : List Token) (i p : ℕ) → StringLeads m n → c ≡ 34
     → step c (idle m ks ts i p) ≡ Some (state (in_atom n i InString) ks ts (suc i) p)
-string_begins Ready After c ks ts i p v e = ap (λ x. step x (idle Ready ks ts i p)) e
-string_begins FirstName AfterName c ks ts i p v e = ap (λ x. step x (idle FirstName ks ts i p)) e
-string_begins NextName AfterName c ks ts i p v e = ap (λ x. step x (idle NextName ks ts i p)) e
-string_begins _ _ c ks ts i p v e = absurd v
+string_begins Ready After ks ts i p v e = ap (λ x. step x (idle Ready ks ts i p)) e
+string_begins FirstName AfterName ks ts i p v e = ap (λ x. step x (idle FirstName ks ts i p)) e
+string_begins NextName AfterName ks ts i p v e = ap (λ x. step x (idle NextName ks ts i p)) e
+string_begins _ _ ks ts i p v e = absurd v
 
 -- the machine has read a string
-string_read : (b : List ℕ) (s : State) (m n : Mode) (ks : List ℕ) (ts us : List Token) (i k p : ℕ) → IsQuoted b i k
+string_read : {b : List ℕ} (s : State) (m n : Mode) (ks : List ℕ) (ts : List Token) {us : List Token} {i k : ℕ} (p : ℕ) → IsQuoted b i k
     → StringLeads m n → us ≡ ts ++ token_at i k (length ts + 1) ∷ [] → ComesTo b s (idle m ks ts i p)
     → ComesTo b s (idle n ks us k p)
-string_read b s m n ks ts us i k p q v e h =
+string_read s m n ks ts {i} p q v e h =
     let o = q.order in let w = q.within in
-    let r = step_on b s (idle m ks ts i p) (state (in_atom n i InString) ks ts (suc i) p) h (omega arith)
-    (string_begins m n (byte b i) ks ts i p v q.opens) in
-    settles_both r (ends_ok b i k p InString StringDone Text n ks ts us q.goes (inr refl) refl e)
+    let r = step_on (state (in_atom n i InString) ks ts (suc i) p) h (omega arith)
+    (string_begins m n ks ts i p v q.opens) in
+    settles_both r (ends_ok i p Text n ks ts q.goes (inr refl) refl e)
 
 pub name_leads : (m : Mode) → BeginsName m → StringLeads m AfterName
 name_leads FirstName h = tt
@@ -44,19 +44,19 @@ name_leads _ h = absurd h
 -- ---- what leads where
 
 module _ (b : List ℕ) (ts : BoundedList Token) where
-  pub leads_string : (us : BoundedList Token) (m n : Mode) (i k : ℕ) → StringLeads m n → IsQuoted b i k
+  pub leads_string : (us : BoundedList Token) (m n : Mode) {i k : ℕ} → StringLeads m n → IsQuoted b i k
       → Becomes ts (ts.elements ++ token_at i k (length ts.elements + 1) ∷ []) us → LeadsIn Object b ts m i us n k
-  leads_string us m n i k v q e = λ t0 s0 ks a s. (
-    innermost_more Object ks.elements ts.elements us.elements _ a e.elements,
-    standing_with b t0 s0 ts us ks m n i k s (grown_more ts us _ s.kept.within e) q.within
-        (λ p. string_read b start m n ks.elements ts.elements us.elements i k p q v e.elements),
+  leads_string us m n {k} v q e = λ t0 s0 ks a s. (
+    innermost_more _ a e.elements,
+    standing_with {tokens1 = us} n k s (grown_more ts us _ s.kept.within e) q.within
+        (λ p. string_read start m n ks.elements ts.elements p q v e.elements),
   )
 
   pub leads_colon : (k : ℕ) → (k < length b) × (byte b k ≡ 58) → LeadsIn Object b ts AfterName k ts Ready (k + 1)
   leads_colon k h = λ t0 s0 ks a s.
       let l = h.0 in (
         a,
-        standing_with b t0 s0 ts ts ks AfterName Ready k (k + 1) s (grown_same ts s.kept.within) (omega arith)
+        standing_with Ready (k + 1) s (grown_same ts s.kept.within) (omega arith)
             (λ p. colon_read b start ks.elements ts.elements k p h.0 h.1),
       )
 
@@ -64,26 +64,26 @@ module _ (b : List ℕ) (ts : BoundedList Token) where
   leads_comma k h = λ t0 s0 ks a s.
       let l = h.0 in (
         a,
-        standing_with b t0 s0 ts ts ks After NextName k (k + 1) s (grown_same ts s.kept.within) (omega arith)
-            (λ p. comma_read b start Object NextName ks.elements ts.elements k p (λ _ _ _. refl) a h.0 h.1),
+        standing_with NextName (k + 1) s (grown_same ts s.kept.within) (omega arith)
+            (λ p. comma_read b start NextName k p (λ _ _ _. refl) a h.0 h.1),
       )
 
   -- ---- what the calls need
 
-  pub name_small : (m : Mode) (i : ℕ) → StandsIn Object b ts m i → i < length b → (length b < 2147483648)
+  pub name_small : {m : Mode} {i : ℕ} → StandsIn Object b ts m i → i < length b → (length b < 2147483648)
       × (length ts.elements < 2147483648)
-  name_small m i s l =
+  name_small s l =
       let h = s.stands.room.short in
-      (omega arith, (standing_small b s.stands.tokens0 s.stands.stack0 ts s.stack m i s.stands.standing h l).1)
+      (omega arith, (standing_small s.stands.standing h l).1)
 
-  pub name_room : (m : Mode) (i : ℕ) → StandsIn Object b ts m i → i < length b → BeginsName m
+  pub name_room : {m : Mode} {i : ℕ} → StandsIn Object b ts m i → i < length b → BeginsName m
       → length ts.elements < ts.limit
-  name_room m i s l v =
-      standing_name_room b s.stands.tokens0 s.stands.stack0 ts s.stack m i s.stands.standing s.stands.room.room l v
+  name_room s l v =
+      standing_name_room s.stands.standing s.stands.room.room l v
 
-  pub string_room : (i : ℕ) → StandsIn Object b ts Ready i → i < length b → length ts.elements < ts.limit
-  string_room i s l =
-      standing_room b s.stands.tokens0 s.stands.stack0 ts s.stack Ready i s.stands.standing s.stands.room.room l tt
+  pub string_room : {i : ℕ} → StandsIn Object b ts Ready i → i < length b → length ts.elements < ts.limit
+  string_room s l =
+      standing_room s.stands.standing s.stands.room.room l tt
 
-  pub name_reserved : (m : Mode) (i : ℕ) → StandsIn Object b ts m i → IsTrue ts.reserved
-  name_reserved m i s = s.stands.standing.kept.room s.stands.room.reserved.0
+  pub name_reserved : {m : Mode} {i : ℕ} → StandsIn Object b ts m i → IsTrue ts.reserved
+  name_reserved s = s.stands.standing.kept.room s.stands.room.reserved.0

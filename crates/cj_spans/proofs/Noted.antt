@@ -71,20 +71,20 @@ on_from w m rest s p h = by_test (is_noted p) h
     by_test false h = sym (h refl)
 
 -- nothing is noted of the member
-noted_past : (w : Members) (m : Tree × Tree) (rest : List (Tree × Tree)) (ps : List ℕ) → AreNoted w (m ∷ rest) ps
+noted_past : {w : Members} (m : Tree × Tree) (rest : List (Tree × Tree)) {ps : List ℕ} → AreNoted w (m ∷ rest) ps
     → ((s : List ℕ) (c : ℕ) → head s ≡ Some c → is_noted (get_or ps (c % 32) 0) ≡ false → first_code_of m.0 ≢ head s)
     → AreNoted w rest ps
-noted_past w m rest ps a n = record {
+noted_past {w} m rest {ps} a n = record {
   count = a.count;
   places = a.places;
   first = λ s c e. on_from w m rest s (get_or ps (c % 32) 0) (λ f. passed s m rest (n s c e f)) ∙ a.first s c e;
 }
 
 -- its place is noted
-noted_new : (w : Members) (m : Tree × Tree) (rest : List (Tree × Tree)) (ps : List ℕ) (d p : ℕ)
+noted_new : {w : Members} (m : Tree × Tree) (rest : List (Tree × Tree)) {ps : List ℕ} (d : ℕ) {p : ℕ}
     → AreNoted w (m ∷ rest) ps → first_code_of m.0 ≡ Some d → is_noted (get_or ps (d % 32) 0) ≡ false → 0 < p
     → IsPlace w p → members_from w p ≡ m ∷ rest → AreNoted w rest (slice_set ps (d % 32) p)
-noted_new w m rest ps d p a code free some place from = record {
+noted_new {w} m rest {ps} d {p} a code free some place from = record {
   count = length-set ps (d % 32) p ∙ a.count;
   places = λ i h. by_place i (cases_eq i (d % 32)) h;
   first = λ s c e. by_slot s c e (cases_eq (c % 32) (d % 32));
@@ -122,20 +122,20 @@ noted_new w m rest ps d p a code free some place from = record {
         (λ f. passed s m rest (some-other s c d m.0 e code (λ g. n (sym g))))
         ∙ a.first s c e
 
-pub noted_on : (w : Members) (m : Tree × Tree) (rest : List (Tree × Tree)) (ps : List ℕ) (o : Option ℕ) (p : ℕ)
+pub noted_on : {w : Members} (m : Tree × Tree) (rest : List (Tree × Tree)) {ps : List ℕ} (o : Option ℕ) {p : ℕ}
     → AreNoted w (m ∷ rest) ps → first_code_of m.0 ≡ o → 0 < p → IsPlace w p → members_from w p ≡ m ∷ rest
     → AreNoted w rest (note o p ps)
-noted_on w m rest ps None p a code some place from =
-    noted_past w m rest ps a (λ s c e f. none-other s c m.0 e code)
-noted_on w m rest ps (Some d) p a code some place from = by_test (is_noted (get_or ps (d % 32) 0)) refl
+noted_on m rest None a code some place from =
+    noted_past m rest a (λ s c e f. none-other s c m.0 e code)
+noted_on {w} m rest {ps} (Some d) {p} a code some place from = by_test (is_noted (get_or ps (d % 32) 0)) refl
   where
     other : (c : ℕ) → is_noted (get_or ps (d % 32) 0) ≡ true → is_noted (get_or ps (c % 32) 0) ≡ false
         → d % 32 ≢ c % 32
     other c taken free h = false≢true (sym free ∙ ap (λ k. is_noted (get_or ps k 0)) (sym h) ∙ taken)
 
     by_test : (b : Bool) → is_noted (get_or ps (d % 32) 0) ≡ b → AreNoted w rest (cond b ps (slice_set ps (d % 32) p))
-    by_test true e = noted_past w m rest ps a (λ s c f g. some-other s c d m.0 f code (other c e g))
-    by_test false e = noted_new w m rest ps d p a code e some place from
+    by_test true e = noted_past m rest a (λ s c f g. some-other s c d m.0 f code (other c e g))
+    by_test false e = noted_new m rest d a code e some place from
 
 -- ---- slots that no two members share
 
@@ -174,29 +174,28 @@ noted_none w = record {
 -- ---- what is found
 
 -- the member at a place
-member_at : (w : Members) (p : ℕ) → IsPlace w p
+member_at : {w : Members} {p : ℕ} → IsPlace w p
     → (r : ℕ) × (members_from w p ≡ (
       tree_at w.source.line.now (spans_of w.source.tokens.now) p,
       tree_at w.source.line.now (spans_of w.source.tokens.now) (p + 1),
     ) ∷ members_from w r)
-member_at w p h =
+member_at {w} {p} h =
     let s = w.source in
     let line = s.line.now in
     let tokens = s.tokens.now in
     let whole = h.whole.0 in
     let a = at_name line tokens p w.stop s.nested s.linked s.lone h.whole h.named h.within in
-    let value = a.value in
     let t = below line tokens (p + 1) (omega arith) in
     let r = p + 1 + 1 + before t.0.stop (drop (p + 1 + 1) tokens) in
     let links : LinksTo tokens (p + 1) r =
     λ u e. ap (λ v. p + 1 + 1 + before v.stop (drop (p + 1 + 1) tokens)) (some_same t.0 u (sym t.1 ∙ e)) in
     (r, (member_on line tokens p w.stop r s.nested s.linked s.lone h.whole h.named h.within links).shown)
 
-pub found_here : (w : Members) (p : ℕ) (s : List ℕ) → IsPlace w p
+pub found_here : {w : Members} {p : ℕ} (s : List ℕ) → IsPlace w p
     → has_text s (tree_at w.source.line.now (spans_of w.source.tokens.now) p) ≡ true
     → first_named s (members_from w p) ≡ Some (tree_at w.source.line.now (spans_of w.source.tokens.now) (p + 1))
-found_here w p s h is =
-    let m = member_at w p h in
+found_here {w} {p} s h is =
+    let m = member_at h in
     let value = tree_at w.source.line.now (spans_of w.source.tokens.now) (p + 1) in
     ap (first_named s) m.1 ∙ ap (λ b. cond b (Some value) (first_named s (members_from w m.0))) is
 
@@ -205,15 +204,15 @@ abbrev pub HasSlot : List ℕ → ℕ → Type 0
 HasSlot s slot = (c : ℕ) × (head s ≡ Some c) × (c % 32 ≡ slot)
 
 -- it is found from the place of the slot on
-pub found_from : (w : Members) (ps : List ℕ) (s : List ℕ) (slot : ℕ) → AreNoted w [] ps → HasSlot s slot
+pub found_from : {w : Members} {ps : List ℕ} (s : List ℕ) (slot : ℕ) → AreNoted w [] ps → HasSlot s slot
     → 0 < get_or ps slot 0 → first_named s (members_from w (get_or ps slot 0)) ≡ first_named s (members_left w)
-found_from w ps s slot a h some =
+found_from {w} {ps} s slot a h some =
     ap (λ b. first_named s (cond b (members_from w (get_or ps slot 0)) [])) (sym (noted-yes (get_or ps slot 0) some))
     ∙ ap (λ k. first_named s (noted_from w [] (get_or ps k 0))) (sym h.2) ∙ a.first s h.0 h.1
 
 -- and if none is noted, there is none
-pub found_none : (w : Members) (ps : List ℕ) (s : List ℕ) (slot : ℕ) → AreNoted w [] ps → HasSlot s slot
+pub found_none : {w : Members} {ps : List ℕ} (s : List ℕ) (slot : ℕ) → AreNoted w [] ps → HasSlot s slot
     → get_or ps slot 0 ≡ 0 → None ≡ first_named s (members_left w)
-found_none w ps s slot a h none =
+found_none {w} {ps} s slot a h none =
     ap (λ p. first_named s (noted_from w [] p)) (sym none)
     ∙ ap (λ k. first_named s (noted_from w [] (get_or ps k 0))) (sym h.2) ∙ a.first s h.0 h.1

@@ -20,21 +20,20 @@ record DeepestFront (b : List ℕ) (s : State) : Type 0 where
   within : place ≤ s.place
   front : JsonPrefix b 0 place s.deepest
 
-deepest_front : (b : List ℕ) (s : State) → Reaches b start s → DeepestFront b s
-deepest_front b s here = record { place = 0; within = omega arith; front = white 0 0 (no_white b 0) }
-deepest_front b s (on t v r h) =
-    let g = goes t v (byte b t.place) (lawful_reaches t r) h in
-    let p = g.place in let d = g.deepest in
+deepest_front : {b : List ℕ} {s : State} → Reaches b start s → DeepestFront b s
+deepest_front {b} here = record { place = 0; within = omega arith; front = white 0 0 (no_white b 0) }
+deepest_front {b} (on t v r h) =
+    let g = goes v (byte b t.place) (lawful_reaches r) h in
     elim (cases_lt t.deepest (length v.stack)) [
       | inl l ↦
           let e : length v.stack ≡ v.deepest = omega arith in
           record {
             place = v.place;
             within = omega arith;
-            front = subst (λ n. JsonPrefix b 0 v.place n) e (inv_front v (inv_reaches b v (on t v r h)));
+            front = subst (λ n. JsonPrefix b 0 v.place n) e (inv_front (inv_reaches (on t v r h)));
           }
       | inr l ↦
-          let f = deepest_front b t r in
+          let f = deepest_front r in
           let w = f.within in
           let e : t.deepest ≡ v.deepest = omega arith in
           record {
@@ -44,22 +43,22 @@ deepest_front b s (on t v r h) =
           }
     ]
 
-not_more : (b : List ℕ) (s : State) (k n : ℕ) → Reaches b start s → k ≤ s.place → JsonPrefix b 0 k n → n ≤ s.deepest
-not_more b s k n r l f =
+not_more : {b : List ℕ} {s : State} (k n : ℕ) → Reaches b start s → k ≤ s.place → JsonPrefix b 0 k n → n ≤ s.deepest
+not_more {s} k n r l f =
     elim (cases_lt s.deepest n) [
-      | inl g ↦ absurd (not_deeper b s s.deepest k n r (omega arith) l f g)
+      | inl g ↦ absurd (not_deeper s.deepest k n r (omega arith) l f g)
       | inr g ↦ g
     ]
 
-deepest_at : (b : List ℕ) (s : State) (i : ℕ) → Reaches b start s → s.place ≡ i → IsDeepest b i s.deepest
-deepest_at b s i r e =
-    let d = deepest_front b s r in
+deepest_at : {b : List ℕ} {s : State} {i : ℕ} → Reaches b start s → s.place ≡ i → IsDeepest b i s.deepest
+deepest_at r e =
+    let d = deepest_front r in
     let w = d.within in
     record {
       place = d.place;
       within = omega arith;
       front = d.front;
-      most = λ k n l f. not_more b s k n r (omega arith) f;
+      most = λ k n l f. not_more k n r (omega arith) f;
     }
 
 -- the clause of the scan, with the peak that the stack had before it was emptied
@@ -70,15 +69,15 @@ module _ (X : Type 0) (b : List ℕ) (old empty new : BoundedList ℕ) (tokens :
   answers_peak r i a (inl e) =
       let h = subst (λ z. RunAnswers b empty z tokens new) e a in
       let s = h.0.sticks in let p = h.1 in let q = c.peak in
-      record { deepest = s.last.deepest; counted = deepest_at b s.last i s.reached s.at; peak = omega arith }
+      record { deepest = s.last.deepest; counted = deepest_at s.reached s.at; peak = omega arith }
   answers_peak r i a (inr e) =
       let h = subst (λ z. RunAnswers b empty z tokens new) e a in
       let s = h.0 in let p = h.1 in let q = c.peak in
-      record { deepest = s.last.deepest; counted = deepest_at b s.last i s.reached s.at; peak = omega arith }
+      record { deepest = s.last.deepest; counted = deepest_at s.reached s.at; peak = omega arith }
 
 -- the same from a peak that is no other
-pub peak_from : (b : List ℕ) (i : ℕ) (old empty new : BoundedList ℕ) → empty.peak ≡ old.peak → HasPeakAt b i empty new
+pub peak_from : {b : List ℕ} {i : ℕ} (old empty : BoundedList ℕ) {new : BoundedList ℕ} → empty.peak ≡ old.peak → HasPeakAt b i empty new
     → HasPeakAt b i old new
-peak_from b i old empty new e h =
+peak_from old empty e h =
     let p = h.peak in
     record { deepest = h.deepest; counted = h.counted; peak = omega arith }

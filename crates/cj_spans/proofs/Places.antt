@@ -107,9 +107,9 @@ atom_first b i x h =
           ∙ start_one (lex_start (get_or b i 0)) ∙ h;
     }
 
-pub atom_more : (b : List ℕ) (i k : ℕ) (x y : Lex) → InAtom b i k x → lex_step x (byte b k) ≡ Some y
+pub atom_more : {b : List ℕ} {i k : ℕ} {x : Lex} (y : Lex) → InAtom b i k x → lex_step x (byte b k) ≡ Some y
     → InAtom b i (suc k) y
-atom_more b i k x y r h =
+atom_more {b} {i} {k} {x} y r h =
     let l = within_step b k x y h in
     let o : i ≤ k = omega (arith, r.order) in
     record {
@@ -230,9 +230,9 @@ name_34 FirstName ks ts i p g = refl
 name_34 NextName ks ts i p g = refl
 name_34 _ ks ts i p g = absurd g
 
-step_name : (c : ℕ) (m : Mode) (ks : List ℕ) (ts : List Token) (i p : ℕ) → BeginsName m → c ≡ 34
+step_name : {c : ℕ} (m : Mode) (ks : List ℕ) (ts : List Token) (i p : ℕ) → BeginsName m → c ≡ 34
     → step c (idle m ks ts i p) ≡ Some (state (in_atom AfterName i InString) ks ts (suc i) p)
-step_name c m ks ts i p g q = ap (λ d. step d (idle m ks ts i p)) q ∙ name_34 m ks ts i p g
+step_name m ks ts i p g q = ap (λ d. step d (idle m ks ts i p)) q ∙ name_34 m ks ts i p g
 
 stepped : (f : Lex → Option Lex) (o : Option Lex) (y : Lex) → option_and_then f o ≡ Some y → (z : Lex) × (o ≡ Some z)
     × (f z ≡ Some y)
@@ -243,18 +243,17 @@ shift : (k n : ℕ) → suc k + n ≡ k + suc n
 shift k n = omega arith
 
 -- bytes that a reading passes over, by their places
-pub continues_run : (r : List ℕ) (b : List ℕ) (i k : ℕ) (x y z : Lex) → Continues b i x k y → lex_run r y ≡ Some z
+pub continues_run : (r : List ℕ) {b : List ℕ} {i k : ℕ} {x y : Lex} (z : Lex) → Continues b i x k y → lex_run r y ≡ Some z
     → ((n : ℕ) → n < length r → byte b (k + n) ≡ get_or r n 0) → Continues b i x (k + length r) z
-continues_run [] b i k x y z c h e =
+continues_run [] {b} {i} {k} {x} {y} z c h e =
     let q : y ≡ z = some_same y z h in
     let f : k ≡ k + 0 = omega arith in
     subst (λ n. Continues b i x n z) f (subst (λ w. Continues b i x k w) q c)
-continues_run (d ∷ r) b i k x y z c h e =
+continues_run (d ∷ r) {b} {i} {k} {x} {y} z c h e =
     let w = stepped (lex_run r) (lex_step y d) z h in
     let f : byte b k ≡ d = ap (byte b) (plus_zero k) ∙ e 0 (omega arith) in
     let a : suc k + length r ≡ k + suc (length r) = omega arith in
-    subst (λ n. Continues b i x n z) a
-    (continues_run r b i (suc k) x w.0 z (further k y w.0 c (ap (lex_step y) f ∙ w.1)) w.2
+    subst (λ n. Continues b i x n z) a (continues_run r z (further k y w.0 c (ap (lex_step y) f ∙ w.1)) w.2
     (λ n l. ap (byte b) (shift k n) ∙ e (suc n) (omega arith)))
 
 -- the first reading of a scalar, and how it goes on
@@ -263,8 +262,8 @@ record Started (b : List ℕ) (i k : ℕ) (y : Lex) : Type 0 where
   starts : lex_start (byte b i) ≡ Some first
   goes : Continues b (suc i) first k y
 
-started : (b : List ℕ) (i k : ℕ) (y : Lex) → InAtom b i k y → Started b i k y
-started b i k y r =
+started : {b : List ℕ} {i k : ℕ} {y : Lex} → InAtom b i k y → Started b i k y
+started {b} {i} {k} {y} r =
     by_list (slice_range b i k) (slice-length b i k (omega (arith, r.order)) r.within) (slice_has b i k) r.run
   where
     by_list : (s : List ℕ) → i + length s ≡ k → ((n : ℕ) → n < length s → byte b (i + n) ≡ get_or s n 0)
@@ -278,29 +277,27 @@ started b i k y r =
           first = z.0;
           starts = ap lex_start f ∙ z.1;
           goes = subst (λ n. Continues b (suc i) z.0 n y) a
-              (continues_run s b (suc i) (suc i) z.0 z.0 y still z.2
+              (continues_run s y still z.2
               (λ n q. ap (byte b) (shift i n) ∙ e (suc n) (omega arith)));
         }
 
 pub run_begun : {b : List ℕ} {i k : ℕ} {y : Lex} → InAtom b i k y
-    → (s : State) (m : Mode) (ks : List ℕ) (ts : List Token) (p : ℕ) → BeginsValue m → Reaches b s (idle m ks ts i p)
+    → {s : State} (m : Mode) (ks : List ℕ) (ts : List Token) (p : ℕ) → BeginsValue m → Reaches b s (idle m ks ts i p)
     → Reaches b s (state (in_atom After i y) ks ts k p)
-run_begun {b} {i} {k} {y} r s m ks ts p g h =
-    let z = started b i k y r in
-    continues_reaches z.goes s After i ks ts p
-    (on (idle m ks ts i p) (state (in_atom After i z.first) ks ts (suc i) p) h
+run_begun {b} {i} {k} {y} r m ks ts p g h =
+    let z = started r in
+    continues_reaches z.goes After i ks ts p (on (idle m ks ts i p) (state (in_atom After i z.first) ks ts (suc i) p) h
     (step_atom (byte b i) z.first m ks ts i p g z.starts))
 
 pub run_begun_name : {b : List ℕ} {i k : ℕ} {y : Lex} → InAtom b i k y → byte b i ≡ 34
-    → (s : State) (m : Mode) (ks : List ℕ) (ts : List Token) (p : ℕ) → BeginsName m → Reaches b s (idle m ks ts i p)
+    → {s : State} (m : Mode) (ks : List ℕ) (ts : List Token) (p : ℕ) → BeginsName m → Reaches b s (idle m ks ts i p)
     → Reaches b s (state (in_atom AfterName i y) ks ts k p)
-run_begun_name {b} {i} {k} {y} r q s m ks ts p g h =
-    let z = started b i k y r in
+run_begun_name {b} {i} {k} {y} r q m ks ts p g h =
+    let z = started r in
     let e : InString ≡ z.first = some_same InString z.first (sym (ap lex_start q) ∙ z.starts) in
     let c = subst (λ w. Continues b (suc i) w k y) (sym e) z.goes in
-    continues_reaches c s AfterName i ks ts p
-    (on (idle m ks ts i p) (state (in_atom AfterName i InString) ks ts (suc i) p) h
-    (step_name (byte b i) m ks ts i p g q))
+    continues_reaches c AfterName i ks ts p
+    (on (idle m ks ts i p) (state (in_atom AfterName i InString) ks ts (suc i) p) h (step_name m ks ts i p g q))
 
 -- ---- scalars of the grammar
 
@@ -344,23 +341,23 @@ name_quote {b} {i} {j} w =
     quote_first b i j [] w.order w.within (subst (IsScalar Text) (sym (append-nil (slice_range b i j))) w.spelled)
 
 pub run_atom : {b : List ℕ} {kd : Kind} {i j : ℕ} → IsAtom b kd i j
-    → (s : State) (m : Mode) (ks : List ℕ) (ts : List Token) (p : ℕ) → BeginsValue m → Reaches b s (idle m ks ts i p)
+    → {s : State} (m : Mode) (ks : List ℕ) (ts : List Token) (p : ℕ) → BeginsValue m → Reaches b s (idle m ks ts i p)
     → Arrives b s (idle After ks (ts ++ token_at i j (suc (length ts)) ∷ []) j p)
-run_atom {b} {kd} {i} {j} w s m ks ts p g r =
+run_atom {b} {kd} {i} {j} w m ks ts p g r =
     let a = atom_reading w in
     record {
       at = state (in_atom After i a.last) ks ts j p;
-      reached = run_begun a.inside s m ks ts p g r;
+      reached = run_begun a.inside m ks ts p g r;
       settles = ap (λ q. end_atom After i q (state (in_atom After i a.last) ks ts j p)) a.kind;
     }
 
 pub run_name : {b : List ℕ} {i j : ℕ} → IsAtom b Text i j
-    → (s : State) (m : Mode) (ks : List ℕ) (ts : List Token) (p : ℕ) → BeginsName m → Reaches b s (idle m ks ts i p)
+    → {s : State} (m : Mode) (ks : List ℕ) (ts : List Token) (p : ℕ) → BeginsName m → Reaches b s (idle m ks ts i p)
     → Arrives b s (idle AfterName ks (ts ++ token_at i j (suc (length ts)) ∷ []) j p)
-run_name {b} {i} {j} w s m ks ts p g r =
+run_name {b} {i} {j} w m ks ts p g r =
     let a = atom_reading w in
     record {
       at = state (in_atom AfterName i a.last) ks ts j p;
-      reached = run_begun_name a.inside (name_quote w) s m ks ts p g r;
+      reached = run_begun_name a.inside (name_quote w) m ks ts p g r;
       settles = ap (λ q. end_atom AfterName i q (state (in_atom AfterName i a.last) ks ts j p)) a.kind;
     }

@@ -62,67 +62,67 @@ fraction_end bracket = refl
 fraction_end brace = refl
 
 -- a scalar that may end does not go on with one of them
-pub atom_ends : (x : Lex) (c : ℕ) (k : Kind) → lex_kind x ≡ Some k → IsEnd c → lex_step x c ≡ None
-atom_ends NullDone c k h e = refl
-atom_ends TruthDone c k h e = refl
-atom_ends Zero c k h e = point_end e
-atom_ends Whole c k h e = cond-false (is_digit c) _ _ (digit_end e) ∙ point_end e
-atom_ends Fraction c k h e = fraction_end e
-atom_ends Exponent c k h e = cond-false (is_digit c) _ _ (digit_end e)
-atom_ends StringDone c k h e = refl
-atom_ends AfterN c k h e = cc
-atom_ends AfterNu c k h e = cc
-atom_ends AfterNul c k h e = cc
-atom_ends AfterT c k h e = cc
-atom_ends AfterTr c k h e = cc
-atom_ends AfterTru c k h e = cc
-atom_ends AfterF c k h e = cc
-atom_ends AfterFa c k h e = cc
-atom_ends AfterFal c k h e = cc
-atom_ends AfterFals c k h e = cc
-atom_ends Minus c k h e = cc
-atom_ends Point c k h e = cc
-atom_ends Mark c k h e = cc
-atom_ends MarkSign c k h e = cc
-atom_ends InString c k h e = cc
-atom_ends Escape c k h e = cc
-atom_ends Hex4 c k h e = cc
-atom_ends Hex3 c k h e = cc
-atom_ends Hex2 c k h e = cc
-atom_ends Hex1 c k h e = cc
+pub atom_ends : (x : Lex) {c : ℕ} (k : Kind) → lex_kind x ≡ Some k → IsEnd c → lex_step x c ≡ None
+atom_ends NullDone k h e = refl
+atom_ends TruthDone k h e = refl
+atom_ends Zero k h e = point_end e
+atom_ends Whole {c} k h e = cond-false (is_digit c) _ _ (digit_end e) ∙ point_end e
+atom_ends Fraction k h e = fraction_end e
+atom_ends Exponent {c} k h e = cond-false (is_digit c) _ _ (digit_end e)
+atom_ends StringDone k h e = refl
+atom_ends AfterN k h e = cc
+atom_ends AfterNu k h e = cc
+atom_ends AfterNul k h e = cc
+atom_ends AfterT k h e = cc
+atom_ends AfterTr k h e = cc
+atom_ends AfterTru k h e = cc
+atom_ends AfterF k h e = cc
+atom_ends AfterFa k h e = cc
+atom_ends AfterFal k h e = cc
+atom_ends AfterFals k h e = cc
+atom_ends Minus k h e = cc
+atom_ends Point k h e = cc
+atom_ends Mark k h e = cc
+atom_ends MarkSign k h e = cc
+atom_ends InString k h e = cc
+atom_ends Escape k h e = cc
+atom_ends Hex4 k h e = cc
+atom_ends Hex3 k h e = cc
+atom_ends Hex2 k h e = cc
+atom_ends Hex1 k h e = cc
 
-end_at : (c d : ℕ) → IsEnd d → nat_eq c d ≡ true → IsEnd c
-end_at c d e h = subst IsEnd (sym (eqb-true c d h)) e
+end_at : (c : ℕ) {d : ℕ} → IsEnd d → nat_eq c d ≡ true → IsEnd c
+end_at c {d} e h = subst IsEnd (sym (eqb-true c d h)) e
 
 pub white_end : (c : ℕ) → is_white_space c ≡ true → IsEnd c
 white_end c h =
     elim (either (nat_eq c 32 || nat_eq c 9 || nat_eq c 10) (nat_eq c 13) h) [
-      | inr q ↦ end_at c 13 «return» q
+      | inr q ↦ end_at c {d = 13} «return» q
       | inl p ↦ elim (either (nat_eq c 32 || nat_eq c 9) (nat_eq c 10) p) [
-        | inr q ↦ end_at c 10 feed q
-        | inl o ↦ elim (either (nat_eq c 32) (nat_eq c 9) o) [ inl q ↦ end_at c 32 space q | inr q ↦ end_at c 9 tab q ]
+        | inr q ↦ end_at c feed q
+        | inl o ↦ elim (either (nat_eq c 32) (nat_eq c 9) o) [ inl q ↦ end_at c space q | inr q ↦ end_at c tab q ]
       ]
     ]
 
 -- ---- a state and the one that it settles to
 
 settled_atom : (m : Mode) (a : ℕ) (x : Lex) (k : Option Kind) (ks : List ℕ) (ts : List Token) (i p : ℕ) (t : State)
-    (c : ℕ) → lex_kind x ≡ k → IsEnd c → end_atom m a k (state (in_atom m a x) ks ts i p) ≡ Some t
+    {c : ℕ} → lex_kind x ≡ k → IsEnd c → end_atom m a k (state (in_atom m a x) ks ts i p) ≡ Some t
     → go_on (λ y. in_atom m a y) (lex_step x c) (state (in_atom m a x) ks ts i p)
     (option_and_then (read m c) (end_atom m a k (state (in_atom m a x) ks ts i p))) ≡ step c t
-settled_atom m a x None ks ts i p t c kind e h = none_some t h
-settled_atom m a x (Some k) ks ts i p t c kind e h =
+settled_atom m a x None ks ts i p t kind e h = none_some t h
+settled_atom m a x (Some k) ks ts i p t {c} kind e h =
     let s = state (in_atom m a x) ks ts i p in
     ap (λ o. go_on (λ y. in_atom m a y) o s (option_and_then (read m c) (end_atom m a (Some k) s)))
-    (atom_ends x c k kind e) ∙ ap (step c) (some_same _ t h)
+    (atom_ends x k kind e) ∙ ap (step c) (some_same _ t h)
 
-settled_phase : (f : Phase) (ks : List ℕ) (ts : List Token) (i p : ℕ) (t : State) (c : ℕ) → IsEnd c
+settled_phase : (f : Phase) (ks : List ℕ) (ts : List Token) (i p : ℕ) (t : State) {c : ℕ} → IsEnd c
     → settle (state f ks ts i p) ≡ Some t → step c (state f ks ts i p) ≡ step c t
-settled_phase (between m) ks ts i p t c e h = ap (step c) (some_same _ t h)
-settled_phase (in_atom m a x) ks ts i p t c e h = settled_atom m a x (lex_kind x) ks ts i p t c refl e h
+settled_phase (between m) ks ts i p t {c} e h = ap (step c) (some_same _ t h)
+settled_phase (in_atom m a x) ks ts i p t e h = settled_atom m a x (lex_kind x) ks ts i p t refl e h
 
-pub settled_step : (s t : State) (c : ℕ) → IsEnd c → settle s ≡ Some t → step c s ≡ step c t
-settled_step s t c e h = settled_phase s.phase s.stack s.tokens s.place s.deepest t c e h
+pub settled_step : (s t : State) {c : ℕ} → IsEnd c → settle s ≡ Some t → step c s ≡ step c t
+settled_step s t e h = settled_phase s.phase s.stack s.tokens s.place s.deepest t e h
 
 -- what stays where a state settles
 pub record Settled (s t : State) : Type 0 where
@@ -130,8 +130,8 @@ pub record Settled (s t : State) : Type 0 where
   pub place : s.place ≡ t.place
   pub deepest : s.deepest ≡ t.deepest
 
-settled_by : (s t : State) → s ≡ t → Settled s t
-settled_by s t e = record { stack = ap (λ u. u.stack) e; place = ap (λ u. u.place) e; deepest = ap (λ u. u.deepest) e }
+settled_by : {s t : State} → s ≡ t → Settled s t
+settled_by e = record { stack = ap (λ u. u.stack) e; place = ap (λ u. u.place) e; deepest = ap (λ u. u.deepest) e }
 
 settled_end : (m : Mode) (a : ℕ) (k : Option Kind) (s t : State) → end_atom m a k s ≡ Some t → Settled s t
 settled_end m a None s t h = none_some t h
@@ -140,7 +140,7 @@ settled_end m a (Some k) s t h = let e = some_same _ t h in
 
 settled_same : (f : Phase) (ks : List ℕ) (ts : List Token) (i p : ℕ) (t : State) → settle (state f ks ts i p) ≡ Some t
     → Settled (state f ks ts i p) t
-settled_same (between m) ks ts i p t h = settled_by (idle m ks ts i p) t (some_same _ t h)
+settled_same (between m) ks ts i p t h = settled_by (some_same _ t h)
 settled_same (in_atom m a x) ks ts i p t h = settled_end m a (lex_kind x) (state (in_atom m a x) ks ts i p) t h
 
 pub settled : (s t : State) → settle s ≡ Some t → Settled s t
@@ -154,51 +154,50 @@ pub record Arrives (b : List ℕ) (s t : State) : Type 0 where
   pub reached : Reaches b s at
   pub settles : settle at ≡ Some t
 
-pub arrive_on : (b : List ℕ) (s t u : State) → IsEnd (byte b t.place) → Arrives b s t → step (byte b t.place) t ≡ Some u
+pub arrive_on : {b : List ℕ} {s t : State} (u : State) → IsEnd (byte b t.place) → Arrives b s t → step (byte b t.place) t ≡ Some u
     → Reaches b s u
-arrive_on b s t u e a h =
+arrive_on {b} {t} u e a h =
     let p : a.at.place ≡ t.place = (settled a.at t a.settles).place in
-    let q : step (byte b t.place) a.at ≡ step (byte b t.place) t = settled_step a.at t (byte b t.place) e a.settles in
+    let q : step (byte b t.place) a.at ≡ step (byte b t.place) t = settled_step a.at t e a.settles in
     on a.at u a.reached (ap (λ i. step (byte b i) a.at) p ∙ q ∙ h)
 
-pub arrived : (b : List ℕ) (s : State) (m : Mode) (ks : List ℕ) (ts : List Token) (i p : ℕ)
+pub arrived : {b : List ℕ} {s : State} (m : Mode) (ks : List ℕ) (ts : List Token) (i p : ℕ)
     → Reaches b s (idle m ks ts i p) → Arrives b s (idle m ks ts i p)
-arrived b s m ks ts i p r = record { at = idle m ks ts i p; reached = r; settles = refl }
+arrived m ks ts i p r = record { at = idle m ks ts i p; reached = r; settles = refl }
 
-skip_some : (n : ℕ) (b : List ℕ) (s : State) (m : Mode) (ks : List ℕ) (ts : List Token) (i p : ℕ)
+skip_some : (n : ℕ) {b : List ℕ} {s : State} (m : Mode) (ks : List ℕ) (ts : List Token) (i p : ℕ)
     → ((k : ℕ) → i ≤ k → k < i + n → is_white_space (byte b k) ≡ true)
     → Reaches b s (idle m ks ts i p) → Reaches b s (idle m ks ts (i + n) p)
-skip_some zero b s m ks ts i p each r = let e : i ≡ i + 0 = omega arith in
+skip_some zero {b} {s} m ks ts i p each r = let e : i ≡ i + 0 = omega arith in
     subst (λ k. Reaches b s (idle m ks ts k p)) e r
-skip_some (suc n) b s m ks ts i p each r =
+skip_some (suc n) {b} {s} m ks ts i p each r =
     let white = each i (omega arith) (omega arith) in
     let e : suc i + n ≡ i + suc n = omega arith in
     let q = on (idle m ks ts i p) (idle m ks ts (suc i) p) r (cond-true (is_white_space (byte b i)) _ _ white) in
     subst (λ k. Reaches b s (idle m ks ts k p)) e
-    (skip_some n b s m ks ts (suc i) p (λ k l u. each k (omega arith) (omega arith)) q)
+    (skip_some n m ks ts (suc i) p (λ k l u. each k (omega arith) (omega arith)) q)
 
-pub skip : {b : List ℕ} {i j : ℕ} → White b i j → (s : State) (m : Mode) (ks : List ℕ) (ts : List Token) (p : ℕ)
+pub skip : {b : List ℕ} {i j : ℕ} → White b i j → {s : State} (m : Mode) (ks : List ℕ) (ts : List Token) (p : ℕ)
     → Reaches b s (idle m ks ts i p) → Reaches b s (idle m ks ts j p)
-skip {b} {i} {j} w s m ks ts p r =
+skip {b} {i} {j} w {s} m ks ts p r =
     let o = w.order in
     let e : i + (j - i) ≡ j = omega arith in
-    subst (λ k. Reaches b s (idle m ks ts k p)) e
-    (skip_some (j - i) b s m ks ts i p (λ k l u. w.each k l (omega arith)) r)
+    subst (λ k. Reaches b s (idle m ks ts k p)) e (skip_some (j - i) m ks ts i p (λ k l u. w.each k l (omega arith)) r)
 
-white_rest : (b : List ℕ) (i j : ℕ) → White b i j → i < j → White b (suc i) j
-white_rest b i j w h = record { order = omega arith; each = λ k l u. w.each k (omega arith) u }
+white_rest : {b : List ℕ} {i j : ℕ} → White b i j → i < j → White b (suc i) j
+white_rest w h = record { order = omega arith; each = λ k l u. w.each k (omega arith) u }
 
 -- the same where a scalar may just have ended
-pub skip_after : {b : List ℕ} {i j : ℕ} → White b i j → (s : State) (m : Mode) (ks : List ℕ) (ts : List Token) (p : ℕ)
+pub skip_after : {b : List ℕ} {i j : ℕ} → White b i j → {s : State} (m : Mode) (ks : List ℕ) (ts : List Token) (p : ℕ)
     → Arrives b s (idle m ks ts i p) → Arrives b s (idle m ks ts j p)
-skip_after {b} {i} {j} w s m ks ts p a =
+skip_after {b} {i} {j} w {s} m ks ts p a =
     elim (eq-or-lt_of_le w.order) [
       | inl e ↦ subst (λ k. Arrives b s (idle m ks ts k p)) e a
       | inr l ↦
           let white = w.each i (omega arith) l in
-          let r = arrive_on b s (idle m ks ts i p) (idle m ks ts (suc i) p) (white_end (byte b i) white) a
+          let r = arrive_on (idle m ks ts (suc i) p) (white_end (byte b i) white) a
           (cond-true (is_white_space (byte b i)) _ _ white) in
-          arrived b s m ks ts j p (skip (white_rest b i j w l) s m ks ts p r)
+          arrived m ks ts j p (skip (white_rest w l) m ks ts p r)
     ]
 
 pub same_mode : (m n : Mode) → between m ≡ between n → m ≡ n

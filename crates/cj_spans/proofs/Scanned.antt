@@ -215,16 +215,16 @@ between_append i j (s ∷ ss) us h g = (h.0, h.1, between_append i j ss us h.2 g
 good_none : (b : List ℕ) (i : ℕ) → Good b i i []
 good_none b i = record { between = tt; good = λ rest f g. g }
 
-good_more : (b : List ℕ) (i j k l : ℕ) (ss : List Span) → k ≤ i → j ≤ l → Good b i j ss → Good b k l ss
-good_more b i j k l ss f g h =
+good_more : {b : List ℕ} {i j : ℕ} (k l : ℕ) {ss : List Span} → k ≤ i → j ≤ l → Good b i j ss → Good b k l ss
+good_more {i} {j} k l {ss} f g h =
     record {
       between = between_more i j k l ss f g h.between;
       good = λ rest m n. h.good rest (from_more j l rest g m) n;
     }
 
-good_both : (b : List ℕ) (i j k : ℕ) (ss us : List Span) → i ≤ j → j ≤ k → Good b i j ss → Good b j k us
+good_both : {b : List ℕ} {i j k : ℕ} {ss us : List Span} → i ≤ j → j ≤ k → Good b i j ss → Good b j k us
     → Good b i k (ss ++ us)
-good_both b i j k ss us f g h q = record {
+good_both {b} {i} {j} {k} {ss} {us} f g h q = record {
   between = between_append i k ss us (between_more i j i k ss (omega arith) g h.between)
       (between_more j k i k us f (omega arith) q.between);
   good = λ rest m n.
@@ -234,11 +234,11 @@ good_both b i j k ss us f g h q = record {
 }
 
 -- a span over others
-good_over : (b : List ℕ) (i j : ℕ) (ss : List Span) → i < j → j ≤ length b → Good b (suc i) j ss
+good_over : {b : List ℕ} (i : ℕ) {j : ℕ} {ss : List Span} → i < j → j ≤ length b → Good b (suc i) j ss
     → (kind_by (byte b i) ≡ Number → IsNumber (slice_range b i j)) → (byte b i ≡ 91 → byte b (j - 1) ≡ 93)
     → ((rest : List Span) → From j rest → byte b i ≡ 123 → are_members (held j (forest b (ss ++ rest))) ≡ true)
     → Good b i j (span_at i j ∷ ss)
-good_over b i j ss o l h numeral closed n = record {
+good_over i {j} {ss} o l h numeral closed n = record {
   between = (omega arith, omega arith, between_more (suc i) j i j ss (omega arith) (omega arith) h.between);
   good = λ rest f g.
       let after = from_append (suc i) ss rest (between_from (suc i) j ss h.between) (from_more (suc i) j rest o f) in (
@@ -278,41 +278,39 @@ not_array Text s h e = cc
 not_array Array s h e = h
 not_array Object s h e = cc
 
-atom_numeral : (k : Kind) (s : List ℕ) → IsScalar k s → k ≡ Number → IsNumber s
-atom_numeral k s h e = subst (λ z. IsScalar z s) e h
+atom_numeral : {k : Kind} (s : List ℕ) → IsScalar k s → k ≡ Number → IsNumber s
+atom_numeral s h e = subst (λ z. IsScalar z s) e h
 
 -- what a bracket or a brace begins is no number
-no_numeral : (b : List ℕ) (i c j : ℕ) → byte b i ≡ c → (kind_by c ≡ Number → ⊥) → kind_by (byte b i) ≡ Number
+no_numeral : (b : List ℕ) (i : ℕ) {c : ℕ} (j : ℕ) → byte b i ≡ c → (kind_by c ≡ Number → ⊥) → kind_by (byte b i) ≡ Number
     → IsNumber (slice_range b i j)
-no_numeral b i c j h n e = absurd (n (sym (ap kind_by h) ∙ e))
+no_numeral b i j h n e = absurd (n (sym (ap kind_by h) ∙ e))
 
-closes : (b : List ℕ) (j c : ℕ) → byte b j ≡ c → byte b (suc j - 1) ≡ c
-closes b j c h = let e : suc j - 1 ≡ j = omega arith in ap (byte b) e ∙ h
+closes : (b : List ℕ) (j : ℕ) {c : ℕ} → byte b j ≡ c → byte b (suc j - 1) ≡ c
+closes b j h = let e : suc j - 1 ≡ j = omega arith in ap (byte b) e ∙ h
 
-good_atom : (b : List ℕ) (k : Kind) (i j : ℕ) → IsAtom b k i j → Good b i j (span_at i j ∷ [])
-good_atom b k i j w =
+good_atom : {b : List ℕ} {k : Kind} {i j : ℕ} → IsAtom b k i j → Good b i j (span_at i j ∷ [])
+good_atom {b} {k} {i} {j} w =
     let o = w.order in
-    good_over b i j [] o w.within (record { between = tt; good = λ rest f g. g })
-    (λ e. atom_numeral k (slice_range b i j) w.spelled (sym (atom_kind b k i j w) ∙ e))
-    (λ e. absurd (not_array k (slice_range b i j) w.spelled (sym (atom_kind b k i j w) ∙ ap kind_by e)))
-    (λ rest f e. absurd (not_object k (slice_range b i j) w.spelled (sym (atom_kind b k i j w) ∙ ap kind_by e)))
+    good_over i {ss = []} o w.within (record { between = tt; good = λ rest f g. g })
+    (λ e. atom_numeral (slice_range b i j) w.spelled (sym (atom_kind w) ∙ e))
+    (λ e. absurd (not_array k (slice_range b i j) w.spelled (sym (atom_kind w) ∙ ap kind_by e)))
+    (λ rest f e. absurd (not_object k (slice_range b i j) w.spelled (sym (atom_kind w) ∙ ap kind_by e)))
 
 good_named : {b : List ℕ} {i j : ℕ} {n : Atom} → Named b i j n → Good b i j (span_at n.start n.stop ∷ [])
 good_named {b} (named i j k l w x y c) = let f = w.order in let g = y.order in
-    good_more b j k i (suc l) (span_at j k ∷ []) f (omega arith) (good_atom b Text j k x)
+    good_more i (suc l) f (omega arith) (good_atom x)
 
-good_add : (b : List ℕ) (i j k : ℕ) (us : Items) (u : Tree) → i ≤ j → j ≤ k → Good b i j (items_preorder us)
+good_add : {b : List ℕ} {i j k : ℕ} (us : Items) (u : Tree) → i ≤ j → j ≤ k → Good b i j (items_preorder us)
     → Good b j k (preorder u) → Good b i k (items_preorder (add_item us u))
-good_add b i j k us u f g h q =
-    subst (Good b i k) (sym (items_preorder-add us u)) (good_both b i j k (items_preorder us) (preorder u) f g h q)
+good_add {b} {i} {k} us u f g h q =
+    subst (Good b i k) (sym (items_preorder-add us u)) (good_both f g h q)
 
-good_add_member : (b : List ℕ) (i j k l : ℕ) (us : Members) (n : Atom) (u : Tree) → i ≤ j → j ≤ k → k ≤ l
+good_add_member : {b : List ℕ} {i j k l : ℕ} (us : Members) (n : Atom) (u : Tree) → i ≤ j → j ≤ k → k ≤ l
     → Good b i j (members_preorder us) → Good b j k (span_at n.start n.stop ∷ []) → Good b k l (preorder u)
     → Good b i l (members_preorder (add_member us n u))
-good_add_member b i j k l us n u f g h p q r =
-    subst (Good b i l) (sym (members_preorder-add us n u))
-    (good_both b i j l (members_preorder us) (span_at n.start n.stop ∷ preorder u) f (omega arith) p
-    (good_both b j k l (span_at n.start n.stop ∷ []) (preorder u) g h q r))
+good_add_member {b} {i} {l} us n u f g h p q r =
+    subst (Good b i l) (sym (members_preorder-add us n u)) (good_both f (omega arith) p (good_both g h q r))
 
 alternate : (ms : Members) → are_members (names_and_values ms) ≡ true
 alternate no_members = refl
@@ -335,51 +333,51 @@ alternate_held b j ms rest s f =
 
 mutual
   good_value : {b : List ℕ} {i j : ℕ} {t : Tree} → Value b i j t → Good b i j (preorder t)
-  good_value {b} (atom k i j w) = good_atom b k i j w
+  good_value {b} (atom k i j w) = good_atom w
   good_value {b} (empty_array i j o w c) =
       let h = w.order in let l = byte_within b j 92 c in
-      good_over b i (suc j) [] (omega arith) l
-      (good_more b (suc i) (suc i) (suc i) (suc j) [] (omega arith) (omega arith) (good_none b (suc i)))
-      (no_numeral b i 91 (suc j) o (λ e. cc)) (λ e. closes b j 93 c) (λ rest f e. absurd (omega arith))
+      good_over i (omega arith) l
+      (good_more (suc i) (suc j) (omega arith) (omega arith) (good_none b (suc i)))
+      (no_numeral b i (suc j) o (λ e. cc)) (λ e. closes b j c) (λ rest f e. absurd (omega arith))
   good_value {b} (full_array i j k us u o l p c) =
       let a = led_order l in let q = padded_ends p in let m = byte_within b k 92 c in
-      good_over b i (suc k) (items_preorder (add_item us u)) (omega arith) m
-      (good_more b (suc i) k (suc i) (suc k) (items_preorder (add_item us u)) (omega arith) (omega arith)
-      (good_add b (suc i) j k us u a q (good_led l) (good_padded p))) (no_numeral b i 91 (suc k) o (λ e. cc))
-      (λ e. closes b k 93 c) (λ rest f e. absurd (omega arith))
+      good_over i (omega arith) m
+      (good_more (suc i) (suc k) (omega arith) (omega arith)
+      (good_add us u a q (good_led l) (good_padded p))) (no_numeral b i (suc k) o (λ e. cc))
+      (λ e. closes b k c) (λ rest f e. absurd (omega arith))
   good_value {b} (empty_object i j o w c) =
       let h = w.order in let l = byte_within b j 124 c in
-      good_over b i (suc j) [] (omega arith) l
-      (good_more b (suc i) (suc i) (suc i) (suc j) [] (omega arith) (omega arith) (good_none b (suc i)))
-      (no_numeral b i 123 (suc j) o (λ e. cc)) (λ e. absurd (omega arith))
+      good_over i (omega arith) l
+      (good_more (suc i) (suc j) (omega arith) (omega arith) (good_none b (suc i)))
+      (no_numeral b i (suc j) o (λ e. cc)) (λ e. absurd (omega arith))
       (λ rest f e. alternate_held b (suc j) no_members rest (record { all = tt; shows = λ rest h. refl }) f)
   good_value {b} (full_object i j k l us n u o ld nm p c) =
       let a = led_members_order ld in let q = padded_ends p in let r = named_ends nm in let m = byte_within b l 124 c in
       let v = add_member us n u in
-      good_over b i (suc l) (members_preorder v) (omega arith) m
-      (good_more b (suc i) l (suc i) (suc l) (members_preorder v) (omega arith) (omega arith)
-      (good_add_member b (suc i) j k l us n u a r q (good_led_members ld) (good_named nm) (good_padded p)))
-      (no_numeral b i 123 (suc l) o (λ e. cc)) (λ e. absurd (omega arith))
+      good_over i (omega arith) m
+      (good_more (suc i) (suc l) (omega arith) (omega arith)
+      (good_add_member us n u a r q (good_led_members ld) (good_named nm) (good_padded p)))
+      (no_numeral b i (suc l) o (λ e. cc)) (λ e. absurd (omega arith))
       (λ rest f e. alternate_held b (suc l) v rest
-      (shows_more b l (suc l) _ _ (omega arith) (shows_add_member ld nm p (shows_led_members ld) (shows_padded p)))
+      (shows_more (suc l) (omega arith) (shows_add_member ld nm p (shows_led_members ld) (shows_padded p)))
       f)
 
   good_padded : {b : List ℕ} {i j : ℕ} {t : Tree} → Padded b i j t → Good b i j (preorder t)
-  good_padded {b} (padded i j k l t w v x) = good_more b j k i l (preorder t) w.order x.order (good_value v)
+  good_padded {b} (padded i j k l t w v x) = good_more i l w.order x.order (good_value v)
 
   good_led : {b : List ℕ} {i j : ℕ} {us : Items} → LedItems b i j us → Good b i j (items_preorder us)
   good_led {b} (no_led i) = good_none b i
   good_led {b} (led i j k us u l p c) =
       let a = led_order l in let q = padded_ends p in
-      good_more b i k i (suc k) (items_preorder (add_item us u)) (omega arith) (omega arith)
-      (good_add b i j k us u a q (good_led l) (good_padded p))
+      good_more i (suc k) (omega arith) (omega arith)
+      (good_add us u a q (good_led l) (good_padded p))
 
   good_led_members : {b : List ℕ} {i j : ℕ} {us : Members} → LedMembers b i j us → Good b i j (members_preorder us)
   good_led_members {b} (no_led_members i) = good_none b i
   good_led_members {b} (led_member i j k l us n u ld nm p c) =
       let a = led_members_order ld in let q = padded_ends p in let r = named_ends nm in
-      good_more b i l i (suc l) (members_preorder (add_member us n u)) (omega arith) (omega arith)
-      (good_add_member b i j k l us n u a r q (good_led_members ld) (good_named nm) (good_padded p))
+      good_more i (suc l) (omega arith) (omega arith)
+      (good_add_member us n u a r q (good_led_members ld) (good_named nm) (good_padded p))
 
 json_good : (b : List ℕ) (t : Tree) → Json b t → AllGood b (preorder t)
 json_good b t p = subst (AllGood b) (append-nil (preorder t)) ((good_padded p).good [] tt tt)
@@ -464,8 +462,8 @@ first_shown b [] t h = cc
 first_shown b (s ∷ ss) t h = cc
 
 -- the tree that the tokens show is the line's
-pub one_tree : (b : List ℕ) (ts : List Token) → AreOf b ts → (t : Tree) → Json b t → tree_at b (spans_of ts) 0 ≡ t
-one_tree b ts a t j = first_shown b (spans_of ts) a.tree a.shown ∙ json_only b t a.tree j a.json
+pub one_tree : {b : List ℕ} {ts : List Token} → AreOf b ts → (t : Tree) → Json b t → tree_at b (spans_of ts) 0 ≡ t
+one_tree {b} {ts} a t j = first_shown b (spans_of ts) a.tree a.shown ∙ json_only b t a.tree j a.json
 
-pub its_tree : (b : List ℕ) (ts : List Token) → AreOf b ts → Json b (tree_at b (spans_of ts) 0)
-its_tree b ts a = subst (Json b) (sym (first_shown b (spans_of ts) a.tree a.shown)) a.json
+pub its_tree : {b : List ℕ} {ts : List Token} → AreOf b ts → Json b (tree_at b (spans_of ts) 0)
+its_tree {b} {ts} a = subst (Json b) (sym (first_shown b (spans_of ts) a.tree a.shown)) a.json

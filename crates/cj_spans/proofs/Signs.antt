@@ -20,18 +20,18 @@ use Rattle.cj_spans.proofs.Runs.{idle, settled}
 -- ---- behind a sign
 
 -- a step from where a run has settled
-pub step_on : (b : List ℕ) (s t u : State) → ComesTo b s t → t.place < length b → step (byte b t.place) t ≡ Some u
+pub step_on : {b : List ℕ} {s t : State} (u : State) → ComesTo b s t → t.place < length b → step (byte b t.place) t ≡ Some u
     → Reaches b s u
-step_on b s t u h l e =
+step_on {b} {t} u h l e =
     let p : h.last.place ≡ t.place = (settled h.last t h.settles).place in
     on h.last u h.reached (ap (λ n. step (byte b n) h.last) p ∙ h.same l ∙ e)
 
 -- a sign takes the machine from one mode to another
-sign_read : (b : List ℕ) (s : State) (m n : Mode) (c : ℕ) (ks : List ℕ) (ts : List Token) (k p : ℕ) → k < length b
+sign_read : {b : List ℕ} {s : State} (m n : Mode) {c : ℕ} (ks : List ℕ) (ts : List Token) (k p : ℕ) → k < length b
     → byte b k ≡ c → step c (idle m ks ts k p) ≡ Some (idle n ks ts (suc k) p) → ComesTo b s (idle m ks ts k p)
     → ComesTo b s (idle n ks ts (k + 1) p)
-sign_read b s m n c ks ts k p l e go h =
-    let r = step_on b s (idle m ks ts k p) (idle n ks ts (suc k) p) h l (ap (λ x. step x (idle m ks ts k p)) e ∙ go) in
+sign_read {b} {s} m n ks ts k p l e go h =
+    let r = step_on (idle n ks ts (suc k) p) h l (ap (λ x. step x (idle m ks ts k p)) e ∙ go) in
     let f : suc k ≡ k + 1 = omega arith in
     subst (λ x. ComesTo b s (idle n ks ts x p)) f
     (record { last = idle n ks ts (suc k) p; reached = r; settles = refl; same = λ _. refl })
@@ -39,29 +39,28 @@ sign_read b s m n c ks ts k p l e go h =
 -- the colon behind a name
 pub colon_read : (b : List ℕ) (s : State) (ks : List ℕ) (ts : List Token) (k p : ℕ) → k < length b → byte b k ≡ 58
     → ComesTo b s (idle AfterName ks ts k p) → ComesTo b s (idle Ready ks ts (k + 1) p)
-colon_read b s ks ts k p l e h = sign_read b s AfterName Ready 58 ks ts k p l e refl h
+colon_read b s ks ts k p l e h = sign_read AfterName Ready ks ts k p l e refl h
 
 -- the comma behind a part of a container of the kind d, in which the mode n comes behind one
-pub comma_read : (b : List ℕ) (s : State) (d : Kind) (n : Mode) (ks : List ℕ) (ts : List Token) (k p : ℕ)
+pub comma_read : (b : List ℕ) (s : State) {d : Kind} (n : Mode) {ks : List ℕ} {ts : List Token} (k p : ℕ)
     → ((i : ℕ) (t : Token) (u : State) → after_in d 44 i t u ≡ Some (moved (between n) u)) → IsInnermost d ks ts
     → k < length b → byte b k ≡ 44
     → ComesTo b s (idle After ks ts k p) → ComesTo b s (idle n ks ts (k + 1) p)
-comma_read b s d n ks ts k p next a l e h =
+comma_read b s n {ks} {ts} k p next a l e h =
     let u = idle After ks ts k p in
-    sign_read b s After n 44 ks ts k p l e
-    (ap (λ o. after_top 44 o u) a.innermost ∙ ap (λ o. after_token 44 a.top o u) a.there
+    sign_read After n ks ts k p l e (ap (λ o. after_top 44 o u) a.innermost ∙ ap (λ o. after_token 44 a.top o u) a.there
     ∙ ap (λ g. after_in g 44 a.top a.token u) a.kind ∙ next a.top a.token u) h
 
 -- ---- the innermost container
 
-pub innermost_same : (d : Kind) (ks ls : List ℕ) (ts us : List Token) → ks ≡ ls → ts ≡ us → IsInnermost d ks ts
+pub innermost_same : {d : Kind} {ks ls : List ℕ} {ts us : List Token} → ks ≡ ls → ts ≡ us → IsInnermost d ks ts
     → IsInnermost d ls us
-innermost_same d ks ls ts us e f a = subst (λ z. IsInnermost d ls z) f (subst (λ z. IsInnermost d z ts) e a)
+innermost_same {d} {ls} {ts} e f a = subst (λ z. IsInnermost d ls z) f (subst (λ z. IsInnermost d z ts) e a)
 
 -- it stays when tokens are added
-pub innermost_more : (d : Kind) (ks : List ℕ) (ts us vs : List Token) → IsInnermost d ks ts → us ≡ ts ++ vs
+pub innermost_more : {d : Kind} {ks : List ℕ} {ts us : List Token} (vs : List Token) → IsInnermost d ks ts → us ≡ ts ++ vs
     → IsInnermost d ks us
-innermost_more d ks ts us vs a e = record {
+innermost_more {ts} vs a e = record {
   top = a.top;
   token = a.token;
   innermost = a.innermost;
@@ -91,20 +90,20 @@ kind_in _ = None
 module _ (d : Kind) (n : Mode) (inside : kind_in (between n) ≡ Some d) (ks ls : List ℕ) (ts us : List Token)
     (i p j q : ℕ) where
   -- two states are one, and in the first this container is innermost
-  comes_in : (g : Kind) (m : Mode) (ks1 : List ℕ) (ts1 : List Token) (k r : ℕ) → kind_in (between m) ≡ Some g
+  comes_in : {g : Kind} (m : Mode) {ks1 : List ℕ} {ts1 : List Token} (k r : ℕ) → kind_in (between m) ≡ Some g
       → IsInnermost g ks1 ts1 → Some (idle m ks1 ts1 k r) ≡ Some (idle n ls us j q) → IsInnermost d ls us
-  comes_in g m ks1 ts1 k r w a h =
+  comes_in {g} m k r w a h =
       let e = some_same _ _ h in
       let same : g ≡ d = some_same _ _ (sym w ∙ ap (λ u. kind_in u.phase) e ∙ inside) in
       subst (λ z. IsInnermost z ls us) same
-      (innermost_same g ks1 ls ts1 us (ap (λ u. u.stack) e) (ap (λ u. u.tokens) e) a)
+      (innermost_same {ls = ls} {us = us} (ap (λ u. u.stack) e) (ap (λ u. u.tokens) e) a)
 
   -- a byte behind a part: whether it is a comma, and whether it closes the container
   after_byte : (g : Kind) (m : Mode) (comma closes : Bool) (k : ℕ) (t : Token) → kind_in (between m) ≡ Some g
       → IsInnermost g ks ts
       → cond comma (Some (idle m ks ts (suc i) p)) (cond closes (Some (with_closed k t (idle After ks ts i p))) None)
       ≡ Some (idle n ls us j q) → IsInnermost d ls us
-  after_byte g m true closes k t w a h = comes_in g m ks ts (suc i) p w a h
+  after_byte g m true closes k t w a h = comes_in m (suc i) p w a h
   after_byte g m false true k t w a h = none_some _ (ap (λ u. kind_in u.phase) (some_same _ _ h) ∙ inside)
   after_byte g m false false k t w a h = none_some _ h
 
@@ -142,9 +141,9 @@ module _ (d : Kind) (n : Mode) (inside : kind_in (between n) ≡ Some d) (ks ls 
   behind_bracket : (m : Mode) → read m 91 (idle m ks ts i p) ≡ Some (idle n ls us j q) → IsInnermost d ls us
   behind_bracket After h = after_part 91 (slice_get ks 0) refl h
   behind_bracket Ready h =
-      comes_in Array FirstItem _ _ (suc i) (max p (suc (length ks))) refl (innermost_opened Array ks ts i refl) h
+      comes_in FirstItem (suc i) (max p (suc (length ks))) refl (innermost_opened Array ks ts i refl) h
   behind_bracket FirstItem h =
-      comes_in Array FirstItem _ _ (suc i) (max p (suc (length ks))) refl (innermost_opened Array ks ts i refl) h
+      comes_in FirstItem (suc i) (max p (suc (length ks))) refl (innermost_opened Array ks ts i refl) h
   behind_bracket FirstName h = none_some _ h
   behind_bracket NextName h = none_some _ h
   behind_bracket AfterName h = none_some _ h
@@ -152,9 +151,9 @@ module _ (d : Kind) (n : Mode) (inside : kind_in (between n) ≡ Some d) (ks ls 
   behind_brace : (m : Mode) → read m 123 (idle m ks ts i p) ≡ Some (idle n ls us j q) → IsInnermost d ls us
   behind_brace After h = after_part 123 (slice_get ks 0) refl h
   behind_brace Ready h =
-      comes_in Object FirstName _ _ (suc i) (max p (suc (length ks))) refl (innermost_opened Object ks ts i refl) h
+      comes_in FirstName (suc i) (max p (suc (length ks))) refl (innermost_opened Object ks ts i refl) h
   behind_brace FirstItem h =
-      comes_in Object FirstName _ _ (suc i) (max p (suc (length ks))) refl (innermost_opened Object ks ts i refl) h
+      comes_in FirstName (suc i) (max p (suc (length ks))) refl (innermost_opened Object ks ts i refl) h
   behind_brace FirstName h = none_some _ h
   behind_brace NextName h = none_some _ h
   behind_brace AfterName h = none_some _ h

@@ -82,30 +82,30 @@ past_full b ts k t nested whole h =
     omega arith
 
 -- all tokens of a line show something
-pub are_full : (b : List ℕ) (ts : List Token) → AreOf b ts → AreFull b ts
-are_full b ts a = ap total_size a.shown ∙ (let c = a.count in omega arith)
+pub are_full : {b : List ℕ} {ts : List Token} → AreOf b ts → AreFull b ts
+are_full a = ap total_size a.shown ∙ (omega arith)
 
-pub past_tree : (b : List ℕ) (ts : List Token) (k : ℕ) (t : Token) → AreOf b ts → slice_get ts k ≡ Some t
+pub past_tree : {b : List ℕ} {ts : List Token} (k : ℕ) (t : Token) → AreOf b ts → slice_get ts k ≡ Some t
     → k + 1 + before t.stop (drop (k + 1) ts) ≡ k + size (tree_at b (spans_of ts) k)
-past_tree b ts k t a h = past_full b ts k t (known b ts a).nested (are_full b ts a) h
+past_tree {b} {ts} k t a h = past_full b ts k t (known b ts a).nested (are_full a) h
 
 -- each token links past its tree
 pub full_sized : (b : List ℕ) (ts : List Token) → AreNested ts → AreLinked ts → AreFull b ts → AreSized b ts
 full_sized b ts nested linked whole = λ k t h. linked k t h ∙ past_full b ts k t nested whole h
 
 pub are_sized : (b : List ℕ) (ts : List Token) → AreOf b ts → AreSized b ts
-are_sized b ts a = full_sized b ts (known b ts a).nested a.linked (are_full b ts a)
+are_sized b ts a = full_sized b ts (known b ts a).nested a.linked (are_full a)
 
-scan_sized : (b : List ℕ) (old new : BoundedList Token) (old_stack new_stack : BoundedList ℕ) → (t : Tree)
+scan_sized : {b : List ℕ} {old new : BoundedList Token} {old_stack new_stack : BoundedList ℕ} → (t : Tree)
     × IsScanOf b t old new old_stack new_stack → AreSized b new.elements
-scan_sized b old new old_stack new_stack s =
+scan_sized {b} {new} s =
     are_sized b new.elements
     (record { tree = s.0; json = s.1.json; shown = s.1.shown; count = s.1.count; linked = s.1.linked })
 
 pub sized_on : (X : Type 0) (b : List ℕ) (old new : BoundedList Token) (old_stack new_stack : BoundedList ℕ)
     (r : Result X LineFault) → OnOk r ((t : Tree) × IsScanOf b t old new old_stack new_stack)
     → OnOk r (AreSized b new.elements)
-sized_on X b old new old_stack new_stack (Ok v) h = scan_sized b old new old_stack new_stack h
+sized_on X b old new old_stack new_stack (Ok v) h = scan_sized h
 sized_on X b old new old_stack new_stack (Err e) h = search rules
 
 -- ---- a tree has no more values and names than bytes

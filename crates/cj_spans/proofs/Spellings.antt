@@ -226,10 +226,10 @@ record Tail (r : List ℕ) : Type 0 where
   exp_is : IsExp exp
   joined : r ≡ frac ++ exp
 
-s_point : (b : ℕ) (r : List ℕ) (y : Lex) (k : Kind) → b ≡ 46 → lex_run r Point ≡ Some y → Done y k → Tail (b ∷ r)
+s_point : {b : ℕ} (r : List ℕ) (y : Lex) (k : Kind) → b ≡ 46 → lex_run r Point ≡ Some y → Done y k → Tail (b ∷ r)
     × (k ≡ Number)
-s_point b [] y k e h d = not_done Point y k refl h d
-s_point b (c ∷ r) y k e h d =
+s_point [] y k e h d = not_done Point y k refl h d
+s_point {b} (c ∷ r) y k e h d =
     let p = test_one (lex_run r) (is_digit c) Fraction y h in let q = s_fraction r y k p.1 d in let t = q.0 in (
       record {
         frac = b ∷ c ∷ t.digits;
@@ -245,7 +245,7 @@ s_tail : (c : ℕ) (r : List ℕ) (y : Lex) (k : Kind) → option_and_then (lex_
     → Tail (c ∷ r) × (k ≡ Number)
 s_tail c r y k h d =
     elim (test_two (lex_run r) (nat_eq c 46) Point (mark c) y h) [
-      | inl p ↦ s_point c r y k (eqb-true c 46 p.0) p.1 d
+      | inl p ↦ s_point r y k (eqb-true c 46 p.0) p.1 d
       | inr p ↦ let q = s_mark_at c r y k p.1 d in
           (record { frac = []; exp = c ∷ r; frac_is = tt; exp_is = q.0; joined = refl }, q.1)
     ]
@@ -294,9 +294,9 @@ record Unsigned (r : List ℕ) : Type 0 where
   tail : Tail rest
   joined : r ≡ int ++ rest
 
-u_zero : (c : ℕ) (r : List ℕ) (y : Lex) (k : Kind) → c ≡ 48 → lex_run r Zero ≡ Some y → Done y k → Unsigned (c ∷ r)
+u_zero : {c : ℕ} (r : List ℕ) (y : Lex) (k : Kind) → c ≡ 48 → lex_run r Zero ≡ Some y → Done y k → Unsigned (c ∷ r)
     × (k ≡ Number)
-u_zero c r y k e h d = let q = s_zero r y k h d in
+u_zero {c} r y k e h d = let q = s_zero r y k h d in
     (record { int = c ∷ []; rest = r; int_is = inl (e, refl); tail = q.0; joined = refl }, q.1)
 
 u_whole : (c : ℕ) (r : List ℕ) (y : Lex) (k : Kind) → nat_le 49 c && nat_le c 57 ≡ true → lex_run r Whole ≡ Some y
@@ -317,12 +317,12 @@ s_minus : (r : List ℕ) (y : Lex) (k : Kind) → lex_run r Minus ≡ Some y →
 s_minus [] y k h d = not_done Minus y k refl h d
 s_minus (c ∷ r) y k h d =
     elim (test_two (lex_run r) (nat_eq c 48) Zero (cond (nat_le 49 c && nat_le c 57) (Some Whole) None) y h) [
-      | inl p ↦ u_zero c r y k (eqb-true c 48 p.0) p.1 d
+      | inl p ↦ u_zero r y k (eqb-true c 48 p.0) p.1 d
       | inr p ↦ let q = test_one (lex_run r) (nat_le 49 c && nat_le c 57) Whole y p.1 in u_whole c r y k q.0 q.1 d
     ]
 
-number : (minus r : List ℕ) → IsMinus minus → Unsigned r → IsNumber (minus ++ r)
-number minus r m u = record {
+number : (minus : List ℕ) {r : List ℕ} → IsMinus minus → Unsigned r → IsNumber (minus ++ r)
+number minus m u = record {
   minus = minus;
   int = u.int;
   frac = u.tail.frac;
@@ -403,31 +403,30 @@ mutual
 
 -- ---- all scalars
 
-scalar_is : (j k : Kind) (s : List ℕ) → k ≡ j → IsScalar j s → IsScalar k s
-scalar_is j k s e h = subst (λ z. IsScalar z s) (sym e) h
+scalar_is : {j k : Kind} (s : List ℕ) → k ≡ j → IsScalar j s → IsScalar k s
+scalar_is s e h = subst (λ z. IsScalar z s) (sym e) h
 
 pub reading_sound : (s : List ℕ) (x : Lex) (k : Kind) → reading s ≡ Some x → lex_kind x ≡ Some k → IsScalar k s
 reading_sound [] x k h d = none_some x h
 reading_sound (c ∷ r) x k h d =
     elim (test_two (lex_run r) (nat_eq c 110) AfterN _ x h) [
-      | inl p ↦ let q = s_null r x k p.1 d in scalar_is Null k (c ∷ r) q.1 (ap (λ z. z ∷ r) (eqb-true c 110 p.0) ∙ q.0)
+      | inl p ↦ let q = s_null r x k p.1 d in scalar_is (c ∷ r) q.1 (ap (λ z. z ∷ r) (eqb-true c 110 p.0) ∙ q.0)
       | inr h1 ↦ elim (test_two (lex_run r) (nat_eq c 116) AfterT _ x h1.1) [
         | inl p ↦ let q = s_true r x k p.1 d in
-            scalar_is Truth k (c ∷ r) q.1 (inl (ap (λ z. z ∷ r) (eqb-true c 116 p.0) ∙ q.0))
+            scalar_is (c ∷ r) q.1 (inl (ap (λ z. z ∷ r) (eqb-true c 116 p.0) ∙ q.0))
         | inr h2 ↦ elim (test_two (lex_run r) (nat_eq c 102) AfterF _ x h2.1) [
           | inl p ↦ let q = s_false r x k p.1 d in
-              scalar_is Truth k (c ∷ r) q.1 (inr (ap (λ z. z ∷ r) (eqb-true c 102 p.0) ∙ q.0))
+              scalar_is (c ∷ r) q.1 (inr (ap (λ z. z ∷ r) (eqb-true c 102 p.0) ∙ q.0))
           | inr h3 ↦ elim (test_two (lex_run r) (nat_eq c 45) Minus _ x h3.1) [
             | inl p ↦ let q = s_minus r x k p.1 d in
-                scalar_is Number k (c ∷ r) q.1 (number (c ∷ []) r (inr (ap (λ z. z ∷ []) (eqb-true c 45 p.0))) q.0)
+                scalar_is (c ∷ r) q.1 (number (c ∷ []) (inr (ap (λ z. z ∷ []) (eqb-true c 45 p.0))) q.0)
             | inr h4 ↦ elim (test_two (lex_run r) (nat_eq c 48) Zero _ x h4.1) [
-              | inl p ↦ unsigned c r k (u_zero c r x k (eqb-true c 48 p.0) p.1 d)
+              | inl p ↦ unsigned c r k (u_zero r x k (eqb-true c 48 p.0) p.1 d)
               | inr h5 ↦ elim (test_two (lex_run r) (nat_le 49 c && nat_le c 57) Whole _ x h5.1) [
                 | inl p ↦ unsigned c r k (u_whole c r x k p.0 p.1 d)
                 | inr h6 ↦
                     let p = test_one (lex_run r) (nat_eq c 34) InString x h6.1 in let q = s_plain r x k p.1 d in
-                    scalar_is Text k (c ∷ r) q.1
-                    (record {
+                    scalar_is (c ∷ r) q.1 (record {
                       body = q.0.0;
                       body_is = q.0.1;
                       joined = ap (λ z. z ∷ r) (eqb-true c 34 p.0)
@@ -441,7 +440,7 @@ reading_sound (c ∷ r) x k h d =
     ]
   where
     unsigned : (c : ℕ) (r : List ℕ) (k : Kind) → Unsigned (c ∷ r) × (k ≡ Number) → IsScalar k (c ∷ r)
-    unsigned c r k q = scalar_is Number k (c ∷ r) q.1 (number [] (c ∷ r) (inl refl) q.0)
+    unsigned c r k q = scalar_is (c ∷ r) q.1 (number [] (inl refl) q.0)
 
 -- ---- a string's body is read at InString
 
@@ -485,8 +484,8 @@ exponent_run (c ∷ s) x go h =
     ap (option_and_then (lex_run s)) (go c (digit_test c h.0)) ∙ ap (λ t. lex_run t Exponent) (sym (append-nil s))
     ∙ digits_run Exponent (λ c h. digit_step Exponent c None h) s [] h.1
 
-rest_run : (s : List ℕ) → IsExpRest s → lex_run s Mark ≡ Some Exponent
-rest_run s h =
+rest_run : {s : List ℕ} → IsExpRest s → lex_run s Mark ≡ Some Exponent
+rest_run h =
     let P : List ℕ → Type 0 = λ t. lex_run (t ++ h.digits) Mark ≡ Some Exponent in
     ap (λ t. lex_run t Mark) h.joined ∙
     elim h.sign_is [
@@ -508,7 +507,7 @@ exp_part : (x : Lex) → lex_kind x ≡ Some Number → lex_step x 101 ≡ Some 
 exp_part x k a b [] h = record { last = x; run = refl; kind = k }
 exp_part x k a b (c ∷ s) h =
     let g : lex_step x c ≡ Some Mark = elim h.0 [ inl e ↦ ap (lex_step x) e ∙ a | inr e ↦ ap (lex_step x) e ∙ b ] in
-    record { last = Exponent; run = ap (option_and_then (lex_run s)) g ∙ rest_run s h.1; kind = refl }
+    record { last = Exponent; run = ap (option_and_then (lex_run s)) g ∙ rest_run h.1; kind = refl }
 
 frac_part : (x : Lex) → lex_kind x ≡ Some Number → lex_step x 101 ≡ Some Mark → lex_step x 69 ≡ Some Mark
     → lex_step x 46 ≡ Some Point → (f s : List ℕ) → IsFrac f → IsExp s → EndsNumber x (f ++ s)

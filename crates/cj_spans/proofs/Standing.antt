@@ -22,9 +22,9 @@ use Rattle.cj_spans.proofs.Facts.{IsLawful, goes, lawful_reaches, lawful_settles
 
 -- ---- the beginning
 
-empty_settles : (b : List ℕ) (ks : List ℕ) (ts : List Token) → ts ≡ [] → ks ≡ []
+empty_settles : (b : List ℕ) {ks : List ℕ} {ts : List Token} → ts ≡ [] → ks ≡ []
     → ComesTo b start (idle Ready ks ts 0 0)
-empty_settles b ks ts e f =
+empty_settles b {ts} e f =
     let base : ComesTo b start start = record { last = start; reached = here; settles = refl; same = λ l. refl } in
     subst (λ z. ComesTo b start (idle Ready z ts 0 0)) (sym f)
     (subst (λ z. ComesTo b start (idle Ready [] z 0 0)) (sym e) base)
@@ -33,7 +33,7 @@ pub standing_first : (b : List ℕ) (tokens : BoundedList Token) (stack : Bounde
     → IsWithin stack → tokens.elements ≡ [] → stack.elements ≡ [] → Standing b tokens stack tokens stack Ready 0
 standing_first b tokens stack w v e f = record {
   deepest = 0;
-  settles = empty_settles b stack.elements tokens.elements e f;
+  settles = empty_settles b e f;
   place = omega arith;
   kept = record { limit = refl; peak = let g = w.below_peak in omega arith; room = λ r. r; within = w };
   stack_limit = refl;
@@ -42,10 +42,10 @@ standing_first b tokens stack w v e f = record {
   stack_within = v;
 }
 
-module _ (b : List ℕ) (tokens0 : BoundedList Token) (stack0 : BoundedList ℕ) (tokens : BoundedList Token)
-    (stack : BoundedList ℕ) (m : Mode) (i : ℕ) (s : Standing b tokens0 stack0 tokens stack m i) where
+module _ {b : List ℕ} {tokens0 : BoundedList Token} {stack0 : BoundedList ℕ} {tokens : BoundedList Token}
+    {stack : BoundedList ℕ} {m : Mode} {i : ℕ} (s : Standing b tokens0 stack0 tokens stack m i) where
   pub standing_lawful : IsLawful (idle m stack.elements tokens.elements i s.deepest)
-  standing_lawful = lawful_settles s.settles.last _ (lawful_reaches s.settles.last s.settles.reached) s.settles.settles
+  standing_lawful = lawful_settles _ (lawful_reaches s.settles.reached) s.settles.settles
 
 -- ---- what the calls need
 
@@ -67,35 +67,32 @@ count_before _ ks ts i p l h = absurd h
 half_room : (t i n o d limit : ℕ) → 2 * t ≤ i + o → i < n → o ≤ d → (n + d + 1) / 2 ≤ limit → t < limit
 half_room t i n o d limit h l g r = omega arith
 
-pub standing_small : (b : List ℕ) (tokens0 : BoundedList Token) (stack0 : BoundedList ℕ) (tokens : BoundedList Token)
-    (stack : BoundedList ℕ) (m : Mode) (i : ℕ) → Standing b tokens0 stack0 tokens stack m i → length b ≤ 1073741824
+pub standing_small : {b : List ℕ} {tokens0 : BoundedList Token} {stack0 : BoundedList ℕ} {tokens : BoundedList Token}
+    {stack : BoundedList ℕ} {m : Mode} {i : ℕ} → Standing b tokens0 stack0 tokens stack m i → length b ≤ 1073741824
     → i < length b
     → (i < 2 ^ 31) × (length tokens.elements < 2 ^ 31)
-standing_small b tokens0 stack0 tokens stack m i s h l =
-    let w = standing_lawful b tokens0 stack0 tokens stack m i s in
+standing_small {tokens} {stack} {m} {i} s h l =
+    let w = standing_lawful s in
     let c = count_of m stack.elements tokens.elements i s.deepest w in
-    let o = w.open_count in
     (omega arith, omega arith)
 
-room_left : (b : List ℕ) (tokens0 : BoundedList Token) (stack0 : BoundedList ℕ) (tokens : BoundedList Token)
-    (stack : BoundedList ℕ) (m : Mode) (i : ℕ) → Standing b tokens0 stack0 tokens stack m i
+room_left : {b : List ℕ} {tokens0 : BoundedList Token} {stack0 : BoundedList ℕ} {tokens : BoundedList Token}
+    {stack : BoundedList ℕ} {m : Mode} {i : ℕ} → Standing b tokens0 stack0 tokens stack m i
     → (length b + stack0.limit + 1) / 2 ≤ tokens0.limit → i < length b
     → 2 * length tokens.elements ≤ i + length stack.elements → length tokens.elements < tokens.limit
-room_left b tokens0 stack0 tokens stack m i s r l c =
+room_left {b} {tokens0} {stack0} {tokens} {stack} {i} s r l c =
     let g : length stack.elements ≤ stack0.limit = let p = s.stack_within.below_peak in
     let q = s.stack_within.below_limit in let e = s.stack_limit in omega arith in
     let e = s.kept.limit in
     subst (λ n. length tokens.elements < n) (sym e)
     (half_room (length tokens.elements) i (length b) (length stack.elements) stack0.limit tokens0.limit c l g r)
 
-pub standing_room : (b : List ℕ) (tokens0 : BoundedList Token) (stack0 : BoundedList ℕ) (tokens : BoundedList Token)
-    (stack : BoundedList ℕ) (m : Mode) (i : ℕ) → Standing b tokens0 stack0 tokens stack m i
+pub standing_room : {b : List ℕ} {tokens0 : BoundedList Token} {stack0 : BoundedList ℕ} {tokens : BoundedList Token}
+    {stack : BoundedList ℕ} {m : Mode} {i : ℕ} → Standing b tokens0 stack0 tokens stack m i
     → (length b + stack0.limit + 1) / 2 ≤ tokens0.limit → i < length b
     → BeginsValue m → length tokens.elements < tokens.limit
-standing_room b tokens0 stack0 tokens stack m i s r l h =
-    room_left b tokens0 stack0 tokens stack m i s r l
-    (count_before m stack.elements tokens.elements i s.deepest (standing_lawful b tokens0 stack0 tokens stack m i s)
-    h)
+standing_room {tokens} {stack} {m} {i} s r l h =
+    room_left s r l (count_before m stack.elements tokens.elements i s.deepest (standing_lawful s) h)
 
 count_name : (m : Mode) (ks : List ℕ) (ts : List Token) (i p : ℕ) → IsLawful (idle m ks ts i p) → BeginsName m
     → 2 * length ts ≤ i + length ks
@@ -103,18 +100,16 @@ count_name FirstName ks ts i p l h = l.token_count
 count_name NextName ks ts i p l h = l.token_count
 count_name _ ks ts i p l h = absurd h
 
-pub standing_name_room : (b : List ℕ) (tokens0 : BoundedList Token) (stack0 : BoundedList ℕ)
-    (tokens : BoundedList Token) (stack : BoundedList ℕ) (m : Mode) (i : ℕ) → Standing b tokens0 stack0 tokens stack m i
+pub standing_name_room : {b : List ℕ} {tokens0 : BoundedList Token} {stack0 : BoundedList ℕ}
+    {tokens : BoundedList Token} {stack : BoundedList ℕ} {m : Mode} {i : ℕ} → Standing b tokens0 stack0 tokens stack m i
     → (length b + stack0.limit + 1) / 2 ≤ tokens0.limit → i < length b
     → BeginsName m → length tokens.elements < tokens.limit
-standing_name_room b tokens0 stack0 tokens stack m i s r l h =
-    room_left b tokens0 stack0 tokens stack m i s r l
-    (count_name m stack.elements tokens.elements i s.deepest (standing_lawful b tokens0 stack0 tokens stack m i s)
-    h)
+standing_name_room {tokens} {stack} {m} {i} s r l h =
+    room_left s r l (count_name m stack.elements tokens.elements i s.deepest (standing_lawful s) h)
 
-pub kept_both : (x y z : BoundedList Token) → Kept x y → Grown y z → Kept x z
-kept_both x y z k g =
-    let a = k.peak in let c = g.kept.peak in let d = g.longer in
+pub kept_both : {x y z : BoundedList Token} → Kept x y → Grown y z → Kept x z
+kept_both k g =
+    let a = k.peak in let c = g.kept.peak in
     record {
       limit = g.kept.limit ∙ k.limit;
       peak = omega arith;
@@ -123,16 +118,16 @@ kept_both x y z k g =
     }
 
 -- what goes on over the tokens alone
-pub standing_with : (b : List ℕ) (tokens0 : BoundedList Token) (stack0 : BoundedList ℕ)
-    (tokens tokens1 : BoundedList Token) (stack : BoundedList ℕ) (m n : Mode) (i j : ℕ)
+pub standing_with : {b : List ℕ} {tokens0 : BoundedList Token} {stack0 : BoundedList ℕ}
+    {tokens tokens1 : BoundedList Token} {stack : BoundedList ℕ} {m : Mode} (n : Mode) {i : ℕ} (j : ℕ)
     → Standing b tokens0 stack0 tokens stack m i → Grown tokens tokens1 → j ≤ length b
     → ((p : ℕ) → ComesTo b start (idle m stack.elements tokens.elements i p)
     → ComesTo b start (idle n stack.elements tokens1.elements j p)) → Standing b tokens0 stack0 tokens1 stack n j
-standing_with b tokens0 stack0 tokens tokens1 stack m n i j s g l h = record {
+standing_with n j s g l h = record {
   deepest = s.deepest;
   settles = h s.deepest s.settles;
   place = l;
-  kept = kept_both tokens0 tokens tokens1 s.kept g;
+  kept = kept_both s.kept g;
   stack_limit = s.stack_limit;
   stack_peak = s.stack_peak;
   stack_room = s.stack_room;
@@ -152,27 +147,27 @@ pub record Stepped (b : List ℕ) (tokens0 : BoundedList Token) (stack0 : Bounde
   pub stack_room : IsTrue stack0.reserved → IsTrue stack.reserved
   pub stack_within : IsWithin stack
 
-pub standing_step : (b : List ℕ) (tokens0 : BoundedList Token) (stack0 : BoundedList ℕ)
-    (tokens tokens1 : BoundedList Token) (stack stack1 : BoundedList ℕ) (m : Mode) (i : ℕ) (v : Move)
+pub standing_step : {b : List ℕ} {tokens0 : BoundedList Token} {stack0 : BoundedList ℕ}
+    {tokens tokens1 : BoundedList Token} {stack stack1 : BoundedList ℕ} {m : Mode} {i : ℕ} (v : Move)
     → Standing b tokens0 stack0 tokens stack m i → i < length b → Grown tokens tokens1 → Kept stack stack1
     → ((p : ℕ) → read m (byte b i) (idle m stack.elements tokens.elements i p)
     ≡ Some (state (phase_after m i v) stack1.elements tokens1.elements (suc i)
     (deepest_after v p (length stack1.elements))))
     → Stepped b tokens0 stack0 tokens1 stack1 m i v
-standing_step b tokens0 stack0 tokens tokens1 stack stack1 m i v s l g k h =
+standing_step {b} {tokens} {tokens1} {stack} {stack1} {m} {i} v s l g k h =
     let t = idle m stack.elements tokens.elements i s.deepest in
     let u = state (phase_after m i v) stack1.elements tokens1.elements (suc i)
     (deepest_after v s.deepest (length stack1.elements)) in
-    let w = standing_lawful b tokens0 stack0 tokens stack m i s in
+    let w = standing_lawful s in
     let e : s.settles.last.place ≡ i = (settled s.settles.last t s.settles.settles).place in
     let q : step (byte b s.settles.last.place) s.settles.last ≡ Some u = ap (λ n. step (byte b n) s.settles.last) e
     ∙ s.settles.same l ∙ h s.deepest in
-    let d = (goes t u (byte b i) w (h s.deepest)).deepest in
+    let d = (goes u (byte b i) w (h s.deepest)).deepest in
     let a = s.stack_peak in let c = k.peak in
     record {
       deepest = deepest_after v s.deepest (length stack1.elements);
       reached = on s.settles.last u s.settles.reached q;
-      kept = kept_both tokens0 tokens tokens1 s.kept g;
+      kept = kept_both s.kept g;
       stack_limit = k.limit ∙ s.stack_limit;
       stack_peak = omega arith;
       stack_room = λ r. k.room (s.stack_room r);
@@ -186,12 +181,12 @@ atom_count : (m n : Mode) (i p : ℕ) (v : Move) (ks : List ℕ) (ts : List Toke
 atom_count m n i p (Atom k x) ks ts l h = l.token_count
 atom_count m n i p _ ks ts l h = absurd h
 
-pub stepped_room : (b : List ℕ) (tokens0 : BoundedList Token) (stack0 : BoundedList ℕ) (tokens : BoundedList Token)
-    (stack : BoundedList ℕ) (m : Mode) (i : ℕ) (v : Move) → Stepped b tokens0 stack0 tokens stack m i v
+pub stepped_room : {b : List ℕ} {tokens0 : BoundedList Token} {stack0 : BoundedList ℕ} {tokens : BoundedList Token}
+    {stack : BoundedList ℕ} {m : Mode} {i : ℕ} {v : Move} → Stepped b tokens0 stack0 tokens stack m i v
     → (length b + stack0.limit + 1) / 2 ≤ tokens0.limit → i < length b
     → BeginsAtom v → length tokens.elements < tokens.limit
-stepped_room b tokens0 stack0 tokens stack m i v s r l h =
-    let c = atom_count m m i s.deepest v stack.elements tokens.elements (lawful_reaches _ s.reached) h in
+stepped_room {b} {tokens0} {stack0} {tokens} {stack} {m} {i} {v} s r l h =
+    let c = atom_count m m i s.deepest v stack.elements tokens.elements (lawful_reaches s.reached) h in
     let g : length stack.elements ≤ stack0.limit = let p = s.stack_within.below_peak in
     let q = s.stack_within.below_limit in let e = s.stack_limit in omega arith in
     subst (λ n. length tokens.elements < n) (sym s.kept.limit)
@@ -204,13 +199,12 @@ count_after m i p (To n) ks ts l = count_of n ks ts (suc i) p l
 count_after m i p (Open n) ks ts l = count_of n ks ts (suc i) p l
 count_after m i p (Atom n x) ks ts l = let c = l.token_count in omega arith
 
-pub stepped_small : (b : List ℕ) (tokens0 : BoundedList Token) (stack0 : BoundedList ℕ) (tokens : BoundedList Token)
-    (stack : BoundedList ℕ) (m : Mode) (i : ℕ) (v : Move) → Stepped b tokens0 stack0 tokens stack m i v
+pub stepped_small : {b : List ℕ} {tokens0 : BoundedList Token} {stack0 : BoundedList ℕ} {tokens : BoundedList Token}
+    {stack : BoundedList ℕ} {m : Mode} {i : ℕ} {v : Move} → Stepped b tokens0 stack0 tokens stack m i v
     → length b ≤ 1073741824 → i < length b
     → (length stack.elements < 2 ^ 31) × (length tokens.elements < 2 ^ 31)
-stepped_small b tokens0 stack0 tokens stack m i v s h l =
-    let w = lawful_reaches _ s.reached in
-    let o = w.open_count in
+stepped_small {tokens} {stack} {m} {i} {v} s h l =
+    let w = lawful_reaches s.reached in
     let c = count_after m i s.deepest v stack.elements tokens.elements w in
     (omega arith, omega arith)
 
@@ -222,17 +216,17 @@ abbrev sticks_both : {b : List ℕ} {s t : State} {i : ℕ} → Reaches b s t �
 sticks_both r h =
     record { last = h.last; reached = reaches_both r h.reached; at = h.at; within = h.within; stuck = h.stuck }
 
-pub stepped_on : (b : List ℕ) (tokens0 : BoundedList Token) (stack0 : BoundedList ℕ)
-    (tokens tokens1 : BoundedList Token) (stack : BoundedList ℕ) (m : Mode) (i : ℕ) (v : Move) (n : Next)
+pub stepped_on : {b : List ℕ} {tokens0 : BoundedList Token} {stack0 : BoundedList ℕ}
+    {tokens tokens1 : BoundedList Token} {stack : BoundedList ℕ} {m : Mode} {i : ℕ} {v : Move} (n : Next)
     → Stepped b tokens0 stack0 tokens stack m i v → Grown tokens tokens1
     → ((p : ℕ) → ComesTo b (state (phase_after m i v) stack.elements tokens.elements (suc i) p)
     (idle n.mode stack.elements tokens1.elements n.place p) × (suc i ≤ n.place) × (n.place ≤ length b))
     → Standing b tokens0 stack0 tokens1 stack n.mode n.place
-stepped_on b tokens0 stack0 tokens tokens1 stack m i v n s g h = record {
+stepped_on n s g h = record {
   deepest = s.deepest;
   settles = settles_both s.reached (h s.deepest).0;
   place = (h s.deepest).2;
-  kept = kept_both tokens0 tokens tokens1 s.kept g;
+  kept = kept_both s.kept g;
   stack_limit = s.stack_limit;
   stack_peak = s.stack_peak;
   stack_room = s.stack_room;
@@ -240,8 +234,8 @@ stepped_on b tokens0 stack0 tokens tokens1 stack m i v n s g h = record {
 }
 
 -- the same after the byte that made the move
-pub followed : (b : List ℕ) (tokens0 : BoundedList Token) (stack0 : BoundedList ℕ)
-    (tokens tokens1 tokens2 : BoundedList Token) (stack stack1 : BoundedList ℕ) (m : Mode) (i : ℕ) (v : Move) (n : Next)
+pub followed : {b : List ℕ} {tokens0 : BoundedList Token} {stack0 : BoundedList ℕ}
+    {tokens tokens1 tokens2 : BoundedList Token} {stack stack1 : BoundedList ℕ} {m : Mode} {i : ℕ} (v : Move) (n : Next)
     → Standing b tokens0 stack0 tokens stack m i → i < length b → Grown tokens tokens1 → Kept stack stack1
     → ((p : ℕ) → read m (byte b i) (idle m stack.elements tokens.elements i p)
     ≡ Some (state (phase_after m i v) stack1.elements tokens1.elements (suc i)
@@ -249,23 +243,20 @@ pub followed : (b : List ℕ) (tokens0 : BoundedList Token) (stack0 : BoundedLis
     → ((p : ℕ) → ComesTo b (state (phase_after m i v) stack1.elements tokens1.elements (suc i) p)
     (idle n.mode stack1.elements tokens2.elements n.place p) × (suc i ≤ n.place) × (n.place ≤ length b))
     → Standing b tokens0 stack0 tokens2 stack1 n.mode n.place
-followed b tokens0 stack0 tokens tokens1 tokens2 stack stack1 m i v n s l g k h f c =
-    stepped_on b tokens0 stack0 tokens1 tokens2 stack1 m i v n
-    (standing_step b tokens0 stack0 tokens tokens1 stack stack1 m i v s l g k h) f c
+followed v n s l g k h f c =
+    stepped_on n (standing_step v s l g k h) f c
 
 -- ---- the law at every exit
 
-pub standing_law : (b : List ℕ) (tokens0 : BoundedList Token) (stack0 : BoundedList ℕ)
-    (tokens tokens1 : BoundedList Token) (stack stack1 : BoundedList ℕ) (m : Mode) (i : ℕ)
+pub standing_law : {b : List ℕ} {tokens0 : BoundedList Token} {stack0 : BoundedList ℕ}
+    {tokens tokens1 : BoundedList Token} {stack stack1 : BoundedList ℕ} {m : Mode} {i : ℕ}
     → Standing b tokens0 stack0 tokens stack m i
     → Grown tokens tokens1 → Kept stack stack1 → tokens1 ≡ tokens → stack1 ≡ stack
     → KeepsLaw b tokens0 tokens1 stack0 stack1
-standing_law b tokens0 stack0 tokens tokens1 stack stack1 m i s g k e x =
+standing_law {tokens} {tokens1} {stack} {stack1} {m} {i} s g k e x =
     let l : length stack1.elements ≡ length stack.elements = ap (λ z. length z.elements) x in
-    let c = count_of m stack.elements tokens.elements i s.deepest
-    (standing_lawful b tokens0 stack0 tokens stack m i s) in
-    let q = s.place in
-    let z = kept_both tokens0 tokens tokens1 s.kept g in
+    let c = count_of m stack.elements tokens.elements i s.deepest (standing_lawful s) in
+    let z = kept_both s.kept g in
     let f : length tokens1.elements ≡ length tokens.elements = ap (λ t. length t.elements) e in
     let a = s.stack_peak in let d = k.peak in
     record {
@@ -298,20 +289,19 @@ grown_more x z t w e =
       longer = omega arith;
     }
 
-pub ended_law : (b : List ℕ) (tokens0 : BoundedList Token) (stack0 : BoundedList ℕ) (tokens : BoundedList Token)
-    (stack : BoundedList ℕ) (m : Mode) (i : ℕ) → Standing b tokens0 stack0 tokens stack m i
+pub ended_law : {b : List ℕ} {tokens0 : BoundedList Token} {stack0 : BoundedList ℕ} {tokens : BoundedList Token}
+    {stack : BoundedList ℕ} {m : Mode} {i : ℕ} → Standing b tokens0 stack0 tokens stack m i
     → KeepsLaw b tokens0 tokens stack0 stack
-ended_law b tokens0 stack0 tokens stack m i s =
-    standing_law b tokens0 stack0 tokens tokens stack stack m i s (grown_same tokens s.kept.within)
-    (kept_same stack s.stack_within) refl refl
+ended_law {tokens} {stack} s =
+    standing_law s (grown_same tokens s.kept.within) (kept_same stack s.stack_within) refl refl
 
-pub stepped_law : (b : List ℕ) (tokens0 : BoundedList Token) (stack0 : BoundedList ℕ)
-    (tokens tokens1 : BoundedList Token) (stack : BoundedList ℕ) (m : Mode) (i : ℕ) (v : Move)
+pub stepped_law : {b : List ℕ} {tokens0 : BoundedList Token} {stack0 : BoundedList ℕ}
+    {tokens tokens1 : BoundedList Token} {stack : BoundedList ℕ} {m : Mode} {i : ℕ} {v : Move}
     → Stepped b tokens0 stack0 tokens stack m i v
     → i < length b → Grown tokens tokens1 → tokens1 ≡ tokens → KeepsLaw b tokens0 tokens1 stack0 stack
-stepped_law b tokens0 stack0 tokens tokens1 stack m i v s l g e =
-    let c = count_after m i s.deepest v stack.elements tokens.elements (lawful_reaches _ s.reached) in
-    let z = kept_both tokens0 tokens tokens1 s.kept g in
+stepped_law {tokens} {tokens1} {stack} {m} {i} {v} s l g e =
+    let c = count_after m i s.deepest v stack.elements tokens.elements (lawful_reaches s.reached) in
+    let z = kept_both s.kept g in
     let f : length tokens1.elements ≡ length tokens.elements = ap (λ t. length t.elements) e in
     let a = s.stack_peak in
     record {
@@ -328,26 +318,24 @@ stepped_law b tokens0 stack0 tokens tokens1 stack m i v s l g e =
 
 -- ---- faults
 
-shallow_at : (deepest peak limit peak0 limit0 : ℕ) → peak ≡ max peak0 deepest → peak ≤ limit → limit ≡ limit0
+shallow_at : (deepest : ℕ) {peak limit : ℕ} (peak0 : ℕ) {limit0 : ℕ} → peak ≡ max peak0 deepest → peak ≤ limit → limit ≡ limit0
     → deepest ≤ limit0
-shallow_at deepest peak limit peak0 limit0 e h q = omega arith
+shallow_at deepest peak0 e h q = omega arith
 
-pub standing_fault : (X : Type 0) (b : List ℕ) (tokens0 : BoundedList Token) (stack0 : BoundedList ℕ)
-    (tokens tokens1 : BoundedList Token) (stack stack1 : BoundedList ℕ) (m : Mode) (i : ℕ) (f : LineFault)
+pub standing_fault : (X : Type 0) {b : List ℕ} {tokens0 : BoundedList Token} {stack0 : BoundedList ℕ}
+    {tokens : BoundedList Token} (tokens1 : BoundedList Token) {stack stack1 : BoundedList ℕ} {m : Mode} {i : ℕ} (f : LineFault)
     → Standing b tokens0 stack0 tokens stack m i → i < length b
     → ((p : ℕ) → Answers (read m (byte b i) (idle m stack.elements tokens.elements i p)) m i p stack.limit
     (Err f) stack1.elements tokens1.elements)
     → stack1 ≡ stack → RunAnswers {X = X} b stack0 (Err f) tokens1 stack1
-standing_fault X b tokens0 stack0 tokens tokens1 stack stack1 m i (NotUtf8 j) s l h x = h 0
-standing_fault X b tokens0 stack0 tokens tokens1 stack stack1 m i (Syntax j) s l h x =
+standing_fault X tokens1 (NotUtf8 j) s l h x = h 0
+standing_fault X {b} {stack0} {tokens} tokens1 {stack} {stack1} {m} {i} (Syntax j) s l h x =
     let t = idle m stack.elements tokens.elements i s.deepest in
     let e = settled s.settles.last t s.settles.settles in
-    let d = e.deepest in
     let a = h s.deepest in
     let q : step (byte b j) s.settles.last ≡ None = ap (λ n. step (byte b n) s.settles.last) a.0 ∙ s.settles.same l
     ∙ a.1 in
-    let r = shallow_at s.deepest stack.peak stack.limit stack0.peak stack0.limit s.stack_peak s.stack_within.below_limit
-    s.stack_limit in
+    let r = shallow_at s.deepest stack0.peak s.stack_peak s.stack_within.below_limit s.stack_limit in
     let ji = a.0 in
     let same : stack1.peak ≡ stack.peak = ap (λ z. z.peak) x in let c = s.stack_peak in (
       record {
@@ -362,15 +350,13 @@ standing_fault X b tokens0 stack0 tokens tokens1 stack stack1 m i (Syntax j) s l
       },
       omega arith,
     )
-standing_fault X b tokens0 stack0 tokens tokens1 stack stack1 m i (TooDeep j) s l h x =
+standing_fault X {b} {stack0} {tokens} tokens1 {stack} {stack1} {m} {i} (TooDeep j) s l h x =
     let t = idle m stack.elements tokens.elements i s.deepest in
     let e = settled s.settles.last t s.settles.settles in
-    let d = e.deepest in
     let a = h s.deepest in
     let q : step (byte b j) s.settles.last ≡ read m (byte b i) t = ap (λ n. step (byte b n) s.settles.last) a.0
     ∙ s.settles.same l in
-    let r = shallow_at s.deepest stack.peak stack.limit stack0.peak stack0.limit s.stack_peak s.stack_within.below_limit
-    s.stack_limit in
+    let r = shallow_at s.deepest stack0.peak s.stack_peak s.stack_within.below_limit s.stack_limit in
     let ji = a.0 in
     let same : stack1.peak ≡ stack.peak = ap (λ z. z.peak) x in let c = s.stack_peak in
     let P : ℕ → Type 0 = λ n. IsSomeAnd (read m (byte b i) t) (λ u. length u.stack ≡ suc n) in
@@ -386,35 +372,33 @@ standing_fault X b tokens0 stack0 tokens tokens1 stack stack1 m i (TooDeep j) s 
       omega arith,
     )
 
-pub stepped_fault : (X : Type 0) (b : List ℕ) (tokens0 : BoundedList Token) (stack0 : BoundedList ℕ)
-    (tokens tokens1 : BoundedList Token) (stack : BoundedList ℕ) (m : Mode) (i : ℕ) (v : Move) (f : LineFault)
+pub stepped_fault : (X : Type 0) {b : List ℕ} {tokens0 : BoundedList Token} {stack0 : BoundedList ℕ}
+    {tokens : BoundedList Token} (tokens1 : BoundedList Token) {stack : BoundedList ℕ} {m : Mode} {i : ℕ} {v : Move} (f : LineFault)
     → Stepped b tokens0 stack0 tokens stack m i v
     → ((p : ℕ) → EndAnswers b (state (phase_after m i v) stack.elements tokens.elements (suc i) p)
     (Err f) tokens1.elements)
     → RunAnswers {X = X} b stack0 (Err f) tokens1 stack
-stepped_fault X b tokens0 stack0 tokens tokens1 stack m i v (NotUtf8 j) s h = h 0
-stepped_fault X b tokens0 stack0 tokens tokens1 stack m i v (TooDeep j) s h = absurd (h 0)
-stepped_fault X b tokens0 stack0 tokens tokens1 stack m i v (Syntax j) s h =
+stepped_fault X tokens1 (NotUtf8 j) s h = h 0
+stepped_fault X tokens1 (TooDeep j) s h = absurd (h 0)
+stepped_fault X {stack0} tokens1 {stack} (Syntax j) s h =
     let a = h s.deepest in
-    let r = shallow_at s.deepest stack.peak stack.limit stack0.peak stack0.limit s.stack_peak s.stack_within.below_limit
-    s.stack_limit in (
+    let r = shallow_at s.deepest stack0.peak s.stack_peak s.stack_within.below_limit s.stack_limit in (
       record { sticks = sticks_both s.reached a.sticks; shallow = subst (λ n. n ≤ stack0.limit) (sym a.flat) r },
       subst (λ n. stack.peak ≡ max stack0.peak n) (sym a.flat) s.stack_peak,
     )
 
 -- ---- the end of the line
 
-pub ended_fault : (b : List ℕ) (tokens0 : BoundedList Token) (stack0 : BoundedList ℕ) (tokens : BoundedList Token)
-    (stack : BoundedList ℕ) (m : Mode) (i : ℕ) → Standing b tokens0 stack0 tokens stack m i → length b ≤ i
+pub ended_fault : {b : List ℕ} {tokens0 : BoundedList Token} {stack0 : BoundedList ℕ} {tokens : BoundedList Token}
+    {stack : BoundedList ℕ} {m : Mode} {i : ℕ} → Standing b tokens0 stack0 tokens stack m i → length b ≤ i
     → ((m ≡ After) × (stack.elements ≡ []) → ⊥)
     → (k : SticksAt b stack0.limit i) × (stack.peak ≡ max stack0.peak k.sticks.last.deepest)
-ended_fault b tokens0 stack0 tokens stack m i s l n =
+ended_fault {b} {stack0} {tokens} {stack} {m} {i} s l n =
     let t = idle m stack.elements tokens.elements i s.deepest in
     let e = settled s.settles.last t s.settles.settles in
-    let d = e.deepest in let c = s.stack_peak in
+    let c = s.stack_peak in
     let w = s.place in
-    let r = shallow_at s.deepest stack.peak stack.limit stack0.peak stack0.limit s.stack_peak s.stack_within.below_limit
-    s.stack_limit in (
+    let r = shallow_at s.deepest stack0.peak s.stack_peak s.stack_within.below_limit s.stack_limit in (
       record {
         sticks = record {
           last = s.settles.last;
@@ -434,8 +418,8 @@ ended_fault b tokens0 stack0 tokens stack m i s l n =
     )
 
 -- a test that failed
-pub not_so : (r : Bool) (P : Type 0) → (IsTrue r → P) × (P → IsTrue r) → r ≡ false → P → ⊥
-not_so r P h e x = is_false r e (h.1 x)
+pub not_so : {r : Bool} (P : Type 0) → (IsTrue r → P) × (P → IsTrue r) → r ≡ false → P → ⊥
+not_so {r} P h e x = is_false r e (h.1 x)
   where
     is_false : (r : Bool) → r ≡ false → IsTrue r → ⊥
     is_false true e t = cc

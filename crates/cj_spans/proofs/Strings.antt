@@ -145,11 +145,11 @@ unit_front (c ∷ ds) u y =
     subst (λ x. NextUnit (x ∷ ds)) (sym e)
     (unit_second ds (subst (λ x. char_of (x ∷ ds) 1 ≡ 117) e f) (body_begins y1 92 (encode_utf8_all ds) refl))
 
-unit_pair : (h i j k : ℕ) (es : List ℕ)
+unit_pair : (h i j k : ℕ) {es : List ℕ}
     → ((ds : List ℕ) → length ds ≤ length es → IsBody (encode_utf8_all ds) → Stands ds)
     → is_high_surrogate (four_digits (h ∷ i ∷ j ∷ k ∷ [])) ≡ true → is_low_surrogate (unit es) ≡ true → NextUnit es
     → Stands (92 ∷ 117 ∷ h ∷ i ∷ j ∷ k ∷ es)
-unit_pair h i j k es ih a b f =
+unit_pair h i j k {es} ih a b f =
     let g : length f.after ≤ length es = let e = ap (λ (xs : List ℕ). length xs) f.is in omega arith in
     let r = ih f.after g f.body in
     let low = subst (λ xs. is_low_surrogate (unit xs) ≡ true) f.is b in
@@ -162,20 +162,20 @@ unit_case : (h i j k : ℕ) (es : List ℕ)
 unit_case h i j k es ih y true e =
     let f = all_so true (is_high_surrogate (four_digits (h ∷ i ∷ j ∷ k ∷ []))) (is_unicode es)
     (is_low_surrogate (unit es)) e in
-    unit_pair h i j k es ih f.0 f.2 (unit_front es f.1 y)
+    unit_pair h i j k ih f.0 f.2 (unit_front es f.1 y)
 unit_case h i j k es ih y false e = let r = ih es (omega arith) y in
     (four_digits (h ∷ i ∷ j ∷ k ∷ []) ∷ r.0, single h i j k es r.0 e r.1)
 
-ascii_case : (c : ℕ) (cs : List ℕ) → ((ds : List ℕ) → length ds ≤ length cs → IsBody (encode_utf8_all ds) → Stands ds)
+ascii_case : {c : ℕ} (cs : List ℕ) → ((ds : List ℕ) → length ds ≤ length cs → IsBody (encode_utf8_all ds) → Stands ds)
     → BodyBegins c (encode_utf8_all cs) → Stands (c ∷ cs)
-ascii_case c cs ih (by_plain p y) = let r = ih cs (omega arith) y in (c ∷ r.0, plain c cs r.0 (plain_other c p) r.1)
-ascii_case c cs ih (by_escape q e s f p y) =
+ascii_case {c} cs ih (by_plain p y) = let r = ih cs (omega arith) y in (c ∷ r.0, plain c cs r.0 (plain_other c p) r.1)
+ascii_case {c} cs ih (by_escape q e s f p y) =
     let a = next cs e s (escape_small e p) f in
     let g : length a.after ≤ length cs = let z = ap (λ (xs : List ℕ). length xs) a.is in omega arith in
     let r = ih a.after g (subst IsBody (sym a.left) y) in
     subst (λ xs. Stands (c ∷ xs)) (sym a.is)
     (subst (λ d. Stands (d ∷ e ∷ a.after)) (sym q) (_, letter e a.after r.0 (escape_other e p) r.1))
-ascii_case c cs ih (by_unicode q h i j k s f p y) =
+ascii_case {c} cs ih (by_unicode q h i j k s f p y) =
     let a = unit4 cs h i j k s f p in
     let g : length a.after ≤ length cs = let z = ap (λ (xs : List ℕ). length xs) a.is in omega arith in
     let r = unit_case h i j k a.after (λ ds l b. ih ds (omega arith) b) (subst IsBody (sym a.left) y)
@@ -187,7 +187,7 @@ stands n [] l y = ([], done)
 stands zero (c ∷ cs) l y = absurd (omega arith)
 stands (suc n) (c ∷ cs) l y =
     elim (cases_lt c 128) [
-      | inl m ↦ ascii_case c cs (λ ds g b. stands n ds (omega arith) b)
+      | inl m ↦ ascii_case cs (λ ds g b. stands n ds (omega arith) b)
           (body_begins (subst (λ xs. IsBody (xs ++ encode_utf8_all cs)) (encode_ascii c m) y) c (encode_utf8_all cs)
           refl)
       | inr g ↦ let r = stands n cs (omega arith) (strip (encode_utf8 c) (encode_utf8_all cs) (long_bytes c g) y) in
@@ -214,8 +214,8 @@ utf8_body body u =
     (IsUtf8-take xs (length body) v b)
 
 -- the text of a string is told by the cases of the grammar
-pub text_told : (s : List ℕ) → IsString s → IsUtf8 s → (ps : List ℕ) × StandFor (chars (body_of s)) ps
-text_told s h u =
+pub text_told : {s : List ℕ} → IsString s → IsUtf8 s → (ps : List ℕ) × StandFor (chars (body_of s)) ps
+text_told {s} h u =
     let b = h.body in
     let v = utf8_body b (subst IsUtf8 h.joined u) in
     let y = subst IsBody (sym v.1.1) h.body_is in

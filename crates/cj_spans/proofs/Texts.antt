@@ -44,10 +44,10 @@ lead_one bs i h l = ap chars (at_drop bs i h)
     ∙ lead_after (get_or bs i 0) 0 (get_or bs i 0) (drop (i + 1) bs) (grind (arith, nat_tests))
     (grind (arith, nat_tests))
 
-pub lead_two : (bs : List ℕ) (i c : ℕ) (o : Option CodePoint) → i < length bs → 128 ≤ get_or bs i 0
+pub lead_two : (bs : List ℕ) (i : ℕ) {c : ℕ} (o : Option CodePoint) → i < length bs → 128 ≤ get_or bs i 0
     → get_or bs i 0 < 224 → c ≡ get_or bs i 0 - 192 → chars_after 1 c (drop (i + 1) bs) ≡ after_read bs 0 o
     → chars (drop i bs) ≡ after_read bs 0 o
-lead_two bs i c o h l g e f = ap chars (at_drop bs i h)
+lead_two bs i {c} o h l g e f = ap chars (at_drop bs i h)
     ∙ lead_after (get_or bs i 0) 1 c (drop (i + 1) bs) (grind (arith, nat_tests)) (grind (arith, nat_tests)) ∙ f
 
 pub lead_three : (bs : List ℕ) (i c : ℕ) (o : Option CodePoint) → i < length bs → 224 ≤ get_or bs i 0
@@ -68,18 +68,18 @@ char_cons : (bs cs : List ℕ) (p : CodePoint) → p.code ∷ left bs p.stop ≡
 char_cons bs [] p h = cc
 char_cons bs (c ∷ cs) p h = let x : p.code ≡ c = cc in let y : left bs p.stop ≡ cs = cc in record { code = x; rest = y }
 
-pub char_some : (bs cs : List ℕ) (i : ℕ) (p : CodePoint) → left bs i ≡ after_read bs 0 (Some p) → left bs i ≡ cs
+pub char_some : (bs : List ℕ) {cs : List ℕ} (i : ℕ) (p : CodePoint) → left bs i ≡ after_read bs 0 (Some p) → left bs i ≡ cs
     → ReadsCodePoint bs cs (char_of cs 0) 1 p
-char_some bs cs i p h e = char_cons bs cs p (sym (chars_end p.code (drop p.stop bs)) ∙ sym h ∙ e)
+char_some bs {cs} i p h e = char_cons bs cs p (sym (chars_end p.code (drop p.stop bs)) ∙ sym h ∙ e)
 
 char_nil : (bs cs : List ℕ) (p : CodePoint) → [] ≡ cs → p.code ≡ 0 → left bs p.stop ≡ []
     → ReadsCodePoint bs cs (char_of cs 0) 1 p
 char_nil bs [] p h z e = record { code = z; rest = e }
 char_nil bs (c ∷ cs) p h z e = cc
 
-pub char_none : (bs cs : List ℕ) (i : ℕ) (p : CodePoint) → left bs i ≡ [] → left bs i ≡ cs → p.code ≡ 0
+pub char_none : (bs : List ℕ) {cs : List ℕ} (i : ℕ) (p : CodePoint) → left bs i ≡ [] → left bs i ≡ cs → p.code ≡ 0
     → p.stop ≡ length bs → ReadsCodePoint bs cs (char_of cs 0) 1 p
-char_none bs cs i p h e z s = char_nil bs cs p (sym h ∙ e) z (ap (left bs) s ∙ chars_past bs (length bs) (omega arith))
+char_none bs {cs} i p h e z s = char_nil bs cs p (sym h ∙ e) z (ap (left bs) s ∙ chars_past bs (length bs) (omega arith))
 
 at_next : (cs : List ℕ) (k : ℕ) → char_of (drop 1 cs) k ≡ char_of cs (suc k)
 at_next [] k = refl
@@ -96,37 +96,37 @@ at_fourth cs = ap (λ xs. char_of xs 0) (sym (drop-drop 1 2 cs)) ∙ at_next (dr
     ∙ ap (λ xs. char_of xs 1) (sym (drop-drop 1 1 cs)) ∙ at_next (drop 1 cs) 1 ∙ at_next cs 2
 
 -- what comes after two steps
-pub takes_on : (bs cs : List ℕ) (x n m : ℕ) (p : CodePoint) → ReadsCodePoint bs cs x n p → (y : ℕ) (q : CodePoint)
+pub takes_on : {bs cs : List ℕ} (x n m : ℕ) (p : CodePoint) → ReadsCodePoint bs cs x n p → {y : ℕ} {q : CodePoint}
     → ReadsCodePoint bs (drop n cs) y m q → ReadsCodePoint bs cs y (n + m) q
-takes_on bs cs x n m p t y q u = record { code = u.code; rest = u.rest ∙ drop-drop m n cs }
+takes_on {cs} x n m p t u = record { code = u.code; rest = u.rest ∙ drop-drop m n cs }
 
 digits_same : (a b c d : ℕ) → (a * 16 + b) * 256 + (c * 16 + d) ≡ ((a * 16 + b) * 16 + c) * 16 + d
 digits_same a b c d = omega arith
 
-digits_by : (a b c d e f g h : ℕ) → a ≡ e → b ≡ f → c ≡ g → d ≡ h
+digits_by : {a b c d e f g h : ℕ} → a ≡ e → b ≡ f → c ≡ g → d ≡ h
     → (a * 16 + b) * 256 + (c * 16 + d) ≡ ((e * 16 + f) * 16 + g) * 16 + h
-digits_by a b c d e f g h i j k l = digits_same a b c d ∙ (λ n. ((i n * 16 + j n) * 16 + k n) * 16 + l n)
+digits_by {a} {b} {c} {d} i j k l = digits_same a b c d ∙ (λ n. ((i n * 16 + j n) * 16 + k n) * 16 + l n)
 
 -- four digits after one another
-pub digits_read : (bs cs : List ℕ) (p q r s : CodePoint) (a b c d : ℕ) → ReadsCodePoint bs cs (char_of cs 0) 1 p
+pub digits_read : {bs cs : List ℕ} {p q r s : CodePoint} {a b c d : ℕ} → ReadsCodePoint bs cs (char_of cs 0) 1 p
     → ReadsCodePoint bs (drop 1 cs) (char_of (drop 1 cs) 0) 1 q
     → ReadsCodePoint bs (drop 2 cs) (char_of (drop 2 cs) 0) 1 r
     → ReadsCodePoint bs (drop 3 cs) (char_of (drop 3 cs) 0) 1 s
     → a ≡ digit_value p.code → b ≡ digit_value q.code → c ≡ digit_value r.code → d ≡ digit_value s.code
     → ReadsCodePoint bs cs (four_digits cs) 4 (record { code = (a * 16 + b) * 256 + (c * 16 + d); stop = s.stop })
-digits_read bs cs p q r s a b c d t u v w i j k l = record {
-  code = digits_by a b c d _ _ _ _ (i ∙ ap digit_value t.code) (j ∙ ap digit_value (u.code ∙ at_second cs))
+digits_read {cs} t u v w i j k l = record {
+  code = digits_by (i ∙ ap digit_value t.code) (j ∙ ap digit_value (u.code ∙ at_second cs))
       (k ∙ ap digit_value (v.code ∙ at_third cs)) (l ∙ ap digit_value (w.code ∙ at_fourth cs));
   rest = w.rest ∙ drop-drop 1 3 cs;
 }
 
-pub rest_two : (bs cs : List ℕ) (x y : ℕ) (p q : CodePoint) → ReadsCodePoint bs cs x 1 p
+pub rest_two : {bs cs : List ℕ} {x y : ℕ} {p q : CodePoint} → ReadsCodePoint bs cs x 1 p
     → ReadsCodePoint bs (drop 1 cs) y 1 q → left bs q.stop ≡ drop 2 cs
-rest_two bs cs x y p q t u = u.rest ∙ drop-drop 1 1 cs
+rest_two {cs} t u = u.rest ∙ drop-drop 1 1 cs
 
-pub rest_three : (bs cs : List ℕ) (y : ℕ) (r : CodePoint) → ReadsCodePoint bs (drop 2 cs) y 1 r
+pub rest_three : {bs : List ℕ} (cs : List ℕ) {y : ℕ} {r : CodePoint} → ReadsCodePoint bs (drop 2 cs) y 1 r
     → left bs r.stop ≡ drop 3 cs
-rest_three bs cs y r u = u.rest ∙ drop-drop 1 2 cs
+rest_three cs u = u.rest ∙ drop-drop 1 2 cs
 
 -- ---- code points
 
@@ -134,37 +134,33 @@ pub pair_shown : (cs : List ℕ) → is_unicode cs ≡ true → is_high_surrogat
     → is_unicode (drop 6 cs) ≡ true → is_low_surrogate (unit (drop 6 cs)) ≡ true → is_pair cs ≡ true
 pair_shown cs a b c d = both_true (both_true (both_true a b) c) d
 
-first_not : (a b c d : Bool) → b ≡ false → a && b && c && d ≡ false
-first_not a b c d h = grind (arith)
+first_not : (a : Bool) {b : Bool} (c d : Bool) → b ≡ false → a && b && c && d ≡ false
+first_not a c d h = grind (arith)
 
 pub not_high : (cs : List ℕ) → is_high_surrogate (unit cs) ≡ false → is_pair cs ≡ false
 not_high cs h =
-    first_not (is_unicode cs) (is_high_surrogate (unit cs)) (is_unicode (drop 6 cs))
-    (is_low_surrogate (unit (drop 6 cs))) h
+    first_not (is_unicode cs) (is_unicode (drop 6 cs)) (is_low_surrogate (unit (drop 6 cs))) h
 
-third_not : (a b c d : Bool) → c ≡ false → a && b && c && d ≡ false
-third_not a b c d h = grind (arith)
+third_not : (a b : Bool) {c : Bool} (d : Bool) → c ≡ false → a && b && c && d ≡ false
+third_not a b d h = grind (arith)
 
 pub not_followed : (cs : List ℕ) → is_unicode (drop 6 cs) ≡ false → is_pair cs ≡ false
 not_followed cs h =
-    third_not (is_unicode cs) (is_high_surrogate (unit cs)) (is_unicode (drop 6 cs))
-    (is_low_surrogate (unit (drop 6 cs))) h
+    third_not (is_unicode cs) (is_high_surrogate (unit cs)) (is_low_surrogate (unit (drop 6 cs))) h
 
-fourth_not : (a b c d : Bool) → d ≡ false → a && b && c && d ≡ false
-fourth_not a b c d h = grind (arith)
+fourth_not : (a b c : Bool) {d : Bool} → d ≡ false → a && b && c && d ≡ false
+fourth_not a b c h = grind (arith)
 
 pub not_low : (cs : List ℕ) → is_low_surrogate (unit (drop 6 cs)) ≡ false → is_pair cs ≡ false
 not_low cs h =
-    fourth_not (is_unicode cs) (is_high_surrogate (unit cs)) (is_unicode (drop 6 cs))
-    (is_low_surrogate (unit (drop 6 cs))) h
+    fourth_not (is_unicode cs) (is_high_surrogate (unit cs)) (is_unicode (drop 6 cs)) h
 
-zeroth_not : (a b c d : Bool) → a ≡ false → a && b && c && d ≡ false
-zeroth_not a b c d h = grind (arith)
+zeroth_not : {a : Bool} (b c d : Bool) → a ≡ false → a && b && c && d ≡ false
+zeroth_not b c d h = grind (arith)
 
 not_unicode : (cs : List ℕ) → is_unicode cs ≡ false → is_pair cs ≡ false
 not_unicode cs h =
-    zeroth_not (is_unicode cs) (is_high_surrogate (unit cs)) (is_unicode (drop 6 cs))
-    (is_low_surrogate (unit (drop 6 cs))) h
+    zeroth_not (is_high_surrogate (unit cs)) (is_unicode (drop 6 cs)) (is_low_surrogate (unit (drop 6 cs))) h
 
 not_escaped : (cs : List ℕ) → is_escaped cs ≡ false → is_unicode cs ≡ false
 not_escaped cs h = ap (λ v. v && nat_eq (char_of cs 1) 117) h
@@ -213,26 +209,26 @@ first_plain : (cs : List ℕ) → is_escaped cs ≡ false → (first_code_point 
 first_plain cs a = let e = no_unit cs (not_escaped cs a) in
     (e.0 ∙ ap (λ v. cond v (escaped (char_of cs 1)) (char_of cs 0)) a, e.1 ∙ ap (λ v. cond v 2 1) a)
 
-taken : (bs cs : List ℕ) (p : CodePoint) (x n : ℕ) → (first_code_point cs ≡ x) × (first_width cs ≡ n)
+taken : {bs cs : List ℕ} {p : CodePoint} {x n : ℕ} → (first_code_point cs ≡ x) × (first_width cs ≡ n)
     → ReadsCodePoint bs cs x n p → ReadsCodePoint bs cs (first_code_point cs) (first_width cs) p
-taken bs cs p x n e t = record { code = t.code ∙ sym e.0; rest = t.rest ∙ ap (λ m. drop m cs) (sym e.1) }
+taken {cs} e t = record { code = t.code ∙ sym e.0; rest = t.rest ∙ ap (λ m. drop m cs) (sym e.1) }
 
-pub pair_taken : (bs cs : List ℕ) (p : CodePoint) → is_pair cs ≡ true
+pub pair_taken : {bs cs : List ℕ} {p : CodePoint} → is_pair cs ≡ true
     → ReadsCodePoint bs cs (surrogate_pair_char (unit cs) (unit (drop 6 cs))) 12 p
     → ReadsCodePoint bs cs (first_code_point cs) (first_width cs) p
-pair_taken bs cs p h t = taken bs cs p _ _ (first_pair cs h) t
+pair_taken {cs} h t = taken (first_pair cs h) t
 
-pub unit_taken : (bs cs : List ℕ) (p : CodePoint) → is_pair cs ≡ false → is_unicode cs ≡ true
+pub unit_taken : {bs cs : List ℕ} {p : CodePoint} → is_pair cs ≡ false → is_unicode cs ≡ true
     → ReadsCodePoint bs cs (unit cs) 6 p → ReadsCodePoint bs cs (first_code_point cs) (first_width cs) p
-unit_taken bs cs p h g t = taken bs cs p _ _ (first_unit cs h g) t
+unit_taken {cs} h g t = taken (first_unit cs h g) t
 
-pub letter_taken : (bs cs : List ℕ) (p : CodePoint) → is_unicode cs ≡ false → is_escaped cs ≡ true
+pub letter_taken : {bs cs : List ℕ} {p : CodePoint} → is_unicode cs ≡ false → is_escaped cs ≡ true
     → ReadsCodePoint bs cs (escaped (char_of cs 1)) 2 p → ReadsCodePoint bs cs (first_code_point cs) (first_width cs) p
-letter_taken bs cs p g a t = taken bs cs p _ _ (first_letter cs g a) t
+letter_taken {cs} g a t = taken (first_letter cs g a) t
 
-pub plain_taken : (bs cs : List ℕ) (p : CodePoint) → is_escaped cs ≡ false → ReadsCodePoint bs cs (char_of cs 0) 1 p
+pub plain_taken : {bs cs : List ℕ} {p : CodePoint} → is_escaped cs ≡ false → ReadsCodePoint bs cs (char_of cs 0) 1 p
     → ReadsCodePoint bs cs (first_code_point cs) (first_width cs) p
-plain_taken bs cs p a t = taken bs cs p _ _ (first_plain cs a) t
+plain_taken {cs} a t = taken (first_plain cs a) t
 
 -- the text goes on after its first point
 points_drop : (n : ℕ) (cs : List ℕ) → code_points_after n cs ≡ code_points_after 0 (drop n cs)
@@ -253,9 +249,9 @@ width_some cs =
       ]
     ]
 
-drop_width : (c : ℕ) (cs : List ℕ) (w n : ℕ) → w ≡ suc n
+drop_width : (c : ℕ) (cs : List ℕ) {w : ℕ} (n : ℕ) → w ≡ suc n
     → code_points_after (w - 1) cs ≡ code_points_after 0 (drop w (c ∷ cs))
-drop_width c cs w n h =
+drop_width c cs {w} n h =
     let k : w - 1 ≡ n = omega arith in
     ap (λ m. code_points_after m cs) k ∙ points_drop n cs ∙ ap (λ m. code_points_after 0 (drop m (c ∷ cs))) (sym h)
 
@@ -264,7 +260,7 @@ pub points_cons : (c : ℕ) (cs : List ℕ)
     (drop (first_width (c ∷ cs)) (c ∷ cs))
 unfolding code_points_after
 points_cons c cs = let w = width_some (c ∷ cs) in
-    ap (λ ps. first_code_point (c ∷ cs) ∷ ps) (drop_width c cs (first_width (c ∷ cs)) w.0 w.1)
+    ap (λ ps. first_code_point (c ∷ cs) ∷ ps) (drop_width c cs w.0 w.1)
 
 pub points_nil : code_points_after 0 [] ≡ []
 unfolding code_points_after
@@ -272,68 +268,66 @@ points_nil = refl
 
 -- ---- a unit and what follows it
 
-pub join_lone : (bs cs : List ℕ) (h : CodePoint) → is_high_surrogate h.code ≡ false → is_unicode cs ≡ true
+pub join_lone : {bs cs : List ℕ} {h : CodePoint} → is_high_surrogate h.code ≡ false → is_unicode cs ≡ true
     → ReadsCodePoint bs cs (unit cs) 6 h → ReadsCodePoint bs cs (first_code_point cs) (first_width cs) h
-join_lone bs cs h n u t = unit_taken bs cs h (not_high cs (ap is_high_surrogate (sym t.code) ∙ n)) u t
+join_lone {cs} n u t = unit_taken (not_high cs (ap is_high_surrogate (sym t.code) ∙ n)) u t
 
-pub join_other : (bs cs : List ℕ) (h : CodePoint) → is_unicode (drop 6 cs) ≡ false → is_unicode cs ≡ true
+pub join_other : {bs cs : List ℕ} {h : CodePoint} → is_unicode (drop 6 cs) ≡ false → is_unicode cs ≡ true
     → ReadsCodePoint bs cs (unit cs) 6 h → ReadsCodePoint bs cs (first_code_point cs) (first_width cs) h
-join_other bs cs h n u t = unit_taken bs cs h (not_followed cs n) u t
+join_other {cs} n u t = unit_taken (not_followed cs n) u t
 
-pub join_not_low : (bs cs : List ℕ) (h l : CodePoint) → ReadsCodePoint bs (drop 6 cs) (unit (drop 6 cs)) 6 l
+pub join_not_low : {bs cs : List ℕ} {h l : CodePoint} → ReadsCodePoint bs (drop 6 cs) (unit (drop 6 cs)) 6 l
     → is_low_surrogate l.code ≡ false → is_unicode cs ≡ true → ReadsCodePoint bs cs (unit cs) 6 h
     → ReadsCodePoint bs cs (first_code_point cs) (first_width cs) h
-join_not_low bs cs h l s n u t = unit_taken bs cs h (not_low cs (ap is_low_surrogate (sym s.code) ∙ n)) u t
+join_not_low {cs} s n u t = unit_taken (not_low cs (ap is_low_surrogate (sym s.code) ∙ n)) u t
 
-pub join_pair : (bs cs : List ℕ) (h l : CodePoint) → is_high_surrogate h.code ≡ true → is_unicode (drop 6 cs) ≡ true
+pub join_pair : {bs cs : List ℕ} {h l : CodePoint} → is_high_surrogate h.code ≡ true → is_unicode (drop 6 cs) ≡ true
     → ReadsCodePoint bs (drop 6 cs) (unit (drop 6 cs)) 6 l → is_low_surrogate l.code ≡ true → is_unicode cs ≡ true
     → ReadsCodePoint bs cs (unit cs) 6 h
     → ReadsCodePoint bs cs (first_code_point cs) (first_width cs)
     (record { code = surrogate_pair_char h.code l.code; stop = l.stop })
-join_pair bs cs h l m f s n u t =
-    pair_taken bs cs _ (pair_shown cs u (ap is_high_surrogate (sym t.code) ∙ m) f
-    (ap is_low_surrogate (sym s.code) ∙ n))
+join_pair {cs} {l} m f s n u t =
+    pair_taken (pair_shown cs u (ap is_high_surrogate (sym t.code) ∙ m) f (ap is_low_surrogate (sym s.code) ∙ n))
     (record {
       code = ap (λ x. surrogate_pair_char x l.code) t.code ∙ ap (surrogate_pair_char (unit cs)) s.code;
       rest = s.rest ∙ drop-drop 6 6 cs;
     })
 
-pub letter_read : (bs cs : List ℕ) (p q : CodePoint) (x : ℕ) → is_unicode cs ≡ false → is_escaped cs ≡ true
+pub letter_read : {bs cs : List ℕ} {p q : CodePoint} {x : ℕ} → is_unicode cs ≡ false → is_escaped cs ≡ true
     → ReadsCodePoint bs cs (char_of cs 0) 1 p → ReadsCodePoint bs (drop 1 cs) (char_of (drop 1 cs) 0) 1 q
     → x ≡ escaped q.code → ReadsCodePoint bs cs (first_code_point cs) (first_width cs)
     (record { code = x; stop = q.stop })
-letter_read bs cs p q x n a t u e =
-    letter_taken bs cs _ n a
-    (record { code = e ∙ ap escaped (u.code ∙ at_second cs); rest = rest_two bs cs _ _ p q t u })
+letter_read {cs} n a t u e =
+    letter_taken n a (record { code = e ∙ ap escaped (u.code ∙ at_second cs); rest = rest_two t u })
 
 -- ---- walks over characters and code points
 
 char_first : (bs : List ℕ) (i : ℕ) (f : CodePoint) → left bs i ≡ after_read bs 0 (Some f)
     → ReadsCodePoint bs (left bs i) (char_of (left bs i) 0) 1 f
-char_first bs i f h = char_some bs (left bs i) i f h refl
+char_first bs i f h = char_some bs i f h refl
 
 pub plain_point : (bs : List ℕ) (i : ℕ) (f : CodePoint) → left bs i ≡ after_read bs 0 (Some f)
     → nat_eq f.code 92 ≡ false
     → ReadsCodePoint bs (left bs i) (first_code_point (left bs i)) (first_width (left bs i)) f
 plain_point bs i f h n = let t = char_first bs i f h in
-    plain_taken bs (left bs i) f (ap (λ x. nat_eq x 92) (sym t.code) ∙ n) t
+    plain_taken (ap (λ x. nat_eq x 92) (sym t.code) ∙ n) t
 
 pub escaped_point : (bs : List ℕ) (i : ℕ) (f : CodePoint) → left bs i ≡ after_read bs 0 (Some f)
     → nat_eq f.code 92 ≡ true → is_escaped (left bs i) ≡ true
 escaped_point bs i f h n = let t = char_first bs i f h in ap (λ x. nat_eq x 92) (sym t.code) ∙ n
 
-points_at : (bs cs ds : List ℕ) (f p : CodePoint) → cs ≡ f.code ∷ ds
+points_at : {bs : List ℕ} (cs ds : List ℕ) (f : CodePoint) {p : CodePoint} → cs ≡ f.code ∷ ds
     → ReadsCodePoint bs cs (first_code_point cs) (first_width cs) p
     → code_points_after 0 cs ≡ p.code ∷ code_points_after 0 (left bs p.stop)
-points_at bs [] ds f p h t = cc
-points_at bs (c ∷ cs) ds f p h t = points_cons c cs
+points_at [] ds f h t = cc
+points_at (c ∷ cs) ds f {p} h t = points_cons c cs
     ∙ ap (λ x. x ∷ code_points_after 0 (drop (first_width (c ∷ cs)) (c ∷ cs))) (sym t.code)
     ∙ ap (λ xs. p.code ∷ code_points_after 0 xs) (sym t.rest)
 
-pub points_step : (bs : List ℕ) (i : ℕ) (f p : CodePoint) → left bs i ≡ after_read bs 0 (Some f)
+pub points_step : {bs : List ℕ} (i : ℕ) (f : CodePoint) {p : CodePoint} → left bs i ≡ after_read bs 0 (Some f)
     → ReadsCodePoint bs (left bs i) (first_code_point (left bs i)) (first_width (left bs i)) p
     → code_points_after 0 (left bs i) ≡ p.code ∷ code_points_after 0 (left bs p.stop)
-points_step bs i f p h t = points_at bs (left bs i) (left bs f.stop) f p (h ∙ chars_end f.code (drop f.stop bs)) t
+points_step {bs} i f h t = points_at (left bs i) (left bs f.stop) f (h ∙ chars_end f.code (drop f.stop bs)) t
 
 pub points_done : (bs : List ℕ) (i : ℕ) → left bs i ≡ [] → code_points_after 0 (left bs i) ≡ []
 points_done bs i h = ap (code_points_after 0) h ∙ points_nil
@@ -348,15 +342,15 @@ pub plain_character : (bs : List ℕ) (i : ℕ) → i < length bs → get_or bs 
     → left bs i ≡ get_or bs i 0 ∷ left bs (i + 1)
 plain_character bs i h l = lead_one bs i h l ∙ chars_end (get_or bs i 0) (drop (i + 1) bs)
 
-points_go_on : (c : ℕ) (cs ds ps : List ℕ) (x n : ℕ) → (first_code_point (c ∷ cs) ≡ x) × (first_width (c ∷ cs) ≡ n)
+points_go_on : (c : ℕ) (cs ds : List ℕ) {ps : List ℕ} {x n : ℕ} → (first_code_point (c ∷ cs) ≡ x) × (first_width (c ∷ cs) ≡ n)
     → drop n (c ∷ cs) ≡ ds → code_points_after 0 ds ≡ ps → code_points_after 0 (c ∷ cs) ≡ x ∷ ps
-points_go_on c cs ds ps x n e d h =
+points_go_on c cs ds {x} e d h =
     points_cons c cs ∙ ap (λ y. y ∷ code_points_after 0 (drop (first_width (c ∷ cs)) (c ∷ cs))) e.0
     ∙ ap (λ m. x ∷ code_points_after 0 (drop m (c ∷ cs))) e.1 ∙ ap (λ us. x ∷ code_points_after 0 us) d
     ∙ ap (λ us. x ∷ us) h
 
 plain_cons : (c : ℕ) (cs : List ℕ) → nat_eq c 92 ≡ false → code_points_after 0 (c ∷ cs) ≡ c ∷ code_points_after 0 cs
-plain_cons c cs n = points_go_on c cs cs (code_points_after 0 cs) c 1 (first_plain (c ∷ cs) n) refl refl
+plain_cons c cs n = points_go_on c cs cs {ps = code_points_after 0 cs} (first_plain (c ∷ cs) n) refl refl
 
 pub plain_code : (bs : List ℕ) (i : ℕ) → i < length bs → get_or bs i 0 < 128 → nat_eq (get_or bs i 0) 92 ≡ false
     → code_points_from bs i ≡ get_or bs i 0 ∷ code_points_from bs (i + 1)
@@ -385,10 +379,10 @@ order_differs x y xs ys n =
           ∙ sym (λ k. cond (e k) Less (cond (n k) Equal Greater))
     ]
 
-pub order_apart : (bs ds : List ℕ) (i j b c : ℕ) → (i < length bs) × (b ≡ get_or bs i 0) → (j < length ds)
+pub order_apart : (bs ds : List ℕ) (i j : ℕ) {b c : ℕ} → (i < length bs) × (b ≡ get_or bs i 0) → (j < length ds)
     × (c ≡ get_or ds j 0) → nat_eq b c ≡ false → (b < 128) × (c < 128) → (nat_eq b 92 ≡ false) × (nat_eq c 92 ≡ false)
     → compare (code_points_from bs i) (code_points_from ds j) ≡ nat_cmp b c
-order_apart bs ds i j b c f g n a p =
+order_apart bs ds i j {b} {c} f g n a p =
     let x = plain_code bs i f.0 (omega (arith, f.1)) (ap (λ v. nat_eq v 92) (sym f.1) ∙ p.0)
     ∙ ap (λ v. v ∷ code_points_from bs (i + 1)) (sym f.1) in
     let y = plain_code ds j g.0 (omega (arith, g.1)) (ap (λ v. nat_eq v 92) (sym g.1) ∙ p.1)
@@ -462,15 +456,15 @@ other_texts s o h k a n d = let p = text_front o k a.1 n.1 in
 
 pub stands_once : {cs ps : List ℕ} → StandFor cs ps → code_points_after 0 cs ≡ ps
 stands_once done = points_nil
-stands_once (plain c cs ps e s) = points_go_on c cs cs ps c 1 (first_plain (c ∷ cs) e) refl (stands_once s)
+stands_once (plain c cs ps e s) = points_go_on c cs cs (first_plain (c ∷ cs) e) refl (stands_once s)
 stands_once (letter c cs ps e s) =
-    points_go_on 92 (c ∷ cs) cs ps (escaped c) 2 (first_letter (92 ∷ c ∷ cs) e refl) refl (stands_once s)
+    points_go_on 92 (c ∷ cs) cs (first_letter (92 ∷ c ∷ cs) e refl) refl (stands_once s)
 stands_once (single h i j k cs ps e s) =
-    points_go_on 92 (117 ∷ h ∷ i ∷ j ∷ k ∷ cs) cs ps _ 6 (first_unit (92 ∷ 117 ∷ h ∷ i ∷ j ∷ k ∷ cs) e refl) refl
+    points_go_on 92 (117 ∷ h ∷ i ∷ j ∷ k ∷ cs) cs (first_unit (92 ∷ 117 ∷ h ∷ i ∷ j ∷ k ∷ cs) e refl) refl
     (stands_once s)
 stands_once (pair h i j k l m n o cs ps e f s) =
     let cs0 = 92 ∷ 117 ∷ h ∷ i ∷ j ∷ k ∷ 92 ∷ 117 ∷ l ∷ m ∷ n ∷ o ∷ cs in
-    points_go_on 92 (117 ∷ h ∷ i ∷ j ∷ k ∷ 92 ∷ 117 ∷ l ∷ m ∷ n ∷ o ∷ cs) cs ps _ 12
+    points_go_on 92 (117 ∷ h ∷ i ∷ j ∷ k ∷ 92 ∷ 117 ∷ l ∷ m ∷ n ∷ o ∷ cs) cs
     (first_pair cs0 (pair_shown cs0 refl e refl f)) refl (stands_once s)
 
 -- ---- bytes that two strings share
@@ -498,20 +492,20 @@ pub alike_first : (bs : List ℕ) (i : ℕ) (ds : List ℕ) (j n : ℕ) → i + 
 alike_first bs i ds j n h k a = record { within = omega arith; within_other = omega arith; alike = a }
 
 -- more of them are alike, by a look that begins no later than where the first look ended
-pub alike_more : (bs : List ℕ) (i : ℕ) (ds : List ℕ) (j n last m all : ℕ) → StartAlike bs i ds j n → last ≤ n
+pub alike_more : {bs : List ℕ} {i : ℕ} {ds : List ℕ} {j n : ℕ} (last m : ℕ) {all : ℕ} → StartAlike bs i ds j n → last ≤ n
     → last + m ≡ all → all ≤ length bs - i → all ≤ length ds - j → AreAlike bs (i + last) ds (j + last) m
     → StartAlike bs i ds j all
-alike_more bs i ds j n last m all s c e h k a = subst (StartAlike bs i ds j) e (record {
+alike_more {bs} {i} {ds} {j} {n} last m s c e h k a = subst (StartAlike bs i ds j) e (record {
   within = omega arith;
   within_other = omega arith;
   alike = alike_on bs i ds j n last m s.alike c a;
 })
 
-pub alike_one_more : (bs : List ℕ) (i : ℕ) (ds : List ℕ) (j n : ℕ) → StartAlike bs i ds j n → n < length bs - i
+pub alike_one_more : {bs : List ℕ} {i : ℕ} {ds : List ℕ} {j n : ℕ} → StartAlike bs i ds j n → n < length bs - i
     → n < length ds - j → get_or bs (i + n) 0 ≡ get_or ds (j + n) 0 → get_or bs (i + n) 0 < 128
     → nat_eq (get_or bs (i + n) 0) 92 ≡ false → StartAlike bs i ds j (n + 1)
-alike_one_more bs i ds j n s h k same low other =
-    alike_more bs i ds j n n 1 (n + 1) s (omega arith) refl (omega arith) (omega arith) (λ l m.
+alike_one_more {bs} {i} {ds} {j} {n} s h k same low other =
+    alike_more n 1 s (omega arith) refl (omega arith) (omega arith) (λ l m.
     let z : l ≡ 0 = omega arith in
     let x : i + n + l ≡ i + n = omega arith in
     let y : j + n + l ≡ j + n = omega arith in (
@@ -584,17 +578,17 @@ order_behind [] cs ds = refl
 order_behind (x ∷ fs) cs ds = order_behind fs cs ds
     ∙ sym (ap (λ o. ordering_then o (compare (fs ++ cs) (fs ++ ds))) (number_equal x))
 
-pub order_passed : (bs : List ℕ) (i : ℕ) (ds : List ℕ) (j n : ℕ) → StartAlike bs i ds j n
+pub order_passed : {bs : List ℕ} {i : ℕ} {ds : List ℕ} {j n : ℕ} → StartAlike bs i ds j n
     → compare (code_points_from bs (i + n)) (code_points_from ds (j + n)) ≡ compare (code_points_from bs i)
     (code_points_from ds j)
-order_passed bs i ds j n s =
+order_passed {bs} {i} {ds} {j} {n} s =
     let f = shared_front n bs i ds j s.within s.within_other s.alike in
     order_behind f.0 (code_points_from bs (i + n)) (code_points_from ds (j + n))
     ∙ (λ k. compare (sym f.1 k) (sym f.2 k))
 
-pub fewer_left : (bs : List ℕ) (i : ℕ) (ds : List ℕ) (j n : ℕ) → StartAlike bs i ds j n
+pub fewer_left : {bs : List ℕ} {i : ℕ} {ds : List ℕ} {j n : ℕ} → StartAlike bs i ds j n
     → length (code_points_from bs (i + n)) ≤ length (code_points_from bs i)
-fewer_left bs i ds j n s =
+fewer_left {bs} {i} {ds} {j} {n} s =
     let f = shared_front n bs i ds j s.within s.within_other s.alike in
     let l = ap length f.1 in
     let a = length-append f.0 (code_points_from bs (i + n)) in

@@ -95,8 +95,8 @@ no_exp : (e : List ℕ) → IsExp e → EachInWhole e → e ≡ []
 no_exp [] h g = refl
 no_exp (b ∷ e) h g = absurd (not_mark b g.0 h.0)
 
-pub whole_from : (s : List ℕ) → IsNumber s → ((n : ℕ) → n < length s → IsInWhole (get_or s n 0)) → IsWholeNumber s
-whole_from s w each =
+pub whole_from : {s : List ℕ} → IsNumber s → ((n : ℕ) → n < length s → IsInWhole (get_or s n 0)) → IsWholeNumber s
+whole_from {s} w each =
     let all = subst EachInWhole w.joined (each_from s each) in
     let right = each_right w.int (w.frac ++ w.exp) (each_right w.minus (w.int ++ (w.frac ++ w.exp)) all) in
     let f = no_frac w.frac w.exp w.frac_is right in
@@ -192,8 +192,7 @@ module _ (b : List ℕ) (ts : List Token) (within : AreWithin b ts) (rising : Ar
       let shown = spelling_shown b ts m u g in
       let long = slice-length b u.start u.stop (omega arith) w.1 in
       let whole =
-      whole_from (slice_range b u.start u.stop)
-      (told_number (slice_range b u.start u.stop) ((spelled m u g).0 number))
+      whole_from (told_number (slice_range b u.start u.stop) ((spelled m u g).0 number))
       (λ n f. subst IsInWhole (slice_has b u.start u.stop n f)
       (sign_in (byte b (u.start + n)) (sign_at (u.start + n) (omega arith) (omega arith)))) in
       let tree = below_at b ts m u g in
@@ -204,7 +203,7 @@ module _ (b : List ℕ) (ts : List Token) (within : AreWithin b ts) (rising : Ar
         after = after;
         some = some;
         before_end = end;
-        kind = sym (kind_shown b ts m u Number g (sym number));
+        kind = sym (kind_shown b ts m u g (sym number));
         whole = subst IsWholeNumber shown whole;
         long = ap length (sym shown) ∙ omega (arith, long);
         lone = omega arith;
@@ -245,8 +244,8 @@ module _ (b : List ℕ) (ts : List Token) (within : AreWithin b ts) (rising : Ar
       let known = slice_get_within ts k t here in
       let to_end : LinksTo ts k (k + 4) = λ u g. sym four
       ∙ ap (λ (v : Token). k + 1 + before v.stop (drop (k + 1) ts)) (some_same t u (sym here ∙ g)) in
-      let w = items_from_link b ts k (k + 4) (k + 4) Array nested linked known to_end
-      (kind_shown b ts k t Array here (sym (ap kind_by array))) refl in
+      let w = items_from_link b ts k (k + 4) {n = k + 4} nested linked known to_end
+      (kind_shown b ts k t here (sym (ap kind_by array))) refl in
       let reach = w.whole.0 in
       let fx = below b ts (k + 1) (omega arith) in
       let fy = below b ts (k + 2) (omega arith) in

@@ -31,10 +31,10 @@ digit_from x l h = let e : (x + 208) % 256 ≤ 9 = grind (arith, nat_tests) in t
     test x a b = grind (arith, nat_tests)
 
 -- the marks of the m lanes above n
-marks_over : (m n : ℕ) (v : List ℕ) → length v ≡ m → m ≤ 64
+marks_over : {m : ℕ} (n : ℕ) (v : List ℕ) → length v ≡ m → m ≤ 64
     → mask_l (map (top 7) (zip2 (λ a c. cond (ltb a c) 255 0) (replicate m n) v)) % 2 ^ 64
     ≡ mask_l (map (λ y. ltb n y) v)
-marks_over m n v long few =
+marks_over {m} n v long few =
     ap (λ ms. mask_l ms % 2 ^ 64) (tops_compared w8 ltb (replicate m n) v ∙ zip2_splat_left ltb n m v long)
     ∙ mask_l-mod (map (λ y. ltb n y) v) 64 (omega (arith, length-map v (λ y. ltb n y)))
 
@@ -50,7 +50,7 @@ marks_are m b i room few =
     let long : length v ≡ m = length-chunk i m b room in
     ap (λ w. mask_l (map (top 7) (zip2 (λ a c. cond (ltb a c) 255 0) (replicate m 9) w)) % 2 ^ 64)
     (zip2_splat (λ a c. (a + (256 - c)) % 256) v m 48 long)
-    ∙ marks_over m 9 (map above v) (length-map v above ∙ long) few
+    ∙ marks_over 9 (map above v) (length-map v above ∙ long) few
     ∙ ap mask_l (map-map (λ y. ltb 9 y) above v)
 
 abbrev pub digit_marks : List ℕ → ℕ → ℕ
@@ -229,12 +229,11 @@ foreign_marks_are b i room =
     let long : length v ≡ 16 = length-chunk i 16 b room in
     let w = map (dropped 46) v in
     let long1 : length w ≡ 16 = length-map v (dropped 46) ∙ long in
-    ap (λ u. mask_l (map (top 7)
-    (zip2 (λ a c. cond (ltb a c) 255 0) (replicate 16 13)
+    ap (λ u. mask_l (map (top 7) (zip2 (λ a c. cond (ltb a c) 255 0) (replicate 16 13)
     (zip2 (λ a c. (a + (256 - c)) % 256) u (replicate 16 44)))) % 2 ^ 64) (without_is 46 v long)
     ∙ ap (λ u. mask_l (map (top 7) (zip2 (λ a c. cond (ltb a c) 255 0) (replicate 16 13) u)) % 2 ^ 64)
     (zip2_splat (λ a c. (a + (256 - c)) % 256) w 16 44 long1)
-    ∙ marks_over 16 13 (map (λ a. (a + 212) % 256) w) (length-map w (λ a. (a + 212) % 256) ∙ long1) (omega arith)
+    ∙ marks_over 13 (map (λ a. (a + 212) % 256) w) (length-map w (λ a. (a + 212) % 256) ∙ long1) (omega arith)
     ∙ ap mask_l (map-map (λ y. ltb 13 y) (λ a. (a + 212) % 256) w
     ∙ map-map (λ a. ltb 13 ((a + 212) % 256)) (dropped 46) v)
 
@@ -305,8 +304,8 @@ length_lanes (suc m) [] w a b = absurd (omega arith)
 length_lanes (suc m) (x ∷ v) [] a b = absurd (omega arith)
 length_lanes (suc m) (x ∷ v) (y ∷ w) a b = ap suc (length_lanes m v w (omega arith) (omega arith))
 
-shared_is : (m : ℕ) (v w : List ℕ) → length v ≡ m → shared m v w ≡ lanes m v w
-shared_is m v w a =
+shared_is : {m : ℕ} (v w : List ℕ) → length v ≡ m → shared m v w ≡ lanes m v w
+shared_is {m} v w a =
     ap (λ ms. sel_l ms (unescaped m v) (replicate m 255)) (tops_compared w8 eqb v w)
     ∙ ap (λ ms. sel_l (zip2 eqb v w) (sel_l ms (replicate m 255) v) (replicate m 255))
     (tops_compared w8 eqb v (replicate m 92) ∙ zip2_splat eqb v m 92 a)
@@ -326,7 +325,7 @@ alike_marks_are m b i o j few room there =
     let all = lanes_from m b i o j in
     let long : length all ≡ m = lanes_long m b i o j room there in
     ap (λ u. mask_l (map (top 7) (zip2 (λ x y. cond (ltb x y) 255 0) (replicate m 127) u)) % 2 ^ 64)
-    (shared_is m (chunk i m b) (chunk j m o) (length-chunk i m b room))
+    (shared_is (chunk i m b) (chunk j m o) (length-chunk i m b room))
     ∙ ap (λ ms. mask_l ms % 2 ^ 64) (tops_compared w8 ltb (replicate m 127) all ∙ zip2_splat_left ltb 127 m all long)
     ∙ mask_l-mod (map (λ y. ltb 127 y) all) 64 (omega (arith, length-map all (λ y. ltb 127 y)))
 

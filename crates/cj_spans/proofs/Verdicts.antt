@@ -47,10 +47,10 @@ root_only (root e w) h = (w, refl)
 root_only (in_array e j k ks ts us c o l w) h = cc
 root_only (in_member e j k l ks ts us n c o m d w) h = cc
 
-spells_at : {b : List ℕ} (e j k p q : ℕ) (ks : List ℕ) (ts us : List Token) (t : Tree) → Context b e ks ts
+spells_at : {b : List ℕ} {e j k : ℕ} (p q : ℕ) {ks : List ℕ} {ts : List Token} (us : List Token) (t : Tree) → Context b e ks ts
     → Value b e j t → White b j k → idle After ks (ts ++ flatten (length ts) t) k p ≡ idle After [] us (length b) q
     → Spells b us
-spells_at {b} e j k p q ks ts us t c v w h =
+spells_at {b} {e} {j} {k} p q {ks} {ts} us t c v w h =
     let s : ks ≡ [] = ap (λ u. u.stack) h in
     let n : k ≡ length b = ap (λ u. u.place) h in
     let r = root_only c s in
@@ -65,158 +65,153 @@ other_mode : {A : Type 0} (m : Mode) (ks ls : List ℕ) (ts us : List Token) (i 
     → Some (idle m ks ts i p) ≡ Some (idle After ls us j q) → A
 other_mode m ks ls ts us i j p q n h = absurd (n (same_mode m After (ap (λ u. u.phase) (some_same _ _ h))))
 
-pub spells : {b : List ℕ} (s : State) → Inv b s → (us : List Token) (q : ℕ)
+pub spells : {b : List ℕ} {s : State} → Inv b s → (us : List Token) (q : ℕ)
     → settle s ≡ Some (idle After [] us (length b) q) → Spells b us
-spells s (ready k p ks ts c) us q h = other_mode Ready _ _ _ _ _ _ _ _ (λ (e : Ready ≡ After). cc) h
-spells s (first_item e k p ks ts c o w) us q h = other_mode FirstItem _ _ _ _ _ _ _ _ (λ (e : FirstItem ≡ After). cc) h
-spells s (after_tree e j k p ks ts t c v w) us q h = spells_at e j k p q ks ts us t c v w (some_same _ _ h)
-spells s (first_name e k p ks ts c o w) us q h = other_mode FirstName _ _ _ _ _ _ _ _ (λ (e : FirstName ≡ After). cc) h
-spells s (next_name e j k p ks ts us0 c o l w) us q h =
+spells (ready k p ks ts c) us q h = other_mode Ready _ _ _ _ _ _ _ _ (λ (e : Ready ≡ After). cc) h
+spells (first_item e k p ks ts c o w) us q h = other_mode FirstItem _ _ _ _ _ _ _ _ (λ (e : FirstItem ≡ After). cc) h
+spells (after_tree e j k p ks ts t c v w) us q h = spells_at p q us t c v w (some_same _ _ h)
+spells (first_name e k p ks ts c o w) us q h = other_mode FirstName _ _ _ _ _ _ _ _ (λ (e : FirstName ≡ After). cc) h
+spells (next_name e j k p ks ts us0 c o l w) us q h =
     other_mode NextName _ _ _ _ _ _ _ _ (λ (e : NextName ≡ After). cc) h
-spells s (after_name e j l m k p ks ts us0 c o ld w0 wd w) us q h =
+spells (after_name e j l m k p ks ts us0 c o ld w0 wd w) us q h =
     other_mode AfterName _ _ _ _ _ _ _ _ (λ (e : AfterName ≡ After). cc) h
-spells {b} s (in_scalar e k p ks ts x c w) us q h = by_kind (lex_kind x) refl h
+spells {b} (in_scalar e k p ks ts x c w) us q h = by_kind (lex_kind x) refl h
   where
     by_kind : (r : Option Kind) → lex_kind x ≡ r → end_atom After e r (state (in_atom After e x) ks ts k p)
         ≡ Some (idle After [] us (length b) q) → Spells b us
     by_kind None kind h = none_some _ h
     by_kind (Some kd) kind h =
-        spells_at e k k p q ks ts us (scalar kd (atom_at b e k)) c (atom kd e k (atom_sound w kd kind)) (no_white b k)
+        spells_at p q us (scalar kd (atom_at b e k)) c (atom kd e k (atom_sound w kd kind)) (no_white b k)
         (some_same _ _ h)
-spells {b} s (in_name e j l k p ks ts us0 x c o ld w0 y w) us q h = by_name (lex_kind x) h
+spells {b} {s} (in_name e j l k p ks ts us0 x c o ld w0 y w) us q h = by_name (lex_kind x) h
   where
     by_name : (r : Option Kind) → end_atom AfterName l r s ≡ Some (idle After [] us (length b) q) → Spells b us
     by_name None h = none_some _ h
     by_name (Some kd) h = other_mode AfterName _ _ _ _ _ _ _ _ (λ (e : AfterName ≡ After). cc) h
 
 -- two ends of one line are the same
-same_end : (b : List ℕ) (x y s t : State) → Reaches b start s → Reaches b start t → settle s ≡ Some x
+same_end : {b : List ℕ} (x y : State) {s t : State} → Reaches b start s → Reaches b start t → settle s ≡ Some x
     → settle t ≡ Some y → x.place ≡ y.place → x ≡ y
-same_end b x y s t r q e f p =
-    let d : s ≡ t = same_state b s t r q ((settled s x e).place ∙ p ∙ sym (settled t y f).place) in
+same_end x y {s} {t} r q e f p =
+    let d : s ≡ t = same_state r q ((settled s x e).place ∙ p ∙ sym (settled t y f).place) in
     some_same x y (sym e ∙ ap settle d ∙ f)
 
 -- a line spells one tree at most
 pub json_only : (b : List ℕ) (t u : Tree) → Json b t → Json b u → u ≡ t
 json_only b t u j k =
     let r = run_json b t j in let q = run_json b u k in
-    let e = same_end b _ _ q.at r.at q.reached r.reached q.settles r.settles refl in
+    let e = same_end _ _ q.reached r.reached q.settles r.settles refl in
     let f : flatten 0 u ≡ flatten 0 t = ap (λ s. s.tokens) e in
     tree_by_preorder b u t k j (sym (spans_of-flatten 0 u) ∙ ap spans_of f ∙ spans_of-flatten 0 t)
 
-pub nest_of : (b : List ℕ) (t : Tree) (s : State) (us : List Token) (p : ℕ) → Json b t → Reaches b start s
+pub nest_of : {b : List ℕ} (t : Tree) {s : State} (us : List Token) (p : ℕ) → Json b t → Reaches b start s
     → settle s ≡ Some (idle After [] us (length b) p) → p ≡ nest t
-nest_of b t s us p j r h =
+nest_of {b} t us p j r h =
     let q = run_json b t j in
-    let e = same_end b (idle After [] us (length b) p) _ s q.at r q.reached h q.settles refl in
+    let e = same_end (idle After [] us (length b) p) _ r q.reached h q.settles refl in
     let f = rise-nest 0 0 t (omega arith) in
     let d : p ≡ rise 0 0 t = ap (λ u. u.deepest) e in
     omega arith
 
 -- ---- the places of faults
 
-next_stuck : (b : List ℕ) (s u : State) → Reaches b start s → step (byte b s.place) s ≡ None → Reaches b start u
+next_stuck : {b : List ℕ} {s u : State} → Reaches b start s → step (byte b s.place) s ≡ None → Reaches b start u
     → u.place ≡ suc s.place → ⊥
-next_stuck b s u r n here e = absurd (omega arith)
-next_stuck b s u r n (on t v q h) e =
-    let z = next_place t v q h in
-    let d : s ≡ t = same_state b s t r q (omega arith) in
+next_stuck r n here e = absurd (omega arith)
+next_stuck {b} {s} r n (on t v q h) e =
+    let z = next_place v q h in
+    let d : s ≡ t = same_state r q (omega arith) in
     none_some v (sym n ∙ ap (λ w. step (byte b w.place) w) d ∙ h)
 
-front_before : (b : List ℕ) (s : State) (k : ℕ) → Reaches b start s → k ≤ s.place → IsJsonPrefix b k
-front_before b s k r l =
-    let v = state_before b s k r l in
+front_before : {b : List ℕ} {s : State} (k : ℕ) → Reaches b start s → k ≤ s.place → IsJsonPrefix b k
+front_before {b} k r l =
+    let v = state_before k r l in
     record {
       open_count = length v.at.stack;
-      front = subst (λ n. JsonPrefix b 0 n (length v.at.stack)) v.place (inv_front v.at (inv_reaches b v.at v.reached));
+      front = subst (λ n. JsonPrefix b 0 n (length v.at.stack)) v.place (inv_front (inv_reaches v.reached));
     }
 
 live_at : (b : List ℕ) (i n : ℕ) → JsonPrefix b 0 i n → Live b start i (n + 0)
 live_at b i n f = front_runs f start Ready [] [] 0 tt here
 
-pub sticks_syntax : (b : List ℕ) (i : ℕ) → Sticks b start i → SyntaxAt b i
-sticks_syntax b i a =
+pub sticks_syntax : {b : List ℕ} {i : ℕ} → Sticks b start i → SyntaxAt b i
+sticks_syntax {b} {i} a =
     let e = a.at in
     elim a.stuck [
-      | inl z ↦ stuck z.0 (λ k h. front_before b a.last (suc k) a.reached (omega arith)) (λ f.
+      | inl z ↦ stuck z.0 (λ k h. front_before (suc k) a.reached (omega arith)) (λ f.
           let v = live_at b (suc i) f.open_count f.front in
-          next_stuck b a.last v.at a.reached (ap (λ n. step (byte b n) a.last) e ∙ z.1) v.reached
-          (v.place ∙ ap suc (sym e)))
-      | inr z ↦ short z.0 (λ k h. front_before b a.last (suc k) a.reached (omega arith)) (λ t j.
+          next_stuck a.reached (ap (λ n. step (byte b n) a.last) e ∙ z.1) v.reached (v.place ∙ ap suc (sym e)))
+      | inr z ↦ short z.0 (λ k h. front_before (suc k) a.reached (omega arith)) (λ t j.
           let v = run_json b t j in
           let d : a.last ≡ v.at =
-          same_state b a.last v.at a.reached v.reached (e ∙ z.0 ∙ sym (settled v.at _ v.settles).place) in
+          same_state a.reached v.reached (e ∙ z.0 ∙ sym (settled v.at _ v.settles).place) in
           z.1 (flatten 0 t) (rise 0 0 t) (ap settle d ∙ v.settles))
     ]
 
 -- no state that the machine comes to on its way has more containers open
-pub not_deeper : (b : List ℕ) (s : State) (d i n : ℕ) → Reaches b start s → s.deepest ≤ d → i ≤ s.place
+pub not_deeper : {b : List ℕ} {s : State} (d i n : ℕ) → Reaches b start s → s.deepest ≤ d → i ≤ s.place
     → JsonPrefix b 0 i n → d < n → ⊥
-not_deeper b s d i n r h l f g =
+not_deeper {b} d i n r h l f g =
     let v = live_at b i n f in
-    let w = state_before b s i r l in
-    let e : v.at ≡ w.at = same_state b v.at w.at v.reached w.reached (v.place ∙ sym w.place) in
-    let a = (lawful_reaches v.at v.reached).deep in
-    let c = w.below in let o = v.open_count in
+    let w = state_before i r l in
+    let e : v.at ≡ w.at = same_state v.reached w.reached (v.place ∙ sym w.place) in
+    let a = (lawful_reaches v.reached).deep in
     let q : v.at.deepest ≡ w.at.deepest = ap (λ u. u.deepest) e in
     absurd (omega arith)
 
-nowhere_deep : (b : List ℕ) (s : State) (d : ℕ) → Reaches b start s → s.deepest ≤ d → (length b ≤ s.place)
+nowhere_deep : {b : List ℕ} {s : State} (d : ℕ) → Reaches b start s → s.deepest ≤ d → (length b ≤ s.place)
     ⊎ (step (byte b s.place) s ≡ None) → NowhereDeep b d
-nowhere_deep b s d r h stop i a =
+nowhere_deep {b} {s} d r h stop i a =
     elim (cases_lt (suc i) s.place) [
-      | inl l ↦ not_deeper b s d (suc i) (suc d) r h (omega arith) a.deep (omega arith)
+      | inl l ↦ not_deeper d (suc i) (suc d) r h (omega arith) a.deep (omega arith)
       | inr g ↦ elim (eq-or-lt_of_le g) [
-        | inl e ↦ not_deeper b s d (suc i) (suc d) r h (omega arith) a.deep (omega arith)
+        | inl e ↦ not_deeper d (suc i) (suc d) r h (omega arith) a.deep (omega arith)
         | inr l ↦ elim stop [
           | inl e ↦ let w = a.within in absurd (omega arith)
           | inr n ↦
-              let v = live_at b (suc i) (suc d) a.deep in let p = v.place in
-              let w = state_before b v.at (suc s.place) v.reached (omega arith) in
-              next_stuck b s w.at r n w.reached w.place
+              let v = live_at b (suc i) (suc d) a.deep in
+              let w = state_before (suc s.place) v.reached (omega arith) in
+              next_stuck r n w.reached w.place
         ]
       ]
     ]
 
-pub sticks_nowhere : (b : List ℕ) (d i : ℕ) → SticksAt b d i → NowhereDeep b d
-sticks_nowhere b d i a =
+pub sticks_nowhere : (b : List ℕ) {d : ℕ} (i : ℕ) → SticksAt b d i → NowhereDeep b d
+sticks_nowhere b {d} i a =
     let e = a.sticks.at in
-    nowhere_deep b a.sticks.last d a.sticks.reached a.shallow
-    (elim a.sticks.stuck [
+    nowhere_deep d a.sticks.reached a.shallow (elim a.sticks.stuck [
       | inl z ↦ inr (ap (λ n. step (byte b n) a.sticks.last) e ∙ z.1)
       | inr z ↦ let q = z.0 in
           inl (omega arith)
     ])
 
-accepts_nowhere : (b : List ℕ) (tokens : BoundedList Token) (old new : BoundedList ℕ) → Accepts b tokens old new
+accepts_nowhere : {b : List ℕ} {tokens : BoundedList Token} {old new : BoundedList ℕ} → Accepts b tokens old new
     → NowhereDeep b old.limit
-accepts_nowhere b tokens old new a =
+accepts_nowhere {old} a =
     let e = settled a.settles.last _ a.settles.settles in
-    let p = e.place in let d = e.deepest in let s = a.shallow in
-    nowhere_deep b a.settles.last old.limit a.settles.reached (omega arith) (inl (omega arith))
+    nowhere_deep old.limit a.settles.reached (omega arith) (inl (omega arith))
 
-pub sinks_deep : (b : List ℕ) (d i : ℕ) → SinksAt b d i → DeepAt b d i
-sinks_deep b d i a = by_step (step (byte b i) a.last) refl a.deep
+pub sinks_deep : {b : List ℕ} {d i : ℕ} → SinksAt b d i → DeepAt b d i
+sinks_deep {b} {d} {i} a = by_step (step (byte b i) a.last) refl a.deep
   where
     by_step : (o : Option State) → step (byte b i) a.last ≡ o → IsSomeAnd o (λ u. length u.stack ≡ suc d) → DeepAt b d i
     by_step None e h = absurd h
     by_step (Some u) e h =
         let q : step (byte b a.last.place) a.last ≡ Some u = ap (λ n. step (byte b n) a.last) a.at ∙ e in
         let r = on a.last u a.reached q in
-        let p : u.place ≡ suc i = next_place a.last u a.reached q ∙ ap suc a.at in
+        let p : u.place ≡ suc i = next_place u a.reached q ∙ ap suc a.at in
         let f : JsonPrefix b 0 (suc i) (length u.stack) =
-        subst (λ n. JsonPrefix b 0 n (length u.stack)) p (inv_front u (inv_reaches b u r)) in
-        let at = a.at in
+        subst (λ n. JsonPrefix b 0 n (length u.stack)) p (inv_front (inv_reaches r)) in
         record {
           within = a.within;
           deep = subst (λ n. JsonPrefix b 0 (suc i) n) h f;
-          least = λ k l g. not_deeper b a.last d (suc k) (suc d) a.reached a.shallow (omega arith) g (omega arith);
+          least = λ k l g. not_deeper d (suc k) (suc d) a.reached a.shallow (omega arith) g (omega arith);
         }
 
 -- ---- each line has one verdict
 
-pub one_deep : (b : List ℕ) (d i j : ℕ) → DeepAt b d i → DeepAt b d j → i ≡ j
-one_deep b d i j x y =
+pub one_deep : {b : List ℕ} {d i j : ℕ} → DeepAt b d i → DeepAt b d j → i ≡ j
+one_deep {i} {j} x y =
     elim (cases_order i j) [
       | inl e ↦ e
       | inr o ↦
@@ -236,8 +231,8 @@ not_earlier : {b : List ℕ} {i j : ℕ} → SyntaxAt b i → SyntaxAt b j → i
 not_earlier (stuck l f n) y h = n (fronts_below y _ h)
 not_earlier (short e f n) y h = let w = syntax_within y in absurd (omega arith)
 
-pub one_syntax : (b : List ℕ) (i j : ℕ) → SyntaxAt b i → SyntaxAt b j → i ≡ j
-one_syntax b i j x y =
+pub one_syntax : {b : List ℕ} {i j : ℕ} → SyntaxAt b i → SyntaxAt b j → i ≡ j
+one_syntax {i} {j} x y =
     elim (cases_order i j) [
       | inl e ↦ e
       | inr o ↦
@@ -247,15 +242,15 @@ one_syntax b i j x y =
 pub json_no_syntax : {b : List ℕ} {i : ℕ} → (t : Tree) → Json b t → SyntaxAt b i → ⊥
 json_no_syntax {b} {i} t j (stuck l f n) =
     let v = run_json b t j in let p = (settled v.at _ v.settles).place in
-    n (front_before b v.at (suc i) v.reached (omega arith))
+    n (front_before (suc i) v.reached (omega arith))
 json_no_syntax t j (short e f n) = n t j
 
 pub json_nowhere : (b : List ℕ) (d : ℕ) (t : Tree) → Json b t → nest t ≤ d → NowhereDeep b d
 json_nowhere b d t j h =
     let v = run_json b t j in
     let e = settled v.at _ v.settles in
-    let p = e.place in let q = e.deepest in let f = rise-nest 0 0 t (omega arith) in
-    nowhere_deep b v.at d v.reached (omega arith) (inl (omega arith))
+    let f = rise-nest 0 0 t (omega arith) in
+    nowhere_deep d v.reached (omega arith) (inl (omega arith))
 
 -- ---- the clauses of the scan
 
@@ -268,18 +263,17 @@ pub record Cleared {T : Type 0} (old empty : BoundedList T) : Type 0 where
 pub cleared : {T : Type 0} (old empty : BoundedList T) → Becomes old [] empty → Cleared old empty
 cleared old empty c = let p = c.peak in record { limit = c.limit; peak = omega arith; room = c.room }
 
-pub scan_of : (b : List ℕ) (old empty new : BoundedList Token) (old_stack empty_stack new_stack : BoundedList ℕ)
+pub scan_of : {b : List ℕ} {old empty new : BoundedList Token} {old_stack empty_stack new_stack : BoundedList ℕ}
     → Cleared old empty → Cleared old_stack empty_stack → KeepsLaw b empty new empty_stack new_stack
     → length b ≤ 1073741824 → Accepts b new empty_stack new_stack
     → (t : Tree) × IsScanOf b t old new old_stack new_stack
-scan_of b old empty new old_stack empty_stack new_stack c d k few_bytes a =
-    let s = spells a.settles.last (inv_reaches b a.settles.last a.settles.reached) new.elements a.deepest
-    a.settles.settles in
+scan_of {b} {new} c d k few_bytes a =
+    let s = spells (inv_reaches a.settles.reached) new.elements a.deepest a.settles.settles in
     let t = s.tree in
-    let n = nest_of b t a.settles.last new.elements a.deepest s.json a.settles.reached a.settles.settles in
+    let n = nest_of t new.elements a.deepest s.json a.settles.reached a.settles.settles in
     let count : length new.elements ≡ size t = ap length s.tokens ∙ length-flatten 0 t in
-    let few : size t < 2 ^ 31 = let l = k.law in let o = ap (λ (ns : List ℕ). length ns) a.closed in omega arith in
-    let p = k.token_peak in let q = a.peak in let e = c.peak in let f = d.peak in let sh = a.shallow in
+    let few : size t < 2 ^ 31 = let o = ap (λ (ns : List ℕ). length ns) a.closed in omega arith in
+    let p = k.token_peak in let q = a.peak in let e = c.peak in let f = d.peak in
     let g = d.limit in (
       t,
       record {
@@ -297,59 +291,57 @@ scan_of b old empty new old_stack empty_stack new_stack c d k few_bytes a =
     )
 
 -- it leaves no marks
-scan_unmarked : (b : List ℕ) (empty new : BoundedList Token) (empty_stack new_stack : BoundedList ℕ)
+scan_unmarked : {b : List ℕ} {empty new : BoundedList Token} {empty_stack new_stack : BoundedList ℕ}
     → KeepsLaw b empty new empty_stack new_stack → length b ≤ 1073741824 → Accepts b new empty_stack new_stack
     → AreUnmarked new.elements
-scan_unmarked b empty new empty_stack new_stack k few_bytes a =
-    let s = spells a.settles.last (inv_reaches b a.settles.last a.settles.reached) new.elements a.deepest
-    a.settles.settles in
+scan_unmarked {b} {new} k few_bytes a =
+    let s = spells (inv_reaches a.settles.reached) new.elements a.deepest a.settles.settles in
     let t = s.tree in
     let count : length new.elements ≡ size t = ap length s.tokens ∙ length-flatten 0 t in
-    let few : size t < 2 ^ 31 = let l = k.law in let o = ap (λ (ns : List ℕ). length ns) a.closed in omega arith in
+    let few : size t < 2 ^ 31 = let o = ap (λ (ns : List ℕ). length ns) a.closed in omega arith in
     subst AreUnmarked (sym s.tokens) (json_unmarked b t s.json few)
 
 module _ (X : Type 0) (b : List ℕ) (old : BoundedList ℕ) (tokens : BoundedList Token) (new : BoundedList ℕ) where
-  pub run_unmarked : (empty : BoundedList Token) (r : Result X LineFault) → RunAnswers b old r tokens new
+  pub run_unmarked : {empty : BoundedList Token} (r : Result X LineFault) → RunAnswers b old r tokens new
       → KeepsLaw b empty tokens old new → length b ≤ 1073741824 → OnOk r (AreUnmarked tokens.elements)
-  run_unmarked empty (Ok v) a k few_bytes = scan_unmarked b empty tokens old new k few_bytes a
-  run_unmarked empty (Err e) a k few_bytes = search rules
+  run_unmarked (Ok v) a k few_bytes = scan_unmarked k few_bytes a
+  run_unmarked (Err e) a k few_bytes = search rules
 
-  pub run_deep : (r : Result X LineFault) (i : ℕ) → RunAnswers b old r tokens new → r ≡ Err (TooDeep i)
+  pub run_deep : {r : Result X LineFault} (i : ℕ) → RunAnswers b old r tokens new → r ≡ Err (TooDeep i)
       → DeepAt b old.limit i
-  run_deep r i a e = sinks_deep b old.limit i (subst (λ z. RunAnswers b old z tokens new) e a).0
+  run_deep i a e = sinks_deep (subst (λ z. RunAnswers b old z tokens new) e a).0
 
-  pub run_syntax : (r : Result X LineFault) (i : ℕ) → RunAnswers b old r tokens new → r ≡ Err (Syntax i) → SyntaxAt b i
+  pub run_syntax : {r : Result X LineFault} (i : ℕ) → RunAnswers b old r tokens new → r ≡ Err (Syntax i) → SyntaxAt b i
       × NowhereDeep b old.limit
-  run_syntax r i a e = let s : SticksAt b old.limit i = (subst (λ z. RunAnswers b old z tokens new) e a).0 in
-      (sticks_syntax b i s.sticks, sticks_nowhere b old.limit i s)
+  run_syntax i a e = let s : SticksAt b old.limit i = (subst (λ z. RunAnswers b old z tokens new) e a).0 in
+      (sticks_syntax s.sticks, sticks_nowhere b i s)
 
-  pub run_utf8 : (r : Result X LineFault) (i : ℕ) → RunAnswers b old r tokens new → r ≡ Err (NotUtf8 i) → ⊥
-  run_utf8 r i a e = subst (λ z. RunAnswers b old z tokens new) e a
+  pub run_utf8 : {r : Result X LineFault} (i : ℕ) → RunAnswers b old r tokens new → r ≡ Err (NotUtf8 i) → ⊥
+  run_utf8 i a e = subst (λ z. RunAnswers b old z tokens new) e a
 
   pub finds_deep : (r : Result X LineFault) (i : ℕ) → RunAnswers b old r tokens new → DeepAt b old.limit i
       → r ≡ Err (TooDeep i)
-  finds_deep (Ok v) i a d = absurd (accepts_nowhere b tokens old new a i d)
+  finds_deep (Ok v) i a d = absurd (accepts_nowhere a i d)
   finds_deep (Err (NotUtf8 j)) i a d = absurd a
-  finds_deep (Err (Syntax j)) i a d = absurd (sticks_nowhere b old.limit j a.0 i d)
+  finds_deep (Err (Syntax j)) i a d = absurd (sticks_nowhere b j a.0 i d)
   finds_deep (Err (TooDeep j)) i a d =
-      ap (λ n. Err (TooDeep n)) (one_deep b old.limit j i (sinks_deep b old.limit j a.0) d)
+      ap (λ n. Err (TooDeep n)) (one_deep (sinks_deep a.0) d)
 
-  pub finds_syntax : (r : Result X LineFault) (i : ℕ) → RunAnswers b old r tokens new → NowhereDeep b old.limit
+  pub finds_syntax : (r : Result X LineFault) {i : ℕ} → RunAnswers b old r tokens new → NowhereDeep b old.limit
       → SyntaxAt b i → r ≡ Err (Syntax i)
-  finds_syntax (Ok v) i a n s =
-      let z = spells a.settles.last (inv_reaches b a.settles.last a.settles.reached) tokens.elements a.deepest
-      a.settles.settles in
+  finds_syntax (Ok v) a n s =
+      let z = spells (inv_reaches a.settles.reached) tokens.elements a.deepest a.settles.settles in
       absurd (json_no_syntax z.tree z.json s)
-  finds_syntax (Err (NotUtf8 j)) i a n s = absurd a
-  finds_syntax (Err (Syntax j)) i a n s = ap (λ k. Err (Syntax k)) (one_syntax b j i (sticks_syntax b j a.0.sticks) s)
-  finds_syntax (Err (TooDeep j)) i a n s = absurd (n j (sinks_deep b old.limit j a.0))
+  finds_syntax (Err (NotUtf8 j)) a n s = absurd a
+  finds_syntax (Err (Syntax j)) a n s = ap (λ k. Err (Syntax k)) (one_syntax (sticks_syntax a.0.sticks) s)
+  finds_syntax (Err (TooDeep j)) a n s = absurd (n j (sinks_deep a.0))
 
   pub finds_tree : (r : Result X LineFault) (t : Tree) → RunAnswers b old r tokens new → Json b t → nest t ≤ old.limit
       → IsOk r
   finds_tree (Ok v) t a j h = search rules
   finds_tree (Err (NotUtf8 i)) t a j h = absurd a
-  finds_tree (Err (Syntax i)) t a j h = absurd (json_no_syntax t j (sticks_syntax b i a.0.sticks))
-  finds_tree (Err (TooDeep i)) t a j h = absurd (json_nowhere b old.limit t j h i (sinks_deep b old.limit i a.0))
+  finds_tree (Err (Syntax i)) t a j h = absurd (json_no_syntax t j (sticks_syntax a.0.sticks))
+  finds_tree (Err (TooDeep i)) t a j h = absurd (json_nowhere b old.limit t j h i (sinks_deep a.0))
 
 -- the same under the limit that the stack had before it was emptied
 module _ (X : Type 0) (b : List ℕ) (old empty new : BoundedList Token) (old_stack empty_stack new_stack : BoundedList ℕ)
@@ -357,27 +349,27 @@ module _ (X : Type 0) (b : List ℕ) (old empty new : BoundedList Token) (old_st
   pub answers_tree : (r : Result X LineFault) → RunAnswers b empty_stack r new new_stack
       → KeepsLaw b empty new empty_stack new_stack → length b ≤ 1073741824
       → OnOk r ((t : Tree) × IsScanOf b t old new old_stack new_stack)
-  answers_tree (Ok v) a k few_bytes = scan_of b old empty new old_stack empty_stack new_stack c d k few_bytes a
+  answers_tree (Ok v) a k few_bytes = scan_of c d k few_bytes a
   answers_tree (Err e) a k few_bytes = search rules
 
-  pub answers_deep : (r : Result X LineFault) (i : ℕ) → RunAnswers b empty_stack r new new_stack → r ≡ Err (TooDeep i)
+  pub answers_deep : {r : Result X LineFault} (i : ℕ) → RunAnswers b empty_stack r new new_stack → r ≡ Err (TooDeep i)
       → DeepAt b old_stack.limit i
-  answers_deep r i a e = subst (λ n. DeepAt b n i) d.limit (run_deep X b empty_stack new new_stack r i a e)
+  answers_deep i a e = subst (λ n. DeepAt b n i) d.limit (run_deep X b empty_stack new new_stack i a e)
 
-  pub answers_syntax : (r : Result X LineFault) (i : ℕ) → RunAnswers b empty_stack r new new_stack → r ≡ Err (Syntax i)
+  pub answers_syntax : {r : Result X LineFault} (i : ℕ) → RunAnswers b empty_stack r new new_stack → r ≡ Err (Syntax i)
       → SyntaxAt b i × NowhereDeep b old_stack.limit
-  answers_syntax r i a e =
-      subst (λ n. SyntaxAt b i × NowhereDeep b n) d.limit (run_syntax X b empty_stack new new_stack r i a e)
+  answers_syntax i a e =
+      subst (λ n. SyntaxAt b i × NowhereDeep b n) d.limit (run_syntax X b empty_stack new new_stack i a e)
 
-  pub answers_finds_deep : (r : Result X LineFault) (i : ℕ) → RunAnswers b empty_stack r new new_stack
+  pub answers_finds_deep : (r : Result X LineFault) {i : ℕ} → RunAnswers b empty_stack r new new_stack
       → DeepAt b old_stack.limit i → r ≡ Err (TooDeep i)
-  answers_finds_deep r i a h =
+  answers_finds_deep r {i} a h =
       finds_deep X b empty_stack new new_stack r i a (subst (λ n. DeepAt b n i) (sym d.limit) h)
 
-  pub answers_finds_syntax : (r : Result X LineFault) (i : ℕ) → RunAnswers b empty_stack r new new_stack
+  pub answers_finds_syntax : (r : Result X LineFault) {i : ℕ} → RunAnswers b empty_stack r new new_stack
       → NowhereDeep b old_stack.limit → SyntaxAt b i → r ≡ Err (Syntax i)
-  answers_finds_syntax r i a n s =
-      finds_syntax X b empty_stack new new_stack r i a (subst (λ n. NowhereDeep b n) (sym d.limit) n) s
+  answers_finds_syntax r a n s =
+      finds_syntax X b empty_stack new new_stack r a (subst (λ n. NowhereDeep b n) (sym d.limit) n) s
 
   pub answers_finds_tree : (r : Result X LineFault) (t : Tree) → RunAnswers b empty_stack r new new_stack → Json b t
       → nest t ≤ old_stack.limit → IsOk r

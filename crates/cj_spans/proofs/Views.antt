@@ -75,17 +75,15 @@ past-past (t ∷ ts) i j h =
 
 -- ---- a walk on, over tokens that start before the place
 
-skip_one : (b : List ℕ) (ts : List Token) (k j : ℕ) (t : Token) → Below b ts k t → t.start < j → t.stop ≤ j
+skip_one : {b : List ℕ} {ts : List Token} {k : ℕ} (j : ℕ) {t : Token} → Below b ts k t → t.start < j → t.stop ≤ j
     → past j (forest b (drop k (spans_of ts))) ≡ past j (forest b (drop (k + 1) (spans_of ts)))
-skip_one b ts k j t h l o =
-    let e = h.start in
+skip_one {b} {ts} {k} j {t} h l o =
     ap (past j) h.front ∙ past_on (tree_at b (spans_of ts) k) (past t.stop (forest b (drop (k + 1) (spans_of ts)))) j
     (omega arith) ∙ past-past (forest b (drop (k + 1) (spans_of ts))) t.stop j o
 
-skip_end : (b : List ℕ) (ts : List Token) (k j : ℕ) (t : Token) → Below b ts k t → j ≤ t.start
+skip_end : {b : List ℕ} {ts : List Token} {k : ℕ} (j : ℕ) {t : Token} → Below b ts k t → j ≤ t.start
     → past j (forest b (drop k (spans_of ts))) ≡ forest b (drop k (spans_of ts))
-skip_end b ts k j t h l =
-    let e = h.start in
+skip_end {b} {ts} {k} j {t} h l =
     ap (past j) h.front ∙ past_here (tree_at b (spans_of ts) k) (past t.stop (forest b (drop (k + 1) (spans_of ts)))) j
     (omega arith) ∙ sym h.front
 
@@ -106,7 +104,7 @@ link_first : (b : List ℕ) (t : Token) (ts : List Token) (j r : ℕ) → t.star
     → forest b (drop r (spans_of (t ∷ ts))) ≡ past j (forest b (spans_of (t ∷ ts)))
 link_first b t ts j zero l o e next = let f = before_one j t ts l in absurd (omega arith)
 link_first b t ts j (suc r) l o e next = let f = before_one j t ts l in
-    next r (omega arith) ∙ sym (skip_one b (t ∷ ts) 0 j t (below_at b (t ∷ ts) 0 t refl) l o)
+    next r (omega arith) ∙ sym (skip_one j (below_at b (t ∷ ts) 0 t refl) l o)
 
 pub link_past : (b : List ℕ) (ts : List Token) (k j r : ℕ) → StopBefore ts k j → r ≡ k + before j (drop k ts)
     → forest b (drop r (spans_of ts)) ≡ past j (forest b (drop k (spans_of ts)))
@@ -122,7 +120,7 @@ link_past b (t ∷ ts) zero j r s e =
           let f = before_zero j t ts g in
           let q : r ≡ 0 = omega arith in
           ap (λ n. forest b (drop n (spans_of (t ∷ ts)))) q
-          ∙ sym (skip_end b (t ∷ ts) 0 j t (below_at b (t ∷ ts) 0 t refl) g)
+          ∙ sym (skip_end j (below_at b (t ∷ ts) 0 t refl) g)
     ]
 
 -- ---- what a node shows
@@ -170,9 +168,9 @@ list-members_from (n ∷ t ∷ ts) h =
 pub kind_object : (c : ℕ) → kind_by c ≡ Object → c ≡ 123
 kind_object c h = grind (arith, nat_tests)
 
-pub kind_shown : (b : List ℕ) (ts : List Token) (k : ℕ) (t : Token) (r : Kind) → slice_get ts k ≡ Some t
+pub kind_shown : (b : List ℕ) (ts : List Token) (k : ℕ) (t : Token) {r : Kind} → slice_get ts k ≡ Some t
     → r ≡ kind_by (byte b t.start) → r ≡ kind_of (tree_at b (spans_of ts) k)
-kind_shown b ts k t r h e = let w = below_at b ts k t h in
+kind_shown b ts k t h e = let w = below_at b ts k t h in
     e ∙ sym (kind-node b (kind_by (byte b t.start)) t.start t.stop _) ∙ sym (ap kind_of w.tree)
 
 pub start_shown : (b : List ℕ) (ts : List Token) (k : ℕ) (t : Token) → slice_get ts k ≡ Some t

@@ -197,10 +197,10 @@ pub shown_none : (b : List ℕ) (ts : List Token) (k n : ℕ) → n ≤ k → sh
 shown_none b ts k n h = forest_empty b (drop k (spans_of ts)) (n - k) (omega arith)
 
 -- the parts of a token's tree are what the tokens up to its link show
-pub shown_parts : (b : List ℕ) (ts : List Token) (k r : ℕ) (t : Token) → AreNested ts → slice_get ts k ≡ Some t
+pub shown_parts : (b : List ℕ) (ts : List Token) (k : ℕ) {r : ℕ} (t : Token) → AreNested ts → slice_get ts k ≡ Some t
     → r ≡ k + 1 + before t.stop (drop (k + 1) ts)
     → shown_between b ts (k + 1) r ≡ held t.stop (forest b (drop (k + 1) (spans_of ts)))
-shown_parts b ts k r t nested h e = taken b ts (k + 1) t.stop (r - (k + 1)) (nested k t h) (omega arith)
+shown_parts b ts k {r} t nested h e = taken b ts (k + 1) t.stop (r - (k + 1)) (nested k t h) (omega arith)
 
 drop_next : (ts : List Token) (k : ℕ) (t : Token) → slice_get ts k ≡ Some t
     → drop k (spans_of ts) ≡ span_at t.start t.stop ∷ drop (suc k) (spans_of ts)
@@ -219,18 +219,17 @@ shown_one b ts k n t h l =
     ap (λ m. forest b (take m (drop k (spans_of ts)))) f ∙ ap (λ xs. forest b (take (suc (n - (k + 1))) xs)) first
 
 -- one step of a walk
-pub walk_on : (b : List ℕ) (ts : List Token) (k n r : ℕ) (t : Token) → AreNested ts → slice_get ts k ≡ Some t
+pub walk_on : (b : List ℕ) (ts : List Token) (k n : ℕ) {r : ℕ} (t : Token) → AreNested ts → slice_get ts k ≡ Some t
     → r ≡ k + 1 + before t.stop (drop (k + 1) ts) → r ≤ n
     → shown_between b ts k n ≡ tree_at b (spans_of ts) k ∷ shown_between b ts r n
-walk_on b ts k n r t nested h e l =
+walk_on b ts k n {r} t nested h e l =
     let s = nested k t h in
     let m = before t.stop (drop (k + 1) ts) in
     let p = n - (k + 1) in
     let w = below_at b ts k t h in
     shown_one b ts k n t h (omega arith)
     ∙ ap (λ z. node b (kind_by (byte b t.start)) t.start t.stop z
-    ∷ past t.stop (forest b (take p (drop (k + 1) (spans_of ts)))))
-    (held_more b ts (k + 1) t.stop p s (omega arith))
+    ∷ past t.stop (forest b (take p (drop (k + 1) (spans_of ts))))) (held_more b ts (k + 1) t.stop p s (omega arith))
     ∙ ap (λ z. node b (kind_by (byte b t.start)) t.start t.stop (held t.stop (forest b (drop (k + 1) (spans_of ts))))
     ∷ z) (past_more b ts (k + 1) t.stop p m (n - r) r s refl (omega arith) e)
     ∙ ap (λ z. z ∷ shown_between b ts r n) (sym w.tree)
@@ -261,9 +260,9 @@ starts_before ts j k t h l =
     elim (cases_lt t.start j) [ inl o ↦ o | inr g ↦ let z = before_stopped ts j k t h g in absurd (omega arith) ]
 
 -- a part of a token's tree links no further than the token
-part_link : (ts : List Token) (k r i : ℕ) (t u : Token) → AreNested ts → AreLinked ts → slice_get ts k ≡ Some t
+part_link : (ts : List Token) (k : ℕ) {r : ℕ} (i : ℕ) (t u : Token) → AreNested ts → AreLinked ts → slice_get ts k ≡ Some t
     → r ≡ k + 1 + before t.stop (drop (k + 1) ts) → k + 1 ≤ i → i < r → slice_get ts i ≡ Some u → link_of u ≤ r
-part_link ts k r i t u nested linked h e o l g =
+part_link ts k {r} i t u nested linked h e o l g =
     let j = t.stop in
     let n = i - (k + 1) in
     let d = drop (k + 1) ts in
@@ -277,12 +276,12 @@ part_link ts k r i t u nested linked h e o l g =
     let f = linked i u g in
     omega arith
 
-pub whole_parts : (ts : List Token) (k r : ℕ) (t : Token) → AreNested ts → AreLinked ts → slice_get ts k ≡ Some t
+pub whole_parts : (ts : List Token) (k : ℕ) {r : ℕ} (t : Token) → AreNested ts → AreLinked ts → slice_get ts k ≡ Some t
     → r ≡ k + 1 + before t.stop (drop (k + 1) ts) → AreWhole ts (k + 1) r
-whole_parts ts k r t nested linked h e =
+whole_parts ts k t nested linked h e =
     let m = before_length t.stop (drop (k + 1) ts) in let d = length-drop (k + 1) ts in
     let w = slice_get_within ts k t h in
-    (omega arith, λ i u o l g. part_link ts k r i t u nested linked h e o l g)
+    (omega arith, λ i u o l g. part_link ts k i t u nested linked h e o l g)
 
 pub whole_none : (ts : List Token) (k : ℕ) → AreWhole ts k 0
 whole_none ts k = (omega arith, λ i u o l g. absurd (omega arith))
@@ -299,8 +298,8 @@ string_size : (b : List ℕ) (i j : ℕ) (ts : List Tree) → byte b i ≡ 34 �
 string_size b i j ts e = ap (λ c. size (node b (kind_by c) i j ts)) e
 
 -- a string has no parts
-pub are_lone : (b : List ℕ) (ts : List Token) → AreOf b ts → AreLone b ts
-are_lone b ts a = λ k t h e.
+pub are_lone : {b : List ℕ} {ts : List Token} → AreOf b ts → AreLone b ts
+are_lone {b} {ts} a = λ k t h e.
     let w = below_at b ts k t h in
     let s = ap size w.tree ∙ string_size b t.start t.stop _ e in
     let l = are_sized b ts a k t h in
@@ -338,7 +337,7 @@ at_name b ts k n nested linked lone w named l =
     let t = found.0 in
     let h = found.1 in
     let r = link_of t in
-    let s = walk_on b ts k n r t nested h (linked k t h) (w.1 k t (omega arith) l h) in
+    let s = walk_on b ts k n t nested h (linked k t h) (w.1 k t (omega arith) l h) in
     let m = named _ s in
     let c = kind_string (byte b t.start)
     (name_node b (kind_by (byte b t.start)) t.start t.stop _ (sym (ap is_name found.2) ∙ name_first _ _ m)) in
@@ -368,7 +367,7 @@ item_on b ts k n r nested linked w l e =
     let f = linked k t found.1 in
     let g = e t found.1 in
     let o = w.1 k t (omega arith) l found.1 in
-    walk_on b ts k n r t nested found.1 g (omega arith)
+    walk_on b ts k n t nested found.1 g (omega arith)
 
 -- one step of a walk over names and values
 pub record MemberStep (b : List ℕ) (ts : List Token) (k n r : ℕ) : Type 0 where
@@ -392,33 +391,33 @@ member_on b ts k n r nested linked lone w named l e =
 
 -- ---- where a walk begins
 
-items-node : (b : List ℕ) (k : Kind) (i j l : ℕ) (ts : List Tree) (shown : ℕ → List Tree) → shown l ≡ ts → shown 0 ≡ []
+items-node : (b : List ℕ) (k : Kind) (i j l : ℕ) {ts : List Tree} (shown : ℕ → List Tree) → shown l ≡ ts → shown 0 ≡ []
     → shown (items_end k l) ≡ items_of (node b k i j ts)
-items-node b Null i j l ts shown e z = z
-items-node b Truth i j l ts shown e z = z
-items-node b Number i j l ts shown e z = z
-items-node b Text i j l ts shown e z = z
-items-node b Array i j l ts shown e z = e ∙ sym (list-items_from ts)
-items-node b Object i j l ts shown e z = z
+items-node b Null i j l shown e z = z
+items-node b Truth i j l shown e z = z
+items-node b Number i j l shown e z = z
+items-node b Text i j l shown e z = z
+items-node b Array i j l {ts} shown e z = e ∙ sym (list-items_from ts)
+items-node b Object i j l shown e z = z
 
-members-node : (b : List ℕ) (k : Kind) (i j l : ℕ) (ts : List Tree) (shown : ℕ → List Tree)
+members-node : (b : List ℕ) (k : Kind) (i j l : ℕ) {ts : List Tree} (shown : ℕ → List Tree)
     → (k ≡ Object → are_members ts ≡ true) → shown l ≡ ts → shown 0 ≡ []
     → pairs_of (shown (members_end k l)) ≡ members_of (node b k i j ts)
-members-node b Null i j l ts shown h e z = ap pairs_of z
-members-node b Truth i j l ts shown h e z = ap pairs_of z
-members-node b Number i j l ts shown h e z = ap pairs_of z
-members-node b Text i j l ts shown h e z = ap pairs_of z
-members-node b Array i j l ts shown h e z = ap pairs_of z
-members-node b Object i j l ts shown h e z = ap pairs_of e ∙ list-members_from ts (h refl)
+members-node b Null i j l shown h e z = ap pairs_of z
+members-node b Truth i j l shown h e z = ap pairs_of z
+members-node b Number i j l shown h e z = ap pairs_of z
+members-node b Text i j l shown h e z = ap pairs_of z
+members-node b Array i j l shown h e z = ap pairs_of z
+members-node b Object i j l {ts} shown h e z = ap pairs_of e ∙ list-members_from ts (h refl)
 
-named-node : (k : Kind) (l : ℕ) (ts : List Tree) (shown : ℕ → List Tree) → (k ≡ Object → are_members ts ≡ true)
+named-node : (k : Kind) (l : ℕ) {ts : List Tree} (shown : ℕ → List Tree) → (k ≡ Object → are_members ts ≡ true)
     → shown l ≡ ts → shown 0 ≡ [] → are_members (shown (members_end k l)) ≡ true
-named-node Null l ts shown h e z = ap are_members z
-named-node Truth l ts shown h e z = ap are_members z
-named-node Number l ts shown h e z = ap are_members z
-named-node Text l ts shown h e z = ap are_members z
-named-node Array l ts shown h e z = ap are_members z
-named-node Object l ts shown h e z = ap are_members e ∙ h refl
+named-node Null l shown h e z = ap are_members z
+named-node Truth l shown h e z = ap are_members z
+named-node Number l shown h e z = ap are_members z
+named-node Text l shown h e z = ap are_members z
+named-node Array l shown h e z = ap are_members z
+named-node Object l shown h e z = ap are_members e ∙ h refl
 
 whole_items : (ts : List Token) (k l : ℕ) (r : Kind) → AreWhole ts k l → AreWhole ts k (items_end r l)
 whole_items ts k l Null w = whole_none ts k
@@ -441,22 +440,22 @@ pub record ItemsFrom (b : List ℕ) (ts : List Token) (k n : ℕ) : Type 0 where
   pub whole : AreWhole ts (k + 1) n
   pub shown : shown_between b ts (k + 1) n ≡ items_of (tree_at b (spans_of ts) k)
 
-pub items_from_link : (b : List ℕ) (ts : List Token) (k l n : ℕ) (r : Kind) → AreNested ts → AreLinked ts
+pub items_from_link : (b : List ℕ) (ts : List Token) (k l : ℕ) {n : ℕ} {r : Kind} → AreNested ts → AreLinked ts
     → k < length ts → LinksTo ts k l → r ≡ kind_of (tree_at b (spans_of ts) k) → n ≡ items_end r l → ItemsFrom b ts k n
-items_from_link b ts k l n r nested linked inside e f g =
+items_from_link b ts k l {n} {r} nested linked inside e f g =
     let found = below b ts k inside in
     let t = found.0 in
     let w = below_at b ts k t found.1 in
     let d = kind_by (byte b t.start) in
     let parts = held t.stop (forest b (drop (k + 1) (spans_of ts))) in
     let kind : r ≡ d = f ∙ ap kind_of w.tree ∙ kind-node b d t.start t.stop parts in
-    let all = items-node b d t.start t.stop l parts (shown_between b ts (k + 1))
-    (shown_parts b ts k l t nested found.1 (e t found.1)) (shown_none b ts (k + 1) 0 (omega arith))
+    let all = items-node b d t.start t.stop l (shown_between b ts (k + 1))
+    (shown_parts b ts k t nested found.1 (e t found.1)) (shown_none b ts (k + 1) 0 (omega arith))
     ∙ sym (ap items_of w.tree) in
     let stop : items_end d l ≡ n = ap (λ x. items_end x l) (sym kind) ∙ sym g in
     record {
       whole = subst (AreWhole ts (k + 1)) stop
-          (whole_items ts (k + 1) l d (whole_parts ts k l t nested linked found.1 (e t found.1)));
+          (whole_items ts (k + 1) l d (whole_parts ts k t nested linked found.1 (e t found.1)));
       shown = ap (shown_between b ts (k + 1)) (sym stop) ∙ all;
     }
 
@@ -466,10 +465,10 @@ pub record MembersFrom (b : List ℕ) (ts : List Token) (k n : ℕ) : Type 0 whe
   pub named : ShowMembers b ts (k + 1) n
   pub shown : pairs_of (shown_between b ts (k + 1) n) ≡ members_of (tree_at b (spans_of ts) k)
 
-pub members_from_link : (b : List ℕ) (ts : List Token) (k l n : ℕ) (r : Kind) → AreNested ts → AreLinked ts
+pub members_from_link : (b : List ℕ) (ts : List Token) (k l : ℕ) {n : ℕ} {r : Kind} → AreNested ts → AreLinked ts
     → AreNamed b ts → k < length ts → LinksTo ts k l → r ≡ kind_of (tree_at b (spans_of ts) k) → n ≡ members_end r l
     → MembersFrom b ts k n
-members_from_link b ts k l n r nested linked named inside e f g =
+members_from_link b ts k l {n} {r} nested linked named inside e f g =
     let found = below b ts k inside in
     let t = found.0 in
     let w = below_at b ts k t found.1 in
@@ -477,16 +476,16 @@ members_from_link b ts k l n r nested linked named inside e f g =
     let parts = held t.stop (forest b (drop (k + 1) (spans_of ts))) in
     let kind : r ≡ d = f ∙ ap kind_of w.tree ∙ kind-node b d t.start t.stop parts in
     let names : d ≡ Object → are_members parts ≡ true = λ o. named k t found.1 (kind_object (byte b t.start) o) in
-    let first = shown_parts b ts k l t nested found.1 (e t found.1) in
+    let first = shown_parts b ts k t nested found.1 (e t found.1) in
     let none = shown_none b ts (k + 1) 0 (omega arith) in
-    let all = members-node b d t.start t.stop l parts (shown_between b ts (k + 1)) names first none
+    let all = members-node b d t.start t.stop l (shown_between b ts (k + 1)) names first none
     ∙ sym (ap members_of w.tree) in
     let stop : members_end d l ≡ n = ap (λ x. members_end x l) (sym kind) ∙ sym g in
     record {
       whole = subst (AreWhole ts (k + 1)) stop
-          (whole_members ts (k + 1) l d (whole_parts ts k l t nested linked found.1 (e t found.1)));
+          (whole_members ts (k + 1) l d (whole_parts ts k t nested linked found.1 (e t found.1)));
       named = λ us q. sym (ap are_members q) ∙ ap (λ m. are_members (shown_between b ts (k + 1) m)) (sym stop)
-          ∙ named-node d l parts (shown_between b ts (k + 1)) names first none;
+          ∙ named-node d l (shown_between b ts (k + 1)) names first none;
       shown = ap (λ m. pairs_of (shown_between b ts (k + 1) m)) (sym stop) ∙ all;
     }
 
@@ -510,12 +509,12 @@ few_pairs b ts k n = let l = length-pairs (shown_between b ts k n) in let m = fe
 
 -- ---- a walk that passes over the first trees by how many values and names they are
 
-passed_over : (ts us : List Tree) (t : Tree) (j : ℕ) → us ≡ t ∷ ts
+passed_over : (ts : List Tree) {us : List Tree} (t : Tree) (j : ℕ) → us ≡ t ∷ ts
     → total_size (take (suc j) us) ≡ size t + total_size (take j ts)
-passed_over ts us t j e = ap (λ xs. total_size (take (suc j) xs)) e
+passed_over ts t j e = ap (λ xs. total_size (take (suc j) xs)) e
 
-some_left : (ts : List Tree) (j : ℕ) → suc j ≤ length ts → ts ≡ [] → ⊥
-some_left ts j h e = let n : length ts ≡ 0 = ap length e in absurd (omega arith)
+some_left : {ts : List Tree} (j : ℕ) → suc j ≤ length ts → ts ≡ [] → ⊥
+some_left {ts} j h e = let n : length ts ≡ 0 = ap length e in absurd (omega arith)
 
 -- a walk from the k-th token on, whose first j trees are m values and names
 pub walk_behind : (b : List ℕ) (ts : List Token) (j k m n : ℕ) → AreNested ts → AreLinked ts → AreSized b ts
@@ -531,16 +530,16 @@ walk_behind b ts (suc j) k m n nested linked sized w few e =
           let r = link_of t in
           let here = linked k t found.1 in
           let own = sized k t found.1 in
-          let step = walk_on b ts k n r t nested found.1 here (w.1 k t (omega arith) l found.1) in
+          let step = walk_on b ts k n t nested found.1 here (w.1 k t (omega arith) l found.1) in
           let first =
-          passed_over (shown_between b ts r n) (shown_between b ts k n) (tree_at b (spans_of ts) k) j step in
+          passed_over (shown_between b ts r n) (tree_at b (spans_of ts) k) j step in
           let count = ap length step in
           let later =
           walk_behind b ts j r (total_size (take j (shown_between b ts r n))) n nested linked sized
           (whole_later ts k r n (omega arith) w) (omega arith) refl in
           let same : k + m ≡ r + total_size (take j (shown_between b ts r n)) = omega arith in
           ap (λ i. shown_between b ts i n) same ∙ later ∙ sym (ap (drop (suc j)) step)
-      | inr g ↦ absurd (some_left (shown_between b ts k n) j few (shown_none b ts k n g))
+      | inr g ↦ absurd (some_left j few (shown_none b ts k n g))
     ]
 
 -- what a walk shows is no more values and names than tokens
@@ -572,19 +571,19 @@ link_low ts k l linked h e =
     omega arith
 
 -- the items of a node whose token, at k, links to l
-pub small_items : (b : List ℕ) (ts : List Token) (k l n : ℕ) (r : Kind) → AreLinked ts → k < length ts → LinksTo ts k l
+pub small_items : (b : List ℕ) (ts : List Token) (k l : ℕ) {n : ℕ} (r : Kind) → AreLinked ts → k < length ts → LinksTo ts k l
     → n ≡ items_end r l → total_size (shown_between b ts (k + 1) n) < 2 ^ 31
-small_items b ts k l n r linked inside e f =
+small_items b ts k l {n} r linked inside e f =
     let low = link_low ts k l linked inside e in let end = items_end_low r l in
     let small = small_trees b ts (k + 1) n in omega arith
 
 -- a walk over them that passes over the first ones
-pub items_behind_link : (b : List ℕ) (ts : List Token) (k l n j m : ℕ) (r : Kind) → AreNested ts → AreLinked ts
+pub items_behind_link : (b : List ℕ) (ts : List Token) (k l : ℕ) {n : ℕ} (j : ℕ) {m : ℕ} {r : Kind} → AreNested ts → AreLinked ts
     → AreSized b ts → k < length ts → LinksTo ts k l → r ≡ kind_of (tree_at b (spans_of ts) k) → n ≡ items_end r l
     → j ≤ length (items_of (tree_at b (spans_of ts) k)) → total_size (take j (items_of (tree_at b (spans_of ts) k))) ≡ m
     → shown_between b ts (k + 1 + m) n ≡ drop j (items_of (tree_at b (spans_of ts) k))
-items_behind_link b ts k l n j m r nested linked sized inside e f g few same =
-    let w = items_from_link b ts k l n r nested linked inside e f g in
+items_behind_link b ts k l {n} j {m} nested linked sized inside e f g few same =
+    let w = items_from_link b ts k l nested linked inside e f g in
     let count = ap length w.shown in
     walk_behind b ts j (k + 1) m n nested linked sized w.whole (omega arith)
     (ap (λ xs. total_size (take j xs)) w.shown ∙ same) ∙ ap (drop j) w.shown
@@ -598,27 +597,27 @@ pub record ItemBehind (b : List ℕ) (ts : List Token) (k j m : ℕ) : Type 0 wh
 some_one : {t u : Token} → Some t ≡ Some u → t ≡ u
 some_one e = cc
 
-pub item_behind_link : (b : List ℕ) (ts : List Token) (k j m : ℕ) → AreNested ts → AreLinked ts → AreSized b ts
+pub item_behind_link : (b : List ℕ) (ts : List Token) (k j : ℕ) {m : ℕ} → AreNested ts → AreLinked ts → AreSized b ts
     → k < length ts → j < length (items_of (tree_at b (spans_of ts) k))
     → total_size (take j (items_of (tree_at b (spans_of ts) k))) ≡ m
     → ItemBehind b ts k j m
-item_behind_link b ts k j m nested linked sized inside few same =
+item_behind_link b ts k j {m} nested linked sized inside few same =
     let found = below b ts k inside in
     let l = k + 1 + before found.0.stop (drop (k + 1) ts) in
     let r = kind_of (tree_at b (spans_of ts) k) in
     let n = items_end r l in
     let links : LinksTo ts k l = λ t e. sym (linked k found.0 found.1) ∙ ap link_of (some_one (sym found.1 ∙ e))
     ∙ linked k t e in
-    let w = items_from_link b ts k l n r nested linked inside links refl refl in
+    let w = items_from_link b ts k l {n = n} {r = r} nested linked inside links refl refl in
     let left =
-    items_behind_link b ts k l n j m r nested linked sized inside links refl refl (omega (arith, few)) same in
+    items_behind_link b ts k l {n = n} j {r = r} nested linked sized inside links refl refl (omega (arith, few)) same in
     let count = length-drop j (items_of (tree_at b (spans_of ts) k)) in
     elim (cases_lt (k + 1 + m) n) [
       | inl low ↦
           let whole = whole_later ts (k + 1) (k + 1 + m) n (omega arith) w.whole in
           let there = below b ts (k + 1 + m) (omega (arith, whole.0, low)) in
           let u = there.0 in
-          let step = walk_on b ts (k + 1 + m) n (link_of u) u nested there.1 (linked (k + 1 + m) u there.1)
+          let step = walk_on b ts (k + 1 + m) n u nested there.1 (linked (k + 1 + m) u there.1)
           (whole.1 (k + 1 + m) u (omega arith) low there.1) in
           record {
             inside = omega (arith, whole.0, low);

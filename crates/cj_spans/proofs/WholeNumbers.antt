@@ -60,15 +60,15 @@ ended c (inl e) = subst IsEnd (sym e) comma
 ended c (inr e) = subst IsEnd (sym e) bracket
 
 -- the machine has read a number
-pub number_read : (b : List ℕ) (s : State) (m : Mode) (ks : List ℕ) (ts us : List Token) (i k p : ℕ)
+pub number_read : {b : List ℕ} (s : State) (m : Mode) (ks : List ℕ) (ts : List Token) {us : List Token} {i k : ℕ} (p : ℕ)
     → IsNumberUpTo b i k → EndsItem (byte b k) → BeginsValue m → us ≡ ts ++ token_at i k (length ts + 1) ∷ []
     → ComesTo b s (idle m ks ts i p) → ComesTo b s (idle After ks us k p)
-number_read b s m ks ts us i k p n w v q h =
+number_read {b} s m ks ts {i} {k} p n w v q h =
     let below = n.order in let inside = n.within in
-    let r = step_on b s (idle m ks ts i p) (state (in_atom After i n.first) ks ts (suc i) p) h (omega arith)
+    let r = step_on (state (in_atom After i n.first) ks ts (suc i) p) h (omega arith)
     (number_begins m (byte b i) n.first ks ts i p v n.sign n.begins) in
-    settles_both r (ends_ok b i k p n.first n.last Number After ks ts us n.goes
-    (inr (atom_ends n.last (byte b k) Number n.done (ended (byte b k) w))) n.done q)
+    settles_both r (ends_ok i p Number After ks ts n.goes
+    (inr (atom_ends n.last Number n.done (ended (byte b k) w))) n.done q)
 
 -- ---- what the code's tests say
 
@@ -76,17 +76,17 @@ number_read b s m ks ts us i k p n w v q h =
 pub whole_stays : (c : ℕ) → is_digit c ≡ true → lex_step Whole c ≡ Some Whole
 whole_stays c h = grind (arith)
 
-first_zero : (c : ℕ) → c ≡ 48 → lex_start c ≡ Some Zero
-first_zero c e = ap lex_start e
+first_zero : {c : ℕ} → c ≡ 48 → lex_start c ≡ Some Zero
+first_zero e = ap lex_start e
 
 first_whole : (c : ℕ) → 49 ≤ c → c ≤ 57 → lex_start c ≡ Some Whole
 first_whole c l h = grind (arith, nat_tests)
 
 -- digits alone, of which the first is `0` only if it stands alone
-pub number_is : (b : List ℕ) (i k : ℕ) → (48 ≤ byte b i) × (byte b i ≤ 57) → (byte b i ≡ 48 → k ≡ i + 1)
+pub number_is : {b : List ℕ} (i : ℕ) {k : ℕ} → (48 ≤ byte b i) × (byte b i ≤ 57) → (byte b i ≡ 48 → k ≡ i + 1)
     → ((j : ℕ) (x : Lex) → Continues b j x (i + 1) Whole → Continues b j x k Whole) → i + 1 ≤ k → k < length b
     → (48 ≤ byte b i) × IsNumberUpTo b i k
-number_is b i k d z same l h = (d.0, choose (split (byte b i)))
+number_is {b} i {k} d z same l h = (d.0, choose (split (byte b i)))
   where
     split : (c : ℕ) → (c ≡ 48) ⊎ (c ≡ 48 → ⊥)
     split c = grind arith
@@ -99,7 +99,7 @@ number_is b i k d z same l h = (d.0, choose (split (byte b i)))
           first = Zero;
           last = Zero;
           sign = (omega arith, d.1);
-          begins = first_zero (byte b i) q;
+          begins = first_zero q;
           goes = subst (λ n. Continues b (suc i) Zero n Zero) f still;
           done = refl;
           order = omega arith;
@@ -130,9 +130,9 @@ from_front {b} {i} {x} {y} h still = further i x y still h
 from_front {b} {i} {x} {y} h (further k u v c e) = further k u v (from_front h c) e
 
 -- the same behind a minus
-minus_is : (b : List ℕ) (i k : ℕ) → byte b i ≡ 45 → (48 ≤ byte b (i + 1)) × IsNumberUpTo b (i + 1) k
+minus_is : {b : List ℕ} (i : ℕ) {k : ℕ} → byte b i ≡ 45 → (48 ≤ byte b (i + 1)) × IsNumberUpTo b (i + 1) k
     → IsNumberUpTo b i k
-minus_is b i k e d =
+minus_is {b} i {k} e d =
     let n = d.1 in
     let f : suc i ≡ i + 1 = omega arith in
     let below = n.order in
@@ -151,4 +151,4 @@ minus_is b i k e d =
 pub behind_minus_stop : (b : List ℕ) (i : ℕ) (r : Option ℕ) → byte b i ≡ 45
     → IfSome r (λ k. (48 ≤ byte b (i + 1)) × IsNumberUpTo b (i + 1) k) → IfSome r (λ k. IsNumberUpTo b i k)
 behind_minus_stop b i None e h = tt
-behind_minus_stop b i (Some k) e h = minus_is b i k e h
+behind_minus_stop b i (Some k) e h = minus_is i e h

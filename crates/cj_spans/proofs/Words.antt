@@ -49,8 +49,8 @@ first_less c d cs ds h = let e : nat_lt c d ≡ true = grind (arith, nat_tests) 
     ap (λ b. ordering_then (cond b Less (cond (nat_eq c d) Equal Greater)) (compare cs ds)) e
 
 -- equal first code points leave the order to what follows
-first_same : (c d : ℕ) (cs ds : List ℕ) → c ≡ d → compare (c ∷ cs) (d ∷ ds) ≡ compare cs ds
-first_same c d cs ds h =
+first_same : {c d : ℕ} (cs ds : List ℕ) → c ≡ d → compare (c ∷ cs) (d ∷ ds) ≡ compare cs ds
+first_same {c} {d} cs ds h =
     let e : nat_lt c d ≡ false = grind (arith, nat_tests) in
     let f : nat_eq c d ≡ true = grind (arith, nat_tests) in
     ap (λ b. ordering_then (cond b Less (cond (nat_eq c d) Equal Greater)) (compare cs ds)) e
@@ -90,7 +90,7 @@ less_by_digits w (c ∷ cs) (d ∷ ds) h =
       | inl e ↦
           let g : digits w (c ∷ cs) < digits w (c ∷ ds) =
           subst (λ x. digits w (c ∷ cs) < digits w (x ∷ ds)) (sym e) h in
-          first_same c d cs ds e ∙ less_by_digits (w / 256) cs ds (first_goes_on w c cs ds g)
+          first_same cs ds e ∙ less_by_digits (w / 256) cs ds (first_goes_on w c cs ds g)
       | inr (inl l) ↦ first_less c d cs ds l
       | inr (inr l) ↦ let m = first_no_more w c d cs ds l in absurd (omega arith)
     ]

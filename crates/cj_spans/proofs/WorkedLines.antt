@@ -20,25 +20,25 @@ record Run (b : List ℕ) (n : ℕ) (s : State) : Type 0 where
   reached : Reaches b start s
   place : s.place ≡ n
 
-run_next : (b : List ℕ) (n : ℕ) (t s : State) → Run b n t → step (byte b n) t ≡ Some s → Run b (suc n) s
-run_next b n t s r h =
+run_next : {b : List ℕ} {n : ℕ} {t : State} (s : State) → Run b n t → step (byte b n) t ≡ Some s → Run b (suc n) s
+run_next {b} {t} s r h =
     let q : step (byte b t.place) t ≡ Some s = ap (λ k. step (byte b k) t) r.place ∙ h in
-    record { reached = on t s r.reached q; place = next_place t s r.reached q ∙ ap suc r.place }
+    record { reached = on t s r.reached q; place = next_place s r.reached q ∙ ap suc r.place }
 
-run_last : (b : List ℕ) (n : ℕ) (s : State) (o : Option State) → ((t : State) → o ≡ Some t → Run b n t)
+run_last : {b : List ℕ} (n : ℕ) (s : State) (o : Option State) → ((t : State) → o ≡ Some t → Run b n t)
     → option_and_then (λ t. step (byte b n) t) o ≡ Some s → Run b (suc n) s
-run_last b n s None r h = none_some s h
-run_last b n s (Some t) r h = run_next b n t s (r t refl) h
+run_last n s None r h = none_some s h
+run_last n s (Some t) r h = run_next s (r t refl) h
 
 run : (b : List ℕ) (n : ℕ) (s : State) → after b n ≡ Some s → Run b n s
 run b zero s h = subst (Run b 0) (some_same start s h) (record { reached = here; place = refl })
-run b (suc n) s h = run_last b n s (after b n) (λ t e. run b n t e) h
+run b (suc n) s h = run_last n s (after b n) (λ t e. run b n t e) h
 
 pub syntax_inside : (b : List ℕ) (n : ℕ) (s : State) → after b n ≡ Some s → n < length b → step (byte b n) s ≡ None
     → SyntaxAt b n
 syntax_inside b n s h l stop =
     let r = run b n s h in
-    sticks_syntax b n (record {
+    sticks_syntax (record {
       last = s;
       reached = r.reached;
       at = r.place;
@@ -50,7 +50,7 @@ pub syntax_end : (b : List ℕ) (n : ℕ) (s : State) → after b n ≡ Some s �
     → ((ts : List Token) (p : ℕ) → settle s ≡ Some (state (between After) [] ts (length b) p) → ⊥) → SyntaxAt b n
 syntax_end b n s h l stop =
     let r = run b n s h in
-    sticks_syntax b n (record {
+    sticks_syntax (record {
       last = s;
       reached = r.reached;
       at = r.place;
@@ -62,8 +62,8 @@ pub deep_inside : (b : List ℕ) (n d : ℕ) (s : State) → after b n ≡ Some 
     → IsSomeAnd (step (byte b n) s) (λ u. length u.stack ≡ suc d) → DeepAt b d n
 deep_inside b n d s h l g stop =
     let r = run b n s h in
-    sinks_deep b d n (record { last = s; reached = r.reached; at = r.place; within = l; shallow = g; deep = stop })
+    sinks_deep (record { last = s; reached = r.reached; at = r.place; within = l; shallow = g; deep = stop })
 
 pub spells_end : (b : List ℕ) (s : State) (us : List Token) (p : ℕ) → after b (length b) ≡ Some s
     → settle s ≡ Some (state (between After) [] us (length b) p) → Spells b us
-spells_end b s us p h e = spells s (inv_reaches b s (run b (length b) s h).reached) us p e
+spells_end b s us p h e = spells (inv_reaches (run b (length b) s h).reached) us p e

@@ -21,7 +21,7 @@ after_comma b n (inr e) c = let f = sym c ∙ e.1 in absurd (omega arith)
 
 pub close_array-outer-requires-clause-small : goal.close_array-outer-requires-clause-small
 close_array-outer-requires-clause-small c =
-    stands_small _ _ _ _ _ c.loop-tokens.invariant.stands (c.loop-tokens-test.ensures refl).0
+    stands_small c.loop-tokens.invariant.stands (c.loop-tokens-test.ensures refl).0
 
 pub returns-then-not-is_open_array-clause-answer : goal.returns-then-not-is_open_array-clause-answer
 returns-then-not-is_open_array-clause-answer c = λ ts ks s.
@@ -30,8 +30,7 @@ returns-then-not-is_open_array-clause-answer c = λ ts ks s.
     let h = c.loop-tokens-test.ensures refl in
     let b = c.args.line.now in
     subst (λ (x : Inner). Standing b ts ks a.new.tokens a.new.stack x.next.mode x.next.place)
-    (sym c.outside_arrays.ensures)
-    (standing_closed b ts ks l.tokens a.new.tokens l.stack a.new.stack l.next.mode l.next.place
+    (sym c.outside_arrays.ensures) (standing_closed
     (l.invariant.answer ts ks s) h.0 h.1 a.ensures.tokens a.ensures.stack
     (a.ensures.closed l.next.mode (may_close b l.next l.invariant.ends)))
 
@@ -44,12 +43,10 @@ loop-tokens-preserved c =
     let order = l.invariant.order in
     let go : (ts : BoundedList Token) (ks : BoundedList ℕ)
     → Standing b ts ks l.tokens l.stack l.next.mode l.next.place
-    → Standing b ts ks a.new.tokens a.new.stack After (l.next.place + 1)
-    = λ ts ks s. standing_closed b ts ks l.tokens a.new.tokens l.stack a.new.stack l.next.mode l.next.place s h.0 h.1
+    → Standing b ts ks a.new.tokens a.new.stack After (l.next.place + 1) = λ ts ks s. standing_closed s h.0 h.1
     a.ensures.tokens a.ensures.stack (a.ensures.closed l.next.mode (may_close b l.next l.invariant.ends)) in
     record {
-      stands = stands_on b l.tokens a.new.tokens l.stack a.new.stack l.next.mode After l.next.place
-          (l.next.place + 1) l.invariant.stands go;
+      stands = stands_on l.invariant.stands go;
       answer = λ ts ks s. go ts ks (l.invariant.answer ts ks s);
       array = c.if-not-is_open_array.ensures refl a.new.stack.elements a.ensures.outer;
       ends = inl refl;
@@ -61,7 +58,6 @@ returns-clause-answer c = λ ts ks s.
     let l = c.loop-tokens in
     let b = c.args.line.now in
     let h = c.if-not-stands_at.ensures refl in
-    standing_comma b ts ks l.tokens l.stack l.next.place
+    standing_comma l.next.place
     (subst (λ m. Standing b ts ks l.tokens l.stack m l.next.place) (after_comma b l.next l.invariant.ends h.1)
-    (l.invariant.answer ts ks s))
-    h.0 h.1 l.invariant.array
+    (l.invariant.answer ts ks s)) h.0 h.1 l.invariant.array

@@ -11,32 +11,25 @@ use Rattle.cj_spans.proofs.Leads.{in_small, flat_stands, flat_read, flat_innermo
 use Rattle.cj_spans.proofs.arrays.read_array.Goals as goal
 
 pub open_array-requires-clause-room : goal.open_array-requires-clause-room
-open_array-requires-clause-room c = let r = c.requires in stands_room _ _ _ _ _ r.stands r.within r.begins
+open_array-requires-clause-room c = let r = c.requires in stands_room r.stands r.within r.begins
 
 pub read_numbers-numbers-requires-clause-stands : goal.read_numbers-numbers-requires-clause-stands
 read_numbers-numbers-requires-clause-stands c =
     let r = c.requires in
-    let us = c.open_array.new.tokens in
-    flat_stands c.args.line.now c.args.tokens.now us us c.args.stack.now c.args.from.mode FirstItem c.args.from.place
-    c.args.from.place r.stands r.begins r.within r.bracket r.shallow c.open_array.ensures
+    flat_stands r.stands r.begins r.within r.bracket r.shallow c.open_array.ensures
 
 pub close_token-requires-clause-small : goal.close_token-requires-clause-small
 close_token-requires-clause-small c =
     let r = c.requires in
     let n = c.read_numbers-numbers in
-    in_small Array c.args.line.now n.new.tokens n.result.next.mode n.result.next.place
-    (flat_inside c.args.line.now c.args.tokens.now c.open_array.new.tokens n.new.tokens c.args.stack.now
-    c.args.from.mode n.result.next.mode c.args.from.place n.result.next.place r.stands r.begins r.within r.bracket
-    r.shallow c.open_array.ensures n.ensures.leads)
+    in_small (flat_inside r.stands r.begins r.within r.bracket r.shallow c.open_array.ensures n.ensures.leads)
     (n.ensures.ended c.if-numbers.true).within
 
 pub close_token-requires-clause-within : goal.close_token-requires-clause-within
 close_token-requires-clause-within c =
     let r = c.requires in
     let n = c.read_numbers-numbers in
-    let a = flat_innermost c.args.line.now c.args.tokens.now c.open_array.new.tokens n.new.tokens c.args.stack.now
-    c.args.from.mode n.result.next.mode c.args.from.place n.result.next.place r.stands r.begins r.within r.bracket
-    r.shallow c.open_array.ensures n.ensures.leads in
+    let a = flat_innermost r.stands r.begins r.within r.bracket r.shallow c.open_array.ensures n.ensures.leads in
     subst (λ k. k < length n.new.tokens.elements) (sym c.len-index.ensures.value)
     (index_within c.args.stack.now.elements (length c.args.tokens.now.elements) n.new.tokens.elements a)
 
@@ -44,100 +37,86 @@ pub close_token-requires-clause-list : goal.close_token-requires-clause-list
 close_token-requires-clause-list c =
     let r = c.requires in
     let n = c.read_numbers-numbers in
-    let s = flat_inside c.args.line.now c.args.tokens.now c.open_array.new.tokens n.new.tokens c.args.stack.now
-    c.args.from.mode n.result.next.mode c.args.from.place n.result.next.place r.stands r.begins r.within r.bracket
-    r.shallow c.open_array.ensures n.ensures.leads in
+    let s = flat_inside r.stands r.begins r.within r.bracket r.shallow c.open_array.ensures n.ensures.leads in
     s.stands.standing.kept.within
 
 pub leave_arrays-requires-clause-stands : goal.leave_arrays-requires-clause-stands
 leave_arrays-requires-clause-stands c =
     let r = c.requires in
     let n = c.read_numbers-numbers in
-    let b = c.args.line.now in let ts = c.args.tokens.now in let us = c.open_array.new.tokens in
-    let ks = c.args.stack.now in let m = c.args.from.mode in let i = c.args.from.place in
-    let o = n.result.next.mode in let j = n.result.next.place in
+    let b = c.args.line.now in let ts = c.args.tokens.now in
+    let ks = c.args.stack.now in
+    let j = n.result.next.place in
     let end = n.ensures.ended c.if-numbers.true in
-    let w = stands_within b ts ks m i r.stands in
-    let a = flat_innermost b ts us n.new.tokens ks m o i j r.stands r.begins r.within r.bracket r.shallow
-    c.open_array.ensures n.ensures.leads in
+    let w = stands_within r.stands in
+    let a = flat_innermost r.stands r.begins r.within r.bracket r.shallow c.open_array.ensures n.ensures.leads in
     let closed = subst (λ k. (t : Token) → slice_get n.new.tokens.elements k ≡ Some t
     → c.close_token.new.tokens.elements
     ≡ slice_set n.new.tokens.elements k (token_at t.start (suc j) (length n.new.tokens.elements)))
     c.len-index.ensures.value c.close_token.ensures.closed in
-    stands_on b ts c.close_token.new.tokens ks c.push_and_pop.new.self m After i (j + 1) r.stands
-    (λ t0 s0 z. flat_closed b n.new.tokens c.close_token.new.tokens ks c.push_and_pop.new.self (length ts.elements) j
+    stands_on r.stands (λ t0 s0 z. flat_closed b ks (length ts.elements) j
     end.within end.bracket a w.1 c.push_and_pop.ensures.within c.push_and_pop.ensures.peak closed
     c.close_token.ensures.tokens t0 s0
     (subst (λ x. Standing b t0 s0 n.new.tokens (with_top ks (length ts.elements)) x j) end.after
-    (flat_read b ts us n.new.tokens ks m o i j r.stands r.begins r.within r.bracket r.shallow c.open_array.ensures
-    n.ensures.leads t0 s0 z)))
+    (flat_read r.stands r.begins r.within r.bracket r.shallow c.open_array.ensures n.ensures.leads t0 s0 z)))
 
 pub leave_arrays-requires-clause-array : goal.leave_arrays-requires-clause-array
 leave_arrays-requires-clause-array c =
     let r = c.requires in
     let n = c.read_numbers-numbers in
-    let ts = c.args.tokens.now in let us = c.open_array.new.tokens in let ks = c.args.stack.now in
-    let a = flat_innermost c.args.line.now ts us n.new.tokens ks c.args.from.mode n.result.next.mode c.args.from.place
-    n.result.next.place r.stands r.begins r.within r.bracket r.shallow c.open_array.ensures n.ensures.leads in
+    let ts = c.args.tokens.now in let ks = c.args.stack.now in
+    let a = flat_innermost r.stands r.begins r.within r.bracket r.shallow c.open_array.ensures n.ensures.leads in
     let closed = subst (λ k. (t : Token) → slice_get n.new.tokens.elements k ≡ Some t
     → c.close_token.new.tokens.elements
     ≡ slice_set n.new.tokens.elements k (token_at t.start (suc n.result.next.place) (length n.new.tokens.elements)))
     c.len-index.ensures.value c.close_token.ensures.closed in
     subst (λ z. InArray z c.close_token.new.tokens.elements) (sym (ap (λ z. z.elements) c.push_and_pop.ensures.peak))
-    (outer_stays ks.elements ts.elements n.new.tokens.elements c.close_token.new.tokens.elements (length ts.elements) _
-    r.array (omega arith) (kept_all _ _ _ (kept_more _ _ _ c.open_array.ensures.elements) n.ensures.kept)
+    (outer_stays ks.elements ts.elements n.new.tokens.elements (length ts.elements) _
+    r.array (omega arith) (kept_all _ _ _ (kept_more _ _ c.open_array.ensures.elements) n.ensures.kept)
     (closed a.token (top_there ks.elements (length ts.elements) n.new.tokens.elements a)))
 
 pub returns-then-numbers-clause-answer : goal.returns-then-numbers-clause-answer
 returns-then-numbers-clause-answer c = λ t0 s0 z.
     let r = c.requires in
     let n = c.read_numbers-numbers in
-    let b = c.args.line.now in let ts = c.args.tokens.now in let us = c.open_array.new.tokens in
-    let ks = c.args.stack.now in let m = c.args.from.mode in let i = c.args.from.place in
-    let o = n.result.next.mode in let j = n.result.next.place in
+    let b = c.args.line.now in let ts = c.args.tokens.now in
+    let ks = c.args.stack.now in
+    let j = n.result.next.place in
     let end = n.ensures.ended c.if-numbers.true in
-    let w = stands_within b ts ks m i r.stands in
-    let a = flat_innermost b ts us n.new.tokens ks m o i j r.stands r.begins r.within r.bracket r.shallow
-    c.open_array.ensures n.ensures.leads in
+    let w = stands_within r.stands in
+    let a = flat_innermost r.stands r.begins r.within r.bracket r.shallow c.open_array.ensures n.ensures.leads in
     let closed = subst (λ k. (t : Token) → slice_get n.new.tokens.elements k ≡ Some t
     → c.close_token.new.tokens.elements
     ≡ slice_set n.new.tokens.elements k (token_at t.start (suc j) (length n.new.tokens.elements)))
     c.len-index.ensures.value c.close_token.ensures.closed in
-    c.leave_arrays.ensures.answer t0 s0
-    (flat_closed b n.new.tokens c.close_token.new.tokens ks c.push_and_pop.new.self (length ts.elements) j
+    c.leave_arrays.ensures.answer t0 s0 (flat_closed b ks (length ts.elements) j
     end.within end.bracket a w.1 c.push_and_pop.ensures.within c.push_and_pop.ensures.peak closed
     c.close_token.ensures.tokens t0 s0
     (subst (λ x. Standing b t0 s0 n.new.tokens (with_top ks (length ts.elements)) x j) end.after
-    (flat_read b ts us n.new.tokens ks m o i j r.stands r.begins r.within r.bracket r.shallow c.open_array.ensures
-    n.ensures.leads t0 s0 z)))
+    (flat_read r.stands r.begins r.within r.bracket r.shallow c.open_array.ensures n.ensures.leads t0 s0 z)))
 
 pub overflow_cast-index : goal.overflow_cast-index
 overflow_cast-index c =
-    let h = (stands_small _ _ _ _ _ c.requires.stands c.requires.within).1 in
-    let e = c.len-index.ensures.value in
+    let h = (stands_small c.requires.stands c.requires.within).1 in
     omega arith
 
 pub returns-clause-answer : goal.returns-clause-answer
 returns-clause-answer c = λ t0 s0 z.
     let r = c.requires in
     let n = c.read_numbers-numbers in
-    let b = c.args.line.now in let ts = c.args.tokens.now in let us = c.open_array.new.tokens in
-    let ks = c.args.stack.now in let m = c.args.from.mode in let i = c.args.from.place in
-    let o = n.result.next.mode in let j = n.result.next.place in
+    let ts = c.args.tokens.now in
+    let ks = c.args.stack.now in
     let e = subst (λ k. Becomes ks (k ∷ ks.elements) c.push_reserved.new.self) c.len-index.ensures.value
     c.push_reserved.ensures in
-    standing_stack b n.new.tokens ks c.push_reserved.new.self (length ts.elements) o j e t0 s0
-    (flat_read b ts us n.new.tokens ks m o i j r.stands r.begins r.within r.bracket r.shallow c.open_array.ensures
-    n.ensures.leads t0 s0 z)
+    standing_stack ks c.push_reserved.new.self (length ts.elements) e
+    (flat_read r.stands r.begins r.within r.bracket r.shallow c.open_array.ensures n.ensures.leads t0 s0 z)
 
 pub returns-clause-array : goal.returns-clause-array
 returns-clause-array c = λ t.
     let r = c.requires in
     let n = c.read_numbers-numbers in
-    let ts = c.args.tokens.now in let ks = c.args.stack.now in
-    let a = flat_innermost c.args.line.now ts c.open_array.new.tokens n.new.tokens ks c.args.from.mode
-    n.result.next.mode c.args.from.place n.result.next.place r.stands r.begins r.within r.bracket r.shallow
-    c.open_array.ensures n.ensures.leads in
+    let ks = c.args.stack.now in
+    let a = flat_innermost r.stands r.begins r.within r.bracket r.shallow c.open_array.ensures n.ensures.leads in
     let e = subst (λ k. Becomes ks (k ∷ ks.elements) c.push_reserved.new.self) c.len-index.ensures.value
     c.push_reserved.ensures in
     (subst (λ z. InArray z n.new.tokens.elements) (sym e.elements) a, n.ensures.begins c.if-numbers.false)

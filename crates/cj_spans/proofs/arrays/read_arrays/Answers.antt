@@ -15,12 +15,10 @@ pub loop-next-preserved : goal.loop-next-preserved
 loop-next-preserved c =
     let l = c.loop-next in
     let e = c.in-Ok.ensures in
-    let n = c.in-Ok.inner.next in
     let inside = e.array (set _ c.if-not-inner.false) in
     let order = l.invariant.order in let more = e.order in
     record {
-      stands = stands_on c.args.line.now l.tokens c.read_part.new.tokens l.stack c.read_part.new.stack l.next.mode
-          n.mode l.next.place n.place l.invariant.stands e.answer;
+      stands = stands_on l.invariant.stands e.answer;
       answer = λ ts ks s. e.answer ts ks (l.invariant.answer ts ks s);
       array = inside.0;
       begins = inside.1;

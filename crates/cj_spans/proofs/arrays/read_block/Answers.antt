@@ -13,26 +13,23 @@ stands_alone x y (inr h) e = absurd (h e)
 pub keep_number-numbers-requires-clause-number : goal.keep_number-numbers-requires-clause-number
 keep_number-numbers-requires-clause-number c =
     let l = c.loop-others in
-    let m = first_mark c.args.line.now l.next.place l.others l.invariant.marked (omega arith) l.auto.others-fits.fits in
-    block_number c.args.line.now l.next.place l.others _ m c.if-digits-eq0.false
-    (stands_alone _ _ c.if-digits-ne1.either)
+    let m = first_mark l.invariant.marked (omega arith) l.auto.others-fits.fits in
+    block_number m c.if-digits-eq0.false (stands_alone _ _ c.if-digits-ne1.either)
 
 pub returns-then-numbers : goal.returns-then-numbers
 returns-then-numbers c =
     let l = c.loop-others in
-    reads_on c.args.line.now c.args.tokens.now l.tokens c.keep_number-numbers.new.tokens c.args.from l.next
-    c.keep_number-numbers.result l.invariant.reads c.keep_number-numbers.ensures.reads
+    reads_on l.invariant.reads c.keep_number-numbers.ensures.reads
 
 pub overflow_shr-others : goal.overflow_shr-others
 overflow_shr-others c =
     let l = c.loop-others in
-    let m = first_mark c.args.line.now l.next.place l.others l.invariant.marked (omega arith) l.auto.others-fits.fits in
-    let few = m.few in
+    let m = first_mark l.invariant.marked (omega arith) l.auto.others-fits.fits in
     omega arith
 
-passed : (p q r : ℕ) → (p ≡ q) ⊎ (p ≡ r) → (p ≡ q → ⊥) → p ≡ r
-passed p q r (inl h) n = absurd (n h)
-passed p q r (inr h) n = h
+passed : {p q : ℕ} (r : ℕ) → (p ≡ q) ⊎ (p ≡ r) → (p ≡ q → ⊥) → p ≡ r
+passed r (inl h) n = absurd (n h)
+passed r (inr h) n = h
 
 pub loop-others-preserved : goal.loop-others-preserved
 loop-others-preserved c =
@@ -40,14 +37,13 @@ loop-others-preserved c =
     let b = c.args.line.now in
     let n = c.keep_number-numbers in
     let us = n.new.tokens in
-    let m = first_mark b l.next.place l.others l.invariant.marked (omega arith) l.auto.others-fits.fits in
-    let e = passed n.result.next.place l.next.place _ (n.ensures.comma c.if-numbers.false) c.if-numbers-next.false in
+    let m = first_mark l.invariant.marked (omega arith) l.auto.others-fits.fits in
+    let e = passed _ (n.ensures.comma c.if-numbers.false) c.if-numbers-next.false in
     let more = subst (λ f. ReadsNumbers b l.tokens l.next us (record { next = n.result.next; ended = f }))
     c.if-numbers.false n.ensures.reads in
     record {
-      stands = stands_leads b l.tokens us l.next.mode n.result.next.mode l.next.place n.result.next.place
-          l.invariant.stands n.ensures.reads.leads;
-      reads = reads_on b c.args.tokens.now l.tokens us c.args.from l.next _ l.invariant.reads more;
+      stands = stands_leads l.invariant.stands n.ensures.reads.leads;
+      reads = reads_on l.invariant.reads more;
       begins = n.ensures.reads.begins c.if-numbers.false;
       marked =
           let q : l.next.place + (trailing_zeros w64 l.others + 1) ≡ n.result.next.place = omega (arith, e) in

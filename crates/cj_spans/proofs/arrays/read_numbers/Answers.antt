@@ -6,8 +6,7 @@ use Rattle.cj_spans.proofs.arrays.read_numbers.Goals as goal
 pub returns-then-numbers : goal.returns-then-numbers
 returns-then-numbers c =
     let l = c.loop-next in
-    reads_on c.args.line.now c.args.tokens.now l.tokens c.read_some-numbers.new.tokens c.args.from l.next
-    c.read_some-numbers.result l.invariant.reads c.read_some-numbers.ensures
+    reads_on l.invariant.reads c.read_some-numbers.ensures
 
 pub loop-next-preserved : goal.loop-next-preserved
 loop-next-preserved c =
@@ -18,8 +17,7 @@ loop-next-preserved c =
     let more = subst (λ f. ReadsNumbers b l.tokens l.next us (record { next = n.result.next; ended = f }))
     c.if-numbers.false n.ensures in
     record {
-      stands = stands_leads b l.tokens us l.next.mode n.result.next.mode l.next.place n.result.next.place
-          l.invariant.stands n.ensures.leads;
-      reads = reads_on b c.args.tokens.now l.tokens us c.args.from l.next _ l.invariant.reads more;
+      stands = stands_leads l.invariant.stands n.ensures.leads;
+      reads = reads_on l.invariant.reads more;
       begins = n.ensures.begins c.if-numbers.false;
     }

@@ -6,14 +6,12 @@ use Rattle.cj_spans.proofs.arrays.read_some.Goals as goal
 pub read_number-requires-2-clause-stands : goal.read_number-requires-2-clause-stands
 read_number-requires-2-clause-stands c =
     let n = c.read_block-numbers in
-    stands_leads c.args.line.now c.args.tokens.now n.new.tokens c.args.from.mode n.result.next.mode c.args.from.place
-    n.result.next.place c.requires.stands n.ensures.leads
+    stands_leads c.requires.stands n.ensures.leads
 
 pub returns : goal.returns
 returns c =
     let b = c.args.line.now in
     let n = c.read_block-numbers in
-    reads_on b c.args.tokens.now n.new.tokens c.read_number-2.new.tokens c.args.from n.result.next
-    c.read_number-2.result
+    reads_on
     (subst (λ f. ReadsNumbers b c.args.tokens.now c.args.from n.new.tokens
     (record { next = n.result.next; ended = f })) c.if-numbers.false n.ensures) c.read_number-2.ensures

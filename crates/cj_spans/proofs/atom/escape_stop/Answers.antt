@@ -15,6 +15,5 @@ returns-then-has_hex c =
     let l = c.requires in
     let g = c.has_hex.ensures c.if-has_hex.true in (
       omega arith,
-      goes_unicode c.args.line.now c.args.place (omega arith) c.if-line-place-ne92.false
-          c.if-letter-eq117.true g,
+      goes_unicode c.args.place (omega arith) c.if-line-place-ne92.false c.if-letter-eq117.true g,
     )

@@ -7,5 +7,4 @@ pub returns : goal.returns
 returns c =
     let s = c.skip_digits-stop.ensures in
     let g = c.begins_fraction.ensures c.if-not-begins_fraction.false c.args.digits c.requires.point in
-    reads_far (goes_far g (goes_same c.args.line.now (c.args.place + 2) c.skip_digits-stop.result Fraction s.same
-    s.order s.end)) c.read_on-2.ensures
+    reads_far (goes_far g (goes_same s.same s.order s.end)) c.read_on-2.ensures

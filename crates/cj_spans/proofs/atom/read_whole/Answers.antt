@@ -6,12 +6,11 @@ pub returns-then-halts : goal.returns-then-halts
 returns-then-halts c =
     let s = c.skip_digits-stop.ensures in
     record {
-      run = goes_same c.args.line.now c.args.place c.skip_digits-stop.result Whole s.same s.order s.end;
+      run = goes_same s.same s.order s.end;
       halts = c.halts.ensures c.if-halts.true;
     }
 
 pub returns : goal.returns
 returns c =
     let s = c.skip_digits-stop.ensures in
-    reads_far (goes_same c.args.line.now c.args.place c.skip_digits-stop.result Whole s.same s.order s.end)
-    c.read_tail.ensures
+    reads_far (goes_same s.same s.order s.end) c.read_tail.ensures

@@ -6,6 +6,6 @@ use Rattle.cj_spans.proofs.atom.read_zero.Goals as goal
 pub returns-then-halts : goal.returns-then-halts
 returns-then-halts c =
     record {
-      run = goes_same c.args.line.now c.args.place c.args.place Zero (λ n x r. r) (omega arith) c.requires;
+      run = goes_same (λ n x r. r) (omega arith) c.requires;
       halts = c.halts.ensures c.if-halts.true;
     }

@@ -17,5 +17,5 @@ returns c =
     let order : i + s ≤ i + 32 = omega arith in
     record {
       stop = i + 32;
-      marked = subst (λ n. AreMarkedTo b n (i + 32) (m / 2 ^ s)) e (later b i (i + 32) m s a order);
+      marked = subst (λ n. AreMarkedTo b n (i + 32) (m / 2 ^ s)) e (later s a order);
     }

@@ -11,7 +11,7 @@ returns-then-ends_string c =
     let within = q.0 in
     record {
       opens = c.if-line-place-ne34.false;
-      goes = read_more _ _ _ _ _ _ _
+      goes = read_more _ _ _
           (c.skip_plain-stop.ensures.same _ _ (read_first c.args.line.now c.args.place InString)) refl
           (sym (ap (lex_step InString) q.1));
       order = omega arith;

@@ -4,11 +4,9 @@ use Rattle.cj_spans.proofs.lex.skip_digits.Goals as goal
 pub returns-in-Some-clause-same : goal.returns-in-Some-clause-same
 returns-in-Some-clause-same c = λ i x r.
     let f = c.in-Some.ensures.found in
-    read_to c.args.line.now i c.args.place c.in-Some.stop x c.args.read f.0
-    (λ j low high. c.requires.stays _ (f.2 j low high)) r
+    read_to c.in-Some.stop f.0 (λ j low high. c.requires.stays _ (f.2 j low high)) r
 
 pub returns-in-None-clause-same : goal.returns-in-None-clause-same
 returns-in-None-clause-same c = λ i x r.
-    c.skip_digits_singly-in-None.ensures.same i x
-    (read_run 16 c.args.line.now i c.args.place x c.args.read
+    c.skip_digits_singly-in-None.ensures.same i x (read_run 16
     (λ j low high. c.requires.stays _ (c.in-None.ensures.none j low high)) r)

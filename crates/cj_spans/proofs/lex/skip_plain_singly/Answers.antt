@@ -4,8 +4,7 @@ use Rattle.cj_spans.proofs.lex.skip_plain_singly.Goals as goal
 
 pub loop-stop-preserved : goal.loop-stop-preserved
 loop-stop-preserved c = (
-  λ i x r. read_plain c.args.line.now i c.loop-stop.stop x (c.loop-stop.invariant.0 i x r)
-      (sym c.is_plain.ensures ∙ c.if-is_plain.true),
+  λ i x r. read_plain (c.loop-stop.invariant.0 i x r) (sym c.is_plain.ensures ∙ c.if-is_plain.true),
   omega arith,
   omega arith,
 )

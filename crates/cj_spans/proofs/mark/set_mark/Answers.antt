@@ -28,4 +28,4 @@ returns-clause-kept c =
     ap (λ ts. slice_get ts c.args.number) (sym c.as_slice.ensures.value) ∙ c.token_at-token.ensures in
     let list : new ≡ record old { elements = new.elements } = c.set.ensures.set
     ∙ ap (λ ts. record old { elements = ts }) (sym (ap (λ b. b.elements) c.set.ensures.set)) in
-    keeps old new c.args.number t found (become c) list c.set.ensures.within
+    keeps old c.args.number t found (become c) list c.set.ensures.within

@@ -6,25 +6,22 @@ use Rattle.cj_spans.proofs.members.pass_name.Goals as goal
 
 pub read_string-requires-clause-small : goal.read_string-requires-clause-small
 read_string-requires-clause-small c =
-    (name_small c.args.line.now c.args.tokens.now c.args.from.mode c.args.from.place c.requires.stands
-    c.requires.within).1
+    (name_small c.args.line.now c.args.tokens.now c.requires.stands c.requires.within).1
 
 pub read_string-requires-clause-room : goal.read_string-requires-clause-room
 read_string-requires-clause-room c =
-    name_room c.args.line.now c.args.tokens.now c.args.from.mode c.args.from.place c.requires.stands c.requires.within
-    c.requires.begins
+    name_room c.args.line.now c.args.tokens.now c.requires.stands c.requires.within c.requires.begins
 
 pub read_string-requires-clause-reserved : goal.read_string-requires-clause-reserved
 read_string-requires-clause-reserved c =
-    name_reserved c.args.line.now c.args.tokens.now c.args.from.mode c.args.from.place c.requires.stands
+    name_reserved c.args.line.now c.args.tokens.now c.requires.stands
 
 pub returns-then-stands_at-clause-leads : goal.returns-then-stands_at-clause-leads
 returns-then-stands_at-clause-leads c =
     let f = c.args.from in
     let us = c.read_string.new.tokens in
     let q = c.in-Some.ensures.string in
-    leads_on c.args.line.now c.args.tokens.now us us f.mode AfterName Ready f.place c.in-Some.stop (c.in-Some.stop + 1)
-    (leads_string c.args.line.now c.args.tokens.now us f.mode AfterName f.place c.in-Some.stop
+    leads_on (leads_string c.args.line.now c.args.tokens.now us f.mode AfterName
     (name_leads f.mode c.requires.begins) q.0 q.1)
     (leads_colon c.args.line.now us c.in-Some.stop (c.stands_at.ensures c.if-stands_at.true))
 
@@ -32,5 +29,5 @@ pub returns-clause-leads : goal.returns-clause-leads
 returns-clause-leads c =
     let f = c.args.from in
     let q = c.in-Some.ensures.string in
-    leads_string c.args.line.now c.args.tokens.now c.read_string.new.tokens f.mode AfterName f.place c.in-Some.stop
+    leads_string c.args.line.now c.args.tokens.now c.read_string.new.tokens f.mode AfterName
     (name_leads f.mode c.requires.begins) q.0 q.1

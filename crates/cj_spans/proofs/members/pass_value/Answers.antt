@@ -6,27 +6,25 @@ use Rattle.cj_spans.proofs.members.pass_value.Goals as goal
 
 pub read_string-requires-clause-small : goal.read_string-requires-clause-small
 read_string-requires-clause-small c =
-    (name_small c.args.line.now c.args.tokens.now Ready c.args.place c.requires.stands c.if-place-line.false).1
+    (name_small c.args.line.now c.args.tokens.now c.requires.stands c.if-place-line.false).1
 
 pub read_string-requires-clause-room : goal.read_string-requires-clause-room
 read_string-requires-clause-room c =
-    string_room c.args.line.now c.args.tokens.now c.args.place c.requires.stands c.if-place-line.false
+    string_room c.args.line.now c.args.tokens.now c.requires.stands c.if-place-line.false
 
 pub read_string-requires-clause-reserved : goal.read_string-requires-clause-reserved
 read_string-requires-clause-reserved c =
-    name_reserved c.args.line.now c.args.tokens.now Ready c.args.place c.requires.stands
+    name_reserved c.args.line.now c.args.tokens.now c.requires.stands
 
 pub returns-then-stands_at-clause-leads : goal.returns-then-stands_at-clause-leads
 returns-then-stands_at-clause-leads c =
     let us = c.read_string.new.tokens in
     let q = c.in-Some.ensures.string in
-    leads_on c.args.line.now c.args.tokens.now us us Ready After NextName c.args.place c.in-Some.stop
-    (c.in-Some.stop + 1)
-    (leads_string c.args.line.now c.args.tokens.now us Ready After c.args.place c.in-Some.stop tt q.0 q.1)
+    leads_on
+    (leads_string c.args.line.now c.args.tokens.now us Ready After tt q.0 q.1)
     (leads_comma c.args.line.now us c.in-Some.stop (c.stands_at.ensures c.if-stands_at.true))
 
 pub returns-clause-leads : goal.returns-clause-leads
 returns-clause-leads c =
     let q = c.in-Some.ensures.string in
-    leads_string c.args.line.now c.args.tokens.now c.read_string.new.tokens Ready After c.args.place c.in-Some.stop tt
-    q.0 q.1
+    leads_string c.args.line.now c.args.tokens.now c.read_string.new.tokens Ready After tt q.0 q.1

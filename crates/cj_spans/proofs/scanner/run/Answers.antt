@@ -11,11 +11,11 @@ loop-place-init c =
 
 pub read_byte-requires-clause-small : goal.read_byte-requires-clause-small
 read_byte-requires-clause-small c =
-    standing_small _ _ _ _ _ _ _ c.loop-place.invariant c.requires.short c.loop-place-test.true
+    standing_small c.loop-place.invariant c.requires.short c.loop-place-test.true
 
 pub read_byte-requires-clause-room : goal.read_byte-requires-clause-room
 read_byte-requires-clause-room c =
-    standing_room _ _ _ _ _ _ _ c.loop-place.invariant c.requires.room c.loop-place-test.true
+    standing_room c.loop-place.invariant c.requires.room c.loop-place-test.true
 
 pub read_byte-requires-clause-reserved : goal.read_byte-requires-clause-reserved
 read_byte-requires-clause-reserved c =
@@ -23,33 +23,26 @@ read_byte-requires-clause-reserved c =
 
 pub returns-in-Err-clause-answer : goal.returns-in-Err-clause-answer
 returns-in-Err-clause-answer c =
-    standing_fault (Unit {0}) c.args.line.now c.args.tokens.now c.args.stack.now c.loop-place.tokens
-    c.read_byte.new.tokens c.loop-place.stack c.read_byte.new.stack c.loop-place.mode c.loop-place.place
+    standing_fault (Unit {0}) c.read_byte.new.tokens
     c.in-Err.fault c.loop-place.invariant c.loop-place-test.true c.in-Err.ensures.answer c.in-Err.ensures.err.1
 
 pub returns-in-Err-clause-law : goal.returns-in-Err-clause-law
 returns-in-Err-clause-law c =
-    standing_law c.args.line.now c.args.tokens.now c.args.stack.now c.loop-place.tokens c.read_byte.new.tokens
-    c.loop-place.stack c.read_byte.new.stack c.loop-place.mode c.loop-place.place c.loop-place.invariant
+    standing_law c.loop-place.invariant
     c.in-Err.ensures.tokens c.in-Err.ensures.stack c.in-Err.ensures.err.0 c.in-Err.ensures.err.1
 
 pub follow-requires-clause-small : goal.follow-requires-clause-small
 follow-requires-clause-small c =
-    let s = standing_step c.args.line.now c.args.tokens.now c.args.stack.now c.loop-place.tokens c.read_byte.new.tokens
-    c.loop-place.stack c.read_byte.new.stack c.loop-place.mode c.loop-place.place c.in-Ok.taken
-    c.loop-place.invariant c.loop-place-test.true c.in-Ok.ensures.tokens c.in-Ok.ensures.stack
-    c.in-Ok.ensures.answer in
-    let q = stepped_small _ _ _ _ _ _ _ _ s c.requires.short c.loop-place-test.true in
-    let h = c.requires.short in
+    let s = standing_step c.in-Ok.taken
+    c.loop-place.invariant c.loop-place-test.true c.in-Ok.ensures.tokens c.in-Ok.ensures.stack c.in-Ok.ensures.answer in
+    let q = stepped_small s c.requires.short c.loop-place-test.true in
     (omega arith, q.1)
 
 pub follow-requires-clause-room : goal.follow-requires-clause-room
 follow-requires-clause-room c =
-    let s = standing_step c.args.line.now c.args.tokens.now c.args.stack.now c.loop-place.tokens c.read_byte.new.tokens
-    c.loop-place.stack c.read_byte.new.stack c.loop-place.mode c.loop-place.place c.in-Ok.taken
-    c.loop-place.invariant c.loop-place-test.true c.in-Ok.ensures.tokens c.in-Ok.ensures.stack
-    c.in-Ok.ensures.answer in
-    stepped_room _ _ _ _ _ _ _ _ s c.requires.room c.loop-place-test.true
+    let s = standing_step c.in-Ok.taken
+    c.loop-place.invariant c.loop-place-test.true c.in-Ok.ensures.tokens c.in-Ok.ensures.stack c.in-Ok.ensures.answer in
+    stepped_room s c.requires.room c.loop-place-test.true
 
 pub follow-requires-clause-reserved : goal.follow-requires-clause-reserved
 follow-requires-clause-reserved c =
@@ -57,31 +50,22 @@ follow-requires-clause-reserved c =
 
 pub returns-in-Err-follow-clause-answer : goal.returns-in-Err-follow-clause-answer
 returns-in-Err-follow-clause-answer c =
-    let s = standing_step c.args.line.now c.args.tokens.now c.args.stack.now c.loop-place.tokens c.read_byte.new.tokens
-    c.loop-place.stack c.read_byte.new.stack c.loop-place.mode c.loop-place.place c.in-Ok.taken
-    c.loop-place.invariant c.loop-place-test.true c.in-Ok.ensures.tokens c.in-Ok.ensures.stack
-    c.in-Ok.ensures.answer in
-    stepped_fault (Unit {0}) c.args.line.now c.args.tokens.now c.args.stack.now c.read_byte.new.tokens
-    c.follow.new.tokens c.read_byte.new.stack c.loop-place.mode c.loop-place.place c.in-Ok.taken
-    c.in-Err-follow.fault s
+    let s = standing_step c.in-Ok.taken
+    c.loop-place.invariant c.loop-place-test.true c.in-Ok.ensures.tokens c.in-Ok.ensures.stack c.in-Ok.ensures.answer in
+    stepped_fault (Unit {0}) c.follow.new.tokens c.in-Err-follow.fault s
     (λ p. c.in-Err-follow.ensures.answer c.read_byte.new.stack.elements p)
 
 pub returns-in-Err-follow-clause-law : goal.returns-in-Err-follow-clause-law
 returns-in-Err-follow-clause-law c =
-    let s = standing_step c.args.line.now c.args.tokens.now c.args.stack.now c.loop-place.tokens c.read_byte.new.tokens
-    c.loop-place.stack c.read_byte.new.stack c.loop-place.mode c.loop-place.place c.in-Ok.taken
-    c.loop-place.invariant c.loop-place-test.true c.in-Ok.ensures.tokens c.in-Ok.ensures.stack
-    c.in-Ok.ensures.answer in
-    stepped_law c.args.line.now c.args.tokens.now c.args.stack.now c.read_byte.new.tokens c.follow.new.tokens
-    c.read_byte.new.stack c.loop-place.mode c.loop-place.place c.in-Ok.taken s c.loop-place-test.true
-    c.in-Err-follow.ensures.tokens c.in-Err-follow.ensures.err
+    let s = standing_step c.in-Ok.taken
+    c.loop-place.invariant c.loop-place-test.true c.in-Ok.ensures.tokens c.in-Ok.ensures.stack c.in-Ok.ensures.answer in
+    stepped_law s c.loop-place-test.true c.in-Err-follow.ensures.tokens c.in-Err-follow.ensures.err
 
 pub pass_parts-requires-clause-stands : goal.pass_parts-requires-clause-stands
 pass_parts-requires-clause-stands c = record {
   tokens0 = c.args.tokens.now;
   stack0 = c.args.stack.now;
-  standing = followed c.args.line.now c.args.tokens.now c.args.stack.now c.loop-place.tokens c.read_byte.new.tokens
-      c.follow.new.tokens c.loop-place.stack c.read_byte.new.stack c.loop-place.mode c.loop-place.place c.in-Ok.taken
+  standing = followed c.in-Ok.taken
       c.in-Ok-follow.next c.loop-place.invariant c.loop-place-test.true c.in-Ok.ensures.tokens c.in-Ok.ensures.stack
       c.in-Ok.ensures.answer c.in-Ok-follow.ensures.tokens
       (λ p. c.in-Ok-follow.ensures.answer c.read_byte.new.stack.elements p);
@@ -112,8 +96,7 @@ loop-place-smaller c =
 
 pub loop-place-preserved : goal.loop-place-preserved
 loop-place-preserved c =
-    let s = followed c.args.line.now c.args.tokens.now c.args.stack.now c.loop-place.tokens c.read_byte.new.tokens
-    c.follow.new.tokens c.loop-place.stack c.read_byte.new.stack c.loop-place.mode c.loop-place.place c.in-Ok.taken
+    let s = followed c.in-Ok.taken
     c.in-Ok-follow.next c.loop-place.invariant c.loop-place-test.true c.in-Ok.ensures.tokens c.in-Ok.ensures.stack
     c.in-Ok.ensures.answer c.in-Ok-follow.ensures.tokens
     (λ p. c.in-Ok-follow.ensures.answer c.read_byte.new.stack.elements p) in
@@ -121,8 +104,7 @@ loop-place-preserved c =
 
 pub returns-in-Err-pass_parts-clause-answer : goal.returns-in-Err-pass_parts-clause-answer
 returns-in-Err-pass_parts-clause-answer c =
-    let s = followed c.args.line.now c.args.tokens.now c.args.stack.now c.loop-place.tokens c.read_byte.new.tokens
-    c.follow.new.tokens c.loop-place.stack c.read_byte.new.stack c.loop-place.mode c.loop-place.place c.in-Ok.taken
+    let s = followed c.in-Ok.taken
     c.in-Ok-follow.next c.loop-place.invariant c.loop-place-test.true c.in-Ok.ensures.tokens c.in-Ok.ensures.stack
     c.in-Ok.ensures.answer c.in-Ok-follow.ensures.tokens
     (λ p. c.in-Ok-follow.ensures.answer c.read_byte.new.stack.elements p) in
@@ -130,21 +112,18 @@ returns-in-Err-pass_parts-clause-answer c =
 
 pub returns-in-Err-pass_parts-clause-law : goal.returns-in-Err-pass_parts-clause-law
 returns-in-Err-pass_parts-clause-law c =
-    let s = followed c.args.line.now c.args.tokens.now c.args.stack.now c.loop-place.tokens c.read_byte.new.tokens
-    c.follow.new.tokens c.loop-place.stack c.read_byte.new.stack c.loop-place.mode c.loop-place.place c.in-Ok.taken
+    let s = followed c.in-Ok.taken
     c.in-Ok-follow.next c.loop-place.invariant c.loop-place-test.true c.in-Ok.ensures.tokens c.in-Ok.ensures.stack
     c.in-Ok.ensures.answer c.in-Ok-follow.ensures.tokens
     (λ p. c.in-Ok-follow.ensures.answer c.read_byte.new.stack.elements p) in
     (c.in-Err-pass_parts.ensures.answer c.args.tokens.now c.args.stack.now s).1
 
 pub returns-then-is_end-clause-law : goal.returns-then-is_end-clause-law
-returns-then-is_end-clause-law c = ended_law _ _ _ _ _ _ _ c.loop-place.invariant
+returns-then-is_end-clause-law c = ended_law c.loop-place.invariant
 
 pub returns-else-is_end-clause-law : goal.returns-else-is_end-clause-law
-returns-else-is_end-clause-law c = ended_law _ _ _ _ _ _ _ c.loop-place.invariant
+returns-else-is_end-clause-law c = ended_law c.loop-place.invariant
 
 pub returns-else-is_end-clause-answer : goal.returns-else-is_end-clause-answer
 returns-else-is_end-clause-answer c =
-    ended_fault c.args.line.now c.args.tokens.now c.args.stack.now c.loop-place.tokens c.loop-place.stack
-    c.loop-place.mode c.loop-place.place c.loop-place.invariant c.loop-place-test.false
-    (not_so _ _ c.is_end.ensures c.if-is_end.false)
+    ended_fault c.loop-place.invariant c.loop-place-test.false (not_so _ c.is_end.ensures c.if-is_end.false)

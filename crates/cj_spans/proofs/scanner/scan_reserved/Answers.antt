@@ -20,14 +20,13 @@ returns-in-Ok-clause-sized c =
 
 pub returns-in-Ok-clause-unmarked : goal.returns-in-Ok-clause-unmarked
 returns-in-Ok-clause-unmarked c =
-    run_unmarked (Unit {0}) c.args.line.now c.clear-2.new.self c.run.new.tokens c.run.new.stack c.clear.new.self
+    run_unmarked (Unit {0}) c.args.line.now c.clear-2.new.self c.run.new.tokens c.run.new.stack
     c.run.result c.run.ensures.answer c.run.ensures.law c.requires.short
 
 pub returns-in-Ok-clause-not_utf8 : goal.returns-in-Ok-clause-not_utf8
 returns-in-Ok-clause-not_utf8 c = λ i.
-    let ts = c.clear.new.self in let ks = c.clear-2.new.self in (
-      λ e. absurd (run_utf8 (Unit {0}) c.args.line.now ks c.run.new.tokens c.run.new.stack c.run.result i
-          c.run.ensures.answer e),
+    let ks = c.clear-2.new.self in (
+      λ e. absurd (run_utf8 (Unit {0}) c.args.line.now ks c.run.new.tokens c.run.new.stack i c.run.ensures.answer e),
       λ v. absurd (utf8_whole c.args.line.now i v c.in-Ok.ensures.ok),
     )
 
@@ -35,27 +34,25 @@ pub returns-in-Ok-clause-too_deep : goal.returns-in-Ok-clause-too_deep
 returns-in-Ok-clause-too_deep c = λ i e.
     let ts = c.clear.new.self in let ks = c.clear-2.new.self in
     answers_deep (Unit {0}) c.args.line.now c.args.tokens.now ts c.run.new.tokens c.args.stack.now ks c.run.new.stack
-    (cleared _ _ c.clear.ensures.cleared) (cleared _ _ c.clear-2.ensures.cleared) c.run.result i
-    c.run.ensures.answer e
+    (cleared _ _ c.clear.ensures.cleared) (cleared _ _ c.clear-2.ensures.cleared) i c.run.ensures.answer e
 
 pub returns-in-Ok-clause-syntax : goal.returns-in-Ok-clause-syntax
 returns-in-Ok-clause-syntax c = λ i e.
     let ts = c.clear.new.self in let ks = c.clear-2.new.self in
     answers_syntax (Unit {0}) c.args.line.now c.args.tokens.now ts c.run.new.tokens c.args.stack.now ks c.run.new.stack
-    (cleared _ _ c.clear.ensures.cleared) (cleared _ _ c.clear-2.ensures.cleared) c.run.result i
-    c.run.ensures.answer e
+    (cleared _ _ c.clear.ensures.cleared) (cleared _ _ c.clear-2.ensures.cleared) i c.run.ensures.answer e
 
 pub returns-in-Ok-clause-first_too_deep : goal.returns-in-Ok-clause-first_too_deep
 returns-in-Ok-clause-first_too_deep c = λ i e.
-    let ts = c.clear.new.self in let ks = c.clear-2.new.self in
+    let ks = c.clear-2.new.self in
     answers_first_too_deep (Unit {0}) c.args.line.now c.args.stack.now ks c.run.new.stack c.run.new.tokens
-    (cleared _ _ c.clear-2.ensures.cleared) c.run.result i c.run.ensures.answer e
+    (cleared _ _ c.clear-2.ensures.cleared) i c.run.ensures.answer e
 
 pub returns-in-Ok-clause-first_fault : goal.returns-in-Ok-clause-first_fault
 returns-in-Ok-clause-first_fault c = λ i e.
-    let ts = c.clear.new.self in let ks = c.clear-2.new.self in
+    let ks = c.clear-2.new.self in
     answers_first_fault (Unit {0}) c.args.line.now c.args.stack.now ks c.run.new.stack c.run.new.tokens
-    (cleared _ _ c.clear-2.ensures.cleared) c.run.result i c.run.ensures.answer e
+    (cleared _ _ c.clear-2.ensures.cleared) i c.run.ensures.answer e
 
 pub returns-in-Ok-clause-finds_tree : goal.returns-in-Ok-clause-finds_tree
 returns-in-Ok-clause-finds_tree c = λ u t j h.
@@ -68,14 +65,14 @@ pub returns-in-Ok-clause-finds_deep : goal.returns-in-Ok-clause-finds_deep
 returns-in-Ok-clause-finds_deep c = λ u i d.
     let ts = c.clear.new.self in let ks = c.clear-2.new.self in
     answers_finds_deep (Unit {0}) c.args.line.now c.args.tokens.now ts c.run.new.tokens c.args.stack.now ks
-    c.run.new.stack (cleared _ _ c.clear.ensures.cleared) (cleared _ _ c.clear-2.ensures.cleared) c.run.result i
+    c.run.new.stack (cleared _ _ c.clear.ensures.cleared) (cleared _ _ c.clear-2.ensures.cleared) c.run.result
     c.run.ensures.answer d
 
 pub returns-in-Ok-clause-finds_syntax : goal.returns-in-Ok-clause-finds_syntax
 returns-in-Ok-clause-finds_syntax c = λ u n i s.
     let ts = c.clear.new.self in let ks = c.clear-2.new.self in
     answers_finds_syntax (Unit {0}) c.args.line.now c.args.tokens.now ts c.run.new.tokens c.args.stack.now ks
-    c.run.new.stack (cleared _ _ c.clear.ensures.cleared) (cleared _ _ c.clear-2.ensures.cleared) c.run.result i
+    c.run.new.stack (cleared _ _ c.clear.ensures.cleared) (cleared _ _ c.clear-2.ensures.cleared) c.run.result
     c.run.ensures.answer n s
 
 pub returns-in-Err-clause-utf8 : goal.returns-in-Err-clause-utf8
@@ -110,7 +107,7 @@ returns-in-Err-clause-judged c = λ j u. absurd (utf8_whole c.args.line.now c.in
 
 pub returns-in-Ok-clause-unread : goal.returns-in-Ok-clause-unread
 returns-in-Ok-clause-unread c = λ i e.
-    absurd (run_utf8 (Unit {0}) c.args.line.now c.clear-2.new.self c.run.new.tokens c.run.new.stack c.run.result i
+    absurd (run_utf8 (Unit {0}) c.args.line.now c.clear-2.new.self c.run.new.tokens c.run.new.stack i
     c.run.ensures.answer e)
 
 pub returns-in-Ok-clause-peak : goal.returns-in-Ok-clause-peak

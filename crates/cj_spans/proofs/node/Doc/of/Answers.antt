@@ -14,8 +14,8 @@ invariant_of-result c = let k = known c.args.line.now c.args.tokens.now c.requir
       named = k.named;
       linked = k.linked;
       spelled = k.spelled;
-      lone = are_lone c.args.line.now c.args.tokens.now c.requires;
-      full = are_full c.args.line.now c.args.tokens.now c.requires;
+      lone = are_lone c.requires;
+      full = are_full c.requires;
     }
 
 pub invariant_of-result-2 : goal.invariant_of-result-2
@@ -23,11 +23,11 @@ invariant_of-result-2 c = record { known = (known c.args.line.now c.args.tokens.
 
 pub returns-clause-json : goal.returns-clause-json
 unfolding document
-returns-clause-json c = its_tree c.args.line.now c.args.tokens.now c.requires
+returns-clause-json c = its_tree c.requires
 
 pub returns-clause-only : goal.returns-clause-only
 unfolding document
-returns-clause-only c = one_tree c.args.line.now c.args.tokens.now c.requires
+returns-clause-only c = one_tree c.requires
 
 pub returns-clause-line : goal.returns-clause-line
 unfolding document_line

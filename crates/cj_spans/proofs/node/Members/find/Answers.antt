@@ -12,14 +12,12 @@ returns-in_default c = c.find_from.ensures
 
 pub returns-then-place-eq0 : goal.returns-then-place-eq0
 returns-then-place-eq0 c =
-    found_none c.args.self c.args.places.now (chars c.args.name.now) c.in-Some.slot c.requires
-    c.in-Some.ensures.slot c.if-place-eq0.true
+    found_none (chars c.args.name.now) c.in-Some.slot c.requires c.in-Some.ensures.slot c.if-place-eq0.true
 
 pub returns-then-not-is_spelled : goal.returns-then-not-is_spelled
 returns-then-not-is_spelled c =
     c.find_from-then-not-is_spelled.ensures
-    ∙ found_from c.args.self c.args.places.now (chars c.args.name.now) c.in-Some.slot c.requires
-    c.in-Some.ensures.slot (omega arith)
+    ∙ found_from (chars c.args.name.now) c.in-Some.slot c.requires c.in-Some.ensures.slot (omega arith)
 
 pub invariant_of-value : goal.invariant_of-value
 invariant_of-value c =
@@ -35,10 +33,9 @@ invariant_of-value c =
 pub returns : goal.returns
 unfolding tree source_of members_source
 returns c =
-    let w = c.args.self in
     let name = chars c.args.name.now in
     let place = get_or c.args.places.now c.in-Some.slot 0 in
     let h = c.requires.places c.in-Some.slot (omega arith) in
     ap Some c.number.ensures.node
-    ∙ sym (found_here w place name h (c.is_spelled.ensures c.if-not-is_spelled.false))
-    ∙ found_from w c.args.places.now name c.in-Some.slot c.requires c.in-Some.ensures.slot (omega arith)
+    ∙ sym (found_here name h (c.is_spelled.ensures c.if-not-is_spelled.false))
+    ∙ found_from name c.in-Some.slot c.requires c.in-Some.ensures.slot (omega arith)

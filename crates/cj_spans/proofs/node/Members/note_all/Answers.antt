@@ -62,7 +62,7 @@ loop-next-preserved c =
       whole = whole_later s.tokens.now next r w.stop (omega arith) i.whole;
       named = m.named;
       noted = subst (AreNoted w (members_from w r)) (sym c.note_place.ensures.places)
-          (noted_on w member (members_from w r) ps c.first_code.result next noted code i.begun place m.shown);
+          (noted_on member (members_from w r) c.first_code.result noted code i.begun place m.shown);
       apart = λ h. elim c.if-not-note_place.branch [
         | then-not-note_place t ↦ absurd (false≢true (sym t.apart-is ∙ h))
         | else-not-note_place t ↦

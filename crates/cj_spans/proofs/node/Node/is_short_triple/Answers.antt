@@ -23,7 +23,7 @@ returns-then-stop-start-le-FEW_BYTES-clause-array c so =
     let s = n.source in
     let t = c.token_at-token.result in
     let here = c.token_at-token.ensures in
-    sym (kind_shown s.line.now s.tokens.now n.index t Array here (sym (ap kind_by c.if-self-start-ne91.false)))
+    sym (kind_shown s.line.now s.tokens.now n.index t here (sym (ap kind_by c.if-self-start-ne91.false)))
 
 pub returns-then-stop-start-le-FEW_BYTES-clause-three : goal.returns-then-stop-start-le-FEW_BYTES-clause-three
 unfolding tree
@@ -56,7 +56,7 @@ returns-else-stop-start-le-FEW_BYTES-clause-array c so =
     let s = n.source in
     let t = c.token_at-token.result in
     let here = c.token_at-token.ensures in
-    sym (kind_shown s.line.now s.tokens.now n.index t Array here (sym (ap kind_by c.if-self-start-ne91.false)))
+    sym (kind_shown s.line.now s.tokens.now n.index t here (sym (ap kind_by c.if-self-start-ne91.false)))
 
 pub returns-else-stop-start-le-FEW_BYTES-clause-three : goal.returns-else-stop-start-le-FEW_BYTES-clause-three
 unfolding tree

@@ -8,7 +8,7 @@ pub invariant_of-result : goal.invariant_of-result
 unfolding tree
 invariant_of-result c =
     let n = c.args.self in
-    let w = item_behind_link n.source.line.now n.source.tokens.now n.index c.requires.0 c.args.size n.source.nested
+    let w = item_behind_link n.source.line.now n.source.tokens.now n.index c.requires.0 n.source.nested
     n.source.linked (full_sized n.source.line.now n.source.tokens.now n.source.nested n.source.linked n.source.full)
     n.known c.requires.1 c.requires.2 in
     record { known = w.inside }
@@ -17,7 +17,7 @@ pub returns-clause-tree : goal.returns-clause-tree
 unfolding tree
 returns-clause-tree c = λ k few e.
     let n = c.args.self in
-    let w = item_behind_link n.source.line.now n.source.tokens.now n.index k c.args.size n.source.nested
+    let w = item_behind_link n.source.line.now n.source.tokens.now n.index k n.source.nested
     n.source.linked (full_sized n.source.line.now n.source.tokens.now n.source.nested n.source.linked n.source.full)
     n.known few e in
     (w.rest, w.first)

@@ -7,16 +7,15 @@ pub invariant_of-result : goal.invariant_of-result
 unfolding tree
 invariant_of-result c =
     let n = c.args.self in
-    let w = items_from_link n.source.line.now n.source.tokens.now n.index c.after.result c.items_end-stop.result
-    c.kind.result n.source.nested n.source.linked n.known c.after.ensures.link c.kind.ensures
-    c.items_end-stop.ensures in
+    let w = items_from_link n.source.line.now n.source.tokens.now n.index c.after.result
+    n.source.nested n.source.linked n.known c.after.ensures.link c.kind.ensures c.items_end-stop.ensures in
     record { whole = w.whole }
 
 pub returns-clause-items : goal.returns-clause-items
 unfolding tree items_left
 returns-clause-items c =
     let n = c.args.self in
-    (items_from_link n.source.line.now n.source.tokens.now n.index c.after.result c.items_end-stop.result c.kind.result
+    (items_from_link n.source.line.now n.source.tokens.now n.index c.after.result
     n.source.nested n.source.linked n.known c.after.ensures.link c.kind.ensures c.items_end-stop.ensures).shown
 
 pub returns-clause-line : goal.returns-clause-line
@@ -36,5 +35,5 @@ pub returns-clause-sizes : goal.returns-clause-sizes
 unfolding items_left
 returns-clause-sizes c =
     let n = c.args.self in
-    small_items n.source.line.now n.source.tokens.now n.index c.after.result c.items_end-stop.result c.kind.result
+    small_items n.source.line.now n.source.tokens.now n.index c.after.result c.kind.result
     n.source.linked n.known c.after.ensures.link c.items_end-stop.ensures

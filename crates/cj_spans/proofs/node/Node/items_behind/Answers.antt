@@ -8,9 +8,8 @@ pub invariant_of-result : goal.invariant_of-result
 unfolding tree
 invariant_of-result c =
     let n = c.args.self in
-    let w = items_from_link n.source.line.now n.source.tokens.now n.index c.after.result c.items_end-stop.result
-    c.kind.result n.source.nested n.source.linked n.known c.after.ensures.link c.kind.ensures
-    c.items_end-stop.ensures in
+    let w = items_from_link n.source.line.now n.source.tokens.now n.index c.after.result
+    n.source.nested n.source.linked n.known c.after.ensures.link c.kind.ensures c.items_end-stop.ensures in
     record {
       whole = whole_later n.source.tokens.now (n.index + 1) (n.index + 1 + c.args.size) c.items_end-stop.result
           (omega arith) w.whole;
@@ -20,8 +19,7 @@ pub returns-clause-items : goal.returns-clause-items
 unfolding tree items_left
 returns-clause-items c = λ k few e.
     let n = c.args.self in
-    items_behind_link n.source.line.now n.source.tokens.now n.index c.after.result c.items_end-stop.result k c.args.size
-    c.kind.result n.source.nested n.source.linked
+    items_behind_link n.source.line.now n.source.tokens.now n.index c.after.result k n.source.nested n.source.linked
     (full_sized n.source.line.now n.source.tokens.now n.source.nested n.source.linked n.source.full) n.known
     c.after.ensures.link c.kind.ensures c.items_end-stop.ensures few e
 

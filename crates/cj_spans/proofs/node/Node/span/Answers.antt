@@ -12,7 +12,7 @@ returns-clause-spelling c = let s = c.args.self.source in
 pub returns-clause-kind : goal.returns-clause-kind
 unfolding tree line_of
 returns-clause-kind c = let s = c.args.self.source in
-    kind_shown s.line.now s.tokens.now c.args.self.index c.token_at-token.result _ c.token_at-token.ensures refl
+    kind_shown s.line.now s.tokens.now c.args.self.index c.token_at-token.result c.token_at-token.ensures refl
 
 pub returns-clause-within : goal.returns-clause-within
 unfolding line_of
@@ -25,4 +25,4 @@ returns-clause-number c = λ is.
     let s = c.args.self.source in
     let token = c.token_at-token.result in
     told_number _ ((s.spelled c.args.self.index token c.token_at-token.ensures).0
-    (kind_shown s.line.now s.tokens.now c.args.self.index token _ c.token_at-token.ensures refl ∙ is))
+    (kind_shown s.line.now s.tokens.now c.args.self.index token {r = _} c.token_at-token.ensures refl ∙ is))

@@ -7,8 +7,8 @@ pub invariant_of-result : goal.invariant_of-result
 unfolding tree
 invariant_of-result c =
     let n = c.args.self in
-    let w = members_from_link n.source.line.now n.source.tokens.now n.index c.after.result c.members_end-stop.result
-    c.kind.result n.source.nested n.source.linked n.source.named n.known c.after.ensures.link c.kind.ensures
+    let w = members_from_link n.source.line.now n.source.tokens.now n.index c.after.result
+    n.source.nested n.source.linked n.source.named n.known c.after.ensures.link c.kind.ensures
     c.members_end-stop.ensures in
     record { whole = w.whole; named = w.named }
 
@@ -16,8 +16,8 @@ pub returns-clause-members : goal.returns-clause-members
 unfolding tree members_left
 returns-clause-members c =
     let n = c.args.self in
-    (members_from_link n.source.line.now n.source.tokens.now n.index c.after.result c.members_end-stop.result
-    c.kind.result n.source.nested n.source.linked n.source.named n.known c.after.ensures.link c.kind.ensures
+    (members_from_link n.source.line.now n.source.tokens.now n.index c.after.result
+    n.source.nested n.source.linked n.source.named n.known c.after.ensures.link c.kind.ensures
     c.members_end-stop.ensures).shown
 
 pub returns-clause-source : goal.returns-clause-source

@@ -15,6 +15,6 @@ returns-in-Some-Some c =
     let p = c.pass_alike.new.left in
     let q = c.pass_alike.new.right in
     let t = c.if-tell_apart.ensures in
-    c.cmp.ensures ∙ sym (order_apart p.bytes.now q.bytes.now p.place q.place c.in-Some-Some.byte c.in-Some-Some.other
+    c.cmp.ensures ∙ sym (order_apart p.bytes.now q.bytes.now p.place q.place
     c.in-Some-Some.ensures c.in-Some-Some.ensures' (t.differ refl) (t.ascii refl) (t.plain refl))
     ∙ c.pass_alike.ensures.order ∙ (λ k. compare (c.of-left.ensures k) (c.of-right.ensures k))

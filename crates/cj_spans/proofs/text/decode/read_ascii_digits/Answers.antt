@@ -4,10 +4,9 @@ use Rattle.cj_spans.proofs.text.decode.read_ascii_digits.Goals as goal
 
 pub returns-clause-reads : goal.returns-clause-reads
 returns-clause-reads c = λ cs e.
-    let bs = c.args.bytes.now in
     let t = c.ascii_at-first.ensures.reads cs e in
     let u = c.ascii_at-second.ensures.reads (drop 1 cs) t.rest in
-    let v = c.ascii_at-third.ensures.reads (drop 2 cs) (rest_two bs cs _ _ _ _ t u) in
-    let w = c.ascii_at-fourth.ensures.reads (drop 3 cs) (rest_three bs cs _ _ v) in
-    digits_read bs cs _ _ _ _ _ _ _ _ t u v w c.digit_value.ensures.value c.digit_value-2.ensures.value
+    let v = c.ascii_at-third.ensures.reads (drop 2 cs) (rest_two t u) in
+    let w = c.ascii_at-fourth.ensures.reads (drop 3 cs) (rest_three cs v) in
+    digits_read t u v w c.digit_value.ensures.value c.digit_value-2.ensures.value
     c.digit_value-3.ensures.value c.digit_value-4.ensures.value

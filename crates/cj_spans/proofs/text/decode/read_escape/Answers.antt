@@ -4,5 +4,4 @@ use Rattle.cj_spans.proofs.text.decode.read_escape.Goals as goal
 
 pub returns-then-not-is_high : goal.returns-then-not-is_high
 returns-then-not-is_high c =
-    λ cs e a. join_lone c.args.bytes.now cs c.in-Some.unit (search rules) (sym (c.in-Some.ensures.is cs e))
-    (c.in-Some.ensures.reads cs e)
+    λ cs e a. join_lone (search rules) (sym (c.in-Some.ensures.is cs e)) (c.in-Some.ensures.reads cs e)

@@ -4,7 +4,7 @@ use Rattle.cj_spans.proofs.text.decode.read_long_char.Goals as goal
 
 pub returns-then-lead-lt224-clause-char : goal.returns-then-lead-lt224-clause-char
 returns-then-lead-lt224-clause-char c =
-    lead_two c.args.bytes.now c.args.place c.saturating_sub-code.result c.add_byte.result (omega arith) (omega arith)
+    lead_two c.args.bytes.now c.args.place c.add_byte.result (omega arith) (omega arith)
     (omega arith) c.saturating_sub-code.ensures (c.add_byte.ensures.more 0)
 
 pub returns-then-lead-lt240-clause-char : goal.returns-then-lead-lt240-clause-char

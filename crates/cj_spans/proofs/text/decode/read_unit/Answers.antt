@@ -4,8 +4,6 @@ use Rattle.cj_spans.proofs.text.decode.read_unit.Goals as goal
 
 pub returns-then-mark-clause-reads : goal.returns-then-mark-clause-reads
 returns-then-mark-clause-reads c = λ cs e.
-    let bs = c.args.bytes.now in
     let t = c.char_at-slash.ensures cs e in
     let u = c.char_at-mark.ensures (drop 1 cs) t.rest in
-    takes_on bs cs _ 2 4 _ (takes_on bs cs _ 1 1 _ t _ _ u) _ _
-    (c.read_digits.ensures.reads (drop 2 cs) (rest_two bs cs _ _ _ _ t u))
+    takes_on _ 2 4 _ (takes_on _ 1 1 _ t u) (c.read_digits.ensures.reads (drop 2 cs) (rest_two t u))
