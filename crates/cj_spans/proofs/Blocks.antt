@@ -7,7 +7,6 @@ use Rattle.std.proofs.lemmas.Nat.Bits.{bit_at-trailing_zeros, bit_at_above}
 use Rattle.std.proofs.Math.Nat.{div-div-eq-div-mul, div-lt_iff_lt-mul}
 use Rattle.cj_spans.specs.Meaning.Json.{byte}
 use Rattle.std.proofs.lemmas.Bool.Decides.{nat_tests}
-use Rattle.cj_spans.specs.declared.lex.Lex.TheVariants.{Whole}
 use Rattle.cj_spans.specs.inner.Machine.{is_digit, IsNumberUpTo}
 use Rattle.cj_spans.proofs.Atoms.{read_to}
 use Rattle.cj_spans.proofs.WholeNumbers.{number_is, whole_stays}

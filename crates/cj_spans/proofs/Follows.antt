@@ -5,7 +5,7 @@ use Rattle.cj_spans.specs.declared.token.Token.{Token}
 use Rattle.cj_spans.specs.declared.step.Mode.{Mode}
 use Rattle.cj_spans.specs.declared.step.Mode.TheVariants.{Ready, FirstItem, After, FirstName, NextName, AfterName}
 use Rattle.cj_spans.specs.Meaning.Tree.{Atom, Tree, array, object, Items, Members, add_item, add_member}
-use Rattle.cj_spans.specs.Meaning.Json.{byte, Value, atom, empty_array, full_array, empty_object, full_object, Padded}
+use Rattle.cj_spans.specs.Meaning.Json.{Value, atom, empty_array, full_array, empty_object, full_object, Padded}
 use Rattle.cj_spans.specs.Meaning.Json.{padded, LedItems, no_led, led, LedMembers, no_led_members, led_member, Named}
 use Rattle.cj_spans.specs.Meaning.Json.{named, Json}
 use Rattle.cj_spans.specs.Preorder.{flatten, flatten_items, flatten_members, token_at}

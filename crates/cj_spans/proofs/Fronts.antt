@@ -3,15 +3,15 @@ use Rattle.std.proofs.Common.{◌≡◌, ℕ, suc, ◌+◌, List, [], ◌∷◌,
 use Rattle.std.proofs.lemmas.Bool.{cases_lt}
 use Rattle.cj_spans.specs.declared.token.Token.{Token}
 use Rattle.cj_spans.specs.declared.step.Mode.{Mode}
-use Rattle.cj_spans.specs.declared.step.Mode.TheVariants.{Ready, FirstItem, After, FirstName, AfterName}
+use Rattle.cj_spans.specs.declared.step.Mode.TheVariants.{Ready, FirstItem, FirstName, AfterName}
 use Rattle.cj_spans.specs.Meaning.Tree.{Members, no_items, no_members}
 use Rattle.cj_spans.specs.Meaning.Json.{byte, White, padded, no_led, LedMembers, no_led_members}
 use Rattle.cj_spans.specs.Meaning.Prefix.{JsonPrefix, white, begun, whole, in_object, in_array as front_array}
 use Rattle.cj_spans.specs.Meaning.Prefix.{MemberPrefix, before_name, in_name as front_name}
 use Rattle.cj_spans.specs.Meaning.Prefix.{after_name as front_after_name, in_value}
-use Rattle.cj_spans.specs.Preorder.{flatten, token_at}
-use Rattle.cj_spans.specs.inner.Machine.{State, state, in_atom, Reaches, on, BeginsValue}
-use Rattle.cj_spans.proofs.Lists.{length-snoc, slice_get-seam, rise}
+use Rattle.cj_spans.specs.Preorder.{token_at}
+use Rattle.cj_spans.specs.inner.Machine.{State, Reaches, on, BeginsValue}
+use Rattle.cj_spans.proofs.Lists.{length-snoc, slice_get-seam}
 use Rattle.cj_spans.proofs.Runs.{Arrives, settled, skip, BeginsName, idle}
 use Rattle.cj_spans.proofs.Runs.{skip_after}
 use Rattle.cj_spans.proofs.Follows.{run_padded, run_led, run_led_members, run_named, open_array, open_object}

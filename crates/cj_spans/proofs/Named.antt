@@ -4,7 +4,7 @@ use Rattle.std.specs.Prelude.{IsTrue}
 use Rattle.cj_budget.specs.Bounded.{BoundedList, Becomes}
 use Rattle.cj_spans.specs.declared.token.Kind.TheVariants.{Text, Object}
 use Rattle.cj_spans.specs.declared.token.Token.{Token}
-use Rattle.cj_spans.specs.declared.lex.Lex.TheVariants.{InString, StringDone}
+use Rattle.cj_spans.specs.declared.lex.Lex.TheVariants.{InString}
 use Rattle.cj_spans.specs.declared.step.Mode.{Mode}
 use Rattle.cj_spans.specs.declared.step.Mode.TheVariants.{Ready, After, FirstName, NextName, AfterName}
 use Rattle.cj_spans.specs.Meaning.Json.{byte}

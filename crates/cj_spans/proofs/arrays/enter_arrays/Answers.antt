@@ -1,6 +1,4 @@
-use Rattle.std.proofs.Common.{◌+◌, arith, refl}
-use Rattle.cj_spans.specs.declared.token.Kind.TheVariants.{Array}
-use Rattle.cj_spans.specs.declared.step.Mode.TheVariants.{FirstItem}
+use Rattle.std.proofs.Common.{arith, refl}
 use Rattle.cj_spans.proofs.Nested.{stands_on, stands_small, stands_room, opens_array, standing_opened, opened_in, standing_refused}
 use Rattle.cj_spans.proofs.arrays.enter_arrays.Goals as goal
 

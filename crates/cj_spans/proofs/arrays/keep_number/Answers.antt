@@ -1,5 +1,4 @@
 use Rattle.std.proofs.Common.{subst, sym, arith}
-use Rattle.cj_spans.specs.declared.token.Kind.TheVariants.{Array}
 use Rattle.cj_spans.specs.inner.Pass.{ReadsNumbers}
 use Rattle.cj_spans.proofs.Leads.{in_small, in_room, reads_item, reads_last}
 use Rattle.cj_spans.proofs.arrays.keep_number.Goals as goal

@@ -1,8 +1,6 @@
-use Rattle.std.proofs.Common.{◌≡◌, ◌+◌, ◌<◌, length, Some, suc, ◌∷◌, subst, sym, ap, arith, slice_get, slice_set}
+use Rattle.std.proofs.Common.{◌≡◌, ◌<◌, length, Some, suc, ◌∷◌, subst, sym, ap, arith, slice_get, slice_set}
 use Rattle.cj_budget.specs.Bounded.{Becomes}
-use Rattle.cj_spans.specs.declared.token.Kind.TheVariants.{Array}
 use Rattle.cj_spans.specs.declared.token.Token.{Token}
-use Rattle.cj_spans.specs.declared.step.Mode.TheVariants.{FirstItem, After}
 use Rattle.cj_spans.specs.Preorder.{token_at}
 use Rattle.cj_spans.specs.inner.Machine.{InArray}
 use Rattle.cj_spans.specs.inner.Pass.{Standing}

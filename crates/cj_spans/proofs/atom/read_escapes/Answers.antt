@@ -1,5 +1,4 @@
 use Rattle.std.proofs.Common.{arith}
-use Rattle.cj_spans.specs.declared.lex.Lex.TheVariants.{InString}
 use Rattle.cj_spans.proofs.Scalars.{goes_far, goes_same, reads_far, reads_quote}
 use Rattle.cj_spans.proofs.atom.read_escapes.Goals as goal
 

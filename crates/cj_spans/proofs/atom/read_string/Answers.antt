@@ -1,4 +1,3 @@
-use Rattle.cj_spans.specs.declared.lex.Lex.TheVariants.{InString}
 use Rattle.cj_spans.proofs.Scalars.{goes_same, reads_far, reads_quote}
 use Rattle.cj_spans.proofs.atom.read_string.Goals as goal
 

@@ -1,5 +1,3 @@
-use Rattle.std.proofs.Common.{◌+◌}
-use Rattle.cj_spans.specs.declared.lex.Lex.TheVariants.{Fraction}
 use Rattle.cj_spans.proofs.Scalars.{goes_far, goes_same, reads_far}
 use Rattle.cj_spans.proofs.atom.read_tail.Goals as goal
 

@@ -1,4 +1,3 @@
-use Rattle.cj_spans.specs.declared.lex.Lex.TheVariants.{Whole}
 use Rattle.cj_spans.proofs.Scalars.{goes_same, reads_far}
 use Rattle.cj_spans.proofs.atom.read_whole.Goals as goal
 

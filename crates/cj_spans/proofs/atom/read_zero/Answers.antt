@@ -1,5 +1,4 @@
 use Rattle.std.proofs.Common.{arith}
-use Rattle.cj_spans.specs.declared.lex.Lex.TheVariants.{Zero}
 use Rattle.cj_spans.proofs.Scalars.{goes_same}
 use Rattle.cj_spans.proofs.atom.read_zero.Goals as goal
 

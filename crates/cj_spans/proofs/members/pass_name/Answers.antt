@@ -1,5 +1,4 @@
-use Rattle.std.proofs.Common.{◌+◌}
-use Rattle.cj_spans.specs.declared.step.Mode.TheVariants.{Ready, AfterName}
+use Rattle.cj_spans.specs.declared.step.Mode.TheVariants.{AfterName}
 use Rattle.cj_spans.proofs.Leads.{leads_on}
 use Rattle.cj_spans.proofs.Named.{name_leads, leads_string, leads_colon, name_small, name_room, name_reserved}
 use Rattle.cj_spans.proofs.members.pass_name.Goals as goal

@@ -1,5 +1,4 @@
-use Rattle.std.proofs.Common.{◌+◌}
-use Rattle.cj_spans.specs.declared.step.Mode.TheVariants.{Ready, After, NextName}
+use Rattle.cj_spans.specs.declared.step.Mode.TheVariants.{Ready, After}
 use Rattle.cj_spans.proofs.Leads.{leads_on}
 use Rattle.cj_spans.proofs.Named.{leads_string, leads_comma, name_small, string_room, name_reserved}
 use Rattle.cj_spans.proofs.members.pass_value.Goals as goal

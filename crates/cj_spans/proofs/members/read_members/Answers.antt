@@ -1,4 +1,4 @@
-use Rattle.std.proofs.Common.{◌+◌, arith, refl, subst, sym}
+use Rattle.std.proofs.Common.{arith, refl, subst, sym}
 use Rattle.cj_spans.specs.declared.step.Mode.TheVariants.{Ready}
 use Rattle.cj_spans.specs.declared.step.Inner.{Inner}
 use Rattle.cj_spans.specs.inner.Pass.{Standing, IsInside}

@@ -1,5 +1,4 @@
 use Rattle.std.proofs.Common.{arith, sym, ap, ◌∙◌}
-use Rattle.cj_spans.specs.declared.token.Kind.TheVariants.{Array}
 use Rattle.cj_spans.specs.Forest.{kind_by}
 use Rattle.cj_spans.specs.View.{tree, line_of}
 use Rattle.cj_spans.proofs.Sizes.{full_sized}
