@@ -1,20 +1,5 @@
 -- Scalars and names in a line: what has been read of one, and the machine over it.
-use Rattle.std.proofs.Common.{◌≡◌, ℕ, zero, suc, ◌+◌, ◌-◌, ◌<◌, ◌≤◌, List, [], ◌∷◌, ◌++◌, length, true, Option, Some, None, refl, sym, ap, subst, arith, ◌∙◌, ◌⊎◌, inl, inr}
-use Rattle.std.proofs.lemmas.Bool.{cases_lt}
-use Rattle.std.specs.Prelude.{option_and_then}
-use Rattle.cj_spans.specs.declared.token.Kind.{Kind}
-use Rattle.cj_spans.specs.declared.token.Token.{Token}
-use Rattle.cj_spans.specs.declared.lex.Lex.{Lex}
-use Rattle.cj_spans.specs.declared.lex.Lex.TheVariants.{InString}
-use Rattle.cj_spans.specs.declared.step.Mode.{Mode}
-use Rattle.cj_spans.specs.declared.step.Mode.TheVariants.{After}
-use Rattle.cj_spans.specs.declared.step.Move.{Move}
-use Rattle.cj_spans.specs.Meaning.Json.{byte}
-use Rattle.cj_spans.specs.Preorder.{token_at}
-use Rattle.cj_spans.specs.inner.Machine.{State, state, between, in_atom, read, end_atom, go_on, step, settle, lex_step}
-use Rattle.cj_spans.specs.inner.Machine.{lex_kind, Continues, still, further, Halts, Reaches, here, on, ComesTo}
-use Rattle.cj_spans.specs.inner.Machine.{SticksFlat, phase_after}
-use Rattle.cj_spans.specs.Meaning.Spelling.{is_plain}
+use Rattle.cj_spans.proofs.Common.{◌≡◌, ℕ, zero, suc, ◌+◌, ◌-◌, ◌<◌, ◌≤◌, List, [], ◌∷◌, ◌++◌, length, true, Option, Some, None, refl, sym, ap, subst, arith, ◌∙◌, ◌⊎◌, inl, inr, cases_lt, option_and_then, Kind, Token, Lex, InString, Mode, After, Move, byte, token_at, State, state, between, in_atom, read, end_atom, go_on, step, settle, lex_step, lex_kind, Continues, still, further, Halts, Reaches, here, on, ComesTo, SticksFlat, phase_after, is_plain}
 use Rattle.cj_spans.proofs.Spellings.{none_some, plain_goes}
 
 -- ---- the code's loop

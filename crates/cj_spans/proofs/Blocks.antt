@@ -1,16 +1,10 @@
 -- The marks of a block of bytes, which tell the bytes that are no digits.
-use Rattle.std.proofs.Common.{◌≡◌, ℕ, ◌+◌, ◌-◌, ◌^◌, ◌/◌, ◌%◌, ◌<◌, ◌≤◌, List, length, true, inl, inr, sym, ap, subst, arith, ◌∙◌, w64}
+use Rattle.cj_spans.proofs.Common.{◌≡◌, ℕ, ◌+◌, ◌-◌, ◌^◌, ◌/◌, ◌%◌, ◌<◌, ◌≤◌, List, length, true, inl, inr, sym, ap, subst, arith, ◌∙◌, w64, cases_lt, div-div-eq-div-mul, div-lt_iff_lt-mul, byte, nat_tests, Whole, is_digit, IsNumberUpTo, AreMarked, AreMarkedTo}
 use Rattle.std.specs.Int.{bit_at, trailing_zeros}
-use Rattle.std.proofs.lemmas.Bool.{cases_lt}
 use Rattle.std.proofs.lemmas.Nat.{pow-add, pow_pos}
 use Rattle.std.proofs.lemmas.Nat.Bits.{bit_at-trailing_zeros, bit_at_above}
-use Rattle.std.proofs.Math.Nat.{div-div-eq-div-mul, div-lt_iff_lt-mul}
-use Rattle.cj_spans.specs.Meaning.Json.{byte}
-use Rattle.std.proofs.lemmas.Bool.Decides.{nat_tests}
-use Rattle.cj_spans.specs.inner.Machine.{is_digit, IsNumberUpTo}
 use Rattle.cj_spans.proofs.Atoms.{read_to}
 use Rattle.cj_spans.proofs.WholeNumbers.{number_is, whole_stays}
-use Rattle.cj_spans.specs.inner.Wholes.{AreMarked, AreMarkedTo}
 
 -- a bit of a number that is shifted
 bit_at_shifted : (m s k : ℕ) → bit_at (m / 2 ^ s) k ≡ bit_at m (s + k)

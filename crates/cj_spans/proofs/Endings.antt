@@ -1,26 +1,6 @@
 -- A prefix is what a text begins with: some bytes more make it one.
-use Rattle.std.proofs.Common.{◌≡◌, inl, inr, ℕ, zero, suc, ◌+◌, ◌<◌, ◌≤◌, List, [], ◌∷◌, ◌++◌, length, take, drop, get_or, Option, Some, None, Result, Err, refl, sym, ap, subst, arith, ◌∙◌, slice_get, slice_set, length-append}
-use Rattle.std.proofs.Math.Nat.{eq-or-lt_of_le}
-use Rattle.std.specs.Prelude.{option_map}
-use Rattle.std.proofs.lemmas.Grind.{common_steps}
-use Rattle.std.proofs.lemmas.List.{take-append-drop}
-use Rattle.cj_budget.specs.Bounded.{BoundedList}
-use Rattle.cj_spans.specs.declared.fault.LineFault.{LineFault}
-use Rattle.cj_spans.specs.declared.fault.LineFault.TheVariants.{Syntax, TooDeep}
-use Rattle.cj_spans.specs.declared.token.Kind.{Kind}
-use Rattle.cj_spans.specs.declared.token.Kind.TheVariants.{Array, Object}
-use Rattle.cj_spans.specs.declared.token.Token.{Token}
-use Rattle.cj_spans.specs.declared.lex.Lex.{Lex}
-use Rattle.cj_spans.specs.declared.lex.Lex.TheVariants.{Zero, InString, StringDone}
-use Rattle.cj_spans.specs.declared.step.Mode.{Mode}
-use Rattle.cj_spans.specs.declared.step.Mode.TheVariants.{Ready, FirstItem, After, FirstName, NextName, AfterName}
-use Rattle.cj_spans.specs.Meaning.Tree.{Tree, nest}
-use Rattle.cj_spans.specs.Meaning.Json.{byte, Json}
-use Rattle.cj_spans.specs.Meaning.Prefix.{JsonPrefix, IsJsonPrefix, SyntaxAt, stuck, short}
+use Rattle.cj_spans.proofs.Common.{◌≡◌, inl, inr, ℕ, zero, suc, ◌+◌, ◌<◌, ◌≤◌, List, [], ◌∷◌, ◌++◌, length, take, drop, get_or, Option, Some, None, Result, Err, refl, sym, ap, subst, arith, ◌∙◌, slice_get, slice_set, length-append, eq-or-lt_of_le, option_map, common_steps, take-append-drop, BoundedList, LineFault, Syntax, TooDeep, Kind, Array, Object, Token, Lex, Zero, InString, StringDone, Mode, Ready, FirstItem, After, FirstName, NextName, AfterName, Tree, nest, byte, Json, JsonPrefix, IsJsonPrefix, SyntaxAt, stuck, short, token_at, flatten, flatten_items, flatten_members, open_kind, State, state, in_atom, step, end_atom, after_token, after_in, still, Reaches, here, on, start, SinksAt, RunAnswers, BeginsValue}
 use Rattle.cj_spans.specs.Meaning.Begins.{BeginsText, IsFirstFault, IsFirstTooDeep}
-use Rattle.cj_spans.specs.Preorder.{token_at, flatten, flatten_items, flatten_members}
-use Rattle.cj_spans.specs.inner.Machine.{open_kind, State, state, in_atom, step, end_atom, after_token, after_in, still}
-use Rattle.cj_spans.specs.inner.Machine.{Reaches, here, on, start, SinksAt, RunAnswers, BeginsValue}
 use Rattle.cj_spans.proofs.Spellings.{can_end, text_end}
 use Rattle.cj_spans.proofs.Lists.{slice_get-append, slice_get-seam, rise-nest}
 use Rattle.cj_spans.proofs.Runs.{IsEnd, colon, bracket, brace, Arrives, arrive_on, arrived, settled, idle, BeginsName}

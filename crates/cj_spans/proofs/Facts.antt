@@ -1,21 +1,6 @@
 -- What each step keeps: the place goes one on, the count of tokens stays within the bytes read and the open containers.
-use Rattle.std.proofs.Common.{◌≡◌, ℕ, suc, ◌+◌, ◌*◌, ◌<◌, ◌≤◌, List, [], ◌∷◌, ◌++◌, length, max, Bool, true, false, cond, nat_eq, Option, Some, None, refl, sym, ap, subst, arith, ◌∙◌, inl, inr, slice_get, slice_set, length-append}
-use Rattle.std.proofs.Math.Nat.{eq-or-lt_of_le}
-use Rattle.std.specs.Prelude.{option_and_then, option_map}
+use Rattle.cj_spans.proofs.Common.{◌≡◌, ℕ, suc, ◌+◌, ◌*◌, ◌<◌, ◌≤◌, List, [], ◌∷◌, ◌++◌, length, max, Bool, true, false, cond, nat_eq, Option, Some, None, refl, sym, ap, subst, arith, ◌∙◌, inl, inr, slice_get, slice_set, length-append, eq-or-lt_of_le, option_and_then, option_map, Kind, Null, Truth, Number, Text, Array, Object, Token, Lex, Mode, Ready, FirstItem, After, FirstName, NextName, AfterName, is_white_space, byte, token_at, open_kind, Phase, State, state, between, in_atom, step, read, read_in, begin_value, begin_name, after_value, after_token, after_in, close_empty, close_token, end_atom, go_on, settle, lex_start, lex_step, lex_kind, Reaches, here, on, start}
 use Rattle.std.proofs.Math.ListN.{length-set}
-use Rattle.cj_spans.specs.declared.token.Kind.{Kind}
-use Rattle.cj_spans.specs.declared.token.Kind.TheVariants.{Null, Truth, Number, Text, Array, Object}
-use Rattle.cj_spans.specs.declared.token.Token.{Token}
-use Rattle.cj_spans.specs.declared.lex.Lex.{Lex}
-use Rattle.cj_spans.specs.declared.step.Mode.{Mode}
-use Rattle.cj_spans.specs.declared.step.Mode.TheVariants.{Ready, FirstItem, After, FirstName, NextName, AfterName}
-use Rattle.cj_spans.specs.Meaning.Spelling.{is_white_space}
-use Rattle.cj_spans.specs.Meaning.Json.{byte}
-use Rattle.cj_spans.specs.Preorder.{token_at}
-use Rattle.cj_spans.specs.inner.Machine.{open_kind, Phase, State, state, between, in_atom, step, read, read_in}
-use Rattle.cj_spans.specs.inner.Machine.{begin_value, begin_name, after_value, after_token, after_in, close_empty}
-use Rattle.cj_spans.specs.inner.Machine.{close_token, end_atom, go_on, settle, lex_start, lex_step, lex_kind, Reaches}
-use Rattle.cj_spans.specs.inner.Machine.{here, on, start}
 use Rattle.cj_spans.proofs.Spellings.{none_some, some_same}
 use Rattle.cj_spans.proofs.Runs.{idle}
 
@@ -62,11 +47,7 @@ goes_cond i p false x y g h = h
 
 reach_more : (m : Mode) (i : ℕ) → reach_in m i ≤ reach_in m (suc i)
 reach_more Ready i = omega arith
-reach_more FirstItem i = omega arith
-reach_more After i = omega arith
-reach_more FirstName i = omega arith
-reach_more NextName i = omega arith
-reach_more AfterName i = omega arith
+reach_more _ i = omega arith
 
 module _ (i p : ℕ) (ts : List Token) where
   -- to a mode at the next place

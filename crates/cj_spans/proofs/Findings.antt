@@ -1,10 +1,6 @@
 -- The least of findings.
-use Rattle.std.proofs.Common.{◌≡◌, ℕ, zero, suc, ◌<◌, ◌≤◌, ◌⊎◌, inl, inr, ◌||◌, ◌&&◌, nat_lt, nat_eq, Bool, true, false, cond, List, [], ◌∷◌, ◌++◌, length, get_or, Option, Some, None, refl, sym, ap, subst, arith, ◌∙◌, append_assoc}
-use Rattle.std.proofs.lemmas.Bool.{cases_order}
-use Rattle.std.specs.Prelude.{All, Contains, flat_map}
-use Rattle.std.proofs.lemmas.List.{append-nil}
+use Rattle.cj_spans.proofs.Common.{◌≡◌, ℕ, zero, suc, ◌<◌, ◌≤◌, ◌⊎◌, inl, inr, ◌||◌, ◌&&◌, nat_lt, nat_eq, Bool, true, false, cond, List, [], ◌∷◌, ◌++◌, length, get_or, Option, Some, None, refl, sym, ap, subst, arith, ◌∙◌, append_assoc, cases_order, All, Contains, flat_map, append-nil, nat_tests}
 use Rattle.std.proofs.lemmas.List.Elements.{All-contains, Contains-get_or, Contains-append_left, Contains-append_right, Contains-append_cases}
-use Rattle.std.proofs.lemmas.Bool.Decides.{nat_tests}
 use Rattle.cj_spans.specs.declared.reason.Reason.{Reason}
 use Rattle.cj_spans.specs.declared.reason.Reason.TheVariants.{NoHeader, LineTooLong, NotUtf8, Syntax, TooDeep, MissingMember, DuplicateName, WrongKind, NumberRange, WrongType, WrongVersion, NotEmpty, NotThree, NotWhole, UnknownObjectType, IdNotFound, ChildNotFound, LinkNotMutual, NoParent, UnknownGeometryType, VertexIndex, SemanticsCount, SemanticsIndex, TemplateIndex, BadInstance, TransformNotFixed, NotReached}
 use Rattle.cj_spans.specs.declared.finding.Finding.{Finding}
@@ -37,32 +33,7 @@ reason_of n =
 reason_of-code_of : (r : Reason) → reason_of (code_of r) ≡ r
 unfolding reason_of
 reason_of-code_of NoHeader = refl
-reason_of-code_of LineTooLong = refl
-reason_of-code_of NotUtf8 = refl
-reason_of-code_of Syntax = refl
-reason_of-code_of TooDeep = refl
-reason_of-code_of MissingMember = refl
-reason_of-code_of DuplicateName = refl
-reason_of-code_of WrongKind = refl
-reason_of-code_of NumberRange = refl
-reason_of-code_of WrongType = refl
-reason_of-code_of WrongVersion = refl
-reason_of-code_of NotEmpty = refl
-reason_of-code_of NotThree = refl
-reason_of-code_of NotWhole = refl
-reason_of-code_of UnknownObjectType = refl
-reason_of-code_of IdNotFound = refl
-reason_of-code_of ChildNotFound = refl
-reason_of-code_of LinkNotMutual = refl
-reason_of-code_of NoParent = refl
-reason_of-code_of UnknownGeometryType = refl
-reason_of-code_of VertexIndex = refl
-reason_of-code_of SemanticsCount = refl
-reason_of-code_of SemanticsIndex = refl
-reason_of-code_of TemplateIndex = refl
-reason_of-code_of BadInstance = refl
-reason_of-code_of TransformNotFixed = refl
-reason_of-code_of NotReached = refl
+reason_of-code_of _ = refl
 
 same_reason : (r s : Reason) → code_of r ≡ code_of s → r ≡ s
 same_reason r s h = sym (reason_of-code_of r) ∙ ap reason_of h ∙ reason_of-code_of s

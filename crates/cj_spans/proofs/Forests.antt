@@ -1,17 +1,5 @@
 -- The spans of a tree show that tree.
-use Rattle.std.proofs.Common.{◌≡◌, ℕ, suc, ◌<◌, ◌≤◌, List, [], ◌∷◌, ◌++◌, get_or, slice_range, refl, sym, ap, subst, arith, ◌∙◌, inl, inr, append_assoc}
-use Rattle.std.proofs.lemmas.List.{append-nil}
-use Rattle.std.proofs.lemmas.Bool.Decides.{nat_tests}
-use Rattle.cj_spans.specs.declared.token.Kind.{Kind}
-use Rattle.cj_spans.specs.declared.token.Kind.TheVariants.{Null, Truth, Number, Text, Array, Object}
-use Rattle.cj_spans.specs.Meaning.Tree.{Atom, Tree, scalar, array, object, Items, no_items, item, Members, no_members}
-use Rattle.cj_spans.specs.Meaning.Tree.{member, add_item, add_member, start_of}
-use Rattle.cj_spans.specs.Meaning.Spelling.{IsScalar, IsInt}
-use Rattle.cj_spans.specs.Meaning.Json.{byte, atom_at, IsAtom, Value, atom, empty_array, full_array, empty_object}
-use Rattle.cj_spans.specs.Meaning.Json.{full_object, Padded, padded, LedItems, no_led, led, LedMembers, no_led_members}
-use Rattle.cj_spans.specs.Meaning.Json.{led_member, Named, named, Json}
-use Rattle.cj_spans.specs.Preorder.{Span, span_at, preorder, items_preorder, members_preorder}
-use Rattle.cj_spans.specs.Forest.{kind_by, held, past, items_from, members_from, node, forest}
+use Rattle.cj_spans.proofs.Common.{◌≡◌, ℕ, suc, ◌<◌, ◌≤◌, List, [], ◌∷◌, ◌++◌, get_or, slice_range, refl, sym, ap, subst, arith, ◌∙◌, inl, inr, append_assoc, append-nil, nat_tests, Kind, Null, Truth, Number, Text, Array, Object, Atom, Tree, scalar, array, object, Items, no_items, item, Members, no_members, member, add_item, add_member, start_of, IsScalar, IsInt, byte, atom_at, IsAtom, Value, atom, empty_array, full_array, empty_object, full_object, Padded, padded, LedItems, no_led, led, LedMembers, no_led_members, led_member, Named, named, Json, Span, span_at, preorder, items_preorder, members_preorder, kind_by, held, past, items_from, members_from, node, forest}
 use Rattle.cj_spans.proofs.Lists.{items_preorder-add, members_preorder-add}
 use Rattle.cj_spans.proofs.Places.{first_byte}
 
@@ -36,8 +24,7 @@ kind_first Number s h =
       | inr e ↦ ap (λ z. kind_by (get_or (z ++ (h.int ++ r)) 0 0)) e
     ]
 kind_first Text s h = ap (λ z. kind_by (get_or z 0 0)) h.joined
-kind_first Array s h = absurd h
-kind_first Object s h = absurd h
+kind_first _ s h = absurd h
 
 pub atom_kind : {b : List ℕ} {k : Kind} {i j : ℕ} → IsAtom b k i j → kind_by (byte b i) ≡ k
 atom_kind {b} {k} {i} {j} w = ap kind_by (first_byte b i j w.order w.within) ∙ kind_first k (slice_range b i j) w.spelled
@@ -156,11 +143,7 @@ named_ends p = let q = named_order p in let f = q.0 in let g = q.1 in let h = q.
 
 pub start-node : (b : List ℕ) (k : Kind) (i j : ℕ) (ts : List Tree) → start_of (node b k i j ts) ≡ i
 start-node b Null i j ts = refl
-start-node b Truth i j ts = refl
-start-node b Number i j ts = refl
-start-node b Text i j ts = refl
-start-node b Array i j ts = refl
-start-node b Object i j ts = refl
+start-node b _ i j ts = refl
 
 -- a span that holds these trees and no more
 shown : (b : List ℕ) (i j : ℕ) {k : Kind} (ss : List Span) (xs ys : List Tree) → kind_by (byte b i) ≡ k
@@ -172,12 +155,9 @@ shown b i j ss xs ys kd e a o =
     ∙ ap (λ z. node b (kind_by (byte b i)) i j xs ∷ z) (past_all j xs ys a o) ∙ ap (λ z. node b z i j xs ∷ ys) kd
 
 scalar_node : {b : List ℕ} (k : Kind) {i j : ℕ} → IsAtom b k i j → node b k i j [] ≡ scalar k (atom_at b i j)
-scalar_node Null w = refl
-scalar_node Truth w = refl
-scalar_node Number w = refl
-scalar_node Text w = refl
 scalar_node Array w = absurd w.spelled
 scalar_node Object w = absurd w.spelled
+scalar_node _ w = refl
 
 -- the trees all start before the place j, and are shown before what follows
 pub record Shows (b : List ℕ) (j : ℕ) (ss : List Span) (xs : List Tree) : Type 0 where

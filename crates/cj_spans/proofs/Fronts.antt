@@ -1,17 +1,6 @@
 -- The machine is at a state after the first i bytes exactly where they are a prefix.
-use Rattle.std.proofs.Common.{◌≡◌, ℕ, suc, ◌+◌, List, [], ◌∷◌, ◌++◌, length, max, refl, ap, subst, arith, inl, inr}
-use Rattle.std.proofs.lemmas.Bool.{cases_lt}
-use Rattle.cj_spans.specs.declared.token.Token.{Token}
-use Rattle.cj_spans.specs.declared.step.Mode.{Mode}
-use Rattle.cj_spans.specs.declared.step.Mode.TheVariants.{Ready, FirstItem, FirstName, AfterName}
-use Rattle.cj_spans.specs.Meaning.Tree.{Members, no_items, no_members}
-use Rattle.cj_spans.specs.Meaning.Json.{byte, White, padded, no_led, LedMembers, no_led_members}
-use Rattle.cj_spans.specs.Meaning.Prefix.{JsonPrefix, white, begun, whole, in_object, in_array as front_array}
-use Rattle.cj_spans.specs.Meaning.Prefix.{MemberPrefix, before_name, in_name as front_name}
-use Rattle.cj_spans.specs.Meaning.Prefix.{after_name as front_after_name, in_value}
-use Rattle.cj_spans.specs.Preorder.{token_at}
-use Rattle.cj_spans.specs.inner.Machine.{State, Reaches, on, BeginsValue}
-use Rattle.cj_spans.proofs.Lists.{length-snoc, slice_get-seam}
+use Rattle.cj_spans.proofs.Common.{◌≡◌, ℕ, suc, ◌+◌, List, [], ◌∷◌, ◌++◌, length, max, refl, ap, subst, arith, inl, inr, cases_lt, Token, Mode, Ready, FirstItem, After, FirstName, AfterName, Members, no_items, no_members, byte, White, padded, no_led, LedMembers, no_led_members, JsonPrefix, white, begun, whole, in_object, in_array as front_array, MemberPrefix, before_name, in_name as front_name, after_name as front_after_name, in_value, flatten, token_at, State, state, in_atom, Reaches, on, BeginsValue}
+use Rattle.cj_spans.proofs.Lists.{length-snoc, slice_get-seam, rise}
 use Rattle.cj_spans.proofs.Runs.{Arrives, settled, skip, BeginsName, idle}
 use Rattle.cj_spans.proofs.Runs.{skip_after}
 use Rattle.cj_spans.proofs.Follows.{run_padded, run_led, run_led_members, run_named, open_array, open_object}

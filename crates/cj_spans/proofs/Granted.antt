@@ -1,11 +1,7 @@
 -- What a scan answers to which room was granted, from what the scan in reserved room answers.
-use Rattle.std.proofs.Common.{◌≡◌, ℕ, List, inl, sym, ap, ◌∙◌, Ok, Err}
+use Rattle.cj_spans.proofs.Common.{◌≡◌, ℕ, List, inl, sym, ap, ◌∙◌, Ok, Err, LineFault, NotUtf8, Syntax, TooDeep, Judgement, spelled, broken, sunk, IsAnswerOf, IsReservedAnswerOf, widened_fault}
 use Rattle.std.specs.Prelude.{Result, IsOk}
 use Rattle.cj_spans.specs.declared.fault.ScanFault.{ScanFault}
-use Rattle.cj_spans.specs.declared.fault.LineFault.{LineFault}
-use Rattle.cj_spans.specs.declared.fault.LineFault.TheVariants.{NotUtf8, Syntax, TooDeep}
-use Rattle.cj_spans.specs.Meaning.Judgement.{Judgement, spelled, broken, sunk}
-use Rattle.cj_spans.specs.Answers.{IsAnswerOf, IsReservedAnswerOf, widened_fault}
 
 one_fault : (f g : LineFault) → widened_fault f ≡ widened_fault g → f ≡ g
 one_fault (NotUtf8 i) (NotUtf8 j) h = cc

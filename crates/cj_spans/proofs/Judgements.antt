@@ -1,26 +1,6 @@
 -- Each line is a JSON text within the depth limit, or has the place of a fault: the machine finds out which.
-use Rattle.std.proofs.Common.{◌≡◌, ℕ, zero, suc, ◌+◌, ◌<◌, ◌≤◌, List, [], ◌∷◌, length, drop, Bool, true, false, cond, nat_eq, Option, Some, None, refl, sym, ap, subst, arith, ◌∙◌, inl, inr, ltb}
+use Rattle.cj_spans.proofs.Common.{◌≡◌, ℕ, zero, suc, ◌+◌, ◌<◌, ◌≤◌, List, [], ◌∷◌, length, drop, Bool, true, false, cond, nat_eq, Option, Some, None, refl, sym, ap, subst, arith, ◌∙◌, inl, inr, ltb, ltb-true, nat_tests, Kind, Null, Truth, Number, Text, Array, Object, Token, Lex, Mode, Ready, FirstItem, After, FirstName, NextName, AfterName, is_white_space, byte, Json, Tree, nest, SyntaxAt, DeepAt, NowhereDeep, Judgement, spelled, broken, sunk, SaySame, IsReservedAnswerOf, LineFault, Syntax, TooDeep, open_kind, Phase, State, state, between, in_atom, start, moved, step, step_by, read, read_in, begin_value, begin_name, after_top, after_token, after_in, close_by, close_top, close_token, end_atom, go_on, settle, lex_start, lex_step, lex_kind, Reaches, here, on, Sticks}
 use Rattle.std.specs.Prelude.{IsSomeAnd, IsOk, IsErrOf, Result, option_and_then, option_map, slice_get}
-use Rattle.std.proofs.lemmas.Bool.{ltb-true}
-use Rattle.std.proofs.lemmas.Bool.Decides.{nat_tests}
-use Rattle.cj_spans.specs.declared.token.Kind.{Kind}
-use Rattle.cj_spans.specs.declared.token.Kind.TheVariants.{Null, Truth, Number, Text, Array, Object}
-use Rattle.cj_spans.specs.declared.token.Token.{Token}
-use Rattle.cj_spans.specs.declared.lex.Lex.{Lex}
-use Rattle.cj_spans.specs.declared.step.Mode.{Mode}
-use Rattle.cj_spans.specs.declared.step.Mode.TheVariants.{Ready, FirstItem, After, FirstName, NextName, AfterName}
-use Rattle.cj_spans.specs.Meaning.Spelling.{is_white_space}
-use Rattle.cj_spans.specs.Meaning.Json.{byte, Json}
-use Rattle.cj_spans.specs.Meaning.Tree.{Tree, nest}
-use Rattle.cj_spans.specs.Meaning.Prefix.{SyntaxAt, DeepAt, NowhereDeep}
-use Rattle.cj_spans.specs.Meaning.Judgement.{Judgement, spelled, broken, sunk, SaySame}
-use Rattle.cj_spans.specs.Answers.{IsReservedAnswerOf}
-use Rattle.cj_spans.specs.declared.fault.LineFault.{LineFault}
-use Rattle.cj_spans.specs.declared.fault.LineFault.TheVariants.{Syntax, TooDeep}
-use Rattle.cj_spans.specs.inner.Machine.{open_kind, Phase, State, state, between, in_atom, start, moved, step, step_by}
-use Rattle.cj_spans.specs.inner.Machine.{read, read_in, begin_value, begin_name, after_top, after_token, after_in}
-use Rattle.cj_spans.specs.inner.Machine.{close_by, close_top, close_token, end_atom, go_on, settle, lex_start, lex_step}
-use Rattle.cj_spans.specs.inner.Machine.{lex_kind, Reaches, here, on, Sticks}
 use Rattle.cj_spans.proofs.Spellings.{none_some, some_same}
 use Rattle.cj_spans.proofs.Facts.{next_place, lawful_reaches, goes}
 use Rattle.cj_spans.proofs.Runs.{settled}

@@ -1,25 +1,9 @@
 -- Calls that leave the stack: where the pass stands behind them, in whatever container is innermost.
-use Rattle.std.proofs.Common.{◌≡◌, ℕ, ◌+◌, ◌<◌, List, [], ◌∷◌, ◌++◌, length, max, zero, suc, ◌≤◌, refl, subst, sym, ap, ◌∙◌, inl, inr, true, false, arith, Some, Ok, Err, slice_get, slice_set}
+use Rattle.cj_spans.proofs.Common.{◌≡◌, ℕ, ◌+◌, ◌<◌, List, [], ◌∷◌, ◌++◌, length, max, zero, suc, ◌≤◌, refl, subst, sym, ap, ◌∙◌, inl, inr, true, false, arith, Some, Ok, Err, slice_get, slice_set, BoundedList, Becomes, IsWithin, TooDeep, Kind, Array, Token, Mode, Ready, FirstItem, After, Open, Next, byte, token_at, state, between, start, with_opened, read, after_in, after_token, ComesTo, ReadsByte, Grown, BeginsValue, InArray, IsInnermost, IsNumberUpTo, EndsItem, FitsToken, Standing, Stands, StandsIn, LeadsIn, GoesOn, KeepsTokens, ReadsNumbers, slice_get_within}
 use Rattle.cj_spans.proofs.Lists.{slice_get-append}
 use Rattle.std.specs.Prelude.{IsTrue}
-use Rattle.cj_budget.specs.Bounded.{BoundedList, Becomes, IsWithin}
-use Rattle.cj_spans.specs.declared.fault.LineFault.TheVariants.{TooDeep}
-use Rattle.cj_spans.specs.declared.token.Kind.{Kind}
-use Rattle.cj_spans.specs.declared.token.Kind.TheVariants.{Array}
-use Rattle.cj_spans.specs.declared.token.Token.{Token}
-use Rattle.cj_spans.specs.declared.step.Mode.{Mode}
-use Rattle.cj_spans.specs.declared.step.Mode.TheVariants.{Ready, FirstItem, After}
-use Rattle.cj_spans.specs.declared.step.Move.TheVariants.{Open}
-use Rattle.cj_spans.specs.declared.step.Next.{Next}
 use Rattle.cj_spans.specs.declared.arrays.Numbers.{Numbers}
-use Rattle.cj_spans.specs.Meaning.Json.{byte}
-use Rattle.cj_spans.specs.Preorder.{token_at}
-use Rattle.cj_spans.specs.inner.Machine.{state, between, start, with_opened, read, after_in, after_token, ComesTo}
-use Rattle.cj_spans.specs.inner.Machine.{ReadsByte, Grown, BeginsValue, InArray, IsInnermost, IsNumberUpTo, EndsItem}
-use Rattle.cj_spans.specs.inner.Machine.{FitsToken}
-use Rattle.cj_spans.specs.inner.Pass.{Standing, Stands, StandsIn, LeadsIn, GoesOn, KeepsTokens, ReadsNumbers}
 use Rattle.cj_spans.proofs.Nested.{stands_on, stands_small, stands_room, stands_within, standing_number, standing_comma, standing_opened, standing_closed, standing_refused, opened_in, opens_array}
-use Rattle.std.proofs.lemmas.Option.{slice_get_within}
 use Rattle.cj_spans.proofs.Spellings.{some_same}
 use Rattle.cj_spans.proofs.Runs.{idle}
 use Rattle.cj_spans.proofs.Standing.{grown_more, grown_same, kept_same}

@@ -1,17 +1,11 @@
 -- Letters beyond ASCII: what the marks of a vector say of its bytes, and UTF-8 past ASCII and past a letter.
-use Rattle.std.proofs.Common.{◌≡◌, ℕ, ◌+◌, ◌-◌, ◌%◌, ◌^◌, ◌<◌, ◌≤◌, List, [], ◌∷◌, length, map, take, drop, inr, Bool, false, cond, not, ltb, replicate, sym, ap, subst, arith, ◌∙◌, w8, take-add, IsUtf8}
-use Rattle.std.proofs.lemmas.Bool.Decides.{nat_tests}
-use Rattle.std.proofs.lemmas.List.{length-map, drop_more}
+use Rattle.cj_spans.proofs.Common.{◌≡◌, ℕ, ◌+◌, ◌-◌, ◌%◌, ◌^◌, ◌<◌, ◌≤◌, List, [], ◌∷◌, length, map, take, drop, inr, Bool, false, cond, not, ltb, replicate, sym, ap, subst, arith, ◌∙◌, w8, take-add, IsUtf8, nat_tests, length-map, drop_more, prefix_len, count_trailing_zeros, IsAscii, byte}
 use Rattle.std.proofs.lemmas.Simd.{get_or-chunk, tops_compared, zip2_splat_left, mask_l-mod, length-chunk, none_from_empty_mask, trailing_mask_l, run_in_chunk_le, run_in_chunk_fails}
 use Rattle.std.proofs.lemmas.Str.{IsUtf8-append, IsUtf8-from_ascii}
 use Rattle.std.proofs.lemmas.Str.Ascii.{IsAscii-from_reads}
 use Rattle.std.specs.Simd.Lanes.{zip2, mask_l, top, chunk}
-use Rattle.std.specs.List.{prefix_len}
-use Rattle.std.specs.Int.Count.{count_trailing_zeros}
-use Rattle.std.specs.Str.{IsAscii}
 use Rattle.simdutf8.specs.Steps.{first, second}
 use Rattle.simdutf8.proofs.Chars.{least_is, most_is, StepsThen-IsUtf8}
-use Rattle.cj_spans.specs.Meaning.Json.{byte}
 
 -- a byte beyond ASCII
 abbrev beyond : ℕ → Bool

@@ -1,19 +1,6 @@
 -- The links of the tokens of a tree, and the trees that come after them.
-use Rattle.std.proofs.Common.{◌≡◌, ℕ, zero, suc, ◌+◌, ◌%◌, ◌^◌, ◌<◌, ◌≤◌, List, [], ◌∷◌, ◌++◌, length, drop, slice_get, false, inl, inr, Some, refl, sym, ap, subst, arith, ◌∙◌, append_assoc, length-append}
+use Rattle.cj_spans.proofs.Common.{◌≡◌, ℕ, zero, suc, ◌+◌, ◌%◌, ◌^◌, ◌<◌, ◌≤◌, List, [], ◌∷◌, ◌++◌, length, drop, slice_get, false, inl, inr, Some, refl, sym, ap, subst, arith, ◌∙◌, append_assoc, length-append, cases_lt, nat_tests, append-nil, length-drop, slice_get_within, Token, Atom, Tree, Items, Members, add_item, add_member, size, items_size, members_size, Value, atom, empty_array, full_array, empty_object, full_object, Padded, padded, LedItems, no_led, led, LedMembers, no_led_members, led_member, Named, named, Json, flatten, flatten_items, flatten_members, token_at, before, AreLinked, is_marked_at, AreUnmarked}
 use Rattle.std.specs.Prelude.{nat_le}
-use Rattle.std.proofs.lemmas.Bool.{cases_lt}
-use Rattle.std.proofs.lemmas.Bool.Decides.{nat_tests}
-use Rattle.std.proofs.lemmas.List.{append-nil, length-drop}
-use Rattle.std.proofs.lemmas.Option.{slice_get_within}
-use Rattle.cj_spans.specs.declared.token.Token.{Token}
-use Rattle.cj_spans.specs.Meaning.Tree.{Atom, Tree, Items, Members, add_item, add_member, size, items_size}
-use Rattle.cj_spans.specs.Meaning.Tree.{members_size}
-use Rattle.cj_spans.specs.Meaning.Json.{Value, atom, empty_array, full_array, empty_object, full_object, Padded, padded}
-use Rattle.cj_spans.specs.Meaning.Json.{LedItems, no_led, led, LedMembers, no_led_members, led_member, Named, named}
-use Rattle.cj_spans.specs.Meaning.Json.{Json}
-use Rattle.cj_spans.specs.Preorder.{flatten, flatten_items, flatten_members, token_at}
-use Rattle.cj_spans.specs.Sound.{before, AreLinked}
-use Rattle.cj_spans.specs.Marks.{is_marked_at, AreUnmarked}
 use Rattle.cj_spans.proofs.Lists.{flatten_items-add, flatten_members-add, named_tokens, length-flatten, length-flatten_items, length-flatten_members}
 use Rattle.cj_spans.proofs.Forests.{led_order, led_members_order, padded_ends, named_ends}
 

@@ -1,12 +1,5 @@
 -- Lists of tokens, and the nest of a tree as the most containers that are open.
-use Rattle.std.proofs.Common.{◌≡◌, ℕ, zero, suc, ◌+◌, ◌≤◌, List, [], ◌∷◌, ◌++◌, length, max, Some, refl, sym, ap, arith, ◌∙◌, append_assoc, slice_get, slice_set, length-append}
-use Rattle.std.proofs.lemmas.List.{append-nil}
-use Rattle.std.proofs.Math.Seq.{set-append_seam}
-use Rattle.cj_spans.specs.declared.token.Token.{Token}
-use Rattle.cj_spans.specs.Meaning.Tree.{Atom, Tree, scalar, array, object, Items, no_items, item, Members, no_members}
-use Rattle.cj_spans.specs.Meaning.Tree.{member, add_item, add_member, size, items_size, members_size, nest, items_nest}
-use Rattle.cj_spans.specs.Meaning.Tree.{members_nest}
-use Rattle.cj_spans.specs.Preorder.{span_at, preorder, items_preorder, members_preorder, flatten, flatten_items, flatten_members, token_at, spans_of}
+use Rattle.cj_spans.proofs.Common.{◌≡◌, ℕ, zero, suc, ◌+◌, ◌≤◌, List, [], ◌∷◌, ◌++◌, length, max, Some, refl, sym, ap, arith, ◌∙◌, append_assoc, slice_get, slice_set, length-append, append-nil, set-append_seam, Token, Atom, Tree, scalar, array, object, Items, no_items, item, Members, no_members, member, add_item, add_member, size, items_size, members_size, nest, items_nest, members_nest, span_at, preorder, items_preorder, members_preorder, flatten, flatten_items, flatten_members, token_at, spans_of}
 
 -- ---- one more part at the end
 

@@ -1,17 +1,7 @@
 -- Marks: what they leave, and that a node is found by its tree.
-use Rattle.std.proofs.Common.{◌≡◌, ◌≢◌, ℕ, zero, suc, ◌+◌, ◌-◌, ◌%◌, ◌^◌, ◌<◌, List, [], ◌∷◌, length, drop, slice_get, true, inl, inr, Some, refl, sym, ap, subst, arith, ◌∙◌}
+use Rattle.cj_spans.proofs.Common.{◌≡◌, ◌≢◌, ℕ, zero, suc, ◌+◌, ◌-◌, ◌%◌, ◌^◌, ◌<◌, List, [], ◌∷◌, length, drop, slice_get, true, inl, inr, Some, refl, sym, ap, subst, arith, ◌∙◌, cases_lt, nat_tests, BoundedList, IsWithin, Token, Tree, start_of, spans_of, token_at, forest, AreOf, AreRising, AreLinked, before, link_of, Json, tree_at, tree_in, source_of, tokens_in, line_of, document, document_line, document_source}
 use Rattle.std.specs.Prelude.{nat_le, slice_set, min}
-use Rattle.std.proofs.lemmas.Bool.{cases_lt}
-use Rattle.std.proofs.lemmas.Bool.Decides.{nat_tests}
-use Rattle.cj_budget.specs.Bounded.{BoundedList, IsWithin}
-use Rattle.cj_spans.specs.declared.token.Token.{Token}
-use Rattle.cj_spans.specs.Meaning.Tree.{Tree, start_of}
-use Rattle.cj_spans.specs.Preorder.{spans_of, token_at}
-use Rattle.cj_spans.specs.Forest.{forest}
-use Rattle.cj_spans.specs.Sound.{AreOf, AreRising, AreLinked, before, link_of}
 use Rattle.cj_spans.specs.Marks.{has_mark, is_marked_at, bare, KeepsTokens}
-use Rattle.cj_spans.specs.Meaning.Json.{Json}
-use Rattle.cj_spans.specs.View.{tree_at, tree_in, source_of, tokens_in, line_of, document, document_line, document_source}
 use Rattle.cj_spans.specs.declared.node.Source.{Source}
 use Rattle.cj_spans.specs.declared.node.Doc.{Doc}
 use Rattle.cj_spans.specs.declared.node.Node.{Node}
@@ -37,11 +27,9 @@ marked_here (u ∷ ts) (suc k) t h = marked_here ts k t (omega arith)
 
 pub marked_elsewhere : (ts : List Token) (n k : ℕ) (t : Token) → k ≢ n
     → is_marked_at (slice_set ts n t) k ≡ is_marked_at ts k
-marked_elsewhere [] n k t h = refl
 marked_elsewhere (u ∷ ts) zero zero t h = absurd (h refl)
-marked_elsewhere (u ∷ ts) zero (suc k) t h = refl
-marked_elsewhere (u ∷ ts) (suc n) zero t h = refl
 marked_elsewhere (u ∷ ts) (suc n) (suc k) t h = marked_elsewhere ts n k t (λ e. h (ap suc e))
+marked_elsewhere _ _ _ t h = refl
 
 pub bare_kept : (ts : List Token) (n : ℕ) (t : Token) → slice_get ts n ≡ Some t
     → bare (slice_set ts n (with_mark t)) ≡ bare ts
@@ -67,9 +55,8 @@ before_bare j [] = refl
 before_bare j (t ∷ ts) = rw (before_bare j ts) refl
 
 drop_bare : (n : ℕ) (ts : List Token) → drop n (bare ts) ≡ bare (drop n ts)
-drop_bare zero ts = refl
-drop_bare (suc n) [] = refl
 drop_bare (suc n) (t ∷ ts) = drop_bare n ts
+drop_bare _ _ = refl
 
 get_bare : (ts : List Token) (k : ℕ) (t : Token) → slice_get ts k ≡ Some t
     → slice_get (bare ts) k ≡ Some (token_at t.start t.stop (link_of t))

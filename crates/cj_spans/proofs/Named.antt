@@ -1,16 +1,6 @@
 -- Names and strings of an object: where the pass stands behind each of their parts.
-use Rattle.std.proofs.Common.{◌≡◌, ℕ, suc, ◌+◌, ◌<◌, List, [], ◌∷◌, ◌++◌, length, Some, inr, refl, ap, arith}
+use Rattle.cj_spans.proofs.Common.{◌≡◌, ℕ, suc, ◌+◌, ◌<◌, List, [], ◌∷◌, ◌++◌, length, Some, inr, refl, ap, arith, BoundedList, Becomes, Text, Object, Token, InString, StringDone, Mode, Ready, After, FirstName, NextName, AfterName, byte, token_at, State, state, in_atom, start, step, ComesTo, BeginsName, StringLeads, IsQuoted, StandsIn, LeadsIn}
 use Rattle.std.specs.Prelude.{IsTrue}
-use Rattle.cj_budget.specs.Bounded.{BoundedList, Becomes}
-use Rattle.cj_spans.specs.declared.token.Kind.TheVariants.{Text, Object}
-use Rattle.cj_spans.specs.declared.token.Token.{Token}
-use Rattle.cj_spans.specs.declared.lex.Lex.TheVariants.{InString}
-use Rattle.cj_spans.specs.declared.step.Mode.{Mode}
-use Rattle.cj_spans.specs.declared.step.Mode.TheVariants.{Ready, After, FirstName, NextName, AfterName}
-use Rattle.cj_spans.specs.Meaning.Json.{byte}
-use Rattle.cj_spans.specs.Preorder.{token_at}
-use Rattle.cj_spans.specs.inner.Machine.{State, state, in_atom, start, step, ComesTo, BeginsName, StringLeads, IsQuoted}
-use Rattle.cj_spans.specs.inner.Pass.{StandsIn, LeadsIn}
 use Rattle.cj_spans.proofs.Runs.{idle}
 use Rattle.cj_spans.proofs.Atoms.{ends_ok}
 use Rattle.cj_spans.proofs.Signs.{step_on, colon_read, comma_read, innermost_more}

@@ -1,21 +1,6 @@
 -- Arrays of whole numbers, and brackets: where the pass stands behind each of their parts.
-use Rattle.std.proofs.Common.{◌≡◌, ℕ, suc, ◌+◌, ◌<◌, List, [], ◌∷◌, ◌++◌, length, Option, Some, Ok, Err, refl, sym, ap, subst, arith, ◌∙◌}
+use Rattle.cj_spans.proofs.Common.{◌≡◌, ℕ, suc, ◌+◌, ◌<◌, List, [], ◌∷◌, ◌++◌, length, Option, Some, Ok, Err, refl, sym, ap, subst, arith, ◌∙◌, BoundedList, Becomes, IsWithin, LineFault, Kind, Array, Object, Token, Mode, Ready, FirstItem, FirstName, After, Move, To, byte, token_at, State, state, between, start, read, with_opened, open_kind, open_link, phase_after, deepest_after, Answers, ReadsByte, BeginsValue, InArray, IsInnermost, IsNumberUpTo, EndsItem, FitsToken, Grown, Kept, Standing, Stands, GoesOn}
 use Rattle.std.specs.Prelude.{IsTrue}
-use Rattle.cj_budget.specs.Bounded.{BoundedList, Becomes, IsWithin}
-use Rattle.cj_spans.specs.declared.fault.LineFault.{LineFault}
-use Rattle.cj_spans.specs.declared.token.Kind.{Kind}
-use Rattle.cj_spans.specs.declared.token.Kind.TheVariants.{Array, Object}
-use Rattle.cj_spans.specs.declared.token.Token.{Token}
-use Rattle.cj_spans.specs.declared.step.Mode.{Mode}
-use Rattle.cj_spans.specs.declared.step.Mode.TheVariants.{Ready, FirstItem, FirstName, After}
-use Rattle.cj_spans.specs.declared.step.Move.{Move}
-use Rattle.cj_spans.specs.declared.step.Move.TheVariants.{To}
-use Rattle.cj_spans.specs.Meaning.Json.{byte}
-use Rattle.cj_spans.specs.Preorder.{token_at}
-use Rattle.cj_spans.specs.inner.Machine.{State, state, between, start, read, with_opened, open_kind, open_link}
-use Rattle.cj_spans.specs.inner.Machine.{phase_after, deepest_after, Answers, ReadsByte, BeginsValue, InArray}
-use Rattle.cj_spans.specs.inner.Machine.{IsInnermost, IsNumberUpTo, EndsItem, FitsToken, Grown, Kept}
-use Rattle.cj_spans.specs.inner.Pass.{Standing, Stands, GoesOn}
 use Rattle.cj_spans.proofs.Spellings.{some_same}
 use Rattle.cj_spans.proofs.Runs.{idle}
 use Rattle.cj_spans.proofs.Atoms.{settles_at}

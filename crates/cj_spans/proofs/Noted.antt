@@ -1,19 +1,9 @@
 -- One walk that notes the place of the first member of each slot.
-use Rattle.std.proofs.Common.{◌≡◌, ◌≢◌, ◌∙◌, ◌<◌, ℕ, List, [], ◌∷◌, Bool, true, false, not, ◌⊎◌, Option, Some, None}
-use Rattle.std.proofs.Common.{cond, length, get_or, map, nat_eq, ap, refl, sym, subst, inl, inr, arith}
+use Rattle.cj_spans.proofs.Common.{◌≡◌, ◌≢◌, ◌∙◌, ◌<◌, ℕ, List, [], ◌∷◌, Bool, true, false, not, ◌⊎◌, Option, Some, None, cond, length, get_or, map, nat_eq, ap, refl, sym, subst, inl, inr, arith, cases_eq, false≢true, nat_tests, get_or-set_same, get_or-set_other, length-set, map-set, get_or-map, are_apart, then_apart, first_code_of, head, are_same_texts, first_named, has_text, text_of, spans_of, before, Tree, members_left, tree_at}
 use Rattle.std.specs.Prelude.{◌+◌, ◌%◌, drop, option_and_then, replicate, slice_set, zero, suc}
 use Rattle.std.specs.Cmp.Lexicographic.{same_text}
-use Rattle.std.proofs.lemmas.Bool.{cases_eq, false≢true}
-use Rattle.std.proofs.lemmas.Bool.Decides.{nat_tests}
-use Rattle.std.proofs.lemmas.List.{get_or-set_same, get_or-set_other, length-set, map-set, get_or-map}
 use Rattle.cj_spans.specs.declared.node.Members.{Members}
-use Rattle.cj_spans.specs.Initials.{are_apart, then_apart, first_code_of, head}
 use Rattle.cj_spans.specs.inner.Noted.{AreNoted, IsPlace, members_from, noted_from, note, is_noted, is_free}
-use Rattle.cj_spans.specs.Meaning.Parts.{are_same_texts, first_named, has_text, text_of}
-use Rattle.cj_spans.specs.Preorder.{spans_of}
-use Rattle.cj_spans.specs.Sound.{before}
-use Rattle.cj_spans.specs.Meaning.Tree.{Tree}
-use Rattle.cj_spans.specs.View.{members_left, tree_at}
 use Rattle.cj_spans.proofs.Spellings.{some_same}
 use Rattle.cj_spans.proofs.Views.{below}
 use Rattle.cj_spans.proofs.Walks.{LinksTo, at_name, member_on}
@@ -24,9 +14,8 @@ noted-yes p h = let e : nat_eq p 0 ≡ false = grind (arith, nat_tests) in ap no
 -- ---- a text with another first character
 
 same_texts : (a b : Option (List ℕ)) → are_same_texts a b ≡ true → a ≡ b
-same_texts None b h = cc
-same_texts (Some s) None h = cc
 same_texts (Some s) (Some t) h = ap Some (same_text s t (sym h))
+same_texts _ _ h = cc
 
 first_of : (s : List ℕ) (t : Tree) → has_text s t ≡ true → first_code_of t ≡ head s
 first_of s t h = ap (λ o. option_and_then head o) (same_texts (text_of t) (Some s) h)
@@ -160,9 +149,8 @@ apart_on m rest ps (Some d) p count code some free = by_test (is_noted (get_or p
 -- ---- where a walk begins
 
 none-at : (n i : ℕ) → ◌≡◌ {A = ℕ} (get_or (replicate n 0) i 0) 0
-none-at zero i = refl
-none-at (suc n) zero = refl
 none-at (suc n) (suc i) = none-at n i
+none-at _ _ = refl
 
 pub noted_none : (w : Members) → AreNoted w (members_left w) (replicate 32 0)
 noted_none w = record {

@@ -1,14 +1,5 @@
 -- The most containers that are open in what a pass over a line has read.
-use Rattle.std.proofs.Common.{◌≡◌, ◌⊎◌, inl, inr, ℕ, ◌≤◌, List, length, Result, Err, subst, arith}
-use Rattle.std.proofs.lemmas.Bool.{cases_lt}
-use Rattle.cj_budget.specs.Bounded.{BoundedList}
-use Rattle.cj_spans.specs.declared.fault.LineFault.{LineFault}
-use Rattle.cj_spans.specs.declared.fault.LineFault.TheVariants.{Syntax, TooDeep}
-use Rattle.cj_spans.specs.declared.token.Token.{Token}
-use Rattle.cj_spans.specs.Meaning.Json.{byte}
-use Rattle.cj_spans.specs.Meaning.Prefix.{JsonPrefix, white}
-use Rattle.cj_spans.specs.Scan.{IsDeepest, HasPeakAt}
-use Rattle.cj_spans.specs.inner.Machine.{State, Reaches, here, on, start, RunAnswers}
+use Rattle.cj_spans.proofs.Common.{◌≡◌, ◌⊎◌, inl, inr, ℕ, ◌≤◌, List, length, Result, Err, subst, arith, cases_lt, BoundedList, LineFault, Syntax, TooDeep, Token, byte, JsonPrefix, white, IsDeepest, HasPeakAt, State, Reaches, here, on, start, RunAnswers}
 use Rattle.cj_spans.proofs.Sound.{inv_reaches, no_white}
 use Rattle.cj_spans.proofs.Facts.{goes, lawful_reaches}
 use Rattle.cj_spans.proofs.Fronts.{inv_front}

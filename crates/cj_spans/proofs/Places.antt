@@ -1,23 +1,6 @@
 -- Scalars and names by their places.
-use Rattle.std.proofs.Common.{◌≡◌, ℕ, suc, ◌+◌, ◌-◌, ◌<◌, ◌≤◌, List, [], ◌∷◌, ◌++◌, length, take, drop, get_or, slice_range, Bool, true, false, cond, nat_eq, Option, Some, None, refl, sym, ap, subst, arith, ◌∙◌, inl, inr}
-use Rattle.std.specs.Prelude.{option_and_then, option_map}
-use Rattle.std.proofs.lemmas.Grind.{common_steps}
-use Rattle.std.proofs.Math.Seq.{take-suc}
-use Rattle.std.proofs.lemmas.List.{get_or-drop, length-drop, length-take, get_or-take, append-nil}
+use Rattle.cj_spans.proofs.Common.{◌≡◌, ℕ, suc, ◌+◌, ◌-◌, ◌<◌, ◌≤◌, List, [], ◌∷◌, ◌++◌, length, take, drop, get_or, slice_range, Bool, true, false, cond, nat_eq, Option, Some, None, refl, sym, ap, subst, arith, ◌∙◌, inl, inr, option_and_then, option_map, common_steps, take-suc, get_or-drop, length-drop, length-take, get_or-take, append-nil, Kind, Text, Token, Lex, AfterN, AfterNu, AfterNul, NullDone, AfterT, AfterTr, AfterTru, AfterF, AfterFa, AfterFal, AfterFals, TruthDone, Minus, Zero, Whole, Point, Fraction, Mark, MarkSign, Exponent, InString, Escape, Hex4, Hex3, Hex2, Hex1, StringDone, Mode, Ready, FirstItem, After, FirstName, NextName, AfterName, is_white_space, IsScalar, byte, IsAtom, Begun, token_at, State, state, in_atom, step, begin_value, lex_start, lex_step, lex_kind, Continues, still, further, Reaches, on, end_atom, BeginsValue}
 use Rattle.std.proofs.lemmas.Bool.{eqb-true, cases_lt}
-use Rattle.cj_spans.specs.declared.token.Kind.{Kind}
-use Rattle.cj_spans.specs.declared.token.Kind.TheVariants.{Text}
-use Rattle.cj_spans.specs.declared.token.Token.{Token}
-use Rattle.cj_spans.specs.declared.lex.Lex.{Lex}
-use Rattle.cj_spans.specs.declared.lex.Lex.TheVariants.{AfterN, AfterNu, AfterNul, NullDone, AfterT, AfterTr, AfterTru, AfterF, AfterFa, AfterFal, AfterFals, TruthDone, Minus, Zero, Whole, Point, Fraction, Mark, MarkSign, Exponent, InString, Escape, Hex4, Hex3, Hex2, Hex1, StringDone}
-use Rattle.cj_spans.specs.declared.step.Mode.{Mode}
-use Rattle.cj_spans.specs.declared.step.Mode.TheVariants.{Ready, FirstItem, After, FirstName, NextName, AfterName}
-use Rattle.cj_spans.specs.Meaning.Spelling.{is_white_space, IsScalar}
-use Rattle.cj_spans.specs.Meaning.Json.{byte, IsAtom}
-use Rattle.cj_spans.specs.Meaning.Prefix.{Begun}
-use Rattle.cj_spans.specs.Preorder.{token_at}
-use Rattle.cj_spans.specs.inner.Machine.{State, state, in_atom, step, begin_value, lex_start, lex_step, lex_kind}
-use Rattle.cj_spans.specs.inner.Machine.{Continues, still, further, Reaches, on, end_atom, BeginsValue}
 use Rattle.cj_spans.proofs.Spellings.{none_some, some_same, lex_run, reading, reading_sound, reading_whole, reading-more, reading-append, reading-prefix, can_end, IsOfText, TextOption, of_text_step, text_kind, text_end}
 use Rattle.cj_spans.proofs.Atoms.{continues_reaches}
 use Rattle.cj_spans.proofs.Runs.{IsEnd, space, tab, feed, «return», comma, colon, bracket, brace, white_end, Arrives, BeginsName, idle}
@@ -52,32 +35,7 @@ past_end b k h = grind (arith, common_steps)
 
 no_zero : (x : Lex) → lex_step x 0 ≡ None
 no_zero AfterN = refl
-no_zero AfterNu = refl
-no_zero AfterNul = refl
-no_zero NullDone = refl
-no_zero AfterT = refl
-no_zero AfterTr = refl
-no_zero AfterTru = refl
-no_zero AfterF = refl
-no_zero AfterFa = refl
-no_zero AfterFal = refl
-no_zero AfterFals = refl
-no_zero TruthDone = refl
-no_zero Minus = refl
-no_zero Zero = refl
-no_zero Whole = refl
-no_zero Point = refl
-no_zero Fraction = refl
-no_zero Mark = refl
-no_zero MarkSign = refl
-no_zero Exponent = refl
-no_zero InString = refl
-no_zero Escape = refl
-no_zero Hex4 = refl
-no_zero Hex3 = refl
-no_zero Hex2 = refl
-no_zero Hex1 = refl
-no_zero StringDone = refl
+no_zero _ = refl
 
 within_step : (b : List ℕ) (k : ℕ) (x y : Lex) → lex_step x (get_or b k 0) ≡ Some y → k < length b
 within_step b k x y h =
@@ -196,13 +154,7 @@ cond_not false x y h = refl
 
 start_end : {c : ℕ} → IsEnd c → lex_start c ≡ None
 start_end space = refl
-start_end tab = refl
-start_end feed = refl
-start_end «return» = refl
-start_end comma = refl
-start_end colon = refl
-start_end bracket = refl
-start_end brace = refl
+start_end _ = refl
 
 starts_not : (c d : ℕ) (x : Lex) → lex_start c ≡ Some x → lex_start d ≡ None → nat_eq c d ≡ true → ⊥
 starts_not c d x h n e = none_some x (sym n ∙ sym (ap lex_start (eqb-true c d e)) ∙ h)

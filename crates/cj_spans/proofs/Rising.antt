@@ -1,16 +1,6 @@
 -- Trees that stand side by side start one after another.
-use Rattle.std.proofs.Common.{◌≡◌, ℕ, suc, ◌-◌, ◌<◌, ◌≤◌, List, [], ◌∷◌, length, drop, slice_get, slice_range, Some, inl, inr, refl, sym, subst, arith}
-use Rattle.std.specs.Prelude.{All, ⊤}
-use Rattle.std.proofs.lemmas.Bool.{cases_lt}
+use Rattle.cj_spans.proofs.Common.{◌≡◌, ℕ, suc, ◌-◌, ◌<◌, ◌≤◌, List, [], ◌∷◌, length, drop, slice_get, slice_range, Some, inl, inr, refl, sym, subst, arith, All, ⊤, cases_lt, Token, Tree, start_of, byte, Span, spans_of, forest, held, past, kind_by, AreNamesInOrder, AreValuesInOrder, AreWithin, shown_between, pairs_of}
 use Rattle.std.proofs.lemmas.List.Elements.{All-nil, All-cons, All-head, All-tail, All-take, All-drop}
-use Rattle.cj_spans.specs.declared.token.Token.{Token}
-use Rattle.cj_spans.specs.Meaning.Tree.{Tree, start_of}
-use Rattle.cj_spans.specs.Meaning.Json.{byte}
-use Rattle.cj_spans.specs.Preorder.{Span, spans_of}
-use Rattle.cj_spans.specs.Forest.{forest, held, past, kind_by}
-use Rattle.cj_spans.specs.Places.{AreNamesInOrder, AreValuesInOrder}
-use Rattle.cj_spans.specs.Sound.{AreWithin, shown_between}
-use Rattle.cj_spans.specs.View.{pairs_of}
 use Rattle.cj_spans.proofs.Forests.{past_on, start-node}
 use Rattle.cj_spans.proofs.Views.{past_here}
 
@@ -55,28 +45,24 @@ shown_rise line tokens k n w =
 
 names_among : (n : ℕ) (ts : List Tree) → All (λ u. n < start_of u) ts
     → All (λ (m : Tree × Tree). n < start_of m.0) (pairs_of ts)
-names_among n [] a = All-nil (λ (m : Tree × Tree). n < start_of m.0)
-names_among n (t ∷ []) a = All-nil (λ (m : Tree × Tree). n < start_of m.0)
 names_among n (t ∷ u ∷ ts) a =
     All-cons (λ (m : Tree × Tree). n < start_of m.0) (t, u) (pairs_of ts) (All-head (λ u. n < start_of u) t (u ∷ ts) a)
     (names_among n ts (All-tail (λ u. n < start_of u) u ts (All-tail (λ u. n < start_of u) t (u ∷ ts) a)))
+names_among n _ a = All-nil (λ (m : Tree × Tree). n < start_of m.0)
 
 pub pairs_rise : (ts : List Tree) → Rise ts → AreNamesInOrder (pairs_of ts)
-pairs_rise [] r = tt
-pairs_rise (t ∷ []) r = tt
 pairs_rise (t ∷ u ∷ ts) r =
     (names_among (start_of t) ts (All-tail (λ v. start_of t < start_of v) u ts r.0), pairs_rise ts r.1.1)
+pairs_rise _ r = tt
 
 values_among : (n : ℕ) (ts : List Tree) → All (λ u. n < start_of u) ts
     → All (λ (m : Tree × Tree). n < start_of m.1) (pairs_of ts)
-values_among n [] a = All-nil (λ (m : Tree × Tree). n < start_of m.1)
-values_among n (t ∷ []) a = All-nil (λ (m : Tree × Tree). n < start_of m.1)
 values_among n (t ∷ u ∷ ts) a =
     let later = All-tail (λ u. n < start_of u) t (u ∷ ts) a in
     All-cons (λ (m : Tree × Tree). n < start_of m.1) (t, u) (pairs_of ts) (All-head (λ u. n < start_of u) u ts later)
     (values_among n ts (All-tail (λ u. n < start_of u) u ts later))
+values_among n _ a = All-nil (λ (m : Tree × Tree). n < start_of m.1)
 
 pub values_rise : (ts : List Tree) → Rise ts → AreValuesInOrder (pairs_of ts)
-values_rise [] r = tt
-values_rise (t ∷ []) r = tt
 values_rise (t ∷ u ∷ ts) r = (values_among (start_of u) ts r.1.0, values_rise ts r.1.1)
+values_rise _ r = tt

@@ -1,18 +1,6 @@
 -- Runs of the machine: bytes that end a scalar, and white space.
-use Rattle.std.proofs.Common.{◌≡◌, ℕ, zero, suc, ◌+◌, ◌-◌, ◌<◌, ◌≤◌, List, true, false, ◌||◌, nat_eq, Option, Some, None, refl, sym, ap, subst, arith, ◌∙◌, inl, inr}
-use Rattle.std.proofs.Math.Nat.{eq-or-lt_of_le}
-use Rattle.std.specs.Prelude.{option_and_then}
+use Rattle.cj_spans.proofs.Common.{◌≡◌, ℕ, zero, suc, ◌+◌, ◌-◌, ◌<◌, ◌≤◌, List, true, false, ◌||◌, nat_eq, Option, Some, None, refl, sym, ap, subst, arith, ◌∙◌, inl, inr, eq-or-lt_of_le, option_and_then, Kind, Token, Lex, AfterN, AfterNu, AfterNul, NullDone, AfterT, AfterTr, AfterTru, AfterF, AfterFa, AfterFal, AfterFals, TruthDone, Minus, Zero, Whole, Point, Fraction, Mark, MarkSign, Exponent, InString, Escape, Hex4, Hex3, Hex2, Hex1, StringDone, Mode, FirstName, NextName, is_white_space, byte, White, is_digit, Phase, State, state, between, in_atom, read, end_atom, go_on, step, settle, lex_step, lex_kind, point_or_mark, Reaches, on}
 use Rattle.std.proofs.lemmas.Bool.{eqb-true, cond-true, cond-false}
-use Rattle.cj_spans.specs.declared.token.Kind.{Kind}
-use Rattle.cj_spans.specs.declared.token.Token.{Token}
-use Rattle.cj_spans.specs.declared.lex.Lex.{Lex}
-use Rattle.cj_spans.specs.declared.lex.Lex.TheVariants.{AfterN, AfterNu, AfterNul, NullDone, AfterT, AfterTr, AfterTru, AfterF, AfterFa, AfterFal, AfterFals, TruthDone, Minus, Zero, Whole, Point, Fraction, Mark, MarkSign, Exponent, InString, Escape, Hex4, Hex3, Hex2, Hex1, StringDone}
-use Rattle.cj_spans.specs.declared.step.Mode.{Mode}
-use Rattle.cj_spans.specs.declared.step.Mode.TheVariants.{FirstName, NextName}
-use Rattle.cj_spans.specs.Meaning.Spelling.{is_white_space}
-use Rattle.cj_spans.specs.Meaning.Json.{byte, White}
-use Rattle.cj_spans.specs.inner.Machine.{is_digit, Phase, State, state, between, in_atom, read, end_atom, go_on, step}
-use Rattle.cj_spans.specs.inner.Machine.{settle, lex_step, lex_kind, point_or_mark, Reaches, on}
 use Rattle.cj_spans.proofs.Spellings.{none_some, some_same, either}
 
 -- between scalars and names
@@ -33,33 +21,15 @@ pub data IsEnd : ℕ → Type 0 where
 
 digit_end : {c : ℕ} → IsEnd c → is_digit c ≡ false
 digit_end space = refl
-digit_end tab = refl
-digit_end feed = refl
-digit_end «return» = refl
-digit_end comma = refl
-digit_end colon = refl
-digit_end bracket = refl
-digit_end brace = refl
+digit_end _ = refl
 
 point_end : {c : ℕ} → IsEnd c → point_or_mark c ≡ None
 point_end space = refl
-point_end tab = refl
-point_end feed = refl
-point_end «return» = refl
-point_end comma = refl
-point_end colon = refl
-point_end bracket = refl
-point_end brace = refl
+point_end _ = refl
 
 fraction_end : {c : ℕ} → IsEnd c → lex_step Fraction c ≡ None
 fraction_end space = refl
-fraction_end tab = refl
-fraction_end feed = refl
-fraction_end «return» = refl
-fraction_end comma = refl
-fraction_end colon = refl
-fraction_end bracket = refl
-fraction_end brace = refl
+fraction_end _ = refl
 
 -- a scalar that may end does not go on with one of them
 pub atom_ends : (x : Lex) {c : ℕ} (k : Kind) → lex_kind x ≡ Some k → IsEnd c → lex_step x c ≡ None

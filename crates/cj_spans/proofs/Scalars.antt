@@ -1,11 +1,5 @@
 -- How far scalars and names are read, piece by piece.
-use Rattle.std.proofs.Common.{◌≡◌, ℕ, suc, ◌+◌, ◌<◌, ◌≤◌, List, length, true, Some, refl, ap, subst, arith, ◌∙◌, inr}
-use Rattle.cj_spans.specs.declared.lex.Lex.{Lex}
-use Rattle.cj_spans.specs.declared.lex.Lex.TheVariants.{AfterN, AfterNu, AfterNul, NullDone, AfterT, AfterTr, AfterTru, AfterF, AfterFa, AfterFal, AfterFals, TruthDone, Whole, Zero, Minus, Point, Fraction, InString, Escape, Hex4, Hex3, Hex2, Hex1, StringDone}
-use Rattle.cj_spans.specs.Meaning.Json.{byte}
-use Rattle.cj_spans.specs.Meaning.Spelling.{is_escape, is_hex}
-use Rattle.cj_spans.specs.inner.Machine.{lex_step, is_digit, Continues, still, further}
-use Rattle.cj_spans.specs.inner.Atom.{GoesTo, ReadsTo}
+use Rattle.cj_spans.proofs.Common.{◌≡◌, ℕ, suc, ◌+◌, ◌<◌, ◌≤◌, List, length, true, Some, refl, ap, subst, arith, ◌∙◌, inr, Lex, AfterN, AfterNu, AfterNul, NullDone, AfterT, AfterTr, AfterTru, AfterF, AfterFa, AfterFal, AfterFals, TruthDone, Whole, Zero, Minus, Point, Fraction, InString, Escape, Hex4, Hex3, Hex2, Hex1, StringDone, byte, is_escape, is_hex, lex_step, is_digit, Continues, still, further, GoesTo, ReadsTo}
 use Rattle.cj_spans.proofs.Spellings.{escape_goes, hex_goes}
 
 through : {b : List ℕ} {i : ℕ} {x : Lex} {j : ℕ} {y : Lex} {k : ℕ} {z : Lex} → Continues b i x j y → Continues b j y k z

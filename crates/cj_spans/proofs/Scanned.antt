@@ -1,22 +1,5 @@
 -- Tokens that show the tree of a line: what is known of each.
-use Rattle.std.proofs.Common.{◌≡◌, ℕ, zero, suc, ◌+◌, ◌-◌, ◌<◌, ◌≤◌, List, [], ◌∷◌, ◌++◌, length, drop, slice_get, slice_range, true, inl, inr, Some, refl, sym, ap, subst, arith, ◌∙◌, append_assoc}
-use Rattle.std.proofs.lemmas.Bool.{cases_lt}
-use Rattle.std.proofs.lemmas.List.{append-nil}
-use Rattle.std.proofs.lemmas.Bool.Decides.{nat_tests}
-use Rattle.std.proofs.lemmas.Grind.{merely}
-use Rattle.cj_spans.specs.declared.token.Token.{Token}
-use Rattle.cj_spans.specs.declared.token.Kind.{Kind}
-use Rattle.cj_spans.specs.declared.token.Kind.TheVariants.{Null, Truth, Number, Text, Array, Object}
-use Rattle.cj_spans.specs.Meaning.Tree.{Atom, Tree, scalar, array, object, Items, no_items, item, Members, no_members}
-use Rattle.cj_spans.specs.Meaning.Tree.{member, add_item, add_member, start_of, size, items_size, members_size}
-use Rattle.cj_spans.specs.Forest.{total_size, kind_by, held, past, atom_of, items_from, members_from, node, forest}
-use Rattle.cj_spans.specs.Meaning.Spelling.{IsScalar, IsNumber}
-use Rattle.cj_spans.specs.Meaning.Json.{byte, IsAtom, Value, atom, empty_array, full_array, empty_object, full_object}
-use Rattle.cj_spans.specs.Meaning.Json.{Padded, padded, LedItems, no_led, led, LedMembers, no_led_members, led_member}
-use Rattle.cj_spans.specs.Meaning.Json.{Named, named, Json}
-use Rattle.cj_spans.specs.Preorder.{Span, span_at, preorder, items_preorder, members_preorder, spans_of}
-use Rattle.cj_spans.specs.Sound.{AreOf, AreWithin, AreRising, AreNested, AreNamed, AreSpelled, AreLinked, are_members}
-use Rattle.cj_spans.specs.View.{tree_at}
+use Rattle.cj_spans.proofs.Common.{◌≡◌, ℕ, zero, suc, ◌+◌, ◌-◌, ◌<◌, ◌≤◌, List, [], ◌∷◌, ◌++◌, length, drop, slice_get, slice_range, true, inl, inr, Some, refl, sym, ap, subst, arith, ◌∙◌, append_assoc, cases_lt, append-nil, nat_tests, merely, Token, Kind, Null, Truth, Number, Text, Array, Object, Atom, Tree, scalar, array, object, Items, no_items, item, Members, no_members, member, add_item, add_member, start_of, size, items_size, members_size, total_size, kind_by, held, past, atom_of, items_from, members_from, node, forest, IsScalar, IsNumber, byte, IsAtom, Value, atom, empty_array, full_array, empty_object, full_object, Padded, padded, LedItems, no_led, led, LedMembers, no_led_members, led_member, Named, named, Json, Span, span_at, preorder, items_preorder, members_preorder, spans_of, AreOf, AreWithin, AreRising, AreNested, AreNamed, AreSpelled, AreLinked, are_members, tree_at}
 use Rattle.cj_spans.proofs.Lists.{items_preorder-add, members_preorder-add}
 use Rattle.cj_spans.proofs.Verdicts.{json_only}
 use Rattle.cj_spans.proofs.Forests.{atom_kind, Beyond, held_all, names_and_values, led_order, led_members_order, Shows, shows_more, shows_add_member, shows_led_members, shows_padded, padded_ends, named_ends, start-node}
@@ -29,8 +12,7 @@ preorders (t ∷ ts) = preorder t ++ preorders ts
 
 pub size_some : (t : Tree) → 0 < size t
 size_some (scalar k a) = omega arith
-size_some (array i j ts) = omega arith
-size_some (object i j ms) = omega arith
+size_some _ = omega arith
 
 sizes_none : (ts : List Tree) → total_size ts ≡ 0 → preorders ts ≡ []
 sizes_none [] h = refl
@@ -58,9 +40,8 @@ items_preorder-from [] = refl
 items_preorder-from (t ∷ ts) = ap (λ ss. preorder t ++ ss) (items_preorder-from ts)
 
 members_small : (ts : List Tree) → members_size (members_from ts) ≤ total_size ts
-members_small [] = omega arith
-members_small (n ∷ []) = omega arith
 members_small (n ∷ t ∷ ts) = let s = size_some n in let l = members_small ts in omega arith
+members_small _ = omega arith
 
 members_same : (ts : List Tree) → members_size (members_from ts) ≡ total_size ts
     → members_preorder (members_from ts) ≡ preorders ts
@@ -75,21 +56,15 @@ members_same (n ∷ t ∷ ts) h =
     ∙ ap (λ ss. ss ++ (preorder t ++ preorders ts)) (sym (alone n e))
 
 pub node_small : (b : List ℕ) (k : Kind) (i j : ℕ) (ts : List Tree) → size (node b k i j ts) ≤ suc (total_size ts)
-node_small b Null i j ts = omega arith
-node_small b Truth i j ts = omega arith
-node_small b Number i j ts = omega arith
-node_small b Text i j ts = omega arith
 node_small b Array i j ts = let e = items_size-from ts in omega arith
 node_small b Object i j ts = let e = members_small ts in omega arith
+node_small b _ i j ts = omega arith
 
 node_same : (b : List ℕ) (k : Kind) (i j : ℕ) (ts : List Tree) → size (node b k i j ts) ≡ suc (total_size ts)
     → preorder (node b k i j ts) ≡ span_at i j ∷ preorders ts
-node_same b Null i j ts h = ap (λ ss. span_at i j ∷ ss) (sym (sizes_none ts (omega arith)))
-node_same b Truth i j ts h = ap (λ ss. span_at i j ∷ ss) (sym (sizes_none ts (omega arith)))
-node_same b Number i j ts h = ap (λ ss. span_at i j ∷ ss) (sym (sizes_none ts (omega arith)))
-node_same b Text i j ts h = ap (λ ss. span_at i j ∷ ss) (sym (sizes_none ts (omega arith)))
 node_same b Array i j ts h = ap (λ ss. span_at i j ∷ ss) (items_preorder-from ts)
 node_same b Object i j ts h = ap (λ ss. span_at i j ∷ ss) (members_same ts (omega arith))
+node_same b _ i j ts h = ap (λ ss. span_at i j ∷ ss) (sym (sizes_none ts (omega arith)))
 
 pub sizes-append : (ts us : List Tree) → total_size (ts ++ us) ≡ total_size ts + total_size us
 sizes-append [] us = omega arith
@@ -263,20 +238,12 @@ byte_within (x ∷ b) zero c h = omega arith
 byte_within (x ∷ b) (suc i) c h = let l = byte_within b i c h in omega arith
 
 not_object : (k : Kind) (s : List ℕ) → IsScalar k s → k ≡ Object → ⊥
-not_object Null s h e = cc
-not_object Truth s h e = cc
-not_object Number s h e = cc
-not_object Text s h e = cc
-not_object Array s h e = cc
 not_object Object s h e = h
+not_object _ s h e = cc
 
 not_array : (k : Kind) (s : List ℕ) → IsScalar k s → k ≡ Array → ⊥
-not_array Null s h e = cc
-not_array Truth s h e = cc
-not_array Number s h e = cc
-not_array Text s h e = cc
 not_array Array s h e = h
-not_array Object s h e = cc
+not_array _ s h e = cc
 
 atom_numeral : {k : Kind} (s : List ℕ) → IsScalar k s → k ≡ Number → IsNumber s
 atom_numeral s h e = subst (λ z. IsScalar z s) e h

@@ -1,18 +1,5 @@
 -- Signs: where the machine stands behind a colon and a comma, and which container is then innermost.
-use Rattle.std.proofs.Common.{◌≡◌, ℕ, suc, ◌+◌, ◌<◌, List, [], ◌∷◌, ◌++◌, length, max, Bool, true, false, cond, nat_eq, Option, Some, None, refl, sym, ap, subst, arith, ◌∙◌, slice_get}
-use Rattle.cj_spans.specs.declared.token.Kind.{Kind}
-use Rattle.cj_spans.specs.declared.token.Kind.TheVariants.{Null, Truth, Number, Text, Array, Object}
-use Rattle.cj_spans.specs.declared.token.Token.{Token}
-use Rattle.cj_spans.specs.declared.step.Mode.{Mode}
-use Rattle.cj_spans.specs.declared.step.Mode.TheVariants.{Ready, FirstItem, After, FirstName, NextName, AfterName}
-use Rattle.cj_spans.specs.declared.step.Move.{Move}
-use Rattle.cj_spans.specs.declared.step.Move.TheVariants.{To, Open}
-use Rattle.cj_spans.specs.Meaning.Json.{byte}
-use Rattle.cj_spans.specs.Preorder.{token_at}
-use Rattle.cj_spans.specs.inner.Machine.{Phase, State, state, between, moved, read, after_top, after_token, after_in}
-use Rattle.cj_spans.specs.inner.Machine.{with_closed, step, phase_after, open_link, open_kind, Reaches, on, ComesTo}
-use Rattle.cj_spans.specs.inner.Machine.{IsInnermost, InArray, InObject, BeginsValueNext, BeginsNameNext}
-use Rattle.cj_spans.specs.inner.Machine.{StaysInArrayNext, StaysInObjectNext}
+use Rattle.cj_spans.proofs.Common.{◌≡◌, ℕ, suc, ◌+◌, ◌<◌, List, [], ◌∷◌, ◌++◌, length, max, Bool, true, false, cond, nat_eq, Option, Some, None, refl, sym, ap, subst, arith, ◌∙◌, slice_get, Kind, Null, Truth, Number, Text, Array, Object, Token, Mode, Ready, FirstItem, After, FirstName, NextName, AfterName, Move, To, Open, byte, token_at, Phase, State, state, between, moved, read, after_top, after_token, after_in, with_closed, step, phase_after, open_link, open_kind, Reaches, on, ComesTo, IsInnermost, InArray, InObject, BeginsValueNext, BeginsNameNext, StaysInArrayNext, StaysInObjectNext}
 use Rattle.cj_spans.proofs.Spellings.{some_same, none_some}
 use Rattle.cj_spans.proofs.Lists.{slice_get-append, slice_get-seam}
 use Rattle.cj_spans.proofs.Runs.{idle, settled}

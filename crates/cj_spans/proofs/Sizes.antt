@@ -1,21 +1,5 @@
 -- Tokens past the tree of a token: as many as the tree has values and names.
-use Rattle.std.proofs.Common.{◌≡◌, ℕ, zero, suc, ◌+◌, ◌<◌, ◌≤◌, List, [], ◌∷◌, length, drop, slice_get, Some, Result, Ok, Err, refl, sym, ap, subst, arith, rules, ◌∙◌}
-use Rattle.std.specs.Prelude.{OnOk}
-use Rattle.std.proofs.lemmas.List.{length-drop}
-use Rattle.std.proofs.lemmas.Option.{slice_get_within}
-use Rattle.cj_budget.specs.Bounded.{BoundedList}
-use Rattle.cj_spans.specs.declared.token.Token.{Token}
-use Rattle.cj_spans.specs.declared.fault.LineFault.{LineFault}
-use Rattle.cj_spans.specs.Meaning.Tree.{Atom, Tree, Items, no_items, item, Members, no_members, member, add_item}
-use Rattle.cj_spans.specs.Meaning.Tree.{add_member, size, items_size, members_size}
-use Rattle.cj_spans.specs.Forest.{total_size, held, past, forest, kind_by, node}
-use Rattle.cj_spans.specs.Meaning.Json.{byte, Value, atom, empty_array, full_array, empty_object, full_object, Padded}
-use Rattle.cj_spans.specs.Meaning.Json.{padded, LedItems, no_led, led, LedMembers, no_led_members, led_member, Named}
-use Rattle.cj_spans.specs.Meaning.Json.{named}
-use Rattle.cj_spans.specs.Preorder.{Span, spans_of}
-use Rattle.cj_spans.specs.Sound.{AreOf, AreFull, AreNested, AreLinked, before}
-use Rattle.cj_spans.specs.Scan.{AreSized, IsScanOf}
-use Rattle.cj_spans.specs.View.{tree_at}
+use Rattle.cj_spans.proofs.Common.{◌≡◌, ℕ, zero, suc, ◌+◌, ◌<◌, ◌≤◌, List, [], ◌∷◌, length, drop, slice_get, Some, Result, Ok, Err, refl, sym, ap, subst, arith, rules, ◌∙◌, OnOk, length-drop, slice_get_within, BoundedList, Token, LineFault, Atom, Tree, Items, no_items, item, Members, no_members, member, add_item, add_member, size, items_size, members_size, total_size, held, past, forest, kind_by, node, byte, Value, atom, empty_array, full_array, empty_object, full_object, Padded, padded, LedItems, no_led, led, LedMembers, no_led_members, led_member, Named, named, Span, spans_of, AreOf, AreFull, AreNested, AreLinked, before, AreSized, IsScanOf, tree_at}
 use Rattle.cj_spans.proofs.Links.{before_length, before_one, before_zero}
 use Rattle.cj_spans.proofs.Scanned.{node_small, forest_small, held_sizes, known, length-spans_of}
 use Rattle.cj_spans.proofs.Views.{link_past}

@@ -1,26 +1,6 @@
 -- What the machine has read, by its state.
-use Rattle.std.proofs.Common.{◌≡◌, ℕ, suc, List, [], ◌∷◌, ◌++◌, length, max, Bool, true, false, cond, nat_eq, Option, Some, None, refl, sym, ap, subst, arith, ◌∙◌, ◌≤◌, ◌⊎◌, inl, inr, slice_set}
-use Rattle.std.proofs.Math.Nat.{eq-or-lt_of_le}
-use Rattle.std.specs.Prelude.{option_and_then, option_map}
-use Rattle.std.proofs.lemmas.List.{append-nil}
+use Rattle.cj_spans.proofs.Common.{◌≡◌, ℕ, suc, List, [], ◌∷◌, ◌++◌, length, max, Bool, true, false, cond, nat_eq, Option, Some, None, refl, sym, ap, subst, arith, ◌∙◌, ◌≤◌, ◌⊎◌, inl, inr, slice_set, eq-or-lt_of_le, option_and_then, option_map, append-nil, Kind, Text, Array, Object, Token, Lex, InString, Mode, Ready, FirstItem, After, FirstName, NextName, AfterName, Atom, Tree, scalar, array, object, Items, no_items, Members, no_members, add_item, add_member, is_white_space, byte, atom_at, White, IsAtom, Value, atom, empty_array, full_array, empty_object, full_object, Padded, padded, LedItems, no_led, led, LedMembers, no_led_members, led_member, Named, named, flatten, flatten_items, flatten_members, token_at, State, state, in_atom, step, read, begin_value, after_value, after_in, after_token, close_token, end_atom, go_on, lex_start, lex_step, lex_kind, Reaches, here, on, start}
 use Rattle.std.proofs.lemmas.Bool.{eqb-true}
-use Rattle.cj_spans.specs.declared.token.Kind.{Kind}
-use Rattle.cj_spans.specs.declared.token.Kind.TheVariants.{Text, Array, Object}
-use Rattle.cj_spans.specs.declared.token.Token.{Token}
-use Rattle.cj_spans.specs.declared.lex.Lex.{Lex}
-use Rattle.cj_spans.specs.declared.lex.Lex.TheVariants.{InString}
-use Rattle.cj_spans.specs.declared.step.Mode.{Mode}
-use Rattle.cj_spans.specs.declared.step.Mode.TheVariants.{Ready, FirstItem, After, FirstName, NextName, AfterName}
-use Rattle.cj_spans.specs.Meaning.Tree.{Atom, Tree, scalar, array, object, Items, no_items, Members, no_members}
-use Rattle.cj_spans.specs.Meaning.Tree.{add_item, add_member}
-use Rattle.cj_spans.specs.Meaning.Spelling.{is_white_space}
-use Rattle.cj_spans.specs.Meaning.Json.{byte, atom_at, White, IsAtom, Value, atom, empty_array, full_array}
-use Rattle.cj_spans.specs.Meaning.Json.{empty_object, full_object, Padded, padded, LedItems, no_led, led, LedMembers}
-use Rattle.cj_spans.specs.Meaning.Json.{no_led_members, led_member, Named, named}
-use Rattle.cj_spans.specs.Preorder.{flatten, flatten_items, flatten_members, token_at}
-use Rattle.cj_spans.specs.inner.Machine.{State, state, in_atom, step, read, begin_value, after_value, after_in}
-use Rattle.cj_spans.specs.inner.Machine.{after_token, close_token, end_atom, go_on, lex_start, lex_step, lex_kind}
-use Rattle.cj_spans.specs.inner.Machine.{Reaches, here, on, start}
 use Rattle.cj_spans.proofs.Spellings.{none_some, some_same}
 use Rattle.cj_spans.proofs.Lists.{length-snoc, items_more, members_more, array_done, object_done, array_empty, object_empty, slice_get-append, slice_get-seam}
 use Rattle.cj_spans.proofs.Runs.{idle}

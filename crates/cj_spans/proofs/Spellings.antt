@@ -1,20 +1,6 @@
 -- The readings of a scalar against the spellings of RFC 8259, over lists of bytes.
-use Rattle.std.proofs.Common.{◌≡◌, ℕ, ◌<◌, ◌≤◌, List, [], ◌∷◌, ◌++◌, length, Bool, true, false, cond, ◌&&◌, ◌||◌, not, nat_eq, nat_le, Option, Some, None, refl, sym, ap, subst, arith, ◌∙◌, ◌⊎◌, inl, inr}
-use Rattle.std.specs.Cmp.Derive.{both_true}
-use Rattle.std.specs.Cmp.{first_so, second_so}
-use Rattle.std.specs.Prelude.{option_and_then}
-use Rattle.std.proofs.lemmas.List.{append-nil}
+use Rattle.cj_spans.proofs.Common.{◌≡◌, ℕ, ◌<◌, ◌≤◌, List, [], ◌∷◌, ◌++◌, length, Bool, true, false, cond, ◌&&◌, ◌||◌, not, nat_eq, nat_le, Option, Some, None, refl, sym, ap, subst, arith, ◌∙◌, ◌⊎◌, inl, inr, both_true, first_so, second_so, option_and_then, append-nil, nat_tests, Kind, Null, Truth, Number, Text, Array, Object, Lex, AfterN, AfterNu, AfterNul, NullDone, AfterT, AfterTr, AfterTru, AfterF, AfterFa, AfterFal, AfterFals, TruthDone, Minus, Zero, Whole, Point, Fraction, Mark, MarkSign, Exponent, InString, Escape, Hex4, Hex3, Hex2, Hex1, StringDone, IsScalar, is_plain, is_escape, is_hex, IsDigit, AllDigits, IsDigits, IsMinus, IsInt, IsFrac, IsExp, IsExpSign, IsExpRest, IsNumber, IsBody, nothing, plain, escape, unicode, null_text, true_text, false_text, is_digit, lex_start, lex_step, lex_kind, hex, one, digit_or, mark, point_or_mark, sign_mark}
 use Rattle.std.proofs.lemmas.Bool.{eqb-true}
-use Rattle.std.proofs.lemmas.Bool.Decides.{nat_tests}
-use Rattle.cj_spans.specs.declared.token.Kind.{Kind}
-use Rattle.cj_spans.specs.declared.token.Kind.TheVariants.{Null, Truth, Number, Text, Array, Object}
-use Rattle.cj_spans.specs.declared.lex.Lex.{Lex}
-use Rattle.cj_spans.specs.declared.lex.Lex.TheVariants.{AfterN, AfterNu, AfterNul, NullDone, AfterT, AfterTr, AfterTru, AfterF, AfterFa, AfterFal, AfterFals, TruthDone, Minus, Zero, Whole, Point, Fraction, Mark, MarkSign, Exponent, InString, Escape, Hex4, Hex3, Hex2, Hex1, StringDone}
-use Rattle.cj_spans.specs.Meaning.Spelling.{IsScalar, is_plain, is_escape, is_hex, IsDigit, AllDigits, IsDigits}
-use Rattle.cj_spans.specs.Meaning.Spelling.{IsMinus, IsInt, IsFrac, IsExp, IsExpSign, IsExpRest, IsNumber, IsBody}
-use Rattle.cj_spans.specs.Meaning.Spelling.{nothing, plain, escape, unicode, null_text, true_text, false_text}
-use Rattle.cj_spans.specs.inner.Machine.{is_digit, lex_start, lex_step, lex_kind, hex, one, digit_or, mark}
-use Rattle.cj_spans.specs.inner.Machine.{point_or_mark, sign_mark}
 
 pub none_some : {A B : Type 0} (x : A) → ◌≡◌ {A = Option A} None (Some x) → B
 none_some x h = cc
@@ -586,8 +572,7 @@ reading_whole Number s h =
       kind = r.kind;
     }
 reading_whole Text s h = record { last = StringDone; run = ap reading h.joined ∙ body_runs h.body_is; kind = refl }
-reading_whole Array s h = absurd h
-reading_whole Object s h = absurd h
+reading_whole _ s h = absurd h
 
 -- ---- the states of a string
 
@@ -667,11 +652,9 @@ can_end AfterNu = ending (108 ∷ 108 ∷ []) NullDone Null refl refl
 can_end AfterNul = ending (108 ∷ []) NullDone Null refl refl
 can_end AfterT = ending (114 ∷ 117 ∷ 101 ∷ []) TruthDone Truth refl refl
 can_end AfterTr = ending (117 ∷ 101 ∷ []) TruthDone Truth refl refl
-can_end AfterTru = ending (101 ∷ []) TruthDone Truth refl refl
 can_end AfterF = ending (97 ∷ 108 ∷ 115 ∷ 101 ∷ []) TruthDone Truth refl refl
 can_end AfterFa = ending (108 ∷ 115 ∷ 101 ∷ []) TruthDone Truth refl refl
 can_end AfterFal = ending (115 ∷ 101 ∷ []) TruthDone Truth refl refl
-can_end AfterFals = ending (101 ∷ []) TruthDone Truth refl refl
 can_end NullDone = ending ([]) NullDone Null refl refl
 can_end TruthDone = ending ([]) TruthDone Truth refl refl
 can_end Minus = ending (48 ∷ []) Zero Number refl refl
@@ -689,6 +672,7 @@ can_end Hex2 = as_text (text_end Hex2 tt)
 can_end Hex3 = as_text (text_end Hex3 tt)
 can_end Hex4 = as_text (text_end Hex4 tt)
 can_end StringDone = as_text (text_end StringDone tt)
+can_end _ = ending (101 ∷ []) TruthDone Truth refl refl
 
 -- ---- a spelling and what follows it
 

@@ -1,21 +1,6 @@
 -- Where the pass over a line stands in the machine.
-use Rattle.std.proofs.Common.{◌≡◌, ℕ, suc, ◌+◌, ◌*◌, ◌/◌, ◌^◌, ◌<◌, ◌≤◌, List, [], ◌∷◌, ◌++◌, length, length-append, max, Bool, true, false, IsTrue, rules, Option, Some, None, Err, refl, sym, ap, subst, arith, ◌∙◌, inl, inr}
-use Rattle.std.specs.Prelude.{IsSomeAnd}
-use Rattle.cj_budget.specs.Bounded.{BoundedList, IsWithin, Becomes}
-use Rattle.cj_spans.specs.declared.fault.LineFault.{LineFault}
-use Rattle.cj_spans.specs.declared.fault.LineFault.TheVariants.{NotUtf8, Syntax, TooDeep}
-use Rattle.cj_spans.specs.declared.token.Token.{Token}
-use Rattle.cj_spans.specs.declared.step.Mode.{Mode}
-use Rattle.cj_spans.specs.declared.step.Mode.TheVariants.{Ready, FirstItem, After, FirstName, NextName, AfterName}
-use Rattle.cj_spans.specs.declared.step.Move.{Move}
+use Rattle.cj_spans.proofs.Common.{◌≡◌, ℕ, suc, ◌+◌, ◌*◌, ◌/◌, ◌^◌, ◌<◌, ◌≤◌, List, [], ◌∷◌, ◌++◌, length, length-append, max, Bool, true, false, IsTrue, rules, Option, Some, None, Err, refl, sym, ap, subst, arith, ◌∙◌, inl, inr, IsSomeAnd, BoundedList, IsWithin, Becomes, LineFault, NotUtf8, Syntax, TooDeep, Token, Mode, Ready, FirstItem, After, FirstName, NextName, AfterName, Move, Next, byte, KeepsLaw, State, state, step, read, Reaches, here, on, start, ComesTo, Sticks, phase_after, deepest_after, Answers, EndAnswers, Kept, Grown, BeginsValue, BeginsName, BeginsAtom, SticksAt, RunAnswers, Standing}
 use Rattle.cj_spans.specs.declared.step.Move.TheVariants.{Stay, To, Open, Atom}
-use Rattle.cj_spans.specs.declared.step.Next.{Next}
-use Rattle.cj_spans.specs.Meaning.Json.{byte}
-use Rattle.cj_spans.specs.Scan.{KeepsLaw}
-use Rattle.cj_spans.specs.inner.Machine.{State, state, step, read, Reaches, here, on, start, ComesTo, Sticks}
-use Rattle.cj_spans.specs.inner.Machine.{phase_after, deepest_after, Answers, EndAnswers, Kept, Grown, BeginsValue}
-use Rattle.cj_spans.specs.inner.Machine.{BeginsName, BeginsAtom, SticksAt, RunAnswers}
-use Rattle.cj_spans.specs.inner.Pass.{Standing}
 use Rattle.cj_spans.proofs.Spellings.{some_same}
 use Rattle.cj_spans.proofs.Runs.{idle, settled, same_mode}
 use Rattle.cj_spans.proofs.Facts.{IsLawful, goes, lawful_reaches, lawful_settles, reaches_both}
@@ -51,12 +36,9 @@ module _ {b : List ℕ} {tokens0 : BoundedList Token} {stack0 : BoundedList ℕ}
 
 count_of : (m : Mode) (ks : List ℕ) (ts : List Token) (i p : ℕ) → IsLawful (idle m ks ts i p)
     → 2 * length ts ≤ suc i + length ks
-count_of Ready ks ts i p l = let c = l.token_count in omega arith
-count_of FirstItem ks ts i p l = let c = l.token_count in omega arith
 count_of After ks ts i p l = l.token_count
-count_of FirstName ks ts i p l = let c = l.token_count in omega arith
-count_of NextName ks ts i p l = let c = l.token_count in omega arith
 count_of AfterName ks ts i p l = l.token_count
+count_of _ ks ts i p l = let c = l.token_count in omega arith
 
 pub count_before : (m : Mode) (ks : List ℕ) (ts : List Token) (i p : ℕ) → IsLawful (idle m ks ts i p) → BeginsValue m
     → 2 * length ts ≤ i + length ks

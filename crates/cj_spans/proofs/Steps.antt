@@ -1,14 +1,5 @@
 -- One byte, in the code and in the machine.
-use Rattle.std.proofs.Common.{◌⊎◌, inl, inr, ◌≡◌, ℕ, List, false, cond, nat_eq, Option, Result, arith, refl, sym, subst}
-use Rattle.std.proofs.lemmas.Bool.{cond-false}
-use Rattle.std.proofs.lemmas.Bool.Decides.{nat_tests}
-use Rattle.cj_spans.specs.declared.fault.LineFault.{LineFault}
-use Rattle.cj_spans.specs.declared.token.Token.{Token}
-use Rattle.cj_spans.specs.declared.step.Mode.{Mode}
-use Rattle.cj_spans.specs.declared.step.Mode.TheVariants.{Ready, FirstItem, After, FirstName, NextName, AfterName}
-use Rattle.cj_spans.specs.declared.step.Move.{Move}
-use Rattle.cj_spans.specs.Meaning.Spelling.{is_white_space}
-use Rattle.cj_spans.specs.inner.Machine.{State, state, between, read, read_in, Answers}
+use Rattle.cj_spans.proofs.Common.{◌⊎◌, inl, inr, ◌≡◌, ℕ, List, false, cond, nat_eq, Option, Result, arith, refl, sym, subst, cond-false, nat_tests, LineFault, Token, Mode, Ready, FirstItem, After, FirstName, NextName, AfterName, Move, is_white_space, State, state, between, read, read_in, Answers}
 
 -- the answer of the mode n, where the machine's step in it is that of the call
 pub in_answers : (o : Option State) {m n : Mode} (c i p d : ℕ) (r : Result Move LineFault) (ls : List ℕ)

@@ -1,17 +1,9 @@
 -- The characters between the quotes of a string stand for code points.
-use Rattle.std.proofs.Common.{◌≡◌, ℕ, zero, suc, ◌-◌, ◌<◌, ◌≤◌, List, [], ◌∷◌, ◌++◌, length, take, get_or, Bool, true, false, ◌&&◌, inl, inr, nat_eq, refl, sym, ap, subst, arith, ◌∙◌, length-append}
-use Rattle.std.proofs.Math.Seq.{take-length}
-use Rattle.std.specs.Cmp.{first_so, second_so}
+use Rattle.cj_spans.proofs.Common.{◌≡◌, ℕ, zero, suc, ◌-◌, ◌<◌, ◌≤◌, List, [], ◌∷◌, ◌++◌, length, take, get_or, Bool, true, false, ◌&&◌, inl, inr, nat_eq, refl, sym, ap, subst, arith, ◌∙◌, length-append, take-length, first_so, second_so, append-nil, take-append-le, nat_tests, encode_utf8, is_plain, is_escape, is_hex, IsBody, nothing, plain as plain_byte, escape, unicode, IsString, char_of, four_digits, unit, is_unicode, is_pair, body_of}
 use Rattle.std.proofs.lemmas.Bool.{cases_lt, eqb-true}
-use Rattle.std.proofs.lemmas.List.{append-nil, take-append-le}
-use Rattle.std.proofs.lemmas.Bool.Decides.{nat_tests}
 use Rattle.std.proofs.lemmas.Str.{encode_ascii, inside_one, cons_from_encodes, chars-encodes, IsUtf8-past_char, IsUtf8-take, IsCharBoundary-before_ascii}
 use Rattle.std.specs.Str.{chars, IsUtf8, encode_utf8_all}
-use Rattle.std.specs.Prelude.{encode_utf8}
 use Rattle.std.specs.Char.Utf16.{is_high_surrogate, is_low_surrogate}
-use Rattle.cj_spans.specs.Meaning.Spelling.{is_plain, is_escape, is_hex, IsBody, nothing, plain as plain_byte, escape}
-use Rattle.cj_spans.specs.Meaning.Spelling.{unicode, IsString}
-use Rattle.cj_spans.specs.Meaning.Text.{char_of, four_digits, unit, is_unicode, is_pair, body_of}
 use Rattle.cj_spans.specs.Meaning.StandFor.{StandFor, done, plain, letter, single, pair}
 
 -- how the bytes b and r of a body begin

@@ -1,21 +1,9 @@
 -- Characters and code points, read one at a time.
-use Rattle.std.proofs.Common.{◌≡◌, ℕ, zero, suc, ◌+◌, ◌-◌, ◌*◌, ◌<◌, ◌≤◌, List, [], ◌∷◌, ◌++◌, length, take, drop, get_or, Bool, true, false, cond, ◌&&◌, nat_eq, nat_lt, Option, Some, inl, inr, refl, sym, ap, subst, arith, ◌∙◌, add-one, drop-cons, length-append}
-use Rattle.std.specs.Cmp.Derive.{both_true}
-use Rattle.std.proofs.lemmas.Bool.{cases_lt}
-use Rattle.std.proofs.lemmas.List.{drop-drop, drop-take, length-take}
-use Rattle.std.proofs.lemmas.Bool.Decides.{nat_tests}
-use Rattle.std.proofs.lemmas.Grind.{common_steps}
+use Rattle.cj_spans.proofs.Common.{◌≡◌, ℕ, zero, suc, ◌+◌, ◌-◌, ◌*◌, ◌<◌, ◌≤◌, List, [], ◌∷◌, ◌++◌, length, take, drop, get_or, Bool, true, false, cond, ◌&&◌, nat_eq, nat_lt, Option, Some, inl, inr, refl, sym, ap, subst, arith, ◌∙◌, add-one, drop-cons, length-append, both_true, cases_lt, drop-drop, drop-take, length-take, nat_tests, common_steps, left, after_read, ReadsCodePoint, code_points_from, AreAlike, StartAlike, compare, nat_cmp, ordering_then, Less, Equal, Greater, char_of, four_digits, unit, is_unicode, is_escaped, is_pair, escaped, first_code_point, first_width, code_points_after, text, are_same, chars, chars_after, continuation_len, lead_bits}
 use Rattle.cj_spans.specs.declared.text.decode.CodePoint.{CodePoint}
-use Rattle.cj_spans.specs.inner.Decoding.{left, after_read, ReadsCodePoint, code_points_from, AreAlike, StartAlike}
-use Rattle.cj_spans.specs.Order.{compare}
-use Rattle.std.specs.Ordering.{nat_cmp, ordering_then}
-use Rattle.std.specs.declared.cmp.Ordering.TheVariants.{Less, Equal, Greater}
-use Rattle.cj_spans.specs.Meaning.Text.{char_of, four_digits, unit, is_unicode, is_escaped, is_pair, escaped}
-use Rattle.cj_spans.specs.Meaning.Text.{first_code_point, first_width, code_points_after, text, are_same}
 use Rattle.cj_spans.specs.Meaning.StandFor.{StandFor, done, plain, letter, single, pair}
 use Rattle.std.specs.Char.{digit_value}
 use Rattle.std.specs.Char.Utf16.{is_high_surrogate, is_low_surrogate, surrogate_pair_char}
-use Rattle.std.specs.Str.{chars, chars_after, continuation_len, lead_bits}
 
 -- ---- characters
 
@@ -233,10 +221,8 @@ plain_taken {cs} a t = taken (first_plain cs a) t
 -- the text goes on after its first point
 points_drop : (n : ℕ) (cs : List ℕ) → code_points_after n cs ≡ code_points_after 0 (drop n cs)
 unfolding code_points_after
-points_drop zero [] = refl
-points_drop zero (c ∷ cs) = refl
-points_drop (suc n) [] = refl
 points_drop (suc n) (c ∷ cs) = points_drop n cs
+points_drop _ _ = refl
 
 width_some : (cs : List ℕ) → (n : ℕ) × (first_width cs ≡ suc n)
 unfolding first_width

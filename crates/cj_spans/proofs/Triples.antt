@@ -1,31 +1,9 @@
 -- Arrays of three whole numbers, told by their tokens and by the bytes between their brackets.
-use Rattle.std.proofs.Common.{◌≡◌, ℕ, zero, suc, ◌+◌, ◌-◌, ◌<◌, ◌≤◌, List, [], ◌∷◌, ◌++◌, length, drop, get_or, slice_get, slice_range, Bool, true, false, nat_eq, Option, Some, None, ◌⊎◌, inl, inr, refl, sym, ap, subst, arith, ◌∙◌}
-use Rattle.std.specs.Prelude.{All}
+use Rattle.cj_spans.proofs.Common.{◌≡◌, ℕ, zero, suc, ◌+◌, ◌-◌, ◌<◌, ◌≤◌, List, [], ◌∷◌, ◌++◌, length, drop, get_or, slice_get, slice_range, Bool, true, false, nat_eq, Option, Some, None, ◌⊎◌, inl, inr, refl, sym, ap, subst, arith, ◌∙◌, All, cases_lt, nat_tests, append-nil, drop-drop, slice_get_within, Token, Kind, Null, Truth, Number, Text, Array, Object, Lex, Tree, size, byte, is_number, kind_by, node, lex_kind, kind_of, items_of, spelling_of, spans_of, AreSized, AreWithin, AreRising, AreNested, AreLinked, AreSpelled, before, link_of, IsNumber, IsFrac, IsExp, tree_at, IsWholeSign}
 use Rattle.std.specs.Coded.{coded_bool}
-use Rattle.std.proofs.lemmas.Bool.{cases_lt}
-use Rattle.std.proofs.lemmas.Bool.Decides.{nat_tests}
-use Rattle.std.proofs.lemmas.List.{append-nil, drop-drop}
-use Rattle.std.proofs.lemmas.Option.{slice_get_within}
 use mathlib.Core.Logic.{∥∥₁_elim}
 use denote.Struct.Props.{≡_prop}
-use Rattle.cj_spans.specs.declared.token.Token.{Token}
-use Rattle.cj_spans.specs.declared.token.Kind.{Kind}
-use Rattle.cj_spans.specs.declared.token.Kind.TheVariants.{Null, Truth, Number, Text, Array, Object}
-use Rattle.cj_spans.specs.declared.lex.Lex.{Lex}
-use Rattle.cj_spans.specs.Meaning.Tree.{Tree, size}
-use Rattle.cj_spans.specs.Meaning.Json.{byte}
-use Rattle.cj_spans.specs.Meaning.Kinds.{is_number}
-use Rattle.cj_spans.specs.Forest.{kind_by, node}
-use Rattle.cj_spans.specs.inner.Machine.{lex_kind}
-use Rattle.cj_spans.specs.Meaning.Parts.{kind_of, items_of}
-use Rattle.cj_spans.specs.Places.{spelling_of}
-use Rattle.cj_spans.specs.Preorder.{spans_of}
-use Rattle.cj_spans.specs.Scan.{AreSized}
-use Rattle.cj_spans.specs.Sound.{AreWithin, AreRising, AreNested, AreLinked, AreSpelled, before, link_of}
-use Rattle.cj_spans.specs.Meaning.Spelling.{IsNumber, IsFrac, IsExp}
-use Rattle.cj_spans.specs.View.{tree_at}
 use Rattle.cj_spans.specs.Wholes.{IsWholeNumber, IsShortWhole}
-use Rattle.cj_spans.specs.inner.Wholes.{IsWholeSign}
 use Rattle.cj_spans.proofs.Places.{slice_has, slice-length}
 use Rattle.cj_spans.proofs.Sizes.{before_walked}
 use Rattle.cj_spans.proofs.Spellings.{some_same, reading, reading_sound, reading_whole}
@@ -45,12 +23,8 @@ ends_number None = false
 ends_number (Some x) = is_numeral (lex_kind x)
 
 kind_so : (k : Kind) → is_number k ≡ true → k ≡ Number
-kind_so Null e = cc
-kind_so Truth e = cc
 kind_so Number e = refl
-kind_so Text e = cc
-kind_so Array e = cc
-kind_so Object e = cc
+kind_so _ e = cc
 
 pub told_number : (s : List ℕ) → ∥ IsNumber s ∥₁ → IsNumber s
 told_number s m =

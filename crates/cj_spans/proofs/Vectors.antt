@@ -1,20 +1,9 @@
 -- Bytes of a line, 16 at a time: what the marks of a vector say of the bytes.
-use Rattle.std.proofs.Common.{◌≡◌, ℕ, zero, suc, ◌+◌, ◌-◌, ◌%◌, ◌^◌, ◌/◌, ◌<◌, ◌≤◌, List, [], ◌∷◌, length, map, get_or, nat_eq, inl, inr, Bool, true, false, cond, not, eqb, ltb, replicate, refl, sym, ap, subst, arith, ◌∙◌, w8}
-use Rattle.std.proofs.lemmas.Bool.{cases_eq}
-use Rattle.std.proofs.lemmas.Bool.Decides.{nat_tests}
+use Rattle.cj_spans.proofs.Common.{◌≡◌, ℕ, zero, suc, ◌+◌, ◌-◌, ◌%◌, ◌^◌, ◌/◌, ◌<◌, ◌≤◌, List, [], ◌∷◌, length, map, get_or, nat_eq, inl, inr, Bool, true, false, cond, not, eqb, ltb, replicate, refl, sym, ap, subst, arith, ◌∙◌, w8, cases_eq, nat_tests, prefix_len, count_trailing_zeros, length-map, get_or-map, map-id, div-eq_of_lt, is_plain, byte, is_digit, AreAlike, IsWholeSign, AreMarkedTo}
 use Rattle.std.specs.Simd.Lanes.{zip2, mask_l, sel_l, top, chunk}
-use Rattle.std.specs.List.{prefix_len}
-use Rattle.std.specs.Int.Count.{count_trailing_zeros}
 use Rattle.std.proofs.lemmas.List.Sums.{prefix_len-le-length, prefix_len_passes}
 use Rattle.std.proofs.lemmas.Simd.{bit_mask_l, mask_l-lt, get_or-chunk, leading_from_mask_l, tops_compared, bitmask_splat, zip2_splat, zip2_splat_left, mask_l-mod, map-map, length-chunk, none_from_empty_mask, trailing_mask_l, run_in_chunk_le, run_in_chunk_fails}
-use Rattle.std.proofs.lemmas.List.{length-map, get_or-map, map-id}
-use Rattle.std.proofs.Math.Nat.{div-eq_of_lt}
 use Rattle.std.proofs.Math.Pow.{pow_mono}
-use Rattle.cj_spans.specs.Meaning.Spelling.{is_plain}
-use Rattle.cj_spans.specs.Meaning.Json.{byte}
-use Rattle.cj_spans.specs.inner.Machine.{is_digit}
-use Rattle.cj_spans.specs.inner.Decoding.{AreAlike}
-use Rattle.cj_spans.specs.inner.Wholes.{IsWholeSign, AreMarkedTo}
 
 -- how far a byte is above `0`, where bytes below it come last
 abbrev above : ℕ → ℕ
@@ -291,11 +280,9 @@ lanes m v w = sel_l (zip2 eqb v w) (sel_l (map (λ x. eqb x 92) v) (replicate m 
 
 lanes_at : (m : ℕ) (v w : List ℕ) → length v ≡ m → length w ≡ m → (k : ℕ) → k < m
     → get_or (lanes m v w) k 0 ≡ lane (get_or v k 0) (get_or w k 0)
-lanes_at zero v w a b k l = absurd (omega arith)
-lanes_at (suc m) [] w a b k l = absurd (omega arith)
-lanes_at (suc m) (x ∷ v) [] a b k l = absurd (omega arith)
 lanes_at (suc m) (x ∷ v) (y ∷ w) a b zero l = refl
 lanes_at (suc m) (x ∷ v) (y ∷ w) a b (suc k) l = lanes_at m v w (omega arith) (omega arith) k (omega arith)
+lanes_at _ _ _ a b k l = absurd (omega arith)
 
 length_lanes : (m : ℕ) (v w : List ℕ) → length v ≡ m → length w ≡ m → length (lanes m v w) ≡ m
 length_lanes zero [] w a b = refl

@@ -1,27 +1,7 @@
 -- What the pass over a line says of the line.
-use Rattle.std.proofs.Common.{◌≡◌, ℕ, suc, ◌+◌, ◌^◌, ◌<◌, ◌≤◌, List, [], ◌++◌, length, IsTrue, Option, Some, None, Result, Ok, Err, refl, sym, ap, subst, arith, rules, ◌∙◌, ◌⊎◌, inl, inr}
-use Rattle.std.proofs.Math.Seq.{take-length}
-use Rattle.std.proofs.Math.Nat.{eq-or-lt_of_le}
-use Rattle.std.proofs.lemmas.Bool.{cases_lt, cases_order}
+use Rattle.cj_spans.proofs.Common.{◌≡◌, ℕ, suc, ◌+◌, ◌^◌, ◌<◌, ◌≤◌, List, [], ◌++◌, length, IsTrue, Option, Some, None, Result, Ok, Err, refl, sym, ap, subst, arith, rules, ◌∙◌, ◌⊎◌, inl, inr, take-length, eq-or-lt_of_le, cases_lt, cases_order, IsValidUpTo, BoundedList, Becomes, LineFault, NotUtf8, Syntax, TooDeep, Kind, Token, Mode, Ready, FirstItem, After, FirstName, NextName, AfterName, Tree, scalar, size, nest, byte, atom_at, White, Value, atom, Padded, padded, Json, JsonPrefix, IsJsonPrefix, SyntaxAt, stuck, short, DeepAt, NowhereDeep, flatten, spans_of, forest, IsScanOf, KeepsLaw, AreUnmarked, State, state, in_atom, step, settle, end_atom, lex_kind, Reaches, here, on, start, Sticks, SticksAt, SinksAt, Accepts, RunAnswers, AreLinked}
 use Rattle.std.specs.Prelude.{IsSomeAnd, OnOk, IsErrOf, IsOk, IsUtf8}
-use Rattle.std.specs.Str.{IsValidUpTo}
 use Rattle.std.proofs.lemmas.Str.{utf8_valid_len-IsValidUpTo}
-use Rattle.cj_budget.specs.Bounded.{BoundedList, Becomes}
-use Rattle.cj_spans.specs.declared.fault.LineFault.{LineFault}
-use Rattle.cj_spans.specs.declared.fault.LineFault.TheVariants.{NotUtf8, Syntax, TooDeep}
-use Rattle.cj_spans.specs.declared.token.Kind.{Kind}
-use Rattle.cj_spans.specs.declared.token.Token.{Token}
-use Rattle.cj_spans.specs.declared.step.Mode.{Mode}
-use Rattle.cj_spans.specs.declared.step.Mode.TheVariants.{Ready, FirstItem, After, FirstName, NextName, AfterName}
-use Rattle.cj_spans.specs.Meaning.Tree.{Tree, scalar, size, nest}
-use Rattle.cj_spans.specs.Meaning.Json.{byte, atom_at, White, Value, atom, Padded, padded, Json}
-use Rattle.cj_spans.specs.Meaning.Prefix.{JsonPrefix, IsJsonPrefix, SyntaxAt, stuck, short, DeepAt, NowhereDeep}
-use Rattle.cj_spans.specs.Preorder.{flatten, spans_of}
-use Rattle.cj_spans.specs.Forest.{forest}
-use Rattle.cj_spans.specs.Scan.{IsScanOf, KeepsLaw}
-use Rattle.cj_spans.specs.Marks.{AreUnmarked}
-use Rattle.cj_spans.specs.inner.Machine.{State, state, in_atom, step, settle, end_atom, lex_kind, Reaches, here, on}
-use Rattle.cj_spans.specs.inner.Machine.{start, Sticks, SticksAt, SinksAt, Accepts, RunAnswers}
 use Rattle.cj_spans.proofs.Spellings.{none_some, some_same}
 use Rattle.cj_spans.proofs.Lists.{rise, rise-nest, length-flatten, spans_of-flatten}
 use Rattle.cj_spans.proofs.Runs.{idle, settled, same_mode}
@@ -31,7 +11,6 @@ use Rattle.cj_spans.proofs.Sound.{Context, root, in_array, in_member, Inv, ready
 use Rattle.cj_spans.proofs.Facts.{lawful_reaches, next_place, same_state, state_before}
 use Rattle.cj_spans.proofs.Fronts.{Live, front_runs, inv_front}
 use Rattle.cj_spans.proofs.Forests.{json_shown, tree_by_preorder}
-use Rattle.cj_spans.specs.Sound.{AreLinked}
 use Rattle.cj_spans.proofs.Links.{json_linked, json_unmarked}
 
 -- ---- a line that is read to its end
@@ -44,8 +23,7 @@ pub record Spells (b : List ℕ) (us : List Token) : Type 0 where
 
 root_only : {b : List ℕ} {e : ℕ} {ks : List ℕ} {ts : List Token} → Context b e ks ts → ks ≡ [] → White b 0 e × (ts ≡ [])
 root_only (root e w) h = (w, refl)
-root_only (in_array e j k ks ts us c o l w) h = cc
-root_only (in_member e j k l ks ts us n c o m d w) h = cc
+root_only _ h = cc
 
 spells_at : {b : List ℕ} {e j k : ℕ} (p q : ℕ) {ks : List ℕ} {ts : List Token} (us : List Token) (t : Tree) → Context b e ks ts
     → Value b e j t → White b j k → idle After ks (ts ++ flatten (length ts) t) k p ≡ idle After [] us (length b) q

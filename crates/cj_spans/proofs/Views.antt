@@ -1,23 +1,7 @@
 -- Walks over tokens, and the trees that they show.
-use Rattle.std.proofs.Common.{◌≡◌, ℕ, zero, suc, ◌+◌, ◌<◌, ◌≤◌, List, [], ◌∷◌, length, drop, slice_get, slice_range, inl, inr, true, Some, refl, sym, ap, subst, arith, ◌∙◌}
+use Rattle.cj_spans.proofs.Common.{◌≡◌, ℕ, zero, suc, ◌+◌, ◌<◌, ◌≤◌, List, [], ◌∷◌, length, drop, slice_get, slice_range, inl, inr, true, Some, refl, sym, ap, subst, arith, ◌∙◌, first_so, second_so, cases_lt, slice_get_within, nat_tests, Token, Kind, Null, Truth, Number, Text, Array, Object, Tree, scalar, array, object, start_of, byte, Span, spans_of, kind_by, held, past, atom_of, items_from, members_from, node, forest, kind_of, list_items, list_members, spelling_of, is_text, StopBefore, before, is_name, are_members, tree_at, pairs_of}
 use Rattle.cj_spans.proofs.Spellings.{some_same}
 use Rattle.cj_spans.proofs.Forests.{past_on, start-node}
-use Rattle.std.specs.Cmp.{first_so, second_so}
-use Rattle.std.proofs.lemmas.Bool.{cases_lt}
-use Rattle.std.proofs.lemmas.Option.{slice_get_within}
-use Rattle.std.proofs.lemmas.Bool.Decides.{nat_tests}
-use Rattle.cj_spans.specs.declared.token.Token.{Token}
-use Rattle.cj_spans.specs.declared.token.Kind.{Kind}
-use Rattle.cj_spans.specs.declared.token.Kind.TheVariants.{Null, Truth, Number, Text, Array, Object}
-use Rattle.cj_spans.specs.Meaning.Tree.{Tree, scalar, array, object, start_of}
-use Rattle.cj_spans.specs.Meaning.Json.{byte}
-use Rattle.cj_spans.specs.Preorder.{Span, spans_of}
-use Rattle.cj_spans.specs.Forest.{kind_by, held, past, atom_of, items_from, members_from, node, forest}
-use Rattle.cj_spans.specs.Meaning.Parts.{kind_of, list_items, list_members}
-use Rattle.cj_spans.specs.Places.{spelling_of}
-use Rattle.cj_spans.specs.Meaning.Kinds.{is_text}
-use Rattle.cj_spans.specs.Sound.{StopBefore, before, is_name, are_members}
-use Rattle.cj_spans.specs.View.{tree_at, pairs_of}
 use Rattle.cj_spans.proofs.Links.{before_one, before_zero}
 
 -- ---- one tree at the front
@@ -127,43 +111,29 @@ link_past b (t ∷ ts) zero j r s e =
 
 pub kind-node : (b : List ℕ) (k : Kind) (i j : ℕ) (ts : List Tree) → kind_of (node b k i j ts) ≡ k
 kind-node b Null i j ts = refl
-kind-node b Truth i j ts = refl
-kind-node b Number i j ts = refl
-kind-node b Text i j ts = refl
-kind-node b Array i j ts = refl
-kind-node b Object i j ts = refl
+kind-node b _ i j ts = refl
 
 spelling-node : (b : List ℕ) (k : Kind) (i j : ℕ) (ts : List Tree) → spelling_of b (node b k i j ts) ≡ slice_range b i j
 spelling-node b Null i j ts = refl
-spelling-node b Truth i j ts = refl
-spelling-node b Number i j ts = refl
-spelling-node b Text i j ts = refl
-spelling-node b Array i j ts = refl
-spelling-node b Object i j ts = refl
+spelling-node b _ i j ts = refl
 
 pub list-items_from : (ts : List Tree) → list_items (items_from ts) ≡ ts
 list-items_from [] = refl
 list-items_from (t ∷ ts) = ap (λ xs. t ∷ xs) (list-items_from ts)
 
 kind_text : (k : Kind) → is_text k ≡ true → k ≡ Text
-kind_text Null h = cc
-kind_text Truth h = cc
-kind_text Number h = cc
 kind_text Text h = refl
-kind_text Array h = cc
-kind_text Object h = cc
+kind_text _ h = cc
 
 name_is : (n : Tree) → is_name n ≡ true → n ≡ scalar Text (atom_of n)
 name_is (scalar k a) h = ap (λ k. scalar k a) (kind_text k h)
-name_is (array i j ts) h = cc
-name_is (object i j ms) h = cc
+name_is _ h = cc
 
 pub list-members_from : (ts : List Tree) → are_members ts ≡ true → pairs_of ts ≡ list_members (members_from ts)
-list-members_from [] h = refl
-list-members_from (n ∷ []) h = refl
 list-members_from (n ∷ t ∷ ts) h =
     ap (λ m. (m, t) ∷ pairs_of ts) (name_is n (first_so _ _ h))
     ∙ ap (λ xs. (scalar Text (atom_of n), t) ∷ xs) (list-members_from ts (second_so _ _ h))
+list-members_from _ h = refl
 
 pub kind_object : (c : ℕ) → kind_by c ≡ Object → c ≡ 123
 kind_object c h = grind (arith, nat_tests)
@@ -200,6 +170,5 @@ length-forest b [] = omega arith
 length-forest b (s ∷ ss) = let l = length-forest b ss in let m = length-past s.stop (forest b ss) in omega arith
 
 pub length-pairs : (ts : List Tree) → length (pairs_of ts) ≤ length ts
-length-pairs [] = omega arith
-length-pairs (n ∷ []) = omega arith
 length-pairs (n ∷ t ∷ ts) = let l = length-pairs ts in omega arith
+length-pairs _ = omega arith

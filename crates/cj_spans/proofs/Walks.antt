@@ -1,21 +1,5 @@
 -- Walks over the parts of a container, by the indices of tokens.
-use Rattle.std.proofs.Common.{◌≡◌, ℕ, zero, suc, ◌+◌, ◌-◌, ◌%◌, ◌^◌, ◌<◌, ◌≤◌, List, [], ◌∷◌, length, take, drop, slice_get, slice_range, true, inl, inr, Some, refl, sym, ap, subst, arith, ◌∙◌}
-use Rattle.std.specs.Cmp.{first_so, second_so}
-use Rattle.std.proofs.lemmas.Bool.{cases_lt}
-use Rattle.std.proofs.lemmas.List.{length-drop, drop-drop}
-use Rattle.std.proofs.lemmas.Option.{slice_get_within}
-use Rattle.std.proofs.lemmas.Bool.Decides.{nat_tests}
-use Rattle.cj_spans.specs.declared.token.Token.{Token}
-use Rattle.cj_spans.specs.declared.token.Kind.{Kind}
-use Rattle.cj_spans.specs.declared.token.Kind.TheVariants.{Null, Truth, Number, Text, Array, Object}
-use Rattle.cj_spans.specs.Meaning.Tree.{Tree, start_of, size}
-use Rattle.cj_spans.specs.Forest.{total_size, kind_by, held, past, node, forest}
-use Rattle.cj_spans.specs.Meaning.Json.{byte}
-use Rattle.cj_spans.specs.Preorder.{Span, span_at, spans_of}
-use Rattle.cj_spans.specs.Meaning.Parts.{kind_of, items_of, members_of}
-use Rattle.cj_spans.specs.Sound.{AreOf, AreNamed, AreNested, AreLinked, AreLone, AreWhole, ShowMembers, StopBefore, before, is_name, are_members, link_of, shown_between, items_end, members_end}
-use Rattle.cj_spans.specs.Scan.{AreSized}
-use Rattle.cj_spans.specs.View.{tree_at, pairs_of}
+use Rattle.cj_spans.proofs.Common.{◌≡◌, ℕ, zero, suc, ◌+◌, ◌-◌, ◌%◌, ◌^◌, ◌<◌, ◌≤◌, List, [], ◌∷◌, length, take, drop, slice_get, slice_range, true, inl, inr, Some, refl, sym, ap, subst, arith, ◌∙◌, first_so, second_so, cases_lt, length-drop, drop-drop, slice_get_within, nat_tests, Token, Kind, Null, Truth, Number, Text, Array, Object, Tree, start_of, size, total_size, kind_by, held, past, node, forest, byte, Span, span_at, spans_of, kind_of, items_of, members_of, AreOf, AreNamed, AreNested, AreLinked, AreLone, AreWhole, ShowMembers, StopBefore, before, is_name, are_members, link_of, shown_between, items_end, members_end, AreSized, tree_at, pairs_of}
 use Rattle.cj_spans.proofs.Forests.{held_on, past_on, start-node}
 use Rattle.cj_spans.proofs.Links.{before_length, before_one, before_zero}
 use Rattle.cj_spans.proofs.Sizes.{are_sized, before_walked, before_stopped}
@@ -306,12 +290,8 @@ are_lone {b} {ts} a = λ k t h e.
     omega arith
 
 name_node : (b : List ℕ) (k : Kind) (i j : ℕ) (ts : List Tree) → is_name (node b k i j ts) ≡ true → k ≡ Text
-name_node b Null i j ts h = cc
-name_node b Truth i j ts h = cc
-name_node b Number i j ts h = cc
 name_node b Text i j ts h = refl
-name_node b Array i j ts h = cc
-name_node b Object i j ts h = cc
+name_node b _ i j ts h = cc
 
 name_first : (n : Tree) (ts : List Tree) → are_members (n ∷ ts) ≡ true → is_name n ≡ true
 name_first n [] h = cc
@@ -412,28 +392,16 @@ members-node b Object i j l {ts} shown h e z = ap pairs_of e ∙ list-members_fr
 
 named-node : (k : Kind) (l : ℕ) {ts : List Tree} (shown : ℕ → List Tree) → (k ≡ Object → are_members ts ≡ true)
     → shown l ≡ ts → shown 0 ≡ [] → are_members (shown (members_end k l)) ≡ true
-named-node Null l shown h e z = ap are_members z
-named-node Truth l shown h e z = ap are_members z
-named-node Number l shown h e z = ap are_members z
-named-node Text l shown h e z = ap are_members z
-named-node Array l shown h e z = ap are_members z
 named-node Object l shown h e z = ap are_members e ∙ h refl
+named-node _ l shown h e z = ap are_members z
 
 whole_items : (ts : List Token) (k l : ℕ) (r : Kind) → AreWhole ts k l → AreWhole ts k (items_end r l)
-whole_items ts k l Null w = whole_none ts k
-whole_items ts k l Truth w = whole_none ts k
-whole_items ts k l Number w = whole_none ts k
-whole_items ts k l Text w = whole_none ts k
 whole_items ts k l Array w = w
-whole_items ts k l Object w = whole_none ts k
+whole_items ts k l _ w = whole_none ts k
 
 whole_members : (ts : List Token) (k l : ℕ) (r : Kind) → AreWhole ts k l → AreWhole ts k (members_end r l)
-whole_members ts k l Null w = whole_none ts k
-whole_members ts k l Truth w = whole_none ts k
-whole_members ts k l Number w = whole_none ts k
-whole_members ts k l Text w = whole_none ts k
-whole_members ts k l Array w = whole_none ts k
 whole_members ts k l Object w = w
+whole_members ts k l _ w = whole_none ts k
 
 -- of a node of the kind r whose token, at k, links to l: a walk over its items up to n
 pub record ItemsFrom (b : List ℕ) (ts : List Token) (k n : ℕ) : Type 0 where
@@ -557,11 +525,7 @@ small_trees b ts k n = let l = forest_small b (slice_range (spans_of ts) k n) in
 
 items_end_low : (r : Kind) (l : ℕ) → items_end r l ≤ l
 items_end_low Null l = omega arith
-items_end_low Truth l = omega arith
-items_end_low Number l = omega arith
-items_end_low Text l = omega arith
-items_end_low Array l = omega arith
-items_end_low Object l = omega arith
+items_end_low _ l = omega arith
 
 link_low : (ts : List Token) (k l : ℕ) → AreLinked ts → k < length ts → LinksTo ts k l → l < 2 ^ 31
 link_low ts k l linked h e =

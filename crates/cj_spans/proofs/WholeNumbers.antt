@@ -1,19 +1,5 @@
 -- Whole numbers in an array: the machine over them.
-use Rattle.std.proofs.Common.{◌≡◌, ℕ, suc, ◌+◌, ◌<◌, ◌≤◌, List, [], ◌∷◌, ◌++◌, length, true, false, nat_eq, Option, Some, None, refl, sym, ap, subst, arith, ◌∙◌, ◌⊎◌, inl, inr}
-use Rattle.std.proofs.lemmas.Bool.{cond-false}
-use Rattle.std.specs.Prelude.{IfSome, option_map}
-use Rattle.std.proofs.lemmas.Bool.Decides.{nat_tests}
-use Rattle.cj_spans.specs.declared.token.Kind.TheVariants.{Number}
-use Rattle.cj_spans.specs.declared.token.Token.{Token}
-use Rattle.cj_spans.specs.declared.lex.Lex.{Lex}
-use Rattle.cj_spans.specs.declared.lex.Lex.TheVariants.{Minus, Whole, Zero}
-use Rattle.cj_spans.specs.declared.step.Mode.{Mode}
-use Rattle.cj_spans.specs.declared.step.Mode.TheVariants.{Ready, FirstItem, After}
-use Rattle.cj_spans.specs.Meaning.Spelling.{is_white_space}
-use Rattle.cj_spans.specs.Meaning.Json.{byte}
-use Rattle.cj_spans.specs.Preorder.{token_at}
-use Rattle.cj_spans.specs.inner.Machine.{State, state, in_atom, moved, step, lex_start, lex_step, Continues, still}
-use Rattle.cj_spans.specs.inner.Machine.{further, ComesTo, BeginsValue, IsNumberUpTo, EndsItem, is_digit}
+use Rattle.cj_spans.proofs.Common.{◌≡◌, ℕ, suc, ◌+◌, ◌<◌, ◌≤◌, List, [], ◌∷◌, ◌++◌, length, true, false, nat_eq, Option, Some, None, refl, sym, ap, subst, arith, ◌∙◌, ◌⊎◌, inl, inr, cond-false, IfSome, option_map, nat_tests, Number, Token, Lex, Minus, Whole, Zero, Mode, Ready, FirstItem, After, is_white_space, byte, token_at, State, state, in_atom, moved, step, lex_start, lex_step, Continues, still, further, ComesTo, BeginsValue, IsNumberUpTo, EndsItem, is_digit}
 use Rattle.cj_spans.proofs.Runs.{idle, atom_ends, IsEnd, comma, bracket}
 use Rattle.cj_spans.proofs.Atoms.{ends_ok}
 use Rattle.cj_spans.proofs.Signs.{step_on}

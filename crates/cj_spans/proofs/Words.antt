@@ -1,13 +1,6 @@
 -- The first code points of a text as one number.
-use Rattle.std.proofs.Common.{◌≡◌, ℕ, suc, ◌+◌, ◌*◌, ◌/◌, ◌<◌, ◌≤◌, ◌^◌, List, [], ◌∷◌, true, false, cond, nat_lt, nat_eq, get_or, length, Option, Some, None, inl, inr, refl, sym, ap, subst, arith, ◌∙◌}
-use Rattle.std.proofs.Math.Nat.{mul-le-mul_right}
-use Rattle.std.specs.Ordering.{ordering_then}
-use Rattle.std.specs.declared.cmp.Ordering.TheVariants.{Less, Equal, Greater}
-use Rattle.std.proofs.lemmas.Bool.{cases_order, cases_lt}
-use Rattle.std.proofs.lemmas.Bool.Decides.{nat_tests}
+use Rattle.cj_spans.proofs.Common.{◌≡◌, ℕ, suc, ◌+◌, ◌*◌, ◌/◌, ◌<◌, ◌≤◌, ◌^◌, List, [], ◌∷◌, true, false, cond, nat_lt, nat_eq, get_or, length, Option, Some, None, inl, inr, refl, sym, ap, subst, arith, ◌∙◌, mul-le-mul_right, ordering_then, Less, Equal, Greater, cases_order, cases_lt, nat_tests, AreAlike, code_points_from, compare, compare_texts, digits, front_word}
 use Rattle.std.specs.Int.{from_be_bytes, w64}
-use Rattle.cj_spans.specs.inner.Decoding.{AreAlike, code_points_from}
-use Rattle.cj_spans.specs.Order.{compare, compare_texts, digits, front_word}
 use Rattle.cj_spans.proofs.Texts.{chars_past, plain_code, points_done}
 
 -- ---- the digits by cases

@@ -1,11 +1,5 @@
 -- Worked lines: the machine's run is computed, and gives the place.
-use Rattle.std.proofs.Common.{◌≡◌, ℕ, zero, suc, ◌<◌, ◌≤◌, List, [], length, Option, Some, None, refl, ap, subst, arith, ◌∙◌, inl, inr}
-use Rattle.std.specs.Prelude.{option_and_then, IsSomeAnd}
-use Rattle.cj_spans.specs.declared.token.Token.{Token}
-use Rattle.cj_spans.specs.declared.step.Mode.TheVariants.{After}
-use Rattle.cj_spans.specs.Meaning.Prefix.{SyntaxAt, DeepAt}
-use Rattle.cj_spans.specs.Meaning.Json.{byte}
-use Rattle.cj_spans.specs.inner.Machine.{State, state, between, step, settle, Reaches, here, on, start}
+use Rattle.cj_spans.proofs.Common.{◌≡◌, ℕ, zero, suc, ◌<◌, ◌≤◌, List, [], length, Option, Some, None, refl, ap, subst, arith, ◌∙◌, inl, inr, option_and_then, IsSomeAnd, Token, After, SyntaxAt, DeepAt, byte, State, state, between, step, settle, Reaches, here, on, start}
 use Rattle.cj_spans.proofs.Spellings.{none_some, some_same}
 use Rattle.cj_spans.proofs.Facts.{next_place}
 use Rattle.cj_spans.proofs.Verdicts.{Spells, sticks_syntax, sinks_deep, spells}

@@ -1,16 +1,16 @@
-use Rattle.std.proofs.Common.{arith, refl}
+use Rattle.cj_spans.proofs.Common.{arith, refl, rules}
 use Rattle.cj_spans.proofs.Nested.{stands_on, stands_small, stands_room, opens_array, standing_opened, opened_in, standing_refused}
 use Rattle.cj_spans.proofs.arrays.enter_arrays.Goals as goal
 
-pub open-requires-clause-small : goal.open-requires-clause-small
-open-requires-clause-small c =
+pub open-requires : goal.open-requires
+open-requires c =
     let l = c.loop-tokens.invariant in
-    stands_small l.stands l.comes.within
-
-pub open-requires-clause-room : goal.open-requires-clause-room
-open-requires-clause-room c =
-    let l = c.loop-tokens.invariant in
-    stands_room l.stands l.comes.within l.comes.begins
+    record {
+      small = stands_small l.stands l.comes.within;
+      lists = search rules;
+      room = stands_room l.stands l.comes.within l.comes.begins;
+      reserved = search rules;
+    }
 
 pub returns-in-Err-clause-answer : goal.returns-in-Err-clause-answer
 returns-in-Err-clause-answer c = λ ts ks s.

@@ -1,7 +1,4 @@
-use Rattle.std.proofs.Common.{ℕ, ◌-◌, ◌≤◌, length}
-use Rattle.cj_budget.specs.Bounded.{BoundedList}
-use Rattle.cj_spans.specs.declared.token.Token.{Token}
-use Rattle.cj_spans.specs.inner.Pass.{ComesArray, Standing, Stands}
+use Rattle.cj_spans.proofs.Common.{ℕ, ◌-◌, ◌≤◌, length, BoundedList, Token, ComesArray, Standing, Stands}
 use Rattle.cj_spans.proofs.arrays.enter_arrays.Given as goal
 
 abbrev pub invariant-loop-tokens : goal.invariant-loop-tokens

@@ -1,19 +1,17 @@
-use Rattle.std.proofs.Common.{subst, sym, arith}
-use Rattle.cj_spans.specs.inner.Pass.{ReadsNumbers}
+use Rattle.cj_spans.proofs.Common.{subst, sym, arith, rules, ReadsNumbers}
 use Rattle.cj_spans.proofs.Leads.{in_small, in_room, reads_item, reads_last}
 use Rattle.cj_spans.proofs.arrays.keep_number.Goals as goal
 
-pub keep_atom-requires-clause-small : goal.keep_atom-requires-clause-small
-keep_atom-requires-clause-small c =
+pub keep_atom-requires : goal.keep_atom-requires
+keep_atom-requires c =
     let n = c.requires.number in
     let order = n.order in let within = n.within in
-    (in_small c.requires.stands (omega arith)).1
-
-pub keep_atom-requires-clause-room : goal.keep_atom-requires-clause-room
-keep_atom-requires-clause-room c =
-    let n = c.requires.number in
-    let order = n.order in let within = n.within in
-    in_room c.requires.stands (omega arith) c.requires.begins
+    record {
+      short = search rules;
+      small = (in_small c.requires.stands (omega arith)).1;
+      room = in_room c.requires.stands (omega arith) c.requires.begins;
+      reserved = search rules;
+    }
 
 pub returns-then-line-stop-eq44-clause-reads : goal.returns-then-line-stop-eq44-clause-reads
 returns-then-line-stop-eq44-clause-reads c =
@@ -22,17 +20,16 @@ returns-then-line-stop-eq44-clause-reads c =
     (reads_item c.args.tokens.now us c.args.from c.requires.begins c.requires.number
     c.keep_atom.ensures c.if-line-stop-eq44.true)
 
-pub keep_atom-requires-2-clause-small : goal.keep_atom-requires-2-clause-small
-keep_atom-requires-2-clause-small c =
+pub keep_atom-requires-2 : goal.keep_atom-requires-2
+keep_atom-requires-2 c =
     let n = c.requires.number in
     let order = n.order in let within = n.within in
-    (in_small c.requires.stands (omega arith)).1
-
-pub keep_atom-requires-2-clause-room : goal.keep_atom-requires-2-clause-room
-keep_atom-requires-2-clause-room c =
-    let n = c.requires.number in
-    let order = n.order in let within = n.within in
-    in_room c.requires.stands (omega arith) c.requires.begins
+    record {
+      short = search rules;
+      small = (in_small c.requires.stands (omega arith)).1;
+      room = in_room c.requires.stands (omega arith) c.requires.begins;
+      reserved = search rules;
+    }
 
 pub returns-clause-reads : goal.returns-clause-reads
 returns-clause-reads c =

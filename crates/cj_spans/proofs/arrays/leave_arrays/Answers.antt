@@ -1,12 +1,4 @@
-use Rattle.std.proofs.Common.{◌≡◌, ℕ, List, ◌+◌, arith, refl, inl, inr, subst, sym, ◌∙◌}
-use Rattle.cj_budget.specs.Bounded.{BoundedList}
-use Rattle.cj_spans.specs.declared.token.Token.{Token}
-use Rattle.cj_spans.specs.declared.step.Mode.TheVariants.{After}
-use Rattle.cj_spans.specs.declared.step.Inner.{Inner}
-use Rattle.cj_spans.specs.declared.step.Next.{Next}
-use Rattle.cj_spans.specs.Meaning.Json.{byte}
-use Rattle.cj_spans.specs.inner.Machine.{MayCloseArray}
-use Rattle.cj_spans.specs.inner.Pass.{EndsItems, Standing}
+use Rattle.cj_spans.proofs.Common.{◌≡◌, ℕ, List, ◌+◌, arith, refl, inl, inr, subst, sym, ◌∙◌, BoundedList, Token, After, Inner, Next, byte, MayCloseArray, EndsItems, Standing}
 use Rattle.cj_spans.proofs.Nested.{stands_on, stands_small, standing_closed, standing_comma}
 use Rattle.cj_spans.proofs.arrays.leave_arrays.Goals as goal
 

@@ -1,9 +1,4 @@
-use Rattle.std.proofs.Common.{◌≡◌, ◌<◌, length, Some, suc, ◌∷◌, subst, sym, ap, arith, slice_get, slice_set}
-use Rattle.cj_budget.specs.Bounded.{Becomes}
-use Rattle.cj_spans.specs.declared.token.Token.{Token}
-use Rattle.cj_spans.specs.Preorder.{token_at}
-use Rattle.cj_spans.specs.inner.Machine.{InArray}
-use Rattle.cj_spans.specs.inner.Pass.{Standing}
+use Rattle.cj_spans.proofs.Common.{◌≡◌, ◌<◌, length, Some, suc, ◌∷◌, subst, sym, ap, arith, slice_get, slice_set, Becomes, Token, token_at, InArray, Standing}
 use Rattle.cj_spans.proofs.Nested.{stands_on, stands_small, stands_room, stands_within}
 use Rattle.cj_spans.proofs.Leads.{in_small, flat_stands, flat_read, flat_innermost, flat_inside, flat_closed, standing_stack, outer_stays, kept_all, kept_more, top_there, index_within, with_top}
 use Rattle.cj_spans.proofs.arrays.read_array.Goals as goal
@@ -16,27 +11,22 @@ read_numbers-numbers-requires-clause-stands c =
     let r = c.requires in
     flat_stands r.stands r.begins r.within r.bracket r.shallow c.open_array.ensures
 
-pub close_token-requires-clause-small : goal.close_token-requires-clause-small
-close_token-requires-clause-small c =
+pub close_token-requires : goal.close_token-requires
+close_token-requires c =
     let r = c.requires in
     let n = c.read_numbers-numbers in
-    in_small (flat_inside r.stands r.begins r.within r.bracket r.shallow c.open_array.ensures n.ensures.leads)
-    (n.ensures.ended c.if-numbers.true).within
-
-pub close_token-requires-clause-within : goal.close_token-requires-clause-within
-close_token-requires-clause-within c =
-    let r = c.requires in
-    let n = c.read_numbers-numbers in
-    let a = flat_innermost r.stands r.begins r.within r.bracket r.shallow c.open_array.ensures n.ensures.leads in
-    subst (λ k. k < length n.new.tokens.elements) (sym c.len-index.ensures.value)
-    (index_within c.args.stack.now.elements (length c.args.tokens.now.elements) n.new.tokens.elements a)
-
-pub close_token-requires-clause-list : goal.close_token-requires-clause-list
-close_token-requires-clause-list c =
-    let r = c.requires in
-    let n = c.read_numbers-numbers in
-    let s = flat_inside r.stands r.begins r.within r.bracket r.shallow c.open_array.ensures n.ensures.leads in
-    s.stands.standing.kept.within
+    record {
+      small =
+          in_small (flat_inside r.stands r.begins r.within r.bracket r.shallow c.open_array.ensures n.ensures.leads)
+          (n.ensures.ended c.if-numbers.true).within;
+      within =
+          let a = flat_innermost r.stands r.begins r.within r.bracket r.shallow c.open_array.ensures n.ensures.leads in
+          subst (λ k. k < length n.new.tokens.elements) (sym c.len-index.ensures.value)
+          (index_within c.args.stack.now.elements (length c.args.tokens.now.elements) n.new.tokens.elements a);
+      list =
+          let s = flat_inside r.stands r.begins r.within r.bracket r.shallow c.open_array.ensures n.ensures.leads in
+          s.stands.standing.kept.within;
+    }
 
 pub leave_arrays-requires-clause-stands : goal.leave_arrays-requires-clause-stands
 leave_arrays-requires-clause-stands c =

@@ -1,4 +1,4 @@
-use Rattle.std.proofs.Common.{◌≡◌, Bool, true, false, not, refl, arith}
+use Rattle.cj_spans.proofs.Common.{◌≡◌, Bool, true, false, not, refl, arith}
 use Rattle.std.specs.Prelude.{IsTrue}
 use Rattle.cj_spans.proofs.Nested.{stands_on}
 use Rattle.cj_spans.proofs.arrays.read_arrays.Goals as goal

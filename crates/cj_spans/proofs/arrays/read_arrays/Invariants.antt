@@ -1,8 +1,4 @@
-use Rattle.std.proofs.Common.{ℕ, ◌-◌, ◌≤◌, length}
-use Rattle.cj_budget.specs.Bounded.{BoundedList}
-use Rattle.cj_spans.specs.declared.token.Token.{Token}
-use Rattle.cj_spans.specs.inner.Machine.{BeginsValue, InArray}
-use Rattle.cj_spans.specs.inner.Pass.{Standing, Stands}
+use Rattle.cj_spans.proofs.Common.{ℕ, ◌-◌, ◌≤◌, length, BoundedList, Token, BeginsValue, InArray, Standing, Stands}
 use Rattle.cj_spans.proofs.arrays.read_arrays.Given as goal
 
 abbrev pub invariant-loop-next : goal.invariant-loop-next

@@ -1,7 +1,5 @@
-use Rattle.std.proofs.Common.{◌≡◌, ℕ, ◌+◌, ◌^◌, ◌/◌, ◌⊎◌, inl, inr, subst, arith, w64}
+use Rattle.cj_spans.proofs.Common.{◌≡◌, ℕ, ◌+◌, ◌^◌, ◌/◌, ◌⊎◌, inl, inr, subst, arith, w64, AreMarked, ReadsNumbers}
 use Rattle.std.specs.Int.{trailing_zeros}
-use Rattle.cj_spans.specs.inner.Wholes.{AreMarked}
-use Rattle.cj_spans.specs.inner.Pass.{ReadsNumbers}
 use Rattle.cj_spans.proofs.Blocks.{first_mark, block_number}
 use Rattle.cj_spans.proofs.Leads.{reads_on, stands_leads}
 use Rattle.cj_spans.proofs.arrays.read_block.Goals as goal

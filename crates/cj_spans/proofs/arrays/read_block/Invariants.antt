@@ -1,8 +1,4 @@
-use Rattle.std.proofs.Common.{◌-◌, false, length}
-use Rattle.cj_spans.specs.declared.token.Kind.TheVariants.{Array}
-use Rattle.cj_spans.specs.inner.Machine.{BeginsValue}
-use Rattle.cj_spans.specs.inner.Pass.{StandsIn, ReadsNumbers}
-use Rattle.cj_spans.specs.inner.Wholes.{AreMarked}
+use Rattle.cj_spans.proofs.Common.{◌-◌, false, length, Array, BeginsValue, StandsIn, ReadsNumbers, AreMarked}
 use Rattle.cj_spans.proofs.arrays.read_block.Given as goal
 
 abbrev pub invariant-loop-others : goal.invariant-loop-others

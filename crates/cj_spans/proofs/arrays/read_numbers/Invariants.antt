@@ -1,7 +1,4 @@
-use Rattle.std.proofs.Common.{◌-◌, false, length}
-use Rattle.cj_spans.specs.declared.token.Kind.TheVariants.{Array}
-use Rattle.cj_spans.specs.inner.Machine.{BeginsValue}
-use Rattle.cj_spans.specs.inner.Pass.{StandsIn, ReadsNumbers}
+use Rattle.cj_spans.proofs.Common.{◌-◌, false, length, Array, BeginsValue, StandsIn, ReadsNumbers}
 use Rattle.cj_spans.proofs.arrays.read_numbers.Given as goal
 
 abbrev pub invariant-loop-next : goal.invariant-loop-next

@@ -1,4 +1,4 @@
-use Rattle.std.proofs.Common.{sym, ◌∙◌}
+use Rattle.cj_spans.proofs.Common.{sym, ◌∙◌}
 use Rattle.cj_spans.proofs.Nested.{stands_on}
 use Rattle.cj_spans.proofs.Leads.{too_deep}
 use Rattle.cj_spans.proofs.arrays.read_part.Goals as goal

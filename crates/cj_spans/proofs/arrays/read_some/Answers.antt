@@ -1,5 +1,4 @@
-use Rattle.std.proofs.Common.{subst}
-use Rattle.cj_spans.specs.inner.Pass.{ReadsNumbers}
+use Rattle.cj_spans.proofs.Common.{subst, ReadsNumbers}
 use Rattle.cj_spans.proofs.Leads.{reads_on, stands_leads}
 use Rattle.cj_spans.proofs.arrays.read_some.Goals as goal
 

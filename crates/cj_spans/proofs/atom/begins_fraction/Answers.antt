@@ -1,4 +1,4 @@
-use Rattle.std.proofs.Common.{arith, sym, ◌∙◌}
+use Rattle.cj_spans.proofs.Common.{arith, sym, ◌∙◌}
 use Rattle.cj_spans.proofs.Scalars.{goes_fraction}
 use Rattle.cj_spans.proofs.atom.begins_fraction.Goals as goal
 

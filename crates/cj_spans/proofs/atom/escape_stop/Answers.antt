@@ -1,4 +1,4 @@
-use Rattle.std.proofs.Common.{arith, sym, ◌∙◌}
+use Rattle.cj_spans.proofs.Common.{arith, sym, ◌∙◌}
 use Rattle.cj_spans.proofs.Scalars.{goes_escape, goes_unicode}
 use Rattle.cj_spans.proofs.atom.escape_stop.Goals as goal
 

@@ -1,4 +1,4 @@
-use Rattle.std.proofs.Common.{sym, ◌∙◌}
+use Rattle.cj_spans.proofs.Common.{sym, ◌∙◌}
 use Rattle.cj_spans.proofs.Scalars.{goes_hex}
 use Rattle.cj_spans.proofs.atom.has_hex.Goals as goal
 

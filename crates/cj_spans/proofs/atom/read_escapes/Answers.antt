@@ -1,4 +1,4 @@
-use Rattle.std.proofs.Common.{arith}
+use Rattle.cj_spans.proofs.Common.{arith}
 use Rattle.cj_spans.proofs.Scalars.{goes_far, goes_same, reads_far, reads_quote}
 use Rattle.cj_spans.proofs.atom.read_escapes.Goals as goal
 

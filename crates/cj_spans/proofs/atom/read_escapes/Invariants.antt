@@ -1,6 +1,4 @@
-use Rattle.std.proofs.Common.{◌-◌, length}
-use Rattle.cj_spans.specs.declared.lex.Lex.TheVariants.{InString}
-use Rattle.cj_spans.specs.inner.Atom.{GoesTo}
+use Rattle.cj_spans.proofs.Common.{◌-◌, length, InString, GoesTo}
 use Rattle.cj_spans.proofs.atom.read_escapes.Given as goal
 
 abbrev pub invariant-loop-next : goal.invariant-loop-next

@@ -1,4 +1,4 @@
-use Rattle.std.proofs.Common.{arith, sym, ◌∙◌}
+use Rattle.cj_spans.proofs.Common.{arith, sym, ◌∙◌}
 use Rattle.cj_spans.proofs.Scalars.{goes_minus, goes_minus_zero, reads_far}
 use Rattle.cj_spans.proofs.atom.read_minus.Goals as goal
 

@@ -1,4 +1,4 @@
-use Rattle.std.proofs.Common.{◌+◌, refl, sym, ◌∙◌}
+use Rattle.cj_spans.proofs.Common.{◌+◌, refl, sym, ◌∙◌}
 use Rattle.cj_spans.proofs.Scalars.{goes_far, goes_one, goes_same}
 use Rattle.cj_spans.proofs.atom.read_on.Goals as goal
 

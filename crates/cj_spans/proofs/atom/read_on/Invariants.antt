@@ -1,5 +1,4 @@
-use Rattle.std.proofs.Common.{◌-◌, length}
-use Rattle.cj_spans.specs.inner.Atom.{GoesTo}
+use Rattle.cj_spans.proofs.Common.{◌-◌, length, GoesTo}
 use Rattle.cj_spans.proofs.atom.read_on.Given as goal
 
 abbrev pub invariant-loop-stop : goal.invariant-loop-stop

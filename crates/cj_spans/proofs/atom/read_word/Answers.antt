@@ -1,4 +1,4 @@
-use Rattle.std.proofs.Common.{sym}
+use Rattle.cj_spans.proofs.Common.{sym}
 use Rattle.cj_spans.proofs.Scalars.{reads_as, reads_null, reads_true, reads_false}
 use Rattle.cj_spans.proofs.atom.read_word.Goals as goal
 

@@ -1,4 +1,4 @@
-use Rattle.std.proofs.Common.{arith}
+use Rattle.cj_spans.proofs.Common.{arith}
 use Rattle.cj_spans.proofs.Scalars.{goes_same}
 use Rattle.cj_spans.proofs.atom.read_zero.Goals as goal
 

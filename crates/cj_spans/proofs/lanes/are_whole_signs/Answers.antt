@@ -1,8 +1,4 @@
-use Rattle.std.proofs.Common.{◌≡◌, ◌+◌, ◌-◌, ◌^◌, ◌<◌, inl, inr, subst, arith}
-use Rattle.std.proofs.lemmas.Bool.{cases_lt}
-use Rattle.std.proofs.lemmas.Bool.Decides.{nat_tests}
-use Rattle.cj_spans.specs.Meaning.Json.{byte}
-use Rattle.cj_spans.specs.inner.Wholes.{IsWholeSign}
+use Rattle.cj_spans.proofs.Common.{◌≡◌, ◌+◌, ◌-◌, ◌^◌, ◌<◌, inl, inr, subst, arith, cases_lt, nat_tests, byte, IsWholeSign}
 use Rattle.cj_spans.proofs.lanes.are_whole_signs.Goals as goal
 
 pub returns-then-count-lt-LANES : goal.returns-then-count-lt-LANES

@@ -1,4 +1,4 @@
-use Rattle.std.proofs.Common.{arith}
+use Rattle.cj_spans.proofs.Common.{arith}
 use Rattle.cj_spans.proofs.Letters.{all_ascii, letter_within, ascii_before}
 use Rattle.cj_spans.proofs.lanes.find_beyond_ascii.Goals as goal
 

@@ -1,4 +1,4 @@
-use Rattle.std.proofs.Common.{arith}
+use Rattle.cj_spans.proofs.Common.{arith}
 use Rattle.cj_spans.proofs.Vectors.{all_digits, digits_within, digits_before}
 use Rattle.cj_spans.proofs.lanes.find_other.Goals as goal
 

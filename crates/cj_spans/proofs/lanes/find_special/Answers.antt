@@ -1,4 +1,4 @@
-use Rattle.std.proofs.Common.{arith}
+use Rattle.cj_spans.proofs.Common.{arith}
 use Rattle.cj_spans.proofs.Vectors.{all_plain, plain_within, plain_before}
 use Rattle.cj_spans.proofs.lanes.find_special.Goals as goal
 

@@ -1,4 +1,4 @@
-use Rattle.std.proofs.Common.{arith}
+use Rattle.cj_spans.proofs.Common.{arith}
 use Rattle.cj_spans.proofs.Vectors.{all_alike, few_alike, front_alike}
 use Rattle.cj_spans.proofs.lanes.find_unlike.Goals as goal
 

@@ -1,4 +1,4 @@
-use Rattle.std.proofs.Common.{arith, eqb-true}
+use Rattle.cj_spans.proofs.Common.{arith, eqb-true}
 use Rattle.cj_spans.proofs.Letters.{all_ascii}
 use Rattle.cj_spans.proofs.lanes.is_ascii_block.Goals as goal
 

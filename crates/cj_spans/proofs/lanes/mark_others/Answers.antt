@@ -1,5 +1,4 @@
-use Rattle.std.proofs.Common.{◌≡◌, ◌+◌, ◌-◌, ◌^◌, ◌/◌, ◌≤◌, length, subst, arith}
-use Rattle.cj_spans.specs.inner.Wholes.{AreMarkedTo}
+use Rattle.cj_spans.proofs.Common.{◌≡◌, ◌+◌, ◌-◌, ◌^◌, ◌/◌, ◌≤◌, length, subst, arith, AreMarkedTo}
 use Rattle.cj_spans.proofs.Blocks.{later}
 use Rattle.cj_spans.proofs.lanes.mark_others.Goals as goal
 

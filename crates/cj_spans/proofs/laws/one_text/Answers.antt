@@ -1,6 +1,4 @@
-use Rattle.std.proofs.Common.{sym, subst}
-use Rattle.std.specs.Str.{chars}
-use Rattle.cj_spans.specs.Meaning.Text.{text, body_of}
+use Rattle.cj_spans.proofs.Common.{sym, subst, chars, text, body_of}
 use Rattle.cj_spans.specs.Meaning.StandFor.{StandFor}
 use Rattle.cj_spans.proofs.Texts.{stands_once}
 use Rattle.cj_spans.proofs.Strings.{text_told}

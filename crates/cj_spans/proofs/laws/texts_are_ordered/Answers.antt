@@ -1,9 +1,5 @@
-use Rattle.std.proofs.Common.{◌≡◌, ◌∙◌, ap, subst}
-use Rattle.std.specs.Cmp.{tied_itself}
+use Rattle.cj_spans.proofs.Common.{◌≡◌, ◌∙◌, ap, subst, tied_itself, is_eq, Equal, compare}
 use Rattle.std.specs.Cmp.Lexicographic.{bytes_decides, nat_list_cmp_total, options_total, texts_ties}
-use Rattle.std.specs.Ordering.{is_eq}
-use Rattle.std.specs.declared.cmp.Ordering.TheVariants.{Equal}
-use Rattle.cj_spans.specs.Order.{compare}
 use Rattle.cj_spans.proofs.laws.texts_are_ordered.Goals as goal
 
 pub returns-clause-total : goal.returns-clause-total

@@ -1,6 +1,4 @@
-use Rattle.std.proofs.Common.{arith, refl, sym, ap}
-use Rattle.cj_spans.specs.declared.lex.Lex.TheVariants.{InString}
-use Rattle.cj_spans.specs.inner.Machine.{lex_step}
+use Rattle.cj_spans.proofs.Common.{arith, refl, sym, ap, InString, lex_step}
 use Rattle.cj_spans.proofs.Atoms.{read_first, read_more}
 use Rattle.cj_spans.proofs.lex.plain_string_stop.Goals as goal
 

@@ -1,4 +1,4 @@
-use Rattle.std.proofs.Common.{arith, sym, ◌∙◌}
+use Rattle.cj_spans.proofs.Common.{arith, sym, ◌∙◌}
 use Rattle.cj_spans.proofs.Atoms.{read_same}
 use Rattle.cj_spans.proofs.lex.skip_digits_singly.Goals as goal
 

@@ -1,6 +1,4 @@
-use Rattle.std.proofs.Common.{ℕ, ◌-◌, ◌≤◌, length}
-use Rattle.cj_spans.specs.declared.lex.Lex.{Lex}
-use Rattle.cj_spans.specs.inner.Machine.{Continues}
+use Rattle.cj_spans.proofs.Common.{ℕ, ◌-◌, ◌≤◌, length, Lex, Continues}
 use Rattle.cj_spans.proofs.lex.skip_digits_singly.Given as goal
 
 abbrev pub invariant-loop-stop : goal.invariant-loop-stop

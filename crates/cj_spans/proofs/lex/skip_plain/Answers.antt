@@ -1,4 +1,4 @@
-use Rattle.std.proofs.Common.{arith}
+use Rattle.cj_spans.proofs.Common.{arith}
 use Rattle.cj_spans.proofs.Atoms.{plain_run, plain_to}
 use Rattle.cj_spans.proofs.lex.skip_plain.Goals as goal
 

@@ -1,7 +1,4 @@
-use Rattle.std.proofs.Common.{ℕ, ◌-◌, ◌≤◌, length}
-use Rattle.cj_spans.specs.declared.lex.Lex.{Lex}
-use Rattle.cj_spans.specs.declared.lex.Lex.TheVariants.{InString}
-use Rattle.cj_spans.specs.inner.Machine.{Continues}
+use Rattle.cj_spans.proofs.Common.{ℕ, ◌-◌, ◌≤◌, length, Lex, InString, Continues}
 use Rattle.cj_spans.proofs.lex.skip_plain_singly.Given as goal
 
 abbrev pub invariant-loop-stop : goal.invariant-loop-stop

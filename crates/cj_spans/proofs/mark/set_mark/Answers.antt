@@ -1,6 +1,5 @@
-use Rattle.std.proofs.Common.{◌≡◌, slice_get, Some, ap, sym, ◌∙◌}
+use Rattle.cj_spans.proofs.Common.{◌≡◌, slice_get, Some, ap, sym, ◌∙◌, is_marked_at}
 use Rattle.std.specs.Prelude.{slice_set}
-use Rattle.cj_spans.specs.Marks.{is_marked_at}
 use Rattle.cj_spans.proofs.Marking.{with_mark, marked_here, marked_elsewhere, keeps}
 use Rattle.cj_spans.proofs.mark.set_mark.Goals as goal
 
@@ -10,22 +9,22 @@ become : (c : goal.After-set)
 become c = ap (λ b. b.elements) c.set.ensures.set
     ∙ ap (slice_set c.args.tokens.now.elements c.args.number) c.with_mark.ensures
 
-pub returns-clause-marked : goal.returns-clause-marked
-returns-clause-marked c = ap (λ ts. is_marked_at ts c.args.number) (become c)
-    ∙ marked_here c.args.tokens.now.elements c.args.number c.token_at-token.result c.requires
-
-pub returns-clause-others : goal.returns-clause-others
-returns-clause-others c = λ k h.
-    ap (λ ts. is_marked_at ts k) (become c)
-    ∙ marked_elsewhere c.args.tokens.now.elements c.args.number k (with_mark c.token_at-token.result) h
-
-pub returns-clause-kept : goal.returns-clause-kept
-returns-clause-kept c =
-    let old = c.args.tokens.now in
-    let new = c.set.new.self in
-    let t = c.token_at-token.result in
-    let found : slice_get old.elements c.args.number ≡ Some t =
-    ap (λ ts. slice_get ts c.args.number) (sym c.as_slice.ensures.value) ∙ c.token_at-token.ensures in
-    let list : new ≡ record old { elements = new.elements } = c.set.ensures.set
-    ∙ ap (λ ts. record old { elements = ts }) (sym (ap (λ b. b.elements) c.set.ensures.set)) in
-    keeps old c.args.number t found (become c) list c.set.ensures.within
+pub returns : goal.returns
+returns c = record {
+  marked =
+      ap (λ ts. is_marked_at ts c.args.number) (become c)
+      ∙ marked_here c.args.tokens.now.elements c.args.number c.token_at-token.result c.requires;
+  others =
+      λ k h.
+      ap (λ ts. is_marked_at ts k) (become c)
+      ∙ marked_elsewhere c.args.tokens.now.elements c.args.number k (with_mark c.token_at-token.result) h;
+  kept =
+      let old = c.args.tokens.now in
+      let new = c.set.new.self in
+      let t = c.token_at-token.result in
+      let found : slice_get old.elements c.args.number ≡ Some t =
+      ap (λ ts. slice_get ts c.args.number) (sym c.as_slice.ensures.value) ∙ c.token_at-token.ensures in
+      let list : new ≡ record old { elements = new.elements } = c.set.ensures.set
+      ∙ ap (λ ts. record old { elements = ts }) (sym (ap (λ b. b.elements) c.set.ensures.set)) in
+      keeps old c.args.number t found (become c) list c.set.ensures.within;
+}

@@ -1,19 +1,16 @@
-use Rattle.cj_spans.specs.declared.step.Mode.TheVariants.{AfterName}
+use Rattle.cj_spans.proofs.Common.{rules, AfterName}
 use Rattle.cj_spans.proofs.Leads.{leads_on}
 use Rattle.cj_spans.proofs.Named.{name_leads, leads_string, leads_colon, name_small, name_room, name_reserved}
 use Rattle.cj_spans.proofs.members.pass_name.Goals as goal
 
-pub read_string-requires-clause-small : goal.read_string-requires-clause-small
-read_string-requires-clause-small c =
-    (name_small c.args.line.now c.args.tokens.now c.requires.stands c.requires.within).1
-
-pub read_string-requires-clause-room : goal.read_string-requires-clause-room
-read_string-requires-clause-room c =
-    name_room c.args.line.now c.args.tokens.now c.requires.stands c.requires.within c.requires.begins
-
-pub read_string-requires-clause-reserved : goal.read_string-requires-clause-reserved
-read_string-requires-clause-reserved c =
-    name_reserved c.args.line.now c.args.tokens.now c.requires.stands
+pub read_string-requires : goal.read_string-requires
+read_string-requires c = record {
+  short = search rules;
+  small = (name_small c.args.line.now c.args.tokens.now c.requires.stands c.requires.within).1;
+  within = search rules;
+  room = name_room c.args.line.now c.args.tokens.now c.requires.stands c.requires.within c.requires.begins;
+  reserved = name_reserved c.args.line.now c.args.tokens.now c.requires.stands;
+}
 
 pub returns-then-stands_at-clause-leads : goal.returns-then-stands_at-clause-leads
 returns-then-stands_at-clause-leads c =

@@ -1,19 +1,16 @@
-use Rattle.cj_spans.specs.declared.step.Mode.TheVariants.{Ready, After}
+use Rattle.cj_spans.proofs.Common.{rules, Ready, After}
 use Rattle.cj_spans.proofs.Leads.{leads_on}
 use Rattle.cj_spans.proofs.Named.{leads_string, leads_comma, name_small, string_room, name_reserved}
 use Rattle.cj_spans.proofs.members.pass_value.Goals as goal
 
-pub read_string-requires-clause-small : goal.read_string-requires-clause-small
-read_string-requires-clause-small c =
-    (name_small c.args.line.now c.args.tokens.now c.requires.stands c.if-place-line.false).1
-
-pub read_string-requires-clause-room : goal.read_string-requires-clause-room
-read_string-requires-clause-room c =
-    string_room c.args.line.now c.args.tokens.now c.requires.stands c.if-place-line.false
-
-pub read_string-requires-clause-reserved : goal.read_string-requires-clause-reserved
-read_string-requires-clause-reserved c =
-    name_reserved c.args.line.now c.args.tokens.now c.requires.stands
+pub read_string-requires : goal.read_string-requires
+read_string-requires c = record {
+  short = search rules;
+  small = (name_small c.args.line.now c.args.tokens.now c.requires.stands c.if-place-line.false).1;
+  within = search rules;
+  room = string_room c.args.line.now c.args.tokens.now c.requires.stands c.if-place-line.false;
+  reserved = name_reserved c.args.line.now c.args.tokens.now c.requires.stands;
+}
 
 pub returns-then-stands_at-clause-leads : goal.returns-then-stands_at-clause-leads
 returns-then-stands_at-clause-leads c =

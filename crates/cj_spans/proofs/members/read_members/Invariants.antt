@@ -1,8 +1,4 @@
-use Rattle.std.proofs.Common.{ℕ, ◌-◌, ◌≤◌, length}
-use Rattle.cj_budget.specs.Bounded.{BoundedList}
-use Rattle.cj_spans.specs.declared.token.Token.{Token}
-use Rattle.cj_spans.specs.inner.Machine.{InObject}
-use Rattle.cj_spans.specs.inner.Pass.{Standing, Stands}
+use Rattle.cj_spans.proofs.Common.{ℕ, ◌-◌, ◌≤◌, length, BoundedList, Token, InObject, Standing, Stands}
 use Rattle.cj_spans.proofs.members.read_members.Given as goal
 
 abbrev pub invariant-loop-next : goal.invariant-loop-next

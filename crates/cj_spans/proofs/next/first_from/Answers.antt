@@ -1,4 +1,4 @@
-use Rattle.std.proofs.Common.{arith}
+use Rattle.cj_spans.proofs.Common.{arith}
 use Rattle.cj_spans.proofs.Sizes.{before_walked, before_stopped, before_end}
 use Rattle.cj_spans.proofs.next.first_from.Goals as goal
 

@@ -1,5 +1,4 @@
-use Rattle.std.proofs.Common.{◌≡◌, ◌+◌, ◌-◌, ◌≤◌, length, drop}
-use Rattle.cj_spans.specs.Sound.{before}
+use Rattle.cj_spans.proofs.Common.{◌≡◌, ◌+◌, ◌-◌, ◌≤◌, length, drop, before}
 use Rattle.cj_spans.proofs.next.first_from.Given as goal
 
 abbrev pub invariant-loop-next : goal.invariant-loop-next

@@ -1,4 +1,4 @@
-use Rattle.std.proofs.Common.{◌∙◌}
+use Rattle.cj_spans.proofs.Common.{◌∙◌}
 use Rattle.cj_spans.proofs.Sizes.{past_tree}
 use Rattle.cj_spans.proofs.next.slow_next.Goals as goal
 

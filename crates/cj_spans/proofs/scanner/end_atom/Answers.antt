@@ -1,4 +1,4 @@
-use Rattle.std.proofs.Common.{arith, sym, ◌∙◌}
+use Rattle.cj_spans.proofs.Common.{arith, sym, ◌∙◌}
 use Rattle.cj_spans.proofs.Atoms.{ends_ok, ends_err}
 use Rattle.cj_spans.proofs.scanner.end_atom.Goals as goal
 

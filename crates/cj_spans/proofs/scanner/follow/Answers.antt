@@ -1,5 +1,4 @@
-use Rattle.std.proofs.Common.{suc, Ok, Err, arith, refl, sym, subst}
-use Rattle.cj_spans.specs.inner.Machine.{state, phase_after, EndAnswers}
+use Rattle.cj_spans.proofs.Common.{suc, Ok, Err, arith, refl, sym, subst, state, phase_after, EndAnswers}
 use Rattle.cj_spans.proofs.Atoms.{settles_at}
 use Rattle.cj_spans.proofs.scanner.follow.Goals as goal
 

@@ -1,5 +1,4 @@
-use Rattle.std.proofs.Common.{subst}
-use Rattle.cj_spans.specs.inner.Machine.{state, between, ComesTo}
+use Rattle.cj_spans.proofs.Common.{subst, state, between, ComesTo}
 use Rattle.cj_spans.proofs.Signs.{colon_read}
 use Rattle.cj_spans.proofs.scanner.pass_colon.Goals as goal
 

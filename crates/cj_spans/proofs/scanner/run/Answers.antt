@@ -1,5 +1,4 @@
-use Rattle.std.proofs.Common.{arith, suc, subst, sym}
-use Rattle.cj_spans.specs.inner.Machine.{InArray, InObject}
+use Rattle.cj_spans.proofs.Common.{arith, suc, subst, sym, InArray, InObject}
 use Rattle.cj_spans.proofs.Standing.{standing_first, standing_small, standing_room, standing_step, standing_law, standing_fault, stepped_small, stepped_room, followed, stepped_law, stepped_fault, ended_law, ended_fault, not_so}
 use Rattle.cj_spans.proofs.Signs.{array_next, object_next, values_next, names_next}
 use Rattle.cj_spans.proofs.scanner.run.Goals as goal
@@ -9,84 +8,76 @@ loop-place-init c =
     standing_first c.args.line.now c.args.tokens.now c.args.stack.now c.requires.lists.0 c.requires.lists.1
     c.requires.empty.0 c.requires.empty.1
 
-pub read_byte-requires-clause-small : goal.read_byte-requires-clause-small
-read_byte-requires-clause-small c =
-    standing_small c.loop-place.invariant c.requires.short c.loop-place-test.true
+pub read_byte-requires : goal.read_byte-requires
+read_byte-requires c =
+    let s = c.loop-place.invariant in
+    record {
+      small = standing_small s c.requires.short c.loop-place-test.true;
+      lists = (s.kept.within, s.stack_within);
+      room = standing_room s c.requires.room c.loop-place-test.true;
+      reserved = (s.kept.room c.requires.reserved.0, s.stack_room c.requires.reserved.1);
+    }
 
-pub read_byte-requires-clause-room : goal.read_byte-requires-clause-room
-read_byte-requires-clause-room c =
-    standing_room c.loop-place.invariant c.requires.room c.loop-place-test.true
+pub returns-in-Err : goal.returns-in-Err
+returns-in-Err c =
+    let s = c.loop-place.invariant in
+    let e = c.in-Err.ensures in
+    record {
+      answer = standing_fault (Unit {0}) c.read_byte.new.tokens c.in-Err.fault s c.loop-place-test.true e.answer e.err.1;
+      law = standing_law s e.tokens e.stack e.err.0 e.err.1;
+    }
 
-pub read_byte-requires-clause-reserved : goal.read_byte-requires-clause-reserved
-read_byte-requires-clause-reserved c =
-    (c.loop-place.invariant.kept.room c.requires.reserved.0, c.loop-place.invariant.stack_room c.requires.reserved.1)
+pub follow-requires : goal.follow-requires
+follow-requires c =
+    let e = c.in-Ok.ensures in
+    let t = c.loop-place-test.true in
+    let s = standing_step c.in-Ok.taken c.loop-place.invariant t e.tokens e.stack e.answer in
+    let q = stepped_small s c.requires.short t in
+    record {
+      small = (omega arith, q.1);
+      within = t;
+      lists = e.tokens.kept.within;
+      room = stepped_room s c.requires.room t;
+      reserved = e.tokens.kept.room (c.loop-place.invariant.kept.room c.requires.reserved.0);
+    }
 
-pub returns-in-Err-clause-answer : goal.returns-in-Err-clause-answer
-returns-in-Err-clause-answer c =
-    standing_fault (Unit {0}) c.read_byte.new.tokens
-    c.in-Err.fault c.loop-place.invariant c.loop-place-test.true c.in-Err.ensures.answer c.in-Err.ensures.err.1
+pub returns-in-Err-follow : goal.returns-in-Err-follow
+returns-in-Err-follow c =
+    let e = c.in-Ok.ensures in
+    let f = c.in-Err-follow in
+    let s = standing_step c.in-Ok.taken c.loop-place.invariant c.loop-place-test.true e.tokens e.stack e.answer in
+    record {
+      answer = stepped_fault (Unit {0}) c.follow.new.tokens f.fault s
+          (λ p. f.ensures.answer c.read_byte.new.stack.elements p);
+      law = stepped_law s c.loop-place-test.true f.ensures.tokens f.ensures.err;
+    }
 
-pub returns-in-Err-clause-law : goal.returns-in-Err-clause-law
-returns-in-Err-clause-law c =
-    standing_law c.loop-place.invariant
-    c.in-Err.ensures.tokens c.in-Err.ensures.stack c.in-Err.ensures.err.0 c.in-Err.ensures.err.1
-
-pub follow-requires-clause-small : goal.follow-requires-clause-small
-follow-requires-clause-small c =
-    let s = standing_step c.in-Ok.taken
-    c.loop-place.invariant c.loop-place-test.true c.in-Ok.ensures.tokens c.in-Ok.ensures.stack c.in-Ok.ensures.answer in
-    let q = stepped_small s c.requires.short c.loop-place-test.true in
-    (omega arith, q.1)
-
-pub follow-requires-clause-room : goal.follow-requires-clause-room
-follow-requires-clause-room c =
-    let s = standing_step c.in-Ok.taken
-    c.loop-place.invariant c.loop-place-test.true c.in-Ok.ensures.tokens c.in-Ok.ensures.stack c.in-Ok.ensures.answer in
-    stepped_room s c.requires.room c.loop-place-test.true
-
-pub follow-requires-clause-reserved : goal.follow-requires-clause-reserved
-follow-requires-clause-reserved c =
-    c.in-Ok.ensures.tokens.kept.room (c.loop-place.invariant.kept.room c.requires.reserved.0)
-
-pub returns-in-Err-follow-clause-answer : goal.returns-in-Err-follow-clause-answer
-returns-in-Err-follow-clause-answer c =
-    let s = standing_step c.in-Ok.taken
-    c.loop-place.invariant c.loop-place-test.true c.in-Ok.ensures.tokens c.in-Ok.ensures.stack c.in-Ok.ensures.answer in
-    stepped_fault (Unit {0}) c.follow.new.tokens c.in-Err-follow.fault s
-    (λ p. c.in-Err-follow.ensures.answer c.read_byte.new.stack.elements p)
-
-pub returns-in-Err-follow-clause-law : goal.returns-in-Err-follow-clause-law
-returns-in-Err-follow-clause-law c =
-    let s = standing_step c.in-Ok.taken
-    c.loop-place.invariant c.loop-place-test.true c.in-Ok.ensures.tokens c.in-Ok.ensures.stack c.in-Ok.ensures.answer in
-    stepped_law s c.loop-place-test.true c.in-Err-follow.ensures.tokens c.in-Err-follow.ensures.err
-
-pub pass_parts-requires-clause-stands : goal.pass_parts-requires-clause-stands
-pass_parts-requires-clause-stands c = record {
-  tokens0 = c.args.tokens.now;
-  stack0 = c.args.stack.now;
-  standing = followed c.in-Ok.taken
-      c.in-Ok-follow.next c.loop-place.invariant c.loop-place-test.true c.in-Ok.ensures.tokens c.in-Ok.ensures.stack
-      c.in-Ok.ensures.answer c.in-Ok-follow.ensures.tokens
-      (λ p. c.in-Ok-follow.ensures.answer c.read_byte.new.stack.elements p);
-  room = record { short = c.requires.short; room = c.requires.room; reserved = c.requires.reserved };
-}
-
-pub pass_parts-requires-clause-array : goal.pass_parts-requires-clause-array
-pass_parts-requires-clause-array c = λ e.
-    let q = c.in-Ok-follow.ensures.signs (values_next _ _ e) in
-    let a = array_next c.loop-place.stack.elements c.read_byte.new.stack.elements c.loop-place.tokens.elements
-    c.read_byte.new.tokens.elements c.loop-place.place 0 (suc c.loop-place.place) _ c.loop-place.mode _
-    c.in-Ok.taken e (c.in-Ok.ensures.answer 0) in
-    (subst (λ t. InArray c.read_byte.new.stack.elements t.elements) (sym q.0) a, q.1)
-
-pub pass_parts-requires-clause-object : goal.pass_parts-requires-clause-object
-pass_parts-requires-clause-object c = λ e.
-    let q = c.in-Ok-follow.ensures.names (names_next _ _ e) in
-    let o = object_next c.loop-place.stack.elements c.read_byte.new.stack.elements c.loop-place.tokens.elements
-    c.read_byte.new.tokens.elements c.loop-place.place 0 (suc c.loop-place.place) _ c.loop-place.mode _
-    c.in-Ok.taken e (c.in-Ok.ensures.answer 0) in
-    subst (λ t. InObject c.read_byte.new.stack.elements t.elements) (sym q) o
+pub pass_parts-requires : goal.pass_parts-requires
+pass_parts-requires c =
+    let e = c.in-Ok.ensures in
+    let f = c.in-Ok-follow.ensures in
+    let l = c.loop-place in
+    let new = c.read_byte.new in
+    record {
+      within = c.loop-place-test.true;
+      stands = record {
+        tokens0 = c.args.tokens.now;
+        stack0 = c.args.stack.now;
+        standing = followed c.in-Ok.taken c.in-Ok-follow.next l.invariant c.loop-place-test.true e.tokens e.stack
+            e.answer f.tokens (λ p. f.answer new.stack.elements p);
+        room = record { short = c.requires.short; room = c.requires.room; reserved = c.requires.reserved };
+      };
+      array = λ h.
+          let q = f.signs (values_next _ _ h) in
+          let a = array_next l.stack.elements new.stack.elements l.tokens.elements new.tokens.elements l.place 0
+          (suc l.place) _ l.mode _ c.in-Ok.taken h (e.answer 0) in
+          (subst (λ t. InArray new.stack.elements t.elements) (sym q.0) a, q.1);
+      object = λ h.
+          let q = f.names (names_next _ _ h) in
+          let o = object_next l.stack.elements new.stack.elements l.tokens.elements new.tokens.elements l.place 0
+          (suc l.place) _ l.mode _ c.in-Ok.taken h (e.answer 0) in
+          subst (λ t. InObject new.stack.elements t.elements) (sym q) o;
+    }
 
 pub loop-place-smaller : goal.loop-place-smaller
 loop-place-smaller c =
@@ -96,34 +87,26 @@ loop-place-smaller c =
 
 pub loop-place-preserved : goal.loop-place-preserved
 loop-place-preserved c =
-    let s = followed c.in-Ok.taken
-    c.in-Ok-follow.next c.loop-place.invariant c.loop-place-test.true c.in-Ok.ensures.tokens c.in-Ok.ensures.stack
-    c.in-Ok.ensures.answer c.in-Ok-follow.ensures.tokens
-    (λ p. c.in-Ok-follow.ensures.answer c.read_byte.new.stack.elements p) in
+    let e = c.in-Ok.ensures in
+    let f = c.in-Ok-follow.ensures in
+    let s = followed c.in-Ok.taken c.in-Ok-follow.next c.loop-place.invariant c.loop-place-test.true e.tokens e.stack
+    e.answer f.tokens (λ p. f.answer c.read_byte.new.stack.elements p) in
     c.in-Ok-pass_parts.ensures.answer c.args.tokens.now c.args.stack.now s
 
-pub returns-in-Err-pass_parts-clause-answer : goal.returns-in-Err-pass_parts-clause-answer
-returns-in-Err-pass_parts-clause-answer c =
-    let s = followed c.in-Ok.taken
-    c.in-Ok-follow.next c.loop-place.invariant c.loop-place-test.true c.in-Ok.ensures.tokens c.in-Ok.ensures.stack
-    c.in-Ok.ensures.answer c.in-Ok-follow.ensures.tokens
-    (λ p. c.in-Ok-follow.ensures.answer c.read_byte.new.stack.elements p) in
-    (c.in-Err-pass_parts.ensures.answer c.args.tokens.now c.args.stack.now s).0
-
-pub returns-in-Err-pass_parts-clause-law : goal.returns-in-Err-pass_parts-clause-law
-returns-in-Err-pass_parts-clause-law c =
-    let s = followed c.in-Ok.taken
-    c.in-Ok-follow.next c.loop-place.invariant c.loop-place-test.true c.in-Ok.ensures.tokens c.in-Ok.ensures.stack
-    c.in-Ok.ensures.answer c.in-Ok-follow.ensures.tokens
-    (λ p. c.in-Ok-follow.ensures.answer c.read_byte.new.stack.elements p) in
-    (c.in-Err-pass_parts.ensures.answer c.args.tokens.now c.args.stack.now s).1
+pub returns-in-Err-pass_parts : goal.returns-in-Err-pass_parts
+returns-in-Err-pass_parts c =
+    let e = c.in-Ok.ensures in
+    let f = c.in-Ok-follow.ensures in
+    let s = followed c.in-Ok.taken c.in-Ok-follow.next c.loop-place.invariant c.loop-place-test.true e.tokens e.stack
+    e.answer f.tokens (λ p. f.answer c.read_byte.new.stack.elements p) in
+    let r = c.in-Err-pass_parts.ensures.answer c.args.tokens.now c.args.stack.now s in
+    record { answer = r.0; law = r.1 }
 
 pub returns-then-is_end-clause-law : goal.returns-then-is_end-clause-law
 returns-then-is_end-clause-law c = ended_law c.loop-place.invariant
 
-pub returns-else-is_end-clause-law : goal.returns-else-is_end-clause-law
-returns-else-is_end-clause-law c = ended_law c.loop-place.invariant
-
-pub returns-else-is_end-clause-answer : goal.returns-else-is_end-clause-answer
-returns-else-is_end-clause-answer c =
-    ended_fault c.loop-place.invariant c.loop-place-test.false (not_so _ c.is_end.ensures c.if-is_end.false)
+pub returns-else-is_end : goal.returns-else-is_end
+returns-else-is_end c = record {
+  answer = ended_fault c.loop-place.invariant c.loop-place-test.false (not_so _ c.is_end.ensures c.if-is_end.false);
+  law = ended_law c.loop-place.invariant;
+}

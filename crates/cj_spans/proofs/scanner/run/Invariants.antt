@@ -1,5 +1,4 @@
-use Rattle.std.proofs.Common.{◌-◌, length}
-use Rattle.cj_spans.specs.inner.Pass.{Standing}
+use Rattle.cj_spans.proofs.Common.{◌-◌, length, Standing}
 use Rattle.cj_spans.proofs.scanner.run.Given as goal
 
 abbrev pub invariant-loop-place : goal.invariant-loop-place

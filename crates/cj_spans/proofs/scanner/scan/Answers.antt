@@ -1,10 +1,6 @@
-use Rattle.std.proofs.Common.{Err, sym, subst, inl, inr, arith}
+use Rattle.cj_spans.proofs.Common.{Err, sym, subst, inl, inr, arith, NotUtf8, Syntax, TooDeep, DeepAt, NowhereDeep, Judgement, IsReservedAnswerOf}
 use Rattle.std.proofs.lemmas.Result.{err_from_is_err_and}
-use Rattle.cj_spans.specs.declared.fault.LineFault.TheVariants.{NotUtf8, Syntax, TooDeep}
 use Rattle.cj_spans.specs.Meaning.Begins.{IsFirstTooDeep}
-use Rattle.cj_spans.specs.Meaning.Prefix.{DeepAt, NowhereDeep}
-use Rattle.cj_spans.specs.Meaning.Judgement.{Judgement}
-use Rattle.cj_spans.specs.Answers.{IsReservedAnswerOf}
 use Rattle.cj_spans.proofs.Granted.{fault_back, fault_on, fault_judged, ok_no_fault}
 use Rattle.cj_spans.proofs.Judgements.{judgement}
 use Rattle.cj_spans.proofs.Peaks.{peak_from}

@@ -1,4 +1,4 @@
-use Rattle.std.proofs.Common.{refl}
+use Rattle.cj_spans.proofs.Common.{refl}
 use Rattle.cj_spans.proofs.Verdicts.{cleared, run_utf8, run_unmarked, answers_tree, answers_deep, answers_syntax, answers_finds_deep, answers_finds_syntax, answers_finds_tree, utf8_whole, utf8_fault}
 use Rattle.cj_spans.proofs.Judgements.{judgement, answer_of}
 use Rattle.cj_spans.proofs.Endings.{answers_first_too_deep, answers_first_fault}

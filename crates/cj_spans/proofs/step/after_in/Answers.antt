@@ -1,5 +1,4 @@
-use Rattle.std.proofs.Common.{arith}
-use Rattle.std.proofs.lemmas.Grind.{common_steps}
+use Rattle.cj_spans.proofs.Common.{arith, common_steps}
 use Rattle.cj_spans.proofs.step.after_in.Goals as goal
 
 pub returns-then-byte-eq93 : goal.returns-then-byte-eq93

@@ -1,6 +1,4 @@
-use Rattle.std.proofs.Common.{sym, refl, ◌∙◌}
-use Rattle.cj_spans.specs.declared.step.Mode.TheVariants.{After}
-use Rattle.cj_spans.specs.inner.Machine.{state, between, after_value}
+use Rattle.cj_spans.proofs.Common.{sym, refl, ◌∙◌, After, state, between, after_value}
 use Rattle.cj_spans.proofs.Steps.{in_answers, read_answers, left_after}
 use Rattle.cj_spans.proofs.step.read_byte.Goals as goal
 

@@ -1,6 +1,4 @@
-use Rattle.std.proofs.Common.{refl}
-use Rattle.cj_spans.specs.declared.step.Mode.TheVariants.{FirstName, NextName, AfterName}
-use Rattle.cj_spans.specs.inner.Machine.{state, between, begin_name, close_empty, colon_step}
+use Rattle.cj_spans.proofs.Common.{refl, FirstName, NextName, AfterName, state, between, begin_name, close_empty, colon_step}
 use Rattle.cj_spans.proofs.Steps.{in_answers, left_colon, not_brace}
 use Rattle.cj_spans.proofs.step.read_name_byte.Goals as goal
 

@@ -1,4 +1,4 @@
-use Rattle.std.proofs.lemmas.List.{take_rest}
+use Rattle.cj_spans.proofs.Common.{take_rest}
 use Rattle.simdutf8.proofs.Parts.{front_and_rest, valid_after}
 use Rattle.cj_spans.proofs.utf8.check_from.Goals as goal
 

@@ -1,6 +1,4 @@
-use Rattle.std.proofs.Common.{ℕ, ◌≤◌, ◌<◌, arith, inl, inr}
-use Rattle.std.proofs.lemmas.Bool.{cases_lt}
-use Rattle.cj_spans.specs.Meaning.Json.{byte}
+use Rattle.cj_spans.proofs.Common.{ℕ, ◌≤◌, ◌<◌, arith, inl, inr, cases_lt, byte}
 use Rattle.cj_spans.proofs.Letters.{past_ascii}
 use Rattle.cj_spans.proofs.utf8.pass_ascii.Goals as goal
 

@@ -1,4 +1,4 @@
-use Rattle.std.proofs.Common.{◌≡◌, ℕ, Option, Some, None, false, arith}
+use Rattle.cj_spans.proofs.Common.{◌≡◌, ℕ, Option, Some, None, false, arith}
 use Rattle.std.specs.Option.{IfNone, is_some}
 use Rattle.cj_spans.proofs.utf8.pass_last_ascii.Goals as goal
 

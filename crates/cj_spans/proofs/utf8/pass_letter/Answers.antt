@@ -1,4 +1,4 @@
-use Rattle.std.proofs.Common.{arith}
+use Rattle.cj_spans.proofs.Common.{arith}
 use Rattle.cj_spans.proofs.Letters.{past_letter}
 use Rattle.cj_spans.proofs.utf8.pass_letter.Goals as goal
 

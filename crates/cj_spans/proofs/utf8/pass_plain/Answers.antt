@@ -1,4 +1,4 @@
-use Rattle.std.proofs.Common.{arith}
+use Rattle.cj_spans.proofs.Common.{arith}
 use Rattle.std.proofs.lemmas.Str.{IsUtf8-nil}
 use Rattle.cj_spans.proofs.utf8.pass_plain.Goals as goal
 

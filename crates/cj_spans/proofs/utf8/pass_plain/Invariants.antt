@@ -1,4 +1,4 @@
-use Rattle.std.proofs.Common.{◌≤◌, length, take, IsUtf8}
+use Rattle.cj_spans.proofs.Common.{◌≤◌, length, take, IsUtf8}
 use Rattle.cj_spans.proofs.utf8.pass_plain.Given as goal
 
 abbrev pub invariant-loop : goal.invariant-loop

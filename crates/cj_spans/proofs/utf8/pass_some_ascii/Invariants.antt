@@ -1,5 +1,4 @@
-use Rattle.std.proofs.Common.{ℕ, ◌-◌, ◌≤◌, ◌<◌, length}
-use Rattle.cj_spans.specs.Meaning.Json.{byte}
+use Rattle.cj_spans.proofs.Common.{ℕ, ◌-◌, ◌≤◌, ◌<◌, length, byte}
 use Rattle.cj_spans.proofs.utf8.pass_some_ascii.Given as goal
 
 abbrev pub invariant-loop-place : goal.invariant-loop-place

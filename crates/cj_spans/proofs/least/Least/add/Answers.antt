@@ -1,4 +1,4 @@
-use Rattle.std.proofs.Common.{rules, Some}
+use Rattle.cj_spans.proofs.Common.{rules, Some}
 use Rattle.cj_spans.proofs.Findings.{added_kept}
 use Rattle.cj_spans.proofs.least.Least.add.Goals as goal
 

@@ -1,5 +1,4 @@
-use Rattle.std.proofs.Common.{refl}
-use Rattle.cj_spans.specs.View.{document_line}
+use Rattle.cj_spans.proofs.Common.{refl, document_line}
 use Rattle.cj_spans.proofs.node.Doc.line.Goals as goal
 
 pub returns : goal.returns

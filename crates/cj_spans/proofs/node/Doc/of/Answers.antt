@@ -1,5 +1,4 @@
-use Rattle.std.proofs.Common.{refl}
-use Rattle.cj_spans.specs.View.{document, document_line, document_source, tokens_in}
+use Rattle.cj_spans.proofs.Common.{refl, document, document_line, document_source, tokens_in}
 use Rattle.cj_spans.proofs.Scanned.{known, one_tree, its_tree}
 use Rattle.cj_spans.proofs.Sizes.{are_full}
 use Rattle.cj_spans.proofs.Walks.{are_lone}
@@ -21,18 +20,11 @@ invariant_of-result c = let k = known c.args.line.now c.args.tokens.now c.requir
 pub invariant_of-result-2 : goal.invariant_of-result-2
 invariant_of-result-2 c = record { known = (known c.args.line.now c.args.tokens.now c.requires).some }
 
-pub returns-clause-json : goal.returns-clause-json
-unfolding document
-returns-clause-json c = its_tree c.requires
-
-pub returns-clause-only : goal.returns-clause-only
-unfolding document
-returns-clause-only c = one_tree c.requires
-
-pub returns-clause-line : goal.returns-clause-line
-unfolding document_line
-returns-clause-line c = refl
-
-pub returns-clause-tokens : goal.returns-clause-tokens
-unfolding document_source tokens_in
-returns-clause-tokens c = refl
+pub returns : goal.returns
+unfolding document document_line document_source tokens_in
+returns c = record {
+  json = its_tree c.requires;
+  only = one_tree c.requires;
+  line = refl;
+  tokens = refl;
+}

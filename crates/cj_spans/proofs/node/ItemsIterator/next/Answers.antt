@@ -1,5 +1,4 @@
-use Rattle.std.proofs.Common.{rules, refl, ap, length, arith}
-use Rattle.cj_spans.specs.View.{tree, line_of, source_of, items_left, items_line, items_source}
+use Rattle.cj_spans.proofs.Common.{rules, refl, ap, length, arith, tree, line_of, source_of, items_left, items_line, items_source}
 use Rattle.cj_spans.proofs.Walks.{item_on, shown_none}
 use Rattle.cj_spans.proofs.node.ItemsIterator.next.Goals as goal
 

@@ -1,7 +1,5 @@
-use Rattle.std.proofs.Common.{◌∙◌, Some, ap, sym, arith}
+use Rattle.cj_spans.proofs.Common.{◌∙◌, Some, ap, sym, arith, chars, tree, members_left, members_source, source_of}
 use Rattle.std.specs.Prelude.{get_or}
-use Rattle.std.specs.Str.{chars}
-use Rattle.cj_spans.specs.View.{tree, members_left, members_source, source_of}
 use Rattle.cj_spans.proofs.Noted.{found_from, found_none, found_here}
 use Rattle.cj_spans.proofs.Walks.{at_name}
 use Rattle.cj_spans.proofs.node.Members.find.Goals as goal

@@ -1,7 +1,4 @@
-use Rattle.std.proofs.Common.{ap}
-use Rattle.std.specs.Str.{chars}
-use Rattle.cj_spans.specs.Meaning.Parts.{first_named}
-use Rattle.cj_spans.specs.View.{members_left, members_source}
+use Rattle.cj_spans.proofs.Common.{ap, chars, first_named, members_left, members_source}
 use Rattle.cj_spans.proofs.node.Members.find_from.Goals as goal
 
 pub loop-key-init : goal.loop-key-init

@@ -1,8 +1,5 @@
-use Rattle.std.proofs.Common.{◌≡◌}
-use Rattle.std.specs.Str.{chars}
+use Rattle.cj_spans.proofs.Common.{◌≡◌, chars, first_named, members_left, members_source}
 use Rattle.cj_spans.specs.inner.Noted.{members_from}
-use Rattle.cj_spans.specs.Meaning.Parts.{first_named}
-use Rattle.cj_spans.specs.View.{members_left, members_source}
 use Rattle.cj_spans.proofs.node.Members.find_from.Given as goal
 
 abbrev pub invariant-loop-key : goal.invariant-loop-key

@@ -1,10 +1,5 @@
-use Rattle.std.proofs.Common.{◌+◌, ◌∙◌, map, ap, sym, subst, arith}
-use Rattle.std.proofs.lemmas.Bool.{false≢true}
-use Rattle.cj_spans.specs.Initials.{are_apart}
+use Rattle.cj_spans.proofs.Common.{◌+◌, ◌∙◌, map, ap, sym, subst, arith, false≢true, are_apart, spans_of, Tree, tree, tree_at, members_left, pairs_of}
 use Rattle.cj_spans.specs.inner.Noted.{AreNoted, IsPlace, is_noted, members_from}
-use Rattle.cj_spans.specs.Preorder.{spans_of}
-use Rattle.cj_spans.specs.Meaning.Tree.{Tree}
-use Rattle.cj_spans.specs.View.{tree, tree_at, members_left, pairs_of}
 use Rattle.cj_spans.proofs.Noted.{noted_on, apart_on, noted_none}
 use Rattle.cj_spans.proofs.Walks.{at_name, member_on, shown_none, whole_later, number_linked}
 use Rattle.cj_spans.proofs.node.Members.note_all.Goals as goal
@@ -73,16 +68,18 @@ loop-next-preserved c =
       ];
     }
 
-pub returns-clause-noted : goal.returns-clause-noted
-returns-clause-noted c =
-    let w = c.args.self in
-    let s = w.source in
-    subst (λ all. AreNoted w all c.loop-next.places)
-    (ap pairs_of (shown_none s.line.now s.tokens.now c.loop-next.next w.stop (omega arith))) c.loop-next.invariant.noted
-
-pub returns-clause-apart : goal.returns-clause-apart
-returns-clause-apart c = λ h.
-    let w = c.args.self in
-    let s = w.source in
-    c.loop-next.invariant.apart h ∙ ap (are_apart (map is_noted c.loop-next.places))
-    (ap pairs_of (shown_none s.line.now s.tokens.now c.loop-next.next w.stop (omega arith)))
+pub returns : goal.returns
+returns c = record {
+  noted =
+      let w = c.args.self in
+      let s = w.source in
+      subst (λ all. AreNoted w all c.loop-next.places)
+      (ap pairs_of (shown_none s.line.now s.tokens.now c.loop-next.next w.stop (omega arith)))
+      c.loop-next.invariant.noted;
+  apart =
+      λ h.
+      let w = c.args.self in
+      let s = w.source in
+      c.loop-next.invariant.apart h ∙ ap (are_apart (map is_noted c.loop-next.places))
+      (ap pairs_of (shown_none s.line.now s.tokens.now c.loop-next.next w.stop (omega arith)));
+}

@@ -1,8 +1,5 @@
-use Rattle.std.proofs.Common.{◌≡◌, ◌<◌, ◌-◌, true, map}
-use Rattle.cj_spans.specs.Initials.{are_apart, begin_apart}
+use Rattle.cj_spans.proofs.Common.{◌≡◌, ◌<◌, ◌-◌, true, map, are_apart, begin_apart, AreWhole, ShowMembers, members_left}
 use Rattle.cj_spans.specs.inner.Noted.{AreNoted, members_from, is_noted}
-use Rattle.cj_spans.specs.Sound.{AreWhole, ShowMembers}
-use Rattle.cj_spans.specs.View.{members_left}
 use Rattle.cj_spans.proofs.node.Members.note_all.Given as goal
 
 abbrev pub invariant-loop-next : goal.invariant-loop-next

@@ -1,7 +1,4 @@
-use Rattle.std.proofs.Common.{refl, ap, arith, ◌∙◌, sym, ◌<◌, length}
-use Rattle.std.proofs.lemmas.Bool.Decides.{nat_tests}
-use Rattle.std.specs.Str.{chars}
-use Rattle.cj_spans.specs.Initials.{head}
+use Rattle.cj_spans.proofs.Common.{refl, ap, arith, ◌∙◌, sym, ◌<◌, length, nat_tests, chars, head}
 use Rattle.cj_spans.proofs.Texts.{plain_character}
 use Rattle.cj_spans.proofs.node.Members.slot_of.Goals as goal
 

@@ -1,5 +1,4 @@
-use Rattle.std.proofs.Common.{rules, refl, ap, length, arith}
-use Rattle.cj_spans.specs.View.{tree, line_of, source_of, members_left, members_line, members_source, pairs_of}
+use Rattle.cj_spans.proofs.Common.{rules, refl, ap, length, arith, tree, line_of, source_of, members_left, members_line, members_source, pairs_of}
 use Rattle.cj_spans.proofs.Walks.{at_name, member_on, shown_none, whole_later}
 use Rattle.cj_spans.proofs.node.MembersIterator.next.Goals as goal
 

@@ -1,5 +1,4 @@
-use Rattle.std.proofs.Common.{ap}
-use Rattle.cj_spans.specs.View.{line_of, source_of}
+use Rattle.cj_spans.proofs.Common.{ap, line_of, source_of}
 use Rattle.cj_spans.proofs.node.Node.at_if.Goals as goal
 
 pub returns-in-Some-clause-line : goal.returns-in-Some-clause-line

@@ -1,4 +1,4 @@
-use Rattle.cj_spans.specs.View.{tree, line_of}
+use Rattle.cj_spans.proofs.Common.{tree, line_of}
 use Rattle.cj_spans.proofs.Views.{spelling_shown}
 use Rattle.cj_spans.proofs.node.Node.bytes.Goals as goal
 

@@ -1,7 +1,4 @@
-use Rattle.std.proofs.Common.{◌≡◌}
-use Rattle.std.specs.Str.{chars}
-use Rattle.cj_spans.specs.Meaning.Parts.{first_named, member_of}
-use Rattle.cj_spans.specs.View.{tree, line_of, source_of, members_left, members_line, members_source}
+use Rattle.cj_spans.proofs.Common.{◌≡◌, chars, first_named, member_of, tree, line_of, source_of, members_left, members_line, members_source}
 use Rattle.cj_spans.proofs.node.Node.get.Given as goal
 
 abbrev pub invariant-loop-key : goal.invariant-loop-key

@@ -1,6 +1,4 @@
-use Rattle.std.proofs.Common.{arith, sym, ap, ◌∙◌}
-use Rattle.cj_spans.specs.Forest.{kind_by}
-use Rattle.cj_spans.specs.View.{tree, line_of}
+use Rattle.cj_spans.proofs.Common.{arith, sym, ap, ◌∙◌, kind_by, tree, line_of}
 use Rattle.cj_spans.proofs.Sizes.{full_sized}
 use Rattle.cj_spans.proofs.Triples.{room_within, three_long, wholes, few_wholes}
 use Rattle.cj_spans.proofs.Views.{kind_shown}
@@ -15,68 +13,58 @@ are_whole_signs-requires-clause-order c =
     room_within s.line.now t.start t.stop (s.within n.index t here).0 c.if-self-start-ne91.false
     ((s.spelled n.index t here).1 c.if-self-start-ne91.false)
 
-pub returns-then-stop-start-le-FEW_BYTES-clause-array : goal.returns-then-stop-start-le-FEW_BYTES-clause-array
-unfolding tree
-returns-then-stop-start-le-FEW_BYTES-clause-array c so =
-    let n = c.args.self in
-    let s = n.source in
-    let t = c.token_at-token.result in
-    let here = c.token_at-token.ensures in
-    sym (kind_shown s.line.now s.tokens.now n.index t here (sym (ap kind_by c.if-self-start-ne91.false)))
-
-pub returns-then-stop-start-le-FEW_BYTES-clause-three : goal.returns-then-stop-start-le-FEW_BYTES-clause-three
-unfolding tree
-returns-then-stop-start-le-FEW_BYTES-clause-three c so =
-    let n = c.args.self in
-    let s = n.source in
-    let t = c.token_at-token.result in
-    let here = c.token_at-token.ensures in
-    three_long s.line.now s.tokens.now s.within s.rising s.nested s.linked s.spelled
-    (full_sized s.line.now s.tokens.now s.nested s.linked s.full) n.index t here c.if-self-start-ne91.false
-    (sym (c.after.ensures.link t here) ∙ c.if-after-self.false)
-    (c.are_whole_signs.ensures c.if-are_whole_signs.true)
-
-pub returns-then-stop-start-le-FEW_BYTES-clause-wholes : goal.returns-then-stop-start-le-FEW_BYTES-clause-wholes
+pub returns-then-stop-start-le-FEW_BYTES : goal.returns-then-stop-start-le-FEW_BYTES
 unfolding tree line_of
-returns-then-stop-start-le-FEW_BYTES-clause-wholes c so =
-    let n = c.args.self in
-    let s = n.source in
-    let t = c.token_at-token.result in
-    let here = c.token_at-token.ensures in
-    few_wholes s.line.now s.tokens.now s.within s.rising s.nested s.linked s.spelled
-    (full_sized s.line.now s.tokens.now s.nested s.linked s.full) n.index t here c.if-self-start-ne91.false
-    (sym (c.after.ensures.link t here) ∙ c.if-after-self.false)
-    (c.are_whole_signs.ensures c.if-are_whole_signs.true) (omega arith)
+returns-then-stop-start-le-FEW_BYTES c = record {
+  array =
+      λ so. let n = c.args.self in
+      let s = n.source in
+      let t = c.token_at-token.result in
+      let here = c.token_at-token.ensures in
+      sym (kind_shown s.line.now s.tokens.now n.index t here (sym (ap kind_by c.if-self-start-ne91.false)));
+  three =
+      λ so. let n = c.args.self in
+      let s = n.source in
+      let t = c.token_at-token.result in
+      let here = c.token_at-token.ensures in
+      three_long s.line.now s.tokens.now s.within s.rising s.nested s.linked s.spelled
+      (full_sized s.line.now s.tokens.now s.nested s.linked s.full) n.index t here c.if-self-start-ne91.false
+      (sym (c.after.ensures.link t here) ∙ c.if-after-self.false) (c.are_whole_signs.ensures c.if-are_whole_signs.true);
+  wholes =
+      λ so. let n = c.args.self in
+      let s = n.source in
+      let t = c.token_at-token.result in
+      let here = c.token_at-token.ensures in
+      few_wholes s.line.now s.tokens.now s.within s.rising s.nested s.linked s.spelled
+      (full_sized s.line.now s.tokens.now s.nested s.linked s.full) n.index t here c.if-self-start-ne91.false
+      (sym (c.after.ensures.link t here) ∙ c.if-after-self.false)
+      (c.are_whole_signs.ensures c.if-are_whole_signs.true) (omega arith);
+}
 
-pub returns-else-stop-start-le-FEW_BYTES-clause-array : goal.returns-else-stop-start-le-FEW_BYTES-clause-array
-unfolding tree
-returns-else-stop-start-le-FEW_BYTES-clause-array c so =
-    let n = c.args.self in
-    let s = n.source in
-    let t = c.token_at-token.result in
-    let here = c.token_at-token.ensures in
-    sym (kind_shown s.line.now s.tokens.now n.index t here (sym (ap kind_by c.if-self-start-ne91.false)))
-
-pub returns-else-stop-start-le-FEW_BYTES-clause-three : goal.returns-else-stop-start-le-FEW_BYTES-clause-three
-unfolding tree
-returns-else-stop-start-le-FEW_BYTES-clause-three c so =
-    let n = c.args.self in
-    let s = n.source in
-    let t = c.token_at-token.result in
-    let here = c.token_at-token.ensures in
-    three_long s.line.now s.tokens.now s.within s.rising s.nested s.linked s.spelled
-    (full_sized s.line.now s.tokens.now s.nested s.linked s.full) n.index t here c.if-self-start-ne91.false
-    (sym (c.after.ensures.link t here) ∙ c.if-after-self.false)
-    (c.are_whole_signs.ensures c.if-are_whole_signs.true)
-
-pub returns-else-stop-start-le-FEW_BYTES-clause-wholes : goal.returns-else-stop-start-le-FEW_BYTES-clause-wholes
+pub returns-else-stop-start-le-FEW_BYTES : goal.returns-else-stop-start-le-FEW_BYTES
 unfolding tree line_of
-returns-else-stop-start-le-FEW_BYTES-clause-wholes c so =
-    let n = c.args.self in
-    let s = n.source in
-    let t = c.token_at-token.result in
-    let here = c.token_at-token.ensures in
-    wholes s.line.now s.tokens.now s.within s.rising s.nested s.linked s.spelled
-    (full_sized s.line.now s.tokens.now s.nested s.linked s.full) n.index t here c.if-self-start-ne91.false
-    (sym (c.after.ensures.link t here) ∙ c.if-after-self.false)
-    (c.are_whole_signs.ensures c.if-are_whole_signs.true) (λ m u l h g. c.has_short_items.ensures so m u l h g)
+returns-else-stop-start-le-FEW_BYTES c = record {
+  array =
+      λ so. let n = c.args.self in
+      let s = n.source in
+      let t = c.token_at-token.result in
+      let here = c.token_at-token.ensures in
+      sym (kind_shown s.line.now s.tokens.now n.index t here (sym (ap kind_by c.if-self-start-ne91.false)));
+  three =
+      λ so. let n = c.args.self in
+      let s = n.source in
+      let t = c.token_at-token.result in
+      let here = c.token_at-token.ensures in
+      three_long s.line.now s.tokens.now s.within s.rising s.nested s.linked s.spelled
+      (full_sized s.line.now s.tokens.now s.nested s.linked s.full) n.index t here c.if-self-start-ne91.false
+      (sym (c.after.ensures.link t here) ∙ c.if-after-self.false) (c.are_whole_signs.ensures c.if-are_whole_signs.true);
+  wholes =
+      λ so. let n = c.args.self in
+      let s = n.source in
+      let t = c.token_at-token.result in
+      let here = c.token_at-token.ensures in
+      wholes s.line.now s.tokens.now s.within s.rising s.nested s.linked s.spelled
+      (full_sized s.line.now s.tokens.now s.nested s.linked s.full) n.index t here c.if-self-start-ne91.false
+      (sym (c.after.ensures.link t here) ∙ c.if-after-self.false)
+      (c.are_whole_signs.ensures c.if-are_whole_signs.true) (λ m u l h g. c.has_short_items.ensures so m u l h g);
+}

@@ -1,5 +1,4 @@
-use Rattle.std.proofs.Common.{refl}
-use Rattle.cj_spans.specs.View.{tree, line_of, source_of}
+use Rattle.cj_spans.proofs.Common.{refl, tree, line_of, source_of}
 use Rattle.cj_spans.proofs.Sizes.{full_sized}
 use Rattle.cj_spans.proofs.Walks.{item_behind_link}
 use Rattle.cj_spans.proofs.node.Node.item_behind.Goals as goal
@@ -13,19 +12,16 @@ invariant_of-result c =
     n.known c.requires.1 c.requires.2 in
     record { known = w.inside }
 
-pub returns-clause-tree : goal.returns-clause-tree
-unfolding tree
-returns-clause-tree c = λ k few e.
-    let n = c.args.self in
-    let w = item_behind_link n.source.line.now n.source.tokens.now n.index k n.source.nested
-    n.source.linked (full_sized n.source.line.now n.source.tokens.now n.source.nested n.source.linked n.source.full)
-    n.known few e in
-    (w.rest, w.first)
-
-pub returns-clause-line : goal.returns-clause-line
-unfolding line_of
-returns-clause-line c = refl
-
-pub returns-clause-source : goal.returns-clause-source
-unfolding source_of
-returns-clause-source c = refl
+pub returns : goal.returns
+unfolding tree line_of source_of
+returns c = record {
+  tree =
+      λ k few e.
+      let n = c.args.self in
+      let w = item_behind_link n.source.line.now n.source.tokens.now n.index k n.source.nested
+      n.source.linked (full_sized n.source.line.now n.source.tokens.now n.source.nested n.source.linked n.source.full)
+      n.known few e in
+      (w.rest, w.first);
+  line = refl;
+  source = refl;
+}

@@ -1,5 +1,4 @@
-use Rattle.std.proofs.Common.{refl, arith, ◌+◌}
-use Rattle.cj_spans.specs.View.{tree, line_of, source_of, items_line, items_source, items_left}
+use Rattle.cj_spans.proofs.Common.{refl, arith, ◌+◌, tree, line_of, source_of, items_line, items_source, items_left}
 use Rattle.cj_spans.proofs.Walks.{items_from_link, few_trees, small_items}
 use Rattle.cj_spans.proofs.node.Node.items.Goals as goal
 
@@ -11,29 +10,20 @@ invariant_of-result c =
     n.source.nested n.source.linked n.known c.after.ensures.link c.kind.ensures c.items_end-stop.ensures in
     record { whole = w.whole }
 
-pub returns-clause-items : goal.returns-clause-items
-unfolding tree items_left
-returns-clause-items c =
-    let n = c.args.self in
-    (items_from_link n.source.line.now n.source.tokens.now n.index c.after.result
-    n.source.nested n.source.linked n.known c.after.ensures.link c.kind.ensures c.items_end-stop.ensures).shown
-
-pub returns-clause-line : goal.returns-clause-line
-unfolding line_of items_line
-returns-clause-line c = refl
-
-pub returns-clause-source : goal.returns-clause-source
-unfolding source_of items_source
-returns-clause-source c = refl
-
-pub returns-clause-few : goal.returns-clause-few
-unfolding items_left
-returns-clause-few c = let s = c.args.self.source in
-    let l = few_trees s.line.now s.tokens.now (c.args.self.index + 1) c.items_end-stop.result in omega arith
-
-pub returns-clause-sizes : goal.returns-clause-sizes
-unfolding items_left
-returns-clause-sizes c =
-    let n = c.args.self in
-    small_items n.source.line.now n.source.tokens.now n.index c.after.result c.kind.result
-    n.source.linked n.known c.after.ensures.link c.items_end-stop.ensures
+pub returns : goal.returns
+unfolding tree items_left line_of items_line source_of items_source
+returns c = record {
+  items =
+      let n = c.args.self in
+      (items_from_link n.source.line.now n.source.tokens.now n.index c.after.result
+      n.source.nested n.source.linked n.known c.after.ensures.link c.kind.ensures c.items_end-stop.ensures).shown;
+  line = refl;
+  source = refl;
+  few =
+      let s = c.args.self.source in
+      let l = few_trees s.line.now s.tokens.now (c.args.self.index + 1) c.items_end-stop.result in omega arith;
+  sizes =
+      let n = c.args.self in
+      small_items n.source.line.now n.source.tokens.now n.index c.after.result c.kind.result
+      n.source.linked n.known c.after.ensures.link c.items_end-stop.ensures;
+}

@@ -1,5 +1,4 @@
-use Rattle.std.proofs.Common.{◌+◌, arith, refl}
-use Rattle.cj_spans.specs.View.{tree, line_of, source_of, items_line, items_source, items_left}
+use Rattle.cj_spans.proofs.Common.{◌+◌, arith, refl, tree, line_of, source_of, items_line, items_source, items_left}
 use Rattle.cj_spans.proofs.Sizes.{full_sized}
 use Rattle.cj_spans.proofs.Walks.{items_from_link, whole_later, items_behind_link}
 use Rattle.cj_spans.proofs.node.Node.items_behind.Goals as goal
@@ -15,18 +14,15 @@ invariant_of-result c =
           (omega arith) w.whole;
     }
 
-pub returns-clause-items : goal.returns-clause-items
-unfolding tree items_left
-returns-clause-items c = λ k few e.
-    let n = c.args.self in
-    items_behind_link n.source.line.now n.source.tokens.now n.index c.after.result k n.source.nested n.source.linked
-    (full_sized n.source.line.now n.source.tokens.now n.source.nested n.source.linked n.source.full) n.known
-    c.after.ensures.link c.kind.ensures c.items_end-stop.ensures few e
-
-pub returns-clause-line : goal.returns-clause-line
-unfolding line_of items_line
-returns-clause-line c = refl
-
-pub returns-clause-source : goal.returns-clause-source
-unfolding source_of items_source
-returns-clause-source c = refl
+pub returns : goal.returns
+unfolding tree items_left line_of items_line source_of items_source
+returns c = record {
+  items =
+      λ k few e.
+      let n = c.args.self in
+      items_behind_link n.source.line.now n.source.tokens.now n.index c.after.result k n.source.nested n.source.linked
+      (full_sized n.source.line.now n.source.tokens.now n.source.nested n.source.linked n.source.full) n.known
+      c.after.ensures.link c.kind.ensures c.items_end-stop.ensures few e;
+  line = refl;
+  source = refl;
+}

@@ -1,4 +1,4 @@
-use Rattle.cj_spans.specs.View.{tree}
+use Rattle.cj_spans.proofs.Common.{tree}
 use Rattle.cj_spans.proofs.Views.{kind_shown}
 use Rattle.cj_spans.proofs.node.Node.kind.Goals as goal
 

@@ -1,5 +1,4 @@
-use Rattle.std.proofs.Common.{arith}
-use Rattle.cj_spans.specs.View.{tree}
+use Rattle.cj_spans.proofs.Common.{arith, tree}
 use Rattle.cj_spans.proofs.Sizes.{full_sized}
 use Rattle.cj_spans.proofs.Walks.{linked_size}
 use Rattle.cj_spans.proofs.node.Node.size.Goals as goal

@@ -1,4 +1,4 @@
-use Rattle.cj_spans.specs.View.{tree}
+use Rattle.cj_spans.proofs.Common.{tree}
 use Rattle.cj_spans.proofs.Views.{start_shown}
 use Rattle.cj_spans.proofs.node.Node.start.Goals as goal
 

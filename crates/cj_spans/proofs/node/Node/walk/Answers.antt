@@ -1,5 +1,4 @@
-use Rattle.std.proofs.Common.{refl}
-use Rattle.cj_spans.specs.View.{tree, source_of, members_source, members_left}
+use Rattle.cj_spans.proofs.Common.{refl, rules, tree, source_of, members_source, members_left}
 use Rattle.cj_spans.proofs.Walks.{members_from_link}
 use Rattle.cj_spans.proofs.node.Node.walk.Goals as goal
 
@@ -12,14 +11,14 @@ invariant_of-result c =
     c.members_end-stop.ensures in
     record { whole = w.whole; named = w.named }
 
-pub returns-clause-members : goal.returns-clause-members
-unfolding tree members_left
-returns-clause-members c =
-    let n = c.args.self in
-    (members_from_link n.source.line.now n.source.tokens.now n.index c.after.result
-    n.source.nested n.source.linked n.source.named n.known c.after.ensures.link c.kind.ensures
-    c.members_end-stop.ensures).shown
-
-pub returns-clause-source : goal.returns-clause-source
-unfolding source_of members_source
-returns-clause-source c = refl
+pub returns : goal.returns
+unfolding tree members_left source_of members_source
+returns c = record {
+  begun = search rules;
+  members =
+      let n = c.args.self in
+      (members_from_link n.source.line.now n.source.tokens.now n.index c.after.result
+      n.source.nested n.source.linked n.source.named n.known c.after.ensures.link c.kind.ensures
+      c.members_end-stop.ensures).shown;
+  source = refl;
+}

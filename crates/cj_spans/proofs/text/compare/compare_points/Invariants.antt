@@ -1,6 +1,4 @@
-use Rattle.std.proofs.Common.{◌≡◌, length}
-use Rattle.cj_spans.specs.Order.{compare}
-use Rattle.cj_spans.specs.inner.Decoding.{code_points_left}
+use Rattle.cj_spans.proofs.Common.{◌≡◌, length, compare, code_points_left}
 use Rattle.cj_spans.proofs.text.compare.compare_points.Given as goal
 
 abbrev pub invariant-loop-point : goal.invariant-loop-point

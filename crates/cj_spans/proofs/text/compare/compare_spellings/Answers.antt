@@ -1,5 +1,4 @@
-use Rattle.std.proofs.Common.{refl, rules, sym, ◌∙◌}
-use Rattle.cj_spans.specs.Order.{compare}
+use Rattle.cj_spans.proofs.Common.{refl, rules, sym, ◌∙◌, compare}
 use Rattle.cj_spans.proofs.Texts.{order_ends, order_apart}
 use Rattle.cj_spans.proofs.text.compare.compare_spellings.Goals as goal
 

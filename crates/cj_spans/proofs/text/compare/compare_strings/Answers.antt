@@ -1,8 +1,4 @@
-use Rattle.std.proofs.Common.{◌≡◌, refl, ◌∙◌, ap}
-use Rattle.std.specs.Ordering.{nat_cmp}
-use Rattle.std.proofs.lemmas.Iterator.Consumers.{YieldsList-from_first}
-use Rattle.std.proofs.lemmas.Iterator.Search.{cmp_from_yields_List}
-use Rattle.cj_spans.specs.inner.Decoding.{characters_left}
+use Rattle.cj_spans.proofs.Common.{◌≡◌, refl, ◌∙◌, ap, nat_cmp, YieldsList-from_first, cmp_from_yields_List, characters_left}
 use Rattle.cj_spans.proofs.text.compare.compare_strings.Goals as goal
 
 pub returns : goal.returns

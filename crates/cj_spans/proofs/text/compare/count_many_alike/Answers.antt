@@ -1,4 +1,4 @@
-use Rattle.std.proofs.Common.{arith, ◌-◌, refl}
+use Rattle.cj_spans.proofs.Common.{arith, ◌-◌, refl}
 use Rattle.cj_spans.proofs.Texts.{alike_more}
 use Rattle.cj_spans.proofs.text.compare.count_many_alike.Goals as goal
 

@@ -1,5 +1,4 @@
-use Rattle.std.proofs.Common.{◌-◌}
-use Rattle.cj_spans.specs.inner.Decoding.{StartAlike}
+use Rattle.cj_spans.proofs.Common.{◌-◌, StartAlike}
 use Rattle.cj_spans.proofs.text.compare.count_many_alike.Given as goal
 
 abbrev pub invariant-loop-count : goal.invariant-loop-count

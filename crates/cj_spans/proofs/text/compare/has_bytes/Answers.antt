@@ -1,5 +1,4 @@
-use Rattle.std.proofs.Common.{◌≡◌, length, arith}
-use Rattle.std.proofs.lemmas.Bool.Decides.{nat_tests}
+use Rattle.cj_spans.proofs.Common.{◌≡◌, length, arith, nat_tests}
 use Rattle.cj_spans.proofs.Texts.{same_alike}
 use Rattle.cj_spans.proofs.text.compare.has_bytes.Goals as goal
 

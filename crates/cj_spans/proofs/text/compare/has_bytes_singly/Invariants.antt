@@ -1,6 +1,4 @@
-use Rattle.std.proofs.Common.{◌≡◌, ◌+◌, ◌-◌, length}
-use Rattle.cj_spans.specs.Meaning.Text.{are_same}
-use Rattle.cj_spans.specs.inner.Decoding.{left, code_points_from}
+use Rattle.cj_spans.proofs.Common.{◌≡◌, ◌+◌, ◌-◌, length, are_same, left, code_points_from}
 use Rattle.cj_spans.proofs.text.compare.has_bytes_singly.Given as goal
 
 abbrev pub invariant-loop-count : goal.invariant-loop-count

@@ -1,7 +1,4 @@
-use Rattle.std.proofs.Common.{ap, ◌∙◌}
-use Rattle.std.specs.Ordering.{is_eq}
-use Rattle.std.proofs.lemmas.Map.Text.{is_eq-slice_cmp}
-use Rattle.cj_spans.specs.Meaning.Text.{text}
+use Rattle.cj_spans.proofs.Common.{ap, ◌∙◌, is_eq, is_eq-slice_cmp, text}
 use Rattle.cj_spans.proofs.text.compare.spell_one_text.Goals as goal
 
 pub returns : goal.returns

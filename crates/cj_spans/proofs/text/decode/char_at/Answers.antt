@@ -1,4 +1,4 @@
-use Rattle.std.proofs.Common.{refl}
+use Rattle.cj_spans.proofs.Common.{refl}
 use Rattle.cj_spans.proofs.Texts.{char_some, char_none}
 use Rattle.cj_spans.proofs.text.decode.char_at.Goals as goal
 

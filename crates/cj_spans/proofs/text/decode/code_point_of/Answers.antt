@@ -1,4 +1,4 @@
-use Rattle.std.proofs.Common.{rules, refl}
+use Rattle.cj_spans.proofs.Common.{rules, refl}
 use Rattle.cj_spans.proofs.Texts.{plain_point, escaped_point}
 use Rattle.cj_spans.proofs.text.decode.code_point_of.Goals as goal
 

@@ -1,4 +1,4 @@
-use Rattle.std.proofs.Common.{arith}
+use Rattle.cj_spans.proofs.Common.{arith}
 use Rattle.cj_spans.proofs.Texts.{chars_past, lead_one}
 use Rattle.cj_spans.proofs.text.decode.first_char.Goals as goal
 

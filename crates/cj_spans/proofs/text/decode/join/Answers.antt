@@ -1,4 +1,4 @@
-use Rattle.std.proofs.Common.{sym, drop, rules}
+use Rattle.cj_spans.proofs.Common.{sym, drop, rules}
 use Rattle.cj_spans.proofs.Texts.{join_lone, join_other, join_not_low, join_pair}
 use Rattle.cj_spans.proofs.text.decode.join.Goals as goal
 

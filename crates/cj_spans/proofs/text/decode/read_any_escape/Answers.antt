@@ -1,4 +1,4 @@
-use Rattle.std.proofs.Common.{sym, drop}
+use Rattle.cj_spans.proofs.Common.{sym, drop}
 use Rattle.cj_spans.proofs.Texts.{letter_read}
 use Rattle.cj_spans.proofs.text.decode.read_any_escape.Goals as goal
 

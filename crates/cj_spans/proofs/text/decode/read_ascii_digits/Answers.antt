@@ -1,4 +1,4 @@
-use Rattle.std.proofs.Common.{drop}
+use Rattle.cj_spans.proofs.Common.{drop}
 use Rattle.cj_spans.proofs.Texts.{digits_read, rest_two, rest_three}
 use Rattle.cj_spans.proofs.text.decode.read_ascii_digits.Goals as goal
 

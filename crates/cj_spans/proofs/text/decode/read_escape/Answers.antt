@@ -1,4 +1,4 @@
-use Rattle.std.proofs.Common.{sym, rules}
+use Rattle.cj_spans.proofs.Common.{sym, rules}
 use Rattle.cj_spans.proofs.Texts.{join_lone}
 use Rattle.cj_spans.proofs.text.decode.read_escape.Goals as goal
 

@@ -1,4 +1,4 @@
-use Rattle.std.proofs.Common.{arith, refl}
+use Rattle.cj_spans.proofs.Common.{arith, refl}
 use Rattle.cj_spans.proofs.Texts.{lead_two, lead_three, lead_four}
 use Rattle.cj_spans.proofs.text.decode.read_long_char.Goals as goal
 

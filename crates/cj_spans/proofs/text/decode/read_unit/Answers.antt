@@ -1,4 +1,4 @@
-use Rattle.std.proofs.Common.{drop}
+use Rattle.cj_spans.proofs.Common.{drop}
 use Rattle.cj_spans.proofs.Texts.{rest_two, takes_on}
 use Rattle.cj_spans.proofs.text.decode.read_unit.Goals as goal
 

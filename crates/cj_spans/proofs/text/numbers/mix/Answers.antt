@@ -1,6 +1,4 @@
-use Rattle.std.proofs.Common.{◌≡◌, ◌+◌, ◌<◌, ◌≤◌, ℕ, List, length, get_or, nat_eq, false, refl, sym, ap, subst, ◌∙◌}
-use Rattle.cj_spans.specs.inner.Decoding.{code_points_from}
-use Rattle.cj_spans.specs.Mix.{mix_on, mix_step}
+use Rattle.cj_spans.proofs.Common.{◌≡◌, ◌+◌, ◌<◌, ◌≤◌, ℕ, List, length, get_or, nat_eq, false, refl, sym, ap, subst, ◌∙◌, code_points_from, mix_on, mix_step}
 use Rattle.cj_spans.proofs.Texts.{chars_past, plain_code, points_done}
 use Rattle.cj_spans.proofs.text.numbers.mix.Goals as goal
 

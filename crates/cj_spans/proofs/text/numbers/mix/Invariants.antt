@@ -1,6 +1,4 @@
-use Rattle.std.proofs.Common.{◌≡◌, ◌-◌, length}
-use Rattle.cj_spans.specs.inner.Decoding.{code_points_from, code_points_left}
-use Rattle.cj_spans.specs.Mix.{mix_on}
+use Rattle.cj_spans.proofs.Common.{◌≡◌, ◌-◌, length, code_points_from, code_points_left, mix_on}
 use Rattle.cj_spans.proofs.text.numbers.mix.Given as goal
 
 abbrev pub invariant-loop-place : goal.invariant-loop-place

@@ -1,7 +1,5 @@
-use Rattle.std.proofs.Common.{◌≡◌, ◌+◌, ◌%◌, ◌<◌, ℕ, zero, suc, Bool, true, false, not, ◌&&◌, ◌||◌, nat_eq, nat_lt, inl, inr, refl, subst, arith}
+use Rattle.cj_spans.proofs.Common.{◌≡◌, ◌+◌, ◌%◌, ◌<◌, ℕ, zero, suc, Bool, true, false, not, ◌&&◌, ◌||◌, nat_eq, nat_lt, inl, inr, refl, subst, arith, cases_lt, nat_tests}
 use Rattle.std.specs.Prelude.{IsTrue}
-use Rattle.std.proofs.lemmas.Bool.{cases_lt}
-use Rattle.std.proofs.lemmas.Bool.Decides.{nat_tests}
 use Rattle.std.specs.Int.Bits.{bit_xor}
 use Rattle.cj_spans.proofs.text.numbers.stands_for_itself.Goals as goal
 
@@ -34,9 +32,7 @@ all_told = refl
 
 from : (x y z : Bool) → IsTrue x → not x || (y && not z) ≡ true → (y ≡ true) × (z ≡ false)
 from true true false t h = (refl, refl)
-from true true true t h = cc
-from true false z t h = cc
-from false y z t h = cc
+from _ _ _ t h = cc
 
 below : (b : ℕ) → nat_lt b 128 ≡ true → b < 128
 below b h = grind (arith, nat_tests)

@@ -1,6 +1,4 @@
-use Rattle.std.proofs.Common.{◌≡◌}
-use Rattle.cj_spans.specs.inner.Decoding.{code_points_left}
-use Rattle.cj_spans.specs.Tail.{tail_on}
+use Rattle.cj_spans.proofs.Common.{◌≡◌, code_points_left, tail_on}
 use Rattle.cj_spans.proofs.text.numbers.tail.Given as goal
 
 abbrev pub invariant-loop-point : goal.invariant-loop-point

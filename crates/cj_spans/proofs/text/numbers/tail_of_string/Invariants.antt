@@ -1,7 +1,4 @@
-use Rattle.std.proofs.Common.{◌≡◌, Some}
-use Rattle.std.specs.Str.{chars}
-use Rattle.cj_spans.specs.Tail.{tail_on, tail_of}
-use Rattle.cj_spans.specs.inner.Decoding.{characters_left}
+use Rattle.cj_spans.proofs.Common.{◌≡◌, Some, chars, tail_on, tail_of, characters_left}
 use Rattle.cj_spans.proofs.text.numbers.tail_of_string.Given as goal
 
 abbrev pub invariant-loop-character : goal.invariant-loop-character

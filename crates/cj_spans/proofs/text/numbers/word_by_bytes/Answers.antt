@@ -1,5 +1,4 @@
-use Rattle.std.proofs.Common.{arith, refl}
-use Rattle.cj_spans.specs.inner.Decoding.{code_points_left}
+use Rattle.cj_spans.proofs.Common.{arith, refl, code_points_left}
 use Rattle.cj_spans.proofs.Words.{digits_below, digits_end, digits_plain, word_fits}
 use Rattle.cj_spans.proofs.text.numbers.word_by_bytes.Goals as goal
 

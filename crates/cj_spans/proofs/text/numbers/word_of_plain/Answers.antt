@@ -1,4 +1,4 @@
-use Rattle.std.proofs.Common.{sym, ◌∙◌}
+use Rattle.cj_spans.proofs.Common.{sym, ◌∙◌}
 use Rattle.cj_spans.proofs.Words.{plain_word}
 use Rattle.cj_spans.proofs.text.numbers.word_of_plain.Goals as goal
 

@@ -1,6 +1,4 @@
-use Rattle.std.proofs.Common.{◌≡◌, ◌+◌}
-use Rattle.cj_spans.specs.inner.Decoding.{code_points_left}
-use Rattle.cj_spans.specs.Order.{digits}
+use Rattle.cj_spans.proofs.Common.{◌≡◌, ◌+◌, code_points_left, digits}
 use Rattle.cj_spans.proofs.text.numbers.word_on.Given as goal
 
 abbrev pub invariant-loop-point : goal.invariant-loop-point

@@ -1,4 +1,4 @@
-use Rattle.std.proofs.Common.{rules, ap, length}
+use Rattle.cj_spans.proofs.Common.{rules, ap, length}
 use Rattle.cj_spans.proofs.Texts.{characters_step}
 use Rattle.cj_spans.proofs.text.decode.CharactersIterator.next.Goals as goal
 

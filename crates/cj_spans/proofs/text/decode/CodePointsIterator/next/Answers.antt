@@ -1,4 +1,4 @@
-use Rattle.std.proofs.Common.{rules, ap, length}
+use Rattle.cj_spans.proofs.Common.{rules, ap, length}
 use Rattle.cj_spans.proofs.Texts.{points_step, points_done}
 use Rattle.cj_spans.proofs.text.decode.CodePointsIterator.next.Goals as goal
 
