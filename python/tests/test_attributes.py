@@ -2,12 +2,15 @@
 import json
 import random
 import sqlite3
+import tempfile
 import unittest
 from contextlib import closing
 from decimal import Decimal
+from unittest import mock
 
 import cityseq
-from cityseq import OutOfDate, ReadFault, RequestError
+from cityseq import OutOfDate, ReadFault, RequestError, WriteFault
+from cityseq.attributes import columns
 from cityseq.attributes.values import columns_of, members, rows_of
 
 from .support import HEADER, InFolder, command
@@ -59,7 +62,8 @@ def line(name, attributes="", kind="Building"):
     """A feature, whose main city object has attributes as they are spelled."""
     told = f'"attributes":{attributes},' if attributes else ""
     return (
-        f'{{"type":"CityJSONFeature","id":"{name}","CityObjects":{{"{name}":{{"type":"{kind}",{told}'
+        f'{{"type":"CityJSONFeature","id":"{name}","CityObjects":{{"{name}":{{"type":"{kind}",'
+        f"{told}"
         f'"geometry":[{{"type":"MultiSurface","lod":"2.2","boundaries":[[[0,1,2]]]}}]}}}},'
         '"vertices":[[0,0,0],[1000,0,0],[1000,1000,0]]}\n'
     ).encode("utf-8", "surrogatepass")
@@ -238,10 +242,10 @@ class Indexed(InFolder):
             self.assertEqual(base.execute("PRAGMA integrity_check").fetchall(), [("ok",)])
             cursor = base.execute("SELECT * FROM features ORDER BY fid")
             types = {row[1]: row[2] for row in base.execute("PRAGMA table_info(features)")}
-            columns = zip(*cursor.fetchall())
+            found = zip(*cursor.fetchall())
             return {
                 told[0]: (types[told[0]], list(column))
-                for told, column in zip(cursor.description, columns)
+                for told, column in zip(cursor.description, found)
             }
 
     def selected(self, where, **more):
@@ -305,8 +309,9 @@ class Indexed(InFolder):
 
     def test_only_the_main_city_object_counts(self):
         text = (
-            b'{"type":"CityJSONFeature","id":"b","CityObjects":{"p":{"type":"BuildingPart","parents":["b"],'
-            b'"attributes":{"v":1}},"\\u0062":{"type":"Building","children":["p"],"attributes":{"v":2}}},'
+            b'{"type":"CityJSONFeature","id":"b","CityObjects":{"p":{"type":"BuildingPart",'
+            b'"parents":["b"],"attributes":{"v":1}},"\\u0062":{"type":"Building",'
+            b'"children":["p"],"attributes":{"v":2}}},'
             b'"vertices":[]}\n'
         )
         path, index = self.file(HEADER + text), self.folder / "i.gpkg"
@@ -404,6 +409,19 @@ class Indexed(InFolder):
                 self.indexed(*more, '{"one more":1}', part_size=size)
             names = sorted(path.name for path in self.folder.iterdir())
             self.assertEqual(names, ["i.gpkg", "stream.city.jsonl"])
+
+    def test_many_spellings_and_no_room_for_them(self):
+        values = ["1.50"] * 300 + ["true"] * 300
+        with mock.patch.object(columns, "HELD", 100):
+            kind, found = self.column(*values, '"a"', part_size=5_000)
+        self.assertEqual((kind, found), ("TEXT", [*values, "a"]))
+        with mock.patch.object(tempfile, "SpooledTemporaryFile") as made:
+            made.return_value.write.side_effect = OSError(28, "No space left on device")
+            with self.assertRaisesRegex(WriteFault, "No space left on device"):
+                self.column(*values)
+        self.assertEqual(
+            sorted(each.name for each in self.folder.iterdir()), ["i.gpkg", "stream.city.jsonl"]
+        )
 
     def test_other_columns_and_tables_are_those_of_an_index_without(self):
         given = ['{"v":%d}' % number for number in range(40)] + ["{}"] * 3

@@ -9,10 +9,11 @@ import re
 import sqlite3
 import tempfile
 from collections.abc import Iterable, Iterator, Mapping, Sequence
+from contextlib import suppress
 from dataclasses import dataclass, field
 from typing import Any, NamedTuple
 
-from ..engine.faults import RequestError
+from ..engine.faults import RequestError, write_fault
 from ..engine.records import Column, Same, stored
 from ..indexes import geopackage
 from ..indexes.geopackage import ATTRIBUTES, readable
@@ -71,16 +72,19 @@ class ColumnNames:
 
     def __init__(self, taken: Iterable[str]) -> None:
         self._taken = {name.casefold() for name in taken}
+        self._numbers: dict[str, int] = {}  # the last one for a name
 
     def new(self, name: str) -> str:
         """Returns the name of the column for an attribute, and takes it. If it is taken, `_2` or a
         higher number follows it."""
         text = readable(name)[:LONGEST].strip() or "attribute"
-        made, number = text, 1
+        key, made = text.casefold(), text
+        number = self._numbers.get(key, 1)
         while made.casefold() in self._taken:
             number += 1
             made = f"{text}_{number}"
         self._taken.add(made.casefold())
+        self._numbers[key] = number
         return made
 
 
@@ -206,24 +210,36 @@ class Spellings:
         self._file: Any = None
 
     def add(self, attribute: int, fid: int, spelled: str) -> None:
-        """Keeps how the value of a feature is spelled."""
-        if self._file is None:
-            self._file = tempfile.SpooledTemporaryFile(HELD, "w+", encoding="ascii", newline="\n")
-        self._file.write(f"{attribute} {fid} {spelled}\n")
+        """Keeps how the value of a feature is spelled.
+
+        Raises:
+            WriteFault: The folder of temporary files takes no more.
+        """
+        try:
+            if self._file is None:
+                self._file = tempfile.SpooledTemporaryFile(HELD, "w+", encoding="ascii")
+            self._file.write(f"{attribute} {fid} {spelled}\n")
+        except OSError as fault:
+            raise write_fault(fault, tempfile.gettempdir()) from fault
 
     def of(self, attribute: int) -> Iterator[tuple[str, int]]:
         """Yields how values of an attribute are spelled, and the features."""
-        if self._file is not None:
+        if self._file is None:
+            return
+        try:
             self._file.seek(0)
             for line in self._file:
-                number, fid, spelled = line.rstrip("\n").split(" ")
+                number, fid, spelled = line.split()
                 if int(number) == attribute:
                     yield spelled, int(fid)
+        except OSError as fault:
+            raise write_fault(fault, tempfile.gettempdir()) from fault
 
     def close(self) -> None:
         """Removes the file."""
         if self._file is not None:
-            self._file.close()
+            with suppress(OSError):  # it writes what waits
+                self._file.close()
 
 
 class AttributeColumns:
