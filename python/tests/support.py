@@ -1,5 +1,6 @@
 """What the tests share: the vectors with what has to come of them, small lines, and streams made by
 chance."""
+import contextlib
 import gzip
 import io
 import os
@@ -205,6 +206,17 @@ def command(*words, given=b"", coding="utf-8", **more):
         **more,
     )
     return ran.stdout, ran.stderr.decode("utf-8", "replace"), ran.returncode
+
+
+def ran(*words):
+    """What the command writes, says and answers if it runs in this process."""
+    from cityseq.cli.main import main
+
+    out, said = io.TextIOWrapper(io.BytesIO()), io.StringIO()
+    with contextlib.redirect_stdout(out), contextlib.redirect_stderr(said):
+        status = main(list(map(str, words)))
+    out.flush()
+    return out.buffer.getvalue(), said.getvalue(), status
 
 
 def program(*words, given=b""):

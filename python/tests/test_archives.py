@@ -22,7 +22,7 @@ from cityseq.run.archives import packed_name
 from cityseq.sources.packed import BLOCK, LAST, Packing, Unpacker, pack
 
 from .serving import MISSING, Serving
-from .support import HEADER, ROOT, InFolder, command, feature, heed_interrupts, unfinished
+from .support import HEADER, ROOT, InFolder, command, feature, heed_interrupts, ran, unfinished
 from .test_packed import blocks
 from .test_web import Handler, Server
 
@@ -436,10 +436,10 @@ class Packs(Archives):
 class Verifies(Archives):
     """`pack --verify`, and archives that are cut short."""
 
-    def said(self, made, name="x.gz"):
+    def said(self, made, name="x.gz", by=command):
         path = self.folder / name
         path.write_bytes(made)
-        output, said, status = command("pack", "--verify", str(path))
+        output, said, status = by("pack", "--verify", str(path))
         return (output.decode() + said).replace(f"{path}: ", "").rstrip("\n"), status
 
     def test_whole_archives(self):
@@ -470,7 +470,7 @@ class Verifies(Archives):
             rotten = bytearray(made)
             rotten[place] ^= 4
             with self.subTest(place=place):
-                self.assertEqual(self.said(bytes(rotten))[1], 3)
+                self.assertEqual(self.said(bytes(rotten), by=ran)[1], 3)
 
     def test_each_command_sees_that_the_last_block_is_missing(self):
         """After the last line, so that each line before has been judged."""

@@ -1,5 +1,4 @@
 """What a cluster could answer wrongly with no error, and folders that its workers write."""
-import contextlib
 import gzip
 import io
 import json
@@ -22,7 +21,7 @@ from cityseq.sources.ranges import RangeChunks, Sight, Sizes, begin
 
 from . import clusters, support
 from .clusters import WithCluster, distributed
-from .support import HEADER, InFolder, feature
+from .support import HEADER, InFolder, feature, ran
 
 if distributed is not None:
     import cityseq.dask
@@ -52,17 +51,6 @@ def right_engine():
 def say_little(size):
     """Runs on a worker, whose tasks for several parts then end with this many bytes of answers."""
     tasks.SENT = size
-
-
-def ran(*words):
-    """What the command writes, says and answers in this process."""
-    from cityseq.cli.main import main
-
-    out, said = io.TextIOWrapper(io.BytesIO()), io.StringIO()
-    with contextlib.redirect_stdout(out), contextlib.redirect_stderr(said):
-        status = main(list(map(str, words)))
-    out.flush()
-    return out.buffer.getvalue(), said.getvalue(), status
 
 
 def rss():
@@ -521,14 +509,14 @@ class Workers(InFolder):
             "from cityseq.cli.main import main\n"
             "raise SystemExit(main(['check', 'a', '--cluster', 'tcp://127.0.0.1:9']))\n"
         )
-        ran = subprocess.run(
+        done = subprocess.run(
             [sys.executable, "-W", "ignore", "-c", text],
             capture_output=True,
             text=True,
             env=clusters.settings(),
         )
         wanted = "there is no scheduler of Dask at tcp://127.0.0.1:9: OSError\n"
-        self.assertEqual((ran.stdout, ran.stderr, ran.returncode), ("", wanted, 2))
+        self.assertEqual((done.stdout, done.stderr, done.returncode), ("", wanted, 2))
 
     def test_no_worker_and_then_one(self):
         path = self.file(lines(10))

@@ -157,7 +157,7 @@ class Clusters(WithCluster):
         self.assertEqual(sorted(name for name in os.listdir(self.folder) if "part" in name), [])
 
     def test_a_worker_that_dies(self):
-        lasts = (4 if number % 1_000 == 999 else 3 for number in range(200_000))
+        lasts = (4 if number % 1_000 == 999 else 3 for number in range(80_000))
         path = self.file(HEADER + b"".join(feature("b", last=last) for last in lasts))
         here, killed = cityseq.check(path, keep_going=True), []
 
@@ -171,7 +171,7 @@ class Clusters(WithCluster):
             self.client,
             path,
             keep_going=True,
-            part_size=200_000,
+            part_size=80_000,
             on_report=lambda report: (told.append(report), kill(report)),
         )
         self.assertEqual(
