@@ -53,8 +53,6 @@ order : (k : ℕ) → k ≤ 1 → (s t : List ℕ) → length s ≡ length t →
     → weighed 256 s + k ≤ weighed 256 t → weighed 10 s + k ≤ weighed 10 t
 unfolding weighed
 order k one [] [] e hs ht l = l
-order k one [] (b ∷ t) e hs ht l = absurd (omega (arith, e))
-order k one (a ∷ s) [] e hs ht l = absurd (omega (arith, e))
 order k one (a ∷ s) (b ∷ t) e hs ht l =
     let n : length t ≡ length s = omega (arith, e) in
     let small = weighed_below 256 (omega arith) refl refl s hs.1 in
@@ -65,6 +63,7 @@ order k one (a ∷ s) (b ∷ t) e hs ht l =
     subst (λ i. 10 ^ length s * a + weighed 10 s + k ≤ 10 ^ i * b + weighed 10 t) (sym n)
     (step k one (10 ^ length s) (256 ^ length s) a b (weighed 256 s) (weighed 256 t) (weighed 10 s) (weighed 10 t) small
     other (weighed_below 10 (omega arith) refl refl s hs.1) (order k one s t (sym n) hs.1 ht.1) g)
+order k one _ _ e hs ht l = absurd (omega (arith, e))
 
 -- ---- eight digits
 
@@ -125,18 +124,17 @@ words_in_order v w a b x y h =
     omega (arith, o, m, n)
 
 -- eight digits as a word
-pub word_of_eight : (s : List ℕ) (m n : ℕ) → length s ≡ 8 → AllBelow 10 s → m ≡ little_endian s
+pub word_of_eight : (s : List ℕ) {m n : ℕ} → length s ≡ 8 → AllBelow 10 s → m ≡ little_endian s
     → digits_value (map (λ d. d + 48) s) ≡ n → IsWordOf (swap_bytes w64 m) n
-word_of_eight s m n l small is value = (s, l, small, ap (swap_bytes w64) is ∙ swapped s l small, sym value)
+word_of_eight s l small is value = (s, l, small, ap (swap_bytes w64) is ∙ swapped s l small, sym value)
 
 pub eight_of_word : (w n : ℕ) → IsWordOf w n → (s : List ℕ) × (length s ≡ 8) × AllBelow 10 s
     × (swap_bytes w64 w ≡ little_endian s) × (n ≡ digits_value (map (λ d. d + 48) s))
 eight_of_word w n h = (h.0, h.1, h.2, ap (swap_bytes w64) h.3 ∙ unswapped h.0 h.1 h.2, h.4)
 
-pub eight_room : (s : List ℕ) (m : ℕ) → length s ≡ 8 → AllBelow 10 s → m ≡ little_endian s → m < 2 ^ 60
-eight_room s m l =
-    eight (λ s. AllBelow 10 s → m ≡ little_endian s → m < 2 ^ 60)
-    (λ a b c d e f g h z is.
+pub eight_room : (s : List ℕ) {m : ℕ} → length s ≡ 8 → AllBelow 10 s → m ≡ little_endian s → m < 2 ^ 60
+eight_room s {m} l =
+    eight (λ s. AllBelow 10 s → m ≡ little_endian s → m < 2 ^ 60) (λ a b c d e f g h z is.
     omega (
       arith,
       is,
@@ -187,9 +185,9 @@ word_small w n h =
     omega (arith, m, b, p)
 
 -- digits that have a word are a short number
-pub word_short : (s : List ℕ) (w n : ℕ) → IsInt s → IsWordOf w (digits_value s) → n ≡ digits_value s → IsShort s n
-word_short s w n int word is =
-    int_short s n int is (subst (λ k. k < 2 ^ 32) (sym is) (word_small w (digits_value s) word))
+pub word_short : (s : List ℕ) (w : ℕ) {n : ℕ} → IsInt s → IsWordOf w (digits_value s) → n ≡ digits_value s → IsShort s n
+word_short s w int word is =
+    int_short s int is (subst (λ k. k < 2 ^ 32) (sym is) (word_small w (digits_value s) word))
 
 -- the word of a number's digits has the number that reading it answers
 pub word_answer : (o : Option ℕ) (s : List ℕ) → (IsSome o → IsInt s) → IfSome o (λ w. IsWordOf w (digits_value s))
@@ -198,7 +196,7 @@ word_answer None s int word = word
 word_answer (Some w) s int word = (
   digits_value s,
   word,
-  λ c. answer_digits s (digits_value s) c (word_short s w (digits_value s) (int refl) word refl),
+  λ c. answer_digits s (digits_value s) c (word_short s w {n = digits_value s} (int refl) word refl),
 )
 
 -- ---- what a word of a count tells
@@ -250,8 +248,8 @@ spelled n a b c d e f g word small ia ib ic id ie if ig is =
     )
 
 -- the word of digits that spell less than a count is below that of the count
-pub word_below : (w m word n : ℕ) → IsWordOf w m → IsCountWord word n → m < n → w < word
-word_below w m word n is count less =
+pub word_below : (w m : ℕ) {word n : ℕ} → IsWordOf w m → IsCountWord word n → m < n → w < word
+word_below w m {word} {n} is count less =
     elim (cases_lt n 100000000) [
       | inl few ↦ elim (cases_lt w word) [
         | inl below ↦ below

@@ -13,7 +13,7 @@ use Rattle.cj_decimal.proofs.Grammar.{spells_test, test_spells}
 use Rattle.cj_decimal.proofs.Law.{has_one_value}
 use Rattle.cj_decimal.proofs.Scales.{units_below, units_are, units_same}
 
-module _ (s : List ℕ) (v : Number) (value : IsValue s v) where
+module _ {s : List ℕ} {v : Number} (value : IsValue s v) where
   -- a number in range, by its size as a whole number
   by_size : IsInRange v → (k : ℕ) → v.power ≡ pos k → (small : Bool)
       → ltb (unsigned_abs (v.coefficient *ℤ pos (10 ^ k))) (10 ^ 18) ≡ small → Class s
@@ -76,7 +76,7 @@ module _ (s : List ℕ) (v : Number) (value : IsValue s v) where
 by_test : (s : List ℕ) (test : Bool) → is_number s ≡ test → Class s
 by_test s true e =
     let has = (has_one_value s).has (written_of s, test_spells s e) in
-    by_value s has.0 has.1
+    by_value has.1
 by_test s false e = no_number (λ n. clash (sym (spells_test s n.0 n.1).0 ∙ e))
   where
     clash : ◌≡◌ {A = Bool} true false → ⊥

@@ -42,9 +42,9 @@ record IsCut (s kept : List ℕ) : Type 0 where
   joined : s ≡ kept ++ zeros many
   ends : EndsWell kept
 
-cut_before : (b : ℕ) (s kept : List ℕ) → IsCut s kept → IsCut (b ∷ s) (put_before b kept)
+cut_before : (b : ℕ) {s : List ℕ} (kept : List ℕ) → IsCut s kept → IsCut (b ∷ s) (put_before b kept)
 unfolding zeros
-cut_before b s [] h =
+cut_before b {s} [] h =
     elim (nat_eq b 48) as (λ t. nat_eq b 48 ≡ t → IsCut (b ∷ s) (cond t [] (b ∷ []))) [
       | true ↦ λ e.
           let same : b ≡ 48 = grind (arith, nat_tests) in
@@ -53,12 +53,12 @@ cut_before b s [] h =
           let other : b ≢ 48 = grind (arith, nat_tests) in
           record { many = h.many; joined = ap (λ r. b ∷ r) h.joined; ends = other }
     ] refl
-cut_before b s (d ∷ r) h = record { many = h.many; joined = ap (λ r. b ∷ r) h.joined; ends = h.ends }
+cut_before b (d ∷ r) h = record { many = h.many; joined = ap (λ r. b ∷ r) h.joined; ends = h.ends }
 
 cut : (s : List ℕ) → IsCut s (without_zeros s)
 unfolding zeros
 cut [] = record { many = 0; joined = refl; ends = tt }
-cut (b ∷ s) = cut_before b s (without_zeros s) (cut s)
+cut (b ∷ s) = cut_before b (without_zeros s) (cut s)
 
 zeros_after : (n k : ℕ) → value_after n (zeros k) ≡ n * 10 ^ k
 unfolding zeros
@@ -92,33 +92,33 @@ ends_above n b [] d e =
     last n x p q = omega arith
 ends_above n b (c ∷ s) d e = ends_above (10 * n + (b - 48)) c s d.1 e
 
-cut_value : (s kept : List ℕ) → (h : IsCut s kept) → digits_value s ≡ digits_value kept * 10 ^ h.many
-cut_value s kept h =
+cut_value : {s kept : List ℕ} → (h : IsCut s kept) → digits_value s ≡ digits_value kept * 10 ^ h.many
+cut_value {kept} h =
     ap digits_value h.joined ∙ value_append 0 kept (zeros h.many) ∙ zeros_after (digits_value kept) h.many
 
 length_both : (xs ys : List ℕ) → length (xs ++ ys) ≡ length xs + length ys
 length_both [] ys = omega arith
 length_both (x ∷ xs) ys = let more = length_both xs ys in omega arith
 
-cut_length : (s kept : List ℕ) → (h : IsCut s kept) → length s ≡ length kept + h.many
-cut_length s kept h =
+cut_length : {s kept : List ℕ} → (h : IsCut s kept) → length s ≡ length kept + h.many
+cut_length {kept} h =
     ap length h.joined ∙ length_both kept (zeros h.many) ∙ ap (λ k. length kept + k) (zeros_length h.many)
 
 -- ---- the number in normal form
 
-module _ (negative : Bool) (s : List ℕ) (p e : ℤ) (digits : AllDigits s) (place : e ≡ p +ℤ pos (length s)) where
+module _ (negative : Bool) {s : List ℕ} (p e : ℤ) (digits : AllDigits s) (place : e ≡ p +ℤ pos (length s)) where
   is_normal : (kept : List ℕ) → IsCut s kept
       → SameValue (scaled (signed negative (digits_value s)) p) (number_after negative e kept)
       × IsNormal (number_after negative e kept)
-  is_normal [] h = (zero_same negative (digits_value s) p (cut_value s [] h ∙ none (10 ^ h.many)), zero_normal)
+  is_normal [] h = (zero_same negative (digits_value s) p (cut_value h ∙ none (10 ^ h.many)), zero_normal)
     where
       none : (k : ℕ) → 0 * k ≡ 0
       none k = omega arith
   is_normal (b ∷ r) h =
-      let l = cut_length s (b ∷ r) h in
+      let l = cut_length h in
       let all : AllDigits (b ∷ r) = digits_left (b ∷ r) (zeros h.many) (subst AllDigits h.joined digits) in (
-        trimmed_same negative (digits_value s) (digits_value (b ∷ r)) h.many p (e -ℤ pos (length (b ∷ r)))
-            (cut_value s (b ∷ r) h) (omega (arith, ints, place, l)),
+        trimmed_same negative (digits_value (b ∷ r)) h.many p (e -ℤ pos (length (b ∷ r)))
+            (cut_value h) (omega (arith, ints, place, l)),
         trimmed_normal negative (digits_value (b ∷ r)) (e -ℤ pos (length (b ∷ r))) (ends_above 0 b r all h.ends),
       )
 
@@ -130,24 +130,23 @@ frac_digits_all : (digits s : List ℕ) → IsFrac digits s → AllDigits digits
 frac_digits_all digits s (inl none) = subst AllDigits (sym none.0) tt
 frac_digits_all digits s (inr some) = all_digits digits some.0
 
-written_digits : (s : List ℕ) (n : Written) → Spells s n → AllDigits (n.int ++ n.frac)
-written_digits s n h =
+written_digits : {s : List ℕ} {n : Written} → Spells s n → AllDigits (n.int ++ n.frac)
+written_digits {n} h =
     digits_both n.int n.frac (int_digits n.int h.int_is) (frac_digits_all n.frac h.fraction h.frac_is)
 
 -- a number of the grammar has the value that is read
-value_is : (s : List ℕ) (n : Written) → Spells s n → IsValue s (normal_of n)
-value_is s n h =
+value_is : {s : List ℕ} {n : Written} → Spells s n → IsValue s (normal_of n)
+value_is {n} h =
     let digits = n.int ++ n.frac in
     let l = length_both n.int n.frac in
-    let both = is_normal n.negative digits (n.exponent -ℤ pos (length n.frac)) (n.exponent +ℤ pos (length n.int))
-    (written_digits s n h) (omega (arith, ints, l)) (without_zeros digits) (cut digits) in
+    let both = is_normal n.negative (n.exponent -ℤ pos (length n.frac)) (n.exponent +ℤ pos (length n.int))
+    (written_digits h) (omega (arith, ints, l)) (without_zeros digits) (cut digits) in
     record { written = n; spells = h; same = both.0; normal = both.1 }
 
 -- ---- the range
 
-in_range_test : (n : Number) → IsInRange n → is_in_range n ≡ true
-in_range_test n r =
-    let few = r.digits in
+in_range_test : {n : Number} → IsInRange n → is_in_range n ≡ true
+in_range_test {n} r =
     let near : unsigned_abs n.power ≤ 1000000 = omega (arith, ints, r.power_low, r.power_high) in
     let short : nat_lt (unsigned_abs n.coefficient) (10 ^ 36) ≡ true = grind (arith, nat_tests) in
     let close : nat_le (unsigned_abs n.power) 1000000 ≡ true = grind (arith, nat_tests) in
@@ -176,9 +175,9 @@ unfolding decimal_of
 decimal_is s v is range =
     let test = (spells_test s is.written is.spells).0 in
     let same : normal_of (written_of s) ≡ v =
-    (has_one_value s).one (normal_of (written_of s)) v (value_is s (written_of s) (test_spells s test)) is in
+    (has_one_value s).one (normal_of (written_of s)) v (value_is (test_spells s test)) is in
     ap (λ b. cond b (ranged (normal_of (written_of s))) (Err NotANumber)) test ∙ ap ranged same
-    ∙ ap (λ b. cond b (Ok v) (Err NumberRange)) (in_range_test v range)
+    ∙ ap (λ b. cond b (Ok v) (Err NumberRange)) (in_range_test range)
 
 decimal_out : (s : List ℕ) → IsNumberOutOfRange s → decimal_of s ≡ Err NumberRange
 unfolding decimal_of
@@ -187,7 +186,7 @@ decimal_out s o =
     let is = o.1 in
     let test = (spells_test s is.written is.spells).0 in
     let same : normal_of (written_of s) ≡ v =
-    (has_one_value s).one (normal_of (written_of s)) v (value_is s (written_of s) (test_spells s test)) is in
+    (has_one_value s).one (normal_of (written_of s)) v (value_is (test_spells s test)) is in
     ap (λ b. cond b (ranged (normal_of (written_of s))) (Err NotANumber)) test ∙ ap ranged same
     ∙ ap (λ b. cond b (Ok v) (Err NumberRange)) (out_of_range_test v o.2)
 
@@ -199,22 +198,22 @@ decimal_none s n = go (is_number s) refl
     go true e = absurd (n (written_of s, test_spells s e))
     go false e = refl
 
-pub decimal_class : (s : List ℕ) (c : Class s) → decimal_of s ≡ value_answer c
-decimal_class s (no_number n) = decimal_none s n
-decimal_class s (out_of_range n) = decimal_out s n
-decimal_class s (not_whole v value range n) = decimal_is s v value range
-decimal_class s (whole v w value range is) = decimal_is s v value range
+pub decimal_class : {s : List ℕ} (c : Class s) → decimal_of s ≡ value_answer c
+decimal_class {s} (no_number n) = decimal_none s n
+decimal_class {s} (out_of_range n) = decimal_out s n
+decimal_class {s} (not_whole v value range n) = decimal_is s v value range
+decimal_class {s} (whole v w value range is) = decimal_is s v value range
 
 -- ---- as a whole number
 
 module _ (v : Number) (normal : IsNormal v) where
-  whole_at : (p : ℤ) → v.power ≡ p → (w : ℤ) → IsWhole v w → whole_by v.coefficient p ≡ Some w
-  whole_at (pos k) e w is =
+  whole_at : (p : ℤ) → v.power ≡ p → {w : ℤ} → IsWhole v w → whole_by v.coefficient p ≡ Some w
+  whole_at (pos k) e {w} is =
       let same : w ≡ v.coefficient *ℤ pos (10 ^ k) = units_are v w (pos 0) k (omega (arith, ints, e)) is.same in
       let below : unsigned_abs (v.coefficient *ℤ pos (10 ^ k)) < 10 ^ 18 = rw (← same) is.small in
       let yes : nat_lt (unsigned_abs (v.coefficient *ℤ pos (10 ^ k))) (10 ^ 18) ≡ true = grind (arith, nat_tests) in
       ap (λ b. cond b (Some (v.coefficient *ℤ pos (10 ^ k))) None) yes ∙ ap Some (sym same)
-  whole_at (negsuc k) e w is =
+  whole_at (negsuc k) e {w} is =
       absurd (units_below v w (pos 0) normal is.same (omega (arith, ints, e)) (omega (arith, ints)))
 
   at_whole : (p : ℤ) → v.power ≡ p → (w : ℤ) → whole_by v.coefficient p ≡ Some w → IsWhole v w
@@ -232,8 +231,8 @@ module _ (v : Number) (normal : IsNormal v) where
       go false t h = absurd (cc h)
   at_whole (negsuc k) e w h = absurd (cc h)
 
-  pub whole_is : (w : ℤ) → IsWhole v w → as_whole v ≡ Some w
-  whole_is w is = whole_at v.power refl w is
+  pub whole_is : {w : ℤ} → IsWhole v w → as_whole v ≡ Some w
+  whole_is is = whole_at v.power refl is
 
   pub is_whole : (w : ℤ) → as_whole v ≡ Some w → IsWhole v w
   is_whole w h = at_whole v.power refl w h
@@ -252,7 +251,7 @@ whole_class s (out_of_range n) = ap whole_answer_by (decimal_out s n)
 whole_class s (not_whole v value range n) =
     ap whole_answer_by (decimal_is s v value range) ∙ ap Ok (part_is v value.normal n)
 whole_class s (whole v w value range is) =
-    ap whole_answer_by (decimal_is s v value range) ∙ ap Ok (whole_is v value.normal w is)
+    ap whole_answer_by (decimal_is s v value range) ∙ ap Ok (whole_is v value.normal is)
 
 -- a number of a spelling is its value, and in range
 pub decimal_has : (s : List ℕ) (v : Number) → decimal_of s ≡ Ok v → IsValue s v × IsInRange v
@@ -269,5 +268,5 @@ decimal_has s v h = by_test (is_number s) refl h
         → IsValue s v × IsInRange v
     by_test true e h =
         by_range (normal_of (written_of s)) (is_in_range (normal_of (written_of s))) refl
-        (value_is s (written_of s) (test_spells s e)) h
+        (value_is (test_spells s e)) h
     by_test false e h = absurd (cc h)

@@ -163,16 +163,8 @@ clear_word (suc j) (b ∷ s) h =
 -- a list of eight
 pub eight : (P : List ℕ → Type 0) → ((a b c d e f g h : ℕ) → P (a ∷ b ∷ c ∷ d ∷ e ∷ f ∷ g ∷ h ∷ [])) → (s : List ℕ)
     → length s ≡ 8 → P s
-eight P each [] l = absurd (omega (arith, l))
-eight P each (a ∷ []) l = absurd (omega (arith, l))
-eight P each (a ∷ b ∷ []) l = absurd (omega (arith, l))
-eight P each (a ∷ b ∷ c ∷ []) l = absurd (omega (arith, l))
-eight P each (a ∷ b ∷ c ∷ d ∷ []) l = absurd (omega (arith, l))
-eight P each (a ∷ b ∷ c ∷ d ∷ e ∷ []) l = absurd (omega (arith, l))
-eight P each (a ∷ b ∷ c ∷ d ∷ e ∷ f ∷ []) l = absurd (omega (arith, l))
-eight P each (a ∷ b ∷ c ∷ d ∷ e ∷ f ∷ g ∷ []) l = absurd (omega (arith, l))
 eight P each (a ∷ b ∷ c ∷ d ∷ e ∷ f ∷ g ∷ h ∷ []) l = each a b c d e f g h
-eight P each (a ∷ b ∷ c ∷ d ∷ e ∷ f ∷ g ∷ h ∷ i ∷ s) l = absurd (omega (arith, l))
+eight _ each _ l = absurd (omega (arith, l))
 
 word_below : (s : List ℕ) → length s ≡ 8 → AllBelow 256 s → little_endian s < 2 ^ 64
 word_below s l =
@@ -198,13 +190,13 @@ two_bytes n =
     omega (arith, all, block, high, low)
 
 -- the number of some pairs of digits, of which each second one counts
-of_pairs : (n p q r s t u v w : ℕ)
+of_pairs : {n : ℕ} (p q r s t u v w : ℕ)
     → n ≡ p + 256 * (q + 256 * (r + 256 * (s + 256 * (t + 256 * (u + 256 * (v + 256 * w)))))) → p < 100 → q < 100
     → r < 100 → s < 100 → t < 100 → u < 100 → v < 100 → w < 100
     → (bit_and n 0x000000ff000000ff * 4294967296000100 % 2 ^ 64
     + bit_and (n / 2 ^ 16) 0x000000ff000000ff * 42949672960001 % 2 ^ 64) % 2 ^ 64 / 2 ^ 32 ≡ p * 1000000 + r * 10000
     + t * 100 + v
-of_pairs n p q r s t u v w e lp lq lr ls lt lu lv lw =
+of_pairs {n} p q r s t u v w e lp lq lr ls lt lu lv lw =
     let first = two_bytes n in
     let second = two_bytes (n / 2 ^ 16) in
     let p_is : n % 256 ≡ p = omega arith in
@@ -260,7 +252,7 @@ value_eight s l = eight P each s l
     each a b c d e f g h z w n is answer =
         let la = z.0 in let lb = z.1.0 in let lc = z.1.1.0 in let ld = z.1.1.1.0 in let le = z.1.1.1.1.0 in
         let lf = z.1.1.1.1.1.0 in let lg = z.1.1.1.1.1.1.0 in let lh = z.1.1.1.1.1.1.1.0 in
-        let value = of_pairs (w * 10 + w / 2 ^ 8) (10 * a + b) (10 * b + c) (10 * c + d) (10 * d + e) (10 * e + f)
+        let value = of_pairs (10 * a + b) (10 * b + c) (10 * c + d) (10 * d + e) (10 * e + f)
         (10 * f + g) (10 * g + h) (10 * h) (pairs a b c d e f g h w la is) (omega arith) (omega arith) (omega arith)
         (omega arith) (omega arith) (omega arith) (omega arith) (omega arith) in
         sum a b c d e f g h n (answer ∙ value) ∙ sym (spelled_value 0 (a ∷ b ∷ c ∷ d ∷ e ∷ f ∷ g ∷ h ∷ []))
@@ -269,9 +261,8 @@ value_eight s l = eight P each s l
 
 length_clear : (j : ℕ) (s : List ℕ) → length (clear j s) ≡ length s
 unfolding clear
-length_clear zero s = refl
-length_clear (suc j) [] = refl
 length_clear (suc j) (b ∷ s) = ap suc (length_clear j s)
+length_clear _ _ = refl
 
 clear_below : (j : ℕ) (s : List ℕ) → AllBelow 256 s → AllBelow 256 (clear j s)
 unfolding clear
@@ -326,10 +317,9 @@ digit_small b low high = let t : not (nat_le 48 b && nat_le b 57) || nat_le (bit
 
 digits_small : (j : ℕ) (s : List ℕ) → AllDigits (drop j s) → AllBelow 10 (clear j (without_zeros s))
 unfolding clear without_zeros
-digits_small zero [] d = tt
 digits_small zero (b ∷ s) d = (digit_small b d.0.0 d.0.1, digits_small zero s d.1)
-digits_small (suc j) [] d = tt
 digits_small (suc j) (b ∷ s) d = (omega arith, digits_small j s d)
+digits_small _ _ d = tt
 
 -- of the bytes in a number of JSON those below 16 are digits
 low_digit : (b : ℕ) → IsDigit b ⊎ (16 ≤ bit_xor b 48) → bit_xor b 48 < 16 → bit_xor b 48 < 10
@@ -339,19 +329,17 @@ low_digit b (inr high) low = absurd (omega (arith, high, low))
 low_digits : (j : ℕ) (s : List ℕ) → NumberBytes (drop j s) → AllBelow 16 (clear j (without_zeros s))
     → AllBelow 10 (clear j (without_zeros s))
 unfolding clear without_zeros
-low_digits zero [] h z = tt
 low_digits zero (b ∷ s) h z = (low_digit b h.0 z.0, low_digits zero s h.1 z.1)
-low_digits (suc j) [] h z = tt
 low_digits (suc j) (b ∷ s) h z = (omega arith, low_digits j s h z.1)
+low_digits _ _ h z = tt
 
 -- the first byte at the end of eight, if each of them is low there
 first_begun : (j : ℕ) (s : List ℕ) → j < length s → AllBelow 256 s → AllBelow 16 (clear j (without_zeros s))
     → (45 ≤ get_or (drop j s) 0 0) × (get_or (drop j s) 0 0 < 64)
 unfolding clear without_zeros
-first_begun zero [] l h z = absurd (omega (arith, l))
 first_begun zero (b ∷ s) l h z = begun b h.0 z.0
-first_begun (suc j) [] l h z = absurd (omega (arith, l))
 first_begun (suc j) (b ∷ s) l h z = first_begun j s (omega (arith, l)) h.1 z.1
+first_begun _ _ l h z = absurd (omega (arith, l))
 
 low_of : (b : ℕ) → b < 16 → bit_and b 240 ≡ 0
 low_of b l = let e : bit_and b (2 ^ 8 - 2 ^ 4) ≡ b / 2 ^ 4 * 2 ^ 4 = and_high_mask 8 4 (omega arith) b (omega arith) in
@@ -373,7 +361,7 @@ no_nibbles s e h =
     ap (bit_and (little_endian s)) (sym high ∙ ap (λ n. little_endian (copies n 240)) (sym e)) ∙ same ∙ all_low s h
 
 -- the word that is tested, and what its test says of the bytes
-module _ (j : ℕ) (s : List ℕ) (w m : ℕ) (lj : j ≤ 8) (ls : length s ≡ 8) (h : AllBelow 256 s) (is : w ≡ little_endian s)
+module _ (j : ℕ) (s : List ℕ) {w : ℕ} (m : ℕ) (lj : j ≤ 8) (ls : length s ≡ 8) (h : AllBelow 256 s) (is : w ≡ little_endian s)
     (word : m ≡ bit_and (bit_xor w 0x3030303030303030) (2 ^ 64 - 2 ^ (8 * j))) where
   tested_length : length (clear j (without_zeros s)) ≡ 8
   unfolding without_zeros
@@ -419,9 +407,8 @@ module _ (j : ℕ) (s : List ℕ) (w m : ℕ) (lj : j ≤ 8) (ls : length s ≡ 
 -- ---- in a line
 
 below_front : (n : ℕ) (s : List ℕ) → AllBelow 256 s → AllBelow 256 (take n s)
-below_front zero s h = tt
-below_front (suc n) [] h = tt
 below_front (suc n) (b ∷ s) h = (h.0, below_front n s h.1)
+below_front _ _ h = tt
 
 below_rest : (n : ℕ) (s : List ℕ) → AllBelow 256 s → AllBelow 256 (drop n s)
 below_rest zero s h = h
@@ -457,13 +444,13 @@ is_zero : (n : ℕ) → n ≡ 0 → IsTrue (nat_eq n 0)
 is_zero n h = grind (arith, nat_tests)
 
 -- the test of a word: no bit is set in a high half
-pub low_each : (w : ℕ) (s : List ℕ) → length s ≡ 8 → AllBelow 256 s → w ≡ little_endian s
+pub low_each : {w : ℕ} (s : List ℕ) → length s ≡ 8 → AllBelow 256 s → w ≡ little_endian s
     → IsTrue (nat_eq (bit_and w 0xf0f0f0f0f0f0f0f0) 0) → AllBelow 16 s
-low_each w s e h is test = nibbles s e h (ap (λ v. bit_and v 0xf0f0f0f0f0f0f0f0) (sym is) ∙ zero_is _ test)
+low_each s e h is test = nibbles s e h (ap (λ v. bit_and v 0xf0f0f0f0f0f0f0f0) (sym is) ∙ zero_is _ test)
 
-pub passes_low : (w : ℕ) (s : List ℕ) → length s ≡ 8 → w ≡ little_endian s → AllBelow 16 s
+pub passes_low : {w : ℕ} (s : List ℕ) → length s ≡ 8 → w ≡ little_endian s → AllBelow 16 s
     → IsTrue (nat_eq (bit_and w 0xf0f0f0f0f0f0f0f0) 0)
-passes_low w s e is low = is_zero _ (ap (λ v. bit_and v 0xf0f0f0f0f0f0f0f0) is ∙ no_nibbles s e low)
+passes_low s e is low = is_zero _ (ap (λ v. bit_and v 0xf0f0f0f0f0f0f0f0) is ∙ no_nibbles s e low)
 
 -- ---- short numbers
 
@@ -476,9 +463,9 @@ int_filled [] int = absurd int
 int_filled (b ∷ t) int = omega arith
 
 -- an int alone is a short number
-pub int_short : (s : List ℕ) (n : ℕ) → IsInt s → n ≡ digits_value s → n < 2 ^ 32 → IsShort s n
+pub int_short : (s : List ℕ) {n : ℕ} → IsInt s → n ≡ digits_value s → n < 2 ^ 32 → IsShort s n
 unfolding begins_digit
-int_short s n int value small =
+int_short s int value small =
     let all = int_digits s int in
     let front : digits_front s ≡ s = ap digits_front (sym (append_nil s)) ∙ front_append s [] all refl in
     let tests = int_alone_reads s int in
@@ -491,10 +478,10 @@ first_is line start stop order = get_or-take (stop - start) (drop start line) 0 
 
 -- ---- behind a minus
 
-begins_first : (c : ℕ) (s : List ℕ) → 0 < length s → get_or s 0 0 ≡ c → begins c s ≡ true
+begins_first : {c : ℕ} (s : List ℕ) → 0 < length s → get_or s 0 0 ≡ c → begins c s ≡ true
 unfolding begins
-begins_first c [] l e = absurd (omega (arith, l))
-begins_first c (b ∷ t) l e = test b e
+begins_first [] l e = absurd (omega (arith, l))
+begins_first {c} (b ∷ t) l e = test b e
   where
     test : (b : ℕ) → b ≡ c → nat_eq b c ≡ true
     test b e = grind (arith, nat_tests)
@@ -503,7 +490,7 @@ pub minus_first : (line : List ℕ) (start stop : ℕ) → start < stop → stop
     → true ≡ begins 45 (slice_range line start stop)
 minus_first line start stop order within z =
     let l = length_slice line start stop within in
-    sym (begins_first 45 (slice_range line start stop) (omega (arith, l)) (first_is line start stop order ∙ z))
+    sym (begins_first (slice_range line start stop) (omega (arith, l)) (first_is line start stop order ∙ z))
 
 begins_not : (c : ℕ) (s : List ℕ) → (get_or s 0 0 ≡ c → ⊥) → begins c s ≡ false
 unfolding begins
@@ -526,22 +513,22 @@ body_behind line start stop order minus =
     minus_there s (sym minus) ∙ ap (λ k. drop 1 (take k (drop start line))) m
     ∙ drop-take 1 (stop - (start + 1)) (drop start line) ∙ ap (take (stop - (start + 1))) (drop-drop 1 start line)
 
-pub short_behind : (line : List ℕ) (start stop n : ℕ) → start < stop → true ≡ begins 45 (slice_range line start stop)
+pub short_behind : (line : List ℕ) (start stop : ℕ) {n : ℕ} → start < stop → true ≡ begins 45 (slice_range line start stop)
     → IsShort (slice_range line (start + 1) stop) n → IsShort (body (slice_range line start stop)) n
-short_behind line start stop n order minus short = let P : List ℕ → Type 0 = λ t. IsShort t n in
+short_behind line start stop {n} order minus short = let P : List ℕ → Type 0 = λ t. IsShort t n in
     subst P (sym (body_behind line start stop order minus)) short
 
 -- few digits, as a body and where they stand
-pub few_in : (line : List ℕ) (start stop : ℕ) (s : List ℕ) → s ≡ slice_range line start stop → stop ≤ length line
+pub few_in : (line : List ℕ) (start stop : ℕ) {s : List ℕ} → s ≡ slice_range line start stop → stop ≤ length line
     → stop ≤ start + 8 → IsInt (slice_range line start stop) → IsFewDigits s
-few_in line start stop s e within near int =
+few_in line start stop e within near int =
     let l = length_slice line start stop within in
     let few : IsFewDigits (slice_range line start stop) = (int, omega (arith, l)) in
     let P : List ℕ → Type 0 = λ t. IsFewDigits t in
     subst P (sym e) few
 
-pub int_in : (s t : List ℕ) → s ≡ t → IsFewDigits s → IsInt t
-int_in s t e few = let P : List ℕ → Type 0 = λ u. IsInt u in subst P e few.0
+pub int_in : {s t : List ℕ} → s ≡ t → IsFewDigits s → IsInt t
+int_in e few = let P : List ℕ → Type 0 = λ u. IsInt u in subst P e few.0
 
 pub no_int : (line : List ℕ) (start stop : ℕ) → stop ≤ start → IsInt (slice_range line start stop) → ⊥
 no_int line start stop h int =

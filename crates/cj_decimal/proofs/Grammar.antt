@@ -142,8 +142,8 @@ unfolding is_empty
 empty_from_test [] h = refl
 empty_from_test (b ∷ s) h = absurd (cc h)
 
-same_all_digits : (s t : List ℕ) → s ≡ t → AllDigits s → AllDigits t
-same_all_digits s t e d = let P : List ℕ → Type 0 = AllDigits in subst P e d
+same_all_digits : {s t : List ℕ} → s ≡ t → AllDigits s → AllDigits t
+same_all_digits e d = let P : List ℕ → Type 0 = AllDigits in subst P e d
 
 whole_from_test : (s : List ℕ) → is_whole_digits s ≡ true → IsDigits s
 unfolding is_whole_digits
@@ -151,7 +151,7 @@ whole_from_test s h =
     let none : digits_rest s ≡ [] = empty_from_test _ (both_right _ _ h) in
     let all : digits_front s ≡ s = sym (append_nil (digits_front s)) ∙ ap (λ r. digits_front s ++ r) (sym none)
     ∙ sym (front_rest s) in
-    digits_from_test s (both_left _ _ h) (same_all_digits _ _ all (front_all s))
+    digits_from_test s (both_left _ _ h) (same_all_digits all (front_all s))
 
 -- ---- the exponent
 sign_split : (negative : Bool) (sign digits : List ℕ) → IsExpSign negative sign → IsDigits digits
@@ -207,8 +207,8 @@ exp_test e t h = ⊎_elim
     ))
     h
 
-same_digits : (s t : List ℕ) → s ≡ t → IsDigits s → IsDigits t
-same_digits s t e d = let P : List ℕ → Type 0 = IsDigits in subst P e d
+same_digits : {s t : List ℕ} → s ≡ t → IsDigits s → IsDigits t
+same_digits e d = let P : List ℕ → Type 0 = IsDigits in subst P e d
 
 minus_parts : (b : ℕ) (t : List ℕ) → (b ≡ 101) ⊎ (b ≡ 69) → begins 45 t ≡ true → IsDigits (drop 1 t)
     → ExpParts (signed true (digits_value (drop 1 t))) (b ∷ t)
@@ -312,7 +312,7 @@ frac_test digits fraction exp h stop point =
 front_digits : (s : List ℕ) → begins_digit s ≡ true → IsDigits (digits_front s)
 unfolding begins_digit
 front_digits [] h = absurd (cc h)
-front_digits (b ∷ s) h = same_digits _ _ (sym (front_digit b s h)) (digit_bounds b h, front_all s)
+front_digits (b ∷ s) h = same_digits (sym (front_digit b s h)) (digit_bounds b h, front_all s)
 
 frac_by_point : (r : List ℕ) (point : Bool) → begins 46 r ≡ point → (not point || begins_digit (drop 1 r)) ≡ true
     → (fraction : List ℕ) × IsFrac (cond point (digits_front (drop 1 r)) []) fraction
@@ -342,10 +342,10 @@ sign_from_test : (s : List ℕ) (negative : Bool) → begins 45 s ≡ negative �
 sign_from_test s true e = (45 ∷ [], refl, begins_is 45 s e)
 sign_from_test s false e = ([], refl, refl)
 
-written_eq : (n : Written) (negative : Bool) (int frac : List ℕ) (exponent : ℤ) → negative ≡ n.negative → int ≡ n.int
+written_eq : (n : Written) {negative : Bool} (int frac : List ℕ) (exponent : ℤ) → negative ≡ n.negative → int ≡ n.int
     → frac ≡ n.frac → exponent ≡ n.exponent
     → record { negative = negative; int = int; frac = frac; exponent = exponent } ≡ n
-written_eq n negative int frac exponent a b c d = λ i. record { negative = a i; int = b i; frac = c i; exponent = d i }
+written_eq n {negative} int frac exponent a b c d = λ i. record { negative = a i; int = b i; frac = c i; exponent = d i }
 
 -- a number of the grammar passes the test, and says what the test finds
 pub spells_test : (s : List ℕ) (n : Written) → Spells s n → (is_number s ≡ true) × (written_of s ≡ n)
@@ -362,7 +362,7 @@ spells_test s n h =
           (both _ _ (ap (λ b. is_frac (digits_rest b)) sign.1 ∙ ap is_frac rest ∙ frac.0)
           (ap (λ b. is_exp (after_frac (digits_rest b))) sign.1 ∙ ap (λ r. is_exp (after_frac r)) rest
           ∙ ap is_exp frac.2 ∙ exp.0)),
-      written_eq n _ _ _ _ sign.0 (ap digits_front sign.1 ∙ front)
+      written_eq n _ _ _ sign.0 (ap digits_front sign.1 ∙ front)
           (ap (λ b. frac_digits (digits_rest b)) sign.1 ∙ ap frac_digits rest ∙ frac.1)
           (ap (λ b. exp_value (after_frac (digits_rest b))) sign.1 ∙ ap (λ r. exp_value (after_frac r)) rest
           ∙ ap exp_value frac.2 ∙ exp.1),

@@ -10,15 +10,14 @@ use Rattle.cj_decimal.proofs.Values.{same_sym, same_trans, normal_same}
 use Rattle.cj_decimal.proofs.Normal.{normal_form}
 use Rattle.cj_decimal.proofs.Grammar.{spells_test}
 
-one_written : (s : List ℕ) (m n : Written) → Spells s m → Spells s n → m ≡ n
-one_written s m n a b = sym (spells_test s m a).1 ∙ (spells_test s n b).1
+one_written : {s : List ℕ} {m n : Written} → Spells s m → Spells s n → m ≡ n
+one_written {s} {m} {n} a b = sym (spells_test s m a).1 ∙ (spells_test s n b).1
 
 one_value : (s : List ℕ) (v w : Number) → IsValue s v → IsValue s w → v ≡ w
 one_value s v w a b =
-    let written = one_written s a.written b.written a.spells b.spells in
+    let written = one_written a.spells b.spells in
     let other : SameValue (number_of a.written) w = rw written b.same in
-    normal_same v w (same_trans v (number_of a.written) w (same_sym (number_of a.written) v a.same) other) a.normal
-    b.normal
+    normal_same (same_trans (same_sym a.same) other) a.normal b.normal
 
 pub has_one_value : (s : List ℕ) → HasOneValue s
 has_one_value s = record {
@@ -35,30 +34,30 @@ abbrev pub read_number : (s : List ℕ) (negative : Bool) (lead extra : ℕ) (lo
 read_number s negative lead extra lost after_point exponent r =
     scaled (signed negative (digits_value (r.written.int ++ r.written.frac))) (r.written.exponent -ℤ pos after_point)
 
-is_number_of : (s : List ℕ) (negative : Bool) (lead extra : ℕ) (lost : Bool) (after_point : ℕ) (exponent : ℤ)
+is_number_of : {s : List ℕ} {negative : Bool} {lead extra : ℕ} {lost : Bool} {after_point : ℕ} {exponent : ℤ}
     (r : IsReadOf s negative lead extra lost after_point exponent)
     → read_number s negative lead extra lost after_point exponent r ≡ number_of r.written
-is_number_of s negative lead extra lost after_point exponent r =
+is_number_of {after_point} r =
     let n : ℕ = digits_value (r.written.int ++ r.written.frac) in
     ap (λ b. scaled (signed b n) (r.written.exponent -ℤ pos after_point)) (sym r.sign)
     ∙ ap (λ k. scaled (signed r.written.negative n) (r.written.exponent -ℤ pos k)) (sym r.after_point_is)
 
-pub value_of_read : (s : List ℕ) (negative : Bool) (lead extra : ℕ) (lost : Bool) (after_point : ℕ) (exponent : ℤ)
-    (r : IsReadOf s negative lead extra lost after_point exponent) (v : Number)
+pub value_of_read : {s : List ℕ} {negative : Bool} {lead extra : ℕ} {lost : Bool} {after_point : ℕ} {exponent : ℤ}
+    (r : IsReadOf s negative lead extra lost after_point exponent) {v : Number}
     → SameValue (read_number s negative lead extra lost after_point exponent r) v → IsNormal v → IsValue s v
-value_of_read s negative lead extra lost after_point exponent r v same normal = record {
+value_of_read r same normal = record {
   written = r.written;
   spells = r.spells;
-  same = rw (is_number_of s negative lead extra lost after_point exponent r) at same;
+  same = rw (is_number_of r) at same;
   normal = normal;
 }
 
-pub out_of_read : (s : List ℕ) (negative : Bool) (lead extra : ℕ) (lost : Bool) (after_point : ℕ) (exponent : ℤ)
+pub out_of_read : {s : List ℕ} {negative : Bool} {lead extra : ℕ} {lost : Bool} {after_point : ℕ} {exponent : ℤ}
     (r : IsReadOf s negative lead extra lost after_point exponent)
     → IsOutOfRange (read_number s negative lead extra lost after_point exponent r) → IsNumberOutOfRange s
-out_of_read s negative lead extra lost after_point exponent r o = (
+out_of_read r o = (
   o.normal_form,
-  value_of_read s negative lead extra lost after_point exponent r o.normal_form o.same o.normal,
+  value_of_read r o.same o.normal,
   o.out,
 )
 

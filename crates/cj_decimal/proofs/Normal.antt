@@ -40,10 +40,10 @@ pub zero_normal : IsNormal (scaled (pos 0) (pos 0))
 zero_normal = record { normal = λ e. refl }
 
 -- the number c with k zeros at its end is the number c at a power k higher
-pub trimmed_same : (s : Bool) (n c k : ℕ) (p q : ℤ) → n ≡ c * 10 ^ k → q ≡ p +ℤ pos k
+pub trimmed_same : (s : Bool) {n : ℕ} (c k : ℕ) (p q : ℤ) → n ≡ c * 10 ^ k → q ≡ p +ℤ pos k
     → SameValue (scaled (signed s n) p) (scaled (signed s c) q)
-trimmed_same s n c k p q e f =
-    same_scaled (signed s n) (signed s c) p q k (ap (signed s) e ∙ signed_times s c (10 ^ k)) f
+trimmed_same s {n} c k p q e f =
+    same_scaled (signed s n) (signed s c) p k (ap (signed s) e ∙ signed_times s c (10 ^ k)) f
 
 pub trimmed_normal : (s : Bool) (c : ℕ) (q : ℤ) → 0 < c % 10 → IsNormal (scaled (signed s c) q)
 trimmed_normal s c q h = record { normal = λ e. absurd (omega (arith, h, e, ap (λ n. n % 10) (signed_size s c))) }
@@ -52,8 +52,8 @@ trimmed_normal s c q h = record { normal = λ e. absurd (omega (arith, h, e, ap 
 abbrev Trimmed : ℕ → Type 0
 Trimmed n = (c : ℕ) × (k : ℕ) × IsTrimmed n c k
 
-join : (n m c p q : ℕ) → n ≡ m * 10 ^ 1 → m ≡ c * p → q ≡ 10 * p → n ≡ c * q
-join n m c p q e f g = e ∙ ap (λ x. x * 10 ^ 1) f ∙ regroup c p ∙ sym (ap (λ x. c * x) g)
+join : {n m : ℕ} (c p : ℕ) {q : ℕ} → n ≡ m * 10 ^ 1 → m ≡ c * p → q ≡ 10 * p → n ≡ c * q
+join c p e f g = e ∙ ap (λ x. x * 10 ^ 1) f ∙ regroup c p ∙ sym (ap (λ x. c * x) g)
   where
     regroup : (c p : ℕ) → c * p * 10 ^ 1 ≡ c * (10 * p)
     regroup c p = omega arith
@@ -65,8 +65,7 @@ trim_by_last n zero e p more =
       less.0,
       less.1 + 1,
       record {
-        whole = join n (n / 10) less.0 (10 ^ less.1) (10 ^ (less.1 + 1))
-            (trim_more n n 0 (omega arith) e) less.2.whole (ten_pow_suc less.1);
+        whole = join less.0 (10 ^ less.1) (trim_more n n 0 (omega arith) e) less.2.whole (ten_pow_suc less.1);
         last = less.2.last;
       },
     )
@@ -86,28 +85,28 @@ normal_form s zero q = (scaled (pos 0) (pos 0), zero_same s 0 q refl, zero_norma
 normal_form s (suc n) q =
     let t = trim (suc n) (omega arith) in (
       scaled (signed s t.0) (q +ℤ pos t.1),
-      trimmed_same s (suc n) t.0 t.1 q _ t.2.whole refl,
+      trimmed_same s t.0 t.1 q _ t.2.whole refl,
       trimmed_normal s t.0 _ t.2.last,
     )
 
 -- ---- what from_parts answers
 -- too many digits are out of range in every form
-pub too_long_out : (s : Bool) (n : ℕ) (q : ℤ) → IsTooLong n → IsOutOfRange (scaled (signed s n) q)
-too_long_out s n q long =
+pub too_long_out : (s : Bool) {n : ℕ} (q : ℤ) → IsTooLong n → IsOutOfRange (scaled (signed s n) q)
+too_long_out s {n} q long =
     let some : 0 < n = omega (arith, long.too_long n 0 (omega arith)) in
     let t = trim n some in
     let big : 10 ^ 36 ≤ t.0 = long.too_long t.0 t.1 t.2.whole in
     record {
       normal_form = scaled (signed s t.0) (q +ℤ pos t.1);
-      same = trimmed_same s n t.0 t.1 q _ t.2.whole refl;
+      same = trimmed_same s t.0 t.1 q _ t.2.whole refl;
       normal = trimmed_normal s t.0 _ t.2.last;
       out = λ r. omega (arith, r.digits, signed_size s t.0, big);
     }
 
 -- the digits that were read, without the zeros at their end
-pub stands_trimmed : (lead extra : ℕ) (lost : Bool) (n c k : ℕ) → StandsFor lead extra lost n → lost ≡ false
+pub stands_trimmed : {lead extra : ℕ} {lost : Bool} {n c k : ℕ} → StandsFor lead extra lost n → lost ≡ false
     → IsTrimmed lead c k → n ≡ c * 10 ^ (extra + k)
-stands_trimmed lead extra lost n c k s e t = s.whole e ∙ ap (λ l. l * 10 ^ extra) t.whole
+stands_trimmed {extra} {c} {k} s e t = s.whole e ∙ ap (λ l. l * 10 ^ extra) t.whole
     ∙ regroup c (10 ^ k) (10 ^ extra) ∙ sym (ap (λ p. c * p) (pow-add 10 extra k))
   where
     regroup : (c p q : ℕ) → c * p * q ≡ c * (q * p)
@@ -115,29 +114,29 @@ stands_trimmed lead extra lost n c k s e t = s.whole e ∙ ap (λ l. l * 10 ^ ex
 
 -- the power that is computed of what was read is the number's power where it is in range, and out of range where that
 -- is
-pub power_in : (e r : ℤ) (after_point up : ℕ) → Saturates e r → after_point < 2 ^ 64 → up < 2 ^ 65
+pub power_in : {e r : ℤ} (after_point up : ℕ) → Saturates e r → after_point < 2 ^ 64 → up < 2 ^ 65
     → neg_ℤ (pos 1000000) ≤ℤ (r -ℤ pos after_point +ℤ pos up) → (r -ℤ pos after_point +ℤ pos up) ≤ℤ pos 1000000
     → e -ℤ pos after_point +ℤ pos up ≡ r -ℤ pos after_point +ℤ pos up
-power_in e r after_point up s a b low high = let same : e ≡ r = s.same (omega (arith, ints)) in omega (arith, ints)
+power_in {e} {r} after_point up s a b low high = let same : e ≡ r = s.same (omega (arith, ints)) in omega (arith, ints)
 
-pub power_low_out : (e r : ℤ) (after_point up : ℕ) → Saturates e r → after_point < 2 ^ 64 → up < 2 ^ 65
+pub power_low_out : {e r : ℤ} (after_point up : ℕ) → Saturates e r → after_point < 2 ^ 64 → up < 2 ^ 65
     → (r -ℤ pos after_point +ℤ pos up) <ℤ neg_ℤ (pos 1000000) → (e -ℤ pos after_point +ℤ pos up) <ℤ neg_ℤ (pos 1000000)
-power_low_out e r after_point up s a b h = by_lt_z (neg_ℤ (pos (10 ^ 35))) r
+power_low_out {e} {r} after_point up s a b h = by_lt_z (neg_ℤ (pos (10 ^ 35))) r
     (λ k. let same : e ≡ r = s.same (omega (arith, ints)) in omega (arith, ints))
     (λ k. let far : e ≤ℤ neg_ℤ (pos (10 ^ 35)) = s.low k in omega (arith, ints))
 
-pub power_high_out : (e r : ℤ) (after_point up : ℕ) → Saturates e r → after_point < 2 ^ 64 → up < 2 ^ 65
+pub power_high_out : {e r : ℤ} (after_point up : ℕ) → Saturates e r → after_point < 2 ^ 64 → up < 2 ^ 65
     → pos 1000000 <ℤ (r -ℤ pos after_point +ℤ pos up) → pos 1000000 <ℤ (e -ℤ pos after_point +ℤ pos up)
-power_high_out e r after_point up s a b h = by_lt_z r (pos (10 ^ 35))
+power_high_out {e} {r} after_point up s a b h = by_lt_z r (pos (10 ^ 35))
     (λ k. let same : e ≡ r = s.same (omega (arith, ints)) in omega (arith, ints))
     (λ k. let far : pos (10 ^ 35) ≤ℤ e = s.high k in omega (arith, ints))
 
 -- where the power is out of range, the normal form is
-pub power_out : (s : Bool) (n c up : ℕ) (q : ℤ) → n ≡ c * 10 ^ up → 0 < c % 10 → ((q +ℤ pos up) <ℤ neg_ℤ (pos 1000000))
+pub power_out : (s : Bool) {n : ℕ} (c up : ℕ) (q : ℤ) → n ≡ c * 10 ^ up → 0 < c % 10 → ((q +ℤ pos up) <ℤ neg_ℤ (pos 1000000))
     ⊎ (pos 1000000 <ℤ (q +ℤ pos up)) → IsOutOfRange (scaled (signed s n) q)
-power_out s n c up q whole last far = record {
+power_out s c up q whole last far = record {
   normal_form = scaled (signed s c) (q +ℤ pos up);
-  same = trimmed_same s n c up q _ whole refl;
+  same = trimmed_same s c up q _ whole refl;
   normal = trimmed_normal s c _ last;
   out = λ r. ⊎_elim (λ h. omega (arith, ints, r.power_low)) (λ h. omega (arith, ints, r.power_high)) far;
 }
@@ -152,14 +151,14 @@ pub in_form : (s : Bool) (c : ℕ) (x p : ℤ) → x ≡ signed s c → c < 10 ^
     → p ≤ℤ pos 1000000 → IsNormal (scaled x p) × IsInRange (scaled x p)
 in_form s c x p e small last low high = rw e (trimmed_normal s c p last, form_in_range s c p small low high)
 
-pub same_form : (s : Bool) (n c up : ℕ) (q x p : ℤ) → n ≡ c * 10 ^ up → x ≡ signed s c → p ≡ q +ℤ pos up
+pub same_form : (s : Bool) {n : ℕ} (c up : ℕ) (q : ℤ) {x p : ℤ} → n ≡ c * 10 ^ up → x ≡ signed s c → p ≡ q +ℤ pos up
     → SameValue (scaled (signed s n) q) (scaled x p)
-same_form s n c up q x p whole e f = rw e (trimmed_same s n c up q p whole f)
+same_form s c up q {p} whole e f = rw e (trimmed_same s c up q p whole f)
 
 -- a coefficient that went to bits and back
-pub sign_cast : (s : Bool) (c : ℕ) (x : ℤ) → x ≡ signed s c → c < 10 ^ 36
+pub sign_cast : (s : Bool) (c : ℕ) {x : ℤ} → x ≡ signed s c → c < 10 ^ 36
     → cast_signed w128 (cast_unsigned w128 x) ≡ signed s c
-sign_cast s c x e small =
+sign_cast s c {x} e small =
     to_z-of_z w128 x (fits_signed_from_abs w128 x (omega (arith, ap unsigned_abs e, signed_size s c))) ∙ e
 
 -- the power as the code computes it

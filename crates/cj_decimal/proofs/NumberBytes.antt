@@ -22,12 +22,12 @@ of_some [] h = absurd h
 of_some (b ∷ s) h = (inl h.0, of_digits s h.1)
 
 -- a byte that is no digit, and others
-behind : (n b : ℕ) (s t : List ℕ) → 16 ≤ bit_xor n 48 → b ≡ n → NumberBytes s → t ≡ b ∷ s → NumberBytes t
-behind n b s t high is h e =
+behind : (n b : ℕ) (s : List ℕ) {t : List ℕ} → 16 ≤ bit_xor n 48 → b ≡ n → NumberBytes s → t ≡ b ∷ s → NumberBytes t
+behind n b s high is h e =
     subst NumberBytes (sym e) (inr (subst (λ k. 16 ≤ bit_xor k 48) (sym is) high), h)
 
-none : (s : List ℕ) → s ≡ [] → NumberBytes s
-none s e = subst NumberBytes (sym e) tt
+none : {s : List ℕ} → s ≡ [] → NumberBytes s
+none e = subst NumberBytes (sym e) tt
 
 minus : 16 ≤ bit_xor 45 48
 minus = let v : bit_xor 45 48 ≡ 29 = refl in omega (arith, v)
@@ -45,31 +45,31 @@ capital : 16 ≤ bit_xor 69 48
 capital = let v : bit_xor 69 48 ≡ 117 = refl in omega (arith, v)
 
 of_minus : (b : Bool) (s : List ℕ) → IsMinus b s → NumberBytes s
-of_minus true s e = behind 45 45 [] s minus refl tt e
-of_minus false s e = none s e
+of_minus true s e = behind 45 45 [] minus refl tt e
+of_minus false s e = none e
 
 of_int : (s : List ℕ) → IsInt s → NumberBytes s
 of_int [] h = absurd h
-of_int (b ∷ s) (inl zero) = (inl (omega (arith, zero.0), omega (arith, zero.0)), none s zero.1)
+of_int (b ∷ s) (inl zero) = (inl (omega (arith, zero.0), omega (arith, zero.0)), none zero.1)
 of_int (b ∷ s) (inr h) = (inl (omega (arith, h.0), h.1), of_digits s h.2)
 
 of_frac : (digits s : List ℕ) → IsFrac digits s → NumberBytes s
-of_frac digits s (inl nothing) = none s nothing.1
-of_frac digits s (inr h) = behind 46 46 digits s point refl (of_some digits h.0) h.1
+of_frac digits s (inl nothing) = none nothing.1
+of_frac digits s (inr h) = behind 46 46 digits point refl (of_some digits h.0) h.1
 
 of_sign : (b : Bool) (s : List ℕ) → IsExpSign b s → NumberBytes s
-of_sign true s e = behind 45 45 [] s minus refl tt e
-of_sign false s (inl e) = none s e
-of_sign false s (inr e) = behind 43 43 [] s plus refl tt e
+of_sign true s e = behind 45 45 [] minus refl tt e
+of_sign false s (inl e) = none e
+of_sign false s (inr e) = behind 43 43 [] plus refl tt e
 
-of_mark : (m : ℕ) (s t : List ℕ) → (m ≡ 101) ⊎ (m ≡ 69) → NumberBytes s → t ≡ m ∷ s → NumberBytes t
-of_mark m s t (inl e) h is = behind 101 m s t small e h is
-of_mark m s t (inr e) h is = behind 69 m s t capital e h is
+of_mark : (m : ℕ) (s : List ℕ) {t : List ℕ} → (m ≡ 101) ⊎ (m ≡ 69) → NumberBytes s → t ≡ m ∷ s → NumberBytes t
+of_mark m s (inl e) h is = behind 101 m s small e h is
+of_mark m s (inr e) h is = behind 69 m s capital e h is
 
 of_exp : (e : ℤ) (s : List ℕ) → IsExp e s → NumberBytes s
-of_exp e s (inl nothing) = none s nothing.1
+of_exp e s (inl nothing) = none nothing.1
 of_exp e s (inr p) =
-    of_mark p.mark (p.sign ++ p.digits) s p.mark_is
+    of_mark p.mark (p.sign ++ p.digits) p.mark_is
     (both p.sign p.digits (of_sign p.negative p.sign p.sign_is) (of_some p.digits p.digits_are)) p.joined
 
 pub number_bytes : (s : List ℕ) → SpellsNumber s → NumberBytes s

@@ -56,9 +56,9 @@ unfolding is_empty
 not_empty [] h = absurd (omega arith)
 not_empty (b ∷ f) h = refl
 
-empty_test : (f : List ℕ) → f ≡ [] → is_empty f ≡ true
+empty_test : {f : List ℕ} → f ≡ [] → is_empty f ≡ true
 unfolding is_empty
-empty_test f e = rw e refl
+empty_test e = rw e refl
 
 pub int_led_by_zero : (t : List ℕ) → begins 48 t ≡ true → 1 < length (digits_front t) → is_int (digits_front t) ≡ false
 unfolding is_int is_empty begins
@@ -142,14 +142,14 @@ pub whole_digits : (t : List ℕ) → 0 < length (digits_front t) → digits_res
     × (digits_front t ≡ t)
 unfolding is_whole_digits
 whole_digits t h none = (
-  ap (λ d. d && is_empty (digits_rest t)) (first_digit_there t h) ∙ empty_test (digits_rest t) none,
+  ap (λ d. d && is_empty (digits_rest t)) (first_digit_there t h) ∙ empty_test none,
   sym (append_nil (digits_front t)) ∙ ap (λ r. digits_front t ++ r) (sym none) ∙ sym (front_rest t),
 )
 
-pub saturates_size : (lead extra : ℕ) (lost : Bool) (n : ℕ) → (0 < extra → 10 ^ 35 ≤ lead)
+pub saturates_size : (lead extra : ℕ) {lost : Bool} (n : ℕ) → (0 < extra → 10 ^ 35 ≤ lead)
     → (lost ≡ true → 10 ^ 35 ≤ lead) → StandsFor lead extra lost n → SaturatesSize n lead
-saturates_size lead extra lost n full cut s = record {
-  same = λ small. stands_short lead extra lost n small full cut s;
+saturates_size lead extra {lost} n full cut s = record {
+  same = λ small. stands_short lost small full cut s;
   high = λ big. at_least lead extra lost n big s;
 }
   where
@@ -160,22 +160,22 @@ saturates_size lead extra lost n full cut s = record {
     at_least lead extra true n big s = let long : 10 ^ 36 ≤ n = (s.cut refl).too_long n 0 (omega arith) in omega arith
     at_least lead extra false n big s = omega (arith, s.whole refl, times_more lead (10 ^ extra) (ten_pow_pos extra))
 
-pub saturates_signed : (negative : Bool) (n r : ℕ) → SaturatesSize n r
+pub saturates_signed : (negative : Bool) {n r : ℕ} → SaturatesSize n r
     → Saturates (signed negative n) (signed negative r)
-saturates_signed false n r s = record {
+saturates_signed false {n} s = record {
   same = λ h. ap pos (s.same h);
   high = λ h. let big : 10 ^ 35 ≤ n = s.high (omega (arith, ints)) in omega (arith, ints);
   low = λ h. absurd (omega (arith, ints));
 }
-saturates_signed true n r s = record {
+saturates_signed true {n} s = record {
   same = λ h. ap (λ k. neg_ℤ (pos k)) (s.same (omega (arith, ints)));
   high = λ h. absurd (omega (arith, ints));
   low = λ h. let big : 10 ^ 35 ≤ n = s.high (omega (arith, ints)) in omega (arith, ints);
 }
 
-pub exp_none : (r : List ℕ) → r ≡ [] → (is_exp r ≡ true) × Saturates (exp_value r) (pos 0)
+pub exp_none : {r : List ℕ} → r ≡ [] → (is_exp r ≡ true) × Saturates (exp_value r) (pos 0)
 unfolding is_exp exp_value
-exp_none r e = rw e (refl, record { same = λ h. refl; high = λ h. h; low = λ h. h })
+exp_none e = rw e (refl, record { same = λ h. refl; high = λ h. h; low = λ h. h })
 
 pub exp_unmarked : (r : List ℕ) → 0 < length r → (begins 101 r || begins 69 r) ≡ false → is_exp r ≡ false
 unfolding is_exp begins
@@ -223,9 +223,9 @@ marked_at s from first mark digits =
     )
 
 -- what was read of the digits, with the sign that was read
-pub saturates_read : (negative sign : Bool) (n size : ℕ) (e r : ℤ) → e ≡ signed sign n → sign ≡ negative
+pub saturates_read : {negative sign : Bool} {n size : ℕ} {e : ℤ} (r : ℤ) → e ≡ signed sign n → sign ≡ negative
     → r ≡ signed negative size → SaturatesSize n size → Saturates e r
-saturates_read negative sign n size e r a b c s = rw (a, b, c) (saturates_signed negative n size s)
+saturates_read {negative} r a b c s = rw (a, b, c) (saturates_signed negative s)
 
 -- ---- the whole spelling
 pub minus_there : (s : List ℕ) → begins 45 s ≡ true → body s ≡ drop 1 s
@@ -268,21 +268,21 @@ nothing None e h = absurd (cc h)
 nothing (Some x) e h = absurd (cc e)
 
 -- the digits of both parts, the second read after the first
-pub both_digits : (lead extra : ℕ) (lost : Bool) (f i j k : List ℕ)
+pub both_digits : {lead extra : ℕ} {lost : Bool} (f i j k : List ℕ)
     → StandsFor lead extra lost (value_after (digits_value f) i) → f ≡ j → i ≡ k
     → StandsFor lead extra lost (digits_value (j ++ k))
-both_digits lead extra lost f i j k s e g = rw (value_append 0 j k, ← e, ← g) s
+both_digits f i j k s e g = rw (value_append 0 j k, ← e, ← g) s
 
-pub saturates_at : (e f r q : ℤ) → Saturates e r → e ≡ f → r ≡ q → Saturates f q
-saturates_at e f r q s a b = rw (← a, ← b) s
+pub saturates_at : {e f r q : ℤ} → Saturates e r → e ≡ f → r ≡ q → Saturates f q
+saturates_at s a b = rw (← a, ← b) s
 
 -- ---- a spelling that ends with its first digits
 pub nothing_follows : (s : List ℕ) → drop (length s) s ≡ []
 nothing_follows s = drop_all s (length s) (omega arith)
 
 -- after them there is no fraction and no exponent
-pub no_frac : (r : List ℕ) → r ≡ [] → (is_frac r ≡ true) × (frac_digits r ≡ []) × (after_frac r ≡ [])
-no_frac r e = let bare = frac_bare r (rw e (empty_begins 46)) in (bare.0, bare.1, bare.2 ∙ e)
+pub no_frac : {r : List ℕ} → r ≡ [] → (is_frac r ≡ true) × (frac_digits r ≡ []) × (after_frac r ≡ [])
+no_frac {r} e = let bare = frac_bare r (rw e (empty_begins 46)) in (bare.0, bare.1, bare.2 ∙ e)
   where
     empty_begins : (c : ℕ) → begins c [] ≡ false
     empty_begins c = begins_past c [] 0 (omega arith)
@@ -290,21 +290,21 @@ no_frac r e = let bare = frac_bare r (rw e (empty_begins 46)) in (bare.0, bare.1
 pub integer_spells : (s : List ℕ) → is_int (digits_front (body s)) ≡ true → digits_rest (body s) ≡ []
     → Spells s (written_of s)
 integer_spells s int none =
-    let frac = no_frac (digits_rest (body s)) none in
-    passed s int frac.0 (exp_none _ frac.2).0
+    let frac = no_frac none in
+    passed s int frac.0 (exp_none frac.2).0
 
-pub integer_read : (s : List ℕ) (negative : Bool) (short : ℕ) → negative ≡ begins 45 s
+pub integer_read : (s : List ℕ) {negative : Bool} {short : ℕ} → negative ≡ begins 45 s
     → is_int (digits_front (body s)) ≡ true → digits_rest (body s) ≡ [] → short ≡ digits_value (digits_front (body s))
     → IsReadOf s negative short 0 false 0 (pos 0)
-integer_read s negative short sign int none value =
-    let frac = no_frac (digits_rest (body s)) none in
+integer_read s {short} sign int none value =
+    let frac = no_frac none in
     record {
       written = written_of s;
       spells = integer_spells s int none;
       sign = sym sign;
       digits = rw (frac.1, append_nil (digits_front (body s)), ← value) (short_stands short);
       after_point_is = ap length frac.1;
-      exponent_is = (exp_none _ frac.2).1;
+      exponent_is = (exp_none frac.2).1;
     }
 
 -- the rule on a first 0, for two digits or more

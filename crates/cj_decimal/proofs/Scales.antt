@@ -32,12 +32,12 @@ pub units_are : (v : Number) (u t : ℤ) (k : ℕ) → v.power ≡ t +ℤ pos k 
 units_are v u t k f same =
     let low : t ≤ℤ v.power = omega (arith, ints, f) in
     let gap : int_gap t v.power ≡ k = omega (arith, ints, gap_is t v.power low, f) in
-    scaled_same u v.coefficient t v.power (same_sym v (scaled u t) same) low
+    scaled_same u v.coefficient t v.power (same_sym same) low
     ∙ ap (λ g. v.coefficient *ℤ pos (10 ^ g)) gap
 
 pub units_same : (v : Number) (u t : ℤ) (k : ℕ) → v.power ≡ t +ℤ pos k → u ≡ v.coefficient *ℤ pos (10 ^ k)
     → SameValue v (scaled u t)
-units_same v u t k f e = same_sym (scaled u t) v (same_scaled u v.coefficient t v.power k e f)
+units_same v u t k f e = same_sym (same_scaled u v.coefficient t k e f)
 
 -- a coefficient below a power of ten is below a higher one after the zeros
 pub scaled_small : (c k digits : ℕ) → k ≤ digits → c < 10 ^ (digits - k) → c * 10 ^ k < 10 ^ digits
@@ -70,10 +70,10 @@ pub size_of_units : (v : Number) (u t : ℤ) (k : ℕ) → v.power ≡ t +ℤ po
 size_of_units v u t k f same = ap unsigned_abs (units_are v u t k f same) ∙ abs_times v.coefficient (10 ^ k)
 
 -- where the zeros alone are as many as the bound has, the number is too large
-pub far_units : (v : Number) (u : ℤ) (after_point digits k : ℕ) → IsNormal v
+pub far_units : {v : Number} (u : ℤ) (after_point digits k : ℕ) → IsNormal v
     → v.power ≡ neg_ℤ (pos after_point) +ℤ pos k → after_point < digits → digits ≤ k
     → SameValue v (scaled u (neg_ℤ (pos after_point))) → 10 ^ digits ≤ unsigned_abs u
-far_units v u after_point digits k normal f apart h same = by_size (unsigned_abs v.coefficient) refl
+far_units {v} u after_point digits k normal f apart h same = by_size (unsigned_abs v.coefficient) refl
   where
     by_size : (n : ℕ) → unsigned_abs v.coefficient ≡ n → 10 ^ digits ≤ unsigned_abs u
     by_size zero e = absurd (omega (arith, ints, f, ap (λ (n : Number). n.power) (normal.normal (ap (λ n. n % 10) e))))
@@ -102,11 +102,11 @@ pub power_fits : (k : ℕ) → k ≤ 36 → 10 ^ k ≤ 10 ^ 36
 power_fits k h = ten_pow_le k 36 h
 
 -- the product as the code computes it
-pub product_cast : (c : ℤ) (k digits power : ℕ) → k ≤ digits → digits ≤ 36 → unsigned_abs c < 10 ^ 36
+pub product_cast : (c : ℤ) (k digits : ℕ) {power : ℕ} → k ≤ digits → digits ≤ 36 → unsigned_abs c < 10 ^ 36
     → unsigned_abs c < 10 ^ (digits - k) → power ≡ 10 ^ k
     → cast_signed w128 (cast_unsigned w128 (cast_signed w128 (cast_unsigned w128 c) *ℤ cast_signed w128 power))
     ≡ c *ℤ pos (10 ^ k)
-product_cast c k digits power h most fits small e =
+product_cast c k digits {power} h most fits small e =
     let low : power ≤ 10 ^ 36 = omega (arith, e, power_fits k (omega arith)) in
     let first : cast_signed w128 (cast_unsigned w128 c) ≡ c =
     to_z-of_z w128 c (fits_signed_from_abs w128 c (omega arith)) in
@@ -117,10 +117,10 @@ product_cast c k digits power h most fits small e =
     ∙ to_z-of_z w128 (c *ℤ pos (10 ^ k))
     (fits_signed_from_abs w128 _ (omega (arith, product_fits c k digits h most small)))
 
-pub product_in_bits : (c : ℤ) (k digits power : ℕ) → k ≤ digits → digits ≤ 36 → unsigned_abs c < 10 ^ 36
+pub product_in_bits : (c : ℤ) (k digits : ℕ) {power : ℕ} → k ≤ digits → digits ≤ 36 → unsigned_abs c < 10 ^ 36
     → unsigned_abs c < 10 ^ (digits - k) → power ≡ 10 ^ k
     → FitsSigned w128 (cast_signed w128 (cast_unsigned w128 c) *ℤ cast_signed w128 power)
-product_in_bits c k digits power h most fits small e =
+product_in_bits c k digits {power} h most fits small e =
     let low : power ≤ 10 ^ 36 = omega (arith, e, power_fits k (omega arith)) in
     let first : cast_signed w128 (cast_unsigned w128 c) ≡ c =
     to_z-of_z w128 c (fits_signed_from_abs w128 c (omega arith)) in
@@ -130,16 +130,16 @@ product_in_bits c k digits power h most fits small e =
     rw product (fits_signed_from_abs w128 (c *ℤ pos (10 ^ k)) (omega (arith, product_fits c k digits h most small)))
 
 -- what the product with its zeros answers is the number of units
-pub value_in_units : (r : Option ℤ) (v w : Number) (t x : ℤ) (digits k : ℕ)
+pub value_in_units : (r : Option ℤ) {v w : Number} (t : ℤ) {x : ℤ} (digits k : ℕ)
     → IfSome r (λ u. (u ≡ x *ℤ pos (10 ^ k)) × (unsigned_abs u < 10 ^ digits)) → v ≡ w → x ≡ v.coefficient
     → v.power ≡ t +ℤ pos k
     → IfSome r (λ u. SameValue w (scaled u t) × (unsigned_abs u < 10 ^ digits))
-value_in_units None v w t x digits k h same e f = search rules
-value_in_units (Some u) v w t x digits k h same e f =
+value_in_units None t digits k h same e f = search rules
+value_in_units (Some u) {v} t digits k h same e f =
     rw (← same) (units_same v u t k f (h.0 ∙ ap (λ c. c *ℤ pos (10 ^ k)) e), h.1)
 
-pub none_in_units : (r : Option ℤ) (v w : Number) (t x : ℤ) (digits k : ℕ)
+pub none_in_units : (r : Option ℤ) {v w : Number} (t : ℤ) {x : ℤ} (digits k : ℕ)
     → IfNone r (10 ^ digits ≤ unsigned_abs x * 10 ^ k) → v ≡ w → x ≡ v.coefficient → v.power ≡ t +ℤ pos k
     → IfNone r ((u : ℤ) → SameValue w (scaled u t) → 10 ^ digits ≤ unsigned_abs u)
-none_in_units None v w t x digits k h same e f = λ u s. large_units v u t digits k f (rw e at h) (rw same s)
-none_in_units (Some u) v w t x digits k h same e f = search rules
+none_in_units None {v} t digits k h same e f = λ u s. large_units v u t digits k f (rw e at h) (rw same s)
+none_in_units (Some u) t digits k h same e f = search rules

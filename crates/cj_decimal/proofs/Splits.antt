@@ -57,8 +57,8 @@ times_scaled v a u =
     ))
 
 -- ---- how a number compares with another, by the parts of their difference
-pub order_from_difference : (x q d : ℤ) (r : Ordering) → x -ℤ q ≡ d → r ≡ int_cmp d (pos 0) → r ≡ int_cmp x q
-order_from_difference x q d r e f = int_cmp_is x q r (ranked r (int_ranked d (pos 0) r f))
+pub order_from_difference : (x q : ℤ) {d : ℤ} {r : Ordering} → x -ℤ q ≡ d → r ≡ int_cmp d (pos 0) → r ≡ int_cmp x q
+order_from_difference x q {d} {r} e f = int_cmp_is x q r (ranked r (int_ranked d (pos 0) r f))
   where
     ranked : (r : Ordering) → MatchOrdering r (d <ℤ pos 0) (d ≡ pos 0) (pos 0 <ℤ d)
         → MatchOrdering r (x <ℤ q) (x ≡ q) (q <ℤ x)
@@ -93,63 +93,62 @@ difference_by_parts v whole part shift q carry left e =
 pub units_order : (x q : ℤ) → value_order (units x) (units q) ≡ int_cmp x q
 units_order x q = ap (λ a. int_cmp a (q *ℤ pos 1)) (times_one x) ∙ ap (λ b. int_cmp x b) (times_one q)
 
-pub scale_joined : (scale whole part : ℤ) → int_div_euclid scale (pos (10 ^ 18)) ≡ whole
+pub scale_joined : (scale : ℤ) {whole part : ℤ} → int_div_euclid scale (pos (10 ^ 18)) ≡ whole
     → int_rem_euclid scale (pos (10 ^ 18)) ≡ part → scale ≡ whole *ℤ pos (10 ^ 18) +ℤ part
-scale_joined scale whole part e f = sym (euclid scale)
+scale_joined scale {whole} e f = sym (euclid scale)
     ∙ ap (λ w. w *ℤ pos (10 ^ 18) +ℤ int_rem_euclid scale (pos (10 ^ 18))) e ∙ ap (λ p. whole *ℤ pos (10 ^ 18) +ℤ p) f
 
 -- a scale below 10^18 in size has a whole part of at most that size
-pub whole_small : (scale whole part : ℤ) → int_div_euclid scale (pos (10 ^ 18)) ≡ whole
+pub whole_small : (scale : ℤ) {whole part : ℤ} → int_div_euclid scale (pos (10 ^ 18)) ≡ whole
     → int_rem_euclid scale (pos (10 ^ 18)) ≡ part → unsigned_abs scale < 10 ^ 36 → unsigned_abs whole ≤ 10 ^ 18
-whole_small scale whole part e f small =
-    let joined = scale_joined scale whole part e f in
+whole_small scale {part} e f small =
+    let joined = scale_joined scale e f in
     let low : pos 0 ≤ℤ part = rw f at (euclid_low scale) in
     let high : part <ℤ pos (10 ^ 18) = rw f at (euclid_high scale) in
     omega (arith, ints)
 
 -- what the steps of the comparison amount to
-pub compare_law : (v scale whole part shift q first rest carry left second sum last : ℤ) (r : Ordering)
+pub compare_law : (v : ℤ) {scale : ℤ} (whole part shift q : ℤ) {first rest : ℤ} (carry : ℤ) {left second sum last : ℤ} {r : Ordering}
     → r ≡ int_cmp (sum *ℤ pos (10 ^ 18) +ℤ last) (pos 0) → carry *ℤ pos (10 ^ 18) +ℤ left ≡ rest
     → scale ≡ whole *ℤ pos (10 ^ 18) +ℤ part → first ≡ v *ℤ part → second ≡ v *ℤ whole
     → rest ≡ first +ℤ shift -ℤ q → sum ≡ second +ℤ carry → last ≡ left → r ≡ int_cmp (v *ℤ scale +ℤ shift) q
-compare_law v scale whole part shift q first rest carry left second sum last r e b joined a d f g h =
+compare_law v {scale} whole part shift q carry {left} {sum} {last} e b joined a d f g h =
     let at = b ∙ f ∙ ap (λ x. x +ℤ shift -ℤ q) a in
     let parts = difference_by_parts v whole part shift q carry left at in
     let at_scale = ap (λ x. v *ℤ x +ℤ shift -ℤ q) joined in
     let all : (sum *ℤ pos (10 ^ 18) +ℤ last) ≡ (v *ℤ whole +ℤ carry) *ℤ pos (10 ^ 18) +ℤ left =
     ap (λ x. x *ℤ pos (10 ^ 18) +ℤ last) (g ∙ ap (λ x. x +ℤ carry) d)
     ∙ ap (λ x. (v *ℤ whole +ℤ carry) *ℤ pos (10 ^ 18) +ℤ x) h in
-    order_from_difference (v *ℤ scale +ℤ shift) q _ r (at_scale ∙ parts) (e ∙ ap (λ x. int_cmp x (pos 0)) all)
+    order_from_difference (v *ℤ scale +ℤ shift) q (at_scale ∙ parts) (e ∙ ap (λ x. int_cmp x (pos 0)) all)
 
 -- ---- numbers that went to bits and back
-pub product_of_casts : (v p r : ℤ) → unsigned_abs v ≤ 10 ^ 18 → unsigned_abs p ≤ 10 ^ 18
+pub product_of_casts : (v p : ℤ) {r : ℤ} → unsigned_abs v ≤ 10 ^ 18 → unsigned_abs p ≤ 10 ^ 18
     → r ≡ cast_signed w64 (cast_unsigned w64 v) *ℤ cast_signed w64 (cast_unsigned w64 p) → r ≡ v *ℤ p
-product_of_casts v p r a b e =
+product_of_casts v p a b e =
     e ∙ ap (λ x. x *ℤ cast_signed w64 (cast_unsigned w64 p))
     (to_z-of_z w64 v (fits_signed_from_abs w64 v (omega arith)))
     ∙ ap (λ y. v *ℤ y) (to_z-of_z w64 p (fits_signed_from_abs w64 p (omega arith)))
 
-pub part_small : (scale part : ℤ) → int_rem_euclid scale (pos (10 ^ 18)) ≡ part → unsigned_abs part ≤ 10 ^ 18
-part_small scale part f =
+pub part_small : (scale : ℤ) {part : ℤ} → int_rem_euclid scale (pos (10 ^ 18)) ≡ part → unsigned_abs part ≤ 10 ^ 18
+part_small scale {part} f =
     let low : pos 0 ≤ℤ part = rw f at (euclid_low scale) in
     let high : part <ℤ pos (10 ^ 18) = rw f at (euclid_high scale) in
     omega (arith, ints)
 
-pub split_cast : (z w : ℤ) → FitsSigned w128 z
+pub split_cast : (z : ℤ) {w : ℤ} → FitsSigned w128 z
     → w ≡ int_div_euclid (cast_signed w128 (cast_unsigned w128 z)) (pos (10 ^ 18))
     → (w *ℤ pos (10 ^ 18) +ℤ int_rem_euclid z (pos (10 ^ 18)) ≡ z) × (pos 0 ≤ℤ int_rem_euclid z (pos (10 ^ 18)))
     × (int_rem_euclid z (pos (10 ^ 18)) <ℤ pos (10 ^ 18))
-split_cast z w fits e =
+split_cast z {w} fits e =
     let same : w ≡ int_div_euclid z (pos (10 ^ 18)) =
     e ∙ ap (λ x. int_div_euclid x (pos (10 ^ 18))) (to_z-of_z w128 z fits) in
     (ap (λ x. x *ℤ pos (10 ^ 18) +ℤ int_rem_euclid z (pos (10 ^ 18))) same ∙ euclid z, euclid_low z, euclid_high z)
 
-pub rest_cast : (p s u q : ℤ) → unsigned_abs p ≤ 10 ^ 36 → unsigned_abs s < 10 ^ 36 → unsigned_abs u < 10 ^ 36 → u ≡ q
-    → cast_signed w128 (cast_unsigned w128
-    (cast_signed w128 (cast_unsigned w128
+pub rest_cast : (p s : ℤ) {u q : ℤ} → unsigned_abs p ≤ 10 ^ 36 → unsigned_abs s < 10 ^ 36 → unsigned_abs u < 10 ^ 36 → u ≡ q
+    → cast_signed w128 (cast_unsigned w128 (cast_signed w128 (cast_unsigned w128
     (cast_signed w128 (cast_unsigned w128 p) +ℤ cast_signed w128 (cast_unsigned w128 s))) -ℤ cast_signed
     w128 (cast_unsigned w128 u))) ≡ p +ℤ s -ℤ q
-rest_cast p s u q a b d e = omega (arith, ints)
+rest_cast p s a b d e = omega (arith, ints)
 
 pub sum_cast : (p e : ℤ) → unsigned_abs p ≤ 10 ^ 36 → unsigned_abs e ≤ 4 * 10 ^ 18
     → cast_signed w128 (cast_unsigned w128

@@ -18,15 +18,15 @@ pub trim_left : (r : ℕ) → 0 < r → r % 10 ≡ 0 → 0 < r / 10
 trim_left r h e = omega arith
 
 -- as many zeros as fit below a power of ten
-pub trim_few : (n r k b : ℕ) → n ≡ r * 10 ^ k → 0 < r → n < 10 ^ b → k < b
-trim_few n r k b e h small = ten_pow_below k b (at_most r (10 ^ k) h e)
+pub trim_few : {n : ℕ} (r k b : ℕ) → n ≡ r * 10 ^ k → 0 < r → n < 10 ^ b → k < b
+trim_few {n} r k b e h small = ten_pow_below k b (at_most r (10 ^ k) h e)
   where
     at_most : (r p : ℕ) → 0 < r → n ≡ r * p → p < 10 ^ b
     at_most r p h e = grind (arith, e, small)
 
 -- what is left is no greater
-pub trimmed_le : (n c k : ℕ) → IsTrimmed n c k → c ≤ n
-trimmed_le n c k t = omega (arith, t.whole, more c (10 ^ k) (ten_pow_pos k))
+pub trimmed_le : {n c k : ℕ} → IsTrimmed n c k → c ≤ n
+trimmed_le {c} {k} t = omega (arith, t.whole, more c (10 ^ k) (ten_pow_pos k))
   where
     more : (c p : ℕ) → 0 < p → c ≤ c * p
     more c p h = le-mul_of_pos_right {m = p} c h

@@ -38,8 +38,8 @@ brought_lower n t u h k =
     ∙ sym (times_times n.coefficient (10 ^ int_gap u n.power) (10 ^ int_gap t u))
 
 -- equal numbers are equal at any power that is not above theirs
-pub same_at : (m n : Number) (t : ℤ) → SameValue m n → t ≤ℤ m.power → t ≤ℤ n.power → brought m t ≡ brought n t
-same_at m n t same h k =
+pub same_at : {m n : Number} (t : ℤ) → SameValue m n → t ≤ℤ m.power → t ≤ℤ n.power → brought m t ≡ brought n t
+same_at {m} {n} t same h k =
     let low : t ≤ℤ smaller_power m n = omega (arith, ints, clamps) in
     brought_lower m t (smaller_power m n) low (smaller_left m n)
     ∙ ap (λ c. c *ℤ pos (10 ^ int_gap t (smaller_power m n))) same.coefficients
@@ -55,24 +55,24 @@ at_same m n t h k e =
     ∙ brought_lower n t (smaller_power m n) low (smaller_right m n) in
     record { coefficients = times_cancel _ _ (10 ^ int_gap t (smaller_power m n)) (ten_pow_pos _) scaled }
 
-pub same_sym : (m n : Number) → SameValue m n → SameValue n m
-same_sym m n h = at_same n m (smaller_power m n) (smaller_right m n) (smaller_left m n) (sym h.coefficients)
+pub same_sym : {m n : Number} → SameValue m n → SameValue n m
+same_sym {m} {n} h = at_same n m (smaller_power m n) (smaller_right m n) (smaller_left m n) (sym h.coefficients)
 
 pub same_refl : (m : Number) → SameValue m m
 same_refl m = record { coefficients = refl }
 
-pub same_trans : (l m n : Number) → SameValue l m → SameValue m n → SameValue l n
-same_trans l m n h k =
+pub same_trans : {l m n : Number} → SameValue l m → SameValue m n → SameValue l n
+same_trans {l} {m} {n} h k =
     let t : ℤ = int_min (smaller_power l m) n.power in
     let tl : t ≤ℤ l.power = omega (arith, ints, clamps) in
     let tm : t ≤ℤ m.power = omega (arith, ints, clamps) in
     let tn : t ≤ℤ n.power = omega (arith, ints, clamps) in
-    at_same l n t tl tn (same_at l m t h tl tm ∙ same_at m n t k tm tn)
+    at_same l n t tl tn (same_at t h tl tm ∙ same_at t k tm tn)
 
 -- a coefficient with k zeros at its end, and a power that is k greater without them
-pub same_scaled : (c d : ℤ) (p q : ℤ) (k : ℕ) → c ≡ d *ℤ pos (10 ^ k) → q ≡ p +ℤ pos k
+pub same_scaled : (c d : ℤ) (p : ℤ) {q : ℤ} (k : ℕ) → c ≡ d *ℤ pos (10 ^ k) → q ≡ p +ℤ pos k
     → SameValue (scaled c p) (scaled d q)
-same_scaled c d p q k e f =
+same_scaled c d p {q} k e f =
     let low : p ≤ℤ q = omega (arith, ints, f) in
     let here : p ≤ℤ p = omega (arith, ints) in
     let none : int_gap p p ≡ 0 = omega (arith, ints, gap_is p p here) in
@@ -85,7 +85,7 @@ pub scaled_same : (c d : ℤ) (p q : ℤ) → SameValue (scaled c p) (scaled d q
 scaled_same c d p q same low =
     let here : p ≤ℤ p = omega (arith, ints) in
     let none : int_gap p p ≡ 0 = omega (arith, ints, gap_is p p here) in
-    sym (times_one c) ∙ sym (ap (λ g. c *ℤ pos (10 ^ g)) none) ∙ same_at (scaled c p) (scaled d q) p same here low
+    sym (times_one c) ∙ sym (ap (λ g. c *ℤ pos (10 ^ g)) none) ∙ same_at p same here low
 
 pub number_eq : (m n : Number) → m.coefficient ≡ n.coefficient → m.power ≡ n.power → m ≡ n
 number_eq m n e f = ap (λ c. scaled c m.power) e ∙ ap (λ p. scaled n.coefficient p) f
@@ -104,10 +104,10 @@ ends_in_zero n k = ap (λ p. n * p % 10) (ten_pow_suc k) ∙ ap (λ p. p % 10) (
 pub le_total : (a b : ℤ) → (a ≤ℤ b) ⊎ (b ≤ℤ a)
 le_total a b = by_lt_z a b (λ h. inl (omega (arith, ints))) (λ h. inr h)
 
-normal_gap : (v w : Number) → IsNormal v → IsNormal w → v.power ≤ℤ w.power → (g : ℕ) → v.power +ℤ pos g ≡ w.power
+normal_gap : {v w : Number} → IsNormal v → IsNormal w → v.power ≤ℤ w.power → (g : ℕ) → v.power +ℤ pos g ≡ w.power
     → v.coefficient ≡ w.coefficient *ℤ pos (10 ^ g) → v ≡ w
-normal_gap v w a b low zero f e = number_eq v w (e ∙ times_one w.coefficient) (omega (arith, ints, f))
-normal_gap v w a b low (suc g) f e =
+normal_gap {v} {w} a b low zero f e = number_eq v w (e ∙ times_one w.coefficient) (omega (arith, ints, f))
+normal_gap {v} {w} a b low (suc g) f e =
     let size : unsigned_abs v.coefficient ≡ unsigned_abs w.coefficient * 10 ^ (g + 1) = ap unsigned_abs e
     ∙ abs_times w.coefficient (10 ^ suc g) ∙ ap (λ k. unsigned_abs w.coefficient * 10 ^ k) (omega arith) in
     let zero_v : v ≡ scaled (pos 0) (pos 0) =
@@ -119,16 +119,15 @@ normal_gap v w a b low (suc g) f e =
     zero_v ∙ sym (b.normal (ap (λ n. n % 10) zero_w))
 
 -- two forms, both normal, the first at the lower power
-pub normal_below : (v w : Number) → SameValue v w → IsNormal v → IsNormal w → v.power ≤ℤ w.power → v ≡ w
-normal_below v w same a b low =
-    normal_gap v w a b low (int_gap v.power w.power) (gap_is v.power w.power low)
+pub normal_below : {v w : Number} → SameValue v w → IsNormal v → IsNormal w → v.power ≤ℤ w.power → v ≡ w
+normal_below {v} {w} same a b low =
+    normal_gap a b low (int_gap v.power w.power) (gap_is v.power w.power low)
     (scaled_same v.coefficient w.coefficient v.power w.power same low)
 
 -- equal numbers in normal form are one
-pub normal_same : (v w : Number) → SameValue v w → IsNormal v → IsNormal w → v ≡ w
-normal_same v w same a b =
-    ⊎_elim (normal_below v w same a b) (λ h. sym (normal_below w v (same_sym v w same) b a h))
-    (le_total v.power w.power)
+pub normal_same : {v w : Number} → SameValue v w → IsNormal v → IsNormal w → v ≡ w
+normal_same {v} {w} same a b =
+    ⊎_elim (normal_below same a b) (λ h. sym (normal_below (same_sym same) b a h)) (le_total v.power w.power)
 
 -- ---- equality as the code tests it
 bits_apart : (w : Width) (p q : ℤ) → FitsSigned w p → FitsSigned w q
@@ -143,42 +142,41 @@ bits_same w p q e = rw e (own (cast_unsigned w q))
     own : (n : ℕ) → nat_eq n n ≡ true
     own n = grind (arith, nat_tests)
 
-coefficient_fits : (v : Number) → IsInRange v → FitsSigned w128 v.coefficient
-coefficient_fits v r = let small : unsigned_abs v.coefficient < 10 ^ 36 = r.digits in
+coefficient_fits : {v : Number} → IsInRange v → FitsSigned w128 v.coefficient
+coefficient_fits {v} r = let small : unsigned_abs v.coefficient < 10 ^ 36 = r.digits in
     fits_signed_from_abs w128 v.coefficient (omega arith)
 
 -- a coefficient in range that went to bits and back
-pub coefficient_same : (v : Number) → IsInRange v → cast_signed w128 (cast_unsigned w128 v.coefficient) ≡ v.coefficient
-coefficient_same v r = to_z-of_z w128 v.coefficient (coefficient_fits v r)
+pub coefficient_same : {v : Number} → IsInRange v → cast_signed w128 (cast_unsigned w128 v.coefficient) ≡ v.coefficient
+coefficient_same {v} r = to_z-of_z w128 v.coefficient (coefficient_fits r)
 
-pub coefficient_cast : (v : Number) → IsInRange v
+pub coefficient_cast : {v : Number} → IsInRange v
     → unsigned_abs (cast_signed w128 (cast_unsigned w128 v.coefficient)) < 10 ^ 36
-coefficient_cast v r = rw (coefficient_same v r) r.digits
+coefficient_cast r = rw (coefficient_same r) r.digits
 
-power_fits : (v : Number) → IsInRange v → FitsSigned w32 v.power
-power_fits v r = omega (arith, ints, r.power_low, r.power_high)
+power_fits : {v : Number} → IsInRange v → FitsSigned w32 v.power
+power_fits r = omega (arith, ints, r.power_low, r.power_high)
 
 -- with one coefficient: equal exactly where the powers are
-pub same_by_power : (v w : Number) → IsNormal v × IsInRange v → IsNormal w × IsInRange w
+pub same_by_power : {v w : Number} → IsNormal v × IsInRange v → IsNormal w × IsInRange w
     → cast_unsigned w128 v.coefficient ≡ cast_unsigned w128 w.coefficient
     → (nat_eq (cast_unsigned w32 v.power) (cast_unsigned w32 w.power) ≡ true) ↔ SameValue v w
-same_by_power v w a b e =
-    let c : v.coefficient ≡ w.coefficient = sym (to_z-of_z w128 v.coefficient (coefficient_fits v a.1))
-    ∙ ap (cast_signed w128) e ∙ to_z-of_z w128 w.coefficient (coefficient_fits w b.1) in (
+same_by_power {v} {w} a b e =
+    let c : v.coefficient ≡ w.coefficient = sym (to_z-of_z w128 v.coefficient (coefficient_fits a.1))
+    ∙ ap (cast_signed w128) e ∙ to_z-of_z w128 w.coefficient (coefficient_fits b.1) in (
       λ h. let P : Number → Type 0 = SameValue v in
-          subst P (number_eq v w c (bits_apart w32 v.power w.power (power_fits v a.1) (power_fits w b.1) h))
-          (same_refl v),
-      λ same. bits_same w32 v.power w.power (ap (λ (n : Number). n.power) (normal_same v w same a.0 b.0)),
+          subst P (number_eq v w c (bits_apart w32 v.power w.power (power_fits a.1) (power_fits b.1) h)) (same_refl v),
+      λ same. bits_same w32 v.power w.power (ap (λ (n : Number). n.power) (normal_same same a.0 b.0)),
     )
 
 -- with two coefficients: never equal
-pub apart_by_coefficient : (v w : Number) → IsNormal v × IsInRange v → IsNormal w × IsInRange w
+pub apart_by_coefficient : {v w : Number} → IsNormal v × IsInRange v → IsNormal w × IsInRange w
     → (cast_unsigned w128 v.coefficient ≡ cast_unsigned w128 w.coefficient → ⊥)
     → (nat_eq (cast_unsigned w128 v.coefficient) (cast_unsigned w128 w.coefficient) ≡ true) ↔ SameValue v w
-apart_by_coefficient v w a b apart = (
+apart_by_coefficient a b apart = (
   λ h. absurd (apart (grind (arith, nat_tests))),
-  λ same. absurd (apart (ap (λ (n : Number). cast_unsigned w128 n.coefficient) (normal_same v w same a.0 b.0))),
+  λ same. absurd (apart (ap (λ (n : Number). cast_unsigned w128 n.coefficient) (normal_same same a.0 b.0))),
 )
 
 pub turned : (P : Type 0) (v w : Number) → P ↔ SameValue w v → P ↔ SameValue v w
-turned P v w h = (λ p. same_sym w v (h.0 p), λ s. h.1 (same_sym v w s))
+turned P v w h = (λ p. same_sym (h.0 p), λ s. h.1 (same_sym s))

@@ -4,7 +4,7 @@ use Rattle.std.specs.Prelude.{IfOk, IfSome, IsSome, unsigned_abs}
 use Rattle.std.specs.Char.{is_ascii_digit}
 use Rattle.std.proofs.Math.Nat.{le-mul_of_pos_right}
 use Rattle.std.proofs.lemmas.Int.{ints}
-use Rattle.cj_decimal.specs.Meaning.Number.{Number, scaled, signed}
+use Rattle.cj_decimal.specs.Meaning.Number.{Number, signed}
 use Rattle.cj_decimal.specs.Meaning.Equality.{IsNormal, IsInRange, IsWhole}
 use Rattle.cj_decimal.specs.Meaning.Spelling.{SpellsNumber, IsValue, IsNumberOutOfRange, IsInt}
 use Rattle.cj_decimal.specs.FewDigits.{IsFewDigits, IsFewSigned}
@@ -51,7 +51,7 @@ module _ (s : List ℕ) where
 
     one_whole : (w x : ℤ) → IsWhole v w → IsWhole v x → x ≡ w
     one_whole w x a b =
-        let both = same_trans (scaled x (pos 0)) v (scaled w (pos 0)) (same_sym v (scaled x (pos 0)) b.same) a.same in
+        let both = same_trans (same_sym b.same) a.same in
         omega (arith, ints, both.coefficients)
 
     pub answer_whole : (w : ℤ) (c : Class s) → IsWhole v w → whole_answer c ≡ Ok (Some w)
@@ -77,15 +77,13 @@ module _ (s : List ℕ) where
         clash x = cc
 
 -- a whole number that is answered is below 10^18
-below : (s : List ℕ) (c : Class s) → IfOk (whole_answer c) (λ o. IfSome o (λ w. unsigned_abs w < 10 ^ 18))
-below s (no_number n) = search rules
-below s (out_of_range n) = search rules
-below s (not_whole v value range n) = search rules
-below s (whole v w value range is) = is.small
+below : {s : List ℕ} (c : Class s) → IfOk (whole_answer c) (λ o. IfSome o (λ w. unsigned_abs w < 10 ^ 18))
+below (whole v w value range is) = is.small
+below _ = search rules
 
-pub answer_below : (s : List ℕ) (r : Result (Option ℤ) DecimalFault) → ((c : Class s) → r ≡ whole_answer c)
+pub answer_below : (s : List ℕ) {r : Result (Option ℤ) DecimalFault} → ((c : Class s) → r ≡ whole_answer c)
     → IfOk r (λ o. IfSome o (λ w. unsigned_abs w < 10 ^ 18))
-answer_below s r answer = rw (answer (class s)) (below s (class s))
+answer_below s answer = rw (answer (class s)) (below (class s))
 
 -- ---- few digits and nothing else
 -- the tests of an int hold of an int alone
@@ -110,8 +108,8 @@ no_int_past_other s at passes here other int =
     absurd (cc (sym (drop_at s at here) ∙ none))
 
 -- a whole number below 10^18 is in range
-whole_in_range : (v : Number) (w : ℤ) → IsNormal v → IsWhole v w → IsInRange v
-whole_in_range v w normal is = by_power v.power refl
+whole_in_range : {v : Number} {w : ℤ} → IsNormal v → IsWhole v w → IsInRange v
+whole_in_range {v} {w} normal is = by_power v.power refl
   where
     no_less : (c p : ℕ) → 0 < p → c ≤ c * p
     no_less c p h = le-mul_of_pos_right {m = p} c h
@@ -127,7 +125,7 @@ whole_in_range v w normal is = by_power v.power refl
         size_of_units v w (pos 0) k (omega (arith, ints, e)) is.same in
         let least : unsigned_abs v.coefficient ≤ unsigned_abs v.coefficient * 10 ^ k = no_less _ _ (ten_pow_pos k) in
         let far : 18 ≤ k → 10 ^ 18 ≤ unsigned_abs w =
-        λ h. far_units v w 0 18 k normal (omega (arith, ints, e)) (omega arith) h is.same in
+        λ h. far_units w 0 18 k normal (omega (arith, ints, e)) (omega arith) h is.same in
         let near : k < 18 = below k far is.small in
         record {
           digits = omega (arith, size, least, is.small);
@@ -140,28 +138,28 @@ size : (negative : Bool) (n : ℕ) → unsigned_abs (signed negative n) ≡ n
 size true n = omega (arith, ints)
 size false n = omega (arith, ints)
 
-pub signed_answer : (s : List ℕ) (negative : Bool) (n : ℕ) (c : Class s) → negative ≡ begins 45 s → IsShort (body s) n
+pub signed_answer : {s : List ℕ} {negative : Bool} {n : ℕ} (c : Class s) → negative ≡ begins 45 s → IsShort (body s) n
     → whole_answer c ≡ Ok (Some (signed negative n))
-signed_answer s negative n c sign short =
+signed_answer {s} {negative} {n} c sign short =
     let w = signed negative n in
-    let read = integer_read s negative n sign short.int short.rest short.value in
+    let read = integer_read s sign short.int short.rest short.value in
     let form = normal_form negative n (pos 0) in
     let digits : digits_value (read.written.int ++ read.written.frac) ≡ n = omega (arith, read.digits.whole refl) in
     let exponent : read.written.exponent ≡ pos 0 = read.exponent_is.same (omega (arith, ints)) in
-    let value = value_of_read s negative n 0 false 0 (pos 0) read form.0 (rw (digits, exponent) form.1) form.2 in
+    let value = value_of_read read (rw (digits, exponent) form.1) form.2 in
     let is : IsWhole form.0 w =
-    record { same = same_sym (scaled w (pos 0)) form.0 form.1; small = rw (size negative n) short.small } in
-    answer_whole s form.0 value (whole_in_range form.0 w form.2 is) w c is
+    record { same = same_sym form.1; small = rw (size negative n) short.small } in
+    answer_whole s form.0 value (whole_in_range form.2 is) w c is
 
-same_short : (s t : List ℕ) (n : ℕ) → t ≡ s → IsShort s n → IsShort t n
-same_short s t n e short = let P : List ℕ → Type 0 = λ u. IsShort u n in subst P (sym e) short
+same_short : {s t : List ℕ} {n : ℕ} → t ≡ s → IsShort s n → IsShort t n
+same_short {n} e short = let P : List ℕ → Type 0 = λ u. IsShort u n in subst P (sym e) short
 
 pub answer_digits : (s : List ℕ) (n : ℕ) (c : Class s) → IsShort s n → whole_answer c ≡ Ok (Some (pos n))
 answer_digits s n c short =
     let plain : begins 45 s ≡ false = ap (begins 45) (front_rest s)
     ∙ digit_begins 45 (digits_front s) (digits_rest s) (int_is_digits _ (int_from_test _ (front_all s) short.int))
     (omega arith) in
-    signed_answer s false n c (sym plain) (same_short s (body s) n (no_minus s plain) short)
+    signed_answer c (sym plain) (same_short (no_minus s plain) short)
 
 -- what is said of a short number holds of an answer that may be there
 pub answer_of_few : (s : List ℕ) (o : Option ℕ) → IfSome o (λ n. IsShort s n)

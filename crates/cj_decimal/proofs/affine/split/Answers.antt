@@ -5,5 +5,5 @@ use Rattle.cj_decimal.proofs.affine.split.Goals as goal
 
 pub returns-clause-joined : goal.returns-clause-joined
 returns-clause-joined c = let parts =
-    split_cast c.args.units c.div_euclid-whole.result c.ranges.units c.div_euclid-whole.ensures in
+    split_cast c.args.units c.ranges.units c.div_euclid-whole.ensures in
     omega (arith, ints, parts)

@@ -19,7 +19,7 @@ overflow_mul-result c =
     let size = c.unsigned_abs.ensures.value ∙ ap unsigned_abs (to_z-of_z w128 c.args.number c.ranges.number) in
     let small : unsigned_abs c.args.number < 10 ^ (c.args.digits - c.args.zeros) =
     omega (arith, size, c.wide_ten_to.ensures, c.if-unsigned_abs-wide_ten_to.false) in
-    product_in_bits c.args.number c.args.zeros c.args.digits c.wide_ten_to-2.result c.requires.within c.requires.bounded
+    product_in_bits c.args.number c.args.zeros c.args.digits c.requires.within c.requires.bounded
     c.requires.fits small c.wide_ten_to-2.ensures
 
 pub returns-clause-value : goal.returns-clause-value
@@ -28,6 +28,6 @@ returns-clause-value c =
     let small : unsigned_abs c.args.number < 10 ^ (c.args.digits - c.args.zeros) =
     omega (arith, size, c.wide_ten_to.ensures, c.if-unsigned_abs-wide_ten_to.false) in
     let product =
-    product_cast c.args.number c.args.zeros c.args.digits c.wide_ten_to-2.result c.requires.within
+    product_cast c.args.number c.args.zeros c.args.digits c.requires.within
     c.requires.bounded c.requires.fits small c.wide_ten_to-2.ensures in
     (product, rw product (product_small c.args.number c.args.zeros c.args.digits c.requires.within small))

@@ -1,4 +1,4 @@
-use Rattle.std.proofs.Common.{arith, get_or, sym, ◌∙◌}
+use Rattle.std.proofs.Common.{arith, get_or, sym, ◌∙◌, rules}
 use Rattle.cj_decimal.proofs.Ways.{passes_step, carries_step, stops_here, carried_here, digit_bounds, is_digit_at}
 use Rattle.cj_decimal.proofs.digits.read_long.Goals as goal
 
@@ -33,11 +33,12 @@ loop-digits-preserved c =
       bounded = omega arith;
     }
 
-pub returns-then-not-has_digit-clause-stops : goal.returns-then-not-has_digit-clause-stops
-returns-then-not-has_digit-clause-stops c =
-    stops_here _ _ _ c.loop-digits.invariant.passes (sym c.has_digit.ensures ∙ c.if-not-has_digit.true)
-
-pub returns-then-not-has_digit-clause-stands : goal.returns-then-not-has_digit-clause-stands
-returns-then-not-has_digit-clause-stands c = λ n s.
-    let so_far = c.loop-digits.invariant.stands n s in
-    rw (← (carried_here _ _ _ _ _ so_far.1 (sym c.has_digit.ensures ∙ c.if-not-has_digit.true))) so_far.2
+pub returns-then-not-has_digit : goal.returns-then-not-has_digit
+returns-then-not-has_digit c = record {
+  stops = stops_here _ _ _ c.loop-digits.invariant.passes (sym c.has_digit.ensures ∙ c.if-not-has_digit.true);
+  stands =
+      λ n s.
+      let so_far = c.loop-digits.invariant.stands n s in
+      rw (← (carried_here _ _ _ _ _ so_far.1 (sym c.has_digit.ensures ∙ c.if-not-has_digit.true))) so_far.2;
+  bounded = search rules;
+}

@@ -1,4 +1,4 @@
-use Rattle.std.proofs.Common.{◌≡◌, ◌-◌, true, sym, ap, arith, get_or, ◌∙◌}
+use Rattle.std.proofs.Common.{◌≡◌, ◌-◌, true, sym, ap, arith, get_or, ◌∙◌, rules}
 use Rattle.std.specs.Char.{is_ascii_digit}
 use Rattle.cj_decimal.proofs.Pushes.{push_zero, push_lost}
 use Rattle.cj_decimal.proofs.Ways.{passes_step, carries_step, stops_here, carried_here, digit_bounds, is_digit_at}
@@ -13,7 +13,7 @@ loop-at-preserved c =
       passes = passes_step _ _ _ c.loop-at.invariant.passes c.loop-at-test.true digit;
       stands = λ n s.
           let so_far = c.loop-at.invariant.stands n s in
-          (_, carries_step _ _ _ _ _ so_far.1 c.loop-at-test.true digit, rw none (push_zero _ _ _ _ so_far.2));
+          (_, carries_step _ _ _ _ _ so_far.1 c.loop-at-test.true digit, rw none (push_zero so_far.2));
       bounded = omega arith;
     }
 
@@ -32,18 +32,19 @@ loop-lost-preserved c =
           let so_far = c.loop-lost.invariant.stands n s in (
             _,
             carries_step _ _ _ _ _ so_far.1 there.0 there.1,
-            push_lost _ _ _ _ _ c.requires.full (λ e. omega (arith, c.loop-lost.invariant.other e there.0, bounds.0))
+            push_lost _ _ c.requires.full (λ e. omega (arith, c.loop-lost.invariant.other e there.0, bounds.0))
                 (omega (arith, bounds.1)) so_far.2,
           );
       other = λ e. absurd (cc e);
       bounded = omega arith;
     }
 
-pub returns-clause-stops : goal.returns-clause-stops
-returns-clause-stops c =
-    stops_here _ _ _ c.loop-lost.invariant.passes (sym c.has_digit.ensures ∙ c.loop-lost-test.false)
-
-pub returns-clause-stands : goal.returns-clause-stands
-returns-clause-stands c = λ n s.
-    let so_far = c.loop-lost.invariant.stands n s in
-    rw (← (carried_here _ _ _ _ _ so_far.1 (sym c.has_digit.ensures ∙ c.loop-lost-test.false))) so_far.2
+pub returns : goal.returns
+returns c = record {
+  stops = stops_here _ _ _ c.loop-lost.invariant.passes (sym c.has_digit.ensures ∙ c.loop-lost-test.false);
+  stands =
+      λ n s.
+      let so_far = c.loop-lost.invariant.stands n s in
+      rw (← (carried_here _ _ _ _ _ so_far.1 (sym c.has_digit.ensures ∙ c.loop-lost-test.false))) so_far.2;
+  bounded = search rules;
+}

@@ -11,19 +11,19 @@ returns-then-not-is_int_part-clause-number c =
     ∙ c.if-not-is_int_part.true in
     (λ e. absurd (false≢true e), λ n. absurd (not_int s other n))
 
-pub returns-clause-number : goal.returns-clause-number
-returns-clause-number c =
+pub returns : goal.returns
+returns c =
     let s = c.args.spelling.now in
-    let int = sym (ap (λ b. is_int (digits_front b)) c.requires.body) ∙ sym c.is_int_part.ensures
-    ∙ c.if-not-is_int_part.false in
-    let none = sym (ap digits_rest c.requires.body) ∙ sym c.requires.stops.rest ∙ nothing_follows s in
-    (λ _. (written_of s, integer_spells s int none), λ _. refl)
-
-pub returns-clause-reads : goal.returns-clause-reads
-returns-clause-reads c =
-    let s = c.args.spelling.now in
-    let int = sym (ap (λ b. is_int (digits_front b)) c.requires.body) ∙ sym c.is_int_part.ensures
-    ∙ c.if-not-is_int_part.false in
-    let none = sym (ap digits_rest c.requires.body) ∙ sym c.requires.stops.rest ∙ nothing_follows s in
-    integer_read s c.args.negative c.args.short c.requires.sign int none
-    (c.requires.value ∙ ap (λ b. digits_value (digits_front b)) c.requires.body)
+    record {
+      number =
+          let int = sym (ap (λ b. is_int (digits_front b)) c.requires.body) ∙ sym c.is_int_part.ensures
+          ∙ c.if-not-is_int_part.false in
+          let none = sym (ap digits_rest c.requires.body) ∙ sym c.requires.stops.rest ∙ nothing_follows s in
+          (λ _. (written_of s, integer_spells s int none), λ _. refl);
+      reads =
+          let int = sym (ap (λ b. is_int (digits_front b)) c.requires.body) ∙ sym c.is_int_part.ensures
+          ∙ c.if-not-is_int_part.false in
+          let none = sym (ap digits_rest c.requires.body) ∙ sym c.requires.stops.rest ∙ nothing_follows s in
+          integer_read s c.requires.sign int none
+          (c.requires.value ∙ ap (λ b. digits_value (digits_front b)) c.requires.body);
+    }

@@ -1,12 +1,11 @@
-use Rattle.std.proofs.Common.{arith, sym, ◌∙◌, drop, length-drop, true, false}
-use Rattle.cj_decimal.specs.Meaning.Reading.{digits_value}
+use Rattle.std.proofs.Common.{arith, sym, ◌∙◌, length-drop}
 use Rattle.std.proofs.lemmas.Int.{ints}
 use Rattle.cj_decimal.proofs.Ways.{drop_all}
 use Rattle.cj_decimal.proofs.Parts.{exp_none, exp_unmarked, marked_at, saturates_read}
 use Rattle.cj_decimal.proofs.spelling.read_exponent.Goals as goal
 
 pub returns-then-from-spelling-clause-reads : goal.returns-then-from-spelling-clause-reads
-returns-then-from-spelling-clause-reads c = exp_none _ (drop_all c.args.spelling.now c.args.from (omega arith))
+returns-then-from-spelling-clause-reads c = exp_none (drop_all c.args.spelling.now c.args.from (omega arith))
 
 pub returns-then-not-has_one_of-clause-reads : goal.returns-then-not-has_one_of-clause-reads
 returns-then-not-has_one_of-clause-reads c =
@@ -27,7 +26,7 @@ returns-then-has_byte-clause-reads c =
     (sym c.has_one_of.ensures ∙ c.if-not-has_one_of.false) c.after_sign-first.ensures.digits in
     let told = c.in-Some.ensures in (
       marked.0 ∙ told.reads.0,
-      saturates_read true _ (digits_value (drop c.after_sign-first.result c.args.spelling.now)) c.in-Some.size _ _
+      saturates_read _
           marked.1 (sym c.has_byte.ensures ∙ c.if-has_byte.true) (omega (arith, ints, told.bound)) told.reads.1,
     )
 
@@ -38,6 +37,6 @@ returns-else-has_byte-clause-reads c =
     (sym c.has_one_of.ensures ∙ c.if-not-has_one_of.false) c.after_sign-first.ensures.digits in
     let told = c.in-Some.ensures in (
       marked.0 ∙ told.reads.0,
-      saturates_read false _ (digits_value (drop c.after_sign-first.result c.args.spelling.now)) c.in-Some.size _ _
+      saturates_read _
           marked.1 (sym c.has_byte.ensures ∙ c.if-has_byte.false) (omega (arith, ints, told.bound)) told.reads.1,
     )

@@ -1,4 +1,4 @@
-use Rattle.std.proofs.Common.{arith, ap, sym, ◌∙◌, refl, length}
+use Rattle.std.proofs.Common.{arith, ap, sym, ◌∙◌, refl, length, rules}
 use Rattle.std.proofs.lemmas.Int.{ints}
 use Rattle.cj_decimal.specs.Meaning.Reading.{is_int, is_frac, is_exp, digits_front, digits_rest, after_frac, written_of}
 use Rattle.cj_decimal.specs.Meaning.Reading.{frac_digits, exp_value}
@@ -31,19 +31,8 @@ returns-in_err-exponent-clause-number c =
       λ n. absurd (not_exp s (sym (ap is_exp end) ∙ c.in_err-exponent.ensures.reads) n),
     )
 
-pub returns-clause-number : goal.returns-clause-number
-returns-clause-number c =
-    let s = c.args.spelling.now in
-    let from = c.after_minus-from.ensures.body in
-    let at = c.in_ok-int.ensures.reads.1 ∙ ap digits_rest from in
-    let end = c.in_ok-frac.ensures.reads.1 ∙ ap after_frac at in
-    let int = sym (ap (λ b. is_int (digits_front b)) from) ∙ c.in_ok-int.ensures.reads.0 in
-    let frac = sym (ap is_frac at) ∙ c.in_ok-frac.ensures.reads.0 in
-    let exp = sym (ap is_exp end) ∙ c.in_ok-exponent.ensures.reads.0 in
-    (λ _. (written_of s, passed s int frac exp), λ _. refl)
-
-pub returns-clause-reads : goal.returns-clause-reads
-returns-clause-reads c =
+pub returns : goal.returns
+returns c =
     let s = c.args.spelling.now in
     let from = c.after_minus-from.ensures.body in
     let at = c.in_ok-int.ensures.reads.1 ∙ ap digits_rest from in
@@ -52,18 +41,25 @@ returns-clause-reads c =
     let frac = sym (ap is_frac at) ∙ c.in_ok-frac.ensures.reads.0 in
     let exp = sym (ap is_exp end) ∙ c.in_ok-exponent.ensures.reads.0 in
     record {
-      written = written_of s;
-      spells = passed s int frac exp;
-      sign = sym c.has_byte-negative.ensures;
-      digits = both_digits _ _ _ _ _ _ _ (c.in_ok-frac.ensures.reads.3 _ c.in_ok-int.ensures.reads.2)
-          (ap digits_front from) (ap frac_digits at);
-      after_point_is = sym (ap (λ r. length (frac_digits r)) at) ∙ c.in_ok-frac.ensures.reads.2;
-      exponent_is = saturates_at _ _ c.in_ok-exponent.exponent _ c.in_ok-exponent.ensures.reads.1 (ap exp_value end)
-          (omega (arith, ints, c.in_ok-exponent.ensures.bound));
+      number = (λ _. (written_of s, passed s int frac exp), λ _. refl);
+      reads =
+          record {
+            written = written_of s;
+            spells = passed s int frac exp;
+            sign = sym c.has_byte-negative.ensures;
+            digits = both_digits _ _ _ _ (c.in_ok-frac.ensures.reads.3 _ c.in_ok-int.ensures.reads.2)
+                (ap digits_front from) (ap frac_digits at);
+            after_point_is = sym (ap (λ r. length (frac_digits r)) at) ∙ c.in_ok-frac.ensures.reads.2;
+            exponent_is = saturates_at c.in_ok-exponent.ensures.reads.1 (ap exp_value end)
+                (omega (arith, ints, c.in_ok-exponent.ensures.bound));
+          };
     }
 
-pub integer_parts-requires-clause-stops : goal.integer_parts-requires-clause-stops
-integer_parts-requires-clause-stops c = stops_whole _ _ _ c.read_short-short.ensures.passes c.if-at-spelling.true
-
-pub integer_parts-requires-clause-value : goal.integer_parts-requires-clause-value
-integer_parts-requires-clause-value c = carried_at_end _ _ _ _ _ c.read_short-short.ensures.carries (omega arith)
+pub integer_parts-requires : goal.integer_parts-requires
+integer_parts-requires c = record {
+  sign = search rules;
+  body = search rules;
+  stops = stops_whole _ _ _ c.read_short-short.ensures.passes c.if-at-spelling.true;
+  value = carried_at_end _ _ _ _ _ c.read_short-short.ensures.carries (omega arith);
+  short = search rules;
+}

@@ -22,6 +22,6 @@ returns-clause-reads c =
     let none = sym stops.rest ∙ drop_all s run.stop (omega arith) in
     let whole = whole_digits (drop c.args.from s) (omega (arith, stops.count, stops.order)) none in (
       whole.0,
-      saturates_size _ _ _ _ run.digits.extra_after_full run.digits.lost_after_full
+      saturates_size _ _ _ run.digits.extra_after_full run.digits.lost_after_full
           (rw whole.1 at (c.read_long-run.ensures.stands 0 (short_stands 0))),
     )

@@ -53,23 +53,22 @@ is_int_part-requires c =
     omega (arith, c.loop-at-test.false, c.loop-at.invariant.within, c.requires.all) in
     rw c.requires.all (stops_whole _ _ _ c.loop-at.invariant.passes end)
 
-pub returns-then-is_int_part-clause-short : goal.returns-then-is_int_part-clause-short
-returns-then-is_int_part-clause-short c =
+pub returns-then-is_int_part : goal.returns-then-is_int_part
+returns-then-is_int_part c =
     let s = c.args.digits.now in
     let end : length s ≤ c.loop-at.at = omega (arith, c.loop-at-test.false, c.requires.all) in
     record {
-      int = sym c.is_int_part.ensures ∙ c.if-is_int_part.true;
-      rest = sym (stops_at_end s 0 c.loop-at.at c.loop-at.invariant.passes end).rest ∙ drop_all s _ end;
-      value = carried_at_end _ _ _ _ _ c.loop-at.invariant.carries end;
-      small = few _ _ c.loop-at.invariant.short (omega (arith, c.loop-at.invariant.within, c.requires.few));
+      short =
+          record {
+            int = sym c.is_int_part.ensures ∙ c.if-is_int_part.true;
+            rest = sym (stops_at_end s 0 c.loop-at.at c.loop-at.invariant.passes end).rest ∙ drop_all s _ end;
+            value = carried_at_end _ _ _ _ _ c.loop-at.invariant.carries end;
+            small = few _ _ c.loop-at.invariant.short (omega (arith, c.loop-at.invariant.within, c.requires.few));
+          };
+      int =
+          let rest = sym (stops_at_end s 0 c.loop-at.at c.loop-at.invariant.passes end).rest ∙ drop_all s _ end in
+          (λ _. int_alone_read s (sym c.is_int_part.ensures ∙ c.if-is_int_part.true) rest, λ _. refl);
     }
-
-pub returns-then-is_int_part-clause-int : goal.returns-then-is_int_part-clause-int
-returns-then-is_int_part-clause-int c =
-    let s = c.args.digits.now in
-    let end : length s ≤ c.loop-at.at = omega (arith, c.loop-at-test.false, c.requires.all) in
-    let rest = sym (stops_at_end s 0 c.loop-at.at c.loop-at.invariant.passes end).rest ∙ drop_all s _ end in
-    (λ _. int_alone_read s (sym c.is_int_part.ensures ∙ c.if-is_int_part.true) rest, λ _. refl)
 
 pub returns-else-is_int_part-clause-int : goal.returns-else-is_int_part-clause-int
 returns-else-is_int_part-clause-int c =

@@ -24,27 +24,26 @@ read c =
     let back : stop - count ≡ start = omega arith in
     let end = end_of_eight line count stop few room ∙ ap (λ k. slice_range line k stop) back in
     let length_is = length_slice line (stop - 8) stop c.requires.within in
-    let at = eight_at_end (8 - count) s c.word_before.result (bit_and x c.last_bytes.result) (omega arith)
+    let at = eight_at_end (8 - count) s (bit_and x c.last_bytes.result) (omega arith)
     (length_is ∙ omega arith) (bytes_below line (stop - 8) stop (λ k. (c.type_inv.line k).fits)) c.word_before.ensures
-    (ap (bit_and x) c.last_bytes.ensures) (omega arith)
-    (λ t l h is. (c.are_low.ensures t l h is).0 c.if-are_low.true)
+    (ap (bit_and x) c.last_bytes.ensures) (omega arith) (λ t l h is. (c.are_low.ensures t l h is).0 c.if-are_low.true)
     (subst IsNumberIfBegun (sym end) c.requires.number) in
     let eight = at.2 in
     let P : ℕ → Type 0 = λ w. IsWordOf w (digits_value (slice_range line start stop)) in
     let Q : List ℕ → Type 0 = λ t. IsInt t in (
       subst Q end (number_int _ at.0 at.1),
       subst P (sym c.swap_bytes.ensures)
-          (word_of_eight eight.0 _ _ eight.1 eight.2 eight.3 (eight.4 ∙ ap digits_value end)),
+          (word_of_eight eight.0 eight.1 eight.2 eight.3 (eight.4 ∙ ap digits_value end)),
     )
 
-pub returns-then-are_low-clause-word : goal.returns-then-are_low-clause-word
-returns-then-are_low-clause-word c = (read c).1
-
-pub returns-then-are_low-clause-few : goal.returns-then-are_low-clause-few
-returns-then-are_low-clause-few c =
-    let few = c.if-count-gt-BYTES.false in
-    let order = c.requires.order in
-    (λ some. ((read c).0, omega arith, c.if-stop-lt-BYTES.false), λ int. refl)
+pub returns-then-are_low : goal.returns-then-are_low
+returns-then-are_low c = record {
+  word = (read c).1;
+  few =
+      let few = c.if-count-gt-BYTES.false in
+      let order = c.requires.order in
+      (λ some. ((read c).0, omega arith, c.if-stop-lt-BYTES.false), λ int. refl);
+}
 
 pub returns-else-are_low-clause-few : goal.returns-else-are_low-clause-few
 returns-else-are_low-clause-few c = (
@@ -58,11 +57,10 @@ returns-else-are_low-clause-few c = (
       let back : start ≡ stop - count = omega arith in
       let P : ℕ → Type 0 = λ k. AllDigits (slice_range line k stop) in
       let length_is = length_slice line (stop - 8) stop c.requires.within in
-      let passed = digits_pass (8 - count) (slice_range line (stop - 8) stop) c.word_before.result
+      let passed = digits_pass (8 - count) (slice_range line (stop - 8) stop)
       (bit_and x c.last_bytes.result) (omega arith) (length_is ∙ omega arith)
       (bytes_below line (stop - 8) stop (λ k. (c.type_inv.line k).fits)) c.word_before.ensures
-      (ap (bit_and x) c.last_bytes.ensures) c.are_low.result
-      (λ t l h is low. (c.are_low.ensures t l h is).1 low)
+      (ap (bit_and x) c.last_bytes.ensures) c.are_low.result (λ t l h is low. (c.are_low.ensures t l h is).1 low)
       (all_from_eight line count stop few room (subst P back (int_digits _ int.0))) in
       sym c.if-are_low.false ∙ passed,
 )

@@ -16,8 +16,7 @@ pub product-requires-2-clause-right_fits : goal.product-requires-2-clause-right_
 product-requires-2-clause-right_fits c =
     let inside = c.self.inside in
     let small =
-    whole_small inside.scale inside.whole inside.part c.self.invariant.0.whole_is c.self.invariant.0.part_is
-    c.self.invariant.1.scale_fits in
+    whole_small inside.scale c.self.invariant.0.whole_is c.self.invariant.0.part_is c.self.invariant.1.scale_fits in
     omega (arith, ints, small)
 
 pub overflow_add-product : goal.overflow_add-product
@@ -28,18 +27,15 @@ returns-clause-order c =
     let inside = c.self.inside in
     let split = c.self.invariant.0 in
     let units = c.self.invariant.1 in
-    let whole_fits = whole_small inside.scale inside.whole inside.part split.whole_is split.part_is units.scale_fits in
+    let whole_fits = whole_small inside.scale split.whole_is split.part_is units.scale_fits in
     let v_fits : unsigned_abs c.args.v ≤ 10 ^ 18 = omega (arith, c.requires) in
     let first =
-    product_of_casts c.args.v inside.part c.product.result v_fits
-    (part_small inside.scale inside.part split.part_is) c.product.ensures.value in
+    product_of_casts c.args.v inside.part v_fits (part_small inside.scale split.part_is) c.product.ensures.value in
     let second =
-    product_of_casts c.args.v inside.whole c.product-2.result v_fits whole_fits c.product-2.ensures.value in
-    rw (← c.self.view_is) (compare_law c.args.v inside.scale inside.whole inside.part inside.shift c.args.q
-    c.product.result _ c.split-carry.result.0 c.split-carry.result.1 c.product-2.result _ _ c.sign_of.result
-    c.sign_of.ensures c.split-carry.ensures.joined
-    (scale_joined inside.scale inside.whole inside.part split.whole_is split.part_is) first second
-    (rest_cast c.product.result inside.shift c.units.result c.args.q c.product.ensures.bound units.shift_fits
+    product_of_casts c.args.v inside.whole v_fits whole_fits c.product-2.ensures.value in
+    rw (← c.self.view_is) (compare_law c.args.v inside.whole inside.part inside.shift c.args.q c.split-carry.result.0
+    c.sign_of.ensures c.split-carry.ensures.joined (scale_joined inside.scale split.whole_is split.part_is) first second
+    (rest_cast c.product.result inside.shift c.product.ensures.bound units.shift_fits
     c.units.ensures.bound c.units.ensures.value)
     (sum_cast c.product-2.result c.split-carry.result.0 c.product-2.ensures.bound c.split-carry.ensures.bound)
     (left_cast c.split-carry.result.1 c.split-carry.ensures.low c.split-carry.ensures.high))

@@ -23,28 +23,25 @@ returns-then-power-digits-clause-none c = λ u same.
     omega (arith, ints, range.power_low, range.power_high, c.requires.bounded, c.requires.apart) in
     let k : ℕ = int_gap (neg_ℤ (pos c.args.after_point)) inside.power in
     let at = gap_is (neg_ℤ (pos c.args.after_point)) inside.power (omega (arith, ints, high)) in
-    far_units (scaled inside.coefficient inside.power) u c.args.after_point c.args.digits k c.self.invariant.0
+    far_units u c.args.after_point c.args.digits k c.self.invariant.0
     (sym at) c.requires.apart (omega (arith, ints, at, high)) (rw c.self.view_is same)
 
 pub with_zeros-requires-clause-fits : goal.with_zeros-requires-clause-fits
 with_zeros-requires-clause-fits c =
-    let inside = c.self.inside in
-    coefficient_cast (scaled inside.coefficient inside.power) c.self.invariant.1
+    coefficient_cast c.self.invariant.1
 
-pub returns-clause-value : goal.returns-clause-value
-returns-clause-value c =
-    let inside = c.self.inside in
+pub returns : goal.returns
+returns c =
     let range = c.self.invariant.1 in
-    value_in_units c.with_zeros.result (scaled inside.coefficient inside.power) c.args.self
-    (neg_ℤ (pos c.args.after_point)) _ c.args.digits _ c.with_zeros.ensures.value c.self.view_is
-    (coefficient_same (scaled inside.coefficient inside.power) range)
-    (omega (arith, ints, range.power_low, range.power_high, c.requires.bounded, c.requires.apart))
-
-pub returns-clause-none : goal.returns-clause-none
-returns-clause-none c =
-    let inside = c.self.inside in
-    let range = c.self.invariant.1 in
-    none_in_units c.with_zeros.result (scaled inside.coefficient inside.power) c.args.self
-    (neg_ℤ (pos c.args.after_point)) _ c.args.digits _ c.with_zeros.ensures.none c.self.view_is
-    (coefficient_same (scaled inside.coefficient inside.power) range)
-    (omega (arith, ints, range.power_low, range.power_high, c.requires.bounded, c.requires.apart))
+    record {
+      value =
+          value_in_units c.with_zeros.result
+          (neg_ℤ (pos c.args.after_point)) c.args.digits _ c.with_zeros.ensures.value c.self.view_is
+          (coefficient_same range)
+          (omega (arith, ints, range.power_low, range.power_high, c.requires.bounded, c.requires.apart));
+      none =
+          none_in_units c.with_zeros.result
+          (neg_ℤ (pos c.args.after_point)) c.args.digits _ c.with_zeros.ensures.none c.self.view_is
+          (coefficient_same range)
+          (omega (arith, ints, range.power_low, range.power_high, c.requires.bounded, c.requires.apart));
+    }

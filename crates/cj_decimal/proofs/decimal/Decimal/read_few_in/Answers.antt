@@ -1,18 +1,18 @@
-use Rattle.std.proofs.Common.{arith}
+use Rattle.std.proofs.Common.{arith, rules}
 use Rattle.std.specs.Prelude.{slice_range}
 use Rattle.cj_decimal.proofs.Wholes.{answer_of_few}
 use Rattle.cj_decimal.proofs.Eights.{length_slice}
 use Rattle.cj_decimal.proofs.decimal.Decimal.read_few_in.Goals as goal
 
-pub returns-clause-answer : goal.returns-clause-answer
-returns-clause-answer c =
-    answer_of_few (slice_range c.args.line.now c.args.start c.args.stop) _ c.read_word.ensures.short
-
-pub returns-clause-few : goal.returns-clause-few
-returns-clause-few c =
-    let few = c.read_word.ensures.few in
-    let l = length_slice c.args.line.now c.args.start c.args.stop c.requires.within in (
-      λ some. let all = few.0 some in let near = all.1 in
-          ((all.0, omega (arith, l, near)), all.1, all.2),
-      λ all. few.1 (all.0.0, all.1, all.2),
-    )
+pub returns : goal.returns
+returns c = record {
+  answer = answer_of_few (slice_range c.args.line.now c.args.start c.args.stop) _ c.read_word.ensures.short;
+  small = search rules;
+  few =
+      let few = c.read_word.ensures.few in
+      let l = length_slice c.args.line.now c.args.start c.args.stop c.requires.within in (
+        λ some. let all = few.0 some in let near = all.1 in
+            ((all.0, omega (arith, l, near)), all.1, all.2),
+        λ all. few.1 (all.0.0, all.1, all.2),
+      );
+}

@@ -1,4 +1,4 @@
-use Rattle.std.proofs.Common.{◌≡◌, ℕ, ◌-◌, List, take, drop, length, true, false, Some, Ok, pos, neg_ℤ, ◌-ℤ◌, w64, to_z, of_z, refl, sym, ap, ◌∙◌, subst, arith}
+use Rattle.std.proofs.Common.{◌≡◌, ℕ, ◌-◌, List, take, drop, length, Some, Ok, pos, neg_ℤ, ◌-ℤ◌, w64, to_z, of_z, refl, sym, ap, ◌∙◌, subst, arith, rules}
 use Rattle.std.proofs.lemmas.Bool.{false≢true}
 use Rattle.std.proofs.lemmas.Int.{ints}
 use Rattle.std.proofs.lemmas.Grind.{common_steps}
@@ -22,8 +22,8 @@ module _ (s : List ℕ) (from : ℕ) (is : drop from s ≡ body s) where
   few_of_left : IsFewDigits (body s) → IsFewDigits (take (length s - from) (drop from s))
   few_of_left few = let P : List ℕ → Type 0 = λ t. IsFewDigits t in subst P (sym left_is_body) few
 
-  short_of_body : (n : ℕ) → IsShort (take (length s - from) (drop from s)) n → IsShort (body s) n
-  short_of_body n short = let P : List ℕ → Type 0 = λ t. IsShort t n in subst P left_is_body short
+  short_of_body : {n : ℕ} → IsShort (take (length s - from) (drop from s)) n → IsShort (body s) n
+  short_of_body {n} short = let P : List ℕ → Type 0 = λ t. IsShort t n in subst P left_is_body short
 
 pub returns-in_default-clause-few : goal.returns-in_default-clause-few
 returns-in_default-clause-few c =
@@ -32,34 +32,40 @@ returns-in_default-clause-few c =
       λ few. c.in_default.ensures.few.1 (few_of_left s _ c.after_minus-from.ensures.body (body_of_signed s few)),
     )
 
-pub returns-then-negative-clause-answer : goal.returns-then-negative-clause-answer
-returns-then-negative-clause-answer c = λ class.
-    let s = c.args.spelling.now in
-    let n = c.in-Some.size in
-    let short = short_of_body s _ c.after_minus-from.ensures.body n c.in-Some.ensures.short in
-    let cast : neg_ℤ (pos n) ≡ to_z w64 (of_z w64 (pos 0 -ℤ to_z w64 n)) = omega (arith, ints, short.small) in
-    signed_answer s true n class (sym c.if-negative.true ∙ c.has_byte-negative.ensures) short
-    ∙ ap (λ z. Ok (Some z)) cast
+pub returns-then-negative : goal.returns-then-negative
+returns-then-negative c = record {
+  answer =
+      λ class.
+      let s = c.args.spelling.now in
+      let n = c.in-Some.size in
+      let short = short_of_body s _ c.after_minus-from.ensures.body c.in-Some.ensures.short in
+      let cast : neg_ℤ (pos n) ≡ to_z w64 (of_z w64 (pos 0 -ℤ to_z w64 n)) = omega (arith, ints, short.small) in
+      signed_answer class (sym c.if-negative.true ∙ c.has_byte-negative.ensures) short
+      ∙ ap (λ z. Ok (Some z)) cast;
+  small = search rules;
+  few =
+      let few = c.in-Some.ensures.few.0 refl in (
+        λ _. signed_from_body c.args.spelling.now (few_of_body c.args.spelling.now _ c.after_minus-from.ensures.body
+            few),
+        λ _. refl,
+      );
+}
 
-pub returns-then-negative-clause-few : goal.returns-then-negative-clause-few
-returns-then-negative-clause-few c =
-    let few = c.in-Some.ensures.few.0 refl in (
-      λ _. signed_from_body c.args.spelling.now (few_of_body c.args.spelling.now _ c.after_minus-from.ensures.body few),
-      λ _. refl,
-    )
-
-pub returns-else-negative-clause-answer : goal.returns-else-negative-clause-answer
-returns-else-negative-clause-answer c = λ class.
-    let s = c.args.spelling.now in
-    let n = c.in-Some.size in
-    let short = short_of_body s _ c.after_minus-from.ensures.body n c.in-Some.ensures.short in
-    let cast : pos n ≡ to_z w64 n = omega (arith, ints, short.small) in
-    signed_answer s false n class (sym c.if-negative.false ∙ c.has_byte-negative.ensures) short
-    ∙ ap (λ z. Ok (Some z)) cast
-
-pub returns-else-negative-clause-few : goal.returns-else-negative-clause-few
-returns-else-negative-clause-few c =
-    let few = c.in-Some.ensures.few.0 refl in (
-      λ _. signed_from_body c.args.spelling.now (few_of_body c.args.spelling.now _ c.after_minus-from.ensures.body few),
-      λ _. refl,
-    )
+pub returns-else-negative : goal.returns-else-negative
+returns-else-negative c = record {
+  answer =
+      λ class.
+      let s = c.args.spelling.now in
+      let n = c.in-Some.size in
+      let short = short_of_body s _ c.after_minus-from.ensures.body c.in-Some.ensures.short in
+      let cast : pos n ≡ to_z w64 n = omega (arith, ints, short.small) in
+      signed_answer class (sym c.if-negative.false ∙ c.has_byte-negative.ensures) short
+      ∙ ap (λ z. Ok (Some z)) cast;
+  small = search rules;
+  few =
+      let few = c.in-Some.ensures.few.0 refl in (
+        λ _. signed_from_body c.args.spelling.now (few_of_body c.args.spelling.now _ c.after_minus-from.ensures.body
+            few),
+        λ _. refl,
+      );
+}

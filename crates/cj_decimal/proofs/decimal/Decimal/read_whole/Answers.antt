@@ -11,4 +11,4 @@ returns-in-Some-clause-answer c = λ class.
     ap (λ z. Ok (Some z)) same ∙ sym (c.in-Some.ensures.answer class)
 
 pub returns-in-None-clause-small : goal.returns-in-None-clause-small
-returns-in-None-clause-small c = answer_below c.args.spelling.now c.read_any.result c.read_any.ensures
+returns-in-None-clause-small c = answer_below c.args.spelling.now c.read_any.ensures
