@@ -361,7 +361,8 @@ no_nibbles s e h =
     ap (bit_and (little_endian s)) (sym high ∙ ap (λ n. little_endian (copies n 240)) (sym e)) ∙ same ∙ all_low s h
 
 -- the word that is tested, and what its test says of the bytes
-module _ (j : ℕ) (s : List ℕ) {w : ℕ} (m : ℕ) (lj : j ≤ 8) (ls : length s ≡ 8) (h : AllBelow 256 s) (is : w ≡ little_endian s)
+module _ (j : ℕ) (s : List ℕ) {w : ℕ} (m : ℕ) (lj : j ≤ 8) (ls : length s ≡ 8) (h : AllBelow 256 s)
+    (is : w ≡ little_endian s)
     (word : m ≡ bit_and (bit_xor w 0x3030303030303030) (2 ^ 64 - 2 ^ (8 * j))) where
   tested_length : length (clear j (without_zeros s)) ≡ 8
   unfolding without_zeros
@@ -513,7 +514,8 @@ body_behind line start stop order minus =
     minus_there s (sym minus) ∙ ap (λ k. drop 1 (take k (drop start line))) m
     ∙ drop-take 1 (stop - (start + 1)) (drop start line) ∙ ap (take (stop - (start + 1))) (drop-drop 1 start line)
 
-pub short_behind : (line : List ℕ) (start stop : ℕ) {n : ℕ} → start < stop → true ≡ begins 45 (slice_range line start stop)
+pub short_behind : (line : List ℕ) (start stop : ℕ) {n : ℕ} → start < stop
+    → true ≡ begins 45 (slice_range line start stop)
     → IsShort (slice_range line (start + 1) stop) n → IsShort (body (slice_range line start stop)) n
 short_behind line start stop {n} order minus short = let P : List ℕ → Type 0 = λ t. IsShort t n in
     subst P (sym (body_behind line start stop order minus)) short

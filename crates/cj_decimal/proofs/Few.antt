@@ -44,5 +44,8 @@ few_short s few =
 -- whatever class such a spelling has, it has a whole number
 pub few_whole : (s : List ℕ) → IsFewSigned s → (w : ℤ) × ((c : Class s) → whole_answer c ≡ Ok (Some w))
 few_whole s few =
-    let n = digits_value (body s) in
-    (signed (begins 45 s) n, λ c. signed_answer {negative = begins 45 s} c refl (few_short (body s) (body_of_signed s few)))
+    let n = digits_value (body s) in (
+      signed (begins 45 s) n,
+      λ c. signed_answer {negative = begins 45 s} c refl
+          (few_short (body s) (body_of_signed s few)),
+    )

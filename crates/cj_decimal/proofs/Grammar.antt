@@ -345,7 +345,8 @@ sign_from_test s false e = ([], refl, refl)
 written_eq : (n : Written) {negative : Bool} (int frac : List ℕ) (exponent : ℤ) → negative ≡ n.negative → int ≡ n.int
     → frac ≡ n.frac → exponent ≡ n.exponent
     → record { negative = negative; int = int; frac = frac; exponent = exponent } ≡ n
-written_eq n {negative} int frac exponent a b c d = λ i. record { negative = a i; int = b i; frac = c i; exponent = d i }
+written_eq n {negative} int frac exponent a b c d = λ i.
+    record { negative = a i; int = b i; frac = c i; exponent = d i }
 
 -- a number of the grammar passes the test, and says what the test finds
 pub spells_test : (s : List ℕ) (n : Written) → Spells s n → (is_number s ≡ true) × (written_of s ≡ n)

@@ -132,7 +132,8 @@ power_high_out {e} {r} after_point up s a b h = by_lt_z r (pos (10 ^ 35))
     (λ k. let far : pos (10 ^ 35) ≤ℤ e = s.high k in omega (arith, ints))
 
 -- where the power is out of range, the normal form is
-pub power_out : (s : Bool) {n : ℕ} (c up : ℕ) (q : ℤ) → n ≡ c * 10 ^ up → 0 < c % 10 → ((q +ℤ pos up) <ℤ neg_ℤ (pos 1000000))
+pub power_out : (s : Bool) {n : ℕ} (c up : ℕ) (q : ℤ) → n ≡ c * 10 ^ up → 0 < c % 10
+    → ((q +ℤ pos up) <ℤ neg_ℤ (pos 1000000))
     ⊎ (pos 1000000 <ℤ (q +ℤ pos up)) → IsOutOfRange (scaled (signed s n) q)
 power_out s c up q whole last far = record {
   normal_form = scaled (signed s c) (q +ℤ pos up);

@@ -108,7 +108,8 @@ whole_small scale {part} e f small =
     omega (arith, ints)
 
 -- what the steps of the comparison amount to
-pub compare_law : (v : ℤ) {scale : ℤ} (whole part shift q : ℤ) {first rest : ℤ} (carry : ℤ) {left second sum last : ℤ} {r : Ordering}
+pub compare_law : (v : ℤ) {scale : ℤ} (whole part shift q : ℤ) {first rest : ℤ} (carry : ℤ) {left second sum last : ℤ}
+    {r : Ordering}
     → r ≡ int_cmp (sum *ℤ pos (10 ^ 18) +ℤ last) (pos 0) → carry *ℤ pos (10 ^ 18) +ℤ left ≡ rest
     → scale ≡ whole *ℤ pos (10 ^ 18) +ℤ part → first ≡ v *ℤ part → second ≡ v *ℤ whole
     → rest ≡ first +ℤ shift -ℤ q → sum ≡ second +ℤ carry → last ≡ left → r ≡ int_cmp (v *ℤ scale +ℤ shift) q
@@ -144,7 +145,8 @@ split_cast z {w} fits e =
     e ∙ ap (λ x. int_div_euclid x (pos (10 ^ 18))) (to_z-of_z w128 z fits) in
     (ap (λ x. x *ℤ pos (10 ^ 18) +ℤ int_rem_euclid z (pos (10 ^ 18))) same ∙ euclid z, euclid_low z, euclid_high z)
 
-pub rest_cast : (p s : ℤ) {u q : ℤ} → unsigned_abs p ≤ 10 ^ 36 → unsigned_abs s < 10 ^ 36 → unsigned_abs u < 10 ^ 36 → u ≡ q
+pub rest_cast : (p s : ℤ) {u q : ℤ} → unsigned_abs p ≤ 10 ^ 36 → unsigned_abs s < 10 ^ 36 → unsigned_abs u < 10 ^ 36
+    → u ≡ q
     → cast_signed w128 (cast_unsigned w128 (cast_signed w128 (cast_unsigned w128
     (cast_signed w128 (cast_unsigned w128 p) +ℤ cast_signed w128 (cast_unsigned w128 s))) -ℤ cast_signed
     w128 (cast_unsigned w128 u))) ≡ p +ℤ s -ℤ q

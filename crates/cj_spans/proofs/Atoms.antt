@@ -16,7 +16,8 @@ read_more {b} {i} k {x} y z r is h =
 -- a byte that leaves the reading as it is
 pub read_same : {b : List ℕ} {i k : ℕ} {x y : Lex} → Continues b i x k y → lex_step y (byte b k) ≡ Some y
     → Continues b i x (k + 1) y
-read_same {b} {i} {k} {x} {y} r h = let e : suc k ≡ k + 1 = omega arith in subst (λ n. Continues b i x n y) e (further k y y r h)
+read_same {b} {i} {k} {x} {y} r h = let e : suc k ≡ k + 1 = omega arith in subst (λ n. Continues b i x n y) e
+    (further k y y r h)
 
 pub read_plain : {b : List ℕ} {i k : ℕ} {x : Lex} → Continues b i x k InString → is_plain (byte b k) ≡ true
     → Continues b i x (k + 1) InString
@@ -32,7 +33,8 @@ read_run (suc n) {b} {i} {k} {x} {y} each r =
     (read_same r (each k (omega arith) (omega arith))))
 
 -- the same of the bytes up to a place
-pub read_to : {b : List ℕ} {i k : ℕ} (n : ℕ) {x y : Lex} → k ≤ n → ((j : ℕ) → k ≤ j → j < n → lex_step y (byte b j) ≡ Some y)
+pub read_to : {b : List ℕ} {i k : ℕ} (n : ℕ) {x y : Lex} → k ≤ n
+    → ((j : ℕ) → k ≤ j → j < n → lex_step y (byte b j) ≡ Some y)
     → Continues b i x k y → Continues b i x n y
 read_to {b} {i} {k} n {x} {y} l each r =
     let e : k + (n - k) ≡ n = omega arith in
@@ -73,7 +75,8 @@ halted b ks ts m a k p x none kind =
     ∙ ap (λ q. option_and_then (read m (byte b k)) (end_atom m a q s)) kind
 
 -- a scalar that may end where it halts has ended there
-pub ends_ok : {b : List ℕ} (i : ℕ) {k : ℕ} (p : ℕ) {x y : Lex} (kd : Kind) (m : Mode) (ks : List ℕ) (ts : List Token) {us : List Token}
+pub ends_ok : {b : List ℕ} (i : ℕ) {k : ℕ} (p : ℕ) {x y : Lex} (kd : Kind) (m : Mode) (ks : List ℕ) (ts : List Token)
+    {us : List Token}
     → Continues b (suc i) x k y → Halts b k y → lex_kind y ≡ Some kd → us ≡ ts ++ token_at i k (length ts + 1) ∷ []
     → ComesTo b (state (in_atom m i x) ks ts (suc i) p) (state (between m) ks us k p)
 ends_ok {b} i {k} p {y} kd m ks ts {us} c h kind is =

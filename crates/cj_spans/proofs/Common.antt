@@ -22,7 +22,9 @@ pub use Rattle.cj_spans.specs.Scan.{AreSized, HasPeakAt, IsDeepest, IsScanOf, Ke
 pub use Rattle.cj_spans.specs.Sound.{AreFull, AreLinked, AreLone, AreNamed, AreNested, AreOf, AreRising, AreSpelled, AreWhole, AreWithin, ShowMembers, StopBefore, are_members, before, is_name, items_end, link_of, members_end, shown_between}
 pub use Rattle.cj_spans.specs.Tail.{tail_of, tail_on}
 pub use Rattle.cj_spans.specs.View.{pairs_of}
-unfoldable pub use Rattle.cj_spans.specs.View.{document, document_line, document_source, items_left, items_line, items_source, line_of, members_left, members_line, members_source, source_of, tokens_in, tree, tree_at, tree_in}
+unfoldable pub use Rattle.cj_spans.specs.View.{document, document_line, document_source, items_left, items_line}
+unfoldable pub use Rattle.cj_spans.specs.View.{items_source, line_of, members_left, members_line, members_source}
+unfoldable pub use Rattle.cj_spans.specs.View.{source_of, tokens_in, tree, tree_at, tree_in}
 pub use Rattle.cj_spans.specs.declared.fault.LineFault.{LineFault}
 pub use Rattle.cj_spans.specs.declared.fault.LineFault.TheVariants.{NotUtf8, Syntax, TooDeep}
 pub use Rattle.cj_spans.specs.declared.lex.Lex.{Lex}

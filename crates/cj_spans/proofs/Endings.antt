@@ -335,7 +335,8 @@ front_byte [] ys n h = absurd (omega arith)
 front_byte (x ∷ xs) ys zero h = refl
 front_byte (x ∷ xs) ys (suc n) h = front_byte xs ys n (omega arith)
 
-finish_in_name : {b : List ℕ} {l k : ℕ} (p : ℕ) (ks : List ℕ) (ts : List Token) {x : Lex} → InAtom b l k x → byte b l ≡ 34
+finish_in_name : {b : List ℕ} {l k : ℕ} (p : ℕ) (ks : List ℕ) (ts : List Token) {x : Lex} → InAtom b l k x
+    → byte b l ≡ 34
     → AllContainers ks ts → Finish (state (in_atom AfterName l x) ks ts k p)
 finish_in_name {l} {k} p ks ts {x} w q all =
     let z = text_end x (in_text w q) in

@@ -27,7 +27,8 @@ kind_first Text s h = ap (λ z. kind_by (get_or z 0 0)) h.joined
 kind_first _ s h = absurd h
 
 pub atom_kind : {b : List ℕ} {k : Kind} {i j : ℕ} → IsAtom b k i j → kind_by (byte b i) ≡ k
-atom_kind {b} {k} {i} {j} w = ap kind_by (first_byte b i j w.order w.within) ∙ kind_first k (slice_range b i j) w.spelled
+atom_kind {b} {k} {i} {j} w = ap kind_by (first_byte b i j w.order w.within)
+    ∙ kind_first k (slice_range b i j) w.spelled
 
 -- ---- trees up to a place, and past it
 
@@ -200,7 +201,8 @@ shows_container {b} i {j} k ss xs o kd a e s = record {
       ∙ ap (λ z. z ∷ forest b rest) e;
 }
 
-pub shows_more : {b : List ℕ} {i : ℕ} (j : ℕ) {ss : List Span} {xs : List Tree} → i ≤ j → Shows b i ss xs → Shows b j ss xs
+pub shows_more : {b : List ℕ} {i : ℕ} (j : ℕ) {ss : List Span} {xs : List Tree} → i ≤ j → Shows b i ss xs
+    → Shows b j ss xs
 shows_more {b} {i} j {xs} o a =
     record { all = all_more i j xs o a.all; shows = λ rest h. a.shows rest (beyond_less i j (forest b rest) o h) }
 

@@ -156,7 +156,8 @@ module _ {ts us : BoundedList Token} {ks : BoundedList ℕ} (i : ℕ)
       }
 
   pub flat_opened : (b : List ℕ) (m : Mode) → BeginsValue m → i < length b → byte b i ≡ 91
-      → (t0 : BoundedList Token) (s0 : BoundedList ℕ) → Standing b t0 s0 ts ks m i → Standing b t0 s0 us (with_top ks (length ts.elements)) FirstItem (i + 1)
+      → (t0 : BoundedList Token) (s0 : BoundedList ℕ) → Standing b t0 s0 ts ks m i
+      → Standing b t0 s0 us (with_top ks (length ts.elements)) FirstItem (i + 1)
   flat_opened b m v l h = standing_opened opens_array b m array_opens v l h
 
   pub flat_in : InArray (length ts.elements ∷ ks.elements) us.elements
@@ -176,7 +177,8 @@ array_closes ks k ts i a h p =
     ∙ ap (λ z. Some (idle After ks z (suc i) p)) (sym (h a.token there))
 
 -- behind the bracket of an array that was never put on the stack, which notes an item more
-pub flat_closed : (b : List ℕ) {ts us : BoundedList Token} (ks : BoundedList ℕ) {ks1 : BoundedList ℕ} (k i : ℕ) → i < length b
+pub flat_closed : (b : List ℕ) {ts us : BoundedList Token} (ks : BoundedList ℕ) {ks1 : BoundedList ℕ} (k i : ℕ)
+    → i < length b
     → byte b i ≡ 93 → InArray (k ∷ ks.elements) ts.elements → IsWithin ks → IsWithin ks1
     → ks1 ≡ record ks { peak = max ks.peak (length ks.elements + 1) }
     → ((t : Token) → slice_get ts.elements k ≡ Some t
@@ -220,7 +222,8 @@ get_before (z ∷ ts) (suc k) zero u l = refl
 get_before (z ∷ ts) (suc k) (suc j) u l = get_before ts k j u (omega arith)
 
 -- an array stays the innermost, when tokens come behind it and the first of these is set
-pub outer_stays : (ks : List ℕ) (ts us : List Token) {vs : List Token} (k : ℕ) (t : Token) → InArray ks ts → length ts ≤ k
+pub outer_stays : (ks : List ℕ) (ts us : List Token) {vs : List Token} (k : ℕ) (t : Token) → InArray ks ts
+    → length ts ≤ k
     → KeepsTokens ts us → vs ≡ slice_set us k t → InArray ks vs
 outer_stays ks ts us k t a l f e = record {
   top = a.top;

@@ -17,7 +17,8 @@ string_begins NextName AfterName ks ts i p v e = ap (λ x. step x (idle NextName
 string_begins _ _ ks ts i p v e = absurd v
 
 -- the machine has read a string
-string_read : {b : List ℕ} (s : State) (m n : Mode) (ks : List ℕ) (ts : List Token) {us : List Token} {i k : ℕ} (p : ℕ) → IsQuoted b i k
+string_read : {b : List ℕ} (s : State) (m n : Mode) (ks : List ℕ) (ts : List Token) {us : List Token} {i k : ℕ}
+    (p : ℕ) → IsQuoted b i k
     → StringLeads m n → us ≡ ts ++ token_at i k (length ts + 1) ∷ [] → ComesTo b s (idle m ks ts i p)
     → ComesTo b s (idle n ks us k p)
 string_read s m n ks ts {i} p q v e h =

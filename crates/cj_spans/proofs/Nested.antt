@@ -42,7 +42,11 @@ module _ {b : List ℕ} {t0 : BoundedList Token} {s0 : BoundedList ℕ} where
   standing_moved {ts1} {ks1} {m} n {i} v s l g k e h =
       let r = standing_step v s l g k h in
       stepped_on (record { mode = n; place = i + 1 }) r (grown_same ts1 r.kept.within)
-      (λ p. (settles_at b m n i (i + 1) p {v = v} {w = v} ks1.elements ts1.elements refl e refl, omega arith, omega arith))
+      (λ p. (
+        settles_at b m n i (i + 1) p {v = v} {w = v} ks1.elements ts1.elements refl e refl,
+        omega arith,
+        omega arith,
+      ))
 
   -- behind the bracket that closes an array
   pub standing_closed : {ts ts1 : BoundedList Token} {ks ks1 : BoundedList ℕ} {m : Mode} {i : ℕ}
@@ -117,7 +121,8 @@ module _ {d : Kind} {n : Mode} {c : ℕ} (h : Opens d n c) where
       (innermost_opened d ks.elements ts.elements i (h.shown i))
 
   -- where it is refused
-  pub standing_refused : {b : List ℕ} {m : Mode} {i : ℕ} {f : LineFault} {ts ts1 : BoundedList Token} {ks ks1 : BoundedList ℕ}
+  pub standing_refused : {b : List ℕ} {m : Mode} {i : ℕ} {f : LineFault} {ts ts1 : BoundedList Token}
+      {ks ks1 : BoundedList ℕ}
       → ReadsByte (opens d n) i (Err f) ts ts1 ks ks1 → BeginsValue m → i < length b → byte b i ≡ c
       → {t0 : BoundedList Token} {s0 : BoundedList ℕ} → Standing b t0 s0 ts ks m i
       → GoesOn b t0 s0 (Err f) ts1 ks1

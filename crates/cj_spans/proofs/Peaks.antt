@@ -67,7 +67,8 @@ module _ (X : Type 0) (b : List ℕ) (old empty new : BoundedList ℕ) (tokens :
       record { deepest = s.last.deepest; counted = deepest_at s.reached s.at; peak = omega arith }
 
 -- the same from a peak that is no other
-pub peak_from : {b : List ℕ} {i : ℕ} (old empty : BoundedList ℕ) {new : BoundedList ℕ} → empty.peak ≡ old.peak → HasPeakAt b i empty new
+pub peak_from : {b : List ℕ} {i : ℕ} (old empty : BoundedList ℕ) {new : BoundedList ℕ} → empty.peak ≡ old.peak
+    → HasPeakAt b i empty new
     → HasPeakAt b i old new
 peak_from old empty e h =
     let p = h.peak in

@@ -195,7 +195,8 @@ shift : (k n : ℕ) → suc k + n ≡ k + suc n
 shift k n = omega arith
 
 -- bytes that a reading passes over, by their places
-pub continues_run : (r : List ℕ) {b : List ℕ} {i k : ℕ} {x y : Lex} (z : Lex) → Continues b i x k y → lex_run r y ≡ Some z
+pub continues_run : (r : List ℕ) {b : List ℕ} {i k : ℕ} {x y : Lex} (z : Lex) → Continues b i x k y
+    → lex_run r y ≡ Some z
     → ((n : ℕ) → n < length r → byte b (k + n) ≡ get_or r n 0) → Continues b i x (k + length r) z
 continues_run [] {b} {i} {k} {x} {y} z c h e =
     let q : y ≡ z = some_same y z h in

@@ -124,7 +124,8 @@ pub record Arrives (b : List ℕ) (s t : State) : Type 0 where
   pub reached : Reaches b s at
   pub settles : settle at ≡ Some t
 
-pub arrive_on : {b : List ℕ} {s t : State} (u : State) → IsEnd (byte b t.place) → Arrives b s t → step (byte b t.place) t ≡ Some u
+pub arrive_on : {b : List ℕ} {s t : State} (u : State) → IsEnd (byte b t.place) → Arrives b s t
+    → step (byte b t.place) t ≡ Some u
     → Reaches b s u
 arrive_on {b} {t} u e a h =
     let p : a.at.place ≡ t.place = (settled a.at t a.settles).place in

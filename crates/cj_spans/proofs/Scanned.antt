@@ -249,7 +249,8 @@ atom_numeral : {k : Kind} (s : List ℕ) → IsScalar k s → k ≡ Number → I
 atom_numeral s h e = subst (λ z. IsScalar z s) e h
 
 -- what a bracket or a brace begins is no number
-no_numeral : (b : List ℕ) (i : ℕ) {c : ℕ} (j : ℕ) → byte b i ≡ c → (kind_by c ≡ Number → ⊥) → kind_by (byte b i) ≡ Number
+no_numeral : (b : List ℕ) (i : ℕ) {c : ℕ} (j : ℕ) → byte b i ≡ c → (kind_by c ≡ Number → ⊥)
+    → kind_by (byte b i) ≡ Number
     → IsNumber (slice_range b i j)
 no_numeral b i j h n e = absurd (n (sym (ap kind_by h) ∙ e))
 

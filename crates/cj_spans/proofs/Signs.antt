@@ -7,7 +7,8 @@ use Rattle.cj_spans.proofs.Runs.{idle, settled}
 -- ---- behind a sign
 
 -- a step from where a run has settled
-pub step_on : {b : List ℕ} {s t : State} (u : State) → ComesTo b s t → t.place < length b → step (byte b t.place) t ≡ Some u
+pub step_on : {b : List ℕ} {s t : State} (u : State) → ComesTo b s t → t.place < length b
+    → step (byte b t.place) t ≡ Some u
     → Reaches b s u
 step_on {b} {t} u h l e =
     let p : h.last.place ≡ t.place = (settled h.last t h.settles).place in
@@ -45,7 +46,8 @@ pub innermost_same : {d : Kind} {ks ls : List ℕ} {ts us : List Token} → ks �
 innermost_same {d} {ls} {ts} e f a = subst (λ z. IsInnermost d ls z) f (subst (λ z. IsInnermost d z ts) e a)
 
 -- it stays when tokens are added
-pub innermost_more : {d : Kind} {ks : List ℕ} {ts us : List Token} (vs : List Token) → IsInnermost d ks ts → us ≡ ts ++ vs
+pub innermost_more : {d : Kind} {ks : List ℕ} {ts us : List Token} (vs : List Token) → IsInnermost d ks ts
+    → us ≡ ts ++ vs
     → IsInnermost d ks us
 innermost_more {ts} vs a e = record {
   top = a.top;

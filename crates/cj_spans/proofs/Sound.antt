@@ -174,7 +174,8 @@ module _ {b : List ℕ} where
         | inr r ↦ after_byte p t c v w u r
       ]
 
-  colon_sound : {e j l m k : ℕ} (p : ℕ) {ks : List ℕ} {ts : List Token} (us : Members) → Context b e ks ts → byte b e ≡ 123
+  colon_sound : {e j l m k : ℕ} (p : ℕ) {ks : List ℕ} {ts : List Token} (us : Members) → Context b e ks ts
+      → byte b e ≡ 123
       → LedMembers b (suc e) j us → White b j l → IsAtom b Text l m → White b m k
       → (u : State) → read AfterName (byte b k)
       (idle AfterName (length ts ∷ ks) (with_name (opened_object ts e us) l m) k p) ≡ Some u → Inv b u
@@ -190,7 +191,8 @@ module _ {b : List ℕ} where
       ]
 
   -- a scalar's next byte
-  ended : {e k : ℕ} (p : ℕ) {ks : List ℕ} {ts : List Token} {x : Lex} → Context b e ks ts → InAtom b e k x → (r : Option Kind)
+  ended : {e k : ℕ} (p : ℕ) {ks : List ℕ} {ts : List Token} {x : Lex} → Context b e ks ts → InAtom b e k x
+      → (r : Option Kind)
       → lex_kind x ≡ r → (u : State)
       → option_and_then (read After (byte b k)) (end_atom After e r (state (in_atom After e x) ks ts k p)) ≡ Some u
       → Inv b u

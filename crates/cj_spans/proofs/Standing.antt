@@ -300,12 +300,14 @@ stepped_law {tokens} {tokens1} {stack} {m} {i} {v} s l g e =
 
 -- ---- faults
 
-shallow_at : (deepest : ℕ) {peak limit : ℕ} (peak0 : ℕ) {limit0 : ℕ} → peak ≡ max peak0 deepest → peak ≤ limit → limit ≡ limit0
+shallow_at : (deepest : ℕ) {peak limit : ℕ} (peak0 : ℕ) {limit0 : ℕ} → peak ≡ max peak0 deepest → peak ≤ limit
+    → limit ≡ limit0
     → deepest ≤ limit0
 shallow_at deepest peak0 e h q = omega arith
 
 pub standing_fault : (X : Type 0) {b : List ℕ} {tokens0 : BoundedList Token} {stack0 : BoundedList ℕ}
-    {tokens : BoundedList Token} (tokens1 : BoundedList Token) {stack stack1 : BoundedList ℕ} {m : Mode} {i : ℕ} (f : LineFault)
+    {tokens : BoundedList Token} (tokens1 : BoundedList Token) {stack stack1 : BoundedList ℕ} {m : Mode} {i : ℕ}
+    (f : LineFault)
     → Standing b tokens0 stack0 tokens stack m i → i < length b
     → ((p : ℕ) → Answers (read m (byte b i) (idle m stack.elements tokens.elements i p)) m i p stack.limit
     (Err f) stack1.elements tokens1.elements)
@@ -355,7 +357,8 @@ standing_fault X {b} {stack0} {tokens} tokens1 {stack} {stack1} {m} {i} (TooDeep
     )
 
 pub stepped_fault : (X : Type 0) {b : List ℕ} {tokens0 : BoundedList Token} {stack0 : BoundedList ℕ}
-    {tokens : BoundedList Token} (tokens1 : BoundedList Token) {stack : BoundedList ℕ} {m : Mode} {i : ℕ} {v : Move} (f : LineFault)
+    {tokens : BoundedList Token} (tokens1 : BoundedList Token) {stack : BoundedList ℕ} {m : Mode} {i : ℕ} {v : Move}
+    (f : LineFault)
     → Stepped b tokens0 stack0 tokens stack m i v
     → ((p : ℕ) → EndAnswers b (state (phase_after m i v) stack.elements tokens.elements (suc i) p)
     (Err f) tokens1.elements)

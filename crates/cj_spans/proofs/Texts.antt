@@ -56,7 +56,8 @@ char_cons : (bs cs : List ℕ) (p : CodePoint) → p.code ∷ left bs p.stop ≡
 char_cons bs [] p h = cc
 char_cons bs (c ∷ cs) p h = let x : p.code ≡ c = cc in let y : left bs p.stop ≡ cs = cc in record { code = x; rest = y }
 
-pub char_some : (bs : List ℕ) {cs : List ℕ} (i : ℕ) (p : CodePoint) → left bs i ≡ after_read bs 0 (Some p) → left bs i ≡ cs
+pub char_some : (bs : List ℕ) {cs : List ℕ} (i : ℕ) (p : CodePoint) → left bs i ≡ after_read bs 0 (Some p)
+    → left bs i ≡ cs
     → ReadsCodePoint bs cs (char_of cs 0) 1 p
 char_some bs {cs} i p h e = char_cons bs cs p (sym (chars_end p.code (drop p.stop bs)) ∙ sym h ∙ e)
 
@@ -67,7 +68,8 @@ char_nil bs (c ∷ cs) p h z e = cc
 
 pub char_none : (bs : List ℕ) {cs : List ℕ} (i : ℕ) (p : CodePoint) → left bs i ≡ [] → left bs i ≡ cs → p.code ≡ 0
     → p.stop ≡ length bs → ReadsCodePoint bs cs (char_of cs 0) 1 p
-char_none bs {cs} i p h e z s = char_nil bs cs p (sym h ∙ e) z (ap (left bs) s ∙ chars_past bs (length bs) (omega arith))
+char_none bs {cs} i p h e z s = char_nil bs cs p (sym h ∙ e) z (ap (left bs) s
+    ∙ chars_past bs (length bs) (omega arith))
 
 at_next : (cs : List ℕ) (k : ℕ) → char_of (drop 1 cs) k ≡ char_of cs (suc k)
 at_next [] k = refl
@@ -328,7 +330,8 @@ pub plain_character : (bs : List ℕ) (i : ℕ) → i < length bs → get_or bs 
     → left bs i ≡ get_or bs i 0 ∷ left bs (i + 1)
 plain_character bs i h l = lead_one bs i h l ∙ chars_end (get_or bs i 0) (drop (i + 1) bs)
 
-points_go_on : (c : ℕ) (cs ds : List ℕ) {ps : List ℕ} {x n : ℕ} → (first_code_point (c ∷ cs) ≡ x) × (first_width (c ∷ cs) ≡ n)
+points_go_on : (c : ℕ) (cs ds : List ℕ) {ps : List ℕ} {x n : ℕ}
+    → (first_code_point (c ∷ cs) ≡ x) × (first_width (c ∷ cs) ≡ n)
     → drop n (c ∷ cs) ≡ ds → code_points_after 0 ds ≡ ps → code_points_after 0 (c ∷ cs) ≡ x ∷ ps
 points_go_on c cs ds {x} e d h =
     points_cons c cs ∙ ap (λ y. y ∷ code_points_after 0 (drop (first_width (c ∷ cs)) (c ∷ cs))) e.0
@@ -478,7 +481,8 @@ pub alike_first : (bs : List ℕ) (i : ℕ) (ds : List ℕ) (j n : ℕ) → i + 
 alike_first bs i ds j n h k a = record { within = omega arith; within_other = omega arith; alike = a }
 
 -- more of them are alike, by a look that begins no later than where the first look ended
-pub alike_more : {bs : List ℕ} {i : ℕ} {ds : List ℕ} {j n : ℕ} (last m : ℕ) {all : ℕ} → StartAlike bs i ds j n → last ≤ n
+pub alike_more : {bs : List ℕ} {i : ℕ} {ds : List ℕ} {j n : ℕ} (last m : ℕ) {all : ℕ} → StartAlike bs i ds j n
+    → last ≤ n
     → last + m ≡ all → all ≤ length bs - i → all ≤ length ds - j → AreAlike bs (i + last) ds (j + last) m
     → StartAlike bs i ds j all
 alike_more {bs} {i} {ds} {j} {n} last m s c e h k a = subst (StartAlike bs i ds j) e (record {

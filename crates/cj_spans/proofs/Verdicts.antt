@@ -25,7 +25,8 @@ root_only : {b : List ℕ} {e : ℕ} {ks : List ℕ} {ts : List Token} → Conte
 root_only (root e w) h = (w, refl)
 root_only _ h = cc
 
-spells_at : {b : List ℕ} {e j k : ℕ} (p q : ℕ) {ks : List ℕ} {ts : List Token} (us : List Token) (t : Tree) → Context b e ks ts
+spells_at : {b : List ℕ} {e j k : ℕ} (p q : ℕ) {ks : List ℕ} {ts : List Token} (us : List Token) (t : Tree)
+    → Context b e ks ts
     → Value b e j t → White b j k → idle After ks (ts ++ flatten (length ts) t) k p ≡ idle After [] us (length b) q
     → Spells b us
 spells_at {b} {e} {j} {k} p q {ks} {ts} us t c v w h =

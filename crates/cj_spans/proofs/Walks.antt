@@ -244,7 +244,8 @@ starts_before ts j k t h l =
     elim (cases_lt t.start j) [ inl o ↦ o | inr g ↦ let z = before_stopped ts j k t h g in absurd (omega arith) ]
 
 -- a part of a token's tree links no further than the token
-part_link : (ts : List Token) (k : ℕ) {r : ℕ} (i : ℕ) (t u : Token) → AreNested ts → AreLinked ts → slice_get ts k ≡ Some t
+part_link : (ts : List Token) (k : ℕ) {r : ℕ} (i : ℕ) (t u : Token) → AreNested ts → AreLinked ts
+    → slice_get ts k ≡ Some t
     → r ≡ k + 1 + before t.stop (drop (k + 1) ts) → k + 1 ≤ i → i < r → slice_get ts i ≡ Some u → link_of u ≤ r
 part_link ts k {r} i t u nested linked h e o l g =
     let j = t.stop in
@@ -535,14 +536,16 @@ link_low ts k l linked h e =
     omega arith
 
 -- the items of a node whose token, at k, links to l
-pub small_items : (b : List ℕ) (ts : List Token) (k l : ℕ) {n : ℕ} (r : Kind) → AreLinked ts → k < length ts → LinksTo ts k l
+pub small_items : (b : List ℕ) (ts : List Token) (k l : ℕ) {n : ℕ} (r : Kind) → AreLinked ts → k < length ts
+    → LinksTo ts k l
     → n ≡ items_end r l → total_size (shown_between b ts (k + 1) n) < 2 ^ 31
 small_items b ts k l {n} r linked inside e f =
     let low = link_low ts k l linked inside e in let end = items_end_low r l in
     let small = small_trees b ts (k + 1) n in omega arith
 
 -- a walk over them that passes over the first ones
-pub items_behind_link : (b : List ℕ) (ts : List Token) (k l : ℕ) {n : ℕ} (j : ℕ) {m : ℕ} {r : Kind} → AreNested ts → AreLinked ts
+pub items_behind_link : (b : List ℕ) (ts : List Token) (k l : ℕ) {n : ℕ} (j : ℕ) {m : ℕ} {r : Kind} → AreNested ts
+    → AreLinked ts
     → AreSized b ts → k < length ts → LinksTo ts k l → r ≡ kind_of (tree_at b (spans_of ts) k) → n ≡ items_end r l
     → j ≤ length (items_of (tree_at b (spans_of ts) k)) → total_size (take j (items_of (tree_at b (spans_of ts) k))) ≡ m
     → shown_between b ts (k + 1 + m) n ≡ drop j (items_of (tree_at b (spans_of ts) k))

@@ -46,7 +46,8 @@ ended c (inl e) = subst IsEnd (sym e) comma
 ended c (inr e) = subst IsEnd (sym e) bracket
 
 -- the machine has read a number
-pub number_read : {b : List ℕ} (s : State) (m : Mode) (ks : List ℕ) (ts : List Token) {us : List Token} {i k : ℕ} (p : ℕ)
+pub number_read : {b : List ℕ} (s : State) (m : Mode) (ks : List ℕ) (ts : List Token) {us : List Token} {i k : ℕ}
+    (p : ℕ)
     → IsNumberUpTo b i k → EndsItem (byte b k) → BeginsValue m → us ≡ ts ++ token_at i k (length ts + 1) ∷ []
     → ComesTo b s (idle m ks ts i p) → ComesTo b s (idle After ks us k p)
 number_read {b} s m ks ts {i} {k} p n w v q h =

@@ -8,14 +8,24 @@ open-requires c =
     let i = c.loop-next.invariant in
     let s = stands_from i.stands i.object c.pass_name-named.ensures.leads c.in-Ready.is in
     let h = c.stands_at.ensures c.if-stands_at.true in
-    record { small = stands_small s h.0; lists = stands_within s; room = stands_room s h.0 tt; reserved = stands_reserved s }
+    record {
+      small = stands_small s h.0;
+      lists = stands_within s;
+      room = stands_room s h.0 tt;
+      reserved = stands_reserved s;
+    }
 
 pub open-requires-then-stands_at-2 : goal.open-requires-then-stands_at-2
 open-requires-then-stands_at-2 c =
     let i = c.loop-next.invariant in
     let s = stands_from i.stands i.object c.pass_name-named.ensures.leads c.in-Ready.is in
     let h = c.stands_at-else-stands_at.ensures c.if-stands_at-2.true in
-    record { small = stands_small s h.0; lists = stands_within s; room = stands_room s h.0 tt; reserved = stands_reserved s }
+    record {
+      small = stands_small s h.0;
+      lists = stands_within s;
+      room = stands_room s h.0 tt;
+      reserved = stands_reserved s;
+    }
 
 pub returns-in-Err-clause-answer : goal.returns-in-Err-clause-answer
 returns-in-Err-clause-answer c = λ ts ks z.

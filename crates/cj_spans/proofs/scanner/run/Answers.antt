@@ -23,7 +23,8 @@ returns-in-Err c =
     let s = c.loop-place.invariant in
     let e = c.in-Err.ensures in
     record {
-      answer = standing_fault (Unit {0}) c.read_byte.new.tokens c.in-Err.fault s c.loop-place-test.true e.answer e.err.1;
+      answer = standing_fault (Unit {0}) c.read_byte.new.tokens c.in-Err.fault s c.loop-place-test.true e.answer
+          e.err.1;
       law = standing_law s e.tokens e.stack e.err.0 e.err.1;
     }
 

@@ -22,6 +22,7 @@ pub returns-in_default-clause-answer : goal.returns-in_default-clause-answer
 returns-in_default-clause-answer c = λ p.
     let b = c.args.byte in let i = c.args.place in let ts = c.args.tokens.now in let ks = c.args.stack.now in
     let s = state (between AfterName) ks.elements ts.elements i p in
-    in_answers (colon_step b s) {m = _} {n = AfterName} b i p ks.limit c.read_colon.result ks.elements ts.elements ks.elements
+    in_answers (colon_step b s) {m = _} {n = AfterName} b i p ks.limit c.read_colon.result ks.elements ts.elements
+    ks.elements
     ts.elements (left_colon _ c.requires.mode c.in_default.not-FirstName c.in_default.not-NextName) refl
     (c.read_colon.ensures AfterName ks.elements ts.elements p ks.limit)
