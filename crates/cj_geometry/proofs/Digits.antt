@@ -20,22 +20,22 @@ abbrev pub number_at : List ℕ → ℕ → ℕ → Tree
 number_at s i j = scalar Number (record { start = i; stop = j; spelling = s })
 
 -- what a digit reads as
-of_digits : (s : List ℕ) (n : ℕ) → is_int (digits_front s) ≡ true → digits_rest s ≡ []
+of_digits : {s : List ℕ} (n : ℕ) → is_int (digits_front s) ≡ true → digits_rest s ≡ []
     → n ≡ digits_value (digits_front s) → n < 10 ^ 18 → (c : Class s) → Ok (Some (pos n)) ≡ whole_answer c
-of_digits s n int rest value small c =
+of_digits {s} n int rest value small c =
     sym (answer_digits s n c (record { int = int; rest = rest; value = value; small = small }))
 
 zero_read : (c : Class (codes "0")) → Ok (Some (pos 0)) ≡ whole_answer c
 unfolding digits_front digits_rest begins begins_digit is_int is_empty
-zero_read = of_digits (codes "0") 0 refl refl refl (omega arith)
+zero_read = of_digits 0 refl refl refl (omega arith)
 
 one_read : (c : Class (codes "1")) → Ok (Some (pos 1)) ≡ whole_answer c
 unfolding digits_front digits_rest begins begins_digit is_int is_empty
-one_read = of_digits (codes "1") 1 refl refl refl (omega arith)
+one_read = of_digits 1 refl refl refl (omega arith)
 
 two_read : (c : Class (codes "2")) → Ok (Some (pos 2)) ≡ whole_answer c
 unfolding digits_front digits_rest begins begins_digit is_int is_empty
-two_read = of_digits (codes "2") 2 refl refl refl (omega arith)
+two_read = of_digits 2 refl refl refl (omega arith)
 
 -- and one below 0
 minus_one : IsValue (codes "-1") (number_of (negsuc 0) (pos 0))

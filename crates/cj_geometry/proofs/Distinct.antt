@@ -182,11 +182,11 @@ pub record AreNext (ms : List (Tree × Tree)) (floor : Option Tree) (ts : List T
   pub past : All (IsPast floor) ts
   pub no_gap : HaveNoGap (names_of ms) floor ts
 
-pub reached_more : (ms : List (Tree × Tree)) → AreNamesInOrder ms
-    → (old now next : Option Finding) (floor last : Option Tree) (ts : List Tree) → HasReached ms old now floor
+pub reached_more : {ms : List (Tree × Tree)} → AreNamesInOrder ms
+    → {old now next : Option Finding} {floor last : Option Tree} {ts : List Tree} → HasReached ms old now floor
     → AreNext ms floor ts → next ≡ least now (neighbours floor ts) → last ≡ last_of floor ts
     → HasReached ms old next last
-reached_more ms o old now next floor last ts r n e f =
+reached_more {ms} o {old} {now} {floor} {last} {ts} r n e f =
     let more = neighbours_among ms o floor ts r.floor_named n.named in
     let p : HasReached ms old (least now (neighbours floor ts)) (last_of floor ts) = record {
       told = r.told ++ neighbours floor ts;
@@ -203,10 +203,10 @@ told_all o [] a = refl
 told_all o (f ∷ fs) a = ap (λ x. least x fs) (All-head (λ g. least o (g ∷ []) ≡ o) f fs a)
     ∙ told_all o fs (All-tail (λ g. least o (g ∷ []) ≡ o) f fs a)
 
-pub all_reached : (ms : List (Tree × Tree)) → AreNamesInOrder ms → (old now : Option Finding) (floor : Option Tree)
+pub all_reached : {ms : List (Tree × Tree)} → AreNamesInOrder ms → {old now : Option Finding} {floor : Option Tree}
     → HasReached ms old now floor → ((t : Tree) → Contains (names_of ms) t → is_above floor t ≡ false)
     → now ≡ least old (repeats ms)
-all_reached ms o old now floor r done =
+all_reached {ms} o {old} {now} r done =
     sym (told_all now (repeats ms) (λ k d l. told_at (get_or (repeats ms) k d) (at (repeats ms) k d l)))
     ∙ ap (λ x. least x (repeats ms)) r.sum ∙ absorbed old r.told (repeats ms) r.right
   where
@@ -263,9 +263,9 @@ fewer p q (t ∷ ts) u f c a b =
     ]
 
 -- a walk that gathered a name above the floor leaves fewer
-pub fewer_left : (ms : List (Tree × Tree)) (floor : Option Tree) (ts : List Tree) (t : Tree) → AreNext ms floor ts
+pub fewer_left : {ms : List (Tree × Tree)} {floor : Option Tree} {ts : List Tree} (t : Tree) → AreNext ms floor ts
     → Contains ts t → is_above floor t ≡ true
     → left_above (names_of ms) (last_of floor ts) < left_above (names_of ms) floor
-fewer_left ms floor ts t n c a =
+fewer_left {ms} {floor} {ts} t n c a =
     fewer (is_above floor) (is_above (last_of floor ts)) (names_of ms) t (λ u h. last_past floor ts n.ascend n.past u h)
     (All-contains (Contains (names_of ms)) ts t n.named c) a (none_past floor ts t n.ascend c)

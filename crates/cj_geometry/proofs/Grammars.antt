@@ -16,7 +16,7 @@ use Rattle.cj_decimal.specs.Meaning.Number.{signed}
 use Rattle.cj_decimal.specs.Meaning.Spelling.{SpellsNumber}
 use Rattle.cj_decimal.specs.Meaning.Reading.{digits_value}
 use Rattle.cj_decimal.specs.Meaning.Spelling as read
-use Rattle.cj_decimal.specs.Meaning.Class.{Class, no_number, out_of_range, not_whole, whole}
+use Rattle.cj_decimal.specs.Meaning.Class.{Class, no_number}
 use Rattle.cj_geometry.specs.Grammar.{IsWithinTree, the_tree, an_item, a_value, IsOfNumber}
 
 -- ---- what is scanned as a number is read as one
@@ -202,12 +202,10 @@ held_number line t u json h e = spelled_number (held_spelled (padded_spelled jso
 
 -- ---- and so its class is one of a number
 
-of_number : (s : List ℕ) (c : Class s) → SpellsNumber s → IsOfNumber c
-of_number s (no_number n) h = n h
-of_number s (out_of_range n) h = tt
-of_number s (not_whole v value range n) h = tt
-of_number s (whole v w value range is) h = tt
+of_number : {s : List ℕ} (c : Class s) → SpellsNumber s → IsOfNumber c
+of_number (no_number n) h = n h
+of_number _ h = tt
 
 pub held_class : (line : List ℕ) (t u : Tree) (c : Class (spelling_of line u)) → Json line t → IsWithinTree t u
     → kind_of u ≡ Number → IsOfNumber c
-held_class line t u c json h e = of_number (spelling_of line u) c (held_number line t u json h e)
+held_class line t u c json h e = of_number c (held_number line t u json h e)

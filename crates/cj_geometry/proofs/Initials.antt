@@ -13,10 +13,11 @@ use Rattle.cj_geometry.specs.Meaning.Rule.{distinct, one, repeats_of, repeats}
 use Rattle.cj_geometry.proofs.Repeats.{same_texts}
 
 -- one name more
-pub apart-on : (taken : List Bool) (all rest : List (Tree × Tree)) (m : Tree × Tree) (c : ℕ) → all ≡ m ∷ rest
+pub apart-on : (taken : List Bool) {all : List (Tree × Tree)} (rest : List (Tree × Tree)) (m : Tree × Tree) (c : ℕ)
+    → all ≡ m ∷ rest
     → first_code_of m.0 ≡ Some c → get_or taken (c % 32) false ≡ false
     → are_apart taken all ≡ are_apart (slice_set taken (c % 32) true) rest
-apart-on taken all rest m c e code free =
+apart-on taken rest m c e code free =
     ap (are_apart taken) e ∙ ap (λ o. then_apart o taken (λ more. are_apart more rest)) code
     ∙ ap (λ b. cond b false (are_apart (slice_set taken (c % 32) true) rest)) free
 

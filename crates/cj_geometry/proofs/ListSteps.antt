@@ -24,16 +24,17 @@ total_size-append [] us = omega arith
 total_size-append (t ∷ ts) us = let e = total_size-append ts us in omega arith
 
 -- what was passed is as much as the first items are
-passed_is : (n : ℕ) (ts left : List Tree) (passed : ℕ) → left ≡ drop n ts → passed + total_size left ≡ total_size ts
+passed_is : (n : ℕ) (ts : List Tree) {left : List Tree} (passed : ℕ) → left ≡ drop n ts
+    → passed + total_size left ≡ total_size ts
     → passed ≡ total_size (take n ts)
-passed_is n ts left passed e h =
+passed_is n ts passed e h =
     let whole = ap total_size (take-append-drop n ts) in let parts = total_size-append (take n ts) (drop n ts) in
     let same = ap total_size e in omega arith
 
 -- before the walk
-pub begins : (places step : ℕ) (ts left : List Tree) (sizes : List ℕ) → length sizes ≡ places
+pub begins : {places : ℕ} (step : ℕ) {ts left : List Tree} (sizes : List ℕ) → length sizes ≡ places
     → length ts < places * step → left ≡ ts → total_size left < 2147483648 → IsNoted places step ts left sizes 0 0 0
-begins places step ts left sizes room below same small =
+begins step {ts} {left} sizes room below same small =
     let count = ap length same in let sum = ap total_size same in
     let none : 0 ≡ length ts - length left = omega arith in
     record {
@@ -48,11 +49,11 @@ begins places step ts left sizes room below same small =
     }
 
 -- a step is due: there is a place for it
-pub has_place : (places step : ℕ) (ts left : List Tree) (t : Tree) (rest : List Tree) (sizes : List ℕ)
-    (place until passed : ℕ) → IsNoted places step ts left sizes place until passed → left ≡ t ∷ rest → until ≡ 0
+pub has_place : {places step : ℕ} {ts left : List Tree} (t : Tree) (rest : List Tree) {sizes : List ℕ}
+    {place until passed : ℕ} → IsNoted places step ts left sizes place until passed → left ≡ t ∷ rest → until ≡ 0
     → place < places
-has_place places step ts left t rest sizes place until passed w e z =
-    let more = ap length e in let at = w.next in let below = w.below in let few = w.few in
+has_place {places} {step} t rest {place} w e z =
+    let more = ap length e in
     elim (cases_lt place places) [
       | inl l ↦ l
       | inr g ↦ let high = mul-le places step place step g (omega arith) in
@@ -60,11 +61,11 @@ has_place places step ts left t rest sizes place until passed w e z =
     ]
 
 -- it is noted
-pub noted_one : (places step : ℕ) (ts left : List Tree) (t : Tree) (rest : List Tree) (sizes : List ℕ)
-    (place until passed : ℕ) → IsNoted places step ts left sizes place until passed → left ≡ t ∷ rest → until ≡ 0
+pub noted_one : {places step : ℕ} {ts left : List Tree} (t : Tree) (rest : List Tree) {sizes : List ℕ}
+    {place until passed : ℕ} → IsNoted places step ts left sizes place until passed → left ≡ t ∷ rest → until ≡ 0
     → IsNoted places step ts left (set sizes place passed) (place + 1) step passed
-noted_one places step ts left t rest sizes place until passed w e z =
-    let in_room = has_place places step ts left t rest sizes place until passed w e z in
+noted_one {step} {ts} {left} t rest {sizes} {place} {passed} w e z =
+    let in_room = has_place t rest w e z in
     let long = w.room in
     let at : place * step ≡ length ts - length left = (let n = w.next in omega arith) in
     record {
@@ -79,23 +80,21 @@ noted_one places step ts left t rest sizes place until passed w e z =
         | inl l ↦ get_or-set_other sizes place n passed 0 (λ e. absurd (omega arith)) ∙ w.noted n l
         | inr g ↦ let same : n ≡ place = omega arith in
             ap (λ k. get_or (set sizes place passed) k 0) same ∙ get_or-set_same sizes place passed 0 (omega arith)
-            ∙ passed_is (length ts - length left) ts left passed w.rest w.passed
+            ∙ passed_is (length ts - length left) ts passed w.rest w.passed
             ∙ ap (λ k. total_size (take k ts)) (sym at ∙ ap (λ k. k * step) (sym same))
       ];
     }
 
 rest_of : (n : ℕ) (ts : List Tree) (t : Tree) (rest : List Tree) → drop n ts ≡ t ∷ rest → drop (suc n) ts ≡ rest
-rest_of zero [] t rest h = cc
-rest_of zero (u ∷ ts) t rest h = cc
-rest_of (suc n) [] t rest h = cc
 rest_of (suc n) (u ∷ ts) t rest h = rest_of n ts t rest h
+rest_of _ _ t rest h = cc
 
 -- an item is passed
-pub passes : (places step : ℕ) (ts left : List Tree) (t : Tree) (rest : List Tree) (sizes : List ℕ)
-    (place until passed : ℕ) → IsNoted places step ts left sizes place until passed → left ≡ t ∷ rest → 0 < until
+pub passes : {places step : ℕ} {ts left : List Tree} (t : Tree) (rest : List Tree) {sizes : List ℕ}
+    {place until passed : ℕ} → IsNoted places step ts left sizes place until passed → left ≡ t ∷ rest → 0 < until
     → IsNoted places step ts rest sizes place (until - 1) (passed + size t)
-passes places step ts left t rest sizes place until passed w e more =
-    let count = ap length e in let sum = ap total_size e in let few = w.few in let sums = w.passed in let n = w.next in
+passes {ts} {left} t rest {passed} w e more =
+    let count = ap length e in let sum = ap total_size e in let few = w.few in
     let one : suc (length ts - length left) ≡ length ts - length rest = omega arith in
     record {
       room = w.room;
@@ -113,25 +112,24 @@ steps_some places zero n h = absurd (omega (arith, mul-zero places))
 steps_some places (suc step) n h = omega arith
 
 -- both ways of a turn
-pub on_then : (places step : ℕ) (ts left : List Tree) (t : Tree) (rest : List Tree) (sizes sizes' : List ℕ)
-    (place place' until until' sum own : ℕ) → IsNoted places step ts left sizes place until sum → left ≡ t ∷ rest
+pub on_then : {places step : ℕ} {ts left : List Tree} (t : Tree) (rest : List Tree) {sizes sizes' : List ℕ}
+    {place place' until until' sum own : ℕ} → IsNoted places step ts left sizes place until sum → left ≡ t ∷ rest
     → until ≡ 0
     → sizes' ≡ set sizes place sum → place' ≡ place + 1 → until' ≡ step → own ≡ size t
     → IsNoted places step ts rest sizes' place' (until' - 1) (sum + own)
-on_then places step ts left t rest sizes sizes' place place' until until' sum own w e z s p u o =
+on_then {places} {step} {ts} t rest w e z s p u o =
     let low = steps_some places step (length ts) w.below in
     let noted =
-    passes places step ts left t rest (set sizes place sum) (place + 1) step sum
-    (noted_one places step ts left t rest sizes place until sum w e z) e (omega arith) in
+    passes t rest (noted_one t rest w e z) e (omega arith) in
     rw (s, p, u, o) noted
 
-pub on_else : (places step : ℕ) (ts left : List Tree) (t : Tree) (rest : List Tree) (sizes sizes' : List ℕ)
-    (place place' until until' sum own : ℕ) → IsNoted places step ts left sizes place until sum → left ≡ t ∷ rest
+pub on_else : {places step : ℕ} {ts left : List Tree} (t : Tree) (rest : List Tree) {sizes sizes' : List ℕ}
+    {place place' until until' sum own : ℕ} → IsNoted places step ts left sizes place until sum → left ≡ t ∷ rest
     → (until ≡ 0 → ⊥)
     → sizes' ≡ sizes → place' ≡ place → until' ≡ until → own ≡ size t
     → IsNoted places step ts rest sizes' place' (until' - 1) (sum + own)
-on_else places step ts left t rest sizes sizes' place place' until until' sum own w e z s p u o =
-    let noted = passes places step ts left t rest sizes place until sum w e (omega arith) in
+on_else t rest w e z s p u o =
+    let noted = passes t rest w e (omega arith) in
     rw (s, p, u, o) noted
 
 -- ---- an item by its number
@@ -150,11 +148,12 @@ item_dropped (suc n) m (t ∷ ts) = let on : suc (n + m) ≡ suc n + m = omega a
     item_dropped n m ts ∙ ap (slice_get (t ∷ ts)) on
 
 -- the item of a number is so far behind the step before it
-pub found_item : (ts left : List Tree) (sizes : List ℕ) (step number size : ℕ) → AreSizesAt step ts sizes
+pub found_item : (ts : List Tree) {left : List Tree} (sizes : List ℕ) (step number : ℕ) {size : ℕ}
+    → AreSizesAt step ts sizes
     → number < length ts → size ≡ get_or sizes (number / step) 0
     → ((k : ℕ) → k ≤ length ts → total_size (take k ts) ≡ size → left ≡ drop k ts)
     → slice_get left (number % step) ≡ slice_get ts number
-found_item ts left sizes step number size noted h s finds =
+found_item ts sizes step number noted h s finds =
     let n = number / step in
     let whole : n * step + number % step ≡ number = div-add-mod' number step in
     let low : n * step < length ts = omega arith in

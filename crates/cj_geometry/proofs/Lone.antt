@@ -7,7 +7,7 @@ use Rattle.std.proofs.lemmas.List.Concat.{flat_map-append}
 use Rattle.std.proofs.lemmas.Bool.Decides.{nat_tests}
 use Rattle.cj_spans.specs.declared.reason.Reason.{Reason}
 use Rattle.cj_spans.specs.declared.finding.Finding.{Finding}
-use Rattle.cj_spans.specs.Meaning.Tree.{Tree, scalar, array, object, size}
+use Rattle.cj_spans.specs.Meaning.Tree.{Tree, scalar, size}
 use Rattle.cj_spans.specs.Forest.{total_size}
 use Rattle.cj_spans.specs.Meaning.Kinds.{is_number}
 use Rattle.cj_spans.specs.Meaning.Parts.{kind_of}
@@ -21,25 +21,22 @@ use Rattle.cj_geometry.proofs.Numbers.{index-of-whole}
 
 take-next : (n : ℕ) (ts : List Tree) (t : Tree) (rest : List Tree) → drop n ts ≡ t ∷ rest
     → take (suc n) ts ≡ take n ts ++ t ∷ []
-take-next zero [] t rest e = absurd (cc e)
 take-next zero (x ∷ xs) t rest e = let same : x ≡ t = cc e in ap (λ y. y ∷ []) same
-take-next (suc n) [] t rest e = absurd (cc e)
 take-next (suc n) (x ∷ xs) t rest e = ap (λ ys. x ∷ ys) (take-next n xs t rest e)
+take-next _ _ t rest e = absurd (cc e)
 
 there : (n : ℕ) (ts : List Tree) (t : Tree) (rest : List Tree) → drop n ts ≡ t ∷ rest → suc n ≤ length ts
-there zero [] t rest e = absurd (cc e)
 there zero (x ∷ xs) t rest e = omega arith
-there (suc n) [] t rest e = absurd (cc e)
 there (suc n) (x ∷ xs) t rest e = let h = there n xs t rest e in omega (arith, h)
+there _ _ t rest e = absurd (cc e)
 
 size-append : (ts us : List Tree) → total_size (ts ++ us) ≡ total_size ts + total_size us
 size-append [] us = omega arith
 size-append (t ∷ ts) us = let h = size-append ts us in omega (arith, h)
 
 size-front : (n : ℕ) (ts : List Tree) → total_size (take n ts) ≤ total_size ts
-size-front zero ts = omega arith
-size-front (suc n) [] = omega arith
 size-front (suc n) (t ∷ ts) = let h = size-front n ts in omega (arith, h)
+size-front _ _ = omega arith
 
 -- ---- one item more
 
@@ -61,15 +58,14 @@ module _ (n : ℕ) (ts : List Tree) (t : Tree) (rest : List Tree) (next : drop n
       ∙ ap (λ fs. fs ++ (rule t ++ [])) h ∙ ap (λ fs. fs ++ []) none
 
 -- what is counted is less than what an array holds
-pub lone-below : (n : ℕ) (ts : List Tree) → AreLone n ts → n ≤ total_size ts
-lone-below n ts h = let f = size-front n ts in let s = h.sizes in omega (arith, f, s)
+pub lone-below : {n : ℕ} {ts : List Tree} → AreLone n ts → n ≤ total_size ts
+lone-below {n} {ts} h = let f = size-front n ts in let s = h.sizes in omega (arith, f, s)
 
 -- ---- a whole number
 
 pub whole-size : (t : Tree) (w : ℤ) → whole_of t ≡ Some w → size t ≡ 1
 whole-size (scalar k a) w e = refl
-whole-size (array i j ts) w e = absurd (cc e)
-whole-size (object i j ms) w e = absurd (cc e)
+whole-size _ w e = absurd (cc e)
 
 -- where a whole number was read, there is one
 pub whole-there : (o : Option ℤ) (t : Tree) → IfSome o (λ w. whole_of t ≡ Some w) → IsSome o → (w : ℤ)
@@ -114,9 +110,10 @@ past-none rule (suc n) (t ∷ ts) h = past-none rule n ts (right_none (rule t) _
     right_none (f ∷ fs) gs e = absurd (cc e)
 
 -- a walk behind one item more has less left
-pub left-falls : (n : ℕ) (ts us vs : List Tree) → us ≡ drop n ts → vs ≡ drop (n + 1) ts → n + 1 ≤ length ts
+pub left-falls : (n : ℕ) (ts : List Tree) {us vs : List Tree} → us ≡ drop n ts → vs ≡ drop (n + 1) ts
+    → n + 1 ≤ length ts
     → length vs < length us
-left-falls n ts us vs a b l =
+left-falls n ts a b l =
     let p = ap length a ∙ length-drop n ts in
     let q = ap length b ∙ length-drop (n + 1) ts in
     omega (arith, p, q)

@@ -42,13 +42,13 @@ absorbed o fs gs a = sym (least-append o fs gs)
 
 -- ---- lists
 
-at_cases : {X : Type 0} (x : X) (xs : List X) (y : X) (k : ℕ) → k < length (x ∷ xs) → get_or (x ∷ xs) k y ≡ y → (x ≡ y)
+at_cases : {X : Type 0} (x : X) (xs : List X) {y : X} (k : ℕ) → k < length (x ∷ xs) → get_or (x ∷ xs) k y ≡ y → (x ≡ y)
     ⊎ Contains xs y
-at_cases x xs y zero l e = inl e
-at_cases x xs y (suc k) l e = inr (k, omega arith, e)
+at_cases x xs zero l e = inl e
+at_cases x xs (suc k) l e = inr (k, omega arith, e)
 
 pub contains_cases : {X : Type 0} (x : X) (xs : List X) (y : X) → Contains (x ∷ xs) y → (x ≡ y) ⊎ Contains xs y
-contains_cases x xs y c = at_cases x xs y c.0 c.1 c.2
+contains_cases x xs y c = at_cases x xs c.0 c.1 c.2
 
 pub contains_first : {X : Type 0} (x : X) (xs : List X) → Contains (x ∷ xs) x
 contains_first x xs = (0, omega arith, refl)

@@ -3,7 +3,7 @@ use Rattle.std.proofs.Common.{◌≡◌, ℕ, ◌<◌, ◌^◌, List, [], Bool, 
 use Rattle.std.specs.Prelude.{unsigned_abs, pos, negsuc, ◌*ℤ◌, nat_lt, unwrap_or, option_and_then, IfSome, IsSome, slice_range}
 use Rattle.std.proofs.lemmas.Bool.Decides.{nat_tests}
 use Rattle.std.proofs.lemmas.Int.{to_z-of_z, fits_signed_from_abs}
-use Rattle.cj_spans.specs.declared.token.Kind.TheVariants.{Null, Truth, Number, Text, Array, Object}
+use Rattle.cj_spans.specs.declared.token.Kind.TheVariants.{Number}
 use Rattle.cj_spans.specs.declared.reason.Reason.{Reason}
 use Rattle.cj_spans.specs.declared.reason.Reason.TheVariants.{NotWhole, WrongKind}
 use Rattle.cj_spans.specs.declared.finding.Finding.{Finding}
@@ -48,9 +48,9 @@ index-by reason count t (Ok None) = one NotWhole t
 index-by reason count t (Ok (Some w)) = cond (is_outside count w) (one reason t) []
 index-by reason count t (Err e) = one (fault_reason e) t
 
-index-class : (s : List ℕ) (reason : Reason) (count : Option ℕ) (t : Tree) (c : Class s)
+index-class : {s : List ℕ} (reason : Reason) (count : Option ℕ) (t : Tree) (c : Class s)
     → IndexFindings reason count t (decimal_of s) ≡ index-by reason count t (whole_answer c)
-index-class s reason count t c = by_value (decimal_of s) ∙ ap (index-by reason count t) (whole_class s c)
+index-class {s} reason count t c = by_value (decimal_of s) ∙ ap (index-by reason count t) (whole_class s c)
   where
     by_whole : (o : Option ℤ) → whole_findings (λ w. cond (is_outside count w) (one reason t) []) t o
         ≡ index-by reason count t (Ok o)
@@ -67,9 +67,9 @@ abbrev pub number-by : Tree → Result (Option ℤ) DecimalFault → List Findin
 number-by t (Ok o) = []
 number-by t (Err e) = one (fault_reason e) t
 
-number-class : (s : List ℕ) (t : Tree) (c : Class s) → value_findings (λ v. []) t (decimal_of s)
+number-class : {s : List ℕ} (t : Tree) (c : Class s) → value_findings (λ v. []) t (decimal_of s)
     ≡ number-by t (whole_answer c)
-number-class s t c = by_value (decimal_of s) ∙ ap (number-by t) (whole_class s c)
+number-class {s} t c = by_value (decimal_of s) ∙ ap (number-by t) (whole_class s c)
   where
     by_value : (r : Result DecimalNumber DecimalFault) → value_findings (λ v. []) t r
         ≡ number-by t (whole_answer_by r)
@@ -81,9 +81,9 @@ abbrev pub whole-if : Result (Option ℤ) DecimalFault → Option ℤ
 whole-if (Ok o) = o
 whole-if (Err e) = None
 
-whole-class : (s : List ℕ) (c : Class s) → option_and_then as_whole (value_if (decimal_of s))
+whole-class : {s : List ℕ} (c : Class s) → option_and_then as_whole (value_if (decimal_of s))
     ≡ whole-if (whole_answer c)
-whole-class s c = by_value (decimal_of s) ∙ ap whole-if (whole_class s c)
+whole-class {s} c = by_value (decimal_of s) ∙ ap whole-if (whole_class s c)
   where
     by_value : (r : Result DecimalNumber DecimalFault) → option_and_then as_whole (value_if r)
         ≡ whole-if (whole_answer_by r)
@@ -110,19 +110,13 @@ index-of-whole t w is reason count = go (is_number (kind_of t)) refl
     go false e = absurd (cc (rw e at is))
 
 pub whole-kind : (t : Tree) (w : ℤ) → whole_of t ≡ Some w → kind_of t ≡ Number
-whole-kind (scalar Null a) w is = absurd (cc is)
-whole-kind (scalar Truth a) w is = absurd (cc is)
 whole-kind (scalar Number a) w is = refl
-whole-kind (scalar Text a) w is = absurd (cc is)
-whole-kind (scalar Array a) w is = absurd (cc is)
-whole-kind (scalar Object a) w is = absurd (cc is)
-whole-kind (array i j ts) w is = absurd (cc is)
-whole-kind (object i j ms) w is = absurd (cc is)
+whole-kind _ w is = absurd (cc is)
 
 -- an index has no finding but at itself
-pub index-told : (found : Option Finding) (t : Tree) → ((r : Reason) → least found (one r t) ≡ found)
+pub index-told : {found : Option Finding} (t : Tree) → ((r : Reason) → least found (one r t) ≡ found)
     → (reason : Reason) (count : Option ℕ) → least found (index reason count t) ≡ found
-index-told found t same reason count = go (is_number (kind_of t)) refl
+index-told {found} t same reason count = go (is_number (kind_of t)) refl
   where
     by_test : (b : Bool) → least found (cond b (one reason t) []) ≡ found
     by_test true = same reason
@@ -183,9 +177,8 @@ module _ (line : List ℕ) (t : Tree) (kind : kind_of t ≡ Number) where
   pub number-fault : (e : DecimalFault) → (e ≡ NotANumber → ¬ SpellsNumber (spelling_of line t))
       → (e ≡ OutOfRange → IsNumberOutOfRange (spelling_of line t)) → number t ≡ one (fault_reason e) t
   number-fault e none out =
-      rw kind (number-class (spelling t) t (class (spelling t))
-      ∙ ap (number-by t) (answer_fault (spelling t) e (class (spelling t)) (rw spelled at none)
-      (rw spelled at out)))
+      rw kind (number-class t (class (spelling t))
+      ∙ ap (number-by t) (answer_fault (spelling t) e (class (spelling t)) (rw spelled at none) (rw spelled at out)))
 
   -- with what a call has read of the spelling, which is s
   module _ (s : List ℕ) (same : s ≡ spelling_of line t) (r q : Result (Option ℤ) DecimalFault)
@@ -195,13 +188,13 @@ module _ (line : List ℕ) (t : Tree) (kind : kind_of t ≡ Number) where
 
     pub index-read : (reason : Reason) (count : Option ℕ) → index reason count t ≡ index-by reason count t q
     index-read reason count =
-        rw kind (index-class (spelling t) reason count t (class (spelling t)) ∙ ap (index-by reason count t) answer)
+        rw kind (index-class reason count t (class (spelling t)) ∙ ap (index-by reason count t) answer)
 
     pub whole-read : whole_of t ≡ whole-if q
-    whole-read = rw kind (whole-class (spelling t) (class (spelling t)) ∙ ap whole-if answer)
+    whole-read = rw kind (whole-class (class (spelling t)) ∙ ap whole-if answer)
 
     pub number-read : number t ≡ number-by t q
-    number-read = rw kind (number-class (spelling t) t (class (spelling t)) ∙ ap (number-by t) answer)
+    number-read = rw kind (number-class t (class (spelling t)) ∙ ap (number-by t) answer)
 
   -- with the whole number that a call may have read of it
   module _ (s : List ℕ) (same : s ≡ spelling_of line t) where
@@ -237,7 +230,7 @@ kind-at line start stop order first = let e = first_is line start stop order in
     digit-kind (byte line start) (omega (arith, first.0, e)) (omega (arith, first.1, e))
 
 -- where a node stands, and what was read there
-module _ (line b : List ℕ) (t : Tree) (start stop : ℕ) (e : b ≡ line) (order : start < stop)
+module _ {line b : List ℕ} (t : Tree) (start stop : ℕ) (e : b ≡ line) (order : start < stop)
     (same : slice_range line start stop ≡ spelling_of line t) (kind : kind_by (byte line start) ≡ kind_of t) where
   read-there : (w : ℤ) → kind_by (byte line start) ≡ Number
       → ((c : Class (slice_range b start stop)) → whole_answer c ≡ Ok (Some w)) → whole_of t ≡ Some w

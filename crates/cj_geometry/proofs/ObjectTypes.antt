@@ -42,38 +42,7 @@ has-level n small = agree_below_at (λ k. (row_numbered k).is_second) (λ k. nat
 
 pub number-below : (o : ObjectType) → number_of o < 33
 number-below Bridge = lit< tt
-number-below Building = lit< tt
-number-below CityFurniture = lit< tt
-number-below CityObjectGroup = lit< tt
-number-below GenericCityObject = lit< tt
-number-below LandUse = lit< tt
-number-below OtherConstruction = lit< tt
-number-below PlantCover = lit< tt
-number-below Railway = lit< tt
-number-below Road = lit< tt
-number-below SolitaryVegetationObject = lit< tt
-number-below TINRelief = lit< tt
-number-below TransportSquare = lit< tt
-number-below Tunnel = lit< tt
-number-below WaterBody = lit< tt
-number-below Waterway = lit< tt
-number-below BridgeConstructiveElement = lit< tt
-number-below BridgeFurniture = lit< tt
-number-below BridgeInstallation = lit< tt
-number-below BridgePart = lit< tt
-number-below BridgeRoom = lit< tt
-number-below BuildingConstructiveElement = lit< tt
-number-below BuildingFurniture = lit< tt
-number-below BuildingInstallation = lit< tt
-number-below BuildingPart = lit< tt
-number-below BuildingRoom = lit< tt
-number-below BuildingStorey = lit< tt
-number-below BuildingUnit = lit< tt
-number-below TunnelConstructiveElement = lit< tt
-number-below TunnelFurniture = lit< tt
-number-below TunnelHollowSpace = lit< tt
-number-below TunnelInstallation = lit< tt
-number-below TunnelPart = lit< tt
+number-below _ = lit< tt
 
 pub type-number : (o : ObjectType) → (row_at o).number ≡ number_of o
 type-number o = has-number (number_of o) (number-below o)
@@ -125,38 +94,7 @@ type_numbered n = get_or types n Bridge
 its-number : (o : ObjectType) → type_numbered (number_of o) ≡ o
 unfolding type_numbered types
 its-number Bridge = refl
-its-number Building = refl
-its-number CityFurniture = refl
-its-number CityObjectGroup = refl
-its-number GenericCityObject = refl
-its-number LandUse = refl
-its-number OtherConstruction = refl
-its-number PlantCover = refl
-its-number Railway = refl
-its-number Road = refl
-its-number SolitaryVegetationObject = refl
-its-number TINRelief = refl
-its-number TransportSquare = refl
-its-number Tunnel = refl
-its-number WaterBody = refl
-its-number Waterway = refl
-its-number BridgeConstructiveElement = refl
-its-number BridgeFurniture = refl
-its-number BridgeInstallation = refl
-its-number BridgePart = refl
-its-number BridgeRoom = refl
-its-number BuildingConstructiveElement = refl
-its-number BuildingFurniture = refl
-its-number BuildingInstallation = refl
-its-number BuildingPart = refl
-its-number BuildingRoom = refl
-its-number BuildingStorey = refl
-its-number BuildingUnit = refl
-its-number TunnelConstructiveElement = refl
-its-number TunnelFurniture = refl
-its-number TunnelHollowSpace = refl
-its-number TunnelInstallation = refl
-its-number TunnelPart = refl
+its-number _ = refl
 
 -- different types have different numbers, and different rows
 pub same-number : (a b : ObjectType) → number_of a ≡ number_of b → a ≡ b

@@ -19,8 +19,7 @@ order = then_total (on_total text_of (options_total nat_list_cmp_total)) (on_tot
 
 less_is : (r : Ordering) → is_lt r ≡ true → r ≡ Less
 less_is Less h = refl
-less_is Equal h = cc
-less_is Greater h = cc
+less_is _ h = cc
 
 pub earlier_itself : (t : Tree) → is_earlier t t ≡ false
 earlier_itself t = ap is_lt (tied_itself order t)
@@ -71,9 +70,8 @@ tied_by t u Equal e h k = e
 tied_by t u Greater e h k = absurd (both_sides (ap is_lt (order.antisymm u t ∙ ap ordering_reverse e)) k)
 
 then_equal : (r s : Ordering) → ordering_then r s ≡ Equal → (r ≡ Equal) × (s ≡ Equal)
-then_equal Less s h = cc
 then_equal Equal s h = (refl, h)
-then_equal Greater s h = cc
+then_equal _ s h = cc
 
 same_number : (m n : ℕ) → nat_cmp m n ≡ Equal → m ≡ n
 same_number m n h =
@@ -91,9 +89,8 @@ same_number m n h =
 
 pub same_by_order : (s t : Option (List ℕ)) → compare_texts s t ≡ Equal → s ≡ t
 same_by_order None None h = refl
-same_by_order None (Some t) h = cc
-same_by_order (Some s) None h = cc
 same_by_order (Some s) (Some t) h = ap Some ((bytes_decides s t).0 (texts_ties s t ∙ ap is_eq h))
+same_by_order _ _ h = cc
 
 pub record AreTied (t u : Tree) : Type 0 where
   pub text : text_of t ≡ text_of u
@@ -107,8 +104,8 @@ tied t u h k =
 
 -- ---- names of one text
 
-text_itself : (s t : Option (List ℕ)) → s ≡ t → compare_texts s t ≡ Equal
-text_itself s t e = subst (λ x. compare_texts s x ≡ Equal) e (tied_itself (options_total nat_list_cmp_total) s)
+text_itself : {s t : Option (List ℕ)} → s ≡ t → compare_texts s t ≡ Equal
+text_itself {s} e = subst (λ x. compare_texts s x ≡ Equal) e (tied_itself (options_total nat_list_cmp_total) s)
 
 less_number : (m n : ℕ) → m < n → nat_cmp m n ≡ Less
 less_number m n h = let e : nat_lt m n ≡ true = grind (arith, nat_tests) in
@@ -132,14 +129,13 @@ number_less m n h =
 -- where they start orders them
 pub earlier_by_start : (t u : Tree) → text_of t ≡ text_of u → start_of t < start_of u → is_earlier t u ≡ true
 earlier_by_start t u e h =
-    ap (λ r. is_lt (ordering_then r (nat_cmp (start_of t) (start_of u)))) (text_itself (text_of t) (text_of u) e)
+    ap (λ r. is_lt (ordering_then r (nat_cmp (start_of t) (start_of u)))) (text_itself e)
     ∙ ap is_lt (less_number (start_of t) (start_of u) h)
 
 pub start_by_earlier : (t u : Tree) → text_of t ≡ text_of u → is_earlier t u ≡ true → start_of t < start_of u
 start_by_earlier t u e h =
     number_less (start_of t) (start_of u)
-    (less_is _ (sym (ap (λ r. is_lt (ordering_then r (nat_cmp (start_of t) (start_of u))))
-    (text_itself (text_of t) (text_of u) e)) ∙ h))
+    (less_is _ (sym (ap (λ r. is_lt (ordering_then r (nat_cmp (start_of t) (start_of u)))) (text_itself e)) ∙ h))
 
 -- what stands between two names of one text has it too
 between_by : (t u v : Tree) (r : Ordering) → compare_texts (text_of u) (text_of v) ≡ r → text_of t ≡ text_of v

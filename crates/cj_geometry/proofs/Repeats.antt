@@ -1,5 +1,5 @@
 -- What was found before a value hides a finding at it, and texts that pass the test are the same.
-use Rattle.std.proofs.Common.{◌≡◌, ◌<◌, ℕ, List, nat_eq, nat_lt, ◌&&◌, true, false, cond, Option, Some, None, sym, ap, arith, ◌∙◌}
+use Rattle.std.proofs.Common.{◌≡◌, ◌<◌, ℕ, List, nat_eq, nat_lt, ◌&&◌, true, false, cond, Option, Some, sym, ap, arith, ◌∙◌}
 use Rattle.std.specs.Cmp.Lexicographic.{same_text}
 use Rattle.std.proofs.lemmas.Bool.Decides.{nat_tests}
 use Rattle.std.proofs.lemmas.Bool.{or_from}
@@ -12,9 +12,9 @@ use Rattle.cj_spans.specs.Meaning.Parts.{are_same_texts}
 use Rattle.cj_geometry.specs.Meaning.Rule.{one}
 
 -- what stands after what was found changes nothing
-pub told_before : (o : Option Finding) (f : Finding) (t : Tree) → o ≡ Some f → f.place < start_of t → (r : Reason)
+pub told_before : {o : Option Finding} (f : Finding) (t : Tree) → o ≡ Some f → f.place < start_of t → (r : Reason)
     → least o (one r t) ≡ o
-told_before o f t e l r =
+told_before f t e l r =
     let a : nat_lt (start_of t) f.place ≡ false = grind (arith, nat_tests) in
     let b : nat_eq (start_of t) f.place ≡ false = grind (arith, nat_tests) in
     let c : is_before (found_at (start_of t) r) f ≡ false =
@@ -24,6 +24,5 @@ told_before o f t e l r =
 
 -- the test of one text tells that it is one
 pub same_texts : (a b : Option (List ℕ)) → are_same_texts a b ≡ true → a ≡ b
-same_texts None b h = cc
-same_texts (Some s) None h = cc
 same_texts (Some s) (Some t) h = ap Some (same_text s t (sym h))
+same_texts _ _ h = cc

@@ -42,10 +42,11 @@ contains_unmap f (x ∷ xs) y c =
     ]
 
 -- where the room is full, it holds what was in it and the name
-pub full_least : (s : Source) (room : List WordedName) (n : ℕ) (e : WordedName) (least new : List WordedName)
-    (c : WordedName) → n < length room → length (set room n e) ≤ n + 1 → AreLeast s (set room n e) least c
+pub full_least : {s : Source} (room : List WordedName) (n : ℕ) (e : WordedName) {least : List WordedName}
+    (new : List WordedName)
+    {c : WordedName} → n < length room → length (set room n e) ≤ n + 1 → AreLeast s (set room n e) least c
     → take (length least) new ≡ least → AreLeast s (take n room ++ e ∷ []) (take (length least) new) c
-full_least s room n e least new c l f a h =
+full_least {s} room n e {least} new {c} l f a h =
     let all : take (n + 1) (set room n e) ≡ set room n e = grind (arith, common_steps) in
     let p : set room n e ≡ take n room ++ e ∷ [] = sym all ∙ take_more_set room n e l in
     subst (λ xs. AreLeast s xs (take (length least) new) c) p (subst (λ xs. AreLeast s (set room n e) xs c) (sym h) a)
@@ -55,10 +56,11 @@ full_least s room n e least new c l f a h =
 pub holds_first : (s : Source) (names : List Tree) (floor : Option Tree) → HoldNames s names names floor None []
 holds_first s names floor = record { held = All-nil (IsHeldName s names floor None); whole = λ t c a b. inr c }
 
-pub holds_passed : (s : Source) (names left : List Tree) (floor ceiling : Option Tree) (es : List WordedName) (t : Tree)
+pub holds_passed : {s : Source} {names : List Tree} (left : List Tree) {floor ceiling : Option Tree}
+    {es : List WordedName} (t : Tree)
     → is_above floor t && is_below ceiling t ≡ false → HoldNames s names (t ∷ left) floor ceiling es
     → HoldNames s names left floor ceiling es
-holds_passed s names left floor ceiling es t n h =
+holds_passed {s} left {floor} {ceiling} {es} t n h =
     record { held = h.held; whole = λ u c a b. still u a b (h.whole u c a b) }
   where
     still : (u : Tree) → is_above floor u ≡ true → is_below ceiling u ≡ true → Contains (names_in s es) u
@@ -79,10 +81,11 @@ below_under : (ceiling : Option Tree) (t : Tree) → is_below ceiling t ≡ true
 below_under None t h = refl
 below_under (Some c) t h = earlier_not_back t c h
 
-pub holds_pushed : (s : Source) (names left : List Tree) (floor ceiling : Option Tree) (es : List WordedName)
-    (e : WordedName) → IsHeldName s names floor ceiling e → HoldNames s names (name_in s e ∷ left) floor ceiling es
+pub holds_pushed : {s : Source} {names : List Tree} (left : List Tree) {floor ceiling : Option Tree}
+    {es : List WordedName}
+    {e : WordedName} → IsHeldName s names floor ceiling e → HoldNames s names (name_in s e ∷ left) floor ceiling es
     → HoldNames s names left floor ceiling (es ++ e ∷ [])
-holds_pushed s names left floor ceiling es e i h = record {
+holds_pushed {s} {names} left {floor} {ceiling} {es} {e} i h = record {
   held = All-push (IsHeldName s names floor ceiling) es e h.held i;
   whole = λ u c a b. still u (h.whole u c a b);
 }
@@ -101,15 +104,15 @@ holds_pushed s names left floor ceiling es e i h = record {
 
 -- ---- the room is full
 
-front_among : (s : Source) (es front : List WordedName) (next : WordedName) → AreLeast s es front next
+front_among : {s : Source} {es front : List WordedName} {next : WordedName} → AreLeast s es front next
     → (e : WordedName) → Contains front e → Contains es e
-front_among s es front next a e c =
+front_among {es} {front} {next} a e c =
     Contains-permutation _ es e (IsPermutation-sym es _ a.permutation)
     (Contains-append_left front (next ∷ a.others) e c)
 
-pub next_among : (s : Source) (es front : List WordedName) (next : WordedName) → AreLeast s es front next
+pub next_among : {s : Source} {es front : List WordedName} {next : WordedName} → AreLeast s es front next
     → Contains es next
-next_among s es front next a =
+next_among {es} {front} {next} a =
     Contains-permutation _ es next (IsPermutation-sym es _ a.permutation)
     (Contains-append_right front (next ∷ a.others) next (contains_first next a.others))
 
@@ -119,20 +122,20 @@ below_more : (ceiling : Option Tree) (t u : Tree) → is_past ceiling u ≡ fals
 below_more None t u h k = refl
 below_more (Some c) t u h k = on_upto t u c k h
 
-pub holds_least : (s : Source) (names left : List Tree) (floor ceiling : Option Tree) (es front : List WordedName)
-    (next : WordedName) → HoldNames s names left floor ceiling es → AreLeast s es front next
+pub holds_least : {s : Source} {names left : List Tree} {floor ceiling : Option Tree} {es front : List WordedName}
+    {next : WordedName} → HoldNames s names left floor ceiling es → AreLeast s es front next
     → HoldNames s names left floor (Some (name_in s next)) front
-holds_least s names left floor ceiling es front next h a = record {
+holds_least {s} {names} {left} {floor} {ceiling} {es} {front} {next} h a = record {
   held = all_of (IsHeldName s names floor (Some (name_in s next))) front held_on;
   whole = λ t c up b. still t b (h.whole t c up (below_more ceiling t (name_in s next) n.under b));
 }
   where
     n : IsHeldName s names floor ceiling next
-    n = All-contains (IsHeldName s names floor ceiling) es next h.held (next_among s es front next a)
+    n = All-contains (IsHeldName s names floor ceiling) es next h.held (next_among a)
 
     held_on : (e : WordedName) → Contains front e → IsHeldName s names floor (Some (name_in s next)) e
     held_on e c =
-        let i = All-contains (IsHeldName s names floor ceiling) es e h.held (front_among s es front next a e c) in
+        let i = All-contains (IsHeldName s names floor ceiling) es e h.held (front_among a e c) in
         let l = All-contains (λ d. is_lt (compare_worded s next d) ≡ false) front e a.before c in
         record {
           word = i.word;
@@ -175,23 +178,24 @@ pub record HasGathered (s : Source) (names left : List Tree) (floor : Option Tre
 pub gathered_first : (s : Source) (names : List Tree) (floor : Option Tree) → HasGathered s names names floor None []
 gathered_first s names floor = record { holds = holds_first s names floor; word = tt; rest = All-contains_itself names }
 
-pub gathered_passed : (s : Source) (names left : List Tree) (floor : Option Tree) (ceiling : Option WordedName)
-    (e : WordedName) (t : Tree) (es : List WordedName) → name_in s e ≡ t → is_above floor (name_in s e)
+pub gathered_passed : {s : Source} {names : List Tree} (left : List Tree) {floor : Option Tree}
+    {ceiling : Option WordedName}
+    (e : WordedName) (t : Tree) {es : List WordedName} → name_in s e ≡ t → is_above floor (name_in s e)
     && is_below (limit_in s ceiling) (name_in s e) ≡ false
     → HasGathered s names (t ∷ left) floor ceiling es → HasGathered s names left floor ceiling es
-gathered_passed s names left floor ceiling e t es f n g = record {
-  holds = holds_passed s names left floor (limit_in s ceiling) es t
-      (subst (λ x. is_above floor x && is_below (limit_in s ceiling) x ≡ false) f n) g.holds;
+gathered_passed {s} {names} left {floor} {ceiling} e t f n g = record {
+  holds = holds_passed left t (subst (λ x. is_above floor x && is_below (limit_in s ceiling) x ≡ false) f n) g.holds;
   word = g.word;
   rest = All-tail (Contains names) t left g.rest;
 }
 
-pub gathered_more : (s : Source) (names left : List Tree) (floor : Option Tree) (ceiling next : Option WordedName)
+pub gathered_more : {s : Source} {names : List Tree} (left : List Tree) {floor : Option Tree}
+    (ceiling next : Option WordedName)
     (e : WordedName) (t : Tree) (es new : List WordedName) → name_in s e ≡ t → IsWorded s e
     → is_above floor (name_in s e) ≡ true → is_below (limit_in s ceiling) (name_in s e) ≡ true
     → TakeOne s e es ceiling new next → HasGathered s names (t ∷ left) floor ceiling es
     → HasGathered s names left floor next new
-gathered_more s names left floor ceiling next e t es new f w a b o g =
+gathered_more {s} {names} left {floor} ceiling next e t es new f w a b o g =
     let i : IsHeldName s names floor (limit_in s ceiling) e = record {
       word = w;
       named = subst (Contains names) (sym f) (All-head (Contains names) t left g.rest);
@@ -199,7 +203,7 @@ gathered_more s names left floor ceiling next e t es new f w a b o g =
       under = below_under (limit_in s ceiling) (name_in s e) b;
     } in
     let h = subst (λ x. HoldNames s names (x ∷ left) floor (limit_in s ceiling) es) (sym f) g.holds in
-    by_room o (holds_pushed s names left floor (limit_in s ceiling) es e i h)
+    by_room o (holds_pushed left i h)
   where
     rest : All (Contains names) left
     rest = All-tail (Contains names) t left g.rest
@@ -212,19 +216,19 @@ gathered_more s names left floor ceiling next e t es new f w a b o g =
         (record { holds = h; word = g.word; rest = rest }))
     by_room (inr p) h =
         let n = All-contains (IsHeldName s names floor (limit_in s ceiling)) (es ++ e ∷ []) p.0 h.held
-        (next_among s (es ++ e ∷ []) new p.0 p.2) in
+        (next_among p.2) in
         subst (λ x. HasGathered s names left floor x new) (sym p.1)
         (record {
-          holds = holds_least s names left floor (limit_in s ceiling) (es ++ e ∷ []) new p.0 h p.2;
+          holds = holds_least h p.2;
           word = n.word;
           rest = rest;
         })
 
 -- ---- a walk has ended
 
-gap_none : (s : Source) (ns : List Tree) (floor ceiling : Option Tree) (es fs : List WordedName)
+gap_none : {s : Source} {ns : List Tree} {floor ceiling : Option Tree} {es : List WordedName} (fs : List WordedName)
     → HoldNames s ns [] floor ceiling es → IsPermutation es fs → HaveNoGap ns floor (names_in s fs)
-gap_none s ns floor ceiling es fs h p = λ t c a. by_side (is_below ceiling t) t refl c a
+gap_none {s} {ns} {floor} {ceiling} {es} fs h p = λ t c a. by_side (is_below ceiling t) t refl c a
   where
     moved : (t : Tree) → Contains (names_in s es) t → Contains (names_in s fs) t
     moved t c = let r = contains_unmap (name_in s) es t c in
@@ -247,17 +251,18 @@ gap_none s ns floor ceiling es fs h p = λ t c a. by_side (is_below ceiling t) t
         (All-permutation (λ e. is_earlier t (name_in s e) ≡ false) es fs p
         (λ k d l. behind ceiling t (name_in s (get_or es k d)) b (h.held k d l).under)))
 
-pub are_next : (s : Source) (ms : List (Tree × Tree)) (floor ceiling : Option Tree) (es fs : List WordedName)
+pub are_next : {s : Source} (ms : List (Tree × Tree)) {floor ceiling : Option Tree} {es : List WordedName}
+    (fs : List WordedName)
     → HoldNames s (names_of ms) [] floor ceiling es → IsPermutation es fs → Ascend (names_in s fs)
     → AreNext ms floor (names_in s fs)
-are_next s ms floor ceiling es fs h p a =
+are_next {s} ms {floor} {ceiling} {es} fs h p a =
     let moved = All-permutation (IsHeldName s (names_of ms) floor ceiling) es fs p h.held in
     record {
       ascend = a;
       named = All-map (Contains (names_of ms)) (name_in s) fs (λ k d l. (moved k d l).named);
       past = All-map (IsPast floor) (name_in s) fs
           (λ k d l. past_above floor (name_in s (get_or fs k d)) (moved k d l).above);
-      no_gap = gap_none s (names_of ms) floor ceiling es fs h p;
+      no_gap = gap_none fs h p;
     }
 
 -- where there is no ceiling, no name is left above the last
@@ -265,9 +270,8 @@ pub none_left : (s : Source) (ms : List (Tree × Tree)) (floor : Option Tree) (e
     → HoldNames s (names_of ms) [] floor None es → IsPermutation es fs → Ascend (names_in s fs)
     → (t : Tree) → Contains (names_of ms) t → is_above (last_of floor (names_in s fs)) t ≡ false
 none_left s ms floor es fs h p a t c =
-    let n = are_next s ms floor None es fs h p a in
-    none_true (is_above (last_of floor (names_in s fs)) t)
-    (λ k. both_sides k (none_past floor (names_in s fs) t a
+    let n = are_next ms fs h p a in
+    none_true (is_above (last_of floor (names_in s fs)) t) (λ k. both_sides k (none_past floor (names_in s fs) t a
     (there (h.whole t c (last_past floor (names_in s fs) a n.past t k) refl))))
   where
     there : Contains (names_in s es) t ⊎ Contains [] t → Contains (names_in s fs) t
@@ -287,13 +291,13 @@ room_kept n room fs h p =
     omega arith
 
 -- the first of the names that a walk gathered is above the floor
-pub first_held : (s : Source) (ms : List (Tree × Tree)) (floor ceiling : Option Tree) (es fs : List WordedName)
+pub first_held : {s : Source} (ms : List (Tree × Tree)) {floor ceiling : Option Tree} (es fs : List WordedName)
     → HoldNames s (names_of ms) [] floor ceiling es → IsPermutation es fs → Ascend (names_in s fs) → 0 < length es
     → left_above (names_of ms) (last_of floor (names_in s fs)) < left_above (names_of ms) floor
-first_held s ms floor ceiling [] fs h p a l = absurd (omega arith)
-first_held s ms floor ceiling (e ∷ es) fs h p a l =
+first_held ms [] fs h p a l = absurd (omega arith)
+first_held {s} ms {floor} {ceiling} (e ∷ es) fs h p a l =
     let i = All-head (IsHeldName s (names_of ms) floor ceiling) e es h.held in
-    fewer_left ms floor (names_in s fs) (name_in s e) (are_next s ms floor ceiling (e ∷ es) fs h p a)
+    fewer_left (name_in s e) (are_next ms fs h p a)
     (contains_map (name_in s) fs e (Contains-permutation (e ∷ es) fs e p (contains_first e es))) i.above
 
 pub none_there : (o : Option WordedName) → is_some o ≡ false → o ≡ None

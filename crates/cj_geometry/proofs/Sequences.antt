@@ -8,19 +8,21 @@ use Rattle.cj_geometry.specs.Meaning.Rule.{repeats_of, repeats}
 use Rattle.cj_geometry.specs.Meaning.Geometry.{paired, first_part, other_parts}
 
 -- one name more
-pub names-on : (all rest : List (Tree × Tree)) (m : Tree × Tree) (o p total : Option Finding)
+pub names-on : {all : List (Tree × Tree)} (rest : List (Tree × Tree)) (m : Tree × Tree) (o : Option Finding)
+    {p total : Option Finding}
     → least o (repeats all) ≡ total → all ≡ m ∷ rest → p ≡ least o (repeats_of m.0 rest)
     → least p (repeats rest) ≡ total
-names-on all rest m o p total h e q =
+names-on rest m o h e q =
     ap (λ x. least x (repeats rest)) q ∙ sym (least-append o (repeats_of m.0 rest) (repeats rest))
     ∙ sym (ap (λ xs. least o (repeats xs)) e) ∙ h
 
 -- one value more, with the part beside it
-pub beside-on : (rule : Tree → Option Tree → List Finding) (all rest parts : List Tree) (t : Tree) (b : Option Tree)
-    (left : List Tree) (o p total : Option Finding) → least o (paired rule all parts) ≡ total
+pub beside-on : (rule : Tree → Option Tree → List Finding) {all : List Tree} (rest parts : List Tree) (t : Tree)
+    {b : Option Tree}
+    {left : List Tree} (o : Option Finding) {p total : Option Finding} → least o (paired rule all parts) ≡ total
     → all ≡ t ∷ rest → b ≡ first_part parts → left ≡ other_parts parts → p ≡ least o (rule t b)
     → least p (paired rule rest left) ≡ total
-beside-on rule all rest parts t b left o p total h e f g q =
+beside-on rule rest parts t o {total} h e f g q =
     let one : least o (paired rule (t ∷ rest) parts) ≡ total = sym (ap (λ xs. least o (paired rule xs parts)) e) ∙ h in
     let two : least (least o (rule t (first_part parts))) (paired rule rest (other_parts parts)) ≡ total =
     sym (least-append o (rule t (first_part parts)) (paired rule rest (other_parts parts))) ∙ one in

@@ -22,9 +22,9 @@ pub beside-entries : (m : Option ℕ) (ts bs : List Tree) → paired (values m 0
 beside-entries m [] bs = refl
 beside-entries m (t ∷ ts) bs = ap (λ fs. entry m t ++ fs) (beside-entries m ts (other_parts bs))
 
-pub values-one : (m : Option ℕ) (d : ℕ) (t : Tree) (b : Option Tree) → d ≡ 1 → kind_of t ≡ Array
+pub values-one : (m : Option ℕ) {d : ℕ} (t : Tree) (b : Option Tree) → d ≡ 1 → kind_of t ≡ Array
     → values m d t b ≡ other_count t b ++ flat_map (entry m) (items_of t)
-values-one m d t b h k =
+values-one m {d} t b h k =
     let low : d - 1 ≡ 0 = omega arith in
     values-array m d t b (omega arith) k
     ∙ ap (λ e. other_count t b ++ paired (values m e) (items_of t) (items_if b)) low

@@ -40,9 +40,8 @@ if_some P (Some n) h = h n refl
 
 -- no answer is kept at first
 pub kept-none : (n slot : ℕ) → kept_at (replicate n None) slot ≡ None
-kept-none zero slot = refl
-kept-none (suc n) zero = refl
 kept-none (suc n) (suc slot) = kept-none n slot
+kept-none _ _ = refl
 
 -- an answer that was found in a slot
 pub kept-found : (os : List (Option TemplateLod)) (slot : ℕ) (a : TemplateLod) → slice_get os slot ≡ Some (Some a)

@@ -15,8 +15,8 @@ use Rattle.cj_geometry.specs.Meaning.Numbers.{whole_number}
 use Rattle.cj_geometry.proofs.Lone.{whole-none}
 use Rattle.cj_geometry.proofs.Numbers.{whole-there}
 
-few-signed : (s : List ℕ) → IsWholeNumber s → length s ≤ 18 → IsFewSigned s
-few-signed s w short = go w.minus_is
+few-signed : {s : List ℕ} → IsWholeNumber s → length s ≤ 18 → IsFewSigned s
+few-signed {s} w short = go w.minus_is
   where
     int-few : length w.int ≤ 18 → IsFewDigits w.int
     int-few l = (w.int_is, l)
@@ -30,15 +30,15 @@ few-signed s w short = go w.minus_is
         let same : s ≡ 45 ∷ w.int = w.joined ∙ ap (λ m. m ++ w.int) e in
         inr (w.int, same, int-few (omega (arith, short, ap length same)))
 
-short-none : (line : List ℕ) (t : Tree) → IsShortWhole line t → whole_number t ≡ []
-short-none line t w =
-    let r = few_whole (spelling_of line t) (few-signed (spelling_of line t) w.whole w.short) in
+short-none : {line : List ℕ} {t : Tree} → IsShortWhole line t → whole_number t ≡ []
+short-none {line} {t} w =
+    let r = few_whole (spelling_of line t) (few-signed w.whole w.short) in
     whole-none t r.0 (whole-there line t w.kind (spelling_of line t) refl r.0 r.1)
 
 each-none : (line : List ℕ) (ts : List Tree) → All (IsShortWhole line) ts → flat_map whole_number ts ≡ []
 each-none line [] all = refl
 each-none line (t ∷ ts) all =
-    ap (λ xs. xs ++ flat_map whole_number ts) (short-none line t (all 0 t (omega arith)))
+    ap (λ xs. xs ++ flat_map whole_number ts) (short-none (all 0 t (omega arith)))
     ∙ each-none line ts (λ k d l. all (suc k) d (omega arith))
 
 pub triple-none : (line : List ℕ) (t : Tree) (reason : Reason) → kind_of t ≡ Array → length (items_of t) ≡ 3

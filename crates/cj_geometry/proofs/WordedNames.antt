@@ -31,8 +31,8 @@ less_numbers : (m n : ℕ) → m < n → nat_cmp m n ≡ Less
 less_numbers m n h = let e : nat_lt m n ≡ true = grind (arith, nat_tests) in
     ap (λ b. cond b Less (cond (nat_eq m n) Equal Greater)) e
 
-same_numbers : (m n : ℕ) → m ≡ n → nat_cmp m n ≡ Equal
-same_numbers m n h =
+same_numbers : {m n : ℕ} → m ≡ n → nat_cmp m n ≡ Equal
+same_numbers {m} {n} h =
     let e : nat_lt m n ≡ false = grind (arith, nat_tests) in
     let f : nat_eq m n ≡ true = grind (arith, nat_tests) in
     ap (λ b. cond b Less (cond (nat_eq m n) Equal Greater)) e ∙ ap (λ b. cond b Equal Greater) f
@@ -40,11 +40,11 @@ same_numbers m n h =
 greater_numbers : (m n : ℕ) → n < m → nat_cmp m n ≡ Greater
 greater_numbers m n h = nat_cmp_total.antisymm m n ∙ ap ordering_reverse (less_numbers n m h)
 
-words_first : (t u : Tree) (v w : ℕ) → v ≡ front_word (text_of t) → w ≡ front_word (text_of u)
+words_first : (t u : Tree) {v w : ℕ} → v ≡ front_word (text_of t) → w ≡ front_word (text_of u)
     → ordering_then (nat_cmp v w) (compare_names t u) ≡ compare_names t u
-words_first t u v w e f =
+words_first t u {v} {w} e f =
     elim (cases_order v w) [
-      | inl s ↦ ap (λ r. ordering_then r (compare_names t u)) (same_numbers v w s)
+      | inl s ↦ ap (λ r. ordering_then r (compare_names t u)) (same_numbers s)
       | inr (inl l) ↦
           let h : compare_texts (text_of t) (text_of u) ≡ Less = less_by_words (text_of t) (text_of u) (omega arith) in
           ap (λ r. ordering_then r (compare_names t u)) (less_numbers v w l)
@@ -59,7 +59,7 @@ words_first t u v w e f =
 
 pub worded_as_names : (s : Source) (d e : WordedName) → IsWorded s d → IsWorded s e
     → compare_worded s d e ≡ compare_names (name_in s d) (name_in s e)
-worded_as_names s d e h k = words_first (name_in s d) (name_in s e) (word_in d) (word_in e) h k
+worded_as_names s d e h k = words_first (name_in s d) (name_in s e) h k
 
 pub less_as_earlier : (s : Source) (d e : WordedName) → IsWorded s d → IsWorded s e
     → is_lt (compare_worded s d e) ≡ is_earlier (name_in s d) (name_in s e)
@@ -111,9 +111,10 @@ compares_as R {g = g} {f = f} h =
     (λ a r f' k. (ap is_lt (h a r f' k).0, (h a r f' k).1))
 
 -- a copy of the front of a split has the least of all
-pub least_copied : (s : Source) (all front others copy : List WordedName) (next : WordedName) → copy ≡ front
+pub least_copied : (s : Source) (all : List WordedName) {front : List WordedName} (others : List WordedName)
+    {copy : List WordedName} (next : WordedName) → copy ≡ front
     → IsPermutation all (front ++ next ∷ others)
     → IsSplitAroundBy (λ d e. is_lt (compare_worded s d e)) front next others → AreLeast s all copy next
-least_copied s all front others copy next e h k =
+least_copied s all others next e h k =
     subst (λ xs. AreLeast s all xs next) (sym e)
     (record { others = others; permutation = h; before = k.0; behind = k.1 })

@@ -12,8 +12,7 @@ use Rattle.cj_geometry.proofs.semantics.+check_values.Goals as goal
 pub loop-item-preserved : goal.loop-item-preserved
 loop-item-preserved t c = record {
   found =
-      beside-on (values c.args.surfaces.count (c.args.depth - 1)) _ _ (left_of c.loop-item.parts) _
-      (option_map tree c.next_part-beside.result) (left_of c.next_part-beside.new.parts) _ _ _
+      beside-on (values c.args.surfaces.count (c.args.depth - 1)) _ (left_of c.loop-item.parts) _ _
       c.loop-item.invariant.found c.in-Some.ensures.steps.0 c.next_part-beside.ensures.part
       c.next_part-beside.ensures.left c.check_values.ensures;
   even = search rules;
@@ -38,6 +37,6 @@ pub returns-then-depth-eq1 : goal.returns-then-depth-eq1
 returns-then-depth-eq1 t c =
     let n = tree c.args.node in
     let part = option_map tree c.args.part in
-    rw (values-one c.args.surfaces.count c.args.depth n part c.if-depth-eq1.true (sym c.kind.ensures ∙ c.in-Array.is))
+    rw (values-one c.args.surfaces.count n part c.if-depth-eq1.true (sym c.kind.ensures ∙ c.in-Array.is))
     (c.check_entries.ensures ∙ least-swap c.args.found.now (flat_map (entry c.args.surfaces.count) (items_of n))
     (other_count n part))

@@ -1,4 +1,3 @@
-use Rattle.std.proofs.Common.{length}
 use Rattle.cj_spans.specs.Meaning.Parts.{items_of}
 use Rattle.cj_spans.specs.View.{tree, items_left}
 use Rattle.cj_geometry.proofs.ListSteps.{on_then, on_else}
@@ -14,10 +13,8 @@ loop-item-preserved c =
     let l = c.loop-item in
     let step = c.in-Some.ensures.steps.0 in
     elim c.if-until-eq0.branch [
-      | then-until-eq0 w ↦ on_then (length c.args.sizes.now) c.args.step ts left t rest l.sizes c.if-until-eq0.sizes
-          l.place c.if-until-eq0.place l.until c.if-until-eq0.until l.size c.size-size.result l.invariant step
+      | then-until-eq0 w ↦ on_then t rest l.invariant step
           w.if-until-eq0.true w.sizes-is w.place-is w.until-is c.size-size.ensures
-      | else-until-eq0 w ↦ on_else (length c.args.sizes.now) c.args.step ts left t rest l.sizes c.if-until-eq0.sizes
-          l.place c.if-until-eq0.place l.until c.if-until-eq0.until l.size c.size-size.result l.invariant step
+      | else-until-eq0 w ↦ on_else t rest l.invariant step
           w.if-until-eq0.false w.sizes-is w.place-is w.until-is c.size-size.ensures
     ]

@@ -16,7 +16,7 @@ pub loop-name-preserved : goal.loop-name-preserved
 loop-name-preserved c =
     let code = c.in-Some-first_code.code in (
       c.loop-name.invariant.0
-          ∙ apart-on c.loop-name.taken (members_left c.loop-name.name-iterator) (members_left c.next.new.self)
+          ∙ apart-on c.loop-name.taken (members_left c.next.new.self)
           (trees (c.in-Some.name, c.in-Some.field-0-1)) code c.in-Some.ensures.steps.0
           (sym c.first_code.ensures ∙ c.in-Some-first_code.is) c.if-taken-slot.false,
       length-set c.loop-name.taken (code % 32) true ∙ c.loop-name.invariant.1,

@@ -1,4 +1,4 @@
-use Rattle.std.proofs.Common.{◌∙◌, ◌<◌, [], length, take, not, None, refl, sym, ap, subst, arith}
+use Rattle.std.proofs.Common.{◌∙◌, ◌<◌, [], length, take, not, refl, sym, ap, subst, arith}
 use Rattle.std.proofs.lemmas.List.{length-take-le}
 use Rattle.cj_spans.specs.Meaning.Parts.{members_of}
 use Rattle.cj_spans.specs.View.{tree, source_of}
@@ -19,11 +19,9 @@ returns-then-is_none c =
     let fs = c.deal-floor.new.names in
     let no_ceiling = none_there c.gather-held.result.ceiling (c.is_none.ensures ∙ ap not c.if-is_none.true) in
     let h = subst (λ o. HoldNames s (names_of ms) [] floor (limit_in s o) es) no_ceiling g.names in
-    let r = reached_more ms g.order c.args.found.now c.loop-floor.found c.deal-floor.new.found floor
-    (last_of floor (names_in s fs)) (names_in s fs) c.loop-floor.invariant.reached
-    (are_next s ms floor None es fs h d.permutation d.order) d.found refl in
-    all_reached ms g.order c.args.found.now c.deal-floor.new.found (last_of floor (names_in s fs)) r
-    (none_left s ms floor es fs h d.permutation d.order)
+    let r = reached_more g.order {last = last_of floor (names_in s fs)} c.loop-floor.invariant.reached
+    (are_next ms fs h d.permutation d.order) d.found refl in
+    all_reached g.order r (none_left s ms floor es fs h d.permutation d.order)
 
 pub loop-floor-smaller : goal.loop-floor-smaller
 loop-floor-smaller c =
@@ -35,11 +33,10 @@ loop-floor-smaller c =
     let es = take c.gather-held.result.count c.gather-held.new.room in
     let fs = c.deal-floor.new.names in
     let some : 0 < c.gather-held.result.count = g.more (c.is_none.ensures ∙ ap not c.if-is_none.false) in
-    let few = g.count in
     let l = length-take-le c.gather-held.result.count c.gather-held.new.room (omega arith) in
     let filled : 0 < length es = omega arith in
     subst (λ o. left_above (names_of ms) o < left_above (names_of ms) floor) (sym d.last)
-    (first_held s ms floor _ es fs g.names d.permutation d.order filled)
+    (first_held ms es fs g.names d.permutation d.order filled)
 
 pub loop-floor-preserved : goal.loop-floor-preserved
 loop-floor-preserved c =
@@ -55,13 +52,11 @@ loop-floor-preserved c =
     let fewer = i.fewer in
     let kept = g.kept in
     let room = g.room in
-    let few = g.count in
     let whole = room_kept c.gather-held.result.count c.gather-held.new.room fs (omega arith) d.permutation in
     record {
       some = omega arith;
       fewer = omega arith;
       word = d.word;
-      reached = reached_more ms g.order c.args.found.now c.loop-floor.found c.deal-floor.new.found floor
-          (limit_in s c.deal-floor.result) (names_in s fs) i.reached
-          (are_next s ms floor _ es fs g.names d.permutation d.order) d.found d.last;
+      reached = reached_more g.order {ts = names_in s fs} i.reached
+          (are_next ms fs g.names d.permutation d.order) d.found d.last;
     }

@@ -41,7 +41,7 @@ loop-node-preserved-then-has_place c =
       count = r.count.1;
       more = λ h. r.count.0;
       source = y.3 ∙ i.source;
-      gathered = gathered_more s names (names_of (members_left c.next.new.self)) (limit_in s c.args.floor)
+      gathered = gathered_more (names_of (members_left c.next.new.self))
           c.loop-node.held.ceiling c.put-held.result.ceiling name (tree c.in-Some.node)
           (take c.loop-node.held.count c.loop-node.room) _
           (subst (λ x. name_in x name ≡ tree c.in-Some.node) e c.of-name.ensures.name)
@@ -75,8 +75,7 @@ loop-node-preserved c =
       count = i.count;
       more = i.more;
       source = y.3 ∙ i.source;
-      gathered = gathered_passed s names (names_of (members_left c.next.new.self)) floor ceiling name
-          (tree c.in-Some.node) (take c.loop-node.held.count c.loop-node.room)
+      gathered = gathered_passed (names_of (members_left c.next.new.self)) name (tree c.in-Some.node)
           (subst (λ x. name_in x name ≡ tree c.in-Some.node) e c.of-name.ensures.name) unwanted
           (subst (λ xs. HasGathered s names (names_of xs) floor ceiling (take c.loop-node.held.count c.loop-node.room))
           y.0 i.gathered);

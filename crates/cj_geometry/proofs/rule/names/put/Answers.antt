@@ -1,5 +1,4 @@
 use Rattle.std.proofs.Common.{inr, refl}
-use Rattle.cj_spans.specs.View.{source_of}
 use Rattle.cj_geometry.proofs.Rooms.{full_least}
 use Rattle.cj_geometry.proofs.rule.names.put.Goals as goal
 
@@ -8,7 +7,6 @@ returns-clause-taken c =
     inr (
       c.take_least-ceiling.result,
       refl,
-      full_least (source_of c.args.object) c.args.room.now c.args.held.count c.args.name
-          c.take_least-ceiling.new.least c.put_back.new.room c.take_least-ceiling.result c.requires.place
+      full_least c.args.room.now c.args.held.count c.args.name c.put_back.new.room c.requires.place
           c.if-count-room.false c.take_least-ceiling.ensures.least c.put_back.ensures.front,
     )

@@ -14,5 +14,5 @@ returns-else-not-is_few_below c =
 
 pub returns-else-not-is_told_before : goal.returns-else-not-is_told_before
 returns-else-not-is_told_before c =
-    sym (index-told c.args.found.now (tree c.args.node) (c.is_told_before.ensures c.if-not-is_told_before.false)
+    sym (index-told (tree c.args.node) (c.is_told_before.ensures c.if-not-is_told_before.false)
     c.args.outside c.args.bound.count)

@@ -10,7 +10,7 @@ use Rattle.cj_geometry.proofs.rule.number.count_wholes.Goals as goal
 
 pub overflow_add-front : goal.overflow_add-front
 overflow_add-front c =
-    let below = lone-below c.loop-item.front (items_of (tree c.args.node)) c.loop-item.invariant.lone in
+    let below = lone-below c.loop-item.invariant.lone in
     omega (arith, below, c.loop-item.invariant.small)
 
 next : (c : After-items_behind-items) → drop c.loop-item.front (items_of (tree c.args.node)) ≡ tree c.in-Some.item
@@ -26,7 +26,7 @@ lone c = lone-more c.loop-item.front (items_of (tree c.args.node)) (tree c.in-So
 
 pub loop-item-smaller : goal.loop-item-smaller
 loop-item-smaller c = let l = lone c in
-    left-falls c.loop-item.front (items_of (tree c.args.node)) _ _ c.loop-item.invariant.left
+    left-falls c.loop-item.front (items_of (tree c.args.node)) c.loop-item.invariant.left
     (c.items_behind-items.ensures.items (c.loop-item.front + 1) l.within l.sizes) l.within
 
 pub loop-item-preserved : goal.loop-item-preserved

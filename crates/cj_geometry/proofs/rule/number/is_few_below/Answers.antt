@@ -1,11 +1,11 @@
-use Rattle.cj_spans.specs.View.{tree, line_of}
+use Rattle.cj_spans.specs.View.{tree}
 use Rattle.cj_geometry.proofs.Numbers.{begun-there, few-there}
 use Rattle.cj_geometry.proofs.rule.number.is_few_below.Goals as goal
 
 pub is_few_below_in-requires-clause-number : goal.is_few_below_in-requires-clause-number
 is_few_below_in-requires-clause-number c =
     let span = c.span-start.ensures in
-    begun-there (line_of c.args.node) c.line.result.now (tree c.args.node) c.span-start.result.0 c.span-start.result.1
+    begun-there (tree c.args.node) c.span-start.result.0 c.span-start.result.1
     c.line.ensures span.order span.spelling span.kind span.number
 
 pub returns : goal.returns
@@ -16,6 +16,6 @@ returns c = λ holds.
       r.0,
       r.1,
       r.2,
-      few-there (line_of c.args.node) c.line.result.now (tree c.args.node) c.span-start.result.0
+      few-there (tree c.args.node) c.span-start.result.0
           c.span-start.result.1 c.line.ensures span.order span.spelling span.kind r.0 (read.few holds) r.3,
     )
