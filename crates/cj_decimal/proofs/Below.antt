@@ -1,14 +1,7 @@
 -- Words of eight digits, from the first one on, have the order of their numbers.
-use Rattle.std.proofs.Common.{◌≡◌, ℕ, zero, suc, ◌+◌, ◌*◌, ◌/◌, ◌%◌, ◌^◌, ◌<◌, ◌≤◌, List, [], ◌∷◌, length, map, get_or, refl, sym, ap, subst, arith, ◌∙◌, inl, inr, w64}
+use Rattle.cj_decimal.proofs.Common.{◌≡◌, ℕ, zero, suc, ◌+◌, ◌*◌, ◌/◌, ◌%◌, ◌^◌, ◌<◌, ◌≤◌, List, [], ◌∷◌, length, map, get_or, refl, sym, ap, subst, arith, ◌∙◌, inl, inr, w64, le_bytes_8, pow-add, cases_lt, mul-le-mul_left, Class, whole_answer, IsShort, IsInt, digits_value}
 use Rattle.std.specs.Int.{swap_bytes, from_le_bytes, from_be_bytes}
-use Rattle.std.proofs.lemmas.Nat.{le_bytes_8, pow-add}
-use Rattle.std.proofs.lemmas.Bool.{cases_lt}
-use Rattle.std.proofs.Math.Nat.{mul-le-mul_left}
 use Rattle.std.specs.Prelude.{Option, None, Some, IfSome, IsSome, Ok, pos}
-use Rattle.cj_decimal.specs.Meaning.Class.{Class, whole_answer}
-use Rattle.cj_decimal.specs.inner.Reading.{IsShort}
-use Rattle.cj_decimal.specs.Meaning.Spelling.{IsInt}
-use Rattle.cj_decimal.specs.Meaning.Reading.{digits_value}
 use Rattle.cj_decimal.specs.Word.{little_endian, AllBelow, IsCountWord, IsWordOf, TellsBelow, weighed}
 use Rattle.cj_decimal.proofs.Wholes.{answer_digits}
 use Rattle.cj_decimal.proofs.Eights.{eight, horner, int_short, spelled_value}

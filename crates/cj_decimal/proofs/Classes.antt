@@ -1,14 +1,5 @@
 -- Each spelling has one of the four classes.
-use Rattle.std.proofs.Common.{◌≡◌, ℕ, ◌^◌, ◌<◌, List, Bool, true, false, ltb, ℤ, pos, negsuc, ◌*ℤ◌, refl, sym, ◌∙◌, arith}
-use Rattle.std.specs.Prelude.{unsigned_abs}
-use Rattle.std.proofs.lemmas.Int.{ints}
-use Rattle.std.proofs.lemmas.Bool.{ltb-true}
-use Rattle.std.proofs.lemmas.Bool.Decides.{nat_tests}
-use Rattle.cj_decimal.specs.Meaning.Number.{Number}
-use Rattle.cj_decimal.specs.Meaning.Equality.{IsInRange, IsWhole}
-use Rattle.cj_decimal.specs.Meaning.Spelling.{IsValue}
-use Rattle.cj_decimal.specs.Meaning.Reading.{is_number, written_of}
-use Rattle.cj_decimal.specs.Meaning.Class.{Class, no_number, out_of_range, not_whole, whole}
+use Rattle.cj_decimal.proofs.Common.{◌≡◌, ℕ, ◌^◌, ◌<◌, List, Bool, true, false, ltb, ℤ, pos, negsuc, ◌*ℤ◌, refl, sym, ◌∙◌, arith, unsigned_abs, ints, ltb-true, nat_tests, Number, IsInRange, IsWhole, IsValue, is_number, written_of, Class, no_number, out_of_range, not_whole, whole}
 use Rattle.cj_decimal.proofs.Grammar.{spells_test, test_spells}
 use Rattle.cj_decimal.proofs.Law.{has_one_value}
 use Rattle.cj_decimal.proofs.Scales.{units_below, units_are, units_same}

@@ -1,15 +1,6 @@
 -- The number of a spelling agrees with each class that the spelling has.
-use Rattle.std.proofs.Common.{◌≡◌, ℕ, zero, suc, ◌+◌, ◌*◌, ◌^◌, ◌%◌, ◌<◌, ◌≤◌, ◌≢◌, List, [], ◌∷◌, ◌++◌, length, Bool, true, false, cond, Option, Some, None, Ok, Err, ℤ, pos, negsuc, ◌+ℤ◌, ◌-ℤ◌, ◌*ℤ◌, refl, sym, ap, ◌∙◌, subst, arith, inl, inr}
+use Rattle.cj_decimal.proofs.Common.{◌≡◌, ℕ, zero, suc, ◌+◌, ◌*◌, ◌^◌, ◌%◌, ◌<◌, ◌≤◌, ◌≢◌, List, [], ◌∷◌, ◌++◌, length, Bool, true, false, cond, Option, Some, None, Ok, Err, ℤ, pos, negsuc, ◌+ℤ◌, ◌-ℤ◌, ◌*ℤ◌, refl, sym, ap, ◌∙◌, subst, arith, inl, inr, ints, nat_tests, NotANumber, NumberRange, Number, scaled, signed, is_in_range, whole_by, as_whole, SameValue, IsNormal, IsInRange, IsWhole, Written, value_after, digits_value, is_number, written_of, AllDigits, IsDigits, IsFrac, Spells, IsValue, SpellsNumber, IsNumberOutOfRange, Class, no_number, out_of_range, not_whole, whole, whole_answer, value_answer, whole_answer_by}
 use Rattle.std.specs.Prelude.{nat_eq, nat_lt, nat_le, ◌-◌, unsigned_abs}
-use Rattle.std.proofs.lemmas.Int.{ints}
-use Rattle.std.proofs.lemmas.Bool.Decides.{nat_tests}
-use Rattle.cj_decimal.specs.declared.decimal.DecimalFault.TheVariants.{NotANumber, NumberRange}
-use Rattle.cj_decimal.specs.Meaning.Number.{Number, scaled, signed, is_in_range, whole_by, as_whole}
-use Rattle.cj_decimal.specs.Meaning.Equality.{SameValue, IsNormal, IsInRange, IsWhole}
-use Rattle.cj_decimal.specs.Meaning.Reading.{Written, value_after, digits_value, is_number, written_of}
-use Rattle.cj_decimal.specs.Meaning.Spelling.{AllDigits, IsDigits, IsFrac, Spells, IsValue}
-use Rattle.cj_decimal.specs.Meaning.Spelling.{SpellsNumber, IsNumberOutOfRange}
-use Rattle.cj_decimal.specs.Meaning.Class.{Class, no_number, out_of_range, not_whole, whole, whole_answer, value_answer, whole_answer_by}
 use Rattle.cj_decimal.specs.Meaning.Decimal.{put_before, without_zeros, number_after, normal_of, ranged, decimal_of}
 use Rattle.cj_decimal.proofs.TenPowers.{ten_pow_suc}
 use Rattle.cj_decimal.proofs.Grammar.{both, both_left, both_right, int_digits, spells_test, test_spells}

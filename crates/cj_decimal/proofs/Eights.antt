@@ -1,22 +1,12 @@
 -- Numbers of at most eight digits, read by one word of eight bytes.
-use Rattle.std.proofs.Common.{◌≡◌, ℕ, zero, suc, ◌+◌, ◌-◌, ◌*◌, ◌/◌, ◌%◌, ◌^◌, ◌<◌, ◌≤◌, List, [], ◌∷◌, length, take, drop, map, Bool, true, false, ◌&&◌, ◌||◌, nat_le, nat_eq, refl, sym, ap, subst, arith, ◌∙◌, inl, inr, not}
-use Rattle.std.proofs.Common.{get_or}
-use Rattle.std.specs.Int.Bits.{bit_and, bit_xor, and_block, xor_block}
-use Rattle.std.proofs.lemmas.Nat.{xor_lt, pow-add, shr-shr, shr_le, and_mask}
+use Rattle.cj_decimal.proofs.Common.{◌≡◌, ℕ, zero, suc, ◌+◌, ◌-◌, ◌*◌, ◌/◌, ◌%◌, ◌^◌, ◌<◌, ◌≤◌, List, [], ◌∷◌, length, take, drop, map, Bool, true, false, ◌&&◌, ◌||◌, nat_le, nat_eq, refl, sym, ap, subst, arith, ◌∙◌, inl, inr, not, get_or, bit_and, bit_xor, and_block, xor_block, xor_lt, pow-add, shr-shr, shr_le, and_mask, nat_tests, cases_lt, IsShort, after_frac, digits_front, digits_rest, begins, begins_digit, body, is_exp, is_frac, is_int, written_of, digits_value, value_after, AllDigits, IsDigit, IsInt, SpellsNumber, IsFewDigits, IsNumberIfBegun}
 use Rattle.std.proofs.lemmas.Nat.Bits.{and_high_mask}
-use Rattle.std.proofs.lemmas.Bool.Decides.{nat_tests}
-use Rattle.std.proofs.lemmas.Bool.{cases_lt}
 use Rattle.std.specs.Prelude.{slice_range, ◌⊎◌, IsTrue}
 use Rattle.std.proofs.lemmas.List.{drop-take, drop-drop, get_or-take, get_or-drop, length-drop, length-take-le}
-use Rattle.cj_decimal.specs.inner.Reading.{IsShort}
-use Rattle.cj_decimal.specs.Meaning.Reading.{after_frac, digits_front, digits_rest, begins, begins_digit, body, is_exp}
-use Rattle.cj_decimal.specs.Meaning.Reading.{is_frac, is_int, written_of, digits_value, value_after}
 use Rattle.cj_decimal.proofs.Grammar.{append_nil, both_left, digit_begins, front_all, front_append, front_rest, int_digits, int_from_test, int_is_digits, spells_test, test_spells}
 use Rattle.cj_decimal.proofs.Parts.{minus_there, no_minus, not_int}
 use Rattle.cj_decimal.proofs.Wholes.{int_alone_reads}
 use Rattle.cj_decimal.proofs.NumberBytes.{NumberBytes, number_bytes}
-use Rattle.cj_decimal.specs.Meaning.Spelling.{AllDigits, IsDigit, IsInt, SpellsNumber}
-use Rattle.cj_decimal.specs.FewDigits.{IsFewDigits, IsNumberIfBegun}
 use Rattle.cj_decimal.specs.Word.{little_endian, AllBelow}
 
 copies : ℕ → ℕ → List ℕ

@@ -1,12 +1,5 @@
 -- Few digits, perhaps after a minus, are a whole number.
-use Rattle.std.proofs.Common.{◌≡◌, ℕ, ◌+◌, ◌-◌, ◌*◌, ◌^◌, ◌<◌, ◌≤◌, List, [], ◌∷◌, length, ℤ, Some, Ok, refl, sym, ap, subst, arith, ◌∙◌}
-use Rattle.std.proofs.Math.Nat.{mul_assoc, mul_comm, mul-le-mul_right, pow-suc, pow-le-pow_right}
-use Rattle.cj_decimal.specs.Meaning.Class.{Class, whole_answer}
-use Rattle.cj_decimal.specs.Meaning.Number.{signed}
-use Rattle.cj_decimal.specs.inner.Reading.{IsShort}
-use Rattle.cj_decimal.specs.Meaning.Reading.{digits_front, begins, begins_digit, body, digits_value, value_after}
-use Rattle.cj_decimal.specs.Meaning.Spelling.{AllDigits}
-use Rattle.cj_decimal.specs.FewDigits.{IsFewDigits, IsFewSigned}
+use Rattle.cj_decimal.proofs.Common.{◌≡◌, ℕ, ◌+◌, ◌-◌, ◌*◌, ◌^◌, ◌<◌, ◌≤◌, List, [], ◌∷◌, length, ℤ, Some, Ok, refl, sym, ap, subst, arith, ◌∙◌, mul_assoc, mul_comm, mul-le-mul_right, pow-suc, pow-le-pow_right, Class, whole_answer, signed, IsShort, digits_front, begins, begins_digit, body, digits_value, value_after, AllDigits, IsFewDigits, IsFewSigned}
 use Rattle.cj_decimal.proofs.Grammar.{append_nil, front_append, int_digits}
 use Rattle.cj_decimal.proofs.Wholes.{int_alone_reads, signed_answer, body_of_signed}
 

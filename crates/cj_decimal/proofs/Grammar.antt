@@ -1,14 +1,6 @@
 -- The test of a spelling from its front, and the grammar.
-use Rattle.std.proofs.Common.{◌≡◌, ℕ, ◌<◌, ◌≤◌, ◌≢◌, List, [], ◌∷◌, ◌++◌, drop, Bool, true, false, cond, refl, sym, ap, ◌∙◌, subst, arith, inl, inr, ⊎_elim, ℤ}
+use Rattle.cj_decimal.proofs.Common.{◌≡◌, ℕ, ◌<◌, ◌≤◌, ◌≢◌, List, [], ◌∷◌, ◌++◌, drop, Bool, true, false, cond, refl, sym, ap, ◌∙◌, subst, arith, inl, inr, ⊎_elim, ℤ, nat_tests, is_ascii_digit, signed, IsDigit, AllDigits, IsDigits, IsInt, IsMinus, IsFrac, IsExpSign, ExpParts, IsExp, Spells, Written, digits_value, digits_front, digits_rest, begins, is_empty, begins_digit, body, is_int, is_frac, frac_digits, after_frac, exp_digits, is_whole_digits, is_exp, exp_value, is_number, written_of}
 use Rattle.std.specs.Prelude.{nat_eq, ◌&&◌, ◌||◌, not, ◌⊎◌}
-use Rattle.std.proofs.lemmas.Bool.Decides.{nat_tests}
-use Rattle.std.specs.Char.{is_ascii_digit}
-use Rattle.cj_decimal.specs.Meaning.Number.{signed}
-use Rattle.cj_decimal.specs.Meaning.Spelling.{IsDigit, AllDigits, IsDigits, IsInt, IsMinus, IsFrac, IsExpSign, ExpParts}
-use Rattle.cj_decimal.specs.Meaning.Spelling.{IsExp, Spells}
-use Rattle.cj_decimal.specs.Meaning.Reading.{Written, digits_value, digits_front, digits_rest, begins, is_empty}
-use Rattle.cj_decimal.specs.Meaning.Reading.{begins_digit, body, is_int, is_frac, frac_digits, after_frac, exp_digits}
-use Rattle.cj_decimal.specs.Meaning.Reading.{is_whole_digits, is_exp, exp_value, is_number, written_of}
 use Rattle.cj_decimal.proofs.Ways.{front_digit, rest_digit, digit_bounds, front_of_stop}
 
 digit_test : (b : ℕ) → IsDigit b → is_ascii_digit b ≡ true

@@ -1,3 +1,4 @@
+pub mod Common
 pub mod TenPowers
 pub mod Values
 pub mod Pushes

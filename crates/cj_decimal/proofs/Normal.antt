@@ -1,13 +1,6 @@
 -- The normal form of the number that was read.
-use Rattle.std.proofs.Common.{◌≡◌, ℕ, zero, suc, ◌+◌, ◌*◌, ◌/◌, ◌%◌, ◌^◌, ◌<◌, ◌≤◌, Bool, true, false, ℤ, pos, neg_ℤ, ◌+ℤ◌, ◌-ℤ◌, ◌*ℤ◌, ◌≤ℤ◌, ◌<ℤ◌, refl, sym, ap, ◌∙◌, arith, ⊎_elim}
-use Rattle.std.specs.Prelude.{◌⊎◌, unsigned_abs}
+use Rattle.cj_decimal.proofs.Common.{◌≡◌, ℕ, zero, suc, ◌+◌, ◌*◌, ◌/◌, ◌%◌, ◌^◌, ◌<◌, ◌≤◌, Bool, true, false, ℤ, pos, neg_ℤ, ◌+ℤ◌, ◌-ℤ◌, ◌*ℤ◌, ◌≤ℤ◌, ◌<ℤ◌, refl, sym, ap, ◌∙◌, arith, ⊎_elim, ◌⊎◌, unsigned_abs, pow-add, ints, by_lt_z, to_z-of_z, fits_signed_from_abs, Number, scaled, signed, SameValue, IsNormal, IsInRange, IsOutOfRange, IsTooLong, StandsFor, IsTrimmed, Saturates}
 use Rattle.std.specs.Int.{int_gap, int_min, w32, w128, cast_signed, cast_unsigned}
-use Rattle.std.proofs.lemmas.Nat.{pow-add}
-use Rattle.std.proofs.lemmas.Int.{ints, by_lt_z, to_z-of_z, fits_signed_from_abs}
-use Rattle.cj_decimal.specs.Meaning.Number.{Number, scaled, signed}
-use Rattle.cj_decimal.specs.Meaning.Equality.{SameValue, IsNormal, IsInRange, IsOutOfRange}
-use Rattle.cj_decimal.specs.inner.Digits.{IsTooLong, StandsFor, IsTrimmed}
-use Rattle.cj_decimal.specs.inner.Reading.{Saturates}
 use Rattle.cj_decimal.proofs.TenPowers.{ten_pow_suc, neg_times}
 use Rattle.cj_decimal.proofs.Trims.{trim_more, trim_left}
 use Rattle.cj_decimal.proofs.Values.{same_scaled}

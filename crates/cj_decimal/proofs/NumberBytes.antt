@@ -1,9 +1,6 @@
 -- The bytes of a number of JSON: digits, and others that are not below 16 without the bits of `0`.
-use Rattle.std.proofs.Common.{◌≡◌, ℕ, ◌≤◌, List, [], ◌∷◌, ◌++◌, Bool, true, false, refl, sym, subst, arith, inl, inr}
+use Rattle.cj_decimal.proofs.Common.{◌≡◌, ℕ, ◌≤◌, List, [], ◌∷◌, ◌++◌, Bool, true, false, refl, sym, subst, arith, inl, inr, bit_xor, AllDigits, IsDigit, IsDigits, IsExp, IsExpSign, IsFrac, IsInt, IsMinus, SpellsNumber}
 use Rattle.std.specs.Prelude.{◌⊎◌, ℤ}
-use Rattle.std.specs.Int.Bits.{bit_xor}
-use Rattle.cj_decimal.specs.Meaning.Spelling.{AllDigits, IsDigit, IsDigits, IsExp, IsExpSign, IsFrac, IsInt, IsMinus}
-use Rattle.cj_decimal.specs.Meaning.Spelling.{SpellsNumber}
 
 abbrev pub NumberBytes : List ℕ → Type 0
 NumberBytes [] = Unit {0}

@@ -1,9 +1,5 @@
 -- Two classes of one spelling say the same.
-use Rattle.std.proofs.Common.{◌≡◌, ℕ, List, ℤ, subst, arith}
-use Rattle.std.proofs.lemmas.Int.{ints}
-use Rattle.cj_decimal.specs.Meaning.Number.{Number}
-use Rattle.cj_decimal.specs.Meaning.Equality.{IsWhole}
-use Rattle.cj_decimal.specs.Meaning.Class.{Class, no_number, out_of_range, not_whole, whole, SaySame}
+use Rattle.cj_decimal.proofs.Common.{◌≡◌, ℕ, List, ℤ, subst, arith, ints, Number, IsWhole, Class, no_number, out_of_range, not_whole, whole, SaySame}
 use Rattle.cj_decimal.proofs.Values.{same_sym, same_trans}
 use Rattle.cj_decimal.proofs.Law.{has_one_value, not_both, value_is_number}
 

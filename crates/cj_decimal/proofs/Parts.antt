@@ -1,17 +1,7 @@
 -- The parts of a spelling at their places.
-use Rattle.std.proofs.Common.{subst, ◌≡◌, ℕ, ◌+◌, ◌-◌, ◌*◌, ◌^◌, ◌<◌, ◌≤◌, List, [], ◌∷◌, ◌++◌, length, drop, get_or, Bool, true, false, cond, refl, sym, ap, ◌∙◌, arith, ℤ, pos, length-drop}
+use Rattle.cj_decimal.proofs.Common.{subst, ◌≡◌, ℕ, ◌+◌, ◌-◌, ◌*◌, ◌^◌, ◌<◌, ◌≤◌, List, [], ◌∷◌, ◌++◌, length, drop, get_or, Bool, true, false, cond, refl, sym, ap, ◌∙◌, arith, ℤ, pos, length-drop, ints, le-mul_of_pos_right, signed, is_ascii_digit, StandsFor, value_after, digits_value, body, written_of, digits_front, digits_rest, begins, is_empty, begins_digit, is_int, is_frac, frac_digits, after_frac, exp_digits, is_whole_digits, is_exp, exp_value, SpellsNumber, Spells, IsReadOf, Passes, Stops, Saturates, SaturatesSize}
 use Rattle.std.specs.Prelude.{nat_eq, ◌&&◌, ◌||◌, not}
 use Rattle.std.specs.Prelude.{neg_ℤ, Option, None, Some, IsSome}
-use Rattle.std.proofs.lemmas.Int.{ints}
-use Rattle.std.proofs.Math.Nat.{le-mul_of_pos_right}
-use Rattle.cj_decimal.specs.Meaning.Number.{signed}
-use Rattle.std.specs.Char.{is_ascii_digit}
-use Rattle.cj_decimal.specs.inner.Digits.{StandsFor}
-use Rattle.cj_decimal.specs.Meaning.Reading.{value_after, digits_value, body, written_of, digits_front, digits_rest}
-use Rattle.cj_decimal.specs.Meaning.Reading.{begins, is_empty, begins_digit, is_int, is_frac, frac_digits, after_frac}
-use Rattle.cj_decimal.specs.Meaning.Reading.{exp_digits, is_whole_digits, is_exp, exp_value}
-use Rattle.cj_decimal.specs.Meaning.Spelling.{SpellsNumber, Spells}
-use Rattle.cj_decimal.specs.inner.Reading.{IsReadOf, Passes, Stops, Saturates, SaturatesSize}
 use Rattle.cj_decimal.proofs.TenPowers.{ten_pow_pos}
 use Rattle.cj_decimal.proofs.Pushes.{stands_short, short_stands}
 use Rattle.cj_decimal.proofs.Grammar.{append_nil, front_rest, both, both_left, both_right, spells_test, test_spells}

@@ -1,6 +1,5 @@
 -- One more digit after those that were read.
-use Rattle.std.proofs.Common.{◌≡◌, ℕ, zero, suc, ◌+◌, ◌*◌, ◌^◌, ◌<◌, ◌≤◌, Bool, true, false, refl, sym, ap, ◌∙◌, arith, rules, IsTrue}
-use Rattle.cj_decimal.specs.inner.Digits.{IsTooLong, StandsFor}
+use Rattle.cj_decimal.proofs.Common.{◌≡◌, ℕ, zero, suc, ◌+◌, ◌*◌, ◌^◌, ◌<◌, ◌≤◌, Bool, true, false, refl, sym, ap, ◌∙◌, arith, rules, IsTrue, IsTooLong, StandsFor}
 use Rattle.cj_decimal.proofs.TenPowers.{ten_pow_suc, ten_pow_pos}
 
 no_gap : (x : ℕ) → x ≡ x * 10 ^ 0

@@ -1,13 +1,7 @@
 -- A number as a whole number of units.
-use Rattle.std.proofs.Common.{◌≡◌, ℕ, zero, suc, ◌+◌, ◌-◌, ◌*◌, ◌%◌, ◌^◌, ◌<◌, ◌≤◌, ℤ, pos, neg_ℤ, ◌+ℤ◌, ◌*ℤ◌, ◌≤ℤ◌, ◌<ℤ◌, refl, ap, ◌∙◌, arith}
-use Rattle.std.proofs.Common.{rules}
-use Rattle.std.specs.Prelude.{unsigned_abs}
+use Rattle.cj_decimal.proofs.Common.{◌≡◌, ℕ, zero, suc, ◌+◌, ◌-◌, ◌*◌, ◌%◌, ◌^◌, ◌<◌, ◌≤◌, ℤ, pos, neg_ℤ, ◌+ℤ◌, ◌*ℤ◌, ◌≤ℤ◌, ◌<ℤ◌, refl, ap, ◌∙◌, arith, rules, unsigned_abs, ints, to_z-of_z, fits_signed_from_abs, mul-le-mul_right, mul-lt-mul_of_pos_right, Number, scaled, SameValue, IsNormal}
 use Rattle.std.specs.Prelude.{FitsSigned, Option, Some, None, IfSome, IfNone}
 use Rattle.std.specs.Int.{int_gap, w128, cast_signed, cast_unsigned}
-use Rattle.std.proofs.lemmas.Int.{ints, to_z-of_z, fits_signed_from_abs}
-use Rattle.std.proofs.Math.Nat.{mul-le-mul_right, mul-lt-mul_of_pos_right}
-use Rattle.cj_decimal.specs.Meaning.Number.{Number, scaled}
-use Rattle.cj_decimal.specs.Meaning.Equality.{SameValue, IsNormal}
 use Rattle.cj_decimal.proofs.TenPowers.{ten_pow_pos, ten_pow_add, ten_pow_le}
 use Rattle.cj_decimal.proofs.Values.{scaled_same, same_scaled, same_sym, gap_is, abs_times, ends_in_zero}
 

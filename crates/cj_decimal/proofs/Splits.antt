@@ -1,14 +1,10 @@
 -- Whole numbers of units, and what is left of them.
-use Rattle.std.proofs.Common.{◌≡◌, ℕ, ◌*◌, ◌^◌, ◌<◌, ◌≤◌, ℤ, pos, negsuc, ◌+ℤ◌, ◌-ℤ◌, ◌*ℤ◌, ◌≤ℤ◌, ◌<ℤ◌, sym, ap, ◌∙◌, arith}
-use Rattle.std.specs.Prelude.{unsigned_abs}
-use Rattle.std.specs.Prelude.{FitsSigned}
+use Rattle.cj_decimal.proofs.Common.{◌≡◌, ℕ, ◌*◌, ◌^◌, ◌<◌, ◌≤◌, ℤ, pos, negsuc, ◌+ℤ◌, ◌-ℤ◌, ◌*ℤ◌, ◌≤ℤ◌, ◌<ℤ◌, sym, ap, ◌∙◌, arith, unsigned_abs, FitsSigned, ints, to_z-of_z, fits_signed_from_abs, value_order}
 use Rattle.std.specs.Ordering.{int_cmp, MatchOrdering}
 use Rattle.std.specs.declared.cmp.Ordering.{Ordering}
 use Rattle.std.specs.declared.cmp.Ordering.TheVariants.{Less, Equal, Greater}
 use Rattle.std.specs.Cmp.{int_cmp_is, int_ranked}
 use Rattle.std.specs.Int.{int_div_euclid, int_rem_euclid, w64, w128, cast_signed, cast_unsigned}
-use Rattle.std.proofs.lemmas.Int.{ints, to_z-of_z, fits_signed_from_abs}
-use Rattle.cj_decimal.specs.Meaning.Equality.{value_order}
 use Rattle.cj_decimal.specs.Affine.{units}
 use Rattle.cj_decimal.proofs.TenPowers.{times_one}
 use borrow.Author.Differences.{up, down, same_in, product_is, sum_is_lem}

@@ -1,7 +1,5 @@
 -- Numbers without the zeros at their end.
-use Rattle.std.proofs.Common.{◌≡◌, ℕ, ◌+◌, ◌*◌, ◌/◌, ◌%◌, ◌^◌, ◌<◌, ◌≤◌, sym, ap, ◌∙◌, arith}
-use Rattle.std.proofs.Math.Nat.{le-mul_of_pos_right}
-use Rattle.cj_decimal.specs.inner.Digits.{IsTrimmed}
+use Rattle.cj_decimal.proofs.Common.{◌≡◌, ℕ, ◌+◌, ◌*◌, ◌/◌, ◌%◌, ◌^◌, ◌<◌, ◌≤◌, sym, ap, ◌∙◌, arith, le-mul_of_pos_right, IsTrimmed}
 use Rattle.cj_decimal.proofs.TenPowers.{ten_pow_suc, ten_pow_pos, ten_pow_below}
 
 ten_more : (r p : ℕ) → r % 10 ≡ 0 → r * p ≡ r / 10 * (10 * p)

@@ -1,15 +1,7 @@
 -- Equality of numbers, and its laws.
-use Rattle.std.proofs.Common.{◌≡◌, ℕ, zero, suc, ◌+◌, ◌*◌, ◌%◌, ◌^◌, ◌<◌, ℤ, pos, negsuc, ◌+ℤ◌, ◌*ℤ◌, ◌≤ℤ◌, true, refl, sym, ap, ◌∙◌, arith}
-use Rattle.std.proofs.Common.{inl, inr, ⊎_elim}
-use Rattle.std.proofs.Common.{subst}
-use Rattle.std.specs.Prelude.{unsigned_abs, ◌⊎◌}
+use Rattle.cj_decimal.proofs.Common.{◌≡◌, ℕ, zero, suc, ◌+◌, ◌*◌, ◌%◌, ◌^◌, ◌<◌, ℤ, pos, negsuc, ◌+ℤ◌, ◌*ℤ◌, ◌≤ℤ◌, true, refl, sym, ap, ◌∙◌, arith, inl, inr, ⊎_elim, subst, unsigned_abs, ◌⊎◌, nat_tests, ints, clamps, unsigned_abs-mul, by_lt_z, to_z-of_z, fits_signed_from_abs, mul-mod_right, Number, scaled, smaller_power, brought, SameValue, IsNormal, IsInRange}
 use Rattle.std.specs.Prelude.{nat_eq, FitsSigned, ◌↔◌}
 use Rattle.std.specs.Int.{int_gap, int_min, Width, w32, w128, cast_signed, cast_unsigned}
-use Rattle.std.proofs.lemmas.Bool.Decides.{nat_tests}
-use Rattle.std.proofs.lemmas.Int.{ints, clamps, unsigned_abs-mul, by_lt_z, to_z-of_z, fits_signed_from_abs}
-use Rattle.std.proofs.Math.Nat.{mul-mod_right}
-use Rattle.cj_decimal.specs.Meaning.Number.{Number, scaled}
-use Rattle.cj_decimal.specs.Meaning.Equality.{smaller_power, brought, SameValue, IsNormal, IsInRange}
 use Rattle.cj_decimal.proofs.TenPowers.{ten_pow_pos, ten_pow_add, ten_pow_suc, times_cancel, times_times, times_one, mul_right_cancel}
 
 -- the gap between two numbers in order

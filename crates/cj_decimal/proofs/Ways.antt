@@ -1,10 +1,5 @@
 -- The way through the digits of a spelling.
-use Rattle.std.proofs.Common.{◌≡◌, ℕ, suc, ◌+◌, ◌-◌, ◌*◌, ◌<◌, ◌≤◌, List, [], ◌∷◌, length, drop, get_or, true, false, cond, refl, sym, ap, ◌∙◌, arith, drop-cons, length-drop, inl, inr}
-use Rattle.std.proofs.lemmas.Bool.{cases_lt}
-use Rattle.std.proofs.lemmas.Bool.Decides.{nat_tests}
-use Rattle.std.specs.Char.{is_ascii_digit}
-use Rattle.cj_decimal.specs.Meaning.Reading.{begins_digit, digits_front, digits_rest, value_after}
-use Rattle.cj_decimal.specs.inner.Reading.{Passes, Carries, Stops}
+use Rattle.cj_decimal.proofs.Common.{◌≡◌, ℕ, suc, ◌+◌, ◌-◌, ◌*◌, ◌<◌, ◌≤◌, List, [], ◌∷◌, length, drop, get_or, true, false, cond, refl, sym, ap, ◌∙◌, arith, drop-cons, length-drop, inl, inr, cases_lt, nat_tests, is_ascii_digit, begins_digit, digits_front, digits_rest, value_after, Passes, Carries, Stops}
 
 pub front_digit : (b : ℕ) (s : List ℕ) → is_ascii_digit b ≡ true → digits_front (b ∷ s) ≡ b ∷ digits_front s
 unfolding digits_front

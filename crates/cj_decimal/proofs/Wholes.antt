@@ -1,19 +1,6 @@
 -- What reading a whole number answers.
-use Rattle.std.proofs.Common.{◌≡◌, ℕ, ◌*◌, ◌^◌, ◌<◌, ◌≤◌, ◌++◌, List, [], length, drop, get_or, Bool, true, false, Option, Some, None, Result, Ok, Err, ℤ, pos, negsuc, inl, inr, ⊎_elim, refl, sym, ap, ◌∙◌, subst, arith, rules}
-use Rattle.std.specs.Prelude.{IfOk, IfSome, IsSome, unsigned_abs}
-use Rattle.std.specs.Char.{is_ascii_digit}
-use Rattle.std.proofs.Math.Nat.{le-mul_of_pos_right}
-use Rattle.std.proofs.lemmas.Int.{ints}
-use Rattle.cj_decimal.specs.Meaning.Number.{Number, signed}
-use Rattle.cj_decimal.specs.Meaning.Equality.{IsNormal, IsInRange, IsWhole}
-use Rattle.cj_decimal.specs.Meaning.Spelling.{SpellsNumber, IsValue, IsNumberOutOfRange, IsInt}
-use Rattle.cj_decimal.specs.FewDigits.{IsFewDigits, IsFewSigned}
-use Rattle.cj_decimal.specs.Meaning.Reading.{digits_value, digits_front, digits_rest, is_int, begins, begins_digit}
-use Rattle.cj_decimal.specs.Meaning.Reading.{body}
-use Rattle.cj_decimal.specs.Meaning.Class.{Class, no_number, out_of_range, not_whole, whole, whole_answer}
-use Rattle.cj_decimal.specs.inner.Reading.{Passes, IsShort}
+use Rattle.cj_decimal.proofs.Common.{◌≡◌, ℕ, ◌*◌, ◌^◌, ◌<◌, ◌≤◌, ◌++◌, List, [], length, drop, get_or, Bool, true, false, Option, Some, None, Result, Ok, Err, ℤ, pos, negsuc, inl, inr, ⊎_elim, refl, sym, ap, ◌∙◌, subst, arith, rules, IfOk, IfSome, IsSome, unsigned_abs, is_ascii_digit, le-mul_of_pos_right, ints, Number, signed, IsNormal, IsInRange, IsWhole, SpellsNumber, IsValue, IsNumberOutOfRange, IsInt, IsFewDigits, IsFewSigned, digits_value, digits_front, digits_rest, is_int, begins, begins_digit, body, Class, no_number, out_of_range, not_whole, whole, whole_answer, Passes, IsShort, NotANumber, NumberRange}
 use Rattle.cj_decimal.specs.declared.decimal.DecimalFault.{DecimalFault}
-use Rattle.cj_decimal.specs.declared.decimal.DecimalFault.TheVariants.{NotANumber, NumberRange}
 use Rattle.cj_decimal.proofs.TenPowers.{ten_pow_pos}
 use Rattle.cj_decimal.proofs.Values.{same_sym, same_trans}
 use Rattle.cj_decimal.proofs.Normal.{normal_form}

@@ -1,13 +1,5 @@
 -- The worked rows, computed.
-use Rattle.std.proofs.Common.{◌≡◌, pos, neg_ℤ, true, false, refl, arith, List, ℕ, []}
-use Rattle.std.specs.Prelude.{codes}
-use Rattle.std.proofs.lemmas.Int.{ints}
-use Rattle.cj_decimal.specs.Meaning.Number.{Number, scaled}
-use Rattle.cj_decimal.specs.Meaning.Equality.{SameValue, IsNormal, IsInRange}
-use Rattle.cj_decimal.specs.Meaning.Spelling.{SpellsNumber, IsValue, IsNumberInRange, IsNumberOutOfRange, number_of}
-use Rattle.cj_decimal.specs.Meaning.Reading.{is_number, written_of, digits_front, digits_rest, begins, is_empty}
-use Rattle.cj_decimal.specs.Meaning.Reading.{begins_digit, body, is_int, is_frac, frac_digits, after_frac, exp_digits}
-use Rattle.cj_decimal.specs.Meaning.Reading.{is_whole_digits, is_exp, exp_value}
+use Rattle.cj_decimal.proofs.Common.{◌≡◌, pos, neg_ℤ, true, false, refl, arith, List, ℕ, [], codes, ints, Number, scaled, SameValue, IsNormal, IsInRange, SpellsNumber, IsValue, IsNumberInRange, IsNumberOutOfRange, number_of, is_number, written_of, digits_front, digits_rest, begins, is_empty, begins_digit, body, is_int, is_frac, frac_digits, after_frac, exp_digits, is_whole_digits, is_exp, exp_value}
 use Rattle.cj_decimal.specs.Rows.{ReadRows, NoNumberRows, UnitRows, WorkedRows}
 use Rattle.cj_decimal.proofs.Grammar.{spells_test, test_spells}
 use Rattle.cj_decimal.proofs.Normal.{zero_same, zero_normal}

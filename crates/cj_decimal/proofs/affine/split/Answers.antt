@@ -1,5 +1,4 @@
-use Rattle.std.proofs.Common.{arith}
-use Rattle.std.proofs.lemmas.Int.{ints}
+use Rattle.cj_decimal.proofs.Common.{arith, ints}
 use Rattle.cj_decimal.proofs.Splits.{split_cast}
 use Rattle.cj_decimal.proofs.affine.split.Goals as goal
 

@@ -1,7 +1,5 @@
-use Rattle.std.proofs.Common.{arith, ◌<◌, ◌-◌, ◌^◌, ap, ◌∙◌}
-use Rattle.std.specs.Prelude.{unsigned_abs}
+use Rattle.cj_decimal.proofs.Common.{arith, ◌<◌, ◌-◌, ◌^◌, ap, ◌∙◌, unsigned_abs, ints, to_z-of_z}
 use Rattle.std.specs.Int.{w128}
-use Rattle.std.proofs.lemmas.Int.{ints, to_z-of_z}
 use Rattle.cj_decimal.proofs.Scales.{scaled_large, product_small, power_fits, product_cast, product_in_bits}
 use Rattle.cj_decimal.proofs.decimal.with_zeros.Goals as goal
 

@@ -1,5 +1,4 @@
-use Rattle.std.proofs.Common.{arith, sym, ◌∙◌}
-use Rattle.std.proofs.lemmas.Bool.Decides.{nat_tests}
+use Rattle.cj_decimal.proofs.Common.{arith, sym, ◌∙◌, nat_tests}
 use Rattle.cj_decimal.proofs.Ways.{digit_at, no_digit_past}
 use Rattle.cj_decimal.proofs.digits.has_digit.Goals as goal
 

@@ -1,4 +1,4 @@
-use Rattle.std.proofs.Common.{arith, rules}
+use Rattle.cj_decimal.proofs.Common.{arith, rules}
 use Rattle.cj_decimal.proofs.Ways.{stops_after}
 use Rattle.cj_decimal.proofs.Pushes.{stands_short}
 use Rattle.cj_decimal.proofs.digits.read_digits.Goals as goal

@@ -1,4 +1,4 @@
-use Rattle.std.proofs.Common.{arith, get_or, sym, ◌∙◌, rules}
+use Rattle.cj_decimal.proofs.Common.{arith, get_or, sym, ◌∙◌, rules}
 use Rattle.cj_decimal.proofs.Ways.{passes_step, carries_step, stops_here, carried_here, digit_bounds, is_digit_at}
 use Rattle.cj_decimal.proofs.digits.read_long.Goals as goal
 

@@ -1,6 +1,4 @@
-use Rattle.std.proofs.Common.{ℕ, ◌-◌, ◌≤◌, length}
-use Rattle.cj_decimal.specs.inner.Digits.{StandsFor}
-use Rattle.cj_decimal.specs.inner.Reading.{Carries, Passes}
+use Rattle.cj_decimal.proofs.Common.{ℕ, ◌-◌, ◌≤◌, length, StandsFor, Carries, Passes}
 use Rattle.cj_decimal.proofs.digits.read_long.Given as goal
 
 abbrev pub invariant-loop-digits : goal.invariant-loop-digits

@@ -1,4 +1,4 @@
-use Rattle.std.proofs.Common.{sym, ◌∙◌, rules}
+use Rattle.cj_decimal.proofs.Common.{sym, ◌∙◌, rules}
 use Rattle.cj_decimal.proofs.Ways.{passes_refl, carries_refl, stops_here, carried_here}
 use Rattle.cj_decimal.proofs.Pushes.{short_stands}
 use Rattle.cj_decimal.proofs.digits.read_on.Goals as goal

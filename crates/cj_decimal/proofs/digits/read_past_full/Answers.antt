@@ -1,5 +1,4 @@
-use Rattle.std.proofs.Common.{◌≡◌, ◌-◌, true, sym, ap, arith, get_or, ◌∙◌, rules}
-use Rattle.std.specs.Char.{is_ascii_digit}
+use Rattle.cj_decimal.proofs.Common.{◌≡◌, ◌-◌, true, sym, ap, arith, get_or, ◌∙◌, rules, is_ascii_digit}
 use Rattle.cj_decimal.proofs.Pushes.{push_zero, push_lost}
 use Rattle.cj_decimal.proofs.Ways.{passes_step, carries_step, stops_here, carried_here, digit_bounds, is_digit_at}
 use Rattle.cj_decimal.proofs.digits.read_past_full.Goals as goal

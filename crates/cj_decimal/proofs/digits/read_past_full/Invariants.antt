@@ -1,6 +1,4 @@
-use Rattle.std.proofs.Common.{◌≡◌, ◌≢◌, ℕ, ◌-◌, ◌<◌, ◌≤◌, false, get_or, length}
-use Rattle.cj_decimal.specs.inner.Digits.{StandsFor}
-use Rattle.cj_decimal.specs.inner.Reading.{Carries, Passes}
+use Rattle.cj_decimal.proofs.Common.{◌≡◌, ◌≢◌, ℕ, ◌-◌, ◌<◌, ◌≤◌, false, get_or, length, StandsFor, Carries, Passes}
 use Rattle.cj_decimal.proofs.digits.read_past_full.Given as goal
 
 abbrev pub invariant-loop-at : goal.invariant-loop-at

@@ -1,4 +1,4 @@
-use Rattle.std.proofs.Common.{arith, sym, ◌∙◌, get_or}
+use Rattle.cj_decimal.proofs.Common.{arith, sym, ◌∙◌, get_or}
 use Rattle.cj_decimal.proofs.Ways.{passes_step, carries_step, digit_bounds}
 use Rattle.cj_decimal.proofs.digits.read_short.Goals as goal
 

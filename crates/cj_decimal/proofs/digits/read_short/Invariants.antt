@@ -1,5 +1,4 @@
-use Rattle.std.proofs.Common.{◌<◌, ◌-◌, ◌^◌, length}
-use Rattle.cj_decimal.specs.inner.Reading.{Carries, Passes}
+use Rattle.cj_decimal.proofs.Common.{◌<◌, ◌-◌, ◌^◌, length, Carries, Passes}
 use Rattle.cj_decimal.proofs.digits.read_short.Given as goal
 
 abbrev pub invariant-loop-at : goal.invariant-loop-at

@@ -1,4 +1,4 @@
-use Rattle.std.proofs.Common.{arith, sym, ap, ◌∙◌, ◌+◌, ◌-◌, ◌*◌, ◌^◌, ◌≡◌}
+use Rattle.cj_decimal.proofs.Common.{arith, sym, ap, ◌∙◌, ◌+◌, ◌-◌, ◌*◌, ◌^◌, ◌≡◌}
 use Rattle.cj_decimal.proofs.TenPowers.{ten_pow_add}
 use Rattle.cj_decimal.proofs.powers.wide_ten_to.Goals as goal
 

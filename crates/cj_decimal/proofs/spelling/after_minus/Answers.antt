@@ -1,4 +1,4 @@
-use Rattle.std.proofs.Common.{sym, ◌∙◌}
+use Rattle.cj_decimal.proofs.Common.{sym, ◌∙◌}
 use Rattle.cj_decimal.proofs.Parts.{minus_there, no_minus, first_within}
 use Rattle.cj_decimal.proofs.spelling.after_minus.Goals as goal
 

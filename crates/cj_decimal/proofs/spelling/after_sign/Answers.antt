@@ -1,4 +1,4 @@
-use Rattle.std.proofs.Common.{arith, sym, ◌∙◌, drop}
+use Rattle.cj_decimal.proofs.Common.{arith, sym, ◌∙◌, drop}
 use Rattle.cj_decimal.proofs.Parts.{one_of_within, drop_one, sign_there, no_sign}
 use Rattle.cj_decimal.proofs.spelling.after_sign.Goals as goal
 

@@ -1,5 +1,4 @@
-use Rattle.std.proofs.Common.{arith, sym}
-use Rattle.std.proofs.lemmas.Bool.Decides.{nat_tests}
+use Rattle.cj_decimal.proofs.Common.{arith, sym, nat_tests}
 use Rattle.cj_decimal.proofs.Parts.{begins_at, begins_past}
 use Rattle.cj_decimal.proofs.spelling.has_byte.Goals as goal
 

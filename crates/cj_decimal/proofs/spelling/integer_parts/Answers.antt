@@ -1,6 +1,4 @@
-use Rattle.std.proofs.Common.{ap, sym, ◌∙◌, refl}
-use Rattle.std.proofs.lemmas.Bool.{false≢true}
-use Rattle.cj_decimal.specs.Meaning.Reading.{is_int, digits_front, digits_rest, written_of, digits_value}
+use Rattle.cj_decimal.proofs.Common.{ap, sym, ◌∙◌, refl, false≢true, is_int, digits_front, digits_rest, written_of, digits_value}
 use Rattle.cj_decimal.proofs.Parts.{not_int, integer_spells, integer_read, nothing_follows}
 use Rattle.cj_decimal.proofs.spelling.integer_parts.Goals as goal
 

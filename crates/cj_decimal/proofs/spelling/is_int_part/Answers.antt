@@ -1,4 +1,4 @@
-use Rattle.std.proofs.Common.{arith, sym, ap, ◌∙◌}
+use Rattle.cj_decimal.proofs.Common.{arith, sym, ap, ◌∙◌}
 use Rattle.std.specs.Prelude.{not}
 use Rattle.cj_decimal.proofs.Parts.{int_none, int_alone, int_longer}
 use Rattle.cj_decimal.proofs.spelling.is_int_part.Goals as goal

@@ -1,5 +1,4 @@
-use Rattle.std.proofs.Common.{arith, sym, ◌∙◌, length-drop}
-use Rattle.std.proofs.lemmas.Int.{ints}
+use Rattle.cj_decimal.proofs.Common.{arith, sym, ◌∙◌, length-drop, ints}
 use Rattle.cj_decimal.proofs.Ways.{drop_all}
 use Rattle.cj_decimal.proofs.Parts.{exp_none, exp_unmarked, marked_at, saturates_read}
 use Rattle.cj_decimal.proofs.spelling.read_exponent.Goals as goal

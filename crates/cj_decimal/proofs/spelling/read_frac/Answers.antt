@@ -1,5 +1,4 @@
-use Rattle.std.proofs.Common.{arith, sym, ◌∙◌, drop, ap, length, ◌+◌}
-use Rattle.cj_decimal.specs.Meaning.Reading.{begins_digit, digits_front, digits_rest}
+use Rattle.cj_decimal.proofs.Common.{arith, sym, ◌∙◌, drop, ap, length, ◌+◌, begins_digit, digits_front, digits_rest}
 use Rattle.cj_decimal.proofs.Parts.{begins_within, drop_one, frac_bare, frac_pointed, no_first_digit, first_digit_there}
 use Rattle.cj_decimal.proofs.spelling.read_frac.Goals as goal
 

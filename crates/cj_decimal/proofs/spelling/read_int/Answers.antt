@@ -1,4 +1,4 @@
-use Rattle.std.proofs.Common.{sym, ◌∙◌}
+use Rattle.cj_decimal.proofs.Common.{sym, ◌∙◌}
 use Rattle.cj_decimal.proofs.Ways.{stops_after}
 use Rattle.cj_decimal.proofs.spelling.read_int.Goals as goal
 

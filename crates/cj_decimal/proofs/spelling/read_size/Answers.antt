@@ -1,4 +1,4 @@
-use Rattle.std.proofs.Common.{arith, sym, ◌∙◌, drop, ap, length, length-drop}
+use Rattle.cj_decimal.proofs.Common.{arith, sym, ◌∙◌, drop, ap, length, length-drop}
 use Rattle.cj_decimal.proofs.Pushes.{short_stands}
 use Rattle.cj_decimal.proofs.Ways.{drop_all}
 use Rattle.cj_decimal.proofs.Parts.{no_whole_digits, digits_then_more, whole_digits, saturates_size}

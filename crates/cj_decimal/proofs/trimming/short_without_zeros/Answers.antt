@@ -1,4 +1,4 @@
-use Rattle.std.proofs.Common.{arith, ◌<◌, ◌^◌}
+use Rattle.cj_decimal.proofs.Common.{arith, ◌<◌, ◌^◌}
 use Rattle.cj_decimal.proofs.Trims.{trim_more, trim_left, trim_few}
 use Rattle.cj_decimal.proofs.trimming.short_without_zeros.Goals as goal
 

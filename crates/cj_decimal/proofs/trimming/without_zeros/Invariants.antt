@@ -1,4 +1,4 @@
-use Rattle.std.proofs.Common.{◌≡◌, ◌*◌, ◌<◌, ◌^◌}
+use Rattle.cj_decimal.proofs.Common.{◌≡◌, ◌*◌, ◌<◌, ◌^◌}
 use Rattle.cj_decimal.proofs.trimming.without_zeros.Given as goal
 
 abbrev pub invariant-loop-rest : goal.invariant-loop-rest

@@ -1,4 +1,4 @@
-use Rattle.std.proofs.Common.{Err, sym, ap, ◌∙◌}
+use Rattle.cj_decimal.proofs.Common.{Err, sym, ap, ◌∙◌}
 use Rattle.cj_decimal.proofs.Wholes.{answer_of_whole, answer_fault}
 use Rattle.cj_decimal.proofs.whole.read_any.Goals as goal
 

@@ -1,5 +1,4 @@
-use Rattle.std.proofs.Common.{ℕ, ◌≡◌, ◌+◌, ◌*◌, ◌^◌, ◌<◌, ◌≤◌, length, get_or, refl, sym, ◌∙◌, arith}
-use Rattle.std.proofs.lemmas.Bool.{false≢true}
+use Rattle.cj_decimal.proofs.Common.{ℕ, ◌≡◌, ◌+◌, ◌*◌, ◌^◌, ◌<◌, ◌≤◌, length, get_or, refl, sym, ◌∙◌, arith, false≢true}
 use Rattle.cj_decimal.proofs.TenPowers.{ten_pow_suc, ten_pow_le}
 use Rattle.cj_decimal.proofs.Ways.{passes_step, carries_step, digit_bounds, stops_at_end, carried_at_end, drop_all}
 use Rattle.cj_decimal.proofs.Parts.{stops_whole}

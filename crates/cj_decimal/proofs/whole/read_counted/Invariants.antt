@@ -1,5 +1,4 @@
-use Rattle.std.proofs.Common.{◌<◌, ◌≤◌, ◌^◌, ◌-◌}
-use Rattle.cj_decimal.specs.inner.Reading.{Carries, Passes}
+use Rattle.cj_decimal.proofs.Common.{◌<◌, ◌≤◌, ◌^◌, ◌-◌, Carries, Passes}
 use Rattle.cj_decimal.proofs.whole.read_counted.Given as goal
 
 abbrev pub invariant-loop-at : goal.invariant-loop-at

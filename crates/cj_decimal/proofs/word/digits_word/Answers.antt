@@ -1,4 +1,4 @@
-use Rattle.std.proofs.Common.{refl, arith}
+use Rattle.cj_decimal.proofs.Common.{refl, arith}
 use Rattle.cj_decimal.proofs.Below.{all_below, spelled, told}
 use Rattle.cj_decimal.proofs.word.digits_word.Goals as goal
 

@@ -1,7 +1,5 @@
-use Rattle.std.proofs.Common.{◌<◌, ℕ, nat_lt, refl, arith, rules}
+use Rattle.cj_decimal.proofs.Common.{◌<◌, ℕ, nat_lt, refl, arith, rules, nat_tests, digits_value}
 use Rattle.std.specs.Prelude.{slice_range, IsTrue}
-use Rattle.std.proofs.lemmas.Bool.Decides.{nat_tests}
-use Rattle.cj_decimal.specs.Meaning.Reading.{digits_value}
 use Rattle.cj_decimal.proofs.Below.{told_below, word_below, word_short}
 use Rattle.cj_decimal.proofs.word.is_below.Goals as goal
 

@@ -1,10 +1,4 @@
-use Rattle.std.proofs.Common.{◌≡◌, ◌-◌, ◌∙◌, ℕ, List, ap, refl, subst, sym, arith}
-use Rattle.std.proofs.lemmas.Bool.{false≢true}
-use Rattle.std.specs.Prelude.{slice_range}
-use Rattle.std.specs.Int.Bits.{bit_and, bit_xor}
-use Rattle.cj_decimal.specs.Meaning.Spelling.{AllDigits, IsInt}
-use Rattle.cj_decimal.specs.FewDigits.{IsNumberIfBegun}
-use Rattle.cj_decimal.specs.Meaning.Reading.{digits_value}
+use Rattle.cj_decimal.proofs.Common.{◌≡◌, ◌-◌, ◌∙◌, ℕ, List, ap, refl, subst, sym, arith, false≢true, slice_range, bit_and, bit_xor, AllDigits, IsInt, IsNumberIfBegun, digits_value}
 use Rattle.cj_decimal.specs.Word.{IsWordOf}
 use Rattle.cj_decimal.proofs.Grammar.{int_digits}
 use Rattle.cj_decimal.proofs.Below.{word_of_eight}

@@ -1,6 +1,4 @@
-use Rattle.std.proofs.Common.{refl}
-use Rattle.std.specs.Prelude.{slice_range}
-use Rattle.cj_decimal.specs.Meaning.Reading.{digits_value}
+use Rattle.cj_decimal.proofs.Common.{refl, slice_range, digits_value}
 use Rattle.cj_decimal.proofs.Below.{word_short}
 use Rattle.cj_decimal.proofs.word.read_word.Goals as goal
 

@@ -1,4 +1,4 @@
-use Rattle.std.proofs.Common.{refl}
+use Rattle.cj_decimal.proofs.Common.{refl}
 use Rattle.cj_decimal.proofs.Eights.{value_eight}
 use Rattle.cj_decimal.proofs.word.value_of.Goals as goal
 

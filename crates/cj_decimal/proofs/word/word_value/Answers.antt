@@ -1,4 +1,4 @@
-use Rattle.std.proofs.Common.{◌∙◌, sym}
+use Rattle.cj_decimal.proofs.Common.{◌∙◌, sym}
 use Rattle.cj_decimal.proofs.Below.{eight_of_word, eight_room}
 use Rattle.cj_decimal.proofs.word.word_value.Goals as goal
 

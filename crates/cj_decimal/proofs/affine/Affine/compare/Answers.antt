@@ -1,7 +1,5 @@
-use Rattle.std.proofs.Common.{arith, sym, ◌∙◌, ◌≤◌, ◌^◌}
-use Rattle.std.specs.Prelude.{unsigned_abs}
+use Rattle.cj_decimal.proofs.Common.{arith, sym, ◌∙◌, ◌≤◌, ◌^◌, unsigned_abs, ints}
 use Rattle.cj_decimal.specs.Meaning.Affine.{image}
-use Rattle.std.proofs.lemmas.Int.{ints}
 use Rattle.cj_decimal.proofs.Splits.{whole_small, scale_joined, part_small, product_of_casts, compare_law, units_order, rest_cast, sum_cast, left_cast}
 use Rattle.cj_decimal.proofs.affine.Affine.compare.Goals as goal
 

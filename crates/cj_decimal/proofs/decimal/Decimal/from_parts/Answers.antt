@@ -1,5 +1,4 @@
-use Rattle.std.proofs.Common.{arith, ◌≡◌, ◌<◌, ◌+◌, ◌^◌, ℕ, pos, neg_ℤ, ◌+ℤ◌, ◌-ℤ◌, ◌<ℤ◌, ◌≤ℤ◌, inl, inr, sym, ◌∙◌}
-use Rattle.std.proofs.lemmas.Int.{ints}
+use Rattle.cj_decimal.proofs.Common.{arith, ◌≡◌, ◌<◌, ◌+◌, ◌^◌, ℕ, pos, neg_ℤ, ◌+ℤ◌, ◌-ℤ◌, ◌<ℤ◌, ◌≤ℤ◌, inl, inr, sym, ◌∙◌, ints}
 use Rattle.cj_decimal.proofs.Trims.{trimmed_le}
 use Rattle.cj_decimal.proofs.Normal.{too_long_out, stands_trimmed, power_in, power_low_out, power_high_out, power_out, in_form, same_form, sign_cast, power_cast}
 use Rattle.cj_decimal.proofs.decimal.Decimal.from_parts.Goals as goal

@@ -1,7 +1,5 @@
-use Rattle.std.proofs.Common.{arith, ℕ, pos, neg_ℤ, ◌+ℤ◌, ◌<ℤ◌, ◌≤ℤ◌, sym}
-use Rattle.std.proofs.lemmas.Int.{ints}
+use Rattle.cj_decimal.proofs.Common.{arith, ℕ, pos, neg_ℤ, ◌+ℤ◌, ◌<ℤ◌, ◌≤ℤ◌, sym, ints, scaled}
 use Rattle.std.specs.Int.{int_gap}
-use Rattle.cj_decimal.specs.Meaning.Number.{scaled}
 use Rattle.cj_decimal.proofs.Scales.{units_below, far_units, value_in_units, none_in_units}
 use Rattle.cj_decimal.proofs.Values.{gap_is, coefficient_same, coefficient_cast}
 use Rattle.cj_decimal.proofs.decimal.Decimal.in_units.Goals as goal

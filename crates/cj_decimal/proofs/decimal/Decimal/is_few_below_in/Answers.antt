@@ -1,6 +1,4 @@
-use Rattle.std.proofs.Common.{◌≡◌, Some, sym, ◌∙◌, arith}
-use Rattle.std.specs.Prelude.{slice_range}
-use Rattle.cj_decimal.specs.Meaning.Reading.{digits_value}
+use Rattle.cj_decimal.proofs.Common.{◌≡◌, Some, sym, ◌∙◌, arith, slice_range, digits_value}
 use Rattle.cj_decimal.proofs.Below.{all_below}
 use Rattle.cj_decimal.proofs.Classes.{class}
 use Rattle.cj_decimal.proofs.Eights.{length_slice}

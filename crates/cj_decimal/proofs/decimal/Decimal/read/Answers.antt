@@ -1,5 +1,4 @@
-use Rattle.std.proofs.Common.{refl}
-use Rattle.std.proofs.lemmas.Bool.{false≢true}
+use Rattle.cj_decimal.proofs.Common.{refl, false≢true}
 use Rattle.cj_decimal.proofs.Law.{has_one_value, value_of_read, out_of_read, not_both}
 use Rattle.cj_decimal.proofs.Classes.{class}
 use Rattle.cj_decimal.proofs.decimal.Decimal.read.Goals as goal

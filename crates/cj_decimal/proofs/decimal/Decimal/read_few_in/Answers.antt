@@ -1,5 +1,4 @@
-use Rattle.std.proofs.Common.{arith, rules}
-use Rattle.std.specs.Prelude.{slice_range}
+use Rattle.cj_decimal.proofs.Common.{arith, rules, slice_range}
 use Rattle.cj_decimal.proofs.Wholes.{answer_of_few}
 use Rattle.cj_decimal.proofs.Eights.{length_slice}
 use Rattle.cj_decimal.proofs.decimal.Decimal.read_few_in.Goals as goal

@@ -1,10 +1,5 @@
-use Rattle.std.proofs.Common.{◌≡◌, ℕ, ◌-◌, List, take, drop, length, Some, Ok, pos, neg_ℤ, ◌-ℤ◌, w64, to_z, of_z, refl, sym, ap, ◌∙◌, subst, arith, rules}
-use Rattle.std.proofs.lemmas.Bool.{false≢true}
-use Rattle.std.proofs.lemmas.Int.{ints}
+use Rattle.cj_decimal.proofs.Common.{◌≡◌, ℕ, ◌-◌, List, take, drop, length, Some, Ok, pos, neg_ℤ, ◌-ℤ◌, w64, to_z, of_z, refl, sym, ap, ◌∙◌, subst, arith, rules, false≢true, ints, body, IsShort, IsFewDigits}
 use Rattle.std.proofs.lemmas.Grind.{common_steps}
-use Rattle.cj_decimal.specs.Meaning.Reading.{body}
-use Rattle.cj_decimal.specs.inner.Reading.{IsShort}
-use Rattle.cj_decimal.specs.FewDigits.{IsFewDigits}
 use Rattle.cj_decimal.proofs.Wholes.{signed_answer, signed_from_body, body_of_signed}
 use Rattle.cj_decimal.proofs.decimal.Decimal.read_few_signed.Goals as goal
 

@@ -1,5 +1,4 @@
-use Rattle.std.proofs.Common.{◌≡◌, Ok, Some, w64, to_z, of_z, sym, ap, ◌∙◌, arith}
-use Rattle.std.proofs.lemmas.Int.{to_z-of_z, fits_signed_from_abs}
+use Rattle.cj_decimal.proofs.Common.{◌≡◌, Ok, Some, w64, to_z, of_z, sym, ap, ◌∙◌, arith, to_z-of_z, fits_signed_from_abs}
 use Rattle.cj_decimal.proofs.Wholes.{answer_below}
 use Rattle.cj_decimal.proofs.decimal.Decimal.read_whole.Goals as goal
 

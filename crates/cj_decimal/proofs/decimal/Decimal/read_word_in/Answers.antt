@@ -1,4 +1,4 @@
-use Rattle.std.specs.Prelude.{slice_range}
+use Rattle.cj_decimal.proofs.Common.{slice_range}
 use Rattle.cj_decimal.proofs.Below.{word_answer}
 use Rattle.cj_decimal.proofs.decimal.Decimal.read_word_in.Goals as goal
 

@@ -1,4 +1,4 @@
-use Rattle.cj_decimal.specs.Meaning.Number.{scaled}
+use Rattle.cj_decimal.proofs.Common.{scaled}
 use Rattle.cj_decimal.proofs.Values.{same_by_power, apart_by_coefficient, turned}
 use Rattle.cj_decimal.proofs.decimal.DecimalPartialEq.eq.Goals as goal
 
