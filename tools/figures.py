@@ -9,7 +9,8 @@ measures it, and a pattern that finds it in the output of that command. A goal i
 that is good. bench/results/figures.csv has the values, each with the command, the day, the machine
 and the commit. The newest value of a figure counts. If another command measured it, it says which.
 
-docs/MEASURED.md has a table of each group. README.md can cite figures in a paragraph between
+docs/MEASURED.md has a table of each group, and docs/DECISIONS.md one of what was tried without
+success, which is tried.csv. README.md can cite figures in a paragraph between
 `<!-- figures: TEXT -->` and `<!-- figures end -->`. A name in braces in the text becomes the value,
 and `{day}` the day. All values of a paragraph are of one day and one machine, so no sentence mixes
 versions. With --check the documents are compared and not written, and the status is 1 if one is
@@ -28,7 +29,7 @@ from typing import Iterable, Mapping, Optional
 
 ROOT = Path(__file__).resolve().parent.parent
 RESULTS = Path("bench") / "results"
-DOCUMENTS = Path("README.md"), Path("docs/MEASURED.md")
+DOCUMENTS = Path("README.md"), Path("docs/DECISIONS.md"), Path("docs/MEASURED.md")
 COLUMNS = 130
 TABLE = re.compile(r"(<!-- figures of (.*) -->\n)(?:(?!<!-- ).*\n)*(<!-- figures end -->)")
 CITED = re.compile(
@@ -101,7 +102,7 @@ class Figures:
         return row.replace("|  |", "| |")
 
     def table(self, group: str) -> str:
-        """Returns the table of a group, or of the machines.
+        """Returns the table of a group, of the machines, or of what was tried without success.
 
         Raises:
             KeyError: there is no such group.
@@ -109,6 +110,9 @@ class Figures:
         if group == "machines":
             rows = [f"| {name} | {what} |" for name, what in self.machines.items()]
             return "\n".join(["| Machine | What it is |\n|---|---|", *rows])
+        if group == "what was tried":
+            rows = [f"| {' | '.join(row.values())} |" for row in self.rows("tried")]
+            return "\n".join(["| Part | What was tried | Result |\n|---|---|---|", *rows])
         names = [name for name, goal in self.goals.items() if goal["group"] == group]
         if not names:
             raise KeyError(f"no group {group}")
