@@ -92,7 +92,7 @@ WITHOUT_HASH = """
 import sys
 from cityseq.indexes import digests
 from cityseq.cli.main import main
-from cityseq.sources.regular import RegularFile
+from cityseq.sources import RegularFile
 digests.HashedFile.read = RegularFile.read
 digests.HashedFile.content = lambda file: ""
 sys.exit(main(sys.argv[1:]))
@@ -205,9 +205,9 @@ def written(count, path):
     """Writes an index of made-up records, and returns the seconds that this took, by the clock and
     of the processor."""
     import cityseq
-    from cityseq.engine.query import asked
+    from cityseq.engine.judge import asked
     from cityseq.indexes.builder import Builder, File
-    from cityseq.run.results import Result
+    from cityseq.run import Result
 
     builder, made, begun, processor = Builder(path), 0.0, time.monotonic(), time.process_time()
     builder.open()

@@ -93,7 +93,7 @@ def make(path, kind, size):
 
 def nothing(path, output):
     import cityseq.convert.collecting  # noqa: F401
-    import cityseq.convert.whole  # noqa: F401
+    import cityseq.convert.splitting  # noqa: F401
 
 
 def by_json(path, output):

@@ -19,75 +19,38 @@ TYPE_CHECKING = False  # `typing` takes long to load
 if TYPE_CHECKING:
     from typing import Any
 
-    from .calls import check as check
-    from .calls import check_files as check_files
-    from .calls import features as features
+    from .calls import check, check_files, features
     from .calls import filter as filter  # noqa: F401
-    from .calls import index as index
-    from .calls import info as info
-    from .calls import report as report
-    from .calls import table as table
-    from .convert.collecting import collect as collect
-    from .convert.whole import split as split
-    from .engine.faults import CityseqError as CityseqError
-    from .engine.faults import InvalidStream as InvalidStream
-    from .engine.faults import LibraryMissing as LibraryMissing
-    from .engine.faults import MemoryFault as MemoryFault
-    from .engine.faults import OutOfDate as OutOfDate
-    from .engine.faults import ReadFault as ReadFault
-    from .engine.faults import RequestError as RequestError
-    from .engine.faults import Status as Status
-    from .engine.faults import WriteFault as WriteFault
-    from .engine.query import Limits as Limits
-    from .engine.query import Options as Options
-    from .engine.query import Query as Query
-    from .engine.reports import Explanation as Explanation
-    from .engine.reports import Report as Report
-    from .engine.reports import explain as explain
-    from .indexes.lookup import Index as Index
-    from .run.results import Info as Info
-    from .run.results import Result as Result
+    from .calls import index, info, report, table
+    from .convert.collecting import collect
+    from .convert.splitting import split
+    from .engine.faults import (
+        CityseqError,
+        InvalidStream,
+        LibraryMissing,
+        MemoryFault,
+        OutOfDate,
+        ReadFault,
+        RequestError,
+        Status,
+        WriteFault,
+    )
+    from .engine.judge import Limits, Options, Query
+    from .engine.reports import Explanation, Report, explain
+    from .indexes.lookup import Index
+    from .run import Info, Result
 
 # The public names, by the modules that define them.
 _MODULES = {
-    "calls": (
-        "check",
-        "check_files",
-        "features",
-        "filter",
-        "index",
-        "info",
-        "report",
-        "table",
-    ),
-    "convert.collecting": ("collect",),
-    "convert.whole": ("split",),
-    "engine.query": (
-        "Limits",
-        "Options",
-        "Query",
-    ),
-    "engine.reports": (
-        "Explanation",
-        "Report",
-        "explain",
-    ),
-    "engine.faults": (
-        "CityseqError",
-        "InvalidStream",
-        "LibraryMissing",
-        "MemoryFault",
-        "OutOfDate",
-        "ReadFault",
-        "RequestError",
-        "Status",
-        "WriteFault",
-    ),
-    "indexes.lookup": ("Index",),
-    "run.results": (
-        "Info",
-        "Result",
-    ),
+    "calls": "check check_files features filter index info report table",
+    "convert.collecting": "collect",
+    "convert.splitting": "split",
+    "engine.faults": "CityseqError InvalidStream LibraryMissing MemoryFault OutOfDate ReadFault"
+    " RequestError Status WriteFault",
+    "engine.judge": "Limits Options Query",
+    "engine.reports": "Explanation Report explain",
+    "indexes.lookup": "Index",
+    "run": "Info Result",
 }
 # `filter` is public too. It is left out, so that `import *` does not hide Python's own function.
 __all__ = [
@@ -128,7 +91,7 @@ def __getattr__(name: str) -> Any:
     from importlib import import_module
 
     for module, names in _MODULES.items():
-        if name in names:
+        if name in names.split():
             globals()[name] = value = getattr(import_module(f".{module}", __name__), name)
             return value
     raise AttributeError(f"module {__name__!r} has no attribute {name!r}")

@@ -7,15 +7,13 @@ from dataclasses import replace
 from typing import TYPE_CHECKING, Any, Union
 
 from .convert import stream_of
-from .engine.query import Box, Limits, Options, Query, Texts, Work, work_of
+from .engine import USUAL_DEPTH, USUAL_LINE
+from .engine.judge import Box, Limits, Options, Query, Texts, Work, work_of
 from .engine.reports import Report
-from .engine.structs import USUAL_DEPTH, USUAL_LINE
-from .run.arguments import one_options, one_query, watched
-from .run.results import Info, Result
+from .run import Info, Result, one_options, one_query, watched
 from .run.streams import Stream, results
-from .sources.outputs import Limit, Target, Writer
-from .sources.same_file import refuse_same
-from .sources.source import Source
+from .sources import Source
+from .sources.outputs import Limit, Target, Writer, refuse_same
 
 if TYPE_CHECKING:
     from .delivery.facts import Delivery
@@ -311,7 +309,7 @@ def table(
     Raises:
         CityseqError: As `features` does.
     """
-    from .run.table import table as tabled  # few runs need it
+    from .run.features import table as tabled  # few runs need it
 
     how = one_options(options, Options(Limits(line_limit, depth), keep_going, tree))
     work = work_of("filter", how, one_query(query, Query(ids, types, lods, box, exclude)))
@@ -416,8 +414,8 @@ def report(
         CityseqError: A package is missing that a page needs.
         LibraryMissing: The library is not there, or it is another version.
     """
-    from .delivery.report_run import How, checked, of_bytes  # few runs need it
-    from .delivery.report_run import report as made
+    from .delivery.report import How, checked, of_bytes  # few runs need it
+    from .delivery.report import report as made
 
     given = Options(Limits(line_limit, depth), False, tree, jobs, part_size)
     how = replace(one_options(options, given), keep_going=True)

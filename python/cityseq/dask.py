@@ -23,19 +23,17 @@ from .cluster.folders import USUAL, Folder, filter_to_folder
 from .cluster.jobs import PART, Cluster, Job, checked_size
 from .cluster.runs import PIECES, Runs
 from .cluster.tasks import hash_file
+from .engine import USUAL_DEPTH, USUAL_LINE
 from .engine.faults import RequestError
-from .engine.query import Box, Limits, Options, Query, Texts, Work, work_of
-from .engine.structs import USUAL_DEPTH, USUAL_LINE
+from .engine.judge import Box, Limits, Options, Query, Texts, Work, work_of
 from .indexes.builder import Builder
 from .indexes.index_run import Indexed, checked, of_takers, written
-from .run.arguments import one_options, one_query, watched
-from .run.results import Info, Result
+from .run import Info, Result, one_options, one_query, watched
 from .run.streams import Results, Stream
-from .sources.outputs import Target, Writer
+from .sources import is_path, is_url
+from .sources.outputs import Target, Writer, refuse_same
 from .sources.packed import Packing
 from .sources.ranges import SHORT
-from .sources.same_file import refuse_same
-from .sources.source import is_path, is_url
 
 Size = int | str
 PACKINGS = {None: None, "gz": Packing.GZIP, "zst": Packing.ZSTD}

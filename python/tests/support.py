@@ -20,8 +20,8 @@ PROGRAM = os.path.join(ROOT, "crates", "cityseq", "out", "cityseq")
 sys.path[:0] = [os.path.join(ROOT, "python"), os.path.join(ROOT, "vectors")]
 
 import table  # noqa: E402
+from cityseq.engine.judge import asked  # noqa: E402
 from cityseq.engine.judge import judge_lines  # noqa: E402
-from cityseq.engine.query import asked  # noqa: E402
 
 HEADER = (
     b'{"type":"CityJSON","version":"2.0",'

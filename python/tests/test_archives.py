@@ -16,9 +16,9 @@ from contextlib import closing, contextmanager
 from unittest import mock
 
 import cityseq
+from cityseq.cli.pack_command import packed_name
 from cityseq.engine.faults import OutOfDate, ReadFault
-from cityseq.indexes import blocks as blocks_of
-from cityseq.run.archives import packed_name
+from cityseq.indexes import line_reader as blocks_of
 from cityseq.sources.packed import BLOCK, LAST, Packing, Unpacker, pack
 
 from .serving import MISSING, Serving

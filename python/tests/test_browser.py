@@ -6,7 +6,7 @@ import tempfile
 import unittest
 
 import cityseq
-from cityseq.delivery import extras
+from cityseq import delivery as extras
 
 from . import made_up
 from .browser import CHROMIUM, browser

@@ -9,7 +9,9 @@ from . import made_up
 from .test_page import MISSING, Elements
 
 if MISSING is None:
-    from cityseq.delivery import areas, charts, drawing
+    from cityseq.delivery import areas
+    from cityseq.delivery import charts
+    from cityseq.delivery import charts as drawing
 
 
 @unittest.skipIf(MISSING, MISSING)

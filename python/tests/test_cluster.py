@@ -15,7 +15,7 @@ from dataclasses import replace
 from unittest import mock
 
 import cityseq
-from cityseq.engine.query import asked
+from cityseq.engine.judge import asked
 from cityseq.sources.packed import BLOCK, Packer
 from cityseq.sources.ranges import RangeChunks, Sight, Sizes, begin
 
@@ -80,7 +80,7 @@ class Wrong(WithCluster):
         packed = self.folder / "region.city.jsonl"
         packed.write_bytes(gzip.compress(lines(9)))
         with mock.patch("cityseq.cluster.runs.sight_of", side_effect=OSError), mock.patch(
-            "cityseq.sources.source.is_packed", return_value=False
+            "cityseq.sources.is_packed", return_value=False
         ):
             (found,) = cityseq.dask.check(self.client, packed)
             self.assertEqual((found.status, found.features), (0, 9))

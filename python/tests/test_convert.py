@@ -10,7 +10,7 @@ from contextlib import suppress
 from unittest import mock
 
 import cityseq
-from cityseq.convert.whole import TOGETHER
+from cityseq.convert.splitting import TOGETHER
 
 from . import made_whole
 from .support import InFolder, command

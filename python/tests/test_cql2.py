@@ -15,8 +15,8 @@ import cityseq
 from cityseq import RequestError
 from cityseq.attributes import cql2
 from cityseq.attributes.where import Pattern, bound, instant
+from cityseq.cli import pack_command as archives
 from cityseq.indexes import database
-from cityseq.run import archives
 
 from .support import HEADER, InFolder, command
 from .test_attributes import line

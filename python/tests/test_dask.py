@@ -16,8 +16,7 @@ from .support import HEADER, InFolder, feature, numbered
 
 if distributed is not None:
     import cityseq.dask
-    from cityseq.engine.judge import Answer
-    from cityseq.engine.query import asked
+    from cityseq.engine.judge import Answer, asked
     from cityseq.sources.ranges import RangeChunks, Sizes, begin, judge_range
 
 

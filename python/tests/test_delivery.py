@@ -12,7 +12,7 @@ from decimal import Decimal, DecimalException
 from unittest import mock
 
 import cityseq
-from cityseq.delivery import extras
+from cityseq import delivery as extras
 
 from .support import HEADER, PLAIN, InFolder, feature, lines_by_chance, stream_by_chance
 from .test_told import example

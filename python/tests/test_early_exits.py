@@ -8,7 +8,7 @@ import unittest
 from unittest import mock
 
 import cityseq
-from cityseq.run.pool import Job, Pool
+from cityseq.run.streams import Job, Pool
 from cityseq.sources.packed import Unpacker
 
 from . import support
@@ -117,7 +117,7 @@ class Exits(InFolder):
     def test_an_output_that_is_left_half_way(self):
         script = (
             "import sys, cityseq\n"
-            "from cityseq.engine.query import asked\n"
+            "from cityseq.engine.judge import asked\n"
             "from cityseq.sources.outputs import Writer\n"
             "from cityseq.run.streams import Stream, results\n"
             "streams = (Stream(sys.argv[1], asked('filter'), output=Writer(name))"

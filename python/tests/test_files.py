@@ -8,11 +8,9 @@ from dataclasses import replace
 from unittest import mock
 
 import cityseq
-from cityseq.engine.judge import judge, judge_lines
-from cityseq.engine.query import asked
-from cityseq.sources.chunk_reader import Chunks
-from cityseq.sources.chunks import FileChunk
-from cityseq.sources.regular import RegularFile, regular_file
+from cityseq.engine.judge import asked, judge, judge_lines
+from cityseq.sources import RegularFile, regular_file
+from cityseq.sources.chunks import Chunks, FileChunk
 
 from . import support
 from .support import HEADER, PLAIN, InFolder, feature
@@ -34,7 +32,7 @@ def failing_at(place):
 
 def few_at_once(test):
     """Reads only a little before it knows the header, so that short files have chunks too."""
-    patch = mock.patch("cityseq.sources.chunk_reader.PIECE", 16)
+    patch = mock.patch("cityseq.sources.chunks.PIECE", 16)
     patch.start()
     test.addCleanup(patch.stop)
 
@@ -359,10 +357,14 @@ class Runs(InFolder):
                         self.assertEqual((found.status, found.fault), fault)
 
     def test_memory_that_is_refused(self):
-        def refusing(size=0):
+        from cityseq.engine import Room
+
+        usual = Room.of
+
+        def refusing(room, size):
             if size > 1_000:
                 raise MemoryError
-            return bytearray(size)
+            return usual(room, size)
 
         path = self.file(HEADER + PLAIN * 10 + PLAIN[:-1] + b" " * 2_000 + b"\n" + PLAIN)
         for jobs in (1, 2):
@@ -372,7 +374,7 @@ class Runs(InFolder):
                 lambda *given, **options: cityseq.filter(*given, io.BytesIO(), **options),
             ):
                 with self.subTest(jobs=jobs, call=call), mock.patch(
-                    "cityseq.engine.memory.bytearray", refusing, create=True
+                    "cityseq.engine.Room.of", refusing
                 ):
                     with self.assertRaises(cityseq.MemoryFault) as raised:
                         call(path, part_size=2 * len(PLAIN), jobs=jobs)

@@ -8,7 +8,7 @@ from unittest import mock
 import cityseq
 from cityseq.engine import ids as ids_of
 from cityseq.engine.ids import MANY, MOST, _ids_in, _sorted, ids_for, in_order, part_size_for
-from cityseq.engine.query import asked, lines_of
+from cityseq.engine.judge import asked, lines_of
 
 from . import support
 from .support import HEADER, PLAIN, feature
@@ -158,7 +158,7 @@ class Filters(support.InFolder):
         random.Random(1).shuffle(wanted)
         path = self.folder / "stream.city.jsonl"
         path.write_bytes(HEADER + b"".join(feature(f"b{number}") for number in range(count)))
-        with mock.patch("cityseq.engine.query.ids_for", noted):
+        with mock.patch("cityseq.engine.judge.ids_for", noted):
             self.assertEqual(self.kept(path, ids=wanted, **options)[1], min(count, many))
         return [each for each in lengths if each[0]]
 
@@ -180,7 +180,7 @@ class Filters(support.InFolder):
 
     def test_parts_of_a_file_are_not_copied(self):
         """Those whose ids Python reads are `bytes`, and others are not."""
-        with mock.patch("cityseq.sources.regular.RegularFile.read", side_effect=AssertionError):
+        with mock.patch("cityseq.sources.RegularFile.read", side_effect=AssertionError):
             for jobs in (1, 3):
                 self.asked_for(20_000, 100_000, jobs=jobs)
             with self.assertRaises(AssertionError):

@@ -20,9 +20,9 @@ from fractions import Fraction
 from unittest import mock
 
 import cityseq
+from cityseq import sources as regular
 from cityseq.engine.records import id_of
 from cityseq.indexes import builder
-from cityseq.sources import regular
 
 from . import support
 from .support import HEADER, PLAIN, ROOT, InFolder, command, feature
@@ -489,7 +489,7 @@ class Refreshed(InFolder):
 
     def test_the_hash(self):
         """The BLAKE2b of the CRC-32s of all blocks, whoever reads them."""
-        from cityseq.indexes.digests import digest_of
+        from cityseq.sources.hashes import digest_of
 
         lines = [feature(f"b{number}") for number in range(2_000)]
         for name, text in (
@@ -514,7 +514,7 @@ class Refreshed(InFolder):
 
     def test_the_judging_threads_hash(self):
         """They have nearly all blocks at hand. Only the others are read again."""
-        from cityseq.indexes import digests
+        from cityseq.indexes import index_run
 
         lines = [feature(f"b{number}") for number in range(20_000)]
         path, read = self.file(HEADER + b"".join(lines), "many.jsonl"), []
@@ -525,16 +525,17 @@ class Refreshed(InFolder):
             return read_own(file, begin, end)
 
         with mock.patch.object(regular.RegularFile, "read_own", noted), mock.patch.object(
-            digests, "digest_of", side_effect=AssertionError
+            index_run.Hashes, "submit", side_effect=AssertionError
         ):
             cityseq.index(path, self.index)
         self.assertLess(sum(read), path.stat().st_size / 4)
 
     def test_a_stream_that_changes_while_it_is_hashed(self):
-        from cityseq.indexes import digests, index_run
+        from cityseq.indexes import index_run
+        from cityseq.sources import hashes
 
         before = self.index.read_bytes()
-        content, path = digests.HashedFile.content, self.paths[0]
+        content, path = hashes.HashedFile.content, self.paths[0]
 
         def changed(file_of_stream):
             with open(path, "ab") as file:
@@ -543,10 +544,10 @@ class Refreshed(InFolder):
 
         packed = self.file(HEADER + PLAIN, "packed.jsonl.gz")
         told = mock.Mock()
-        told.submit.return_value.result.return_value = digests.Digest("", (1, 2), (1, 3))
-        with mock.patch.object(digests.HashedFile, "content", changed):
+        told.submit.return_value.result.return_value = hashes.Digest("", (1, 2), (1, 3))
+        with mock.patch.object(hashes.HashedFile, "content", changed):
             self.refused_as_changed(path)
-        with mock.patch.object(index_run, "Digests") as made:
+        with mock.patch.object(index_run, "Hashes") as made:
             made.return_value.__enter__.return_value = told
             self.refused_as_changed(packed)
         self.assertEqual(self.index.read_bytes(), before)
@@ -592,7 +593,7 @@ class Trees(unittest.TestCase):
     """The spatial index, which is written at once, as SQLite itself checks it."""
 
     def test_any_number_of_features(self):
-        from cityseq.indexes.rtree import Tree, cells_of, keys_of
+        from cityseq.indexes.bulk import Tree, cells_of, keys_of
 
         chance = random.Random(1)
         for count in (0, 1, 50, 51, 52, 103, 51 * 51, 51 * 51 + 1, 9_000):
@@ -629,7 +630,7 @@ class Trees(unittest.TestCase):
 
     def test_keys(self):
         """The bits of both numbers as 32-bit floats, in the order of the floats, in turn."""
-        from cityseq.indexes.rtree import keys_of
+        from cityseq.indexes.bulk import keys_of
 
         def ordered(number):
             (bits,) = struct.unpack(">I", struct.pack(">f", number))
@@ -649,7 +650,7 @@ class Trees(unittest.TestCase):
         self.assertEqual(list(keys_of([], [])), [])
 
     def test_rounding_is_outward(self):
-        from cityseq.engine.extents import ceiling_of, floor_of
+        from cityseq.engine.world import ceiling_of, floor_of
 
         chance = random.Random(2)
         for _ in range(5_000):
@@ -664,7 +665,7 @@ class Trees(unittest.TestCase):
             )
 
     def test_intervals_are_rounded_outward(self):
-        from cityseq.engine.extents import Axis, ceiling_of, floor_of
+        from cityseq.engine.world import Axis, ceiling_of, floor_of
 
         chance = random.Random(3)
         for _ in range(5_000):
@@ -679,7 +680,7 @@ class Trees(unittest.TestCase):
             )
 
     def test_columns_are_rounded_as_each_number_is(self):
-        from cityseq.engine.extents import ceiling_of, ceilings_of, floor_of, floors_of
+        from cityseq.engine.world import ceiling_of, ceilings_of, floor_of, floors_of
 
         chance = random.Random(5)
         for _ in range(3_000):

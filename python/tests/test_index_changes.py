@@ -112,7 +112,7 @@ class Streams(InFolder):
     @unittest.skipIf(importlib.util.find_spec("aiohttp") is None, "aiohttp is not there")
     def test_a_change_while_a_server_answers(self):
         from cityseq.indexes.index_pages import Page
-        from cityseq.serve.catalogue import Catalogue
+        from cityseq.serve.context import Catalogue
         from cityseq.serve.items import find
         from cityseq.serve.settings import Settings
 

@@ -11,8 +11,9 @@ from contextlib import closing
 from unittest import mock
 
 import cityseq
-from cityseq.engine.query import asked
-from cityseq.indexes import builder, replacement
+from cityseq.engine.judge import asked
+from cityseq.indexes import builder
+from cityseq.indexes import database as replacement
 
 from . import support
 from .support import HEADER, ROOT, InFolder, command, feature

@@ -4,10 +4,8 @@ import itertools
 import random
 import unittest
 
-from cityseq.engine.judge import Answer, judge_lines
-from cityseq.engine.library import library
-from cityseq.engine.query import asked
-from cityseq.engine.structs import CallStatus, RawAnswer, RawRequest, RawTally
+from cityseq.engine import CallStatus, RawAnswer, RawRequest, RawTally, library
+from cityseq.engine.judge import Answer, asked, judge_lines
 from cityseq.sources.chunks import whole_lines
 
 from . import support

@@ -7,7 +7,7 @@ import unittest
 from decimal import Decimal
 
 import cityseq
-from cityseq.cli.json_objects import exact
+from cityseq.cli.json_output import exact
 
 from . import support
 from .support import HEADER, PLAIN, InFolder, command

@@ -123,11 +123,11 @@ class Table(unittest.TestCase):
             chance.shuffle(lines)
             header = HEADER.replace(b"[0.001", f"[{scale}".encode())
             text = header.replace(b"[10", f"[{shift}".encode()) + b"".join(lines)
-            with mock.patch("cityseq.run.table.ROOM", chance.choice((300, 1_000, 1 << 19))):
-                with mock.patch("cityseq.run.table._numpy", lambda: None):
+            with mock.patch("cityseq.run.features.ROOM", chance.choice((300, 1_000, 1 << 19))):
+                with mock.patch("cityseq.run.features._numpy", lambda: None):
                     plain = cityseq.table(text)
-                with mock.patch("cityseq.run.table.MANY", 0), mock.patch(
-                    "cityseq.run.table.TOGETHER", chance.choice((1, 3, 100))
+                with mock.patch("cityseq.run.features.MANY", 0), mock.patch(
+                    "cityseq.run.features.TOGETHER", chance.choice((1, 3, 100))
                 ):
                     self.assertEqual(pickle.dumps(cityseq.table(text)), pickle.dumps(plain), seed)
 

@@ -4,7 +4,7 @@ import json
 import os
 import unittest
 
-from cityseq.cli.unmatched import ids_in
+from cityseq.cli.filter_outputs import ids_in
 
 from .support import HEADER, InFolder, command, feature
 from .test_sources import GOOD

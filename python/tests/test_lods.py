@@ -7,8 +7,8 @@ from collections import Counter
 from unittest import mock
 
 import cityseq
-from cityseq.engine import lods
-from cityseq.engine.tally import MOST_TEXTS
+from cityseq.engine import records as lods
+from cityseq.engine.records import MOST_TEXTS
 
 from . import support
 from .support import HEADER, PLAIN, feature

@@ -13,10 +13,15 @@ from fractions import Fraction
 from unittest import mock
 
 import cityseq
-from cityseq.engine.extents import Axis, World, ceiling_of, floor_of
 from cityseq.engine.faults import WriteFault
 from cityseq.engine.records import RECORD, Records, id_of
-from cityseq.indexes import arrays, builder, columns, geopackage, id_table, sorting
+from cityseq.engine.world import Axis, World, ceiling_of, floor_of
+from cityseq.indexes import builder
+from cityseq.indexes import bulk as arrays
+from cityseq.indexes import bulk as columns
+from cityseq.indexes import bulk as sorting
+from cityseq.indexes import candidates as id_table
+from cityseq.indexes import geopackage
 from cityseq.indexes.geopackage import UNIFORM, geometry_start
 
 from .support import HEADER, InFolder, feature
@@ -320,14 +325,14 @@ class Hashes(InFolder):
         """A number of a feature may have the bytes of a hash."""
         hashes = [0x0001_0002, 0x0001_0003, 0x0001_0002, 0x0002_0002, 0xFFFF_FFFF]
         numbers = [0x0002_0003, 0x0000_0200, 0x0302_0002, 2, (1 << 32) - 1]
-        rows = id_table.joined(hashes, numbers)
+        rows = candidates.id_rows(hashes, numbers)
         joined = b"".join(sorted(rows[at : at + 8] for at in range(0, len(rows), 8)))
         with closing(sqlite3.connect(":memory:")) as base:
             base.execute("CREATE TABLE feature_ids (key INTEGER PRIMARY KEY, entries BLOB)")
-            id_table.write(base, [joined[:16], joined[16:]])
-            found = sorted(id_table._found(base, [(each, each) for each in sorted(set(hashes))]))
+            candidates.write_ids(base, [joined[:16], joined[16:]])
+            found = sorted(candidates._found(base, [(each, each) for each in sorted(set(hashes))]))
             self.assertEqual(found, sorted(zip(numbers, hashes)))
-            id_table.find_alike(base)
+            candidates.find_alike(base)
             alike = base.execute("SELECT hash, fid FROM temp.alike ORDER BY fid").fetchall()
         self.assertEqual(alike, [(0x0001_0002, 0x0002_0003), (0x0001_0002, 0x0302_0002)])
 

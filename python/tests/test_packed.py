@@ -13,7 +13,7 @@ from concurrent.futures import Future
 from unittest import mock
 
 import cityseq
-from cityseq.engine.query import asked
+from cityseq.engine.judge import asked
 from cityseq.run.streams import Stream, _Order, results
 from cityseq.sources.packed import BLOCK, LAST, Packer, Packing, Unpacker, pack
 

@@ -9,15 +9,17 @@ import re
 import unittest
 from unittest import mock
 
-from cityseq.delivery import extras, facts
-from cityseq.delivery.json_object import delivery_object
+from cityseq import delivery as extras
+from cityseq.delivery import facts
+from cityseq.delivery.facts import delivery_object
 
 from . import made_up, support
 from .support import InFolder
 
 try:
     extras.need_all()
-    from cityseq.delivery import lists, page
+    from cityseq.delivery import page
+    from cityseq.delivery import report as lists
 
     MISSING = None
 except extras.PackageMissing as fault:

@@ -10,8 +10,8 @@ import unittest
 from concurrent.futures import ThreadPoolExecutor
 
 import cityseq
-from cityseq.engine.query import asked
-from cityseq.sources.chunk_reader import Chunks
+from cityseq.engine.judge import asked
+from cityseq.sources.chunks import Chunks
 
 from . import support
 from .support import HEADER, PLAIN, in_one, numbered
@@ -38,10 +38,10 @@ def filtered(text, **options):
 # many numbers, in a thread.
 CALLS = """
 import resource
-from cityseq.engine.memory import keep_room
+from cityseq.engine import keep_room
 from cityseq.engine.judge import judge_lines
-from cityseq.engine.query import asked
-from cityseq.run.pool import in_thread
+from cityseq.engine.judge import asked
+from cityseq.run.streams import in_thread
 line = (
     b'{"type":"CityJSONFeature","id":"b",'
     b'"CityObjects":{"b":{"type":"Building","attributes":{"a":[%s0]}}},"vertices":[]}'

@@ -8,8 +8,8 @@ from functools import partial
 from unittest import mock
 
 import cityseq
-from cityseq.run import pool as pool_of
-from cityseq.run.pool import STACK, Pool, in_thread
+from cityseq.run import streams as pool_of
+from cityseq.run.streams import STACK, Pool, in_thread
 
 from . import support
 from .support import HEADER, PLAIN
@@ -112,7 +112,7 @@ class Crews(unittest.TestCase):
         for most, silent in ((1, False), (0, False), (1, True), (0, True)):
             patch, _ = starting(most, silent)
             with self.subTest(most=most, silent=silent), patch, mock.patch(
-                "cityseq.run.pool.PATIENCE", 0.05
+                "cityseq.run.streams.PATIENCE", 0.05
             ):
                 with Pool(4) as crew:
                     self.assertEqual(
@@ -121,7 +121,7 @@ class Crews(unittest.TestCase):
                     )
 
     def test_a_thread_that_ends_early(self):
-        with mock.patch("cityseq.run.pool.PATIENCE", 0.05), Pool(1) as crew:
+        with mock.patch("cityseq.run.streams.PATIENCE", 0.05), Pool(1) as crew:
             crew.submit(lambda: None).result()
             crew._calls.put(_thread.exit)
             self.assertEqual(crew.submit(lambda: 5).result(), 5)
@@ -144,7 +144,7 @@ class Crews(unittest.TestCase):
                 crew.submit(lambda: None)
             ended.set()
 
-        with mock.patch("cityseq.run.pool._start", interrupted):
+        with mock.patch("cityseq.run.streams._start", interrupted):
             START(run, ())
             self.assertTrue(ended.wait(10))
 
@@ -165,7 +165,7 @@ class Crews(unittest.TestCase):
         for most, silent in ((2, False), (0, False), (0, True)):
             patch, _ = starting(most, silent)
             with self.subTest(most=most, silent=silent), patch, mock.patch(
-                "cityseq.run.pool.PATIENCE", 0.05
+                "cityseq.run.streams.PATIENCE", 0.05
             ):
                 self.assertEqual(
                     support.numbered(cityseq.check(text, jobs=4, part_size=1_000).reports),

@@ -10,7 +10,8 @@ import unittest
 from unittest import mock
 
 import cityseq
-from cityseq.delivery import extras, report_run
+from cityseq import delivery as extras
+from cityseq.delivery import report as report_run
 
 from . import support
 from .support import HEADER, InFolder, command, feature

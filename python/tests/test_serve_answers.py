@@ -7,7 +7,7 @@ import unittest
 from decimal import Decimal
 
 import cityseq
-from cityseq.coordinates.boxes import edges, short
+from cityseq.coordinates import edges, short
 
 from .serving import MISSING, RD, Served, Serving
 from .support import HEADER, command, feature

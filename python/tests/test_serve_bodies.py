@@ -13,7 +13,7 @@ from itertools import islice
 from unittest import mock
 
 import cityseq
-from cityseq.engine.query import asked
+from cityseq.engine.judge import asked
 from cityseq.run.feed import Fed, Unpacking
 from cityseq.sources.packed import Gzip
 

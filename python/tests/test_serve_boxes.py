@@ -15,8 +15,7 @@ WITHOUT = MISSING or ("" if find_spec("pyproj") else "pyproj is not there")
 if not WITHOUT:
     from pyproj import CRS, Transformer
 
-    from cityseq.coordinates.boxes import meet, meet_on_earth, pieces
-    from cityseq.coordinates.projection import Projection
+    from cityseq.coordinates import Projection, meet, meet_on_earth, pieces
 
 WORLD = (-180, -90, 180, 90)
 EPSG = "http://www.opengis.net/def/crs/EPSG/0/{}"

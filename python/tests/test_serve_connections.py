@@ -14,9 +14,9 @@ from .support import HEADER, command, feature
 
 if not MISSING:
     from cityseq.run.feed import Fed
+    from cityseq.serve.answers import Problem
     from cityseq.serve.bodies import Body, Judgement
-    from cityseq.serve.bounds import Pace, Places
-    from cityseq.serve.problems import Problem
+    from cityseq.serve.sending import Pace, Places
     from cityseq.serve.settings import Limits
 
 PATH = "/collections/sample/items?f=city-json-seq"

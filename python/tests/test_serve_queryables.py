@@ -80,7 +80,8 @@ class Documents(Asked):
             self.assertEqual(more, QUERYABLES | FILTERS)
 
     def test_conformance_without_lark(self):
-        from cityseq.serve import queryables, resources
+        from cityseq.serve import documents as resources
+        from cityseq.serve import queryables
         from cityseq.serve.settings import Limits
 
         with mock.patch.dict(sys.modules, {"lark": None}):

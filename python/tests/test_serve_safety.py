@@ -29,12 +29,10 @@ MODULE = pathlib.Path("/usr/lib/nginx/modules/ngx_stream_module.so")
 if not MISSING:
     import aiohttp.web
 
-    from cityseq.coordinates.systems import System
-    from cityseq.serve.encodings import whole
-    from cityseq.serve.formats import CITY_JSON_SEQ, GEOJSON, HTML, choose
-    from cityseq.serve.links import is_known
+    from cityseq.coordinates import System
+    from cityseq.serve.answers import CITY_JSON_SEQ, GEOJSON, HTML, Problem, choose, is_known
+    from cityseq.serve.items import whole
     from cityseq.serve.parameters import STRING, Parameter, Query
-    from cityseq.serve.problems import Problem
     from cityseq.serve.process import _quoted
     from cityseq.serve.settings import Limits, Settings
 
@@ -438,7 +436,7 @@ class Parts(Served):
         self.assertEqual(json.loads(text)["type"], "CityJSON")
 
     def test_without_pyproj(self):
-        with mock.patch("cityseq.coordinates.systems.has_pyproj", return_value=False):
+        with mock.patch("cityseq.coordinates.has_pyproj", return_value=False):
             system = System("https://www.opengis.net/def/crs/EPSG/0/7415")
             self.assertEqual(system.listed(), [RD])
             self.assertEqual(system.asked(RD, "crs"), RD)

@@ -11,9 +11,9 @@ import unittest
 from decimal import Decimal
 
 import cityseq
-from cityseq.engine.escape import quoted, shown
-from cityseq.engine.place_hints import met
-from cityseq.engine.query import asked
+from cityseq.engine.faults import quoted, shown
+from cityseq.engine.hints import met
+from cityseq.engine.judge import asked
 from cityseq.engine.reports import excerpt_of, find_id
 from cityseq.engine.world import box_of, normal, plain
 
@@ -52,7 +52,7 @@ class Explanations(unittest.TestCase):
             self.assertEqual(json.load(told), make_reasons.read_reasons())
 
     def test_the_library_has_the_same_words(self):
-        from cityseq.engine.library import library
+        from cityseq.engine import library
 
         self.assertEqual(
             [library().reason_text(code) for code in range(1, 40)],

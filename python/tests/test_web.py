@@ -14,7 +14,7 @@ from unittest import mock
 from urllib.parse import unquote, urlsplit
 
 import cityseq
-from cityseq.sources import web_client
+from cityseq.sources import web as web_client
 
 from .support import HEADER, InFolder, command, feature
 
@@ -333,9 +333,9 @@ class Client(Served):
             self.assertIn("no URL of http", str(caught.exception))
 
     def test_no_urllib3(self):
-        without = {"urllib3": None, "cityseq.sources.web_client": None, "cityseq.sources.web": None}
+        without = {"urllib3": None, "cityseq.sources.web": None, "cityseq.sources.web": None}
         with mock.patch.dict(sys.modules, without):
-            del sys.modules["cityseq.sources.web_client"], sys.modules["cityseq.sources.web"]
+            del sys.modules["cityseq.sources.web"], sys.modules["cityseq.sources.web"]
             with self.assertRaises(cityseq.CityseqError) as caught:
                 cityseq.Index(self.index, base="http://example.org")
         self.assertIn("python3-urllib3", str(caught.exception))

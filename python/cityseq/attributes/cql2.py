@@ -9,8 +9,7 @@ from functools import lru_cache
 from itertools import chain
 from typing import Any, NamedTuple, Union
 
-from ..engine.escape import shown
-from ..engine.faults import RequestError
+from ..engine.faults import RequestError, shown
 from .columns import FORMATS
 
 LONGEST = 10_000  # characters
@@ -110,14 +109,14 @@ class Null(NamedTuple):
 class Not(NamedTuple):
     """What is true if another one is false."""
 
-    inner: "Filter"
+    inner: Filter
 
 
 class Joined(NamedTuple):
     """Several, with `AND` or `OR` between them."""
 
     word: str
-    inner: tuple["Filter", ...]
+    inner: tuple[Filter, ...]
 
 
 Filter = Union[Constant, Comparison, Like, Between, Among, Null, Not, Joined]

@@ -10,7 +10,7 @@ from functools import lru_cache, partial
 from itertools import chain, compress, islice
 from typing import Any, Union
 
-from ..engine.library import Text
+from ..engine import Text
 from ..engine.records import MEMBERS
 from ..engine.world import deep
 from ..indexes.geopackage import readable

@@ -10,9 +10,9 @@ from functools import lru_cache
 from math import copysign, inf
 from typing import Any, NamedTuple, Union
 
-from ..engine.escape import quoted as in_quotes
-from ..engine.escape import shown
 from ..engine.faults import RequestError
+from ..engine.faults import quoted as in_quotes
+from ..engine.faults import shown
 from ..indexes.geopackage import readable
 from .columns import FORMATS, Attribute, quoted
 from .cql2 import (

@@ -2,13 +2,12 @@
 from __future__ import annotations
 
 from ..convert.collecting import collect
-from ..convert.whole import split
-from ..engine.escape import shown
-from ..engine.faults import RequestError
-from .file_lists import files_of
+from ..convert.splitting import split
+from ..engine.faults import RequestError, shown
+from .filter_outputs import refuse_read
 from .output import put, say
 from .requests import CollectStreams, SplitFile
-from .targets import refuse_read
+from .stream_commands import files_of
 
 
 def run_split(request: SplitFile) -> int:

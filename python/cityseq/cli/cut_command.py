@@ -9,24 +9,21 @@ from functools import partial
 from typing import Any
 
 from .. import __version__
-from ..engine.escape import shown
-from ..engine.faults import RequestError
-from ..engine.query import Work
-from ..engine.structs import USUAL_DEPTH, USUAL_LINE
+from ..engine import USUAL_DEPTH, USUAL_LINE
+from ..engine.faults import RequestError, shown
+from ..engine.judge import Work
 from ..indexes.cut import cut, cut_each
 from ..indexes.line_reader import IndexedStream
 from ..indexes.lookup import Index
-from ..run.results import Result
+from ..run import Result
+from ..sources import size_of
 from ..sources.outputs import Limit, Writer
 from ..sources.packed import LEVEL
-from ..sources.source import size_of
-from .file_lists import ids_of, texts_of
-from .json_objects import result_object
-from .output import Bar, say
-from .printers import printer_for
+from .filter_outputs import make_folder, refuse_read, targets_of
+from .json_output import result_object
+from .output import Bar, printer_for, say
 from .requests import RULES, Filter
-from .stream_commands import unmatched_of
-from .targets import make_folder, refuse_read, targets_of
+from .stream_commands import ids_of, texts_of, unmatched_of
 
 # Options of `filter` that an index has no answer to, and why.
 UNFIT = {

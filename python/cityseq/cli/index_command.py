@@ -8,24 +8,21 @@ from functools import partial
 from .. import __version__
 from ..attributes.columns import checked_names
 from ..attributes.values import ALL
-from ..engine.escape import quoted, shown
-from ..engine.faults import RequestError
-from ..engine.memory import keep_room
-from ..engine.query import Work, asked
+from ..engine import keep_room
+from ..engine.faults import RequestError, quoted, shown
+from ..engine.judge import Work, asked
 from ..indexes.builder import Builder
 from ..indexes.details import Wanted
 from ..indexes.index_lines import shown_object
 from ..indexes.index_run import Indexed, by_threads, checked, written
 from ..indexes.lookup import Index
-from ..run.results import Result
-from ..sources.same_file import refuse_same, refuse_standard
-from ..sources.source import size_of
-from .file_lists import files_of
-from .json_objects import result_object
-from .output import Bar, put, say
-from .printers import Printer, printer_for
+from ..run import Result
+from ..sources import size_of
+from ..sources.outputs import refuse_same, refuse_standard
+from .json_output import result_object
+from .output import Bar, Printer, printer_for, put, say
 from .requests import WriteIndex
-from .stream_commands import total_of
+from .stream_commands import files_of, total_of
 
 
 def run(request: WriteIndex) -> int:
@@ -47,7 +44,7 @@ def _show(request: WriteIndex) -> int:
 
 def _refresh(request: WriteIndex) -> int:
     """Writes the new times of streams with the same content into an index."""
-    from ..indexes.refresh import refresh  # few runs need it
+    from ..indexes.index_run import refresh  # few runs need it
 
     if request.json:
         raise RequestError("--refresh writes no JSON: leave --json out")

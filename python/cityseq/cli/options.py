@@ -5,7 +5,7 @@ from collections.abc import Callable
 from dataclasses import dataclass
 from typing import Any
 
-from ..engine.structs import DEPTH_LIMITS, LINE_LIMITS
+from ..engine import DEPTH_LIMITS, LINE_LIMITS
 from .requests import (
     Check,
     CollectStreams,
@@ -18,8 +18,11 @@ from .requests import (
     SplitFile,
     WriteIndex,
     WriteReport,
+    names,
+    one_of,
+    size,
+    whole_number,
 )
-from .values import names, one_of, size, whole_number
 
 MOST_JOBS, MOST_BYTES, MOST_SECONDS = 4_096, 1 << 40, 1_000_000
 LEVELS = 1, 9

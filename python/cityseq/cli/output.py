@@ -1,18 +1,32 @@
-"""Standard output and standard error of the command, and the bar that shows how far a run is. Each
-output may be closed, full, a terminal, or a pipe that takes only a part of a write."""
+"""Standard output and standard error of the command: lines, the results of files, and the bar that
+shows how far a run is. Each output may be closed, full, a terminal, or a pipe that takes only a
+part of a write."""
 from __future__ import annotations
 
 import io
+import json
 import os
 import sys
 import time
+from collections import Counter
+from collections.abc import Callable, Iterator
 from contextlib import suppress
+from dataclasses import dataclass, field
 from importlib import import_module
 from typing import Any, TextIO
 
-from ..engine.escape import shown
-from ..engine.faults import write_fault
+from ..engine.faults import fitting, quoted, shown, write_fault
+from ..engine.reports import Report, explain
+from ..run import Info, Result
 from ..sources.outputs import write_all
+from .requests import Check, Filter
+from .requests import Info as InfoRequest
+from .requests import WriteIndex
+
+Object = dict[str, Any]
+PrintRequest = Check | Filter | InfoRequest | WriteIndex
+ON_A_TERMINAL = 1_000  # reports of one file that are printed there
+BOLD, RED, GREEN, PLAIN = "\x1b[1m", "\x1b[31m", "\x1b[32m", "\x1b[0m"
 
 
 class Descriptor(io.RawIOBase):
@@ -181,3 +195,249 @@ def _tqdm(total: int | None) -> Any:
     except ImportError:
         return None
     return tqdm.tqdm(total=total, unit="B", unit_scale=True, file=sys.stderr, dynamic_ncols=True)
+
+
+def info_lines(info: Info, is_plain: bool) -> Iterator[str]:
+    """Yields the summary of a stream: the lines that the program writes. A file also has the box
+    in world coordinates. The texts of LoDs follow if they were counted."""
+    from ..engine.world import normal
+
+    yield f"lines {info.lines}"
+    yield f"features {info.features}"
+    yield "scale " + " ".join(map(normal, info.scale))
+    yield "translate " + " ".join(map(normal, info.translate))
+    yield from (f"type {name} {count}" for name, count in info.types.items())
+    yield from (f"lod {name} {count}" for name, count in info.classes.items())
+    yield from (
+        f"{axis} {edges[0]} {edges[1]}"
+        for axis, edges in zip("xyz", (info.x, info.y, info.z))
+        if edges is not None
+    )
+    yield f"peak bytes {info.peak_bytes}"
+    yield f"peak tokens {info.peak_tokens}"
+    yield f"peak open {info.peak_depth}"
+    if info.box is not None and not is_plain:
+        yield f"bbox {info.box}"
+    for text, count in sorted((info.lods or {}).items()):
+        yield f"features with lod {quoted(text)} {count}"
+    for text in info.unasked:
+        yield f"features with lod {quoted(text)} unknown"
+
+
+def counts(lines: int, features: int, refused: int) -> str:
+    """Returns the counts of a stream, as the program writes them."""
+    return f"lines={lines} features={features}" + (f" refused={refused}" if refused else "")
+
+
+def brief(words: str) -> str:
+    """Returns the program's words for a fault, without the cause."""
+    return words.split(":")[0]
+
+
+@dataclass
+class Reports:
+    """The invalid lines of a file: the first one, and how many have each code."""
+
+    first: Report | None = None
+    codes: Counter[int] = field(default_factory=Counter)
+
+    def add(self, report: Report) -> None:
+        """Counts an invalid line."""
+        self.first = self.first or report
+        self.codes[report.code] += 1
+
+
+class Printer:
+    """Prints each report as it comes, up to the wanted number, and the result of each file. A
+    report that ends a run is printed with the result, so after all output before it."""
+
+    def __init__(self, request: PrintRequest, bar: Bar) -> None:
+        self._request, self._bar = request, bar
+        self._codes: Counter[int] = Counter()
+        self._count = 0  # reports of the current file
+        self._most = request.max_reports
+        if self._most is None and self._is_cut_on(sys.stderr):
+            self._most = ON_A_TERMINAL
+
+    def _is_cut_on(self, output: Any) -> bool:
+        """Whether there are fewer reports on this output than on others."""
+        return is_terminal(output) and not self._request.is_plain and not self._request.json
+
+    def report(self, report: Report) -> None:
+        """Takes an invalid line. With `keep_going` it is printed at once."""
+        if self._request.keep_going and report.line > 1:
+            self._take(report)
+
+    def _take(self, report: Report) -> None:
+        self._codes[report.code] += 1
+        self._count += 1
+        if self._are_printed() and (self._most is None or self._count <= self._most):
+            self.print_report(report)
+
+    def _are_printed(self) -> bool:
+        return not self._request.quiet and not self._request.summary
+
+    def result(self, result: Result, extra: Callable[[], Object]) -> None:
+        """Prints the result of a file. `extra` makes its object."""
+        if result.end is not None and result.fault is None:
+            self._take(result.end)
+        if self._most is not None and self._count > self._most and self._are_printed():
+            self.print_more(result.file, self._count - self._most)
+        self._count = 0
+        self.print_result(result, extra)
+
+    def skipped(self, file: str, recorded: Object) -> None:
+        """Prints what a record has about a file that is skipped."""
+        for code, lines in recorded.get("codes", {}).items():
+            self._codes[int(code)] += lines
+        self.print_skipped(file, recorded)
+
+    def close(self) -> None:
+        """Prints how often each reason occurred, if `--summary` asks for it."""
+        if self._request.summary and not self._request.quiet:
+            self.print_summary(self._codes)
+
+    def print_report(self, report: Report) -> None:
+        """Prints a report."""
+        raise NotImplementedError
+
+    def print_more(self, file: str, count: int) -> None:
+        """Prints how many more reports there are."""
+        raise NotImplementedError
+
+    def print_result(self, result: Result, extra: Callable[[], Object]) -> None:
+        """Prints the result of a file."""
+        raise NotImplementedError
+
+    def print_skipped(self, file: str, recorded: Object) -> None:
+        """Prints what a record has about a file that is skipped."""
+        raise NotImplementedError
+
+    def print_summary(self, codes: Counter[int]) -> None:
+        """Prints how often each reason occurred."""
+        raise NotImplementedError
+
+
+class TextPrinter(Printer):
+    """Prints text: for standard input only what the program writes, for files also some help."""
+
+    def __init__(self, request: PrintRequest, bar: Bar, has_many: bool) -> None:
+        super().__init__(request, bar)
+        self._has_many = has_many
+        self._has_colour = (
+            is_terminal(sys.stderr)
+            and not os.environ.get("NO_COLOR")
+            and os.environ.get("TERM") != "dumb"
+        )
+
+    def _say(self, *lines: str) -> None:
+        self._bar.clear()
+        say("\n".join(lines))
+
+    def _put(self, lines: list[str]) -> None:
+        if not self._request.quiet:
+            self._bar.clear()
+            put("\n".join(lines))
+
+    def _of(self, file: str) -> str:
+        """Returns the beginning of each line about a file."""
+        return f"{shown(file)}: " if self._has_many else ""
+
+    def _painted(self, colour: str, text: str) -> str:
+        return f"{colour}{text}{PLAIN}" if self._has_colour else text
+
+    def print_report(self, report: Report) -> None:
+        if self._request.is_plain:
+            self._say(str(report))
+        else:
+            self._say(*self._lines(report))
+
+    def _lines(self, report: Report) -> Iterator[str]:
+        """Yields the program's words, then the feature, the excerpt, a hint and a fix."""
+        place = f"{self._of(report.file)}line {report.line}, byte {report.byte}"
+        yield f"{self._painted(BOLD, place)}: {self._painted(RED, f'{report.code} {report.text}')}"
+        if report.id is not None:
+            yield f"    feature {quoted(report.id)}"
+        if report.excerpt:
+            yield f"    {fitting(report.excerpt, encoding())}"
+            yield f"    {' ' * report.column}{self._painted(GREEN, '^')}"
+        if report.met is not None:
+            yield f"    Hint: {report.met}."
+        yield f"    Fix: {explain(report.code).fix.split('. ')[0].rstrip('.')}."
+
+    def print_more(self, file: str, count: int) -> None:
+        lines = "line is" if count == 1 else "lines are"
+        self._say(
+            f"{self._of(file)}{count:,} more {lines} invalid:"
+            " --max-reports sets how many are shown, --summary counts them"
+        )
+
+    def print_result(self, result: Result, extra: Callable[[], Object]) -> None:
+        if result.fault is not None:
+            self._say(self._fault(result, result.fault))
+            return
+        if not self._request.is_plain and not self._request.quiet:
+            for hint in result.hints:
+                self._say(f"{self._of(result.file)}{hint}")
+        if result.end is None and isinstance(result, Info):
+            lines = info_lines(result, self._request.is_plain)
+            self._put([self._of(result.file) + line for line in lines])
+        elif result.end is None and isinstance(self._request, (Check, WriteIndex)):
+            numbers = counts(result.lines, result.features, result.refused)
+            self._put([f"{self._of(result.file)}{result.status.verdict} {numbers}"])
+
+    def _fault(self, result: Result, words: str) -> str:
+        """Returns the text of a fault. Standard input alone has the program's words."""
+        if self._request.is_plain and result.fault_file in (None, "-"):
+            return brief(words)
+        return f"{shown(result.fault_file or result.file)}: {shown(words)}"
+
+    def print_skipped(self, file: str, recorded: Object) -> None:
+        numbers = counts(recorded["lines"], recorded["features"], recorded["refused"])
+        line = f"{recorded['verdict']} {numbers}, as recorded at {recorded['time']}"
+        self._put([self._of(file) + shown(line)])
+
+    def print_summary(self, codes: Counter[int]) -> None:
+        for code in sorted(codes):
+            self._say(f"{codes[code]:7} {code} {explain(code).text}")
+
+
+class JsonPrinter(Printer):
+    """Prints JSON objects, one a line, to standard output. If the kept lines are there, the objects
+    go to standard error."""
+
+    def _print(self, value: Object) -> None:
+        self._bar.clear()
+        text = json.dumps(value)
+        if isinstance(self._request, Filter) and self._request.writes_to_standard_output:
+            say(text)
+        else:
+            put(text)
+
+    def print_report(self, report: Report) -> None:
+        from .json_output import report_object  # text does not need it
+
+        self._print(report_object(report))
+
+    def print_more(self, file: str, count: int) -> None:
+        """Prints nothing: the result has the counts."""
+
+    def print_result(self, result: Result, extra: Callable[[], Object]) -> None:
+        self._print(extra())
+
+    def print_skipped(self, file: str, recorded: Object) -> None:
+        self._print(recorded)
+
+    def print_summary(self, codes: Counter[int]) -> None:
+        from .json_output import reasons_object
+
+        self._print(reasons_object(codes))
+
+
+def printer_for(request: PrintRequest, bar: Bar, has_many: bool) -> Printer:
+    """Returns the printer for the options."""
+    if isinstance(request, Check) and request.format is not None:
+        from .json_output import SarifPrinter  # few runs need it
+
+        return SarifPrinter(request, bar)
+    return JsonPrinter(request, bar) if request.json else TextPrinter(request, bar, has_many)

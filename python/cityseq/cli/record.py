@@ -11,9 +11,9 @@ from contextlib import suppress
 from typing import Any
 
 from ..engine.faults import RequestError, write_fault
-from ..sources.file_state import state_now
+from ..sources import is_path
+from ..sources.hashes import state_now
 from ..sources.outputs import write_all
-from ..sources.source import is_path
 from .requests import Check, Filter
 
 Object = dict[str, Any]

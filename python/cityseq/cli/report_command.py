@@ -4,19 +4,16 @@ from __future__ import annotations
 import json
 import shlex
 
-from ..delivery.report_run import How, checked, report
-from ..engine.escape import shown
-from ..engine.faults import RequestError
-from ..engine.memory import keep_room
-from ..engine.query import asked
-from ..run.results import Result
-from ..sources.same_file import refuse_same, refuse_standard
-from .file_lists import files_of
+from ..delivery.report import How, checked, report
+from ..engine import keep_room
+from ..engine.faults import RequestError, shown
+from ..engine.judge import asked
+from ..run import Result
+from ..sources.outputs import refuse_same, refuse_standard
 from .options import COMMANDS
-from .output import Bar, put, say
-from .printers import counts
+from .output import Bar, counts, put, say
 from .requests import WriteReport
-from .stream_commands import total_of
+from .stream_commands import files_of, total_of
 
 
 def run(request: WriteReport, program: str) -> int:

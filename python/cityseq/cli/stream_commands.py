@@ -1,4 +1,4 @@
-"""The commands `check`, `filter` and `info`."""
+"""The commands `check`, `filter` and `info`, and the lists of files and ids that they read."""
 from __future__ import annotations
 
 import os
@@ -8,30 +8,118 @@ from collections.abc import Iterable, Iterator, Sequence
 from contextlib import closing, contextmanager
 from dataclasses import dataclass, field
 from functools import cached_property, partial
-from typing import TYPE_CHECKING, Any
+from typing import TYPE_CHECKING, Any, Protocol
 
 from .. import __version__
 from ..convert import stream_of
+from ..engine import keep_room
 from ..engine.faults import RequestError
-from ..engine.memory import keep_room
-from ..engine.query import Work, asked
+from ..engine.judge import Work, asked
 from ..engine.reports import Report, explain
-from ..run.results import Result
+from ..run import Result
 from ..run.streams import Results, Stream, results
+from ..sources import is_path, size_of
 from ..sources.outputs import Limit, Writer
 from ..sources.packed import LEVEL
-from ..sources.source import is_path, size_of
-from .file_lists import files_of, ids_of, texts_of
-from .output import Bar, is_terminal, put, say
-from .printers import Reports, printer_for
+from .filter_outputs import make_folder, refuse_read, targets_of
+from .output import Bar, Reports, is_terminal, printer_for, put, say
 from .requests import Check, Explain, Filter, Info
-from .targets import make_folder, refuse_read, targets_of
 
 if TYPE_CHECKING:
-    from .unmatched import UnmatchedIds
+    from .filter_outputs import UnmatchedIds
 
+
+MARK = b"\xef\xbb\xbf"  # a byte order mark
 HASHES = 2  # files that are hashed at once
 Request = Check | Filter | Info
+
+
+class _Listing(Protocol):
+    """A request that reads files, which may be in a list."""
+
+    files: list[str]
+    files_from: str | None
+    null: bool
+
+
+def _read(path: str, what: str) -> bytes:
+    """Returns the bytes of a list.
+
+    Raises:
+        RequestError: It cannot be read.
+    """
+    try:
+        if path != "-":
+            with open(path, "rb") as source:
+                return source.read()
+        if sys.stdin is None:
+            raise OSError("standard input is closed")
+        return sys.stdin.buffer.read()
+    except OSError as fault:
+        raise RequestError(f"{path}: {what}: {fault.strerror or fault}") from fault
+
+
+def _lines(text: bytes) -> bytes:
+    """Returns the texts of a list, one on each line, without the empty ones. In the list a NUL may
+    follow each text."""
+    text = text.removeprefix(MARK)
+    if b"\0" in text:
+        text = text.replace(b"\0", b"\n")
+    elif b"\r" in text:
+        text = text.replace(b"\r\n", b"\n")
+    if b"\n\n" not in text:  # a long list is not taken apart
+        return text.strip(b"\n")
+    return b"\n".join(filter(None, text.split(b"\n")))
+
+
+def _names(text: bytes, null: bool) -> list[str]:
+    """Returns the names in a list. With `null` only a NUL ends a name, which may have an LF."""
+    names = text.split(b"\0") if null else _lines(text).split(b"\n")
+    return [os.fsdecode(name) for name in names if name]
+
+
+def files_of(request: _Listing, ids_from: str | None = None) -> tuple[str, ...]:
+    """Returns the files to read. Without any FILE and without a list it is standard input.
+
+    Raises:
+        RequestError: A list cannot be read, or standard input is read twice.
+    """
+    named = list(request.files)
+    if request.files_from is not None:
+        listed = _read(request.files_from, "a list of files")
+        named += _names(listed, request.null)
+    elif not named:
+        named = ["-"]
+    if (*named, ids_from, request.files_from).count("-") > 1:
+        raise RequestError("standard input is read once: - is given for more than one thing")
+    return tuple(named)
+
+
+def texts_of(text: str | None) -> list[str] | None:
+    """Returns the texts of an option, which has commas between them."""
+    return None if text is None else text.split(",")
+
+
+def ids_of(option: str | None, path: str | None, null: bool) -> list[str] | bytes | None:
+    """Returns the ids of the option and of a list. There may be very many. If only a list has ids,
+    they are bytes, one id on each line.
+
+    Raises:
+        RequestError: The list cannot be read, or is not UTF-8.
+    """
+    if path is None:
+        return texts_of(option)
+    listed = _read(path, "a list of ids")
+    if null and b"\n" in listed:
+        raise RequestError(f"{path}: a list of ids: no query can have an id with a line's end")
+    ids = _lines(listed)
+    try:
+        text = ids.decode("utf-8")
+    except UnicodeDecodeError as fault:
+        raise RequestError(f"{path}: a list of ids: {fault}") from fault
+    if option is None:
+        return ids
+    return (text.split("\n") if ids else []) + option.split(",")
 
 
 @dataclass
@@ -82,7 +170,7 @@ class Run:
         self._hashes: Any = None
         self._record: Any = None
         if request.sha256 or request.record is not None:
-            from ..run.pool import Pool  # few runs need threads that hash
+            from ..run.streams import Pool  # few runs need threads that hash
 
             self._hashes = Pool(HASHES)
         if request.record is not None:
@@ -117,7 +205,7 @@ class Run:
 
     def _state_of(self, file: str) -> dict[str, Any]:
         """Returns what must be the same for a file to be skipped."""
-        from ..sources.file_state import state_now
+        from ..sources.hashes import state_now
 
         return {
             **state_now(file),
@@ -140,7 +228,7 @@ class Run:
         """Returns a file as a stream, and notes the state of the file."""
         begun = _Begun(None if writer is None else writer.name)
         if self._hashes is not None:
-            from ..sources.file_state import sha256_of, state_now
+            from ..sources.hashes import sha256_of, state_now
 
             begun.state = state_now(file)
             begun.digest = self._hashes.submit(partial(sha256_of, file)) if is_path(file) else None
@@ -175,7 +263,7 @@ class Run:
         return result.status
 
     def _object(self, result: Result, sha256: str | None) -> dict[str, Any]:
-        from .json_objects import result_object
+        from .json_output import result_object
 
         size = size_of(result.file)
         sha256 = sha256 if self._request.sha256 else None
@@ -183,8 +271,8 @@ class Run:
 
     def _line(self, result: Result, begun: _Begun, sha256: str | None) -> dict[str, Any]:
         """Returns the line of a record for a file."""
-        from ..sources.file_state import time_now
-        from .json_objects import record_object
+        from ..sources.hashes import time_now
+        from .json_output import record_object
         from .record import output_state
 
         is_whole = (
@@ -254,7 +342,7 @@ def unmatched_of(request: Filter, ids: list[str] | bytes | None) -> UnmatchedIds
         return None
     if request.limit is not None:  # it leaves out features that match
         return None
-    from .unmatched import UnmatchedIds  # few runs need it
+    from .filter_outputs import UnmatchedIds  # few runs need it
 
     return UnmatchedIds(request.ids_from, ids)
 

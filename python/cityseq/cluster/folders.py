@@ -11,17 +11,17 @@ from functools import partial
 from typing import Any
 
 from .. import __version__
+from ..engine import CallStatus
 from ..engine.faults import CityseqError, WriteFault, read_fault, write_fault
-from ..engine.judge import Answer, judge
-from ..engine.query import Work
-from ..engine.structs import CallStatus
-from ..run.results import Result
+from ..engine.judge import Answer, Work, judge
+from ..run import Result
 from ..run.streams import Stream
+from ..sources import CHANGED, is_url
+from ..sources.hashes import BlockHash
 from ..sources.outputs import Part as NewFile
 from ..sources.packed import LEVEL, Packer, Packing
-from ..sources.parts import MANIFEST, Digest, Part, manifest_of, path_in
+from ..sources.parts import MANIFEST, Part, manifest_of, path_in
 from ..sources.ranges import RangeChunk
-from ..sources.source import CHANGED, is_url
 from .jobs import PATIENCE, Cluster
 from .runs import Runs
 
@@ -63,7 +63,7 @@ class _Output:
     """A new file that gets its name when it is whole. Counts and hashes what is written."""
 
     def __init__(self, path: str, packing: Packing | None = None) -> None:
-        self._path, self.digest = path, Digest()
+        self._path, self.digest = path, BlockHash()
         self._system: Any = None
         self._part = NewFile(path)
         if is_url(path):

@@ -15,8 +15,7 @@ from importlib import import_module
 from typing import Any
 
 from ..engine.faults import CityseqError, MemoryFault, ReadFault, RequestError, read_fault, why
-from ..engine.judge import Answer
-from ..engine.query import Work
+from ..engine.judge import Answer, Work
 from ..sources.ranges import RangeChunk
 from .tasks import Answered, engine, guard, judge_all
 

@@ -11,6 +11,7 @@ from typing import Any
 from ..engine.faults import CityseqError, ReadFault, RequestError
 from ..engine.judge import Answer
 from ..run.streams import Results, Stream, results_by
+from ..sources import is_path, is_url, name_of
 from ..sources.chunks import Chunk
 from ..sources.ranges import (
     SHORT,
@@ -22,7 +23,6 @@ from ..sources.ranges import (
     judge_range,
     sight_of,
 )
-from ..sources.source import is_path, is_url, name_of
 from .jobs import AHEAD, HELD, PART, Batch, Cluster, Job, Lost
 from .tasks import judge_packed
 

@@ -10,13 +10,10 @@ from functools import lru_cache, partial
 from typing import Any
 
 from .. import __version__
-from ..engine.judge import Answer
-from ..engine.library import library_path
-from ..engine.query import Work
-from ..engine.structs import CallStatus
-from ..indexes.digests import Digest, digest_of
-from ..run.pool import in_thread
-from ..run.streams import packed
+from ..engine import CallStatus, library_path
+from ..engine.judge import Answer, Work
+from ..run.streams import in_thread, packed
+from ..sources.hashes import Digest, digest_of
 from ..sources.ranges import RangeChunk, judge_range
 
 SENT = 4 << 20  # bytes of answers with which a task for several parts ends
@@ -27,7 +24,7 @@ Answered = tuple[str, str, Any]  # the worker, its engine, and the answer if tha
 @lru_cache(maxsize=None)
 def engine() -> str:
     """Returns the version of this package, and hashes of its modules and of its library."""
-    package = os.path.dirname(os.path.dirname(os.path.abspath(__file__)))
+    package = os.path.dirname(os.path.dirname(__file__))
     modules = sorted(glob.glob(os.path.join(package, "**", "*.py"), recursive=True))
     found = [__version__]
     for paths in (modules, [library_path()]):

@@ -5,7 +5,7 @@ import os
 from typing import Any
 
 from ..engine.faults import RequestError
-from ..sources.source import Source, is_path
+from ..sources import Source, is_path
 
 ENDINGS = (".city.json", ".city.json.gz")
 
@@ -21,7 +21,7 @@ def stream_of(source: Source, whole: bool | None) -> Any:
     """Returns the stream of a source: that of a whole file, or the source itself."""
     if not is_whole(source, whole):
         return source
-    from .whole import WholeFile  # few runs need it
+    from .splitting import WholeFile  # few runs need it
 
     return WholeFile(source)
 

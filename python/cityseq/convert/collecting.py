@@ -12,36 +12,126 @@ from hashlib import blake2b
 from itertools import islice
 from typing import Any
 
+from ..engine import USUAL_DEPTH, USUAL_LINE, CallStatus, library
 from ..engine.faults import InvalidStream, RequestError
-from ..engine.judge import held
-from ..engine.library import library
-from ..engine.query import Limits, Options, Work, work_of
-from ..engine.structs import USUAL_DEPTH, USUAL_LINE, CallStatus
-from ..engine.world import transform_of
+from ..engine.judge import Limits, Options, Work, held, work_of
+from ..engine.world import transform_of, units_of
 from ..run.features import fault_of
-from ..sources.chunk_reader import Chunks
-from ..sources.outputs import Target, Writer
-from ..sources.same_file import refuse_same
-from ..sources.source import Source, bytes_of, name_of
-from .joining import (
-    Moved,
-    Once,
-    Place,
-    Templates,
-    join,
-    lookup_of,
-    refusal,
-    shift_of,
-    transform_text,
+from ..sources import Source, bytes_of, name_of
+from ..sources.chunks import Chunks
+from ..sources.outputs import Target, Writer, refuse_same
+from .spans import (
+    DECODER,
+    LIMIT,
+    TOO_DEEP,
+    Indices,
+    Lookup,
+    Rule,
+    compact,
+    items_of,
+    members_of,
+    rewritten,
+    whole_number,
 )
-from .rewriting import LIMIT, Indices, items_of, members_of, rewritten, whole_number
-from .spans import DECODER, TOO_DEEP, compact
 from .splitting import LISTS
 
+Place = tuple[str, int]  # a file and a line
 OWN = ("type", "id", "CityObjects", "vertices", "appearance")  # members of a feature
 WRITTEN = ("type", "version", "transform", "CityObjects", "vertices")  # of a header, without others
 EXTENT = "the extent is that of the header: it is too large if the stream was filtered"
 TOGETHER = 1 << 12  # vertices that are written at once
+
+
+class Once(dict[str, int]):
+    """Numbers of texts, in the order in which they first come."""
+
+    def __missing__(self, text: str) -> int:
+        self[text] = number = len(self)
+        return number
+
+
+class Moved(Lookup):
+    """Indices of the items of a line, as indices of the whole file."""
+
+    def __init__(self, count: int, move: Callable[[int], int], refuse: Callable[[int], Exception]):
+        """Takes how many items there are, the new index of each, and the fault for another one."""
+        super().__init__()
+        self._count, self._move, self._refuse = count, move, refuse
+
+    def new_index(self, old: int) -> str:
+        if not 0 <= old < self._count:
+            raise self._refuse(old)
+        return str(self._move(old))
+
+
+class Templates:
+    """The templates of all streams."""
+
+    def __init__(self) -> None:
+        self._templates: list[str] = []
+        self._vertices: list[str] = []
+        self._begins: dict[tuple[str, ...], int] = {}
+
+    def begin_of(self, templates: list[str], vertices: list[str]) -> int:
+        """Returns the index of the first of some templates. Streams with the same ones share
+        them."""
+        key = (*templates, "", *vertices)
+        if key not in self._begins:
+            self._begins[key] = len(self._templates)
+            moved = Moved(len(vertices), len(self._vertices).__add__, IndexError)
+            rule: Rule = {'"boundaries"': moved.renumbered}
+            self._templates += [rewritten(each, rule) for each in templates]
+            self._vertices += vertices
+        return self._begins[key]
+
+    def spelled(self) -> str:
+        """Returns them as a member of the root."""
+        return (
+            f'"geometry-templates":{{"templates":[{",".join(self._templates)}],'
+            f'"vertices-templates":[{",".join(self._vertices)}]}}'
+        )
+
+
+def shift_of(scale: Decimal, shift: Decimal, first_scale: Decimal, first: Decimal) -> int | None:
+    """Returns how many times the scale a translate is above another. None if that is no whole
+    number, or the scales differ."""
+    if scale != first_scale:
+        return None
+    if shift == first:
+        return 0
+    units, step = (units_of(shift), units_of(first)), units_of(scale)
+    if units[0] is None or units[1] is None or not step or (units[0] - units[1]) % step:
+        return None
+    return (units[0] - units[1]) // step
+
+
+def transform_text(scale: list[Decimal], translate: list[Decimal]) -> str:
+    """Returns what a transform has, for a fault."""
+    return f"scale {' '.join(map(str, scale))} and translate {' '.join(map(str, translate))}"
+
+
+def refusal(what: str, place: Place) -> Callable[[int], InvalidStream]:
+    """Returns what makes the fault for an index of no item."""
+    file, line = place
+    return lambda old: InvalidStream(f"line {line}: {what} has no item {old}", None, file)
+
+
+def lookup_of(name: str, items: list[str], joined: Once, place: Place) -> Moved:
+    """Returns the lookup of the items of a list of a line."""
+    refuse = refusal(f"appearance/{name}", place)
+    return Moved(len(items), lambda old: joined[items[old]], refuse)
+
+
+def join(joined: dict[str, tuple[str, Place]], name: str, text: str, place: Place) -> None:
+    """Adds a member. Raises `InvalidStream` if an earlier line has a different one."""
+    kept, (file, line) = joined.setdefault(name, (text, place))
+    if kept != text:
+        raise InvalidStream(
+            f"line {place[1]} and line {line} of {file} have different members {name}:"
+            " collect them apart",
+            None,
+            place[0],
+        )
 
 
 @dataclass(frozen=True)

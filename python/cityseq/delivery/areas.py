@@ -6,7 +6,7 @@ import math
 from collections.abc import Callable
 from typing import Any
 
-from .extras import needed
+from . import needed
 from .facts import Area, Named, Point, Rectangle
 
 np: Any = needed("numpy")

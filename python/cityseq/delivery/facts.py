@@ -1,23 +1,27 @@
-"""The facts about a delivery, without any layout."""
+"""The facts about a delivery, without any layout, and as one JSON object, which
+docs/report.schema.json describes."""
 from __future__ import annotations
 
 from collections import Counter
 from dataclasses import dataclass, field
+from decimal import Decimal
 from typing import TYPE_CHECKING, Any, TypeVar
 
+from ..cli.json_output import exact, report_object
 from ..engine.faults import Status
+from ..engine.records import Range
 from ..engine.reports import Explanation, Report, explain
-from ..engine.tally import Range
 
 if TYPE_CHECKING:
-    from decimal import Decimal
-
     from ..engine.world import Extent
+
 
 EXAMPLES = 3  # reports of each reason that are kept as examples
 Key = TypeVar("Key")
 Rectangle = tuple[float, float, float, float]  # xmin, ymin, xmax, ymax, in world coordinates
 Point = tuple[float, float]
+VERSION = 1  # it changes if a member is removed, renamed or changes its meaning
+Object = dict[str, Any]
 
 
 @dataclass
@@ -37,7 +41,7 @@ class Contents:
     lods: dict[str, int] = field(default_factory=dict)
     lengths: dict[int, int] = field(default_factory=dict)
 
-    def add(self, other: "Contents") -> None:
+    def add(self, other: Contents) -> None:
         """Adds the contents of other features."""
         self.features += other.features
         _add(self.types, other.types)
@@ -78,12 +82,12 @@ class File:
     end: Report | None = None
     fault: str | None = None
     hints: list[str] = field(default_factory=list)
-    scale: list["Decimal"] = field(default_factory=list)
-    translate: list["Decimal"] = field(default_factory=list)
+    scale: list[Decimal] = field(default_factory=list)
+    translate: list[Decimal] = field(default_factory=list)
     reference_system: str | None = None
     ranges: tuple[Range, Range, Range] = (None, None, None)
     box: str | None = None
-    extent: tuple["Extent", "Extent", "Extent"] = (None, None, None)
+    extent: tuple[Extent, Extent, Extent] = (None, None, None)
     longest: int = 0
     peaks: tuple[int, int, int] = (0, 0, 0)
     contents: Contents = field(default_factory=Contents)
@@ -247,12 +251,11 @@ class Delivery:
     def json_object(self) -> dict[str, Any]:
         """Returns all facts as one object of JSON, which docs/report.schema.json describes. It has
         only the examples of reports."""
-        from .json_object import delivery_object  # few callers need it
 
         return delivery_object(self)
 
     @property
-    def verdicts(self) -> "Counter[str]":
+    def verdicts(self) -> Counter[str]:
         """How many files have each verdict."""
         return Counter(file.verdict for file in self.files)
 
@@ -283,3 +286,116 @@ class Delivery:
     def peaks(self) -> tuple[int, ...]:
         """The greatest peaks of all files."""
         return tuple(max((file.peaks[n] for file in self.files), default=0) for n in range(3))
+
+
+def delivery_object(delivery: Delivery) -> Object:
+    """Returns all facts of a delivery, with only the examples of its reports."""
+    run = delivery.run
+    return {
+        "kind": "delivery",
+        "version": VERSION,
+        "title": delivery.title,
+        "cityseq": run.program,
+        "command": run.words,
+        "options": {"line_limit": run.line_limit, "depth": run.depth, "tree": run.tree},
+        "time": run.time,
+        "seconds": round(run.seconds, 3),
+        "jobs": run.jobs,
+        "status": delivery.status,
+        "lines": delivery.lines,
+        "invalid": delivery.invalid,
+        **_contents(delivery.contents),
+        "files": list(map(_file, delivery.files)),
+        "areas": list(map(_area, delivery.areas)),
+        "reasons": [_reason(reason, delivery.invalid) for reason in delivery.reasons],
+        "repeated_ids": _repeated(delivery.repeated),
+        "report_files": list(delivery.report_files),
+    }
+
+
+def _contents(contents: Contents) -> Object:
+    return {
+        "features": contents.features,
+        "types": contents.types,
+        "lods": contents.lods,
+        "line_lengths": [
+            {"from": 1 << power, "to": (2 << power) - 1, "features": count}
+            for power, count in sorted(contents.lengths.items())
+        ],
+    }
+
+
+def _box(box: str | None) -> list[Any] | None:
+    return None if box is None else [exact(Decimal(edge)) for edge in box.split(",")]
+
+
+def _file(file: File) -> Object:
+    axes = {
+        axis: None if extent is None else list(map(exact, extent))
+        for axis, extent in zip("xyz", file.extent)
+    }
+    return {
+        "file": file.name,
+        "status": file.status,
+        "verdict": file.verdict,
+        "size": file.size,
+        "sha256": file.sha256,
+        "lines": file.lines,
+        "invalid": file.invalid,
+        "ended_at": None if file.end is None else file.end.line,
+        "fault": file.fault,
+        "hints": file.hints,
+        "reference_system": file.reference_system,
+        "scale": list(map(exact, file.scale)) or None,
+        "translate": list(map(exact, file.translate)) or None,
+        "bbox": _box(file.box),
+        **axes,
+        "longest_line": file.longest,
+        "peak_bytes": file.peaks[0],
+        "peak_tokens": file.peaks[1],
+        "peak_depth": file.peaks[2],
+        **_contents(file.contents),
+    }
+
+
+def _area(area: Area) -> Object:
+    return {
+        "reference_system": area.reference_system,
+        "files": area.files,
+        "features": area.features,
+        "bbox": _box(area.box),
+        "apart": area.apart,
+        "strays": [
+            {"file": each.file, "line": each.line, "id": each.id, "middle": list(each.middle)}
+            for each in area.strays
+        ],
+    }
+
+
+def _reason(reason: Reason, invalid: int) -> Object:
+    told = reason.explanation
+    return {
+        "code": reason.code,
+        "text": told.text,
+        "meaning": told.meaning,
+        "fix": told.fix,
+        "lines": reason.lines,
+        "share": round(reason.lines / invalid, 6),
+        "files": reason.files,
+        "examples": list(map(report_object, reason.examples)),
+    }
+
+
+def _repeated(repeated: Repeated) -> Object:
+    return {
+        "ids": repeated.ids,
+        "features": repeated.features,
+        "first": [
+            {
+                "id": each.id,
+                "features": each.count,
+                "places": [{"file": file, "line": line} for file, line in each.places],
+            }
+            for each in repeated.first
+        ],
+    }

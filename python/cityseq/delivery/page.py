@@ -8,11 +8,11 @@ import os
 from collections.abc import Iterator, Sequence
 from typing import Any
 
-from ..engine.escape import shown
+from ..engine.faults import shown
 from ..engine.reports import Report, explain
 from ..engine.world import plain
+from . import needed
 from .charts import Map, coarse, histogram, map_of, size_of_power
-from .extras import needed
 from .facts import Delivery, File
 
 MOST_BYTES = 1_900_000  # of the page, with as many rows of reports as fit
@@ -144,7 +144,7 @@ def _json(told: Any) -> str:
 
 
 def _read(name: str) -> str:
-    path = os.path.join(os.path.dirname(os.path.abspath(__file__)), name)
+    path = os.path.join(os.path.dirname(__file__), name)
     with open(path, encoding="utf-8") as file:
         return file.read()
 

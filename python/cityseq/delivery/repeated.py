@@ -14,10 +14,10 @@ from dataclasses import dataclass
 from hashlib import blake2b
 from typing import IO, Any
 
+from ..engine import Text, searchable
 from ..engine.faults import write_fault
-from ..engine.library import Text, searchable
 from ..engine.records import unescaped
-from .extras import needed
+from . import needed
 from .facts import Repeated, RepeatedId
 
 np: Any = needed("numpy")
@@ -52,7 +52,7 @@ class Hashed:
         """Returns the bytes that are kept of an id."""
         return bytes(self.words[number].tobytes()[: int(self.lengths[number])])
 
-    def set(self, rows: Any, other: "Hashed") -> None:
+    def set(self, rows: Any, other: Hashed) -> None:
         """Replaces some ids, whose numbers are given, by others that are no longer."""
         self.high[rows], self.low[rows], self.lengths[rows] = other.high, other.low, other.lengths
         self.words[rows] = 0
@@ -196,7 +196,7 @@ class Ids:
         self._waits = 0
         self._blocks: list[Any] = []  # the place of each kind of record in a block, and its end
 
-    def __enter__(self) -> "Ids":
+    def __enter__(self) -> Ids:
         return self
 
     def __exit__(self, *_: Any) -> None:

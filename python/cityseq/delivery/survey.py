@@ -13,27 +13,24 @@ from itertools import chain, groupby
 from typing import TYPE_CHECKING, Any
 
 from ..convert import stream_of
-from ..engine.judge import Answer, judge, refused_memory
-from ..engine.library import Text, library
-from ..engine.query import Work
-from ..engine.records import IdsOf, Records, spelled_ids
+from ..engine import LOD_CLASSES, Text, library
+from ..engine.judge import Answer, Work, judge, refused_memory
+from ..engine.records import IdsOf, Range, Records, spelled_ids
 from ..engine.reports import TOO_LONG, Invalid, Report
-from ..engine.structs import LOD_CLASSES
-from ..engine.tally import Range
 from ..engine.world import box_of, extent_of, read_json
 from ..indexes.geopackage import system_of
 from ..indexes.vectors import AXES, RECORD
-from ..run.results import Result
+from ..run import Result
 from ..run.streams import Stream
 from ..sources.chunks import TAIL, Chunk
+from . import needed
 from .areas import Place
-from .extras import needed
 from .facts import Area, Contents, File, Named, Point, Reasons, Repeated
-from .lists import Lists
 from .repeated import Hash, Hashed, Ids, text_of
+from .report import Lists
 
 if TYPE_CHECKING:
-    from .report_run import How
+    from .report import How
 
 np: Any = needed("numpy")
 
@@ -193,7 +190,7 @@ class Survey:
         self._stack = ExitStack()
         self._ids, self._hash = self._stack.enter_context(Ids()), Hash()
 
-    def __enter__(self) -> "Survey":
+    def __enter__(self) -> Survey:
         return self
 
     def __exit__(self, *_: Any) -> None:
@@ -311,7 +308,7 @@ class Survey:
 class Surveyed:
     """A file whose records go to a survey."""
 
-    def __init__(self, number: int, path: str, work: Work, survey: Survey, how: "How") -> None:
+    def __init__(self, number: int, path: str, work: Work, survey: Survey, how: How) -> None:
         """Takes the number of the file, from 0, and the options of the run."""
         self._number, self._survey = number, survey
         self._entry: Entry | None = None

@@ -1,1 +1,389 @@
-"""The library, what is asked of it, and what it answers for some lines of a stream."""
+"""The library `libcityseq.so`, called by `ctypes`: the structs, constants and functions of
+`c/cityseq.h`. A call runs without the interpreter's lock."""
+from __future__ import annotations
+
+import ctypes
+import enum
+import os
+import resource
+import threading
+from collections.abc import Sequence
+from ctypes import POINTER, c_bool, c_char_p, c_int32, c_int64, c_size_t, c_uint32, c_uint64
+from typing import Any
+
+from .faults import LibraryMissing
+
+INTERFACE = 3
+LINE_LIMITS, DEPTH_LIMITS = (1, 1_073_741_824), (1, 1_024)
+USUAL_LINE, USUAL_DEPTH = 8_388_608, 64
+TYPES, LOD_CLASSES = 33, ("0", "1", "2", "3", "4", "other")
+# Settings of `mallopt` in glibc (malloc.h). The first is how many free bytes make it return some
+# to the system. The second is how many bytes make it ask the system for a block. The third is how
+# many arenas there are. Each arena after the first reserves 64 MB of addresses, and has no room for
+# a longer block, as for a line of 6 MB. Many threads need less memory if each has an arena.
+_TRIM_THRESHOLD, _MMAP_THRESHOLD, _ARENA_MAX = -1, -3, -8
+
+
+class CallStatus(enum.IntEnum):
+    """How a call ended: `enum cityseq_status`."""
+
+    COMPLETE = 0
+    REFUSED = 1
+    BAD_REQUEST = 2
+    NO_ROOM = 4
+    NO_MEMORY = 5
+
+
+# What is wrong with a request, by its code. The words are the program's own if it has some.
+FAULTS = {
+    1: "the line limit is not from 1 to 1,073,741,824",
+    2: "the depth is not from 1 to 1,024",
+    3: "the header is not one line that ends with LF",
+    4: "a text is not UTF-8",
+    5: "unknown object type",
+    6: "bad box",
+    7: "box number out of range",
+    8: "empty box",
+    9: "the stream has more than 2^60 bytes",
+}
+
+
+class RawRequest(ctypes.Structure):
+    """`struct cityseq_request`."""
+
+    _fields_ = [
+        ("line_limit", c_uint64),
+        ("depth_limit", c_uint64),
+        ("keep_going", c_bool),
+        ("tree", c_bool),
+        ("exclude", c_bool),
+        ("asks_ids", c_bool),
+        ("asks_types", c_bool),
+        ("asks_lods", c_bool),
+        ("asks_box", c_bool),
+        ("ids", c_char_p),
+        ("ids_length", c_size_t),
+        ("types", c_char_p),
+        ("types_length", c_size_t),
+        ("lods", c_char_p),
+        ("lods_length", c_size_t),
+        ("box", c_char_p),
+        ("box_length", c_size_t),
+    ]
+
+
+class RawReport(ctypes.Structure):
+    """`struct cityseq_report`."""
+
+    _fields_ = [
+        ("line", c_uint64),
+        ("begin", c_uint64),
+        ("place", c_uint64),
+        ("code", c_uint64),
+    ]
+
+
+class RawAnswer(ctypes.Structure):
+    """`struct cityseq_answer`."""
+
+    _fields_ = [("status", c_uint32), ("code", c_uint32)] + [
+        (name, c_uint64)
+        for name in (
+            "line",
+            "place",
+            "lines",
+            "kept",
+            "refused",
+            "peak_bytes",
+            "peak_tokens",
+            "peak_depth",
+            "written",
+            "list",
+            "item",
+        )
+    ]
+
+
+class RawRange(ctypes.Structure):
+    """`struct cityseq_range`."""
+
+    _fields_ = [("some", c_uint64), ("least", c_int64), ("greatest", c_int64)]
+
+
+class RawDecimal(ctypes.Structure):
+    """`struct cityseq_decimal`."""
+
+    _fields_ = [("negative", c_uint32), ("power", c_int32), ("high", c_uint64), ("low", c_uint64)]
+
+
+class RawTally(ctypes.Structure):
+    """`struct cityseq_tally`."""
+
+    _fields_ = [
+        ("features", c_uint64),
+        ("types", c_uint64 * TYPES),
+        ("lods", c_uint64 * len(LOD_CLASSES)),
+        ("ranges", RawRange * 3),
+        ("transformed", c_uint64),
+        ("scale", RawDecimal * 3),
+        ("translate", RawDecimal * 3),
+    ]
+
+
+class RawFeature(ctypes.Structure):
+    """`struct cityseq_feature`."""
+
+    _fields_ = [
+        ("line", c_uint64),
+        ("begin", c_uint64),
+        ("length", c_uint64),
+        ("id_begin", c_uint64),
+        ("id_length", c_uint64),
+        ("attributes_begin", c_uint64),
+        ("attributes_length", c_uint64),
+        ("objects", c_uint64),
+        ("geometries", c_uint64),
+        ("types", c_uint64),
+        ("lods", c_uint64),
+        ("ranges", RawRange * 3),
+    ]
+
+
+class Room(threading.local):
+    """Memory of each thread, which it uses for one thing after another."""
+
+    held = bytearray()
+
+    def of(self, size: int) -> memoryview:
+        """Returns memory of this number of bytes. It has other content at the next call."""
+        if len(self.held) < size:
+            self.held = bytearray(size)
+        return memoryview(self.held)[:size]
+
+
+def keep_room(jobs: int | None = None) -> None:
+    """Makes glibc keep the memory of a call for the next one. Otherwise each call asks the system
+    for memory, which the system clears first: `check` of 200 MB then takes 1.37 times the processor
+    time with one thread, and 1.06 with four. The setting is for the whole process, so it suits only
+    a process that does nothing else, by that number of threads."""
+    try:
+        setting = ctypes.CDLL(None).mallopt
+    except (OSError, AttributeError, TypeError):
+        return
+    for threshold in (_MMAP_THRESHOLD, _TRIM_THRESHOLD):
+        setting(threshold, 1 << 30)
+    if jobs == 1 or resource.getrlimit(resource.RLIMIT_AS)[0] != resource.RLIM_INFINITY:
+        setting(_ARENA_MAX, 1)
+
+
+def give_back() -> None:
+    """Makes glibc give memory that is free back to the system."""
+    try:
+        ctypes.CDLL(None).malloc_trim(0)
+    except (OSError, AttributeError, TypeError):
+        pass
+
+
+Text = bytes | bytearray | memoryview
+RawFeatures = Sequence[RawFeature]
+REPORT, FEATURE = ctypes.sizeof(RawReport), ctypes.sizeof(RawFeature)
+_COMMON = [c_char_p, c_size_t, c_char_p, c_size_t, POINTER(RawRequest)]
+_ROOM = [POINTER(RawReport), c_size_t]
+_CALLS = {
+    "cityseq_interface": (c_uint32, []),
+    "cityseq_check": (RawAnswer, _COMMON + _ROOM),
+    "cityseq_filter": (RawAnswer, _COMMON + [c_char_p, c_size_t] + _ROOM),
+    "cityseq_info": (RawAnswer, _COMMON + [POINTER(RawTally)] + _ROOM),
+    "cityseq_features": (RawAnswer, _COMMON + [POINTER(RawFeature), c_size_t] + _ROOM),
+    "cityseq_answer_then": (RawAnswer, [POINTER(RawAnswer), POINTER(RawAnswer), c_size_t]),
+    "cityseq_tally_then": (RawTally, [POINTER(RawTally), POINTER(RawTally)]),
+    "cityseq_part_end": (c_size_t, [c_char_p, c_size_t, c_size_t]),
+    "cityseq_line_begin": (c_uint64, [c_char_p, c_size_t, c_char_p, c_size_t, c_uint64]),
+    "cityseq_reason_text": (c_size_t, [c_uint64, c_char_p, c_size_t]),
+    "cityseq_type_name": (c_size_t, [c_uint64, c_char_p, c_size_t]),
+}
+_reports_room = Room()
+
+
+def _pointed(text: Text, begin: int = 0) -> Any:
+    """Returns what a call takes as the pointer to these bytes, from `begin` on. Nothing is copied,
+    except from the middle of bytes that cannot change."""
+    if isinstance(text, bytearray) or isinstance(text, memoryview) and not text.readonly:
+        if begin < len(text):
+            return ctypes.byref(ctypes.c_char.from_buffer(text, begin))
+    return bytes(text[begin:] if begin else text)
+
+
+def _address(text: bytearray | memoryview) -> int:
+    return ctypes.addressof(ctypes.c_char.from_buffer(text))
+
+
+def searchable(text: Text) -> tuple[bytes | bytearray, int, int]:
+    """Returns an object with methods such as `find` that has the bytes of a text, and where they
+    begin and end in it. A memoryview of a bytearray is not copied."""
+    if not isinstance(text, memoryview):
+        return text, 0, len(text)
+    whole: Any = text.obj
+    if not isinstance(whole, bytearray) or not text:
+        return bytes(text), 0, len(text)
+    begin = _address(text) - _address(whole)
+    return whole, begin, begin + len(text)
+
+
+class _Reports:
+    """Memory for the reports of one call."""
+
+    def __init__(self, room: int) -> None:
+        self._room = room
+        self._memory = _reports_room.of(room * REPORT)
+        first = ctypes.byref(RawReport.from_buffer(self._memory)) if room else None
+        self.given = first, room
+
+    def written(self, answer: RawAnswer) -> bytes:
+        """Returns the reports that the call wrote, one after another."""
+        return bytes(self._memory[: min(answer.refused, self._room) * REPORT])
+
+
+class Library:
+    """The calls of the library. Any number of threads may make them at once. `room` is how many
+    reports a call may write. They are returned as the library writes them."""
+
+    def __init__(self, calls: Any) -> None:
+        self._calls = calls
+        self._type_names: tuple[str, ...] = ()
+
+    def check(
+        self, header: bytes, part: Text, request: RawRequest, room: int
+    ) -> tuple[RawAnswer, bytes]:
+        """Judges a header and a part. Returns the answer, and the first reports."""
+        reports = _Reports(room)
+        answer = self._calls.cityseq_check(*self._given(header, part, request), *reports.given)
+        return answer, reports.written(answer)
+
+    def filter(
+        self, header: bytes, part: Text, request: RawRequest, room: int
+    ) -> tuple[RawAnswer, bytes, bytearray]:
+        """Does the same as `check`, and also returns the output."""
+        reports = _Reports(room)
+        output = bytearray(len(header) + len(part) + 1)
+        given = (*self._given(header, part, request), _pointed(output), len(output))
+        answer = self._calls.cityseq_filter(*given, *reports.given)
+        del given, output[answer.written :]
+        return answer, reports.written(answer), output
+
+    def tally(
+        self, header: bytes, part: Text, request: RawRequest, room: int
+    ) -> tuple[RawAnswer, bytes, RawTally]:
+        """Does the same as `check`, and also returns the tally of the selected features."""
+        reports, tally = _Reports(room), RawTally()
+        given = (*self._given(header, part, request), ctypes.byref(tally))
+        answer = self._calls.cityseq_info(*given, *reports.given)
+        return answer, reports.written(answer), tally
+
+    def features(
+        self, header: bytes, part: Text, request: RawRequest, room: int
+    ) -> tuple[RawAnswer, bytes, RawFeatures]:
+        """Does the same as `check`, and also returns the records of the kept features, at most
+        `room` of them. It returns no reports."""
+        records = (RawFeature * max(room, 1))()
+        given = (*self._given(header, part, request), records, room)
+        answer = self._calls.cityseq_features(*given, None, 0)
+        return answer, b"", records[: min(answer.kept, room)]
+
+    def records(
+        self, header: bytes, part: Text, request: RawRequest, memory: memoryview, room: int
+    ) -> tuple[RawAnswer, bytes, bytes]:
+        """Does the same as `features`, but writes the records to this memory, and returns reports.
+        The last value has the bytes of the records that fit."""
+        reports, most = _Reports(room), len(memory) // FEATURE
+        first = ctypes.byref(RawFeature.from_buffer(memory))
+        given = (*self._given(header, part, request), first, most)
+        answer = self._calls.cityseq_features(*given, *reports.given)
+        records = bytes(memory[: min(answer.kept, most) * FEATURE])
+        return answer, reports.written(answer), records
+
+    def answer_then(self, first: RawAnswer, after: RawAnswer, header_length: int) -> RawAnswer:
+        """Returns the answer for a header with two parts, by those for the header with each."""
+        joined: RawAnswer = self._calls.cityseq_answer_then(first, after, header_length)
+        return joined
+
+    def tally_then(self, first: RawTally, after: RawTally) -> RawTally:
+        """Returns the tally for a header with two parts, by those for the header with each."""
+        joined: RawTally = self._calls.cityseq_tally_then(first, after)
+        return joined
+
+    def part_end(self, text: Text, wanted: int, begin: int = 0) -> int:
+        """Returns where a part ends that begins at a byte of a text and has about `wanted` bytes.
+        It ends after the last LF among these, or else after the first LF. Returns 0 if there is no
+        LF."""
+        end: int = self._calls.cityseq_part_end(_pointed(text, begin), len(text) - begin, wanted)
+        return begin + end if end else 0
+
+    def line_begin(self, header: bytes, part: Text, line: int) -> int:
+        """Returns where a line begins, by its number, in bytes from the beginning of the header."""
+        given = header, len(header), _pointed(part), len(part)
+        begin: int = self._calls.cityseq_line_begin(*given, line)
+        return begin
+
+    def reason_text(self, code: int) -> str:
+        """Returns the words of a reason. They are empty if no reason has this code."""
+        return self._text(self._calls.cityseq_reason_text, code)
+
+    def type_names(self) -> tuple[str, ...]:
+        """Returns the names of the types of city objects, in their order. Asks for them once."""
+        if not self._type_names:
+            self._type_names = tuple(
+                self._text(self._calls.cityseq_type_name, number) for number in range(TYPES)
+            )
+        return self._type_names
+
+    @staticmethod
+    def _given(header: bytes, part: Text, request: RawRequest) -> tuple[Any, ...]:
+        return header, len(header), _pointed(part), len(part), ctypes.byref(request)
+
+    @staticmethod
+    def _text(call: Any, number: int) -> str:
+        room = ctypes.create_string_buffer(128)
+        length = call(number, room, len(room))
+        return room.raw[:length].decode("ascii")
+
+
+_lock = threading.Lock()
+_loaded: Library | None = None
+
+
+def library_path() -> str:
+    """Returns the path of the library."""
+    package = os.path.dirname(os.path.dirname(__file__))
+    return os.environ.get("CITYSEQ_LIBRARY") or os.path.join(package, "libcityseq.so")
+
+
+def _load() -> Library:
+    path = library_path()
+    if not os.path.isfile(path):
+        raise LibraryMissing(
+            f"there is no library {path}: build it, and put it there or name it by CITYSEQ_LIBRARY"
+        )
+    try:
+        calls = ctypes.CDLL(os.path.abspath(path))
+        for name, (result, arguments) in _CALLS.items():
+            call = getattr(calls, name)
+            call.restype, call.argtypes = result, arguments
+    except (OSError, AttributeError) as fault:
+        raise LibraryMissing(f"{path} is no library of cityseq: {fault}") from fault
+    if calls.cityseq_interface() != INTERFACE:
+        raise LibraryMissing(f"{path} has another interface than this package: build both anew")
+    return Library(calls)
+
+
+def library() -> Library:
+    """Returns the library. It is loaded at the first call."""
+    return _loaded or _load_once()
+
+
+def _load_once() -> Library:
+    global _loaded
+    with _lock:
+        if _loaded is None:
+            _loaded = _load()
+        return _loaded

@@ -1,12 +1,15 @@
 """Faults: what ends a run without a verdict, or without a valid stream. Each fault has the status
-that the program `cityseq` ends with."""
+that the program `cityseq` ends with. Its text is made safe for a terminal: streams and names of
+files can have characters that move the cursor or begin a new line."""
 from __future__ import annotations
 
 import enum
+import json
 from typing import Any, TypeVar
 
 Fault = TypeVar("Fault", bound="CityseqError")
 READ_FAULTS = (OSError, EOFError, ValueError)  # what a read may raise
+MOST = 200  # characters of a text that are shown
 
 
 class Status(enum.IntEnum):
@@ -84,7 +87,7 @@ class OutOfDate(ReadFault):
     """An index does not match the current state of a stream. It must be built again."""
 
     @classmethod
-    def because(cls, why: str, file: str) -> "OutOfDate":
+    def because(cls, why: str, file: str) -> OutOfDate:
         """Returns the fault with this reason, for this stream."""
         return cls(f"index is out of date: {why}, build it again", None, file)
 
@@ -118,3 +121,29 @@ def read_fault(cause: BaseException, file: str | None) -> ReadFault:
 def write_fault(cause: BaseException, file: str | None) -> WriteFault:
     """Returns the fault of a write with this cause."""
     return cause if isinstance(cause, WriteFault) else WriteFault.of("write fault", cause, file)
+
+
+def _escaped(sign: str) -> str:
+    """Returns a character, escaped if it cannot be printed."""
+    if sign.isprintable():
+        return sign
+    return sign.encode("unicode_escape").decode() if sign > "\uffff" else f"\\u{ord(sign):04x}"
+
+
+def shown(text: str) -> str:
+    """Returns a text with each character escaped that cannot be printed: controls, marks of
+    direction, lone surrogates."""
+    return text if text.isprintable() else "".join(map(_escaped, text))
+
+
+def quoted(text: str) -> str:
+    """Returns a text as a JSON string. Characters that can be printed are not escaped. A long text
+    is cut after its beginning."""
+    return shown(
+        json.dumps(text if len(text) <= MOST else f"{text[:MOST]}\u2026", ensure_ascii=False)
+    )
+
+
+def fitting(text: str, encoding: str) -> str:
+    """Returns a text with a replacement for each character that the encoding lacks."""
+    return text.encode(encoding, "replace").decode(encoding)

@@ -17,7 +17,7 @@ from functools import lru_cache
 from operator import itemgetter, le
 from typing import TypeVar
 
-from .library import Text
+from . import Text
 
 MANY = 2_000  # bytes of ids for which this is worthwhile
 LONGER = 32  # if a part is this many times as long as the ids, they take little of the time

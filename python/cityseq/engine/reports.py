@@ -11,8 +11,7 @@ from collections.abc import Iterator
 from dataclasses import dataclass, field
 from typing import Any
 
-from .library import library
-from .structs import RawAnswer
+from . import RawAnswer, library
 
 TOO_LONG = 2
 LONGEST = 1 << 20  # bytes: a longer line is not read as JSON
@@ -37,9 +36,9 @@ class Explanation:
     fix: str
 
 
-@functools.lru_cache(maxsize=None)
+@functools.cache
 def _explanations() -> dict[int, Explanation]:
-    package = os.path.dirname(os.path.dirname(os.path.abspath(__file__)))
+    package = os.path.dirname(os.path.dirname(__file__))
     with open(os.path.join(package, "reasons.json"), encoding="utf-8") as source:
         return {
             int(code): Explanation(int(code), **told) for code, told in json.load(source).items()
@@ -98,7 +97,7 @@ class Report:
 
     def _describe(self) -> None:
         """Reads id, excerpt, column and hint from the line, which is then not kept."""
-        from .place_hints import met  # few runs need it
+        from .hints import met  # few runs need it
 
         content = self.__dict__.pop("_content")
         is_header = self.line == 1

@@ -5,47 +5,30 @@ import hashlib
 import json
 import os
 import sqlite3
+from collections.abc import Callable, Iterable, Iterator, Sequence
 from contextlib import contextmanager, suppress
 from dataclasses import dataclass, field
 from functools import lru_cache
 from itertools import repeat
-from typing import (
-    Any,
-    Callable,
-    Dict,
-    Iterable,
-    Iterator,
-    NamedTuple,
-    Optional,
-    Sequence,
-    Set,
-    Tuple,
-)
+from typing import Any, NamedTuple
 
 from ..attributes.columns import AttributeColumns
 from ..attributes.values import Columns
-from ..engine.extents import World, wider
+from ..engine import LOD_CLASSES, library
 from ..engine.faults import WriteFault, write_fault
-from ..engine.library import library
-from ..engine.query import Work
+from ..engine.judge import Work
 from ..engine.records import Column, Records, Same, same_if_equal, stored, stored_as_columns
 from ..engine.reports import Report
-from ..engine.structs import LOD_CLASSES
-from ..engine.world import read_json
-from ..run.results import Result
+from ..engine.world import World, read_json, wider
+from ..run import Result
+from ..sources import State, is_url
 from ..sources.outputs import Part, checked_output, target_of
-from ..sources.source import State, is_url
-from . import columns, footprints, geopackage, id_table
-from .arrays import vectors_for
-from .blocks import Blocks
-from .bulk import insert
-from .columns import NOWHERE, Ranges
+from . import bulk, candidates, footprints, geopackage
+from .bulk import NOWHERE, ROW, Ranges, Sorter, Tree, insert, vectors_for
+from .database import database_fault, replaceable
 from .details import Details, Wanted
-from .full_disk import database_fault
 from .geopackage import MOST_FEATURES, TREE, UNDEFINED, geometry_start, readable, system_of
-from .replacement import replaceable
-from .rtree import ROW, Tree
-from .sorting import Sorter
+from .line_reader import Blocks
 
 PAGE = 1 << 14  # bytes of a page of the database: small ones leave more of them unused
 CACHE = 8 << 20  # bytes of the database that are in memory
@@ -75,10 +58,10 @@ class File(NamedTuple):
     """
 
     path: str
-    packing: Optional[str]
+    packing: str | None
     state: State
     content: str
-    blocks: Optional[Blocks] = None
+    blocks: Blocks | None = None
 
 
 @dataclass
@@ -96,8 +79,8 @@ class Entry:
     first_fid: int
     world: World = field(init=False)
     system: int = field(init=False)
-    reference: Optional[str] = field(init=False)
-    transform: Dict[str, Any] = field(init=False)
+    reference: str | None = field(init=False)
+    transform: dict[str, Any] = field(init=False)
     ranges: Ranges = NOWHERE
 
     def __post_init__(self) -> None:
@@ -111,7 +94,7 @@ class Entry:
         x, y, z = map(wider, self.ranges, ranges)
         self.ranges = x, y, z
 
-    def extent(self) -> Tuple[Optional[float], ...]:
+    def extent(self) -> tuple[float | None, ...]:
         """Returns the least and greatest x, y and z of the stream, or None for each."""
         axes = (self.world.x, self.world.y, self.world.z)
         return tuple(
@@ -132,7 +115,7 @@ def telling_of(name: str) -> Iterator[None]:
         raise database_fault(fault, name) from fault
 
 
-def _filled(values: Optional[Iterable[Any]], some: Optional[Iterable[bool]]) -> Column:
+def _filled(values: Iterable[Any] | None, some: Iterable[bool] | None) -> Column:
     """Returns a column with the next value for each feature that has one, and None for others. If
     `some` is None, all have one."""
     if values is None:
@@ -171,11 +154,11 @@ class Builder:
         names = wanted.attributes
         self._attributes = None if names is None else AttributeColumns(names)
         self._are_last = self._attributes is not None and self._attributes.are_last
-        self._systems: Set[int] = set()  # of coordinates
-        self._opened: Optional[sqlite3.Connection] = None
-        self._usual: Optional[Tuple[Any, ...]] = None  # the uniform columns of the first feature
+        self._systems: set[int] = set()  # of coordinates
+        self._opened: sqlite3.Connection | None = None
+        self._usual: tuple[Any, ...] | None = None  # the uniform columns of the first feature
         self._count = 0  # of the uniform columns that rows have
-        self._cells, self._ids = Sorter(ROW), Sorter(id_table.WHOLE)
+        self._cells, self._ids = Sorter(ROW), Sorter(candidates.WHOLE)
         self.digests: Any = None  # makes the hashes of the streams
         target = target_of(path)
         if target is None:
@@ -234,7 +217,7 @@ class Builder:
         if numbers.stop > MOST_FEATURES:
             raise WriteFault(f"write fault: more than {MOST_FEATURES:,} features", None, self.name)
         self._fid += len(numbers)
-        made = (vectors_for(len(numbers)) or columns).columns_of(
+        made = (vectors_for(len(numbers)) or bulk).columns_of(
             records, lines, numbers, entry.world, geometry_start(entry.system)
         )
         entry.widen(made.ranges)
@@ -262,10 +245,10 @@ class Builder:
             last = (*uniform, *values) if self._are_last else (*values, *uniform)
             insert(self._base, "features", *others, *last)
         self._cells.add(made.cells)
-        self._ids.add(id_table.joined(hashes, numbers))
+        self._ids.add(candidates.id_rows(hashes, numbers))
 
     def _add_footprints(
-        self, numbers: range, grounds: Sequence[Optional[bytes]], geometry: Column
+        self, numbers: range, grounds: Sequence[bytes | None], geometry: Column
     ) -> None:
         """Writes the footprints of features, which are their extents if they have no ground."""
         boxes = repeat(geometry.value) if isinstance(geometry, Same) else geometry
@@ -273,7 +256,7 @@ class Builder:
         with telling_of(self.name):
             insert(self._base, geopackage.FOOTPRINTS, numbers, made)
 
-    def _values(self, met: Optional[Columns], numbers: range) -> Sequence[Column]:
+    def _values(self, met: Columns | None, numbers: range) -> Sequence[Column]:
         """Returns the columns of attributes."""
         if self._attributes is None or met is None:
             return []
@@ -351,7 +334,7 @@ class Builder:
         base = self._base
         with telling_of(self.name):
             system = self._one_system()
-            id_table.write(base, self._ids.rows())
+            candidates.write_ids(base, self._ids.rows())
             self._add_columns(len(geopackage.UNIFORM))
             count = self._cells.count
             Tree(base, TREE).write(self._cells.rows(), count, self._fid)
@@ -400,7 +383,7 @@ class Builder:
         self._part.discard()
 
 
-def _path_columns(path: str, index: str) -> Tuple[str, Optional[bytes]]:
+def _path_columns(path: str, index: str) -> tuple[str, bytes | None]:
     """Returns the path of a stream for an index. A path below the folder of the index, or below the
     folder that this one is in, is relative to it, so that both can be moved together. Links of
     folders are followed, since a folder above a linked one is that of its target. A URL stays."""

@@ -2,24 +2,25 @@
 from __future__ import annotations
 
 import io
+from collections.abc import Callable, Iterable, Iterator
 from contextlib import closing
 from dataclasses import dataclass, replace
 from itertools import chain
-from typing import TYPE_CHECKING, Any, Callable, Iterable, Iterator, List, Optional, Tuple
+from typing import TYPE_CHECKING, Any
 
 from ..engine.faults import OutOfDate, RequestError, Status, write_fault
-from ..engine.query import Work
-from ..run.results import Result
+from ..engine.judge import Work
+from ..run import Result
 from ..run.streams import Stream, results
+from ..sources import PIECE, is_path
 from ..sources.outputs import Batch, Limit, Target, Writer
-from ..sources.source import PIECE, is_path
 from .line_reader import OTHER_LINES, IndexedStream, Row, header_of, lines_of, placed
 
 if TYPE_CHECKING:
     from .lookup import Index
 
 HELD = 16 << 20  # bytes of an output that wait in memory until it is whole; more wait on a disk
-Selections = Iterable[Tuple[IndexedStream, Iterator[Row]]]
+Selections = Iterable[tuple[IndexedStream, Iterator[Row]]]
 
 
 class _Lines(io.RawIOBase):
@@ -43,7 +44,7 @@ class _Lines(io.RawIOBase):
 
 def _needed(selections: Selections) -> Selections:
     """Yields the selections that have rows, or the first if none has."""
-    spare: Optional[IndexedStream] = None
+    spare: IndexedStream | None = None
     is_empty = True
     for stream, rows in selections:
         for first in rows:
@@ -67,11 +68,11 @@ class _Cut:
         limit: How many features all outputs may have.
     """
 
-    index: "Index"
+    index: Index
     work: Work
-    jobs: Optional[int]
+    jobs: int | None
     writer: Callable[..., Writer] = Writer
-    limit: Optional[Limit] = None
+    limit: Limit | None = None
 
     def written(self, name: str, selections: Selections, writer: Writer) -> Result:
         """Judges the selected lines again, and writes those that are kept."""
@@ -128,7 +129,7 @@ class _Cut:
                     lacks_end = not part.endswith(b"\n")
 
     def _keeps_some(
-        self, stream: IndexedStream, header: bytes, part: bytes, numbers: List[int]
+        self, stream: IndexedStream, header: bytes, part: bytes, numbers: list[int]
     ) -> bool:
         """Whether the query keeps one of some lines."""
         from .lookup import kept  # a cut has loaded it
@@ -150,12 +151,12 @@ def _counted(result: Result, streams: Iterable[IndexedStream]) -> Result:
 
 
 def cut(
-    index: "Index",
+    index: Index,
     work: Work,
     output: Target,
-    jobs: Optional[int],
+    jobs: int | None,
     writer: Callable[..., Writer] = Writer,
-    limit: Optional[Limit] = None,
+    limit: Limit | None = None,
 ) -> Result:
     """Writes what a query keeps of all streams of an index. They have one header and one output.
     `writer` makes the writer of an output, and `limit` is how many features it may have.
@@ -177,13 +178,13 @@ def cut(
 
 
 def cut_each(
-    index: "Index",
+    index: Index,
     work: Work,
     output_of: Callable[[IndexedStream], str],
-    jobs: Optional[int],
+    jobs: int | None,
     writer: Callable[..., Writer] = Writer,
-    limit: Optional[Limit] = None,
-) -> List[Result]:
+    limit: Limit | None = None,
+) -> list[Result]:
     """Writes what a query keeps of each stream to an output of its own. The outputs get their names
     when all are whole. `writer` makes the writer of an output, and `limit` is how many features all
     may have.

@@ -1,17 +1,22 @@
-"""The file of an index, as an SQLite database that is read. It may come from anywhere."""
+"""The file of an index, as an SQLite database: it is read, or replaced by a new one. It may come
+from anywhere, so its tables and rows may have any values. A new index may replace an older one that
+no other program has open."""
 from __future__ import annotations
 
 import errno
+import json
 import os
 import re
 import sqlite3
 import stat
+from collections.abc import Callable, Iterable, Iterator, Sequence
 from contextlib import contextmanager
 from time import monotonic
-from typing import Any, Dict, Iterable, Iterator, List, Optional, Set
+from typing import Any
 
 from ..attributes.where import INSTANT, LIKE, instant, pattern_of
-from ..engine.faults import OutOfDate, ReadFault, RequestError, read_fault
+from ..engine import DEPTH_LIMITS, LINE_LIMITS
+from ..engine.faults import OutOfDate, ReadFault, RequestError, WriteFault, read_fault, write_fault
 from . import geopackage
 
 SECONDS = 60  # of a search
@@ -25,6 +30,14 @@ CANNOT_OPEN, NO_DATABASE = "unable to open database file", "file is not a databa
 READ_ONLY, MALFORMED = "readonly database", "malformed"
 R_TREE = re.compile(r"CREATE\s+VIRTUAL\s+TABLE\b.*\bUSING\s+rtree\s*\(", re.IGNORECASE | re.DOTALL)
 TABLES = ("cityseq_index", "features", "feature_ids", "streams", "reports")
+LONGEST = 4_096  # bytes of a path that a system can open
+DECIMAL = re.compile(r"-?\d+(?:\.\d+)?(?:[eE][+-]?\d+)?")
+SHA256, CONTENT = re.compile(r"[0-9a-f]{64}"), re.compile(r"[0-9a-f]{32}")
+Test = Callable[[Any], bool]
+WAIT = 1.0  # seconds for a lock of another program
+IN_USE = "write fault: another program has it open: close it there, and build the index again"
+FULL = 1 << 20  # bytes: a disk with less than this is full
+FOLDERS = ("/var/tmp", "/usr/tmp", "/tmp")  # where SQLite has temporary files if no variable is set
 
 
 def connected(path: str, how: str, wait: float = 5.0) -> sqlite3.Connection:
@@ -78,11 +91,11 @@ class Database:
             ReadFault: It cannot be read, or it is no index.
         """
         self.path, self._file = path, os.path.realpath(path)
-        self._stop: Optional[BaseException] = None
-        self._end: Optional[float] = None  # of a search, by the clock
+        self._stop: BaseException | None = None
+        self._end: float | None = None  # of a search, by the clock
         self._state: Any = None  # of a file that is read without locks
         self._is_counted = False
-        self.tables: Set[str] = set()  # after `check_tables`
+        self.tables: set[str] = set()  # after `check_tables`
         try:
             state = os.stat(self._file)
         except OSError as fault:
@@ -148,7 +161,7 @@ class Database:
         if self._end is not None and monotonic() > self._end:
             raise RequestError(f"the filter takes more than {SECONDS} seconds to find features")
 
-    def _is_like(self, pattern: Any, text: Any) -> Optional[bool]:
+    def _is_like(self, pattern: Any, text: Any) -> bool | None:
         """Whether a text is like a pattern."""
         if not isinstance(text, str) or not isinstance(pattern, str):
             return None
@@ -217,7 +230,7 @@ class Database:
             ReadFault: They are not.
         """
         with self.reading():
-            found: Dict[Any, Any] = {
+            found: dict[Any, Any] = {
                 name: (root, text)
                 for name, root, text in self._base.execute(
                     "SELECT name, rootpage, sql FROM sqlite_master WHERE type = 'table'"
@@ -231,7 +244,7 @@ class Database:
                 raise ReadFault(NO_INDEX, None, self.path)
             self.tables = {name for name, (root, _) in found.items() if root}
 
-    def columns(self, table: str) -> Set[str]:
+    def columns(self, table: str) -> set[str]:
         """Returns the names of the columns of a table."""
         with self.reading():
             return {row[1] for row in self._base.execute(f"PRAGMA table_info({table})")}
@@ -278,7 +291,7 @@ class Database:
             return
         tree = geopackage.TREE
         with self.reading():
-            counts: List[Any] = [
+            counts: list[Any] = [
                 self._base.execute(select).fetchone()
                 for select in (
                     "SELECT places FROM cityseq_index",
@@ -290,3 +303,223 @@ class Database:
         if count != places or root is None or bool(root[0]) != (count > 0):
             raise OutOfDate.because(INDEX_CHANGED, self.path)
         self._is_counted = True
+
+
+def _is_count(value: Any) -> bool:
+    return type(value) is int and value >= 0
+
+
+def _is_flag(value: Any) -> bool:
+    return type(value) is int and value in (0, 1)
+
+
+def _is_within(limits: tuple[int, int]) -> Test:
+    return lambda value: type(value) is int and limits[0] <= value <= limits[1]
+
+
+def _is_text(value: Any) -> bool:
+    return isinstance(value, str)
+
+
+def _is_path(value: Any) -> bool:
+    return isinstance(value, str) and 0 < len(value) <= LONGEST and "\0" not in value
+
+
+def _is_exact_path(value: Any) -> bool:
+    return isinstance(value, bytes) and 0 < len(value) <= LONGEST and b"\0" not in value
+
+
+def _is_number(value: Any) -> bool:
+    return type(value) in (int, float)
+
+
+def _are_decimals(value: Any) -> bool:
+    """Whether a text is an array of three decimals, as JSON strings."""
+    if not isinstance(value, str):
+        return False
+    try:
+        found = json.loads(value)
+    except (ValueError, RecursionError):
+        return False
+    return (
+        isinstance(found, list)
+        and len(found) == 3
+        and all(isinstance(each, str) and DECIMAL.fullmatch(each) for each in found)
+    )
+
+
+def _or_null(test: Test) -> Test:
+    return lambda value: value is None or test(value)
+
+
+OPTIONS: dict[str, Test] = {
+    "tree": _is_flag,
+    "keep_going": _is_flag,
+    "line_limit": _is_within(LINE_LIMITS),
+    "depth": _is_within(DEPTH_LIMITS),
+}
+STREAMS: dict[str, Test] = {
+    "fid": _is_count,
+    "path": _is_path,
+    "path_exact": _or_null(_is_exact_path),
+    "packing": _or_null(lambda value: value in ("gzip", "zstd")),
+    "size": _is_count,
+    "mtime_ns": lambda value: type(value) is int,
+    "content": lambda value: isinstance(value, str) and bool(CONTENT.fullmatch(value)),
+    "header_length": _is_within((1, LINE_LIMITS[1] + 1)),
+    "header_sha256": lambda value: isinstance(value, str) and bool(SHA256.fullmatch(value)),
+    "scale": _are_decimals,
+    "translate": _are_decimals,
+    "reference_system": _or_null(_is_text),
+    "lines": _is_count,
+    "features": _is_count,
+    "refused": _is_count,
+    "first_fid": _is_count,
+    **{f"{axis}{edge}": _or_null(_is_number) for axis in "xyz" for edge in ("min", "max")},
+}
+REPORTS: dict[str, Test] = {
+    "stream": _is_count,
+    "line": _is_count,
+    "byte": _is_count,
+    "code": _is_count,
+    "text": _is_text,
+    "id": _or_null(_is_text),
+}
+ATTRIBUTES: dict[str, Test] = {
+    "name": _is_text,
+    "name_exact": _or_null(lambda value: isinstance(value, bytes)),
+    "column_name": _is_text,
+    "type": lambda value: value in ("INTEGER", "REAL", "TEXT"),
+    "format": lambda value: value in (None, "boolean", "date", "date-time"),
+    "first_fid": _or_null(_is_count),
+}
+
+
+def checked(table: str, tests: dict[str, Test], row: Sequence[Any], path: str) -> Sequence[Any]:
+    """Returns a row of a table, whose columns have the order of the tests.
+
+    Raises:
+        ReadFault: A value is none that cityseq writes.
+    """
+    for (column, test), value in zip(tests.items(), row):
+        if not test(value):
+            words = f"read fault: {column} of {table} has a value that no index has"
+            raise ReadFault(words, None, path)
+    return row
+
+
+def _left(path: str) -> str | None:
+    """Returns the end of a file's name that lies next to a path and has changes of a database. The
+    first byte of a journal is 0 if its changes were finished."""
+    wal, journal = BESIDE
+    if os.path.lexists(path + wal):
+        return wal
+    try:
+        with open(path + journal, "rb") as file:
+            return journal if file.read(1) not in (b"", b"\0") else None
+    except OSError:
+        return None
+
+
+def _refuse_left(name: str, path: str) -> None:
+    """Refuses to put an index next to changes of another database. SQLite would read both."""
+    end = _left(path)
+    if end is not None:
+        beside = f"{os.path.basename(path)}{end} of another program lies next to it"
+        words = f"write fault: {beside}: close that program, or remove the file"
+        raise WriteFault(words, None, name)
+
+
+def _no_index(name: str) -> RequestError:
+    words = "it is there, and no index of cityseq: remove it, or name another output"
+    return RequestError(words, None, name)
+
+
+def _hold(base: sqlite3.Connection, name: str) -> None:
+    """Takes an older index, so that no other program can change it.
+
+    A program that has changed it may have put finished changes into `NAME-wal`. To set the mode of
+    its journal writes them into the index, which SQLite refuses while another program has it open
+    in that way.
+    """
+    (mode,) = base.execute("PRAGMA journal_mode = DELETE").fetchone()
+    if mode != "delete":
+        raise WriteFault(IN_USE, None, name)
+    base.execute("BEGIN IMMEDIATE")  # which SQLite refuses while another program changes it
+
+
+def _held(name: str, path: str) -> sqlite3.Connection:
+    """Opens an older index, and keeps other programs from changing it."""
+    base = connected(path, "mode=rw", WAIT)
+    try:
+        if not is_index(base):  # to read it undoes a change that was not finished
+            raise _no_index(name)
+        try:
+            _hold(base, name)
+        except sqlite3.OperationalError as fault:
+            if READ_ONLY not in str(fault):  # a file that this user may not write to
+                raise
+        return base
+    except BaseException as fault:
+        base.close()
+        words = str(fault) if isinstance(fault, sqlite3.Error) else ""
+        if "locked" in words:
+            raise WriteFault(IN_USE, None, name) from fault
+        if words:
+            _refuse_left(name, path)
+        if NO_DATABASE in words or MALFORMED in words:
+            raise _no_index(name) from fault
+        raise
+
+
+@contextmanager
+def replaceable(name: str) -> Iterator[None]:
+    """Holds the older index of a name in a `with` block, in which a new one may take its place.
+
+    Raises:
+        RequestError: A file has the name that is no index of cityseq, and is not empty.
+        WriteFault: Another program has the older index open, or has left changes next to it.
+    """
+    path = os.path.realpath(name)
+    base: sqlite3.Connection | None = None
+    try:
+        try:
+            size = os.path.getsize(path) if os.path.lexists(path) else 0
+            if size and not os.access(path, os.R_OK):
+                raise PermissionError(errno.EACCES, os.strerror(errno.EACCES))
+            base = _held(name, path) if size else None
+        except (OSError, sqlite3.Error) as fault:
+            raise write_fault(fault, name) from fault
+        _refuse_left(name, path)
+        yield
+    finally:
+        if base is not None:
+            base.close()
+
+
+def temporary_folder() -> str:
+    """Returns the folder in which SQLite makes temporary files."""
+    named = (os.environ.get(name) for name in ("SQLITE_TMPDIR", "TMPDIR"))
+    for folder in (*filter(None, named), *FOLDERS):
+        if os.path.isdir(folder) and os.access(folder, os.W_OK | os.X_OK):
+            return folder
+    return os.curdir
+
+
+def is_full(folder: str) -> bool:
+    """Whether the disk of a folder is full."""
+    try:
+        state = os.statvfs(folder)
+    except OSError:
+        return False
+    return state.f_bavail * state.f_frsize < FULL
+
+
+def database_fault(fault: sqlite3.Error, name: str) -> WriteFault:
+    """Returns the fault for an error of SQLite while it writes a database. It names the folder of
+    temporary files if that is full and the folder of the database is not."""
+    folder = temporary_folder()
+    beside = os.path.dirname(os.path.realpath(name))
+    if "full" in str(fault) and is_full(folder) and not is_full(beside):
+        return WriteFault("write fault: no space left for temporary files", None, folder)
+    return write_fault(fault, name)

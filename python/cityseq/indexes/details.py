@@ -5,9 +5,8 @@ from functools import partial
 from typing import NamedTuple
 
 from ..attributes.values import Asked, Columns, columns_of, texts_of
-from ..engine.judge import Answer, judge
-from ..engine.library import Text
-from ..engine.query import Work
+from ..engine import Text
+from ..engine.judge import Answer, Work, judge
 from ..engine.records import spelled_ids
 from ..sources.chunks import Chunk
 from . import footprints

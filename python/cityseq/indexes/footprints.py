@@ -17,11 +17,10 @@ from itertools import chain, islice, repeat
 from math import hypot
 from typing import Any, Union
 
-from ..engine.extents import World
-from ..engine.library import Text
+from ..engine import Text
 from ..engine.records import MEMBERS
-from ..engine.world import read_json
-from .arrays import vectors_for
+from ..engine.world import World, read_json
+from .bulk import vectors_for
 from .geopackage import FOOTPRINTS, geometry_start, system_of
 
 TABLE = f"CREATE TABLE {FOOTPRINTS} (fid INTEGER PRIMARY KEY NOT NULL, geom MULTIPOLYGON)"

@@ -11,9 +11,10 @@ import math
 import re
 import sqlite3
 import struct
+from collections.abc import Container, Iterator, Sequence
 from contextlib import suppress
 from itertools import repeat
-from typing import Any, Container, Iterator, Optional, Sequence, Tuple
+from typing import Any
 
 VERSION = 4  # of the tables: it changes if a column is removed, renamed or changes its meaning
 APPLICATION = 0x47504B47  # "GPKG"
@@ -162,7 +163,7 @@ CONTENTS = (
 )
 
 
-def system_of(metadata: Any) -> Tuple[Optional[str], int]:
+def system_of(metadata: Any) -> tuple[str | None, int]:
     """Returns the reference system of a header's metadata, and its EPSG code or -1."""
     name = metadata.get("referenceSystem") if isinstance(metadata, dict) else None
     if not isinstance(name, str):
@@ -213,7 +214,7 @@ def _literal(value: Any) -> str:
     return f"{value:.20g}" if isinstance(value, float) else repr(value)
 
 
-def as_default(base: sqlite3.Connection, height: Optional[float]) -> Optional[float]:
+def as_default(base: sqlite3.Connection, height: float | None) -> float | None:
     """Returns a height if SQLite reads it unchanged from the text of a default, and else None. The
     text of a float with a very large or small exponent may be read as its neighbour."""
     if height is None or not math.isfinite(height):

@@ -1,11 +1,11 @@
 """The description of an index, as lines of text and as JSON."""
 from __future__ import annotations
 
+from collections.abc import Iterator, Sequence
 from decimal import Decimal
-from typing import TYPE_CHECKING, Any, Dict, Iterator, List, Optional, Sequence
+from typing import TYPE_CHECKING, Any
 
-from ..engine.escape import quoted, shown
-from ..engine.faults import OutOfDate, ReadFault
+from ..engine.faults import OutOfDate, ReadFault, quoted, shown
 from ..engine.world import plain
 from .database import INDEX_CHANGED
 from .line_reader import IndexedStream, check_file
@@ -13,12 +13,12 @@ from .line_reader import IndexedStream, check_file
 if TYPE_CHECKING:
     from .lookup import Index
 
-Extent = Optional[List[float]]
+Extent = list[float] | None
 
 
 def _extent(streams: Sequence[IndexedStream]) -> Extent:
     """Returns the box around streams: minx, miny, maxx, maxy. None if nothing has a place."""
-    boxes: List[Any] = [
+    boxes: list[Any] = [
         (stream.xmin, stream.ymin, stream.xmax, stream.ymax)
         for stream in streams
         if stream.xmin is not None and stream.ymin is not None
@@ -29,12 +29,12 @@ def _extent(streams: Sequence[IndexedStream]) -> Extent:
     return [min(least_x), min(least_y), max(most_x), max(most_y)]
 
 
-def _fault(index: "Index") -> Optional[str]:
+def _fault(index: Index) -> str | None:
     """Returns why the index cannot be used at all, or None."""
     return OutOfDate.because(INDEX_CHANGED, index.path).words if index.is_changed else None
 
 
-def _state(index: "Index", stream: IndexedStream) -> Optional[str]:
+def _state(index: Index, stream: IndexedStream) -> str | None:
     """Returns why the index cannot be used for a stream, or None."""
     if index.base is not None:
         return None
@@ -52,7 +52,7 @@ def _boxed(extent: Extent) -> str:
     return f" bbox {','.join(edges)}" if edges else ""
 
 
-def lines(index: "Index") -> Iterator[str]:
+def lines(index: Index) -> Iterator[str]:
     """Yields what an index covers, and each id that appears more than once."""
     streams = index.streams
     yield f"streams {len(streams)}"
@@ -84,9 +84,9 @@ def lines(index: "Index") -> Iterator[str]:
         yield from (f"    {shown(path)} line {line}" for path, line in repeated.places)
 
 
-def shown_object(index: "Index", program: str) -> Dict[str, Any]:
+def shown_object(index: Index, program: str) -> dict[str, Any]:
     """Returns the same as a JSON object."""
-    from ..cli.json_objects import object_of
+    from ..cli.json_output import object_of
 
     return object_of(
         "index",

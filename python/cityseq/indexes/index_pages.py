@@ -8,23 +8,23 @@ from __future__ import annotations
 
 import json
 import os
+from collections.abc import Callable, Generator, Iterator
 from contextlib import contextmanager, suppress
 from dataclasses import dataclass, replace
 from decimal import Decimal
 from functools import cached_property
 from itertools import chain
 from queue import Empty, LifoQueue
-from typing import Any, Callable, Generator, Iterator, NamedTuple
+from typing import Any, NamedTuple
 
 from ..attributes.columns import Attribute, properties_of
 from ..attributes.values import told
-from ..coordinates.boxes import Extent
-from ..engine.extents import World
+from ..coordinates import Extent
+from ..engine import CallStatus, RawFeature, library
 from ..engine.faults import OutOfDate, ReadFault
-from ..engine.library import library
-from ..engine.query import Work
+from ..engine.judge import Work
 from ..engine.records import unescaped
-from ..engine.structs import CallStatus, RawFeature
+from ..engine.world import World
 from ..run.features import fault_of
 from .builder import names_of_lods, names_of_types
 from .database import INDEX_CHANGED
@@ -59,6 +59,7 @@ class Pool:
         self._path, self.base = path, base
         self._state = _state_of(path)
         self._free: LifoQueue[Index] = LifoQueue()
+        self._is_closed = False
 
     @property
     def is_changed(self) -> bool:
@@ -84,6 +85,8 @@ class Pool:
             yield index
         finally:
             self._free.put(index)
+            if self._is_closed:
+                self.close()
 
     def blocks(self, stream: IndexedStream, begin: int, end: int) -> list[tuple[int, int]]:
         """Does what `Index.blocks` does."""
@@ -91,9 +94,11 @@ class Pool:
             return index.blocks(stream, begin, end)
 
     def close(self) -> None:
-        """Closes those that no call has."""
-        while not self._free.empty():
-            self._free.get_nowait().close()
+        """Closes those that no call has. One that a call has is closed when the call ends."""
+        self._is_closed = True
+        with suppress(Empty):
+            while True:
+                self._free.get_nowait().close()
 
 
 @dataclass(frozen=True)

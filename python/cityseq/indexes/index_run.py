@@ -1,7 +1,8 @@
-"""Builds an index of streams: threads judge parts and read records, and one thread writes."""
+"""Makes an index of streams, and writes the new times of streams into one."""
 from __future__ import annotations
 
 import os
+import sqlite3
 from collections import deque
 from collections.abc import Callable, Iterable, Iterator, Sequence
 from contextlib import closing
@@ -10,23 +11,52 @@ from functools import partial
 from typing import Any, Protocol
 
 from ..convert import refuse_whole
-from ..engine.faults import CityseqError, MemoryFault, ReadFault, RequestError, read_fault
-from ..engine.judge import Answer
-from ..engine.query import Work
+from ..engine.faults import (
+    CityseqError,
+    MemoryFault,
+    OutOfDate,
+    ReadFault,
+    RequestError,
+    read_fault,
+    write_fault,
+)
+from ..engine.judge import Answer, Work
 from ..engine.reports import Report
-from ..run.results import Result
-from ..run.streams import Judge, Results, Stream, results
-from ..sources.chunk_reader import Chunks
+from ..run import Result, usual_jobs
+from ..run.streams import Job, Judge, Pool, Results, Stream, results
+from ..sources import CHANGED, State, is_packed, is_path, is_url
+from ..sources.chunks import Chunks
+from ..sources.hashes import Digest, HashedFile, digest_of
+from ..sources.outputs import refuse_same
 from ..sources.parts import expanded
-from ..sources.same_file import refuse_same
-from ..sources.source import CHANGED, State, is_packed, is_path, is_url
-from .blocks import Blocks
 from .builder import Builder, Entry, File
+from .database import INDEX_CHANGED
 from .details import Wanted, judge_details
-from .digests import Digest, Digests, HashedFile
+from .line_reader import Blocks, IndexedStream
+from .lookup import Index
 
 Tell = Callable[[Report], None] | None
 Progress = Callable[[int], None] | None
+WAIT = 5  # seconds that another program may hold the file
+
+
+class Hashes:
+    """Makes the hashes of files in threads of their own. Leaving a `with` block ends them."""
+
+    def __init__(self, jobs: int = 1, make: Callable[..., Any] = digest_of) -> None:
+        """Takes how many threads there are, and what makes the hash of a path."""
+        self._pool, self._make, self._is_stopped = Pool(jobs), make, False
+
+    def __enter__(self) -> Hashes:
+        return self
+
+    def __exit__(self, *given: Any) -> None:
+        self._is_stopped = True
+        self._pool.__exit__(*given)
+
+    def submit(self, path: str) -> Job[Any]:
+        """Begins to make the hash of a file."""
+        return self._pool.submit(partial(self._make, path, lambda: self._is_stopped))
 
 
 class Indexed:
@@ -219,7 +249,7 @@ def written(
 
     try:
         builder.open()
-        with Digests() as own, closing(run()) as found:
+        with Hashes() as own, closing(run()) as found:
             builder.digests = own if digests is None else digests
             for result in found:
                 take(result)
@@ -252,3 +282,71 @@ def index(
     for result in made:
         result.raised_if_invalid(work.keep_going)
     return made
+
+
+def refresh(path: str, jobs: int | None = None) -> tuple[int, int]:
+    """Looks at each stream whose time is not that of an index, and writes the new times if the
+    content of all is the same. Otherwise it writes nothing.
+
+    Args:
+        path: The path of the index.
+        jobs: How many streams are read at once. The default is the number of processors.
+
+    Returns:
+        How many streams the index has, and of how many the time was written.
+
+    Raises:
+        OutOfDate: A stream has other content, or another program has changed the index.
+        ReadFault: The index or a stream cannot be read.
+        WriteFault: The index cannot be written.
+    """
+    with Index(path) as index:
+        streams = index.streams
+        if index.is_changed:
+            raise OutOfDate.because(INDEX_CHANGED, path)
+    with Hashes(usual_jobs() if jobs is None else jobs) as digests:
+        begun = [(stream, digests.submit(stream.path)) for stream in _touched(streams)]
+        times = [(_time_of(stream, job), stream.number) for stream, job in begun]
+    if times:
+        _write(path, times)
+    return len(streams), len(times)
+
+
+def _touched(streams: list[IndexedStream]) -> Iterator[IndexedStream]:
+    """Yields the streams with another time. Raises `OutOfDate` if a stream has another size."""
+    for stream in streams:
+        try:
+            told = os.stat(stream.path)
+        except OSError as fault:
+            raise read_fault(fault, stream.path) from fault
+        stream.compare(told.st_size, stream.mtime_ns)
+        if told.st_mtime_ns != stream.mtime_ns:
+            yield stream
+
+
+def _time_of(stream: IndexedStream, job: Any) -> int:
+    """Returns the time of a stream. Raises `OutOfDate` if its content is not that of the index."""
+    try:
+        digest: Digest = job.result()
+    except OSError as fault:
+        raise read_fault(fault, stream.path) from fault
+    if digest.before != digest.after:
+        raise ReadFault(f"read fault: {CHANGED}", None, stream.path)
+    if digest.content != stream.content:
+        raise OutOfDate.because("the stream has other content", stream.path)
+    return digest.before[1]
+
+
+def _write(path: str, times: list[tuple[int, int]]) -> None:
+    """Writes the times of streams, all or none. A trigger then notes that the index was changed, so
+    this is undone, unless another program has changed it."""
+    try:
+        with closing(sqlite3.connect(path, timeout=WAIT, isolation_level=None)) as base:
+            base.execute("BEGIN IMMEDIATE")
+            if base.execute("SELECT changed FROM cityseq_index").fetchone() != (0,):
+                raise OutOfDate.because(INDEX_CHANGED, path)
+            base.executemany("UPDATE streams SET mtime_ns = ? WHERE fid = ?", times)
+            base.execute("UPDATE cityseq_index SET changed = 0")
+            base.execute("COMMIT")
+    except sqlite3.Error as fault:
+        raise write_fault(fault, path) from fault

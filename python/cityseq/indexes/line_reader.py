@@ -1,27 +1,110 @@
-"""Reads lines of a stream by their places: from a file, a packed file, or a web server."""
+"""Reads lines of a stream by their places: from a file, a packed file, or a web server. A cut of a
+packed stream unpacks only the blocks that have the selected lines (BGZF, in the SAM
+specification)."""
 from __future__ import annotations
 
 import hashlib
+import io
 import json
 import os
+import sqlite3
 import stat
+from array import array
+from collections.abc import Callable, Iterable, Iterator
 from contextlib import contextmanager
 from dataclasses import dataclass
-from typing import Any, Iterable, Iterator, List, NamedTuple, Optional, Tuple
+from itertools import pairwise, repeat
+from typing import Any, NamedTuple
 
+from ..engine import LINE_LIMITS
 from ..engine.faults import READ_FAULTS, OutOfDate, ReadFault, read_fault
-from ..engine.structs import LINE_LIMITS
-from ..sources.packed import Unpacker
-from ..sources.regular import RegularFile
+from ..sources import CHANGED, Reader, RegularFile, is_url, open_raw, opened, remote_of, state_of
+from ..sources.packed import Packing, Unpacker
 from ..sources.remote import RangePlace
-from ..sources.source import CHANGED, Reader, is_url, open_raw, opened, remote_of, state_of
-from .blocks import BlockPlace, Find
 from .database import INDEX_CHANGED
 
+# Finds the blocks that have the text of a stream between two places: where each begins in the text
+# and in the file, and the end of the last one.
+Find = Callable[["IndexedStream", int, int], list[tuple[int, int]]]
+
+TABLE = (
+    "CREATE TABLE IF NOT EXISTS blocks (stream INTEGER NOT NULL, begin INTEGER NOT NULL,"
+    " place INTEGER NOT NULL, PRIMARY KEY (stream, begin)) WITHOUT ROWID"
+)
+BETWEEN = (
+    "SELECT begin, place FROM blocks WHERE stream = ?1"
+    " AND begin >= (SELECT max(begin) FROM blocks WHERE stream = ?1 AND begin <= ?2)"
+    " AND begin <= ifnull((SELECT min(begin) FROM blocks WHERE stream = ?1 AND begin >= ?3), ?3)"
+    " ORDER BY begin"
+)
 NEAR = 1 << 16  # bytes: lines that are nearer than this are read together
 MOST = 4 << 20  # bytes that are read together, unless one line has more
 NO_RANGES = "a packed stream has no ranges: serve it unpacked, or pack and index it again"
 SHORTER, OTHER_LINES = "the stream is shorter", "the stream has other lines"
+
+
+class Blocks:
+    """Where the blocks of an archive begin. Empty ones belong to the block before them.
+
+    Attributes:
+        are_all: Whether the archive has nothing but blocks.
+    """
+
+    def __init__(self) -> None:
+        self._begins, self._places = array("q"), array("q")
+        self.are_all = True
+
+    def add(self, begin: int, place: int, is_block: bool) -> None:
+        """Takes where the next member begins in the text and in the file, and whether it is a
+        block. The last call has the ends of both."""
+        self.are_all = self.are_all and is_block
+        if self.are_all and (not self._begins or begin > self._begins[-1]):
+            self._begins.append(begin)
+            self._places.append(place)
+
+    def write(self, base: sqlite3.Connection, stream: int) -> None:
+        """Writes the blocks of a stream to its index."""
+        base.execute(TABLE)
+        rows = zip(repeat(stream), self._begins, self._places)
+        base.executemany("INSERT INTO blocks VALUES (?,?,?)", rows)
+
+
+class BlockPlace:
+    """A packed stream that is read by its blocks, from a file or a web server. Each block has a
+    checksum."""
+
+    def __init__(self, stream: IndexedStream, packed: Any, find: Find) -> None:
+        """Takes the stream, what reads its packed bytes, and what finds its blocks."""
+        self._stream, self._packed, self._find = stream, packed, find
+        self.near = packed.near
+
+    def read(self, begin: int, end: int) -> bytes:
+        """Returns the bytes from one place of the text to another, or as many as there are.
+
+        Raises:
+            OutOfDate: The index was changed.
+            ReadFault: The file cannot be read, or is broken.
+        """
+        rows = self._find(self._stream, begin, end)
+        is_told = all(type(number) is int and number >= 0 for row in rows for number in row)
+        if not is_told or any(after <= before for before, after in pairwise(rows)):
+            raise OutOfDate.because(INDEX_CHANGED, self._stream.path)
+        if len(rows) < 2:
+            return b""
+        (first, place), (last, after) = rows[0], rows[-1]
+        packed = self._packed.read(place, after)
+        unpacker = Unpacker(io.BytesIO(packed), Packing.GZIP)
+        text = bytearray()
+        try:
+            while len(text) < last - first:
+                piece = unpacker.read(last - first - len(text))
+                if not piece:
+                    raise OutOfDate.because(INDEX_CHANGED, self._stream.path)
+                text += piece
+            unpacker.finish_member()
+        except READ_FAULTS as fault:
+            raise read_fault(fault, self._stream.path) from fault
+        return bytes(text[begin - first : end - first])
 
 
 class Row(NamedTuple):
@@ -55,7 +138,7 @@ class IndexedStream:
     number: int
     path: str
     told_path: str
-    packing: Optional[str]
+    packing: str | None
     size: int
     mtime_ns: int
     content: str
@@ -63,17 +146,17 @@ class IndexedStream:
     header_sha256: str
     scale: str
     translate: str
-    reference_system: Optional[str]
+    reference_system: str | None
     lines: int
     features: int
     refused: int
     first_fid: int
-    xmin: Optional[float]
-    xmax: Optional[float]
-    ymin: Optional[float]
-    ymax: Optional[float]
-    zmin: Optional[float]
-    zmax: Optional[float]
+    xmin: float | None
+    xmax: float | None
+    ymin: float | None
+    ymax: float | None
+    zmin: float | None
+    zmax: float | None
     has_blocks: bool = False
 
     @property
@@ -97,7 +180,7 @@ class IndexedStream:
         """Whether a query may have a box: x and y of the transform are fixed numbers."""
         from decimal import Decimal, InvalidOperation  # few runs need it
 
-        from ..engine.extents import World
+        from ..engine.world import World
 
         try:
             told = (json.loads(text) for text in (self.scale, self.translate))
@@ -210,7 +293,7 @@ class PackedPlace:
 
 
 @contextmanager
-def placed(stream: IndexedStream, base: Optional[str], find: Find) -> Iterator[Any]:
+def placed(stream: IndexedStream, base: str | None, find: Find) -> Iterator[Any]:
     """Gives an object that reads a stream by places: from a file, or a web server below a URL.
     `find` finds the blocks of a packed stream.
 
@@ -264,10 +347,10 @@ def check_file(stream: IndexedStream) -> None:
     stream.compare(state.st_size, state.st_mtime_ns)
 
 
-def _groups(stream: IndexedStream, rows: Iterable[Row], near: int) -> Iterator[List[Row]]:
+def _groups(stream: IndexedStream, rows: Iterable[Row], near: int) -> Iterator[list[Row]]:
     """Yields the rows of lines that are read together: between two are at most `near` bytes. Each
     line begins after the one before."""
-    group: List[Row] = []
+    group: list[Row] = []
     end = 0  # of the line before
     for row in rows:
         is_row = all(type(each) is int and each >= 0 for each in row)
@@ -298,7 +381,7 @@ def _line(stream: IndexedStream, text: bytes, begin: int, length: int) -> bytes:
     return line
 
 
-def _all_lines(stream: IndexedStream, place: Any) -> Iterator[Tuple[bytes, List[int]]]:
+def _all_lines(stream: IndexedStream, place: Any) -> Iterator[tuple[bytes, list[int]]]:
     """Yields the lines after the header of a stream, some together, each with the number 0."""
     begin, rest = stream.header_length, [b""]  # of a line that has not ended
     text = place.read(begin, begin + MOST)
@@ -319,7 +402,7 @@ def _all_lines(stream: IndexedStream, place: Any) -> Iterator[Tuple[bytes, List[
 
 def lines_of(
     stream: IndexedStream, place: Any, rows: Iterable[Row]
-) -> Iterator[Tuple[bytes, List[int]]]:
+) -> Iterator[tuple[bytes, list[int]]]:
     """Yields lines of a stream, some together, and their numbers. Lines that are near each other
     are read together with what is between them. `AllLines` as rows are all lines, and
     then each number is 0.

@@ -2,34 +2,31 @@
 from __future__ import annotations
 
 import os
+from collections.abc import Iterator, Sequence
 from dataclasses import dataclass, replace
 from itertools import chain, groupby
-from typing import Any, Dict, Iterator, List, Optional, Sequence, Tuple, Union
+from typing import Any
 
 from ..attributes.columns import FORMATS, Attribute
 from ..attributes.columns import quoted as named
 from ..attributes.cql2 import Filter, parsed
 from ..attributes.where import Condition, Translation
-from ..engine.escape import quoted, shown
-from ..engine.faults import OutOfDate, ReadFault, RequestError
-from ..engine.library import library
-from ..engine.query import Box, Texts, Work, asked
+from ..engine import CallStatus, library
+from ..engine.faults import OutOfDate, ReadFault, RequestError, quoted, shown
+from ..engine.judge import Box, Texts, Work, asked
 from ..engine.records import hash_of, id_of
-from ..engine.structs import CallStatus
+from ..run import Result
 from ..run.features import Feature, fault_of, feature_of
-from ..run.results import Result
+from ..sources import is_url
 from ..sources.outputs import Limit, Target
-from ..sources.source import is_url
 from . import geopackage
-from .blocks import BETWEEN
-from .candidates import has_more, reads_all, terms_of
-from .database import INDEX_CHANGED, Database
+from .candidates import SAME_ID, find_alike, has_more, reads_all, terms_of, want
+from .database import ATTRIBUTES as ATTRIBUTE_ROWS
+from .database import INDEX_CHANGED, OPTIONS, REPORTS, STREAMS, Database, checked
 from .geopackage import ATTRIBUTES
 from .geopackage import FOOTPRINTS as LAYER
-from .id_table import SAME_ID, find_alike, want
-from .index_rows import ATTRIBUTES as ATTRIBUTE_ROWS
-from .index_rows import OPTIONS, REPORTS, STREAMS, checked
 from .line_reader import (
+    BETWEEN,
     NO_RANGES,
     AllLines,
     IndexedStream,
@@ -62,7 +59,7 @@ class RepeatedId:
     """An id that more than one feature has, with the path and the line of each."""
 
     id: str
-    places: Tuple[Tuple[str, int], ...]
+    places: tuple[tuple[str, int], ...]
 
 
 class Selection(Iterator[IndexedFeature]):
@@ -71,7 +68,7 @@ class Selection(Iterator[IndexedFeature]):
     def __init__(self, features: Any) -> None:
         self._features = features
 
-    def __enter__(self) -> "Selection":
+    def __enter__(self) -> Selection:
         return self
 
     def __exit__(self, *_: Any) -> None:
@@ -92,7 +89,7 @@ class Index:
         attributes: The attributes that a filter can name, by their columns.
     """
 
-    def __init__(self, path: Any, *, base: Optional[str] = None) -> None:
+    def __init__(self, path: Any, *, base: str | None = None) -> None:
         """Opens an index.
 
         Args:
@@ -119,7 +116,7 @@ class Index:
             self._base.close()
             raise
 
-    def __enter__(self) -> "Index":
+    def __enter__(self) -> Index:
         return self
 
     def __exit__(self, *_: Any) -> None:
@@ -146,7 +143,7 @@ class Index:
             if missing:
                 raise self._fault(f"its table {table} has no {missing[0]}: build it again")
 
-    def _options(self) -> Tuple[bool, bool, int, int]:
+    def _options(self) -> tuple[bool, bool, int, int]:
         with self._base.reading():
             select = f"SELECT {', '.join(OPTIONS)} FROM cityseq_index"
             row = self._base.execute(select).fetchone()
@@ -166,7 +163,7 @@ class Index:
                 stream = IndexedStream(number, path, told, *others)
                 yield replace(stream, has_blocks=self._has_blocks(number))
 
-    def _attributes(self) -> Dict[str, Attribute]:
+    def _attributes(self) -> dict[str, Attribute]:
         """Returns the attributes of the index by their columns."""
         if ATTRIBUTES not in self._base.tables:
             return {}
@@ -195,7 +192,7 @@ class Index:
         (length,) = self._base.execute(select, (stream.number,)).fetchone()
         return length if type(length) is int else stream.size
 
-    def blocks(self, stream: IndexedStream, begin: int, end: int) -> List[Tuple[int, int]]:
+    def blocks(self, stream: IndexedStream, begin: int, end: int) -> list[tuple[int, int]]:
         """Returns where the blocks begin that have the text of a stream between two places, in the
         text and in the file. The last row has the ends of the last block."""
         with self._base.reading():
@@ -214,16 +211,16 @@ class Index:
         if self.base is not None:
             from ..sources.web import url_of  # few runs need it
 
-            urls: Dict[str, str] = {}
+            urls: dict[str, str] = {}
             for stream in self.streams:
                 other = urls.setdefault(url_of(self.base, stream.told_path), stream.path)
                 if other != stream.path:
                     words = f"it has the same URL as {other}: give each stream a name of its own"
                     raise RequestError(words, None, stream.path)
 
-    def footprints(self, fids: Sequence[int]) -> Dict[int, Any]:
+    def footprints(self, fids: Sequence[int]) -> dict[int, Any]:
         """Returns the footprints of features, by their numbers in the index, if it has any."""
-        found: Dict[int, Any] = {}
+        found: dict[int, Any] = {}
         if LAYER in self._base.tables:
             with self._base.reading():
                 for begin in range(0, len(fids), TOGETHER):
@@ -237,11 +234,11 @@ class Index:
 
     def work(
         self,
-        ids: Union[Texts, bytes, None] = None,
-        types: Optional[Texts] = None,
-        lods: Optional[Texts] = None,
-        box: Optional[Box] = None,
-        where: Union[str, Filter, None] = None,
+        ids: Texts | bytes | None = None,
+        types: Texts | None = None,
+        lods: Texts | None = None,
+        box: Box | None = None,
+        where: str | Filter | None = None,
     ) -> Work:
         """Returns the work for a query. It is judged as the streams of the index were.
 
@@ -260,12 +257,12 @@ class Index:
         )
         return work if where is None else replace(work, where=self._condition(where))
 
-    def _condition(self, where: Union[str, Filter]) -> Condition:
+    def _condition(self, where: str | Filter) -> Condition:
         """Returns the condition of SQL for a filter."""
         filter = parsed(where) if isinstance(where, str) else where
         return Translation(self.attributes, self._in_the_way).condition(filter)
 
-    def _in_the_way(self, attribute: Attribute, kind: Optional[str]) -> Optional[str]:
+    def _in_the_way(self, attribute: Attribute, kind: str | None) -> str | None:
         """Returns words on the first feature that shows the type of an attribute, or whose text is
         not of a kind. None if there is none."""
         column, fid = named(attribute.column), attribute.first
@@ -297,7 +294,7 @@ class Index:
 
     def candidates(
         self, work: Work, stream: IndexedStream, after: int, most: int
-    ) -> List[Tuple[int, Row]]:
+    ) -> list[tuple[int, Row]]:
         """Returns the next features of a stream that a query may keep: the number of each in the
         stream, from 1, and where its line is.
 
@@ -332,7 +329,7 @@ class Index:
             return features > 0 and reads_all(self._base, work, features, size)
 
     def _found(
-        self, work: Work, conditions: List[str], given: List[Any], end: str = ""
+        self, work: Work, conditions: list[str], given: list[Any], end: str = ""
     ) -> Iterator[Any]:
         """Yields the rows of the features that meet the conditions and that a query may keep."""
         of_work, values = terms_of(work)
@@ -345,12 +342,11 @@ class Index:
             which = f" WHERE {' AND '.join(conditions)}" if conditions else ""
             select = "SELECT fid, stream, line, begin, length FROM features"
             # `yield from` would close the cursor with the generator, perhaps after the database
-            for row in self._base.search(f"{select}{which} ORDER BY fid{end}", given):
-                yield row
+            yield from self._base.search(f"{select}{which} ORDER BY fid{end}", given)
         if self._base.is_changed():
             raise OutOfDate.because(INDEX_CHANGED, self.path)
 
-    def _check_index(self, work: Optional[Work] = None) -> None:
+    def _check_index(self, work: Work | None = None) -> None:
         """Checks that no other program has changed the index.
 
         Raises:
@@ -360,7 +356,7 @@ class Index:
         if work is not None and work.box is not None:
             self._base.check_tree()
 
-    def selections(self, work: Work) -> Iterator[Tuple[IndexedStream, Iterator[Row]]]:
+    def selections(self, work: Work) -> Iterator[tuple[IndexedStream, Iterator[Row]]]:
         """Yields each stream with the rows that a query may keep of it, or with `AllLines` if to
         read all takes less time. The caller reads the rows before it asks for the next stream."""
         if self._reads_all(work):
@@ -368,7 +364,7 @@ class Index:
         else:
             yield from self._selected(work)
 
-    def _selected(self, work: Work) -> Iterator[Tuple[IndexedStream, Iterator[Row]]]:
+    def _selected(self, work: Work) -> Iterator[tuple[IndexedStream, Iterator[Row]]]:
         grouped = groupby(self.rows(work), lambda row: row.stream)
         ahead = next(grouped, None)
         for stream in self.streams:
@@ -401,11 +397,11 @@ class Index:
     def select(
         self,
         *,
-        box: Optional[Box] = None,
-        types: Optional[Texts] = None,
-        ids: Optional[Texts] = None,
-        lods: Optional[Texts] = None,
-        where: Optional[str] = None,
+        box: Box | None = None,
+        types: Texts | None = None,
+        ids: Texts | None = None,
+        lods: Texts | None = None,
+        where: str | None = None,
     ) -> Selection:
         """Returns the features that a query selects. They can be iterated over once. To leave the
         iteration early and close the streams at once, use it in a `with` block.
@@ -442,13 +438,13 @@ class Index:
         self,
         output: Target,
         *,
-        ids: Optional[Texts] = None,
-        types: Optional[Texts] = None,
-        lods: Optional[Texts] = None,
-        box: Optional[Box] = None,
-        where: Optional[str] = None,
-        limit: Optional[int] = None,
-        jobs: Optional[int] = None,
+        ids: Texts | None = None,
+        types: Texts | None = None,
+        lods: Texts | None = None,
+        box: Box | None = None,
+        where: str | None = None,
+        limit: int | None = None,
+        jobs: int | None = None,
     ) -> Result:
         """Writes what `cityseq.filter` writes of the streams, but reads only the selected lines.
 
@@ -495,7 +491,7 @@ class Index:
                 except (AttributeError, KeyError, TypeError, ValueError):
                     raise OutOfDate.because(INDEX_CHANGED, self.path) from None
 
-    def reports(self, stream: IndexedStream) -> Iterator[Tuple[int, int, int, str, Optional[str]]]:
+    def reports(self, stream: IndexedStream) -> Iterator[tuple[int, int, int, str, str | None]]:
         """Yields the invalid lines of a stream, which were left out: line, byte, code, text of the
         reason, and id of the feature if it is known."""
         columns = [name for name in REPORTS if name != "stream"]
@@ -523,7 +519,7 @@ class Index:
 
 
 def kept(
-    work: Work, stream: IndexedStream, header: bytes, part: bytes, numbers: List[int]
+    work: Work, stream: IndexedStream, header: bytes, part: bytes, numbers: list[int]
 ) -> Iterator[IndexedFeature]:
     """Yields the features of some lines that the engine keeps."""
     answer, _, raws = library().features(header, part, work.request(header, part), len(numbers))

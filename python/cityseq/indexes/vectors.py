@@ -1,15 +1,15 @@
-"""What the modules `columns` and `sorting` do, by numpy, for many features at once. All results are
-the same, bit by bit."""
+"""What the module `bulk` does, by numpy, for many features at once. All results are the same, bit
+by bit."""
 from __future__ import annotations
 
-from typing import TYPE_CHECKING, Any, List, Sequence, Tuple
+from collections.abc import Sequence
+from typing import TYPE_CHECKING, Any
 
 import numpy as np
 
-from ..engine.extents import Axis, World
 from ..engine.records import Column, Same
-from .columns import Columns, Ranges
-from .rtree import INWARD, LOWER, OUTWARD, UPPER
+from ..engine.world import Axis, World
+from .bulk import INWARD, LOWER, OUTWARD, UPPER, Columns, Ranges
 
 if TYPE_CHECKING:
     from ..engine.records import Records
@@ -41,7 +41,7 @@ SPLIT = 2.0**27 + 1  # splits a float in two halves of 26 bits
 ROW = np.dtype([("key", ">u8"), ("number", ">i8"), ("edges", ">f4", 4)])
 # each byte as two, with a zero between each two bits
 _SPREAD = np.array([upper << 8 | lower for upper, lower in zip(UPPER, LOWER)], "u8")
-Interval = Tuple[Any, Any]
+Interval = tuple[Any, Any]
 
 
 def in_order(rows: bytes, width: int) -> bytes:
@@ -53,9 +53,9 @@ def in_order(rows: bytes, width: int) -> bytes:
 
 
 def columns_of(
-    records: "Records", lines: int, numbers: Sequence[int], world: World, start: bytes
+    records: Records, lines: int, numbers: Sequence[int], world: World, start: bytes
 ) -> Columns:
-    """Returns the columns of a part, as `columns.columns_of` does."""
+    """Returns the columns of a part, as `bulk.columns_of` does."""
     found = np.frombuffer(records.raw, RECORD)
     has_place = found["x"] != 0
     some = found if has_place.all() else found[has_place]
@@ -137,7 +137,7 @@ def _rounded(counts: Any, unit: float, way: float) -> Any:
     return np.where(is_wrong, np.nextafter(about, way), about)
 
 
-def _halves(number: Any) -> Tuple[Any, Any]:
+def _halves(number: Any) -> tuple[Any, Any]:
     large = number * SPLIT
     high = large - (large - number)
     return high, number - high
@@ -146,7 +146,7 @@ def _halves(number: Any) -> Tuple[Any, Any]:
 # ---- the layer and its spatial index
 
 
-def _polygons(start: bytes, x: Interval, y: Interval) -> List[bytes]:
+def _polygons(start: bytes, x: Interval, y: Interval) -> list[bytes]:
     """Returns extents as polygons, as `geopackage.polygons` does."""
     size = len(start)
     made: Any = np.empty(len(x[0]), np.dtype([("start", f"V{size}"), ("ring", "<f8", 10)]))
@@ -154,13 +154,13 @@ def _polygons(start: bytes, x: Interval, y: Interval) -> List[bytes]:
     (xmin, xmax), (ymin, ymax) = x, y
     for place, edge in enumerate((xmin, ymin, xmax, ymin, xmax, ymax, xmin, ymax, xmin, ymin)):
         made["ring"][:, place] = edge
-    polygons: List[bytes] = made.view(f"V{made.itemsize}").tolist()
+    polygons: list[bytes] = made.view(f"V{made.itemsize}").tolist()
     return polygons
 
 
 def polygons(
-    surfaces: List[Any], vertices: bytes, axes: Sequence[Axis], scale: Sequence[float], steep: float
-) -> Tuple[int, bytes, List[Any]]:
+    surfaces: list[Any], vertices: bytes, axes: Sequence[Axis], scale: Sequence[float], steep: float
+) -> tuple[int, bytes, list[Any]]:
     """Returns surfaces as polygons in WKB, as the module `footprints` makes them: how many have a
     place on a map, these, and the surfaces that are left. Those have holes or a rare length. All
     are left if a number is too large for floats.
@@ -221,7 +221,7 @@ def _turns(corners: Any, scale: Any, steep: float) -> Any:
 
 
 def _cells(numbers: Any, x: Interval, y: Interval) -> bytes:
-    """Returns the key and the cell of each feature, as the functions of `rtree` make them."""
+    """Returns the key and the cell of each feature, as the functions of `bulk` make them."""
     rows: Any = np.empty(len(numbers), ROW)
     rows["key"] = _spread(x[0]) | _spread(y[0]) << np.uint64(1)
     rows["number"] = numbers

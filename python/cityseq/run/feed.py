@@ -7,16 +7,13 @@ from collections.abc import Callable, Iterable, Iterator
 from functools import partial
 from typing import Any
 
+from ..engine import Text
 from ..engine.faults import InvalidStream, ReadFault
-from ..engine.judge import SMALL, Answer, judge
-from ..engine.library import Text
-from ..engine.query import Work
+from ..engine.judge import SMALL, Answer, Work, judge
 from ..engine.reports import Report
-from ..sources.chunks import Chunk
-from ..sources.cutter import Cutter
+from ..sources.chunks import Chunk, Cutter
 from ..sources.packed import Gzip, Packing
-from .fold import Fold
-from .results import Result
+from . import Fold, Result
 
 BODY = "-"  # the name of a body in reports
 UNPACKED = 1 << 19  # bytes that are unpacked at once
@@ -189,7 +186,7 @@ class Fed:
 
     def _of_whole(self, whole: bytes) -> Iterator[Task]:
         """Yields calls that judge the stream of a whole file."""
-        from ..convert.whole import WholeFile  # few bodies need it
+        from ..convert.splitting import WholeFile  # few bodies need it
 
         file = WholeFile(whole)
         try:

@@ -49,7 +49,7 @@ def app(
     cors: str | None = None,
     jobs: int | None = None,
     limits: Any = None,
-) -> "web.Application":
+) -> web.Application:
     """Returns an application of aiohttp that serves indexes.
 
     Args:
@@ -72,7 +72,7 @@ def app(
     return application(Server(settings))
 
 
-def _settings(indexes: Any, limits: Any = None, **options: Any) -> "Settings":
+def _settings(indexes: Any, limits: Any = None, **options: Any) -> Settings:
     """Returns the settings for the arguments of `app`."""
     import os
 
@@ -84,7 +84,7 @@ def _settings(indexes: Any, limits: Any = None, **options: Any) -> "Settings":
 
 def runner(
     *indexes: Any, quiet: bool = False, **options: Any
-) -> "Callable[[], Awaitable[web.AppRunner]]":
+) -> Callable[[], Awaitable[web.AppRunner]]:
     """Returns a function that makes the server of a process, as the worker of aiohttp for gunicorn
     calls it. It logs requests to standard output.
 
@@ -98,7 +98,7 @@ def runner(
         RequestError: An argument has a value that it may not have, or aiohttp is missing.
     """
     settings = _settings(indexes, **options)
-    from .catalogue import Catalogue
+    from .context import Catalogue
 
     Catalogue(settings).close()  # a process opens the indexes for itself
 
@@ -111,7 +111,7 @@ def runner(
     return make
 
 
-def run(wanted: "Serve") -> int:
+def run(wanted: Serve) -> int:
     """Runs the command `serve`, and returns the status."""
     _require()
     try:

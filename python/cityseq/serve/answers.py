@@ -1,125 +1,341 @@
-"""How answers are sent. A short one is sent whole, others are streamed as the client reads."""
+"""What answers have in common: their formats, their links, and problems (RFC 9457). A client asks
+for a format by `f`, or by its header `Accept`."""
 from __future__ import annotations
 
-import gzip
-import zlib
-from collections.abc import Callable, Iterator
-from contextlib import closing
-from hashlib import blake2b
+import errno
+import ipaddress
+import json
+from collections.abc import Callable, Iterator, Sequence
+from dataclasses import dataclass
+from functools import partial
+from http import HTTPStatus
+from typing import Any
+from urllib.parse import quote, quote_plus, urlsplit
 
 from aiohttp import web
 
-from ..indexes.index_pages import Page
-from .bounds import Calls, Pace
-from .formats import accepted
+from ..engine.faults import (
+    CityseqError,
+    InvalidStream,
+    MemoryFault,
+    OutOfDate,
+    ReadFault,
+    RequestError,
+    shown,
+    why,
+)
+from ..engine.world import deep
+from ..indexes.index_pages import Replaced
+from ..run.feed import BodyFault, OtherPacking, TooLong
+from .settings import Settings
 
-WHOLE = 1 << 20  # bytes: a shorter answer has its length in its head
-PIECE = 1 << 16  # bytes that are written at once
-PACKED = 1 << 10  # bytes: a shorter answer is not packed
-LEVEL = 4  # of gzip
-SENT = "sent"  # the item of an answer in pieces that has how many bytes were sent
-
-
-def _takes_gzip(request: web.Request) -> bool:
-    """Returns whether a client takes an answer that is packed by gzip."""
-    shares = dict(accepted(", ".join(request.headers.getall("Accept-Encoding", []))))
-    return shares.get("gzip", shares.get("*", 0.0)) > 0
-
-
-async def _begin(request: web.Request, response: web.StreamResponse) -> None:
-    """Sends the head of an answer. A fault after that breaks the answer off."""
-    request["begun"] = response
-    await request["writing"].wait(response.prepare(request))
-
-
-async def write(request: web.Request, response: web.StreamResponse, text: bytes) -> None:
-    """Sends a whole text, as fast as the client takes it, and the head before the first one."""
-    if "begun" not in request:
-        await _begin(request, response)
-    pace: Pace = request["writing"]
-    view = memoryview(text)
-    for start in range(0, len(view), PIECE):
-        piece = view[start : start + PIECE]
-        await pace.wait(response.write(piece))
-        pace.size += len(piece)
-    response[SENT] = response.get(SENT, 0) + len(view)
+LONGEST_DETAIL = 1_000  # characters of a detail: it may contain what a client sent
+NO_DESCRIPTOR = (errno.EMFILE, errno.ENFILE)
+CLIENTS = (InvalidStream, RequestError, BodyFault, Replaced)  # faults that clients cause
+SOON = {"Retry-After": "1"}
+LONGEST_NAME = 100  # characters of the name of a file
+Link = dict[str, str]
+LONGEST_HEADER = 2_000  # characters of a header with links
 
 
-async def send(
-    request: web.Request, calls: Calls, response: web.StreamResponse
-) -> web.StreamResponse:
-    """Sends an answer, or the end of one that has begun.
+class Problem(Exception):
+    """A request that is not done.
+
+    Attributes:
+        status: The status of the answer.
+        detail: Why, in words.
+        headers: More headers of the answer.
+    """
+
+    def __init__(self, status: int, detail: str, headers: dict[str, str] | None = None) -> None:
+        super().__init__(detail)
+        self.status, self.detail, self.headers = status, detail, headers or {}
+
+    def told(self) -> dict[str, Any]:
+        """Returns the members of the problem."""
+        title = HTTPStatus(self.status).phrase
+        detail = (
+            self.detail
+            if len(self.detail) <= LONGEST_DETAIL
+            else f"{self.detail[:LONGEST_DETAIL]}\u2026"
+        )
+        return {
+            "type": "about:blank",
+            "title": title,
+            "status": self.status,
+            "detail": shown(detail),
+            "code": title.title().replace(" ", "").replace("-", ""),
+        }
+
+
+def problem_of(fault: BaseException) -> Problem:
+    """Returns the problem that a client gets for a fault of the package. It names no path."""
+    match fault:
+        case Problem():
+            return fault
+        case OutOfDate():
+            return Problem(502, fault.words)
+        case TooLong():
+            return Problem(413, fault.words)
+        case OtherPacking():
+            return Problem(415, fault.words)
+        case Replaced():
+            return Problem(503, fault.words, SOON)
+        case InvalidStream() | RequestError() | BodyFault():
+            return Problem(400, fault.words)
+        case ReadFault() if fault.errno in NO_DESCRIPTOR:
+            return Problem(503, "the server has no descriptor left", SOON)
+        case ReadFault():
+            return Problem(502, "the stream or its index cannot be read")
+        case MemoryFault() | MemoryError():
+            return Problem(503, "there is no memory for this request", SOON)
+    return Problem(500, "something that nobody expected: the server's log tells more")
+
+
+def logged(fault: BaseException) -> str | None:
+    """Returns the text of a fault for the log, in one line. None if the client caused it."""
+    if isinstance(fault, (Problem, *CLIENTS)):
+        return None
+    if isinstance(fault, CityseqError):
+        return shown(str(fault))
+    return shown(f"{type(fault).__name__}: {why(fault)}")
+
+
+def forget(fault: BaseException | None) -> None:
+    """Drops the frames of a fault. They hold the stream of a body, which holds the fault."""
+    while fault is not None:
+        fault.__traceback__, fault = None, fault.__context__
+
+
+@dataclass(frozen=True)
+class Format:
+    """A format.
+
+    Attributes:
+        name: Its value of `f`.
+        media_type: Its media type.
+        title: What people call it.
+        others: Other media types that clients know it by.
+        ending: The end of the names of its files.
+    """
+
+    name: str
+    media_type: str
+    title: str
+    others: tuple[str, ...] = ()
+    ending: str = ""
+
+    def disposition(self, name: str) -> str:
+        """Returns the header `Content-Disposition` of an answer. A browser shows JSON, and stores
+        CityJSON as a file."""
+        kind = "inline" if self.media_type.endswith("geo+json") else "attachment"
+        return f'{kind}; filename="{name[:LONGEST_NAME]}{self.ending}"'
+
+    def fits(self, asked: str) -> int:
+        """Returns how well it fits a media type that a client accepts. 0 is not at all."""
+        if asked == "*/*":
+            return 1
+        if asked.endswith("/*"):
+            return 2 if self.media_type.startswith(asked[:-1]) else 0
+        return 3 if asked in (self.media_type, *self.others) else 0
+
+
+JSON = Format("json", "application/json", "JSON")
+HTML = Format("html", "text/html", "HTML", ("application/xhtml+xml",))
+GEOJSON = Format(
+    "geojson",
+    "application/geo+json",
+    "GeoJSON",
+    ("application/json", "application/vnd.geo+json"),
+    ".geojson",
+)
+CITY_JSON = Format("city-json", "application/city+json", "CityJSON", (), ".city.json")
+CITY_JSON_SEQ = Format(
+    "city-json-seq",
+    "application/city+json-seq",
+    "CityJSONSeq",
+    ("application/json-seq",),
+    ".city.jsonl",
+)
+OPENAPI = Format(
+    "openapi",
+    "application/vnd.oai.openapi+json;version=3.0",
+    "OpenAPI 3.0",
+    ("application/vnd.oai.openapi+json", "application/json"),
+)
+SCHEMA = Format("schema", "application/schema+json", "JSON Schema", ("application/json",))
+PROBLEM = Format("problem", "application/problem+json", "a problem", ("application/json",))
+LINES = Format("lines", "application/x-ndjson", "an object a line")
+PAGES = (JSON, HTML)  # of documents
+SCHEMAS = (SCHEMA, HTML)
+ITEMS = (GEOJSON, CITY_JSON_SEQ, HTML)  # of pages of features
+ITEM = (GEOJSON, CITY_JSON, CITY_JSON_SEQ, HTML)  # of a feature
+ALIASES = {
+    "json": (GEOJSON, OPENAPI, SCHEMA),
+    "cityjson": (CITY_JSON,),
+    "cityjsonseq": (CITY_JSON_SEQ,),
+}
+
+
+def dumped(told: Any) -> bytes:
+    """Returns JSON in ASCII, so that a lone surrogate in an id is an escape."""
+    return deep(partial(json.dumps, told, separators=(",", ":"))).encode("ascii")
+
+
+def accepted(header: str) -> Iterator[tuple[str, float]]:
+    """Yields the media types of a header `Accept`, or the codings of `Accept-Encoding`, and the
+    quality of each. One that is no number from 0 to 1 is 0."""
+    for item in header.split(","):
+        media_type, *parameters = (part.strip().lower() for part in item.split(";"))
+        share = 1.0
+        for name, _, value in (parameter.partition("=") for parameter in parameters):
+            if name.strip() == "q":
+                try:
+                    share = float(value)
+                except ValueError:
+                    share = 0.0
+        if media_type:
+            yield media_type, share if 0 <= share <= 1 else 0.0
+
+
+def choose(formats: Sequence[Format], asked: str | None, accept: str) -> Format:
+    """Returns the format of an answer. It is the first one if the client asks for none.
+
+    Args:
+        formats: Those that there are.
+        asked: The value of `f`, or None.
+        accept: The header `Accept`. It may be empty.
 
     Raises:
-        Problem: The client takes it too slowly.
+        Problem: The client accepts none of them.
     """
-    if isinstance(response, web.Response) and response.status == 200:
-        response = await _shortened(request, calls, response)
-    body = response.body if isinstance(response, web.Response) else None
-    if isinstance(body, bytes) and len(body) > PIECE and request.method != "HEAD":
-        response = web.StreamResponse(headers=response.headers)
-        response.content_length = len(body)
-        await write(request, response, body)
-    elif not response.prepared:
-        await _begin(request, response)
-    await request["writing"].wait(response.write_eof())
-    request.pop("begun", None)
-    return response
+    names = ", ".join(each.name for each in formats)
+    if asked is not None:
+        for each in formats:
+            if each.name == asked or each in ALIASES.get(asked, ()):
+                return each
+        raise Problem(400, f"f is one of {names}: {asked}")
+    wanted = list(accepted(accept)) or [("*/*", 1.0)]
+
+    def quality(each: Format) -> float:
+        fits = [(each.fits(media_type), share) for media_type, share in wanted]
+        best = max(fit for fit, _ in fits)
+        return max(share for fit, share in fits if fit == best) if best else 0
+
+    best = max(formats, key=quality)
+    if quality(best) <= 0:
+        raise Problem(406, f"there is none of the formats that are accepted: it is one of {names}")
+    return best
 
 
-async def _shortened(request: web.Request, calls: Calls, response: web.Response) -> web.Response:
-    """Returns an answer as it is sent: packed if the client takes that, and without its body if the
-    client has it already."""
-    body = response.body
-    if not isinstance(body, bytes):
-        return response
-    if request.method != "POST":
-        mark = blake2b(body, digest_size=16).hexdigest()
-        response.headers["ETag"] = f'W/"{mark}"'  # of the answer before it is packed
-        if any(each.value in (mark, "*") for each in request.if_none_match or ()):
-            return web.Response(status=304, headers={"ETag": f'W/"{mark}"'})
-    if len(body) >= PACKED and _takes_gzip(request):
-        response.body = await calls.call(gzip.compress, body, LEVEL)
-        response.headers["Content-Encoding"] = "gzip"
-    return response
+def host_of(request: web.BaseRequest) -> str:
+    """Returns the host that a request names, or the address that it came to.
+
+    Raises:
+        Problem: It names no host, or more than one.
+    """
+    hosts: list[str] = request.headers.getall("Host", [])
+    if len(hosts) > 1 or (not hosts and request.version >= (1, 1)):
+        raise Problem(400, "a request names one host, by the header Host")
+    if hosts:
+        return hosts[0]
+    name = request.transport.get_extra_info("sockname") if request.transport else None
+    return f"{name[0]}:{name[1]}" if isinstance(name, tuple) and ":" not in name[0] else "localhost"
 
 
-def _gathered(texts: Iterator[bytes]) -> bytes:
-    """Returns the next texts, together as long as a piece for a thread, and none at the end."""
-    found: list[bytes] = []
-    size = 0
-    for text in texts:
-        found.append(text)
-        size += len(text)
-        if size >= WHOLE:
-            break
-    return b"".join(found)
+def is_known(host: str, settings: Settings) -> bool:
+    """Returns whether a host may be this server. Any address may be, but only the names that are
+    set. Otherwise a web page could reach the server by a name that its owner controls."""
+    try:
+        parts = urlsplit(f"//{host}")
+        name, _ = parts.hostname or "", parts.port
+    except ValueError:
+        return False
+    if parts.netloc != host or parts.username is not None:
+        return False
+    known = {each.lower() for each in settings.names}
+    if settings.url is not None:
+        known.add(urlsplit(settings.url).hostname or "")
+    if name == "localhost" or name.endswith(".localhost") or name in known:
+        return True
+    try:
+        ipaddress.ip_address(name)
+    except ValueError:
+        return False
+    return "%" not in name  # behind it any text may stand
 
 
-async def send_page(
-    request: web.Request,
-    calls: Calls,
-    page: Page,
-    texts: Iterator[bytes],
-    head: Callable[[Page], dict[str, str]],
-) -> web.StreamResponse:
-    """Sends a page of features, whose texts a thread makes. `head` makes the headers of the answer
-    when the page has begun."""
-    with closing(page):
-        text = await calls.call(_gathered, texts)
-        if len(text) < WHOLE:
-            return web.Response(body=text, headers=head(page))
-        response = web.StreamResponse(headers=head(page))
-        packer = zlib.compressobj(LEVEL, wbits=31) if _takes_gzip(request) else None
-        if packer is not None:
-            response.headers["Content-Encoding"] = "gzip"
-        if request.method == "HEAD":
-            response.force_close()
-            return response
-        while text:
-            packed = text if packer is None else await calls.call(packer.compress, text)
-            await write(request, response, packed)
-            text = await calls.call(_gathered, texts)
-        if packer is not None:
-            await write(request, response, packer.flush())
-        return response
+def base_of(request: web.BaseRequest, settings: Settings) -> str:
+    """Returns the beginning of the URLs of all resources."""
+    if settings.url is not None:
+        return settings.url.rstrip("/")
+    return f"{request.scheme}://{host_of(request)}"
+
+
+def segment(text: str) -> str | None:
+    """Returns a text as a segment of a path. None if no URL can have it: clients take `.` and `..`
+    for other paths, also where they are escaped."""
+    if text in ("", ".", ".."):
+        return None
+    try:
+        return quote(text, safe="")
+    except UnicodeEncodeError:
+        return None
+
+
+def _value(told: Any) -> str:
+    """Returns the value of a parameter. A list of texts has commas between them, and a comma in a
+    text is escaped."""
+    if isinstance(told, list):
+        return ",".join(quote_plus(each, safe=":/") for each in told)
+    return quote_plus(str(told), safe=",:/")
+
+
+class Links:
+    """Makes the links of an answer."""
+
+    def __init__(self, base: str) -> None:
+        """Takes the beginning of all links."""
+        self.base = base
+
+    def url(self, path: str, **parameters: Any) -> str:
+        """Returns the URL of a path, with parameters. Those that are None are left out."""
+        given = {name: value for name, value in parameters.items() if value is not None}
+        text = "&".join(f"{quote_plus(name)}={_value(value)}" for name, value in given.items())
+        return f"{self.base}{path}" + (f"?{text}" if text else "")
+
+    def local(self, path: str) -> str:
+        """Returns the URL of a path without a host, for what a page loads from where it came."""
+        return f"{urlsplit(self.base).path}{path}"
+
+    def to(self, path: str, rel: str, title: str, form: Format, **parameters: Any) -> Link:
+        """Returns a link to a path, whose answer has a format."""
+        href = self.url(path, **parameters)
+        return {"href": href, "rel": rel, "type": form.media_type, "title": title}
+
+    def formats(
+        self,
+        path: str,
+        formats: Sequence[Format],
+        chosen: Format,
+        parameters: Callable[[Format], dict[str, Any]] = lambda form: {},
+    ) -> list[Link]:
+        """Returns the links from an answer to itself, and to its other formats. `parameters` are
+        those of a format."""
+        found = []
+        for each in formats:
+            rel = "self" if each == chosen else "alternate"
+            title = "This document" if each == chosen else f"As {each.title}"
+            found.append(self.to(path, rel, title, each, **{**parameters(each), "f": each.name}))
+        return found
+
+
+def header_of(links: Sequence[Link], following: Link | None) -> str:
+    """Returns the links of an answer, and the one to the next page, as the header `Link` has them
+    (RFC 8288). If they are long, it has only the next page: proxies bound the head of an answer."""
+    first, *others = (
+        "" if link is None else f'<{link["href"]}>; rel="{link["rel"]}"; type="{link["type"]}"'
+        for link in (following, *links)
+    )
+    told = ", ".join(filter(None, (first, *others)))
+    return told if len(told) <= LONGEST_HEADER else first

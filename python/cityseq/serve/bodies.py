@@ -15,18 +15,15 @@ from typing import Any
 from aiohttp import web
 
 from .. import __version__
-from ..cli.json_objects import reasons_object, report_object, result_object
+from ..cli.json_output import reasons_object, report_object, result_object
 from ..cli.requests import Check, Filter
-from ..engine.judge import SMALL, Answer
-from ..engine.library import Text
-from ..engine.query import Work, asked
+from ..engine import Text
+from ..engine.judge import SMALL, Answer, Work, asked
 from ..run.feed import Fed, OtherPacking, Task, TooLong, Unpacking
-from .answers import write
-from .bounds import Pace
+from .answers import CITY_JSON, CITY_JSON_SEQ, LINES, Problem, forget
 from .context import Context
-from .formats import CITY_JSON, CITY_JSON_SEQ, LINES
 from .parameters import Query
-from .problems import Problem, forget
+from .sending import Pace, write
 
 GO_ON = "100-continue"
 Wanted = Check | Filter

@@ -1,5 +1,6 @@
-"""Documents on the server and its collections: OGC API - Features, Parts 1 and 2. The definition of
-the API, as OpenAPI 3.0, is made from the table of resources."""
+"""Documents on the server and its collections: OGC API - Features, Parts 1 and 2. Routes, the links
+of the first page, the classes of conformance and the definition of the API, as OpenAPI 3.0, are
+made from the table of resources."""
 from __future__ import annotations
 
 import re
@@ -8,14 +9,30 @@ from collections.abc import Sequence
 from aiohttp import web
 
 from .. import __version__
-from ..coordinates.boxes import edges
-from ..coordinates.systems import CRS84
-from .catalogue import Catalogue, Collection
-from .context import Context, Resource
-from .formats import CITY_JSON, CITY_JSON_SEQ, HTML, ITEMS, JSON, LINES, PROBLEM, SCHEMA, Format
-from .links import Link, Links
-from .parameters import STRING, Object, Parameter
-from .queryables import RELATION, of_all
+from ..coordinates import CRS84, edges
+from .answers import (
+    CITY_JSON,
+    CITY_JSON_SEQ,
+    HTML,
+    ITEM,
+    ITEMS,
+    JSON,
+    LINES,
+    OPENAPI,
+    PAGES,
+    PROBLEM,
+    SCHEMA,
+    SCHEMAS,
+    Format,
+    Link,
+    Links,
+)
+from .bodies import check, filter
+from .context import Catalogue, Collection, Context, Resource
+from .items import item, items
+from .parameters import CRS, QUERY, STRING, SUMMARY, Object, Parameter, of_items, of_judging
+from .queryables import FILTERS, QUERYABLES, RELATION, has_filters, of_all, queryables
+from .settings import Limits
 
 TITLE = "City models by cityseq"
 DESCRIPTION = (
@@ -222,3 +239,101 @@ def _in_words(collection: Collection) -> str:
     else:
         place = "The stream names no coordinate reference system. Coordinates are its own."
     return f"{collection.stream.features:,} features of a CityJSONSeq stream. {place}"
+
+
+CONF = "http://www.opengis.net/spec/ogcapi-features-1/1.0/conf/"
+CORE, GEOJSON, WEB, OAS30 = (f"{CONF}{name}" for name in ("core", "geojson", "html", "oas30"))
+SYSTEMS = "http://www.opengis.net/spec/ogcapi-features-2/1.0/conf/crs"
+ONE, PAGE = "/collections/{collectionId}", "/collections/{collectionId}/items"
+CLASSES = "The classes that it conforms to"
+API = (
+    ("service-desc", "The definition of the API", OPENAPI),
+    ("service-doc", "The API as a page", HTML),
+)
+DOCUMENTS = (
+    Resource("/", "getLandingPage", "The first page", landing, PAGES, conforms=(CORE, WEB)),
+    Resource(
+        "/api", "getApi", "This definition", api, (OPENAPI, HTML), conforms=(OAS30,), relations=API
+    ),
+    Resource(
+        "/conformance",
+        "getConformance",
+        CLASSES,
+        conformance,
+        PAGES,
+        relations=(("conformance", CLASSES, JSON),),
+    ),
+    Resource(
+        "/collections",
+        "getCollections",
+        "The collections",
+        collections,
+        PAGES,
+        relations=(("data", "The collections", JSON),),
+    ),
+    Resource(ONE, "describeCollection", "A collection", collection, PAGES, statuses=(404,)),
+    Resource(
+        f"{ONE}/queryables",
+        "getQueryables",
+        "The attributes that queries can name",
+        queryables,
+        SCHEMAS,
+        statuses=(404,),
+        conforms=QUERYABLES,
+    ),
+)
+ANSWERED = (
+    "The header and the kept lines, byte for byte. The answer begins before the body has ended, so"
+    " read while you send. An answer without its last chunk is not whole: the stream is invalid."
+)
+
+
+def _features(limits: Limits) -> tuple[Resource, ...]:
+    """Returns the resources that answer features."""
+    return (
+        Resource(
+            PAGE,
+            "getFeatures",
+            "Features of a collection",
+            items,
+            ITEMS,
+            of_items(limits),
+            (404, 410, 502),
+            (GEOJSON, SYSTEMS, *(FILTERS if has_filters() else ())),
+            filters=True,
+        ),
+        Resource(
+            f"{PAGE}/{{featureId}}", "getFeature", "A feature", item, ITEM, (CRS,), (404, 502)
+        ),
+    )
+
+
+def _judging(limits: Limits) -> tuple[Resource, ...]:
+    """Returns the resources that judge bodies."""
+    return (
+        Resource(
+            "/check",
+            "check",
+            "The verdict on a stream",
+            check,
+            (LINES,),
+            (*of_judging(limits), SUMMARY),
+            description="An object a line: each report, then the result. A body of the type"
+            " application/city+json is a whole CityJSON file.",
+        ),
+        Resource(
+            "/filter",
+            "filter",
+            "The features of a stream that a query selects",
+            filter,
+            (CITY_JSON_SEQ, LINES),
+            (*of_judging(limits), *QUERY),
+            (422,),
+            description=ANSWERED,
+        ),
+    )
+
+
+def table(limits: Limits) -> tuple[Resource, ...]:
+    """Returns all resources of a server with these limits."""
+    return (*DOCUMENTS, *_features(limits), *_judging(limits))

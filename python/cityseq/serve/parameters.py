@@ -10,9 +10,8 @@ from decimal import Decimal, InvalidOperation
 from typing import Any
 from urllib.parse import unquote_to_bytes
 
-from ..engine.structs import USUAL_DEPTH, USUAL_LINE
-from .formats import Format
-from .problems import Problem
+from ..engine import USUAL_DEPTH, USUAL_LINE
+from .answers import Format, Problem
 from .settings import MOST_REPORTS, REPORTS, Limits
 
 Object = dict[str, Any]

@@ -17,11 +17,10 @@ from aiohttp.http_exceptions import HttpProcessingError
 
 from ..cli.output import say
 from ..cli.requests import Serve
-from ..engine.escape import shown
-from ..engine.faults import ReadFault, why
-from ..engine.library import library
-from .answers import SENT
+from ..engine import library
+from ..engine.faults import ReadFault, shown, why
 from .application import Server, application
+from .sending import SENT
 from .settings import LOOPBACK, Limits, Settings
 
 LONGEST = 2_000  # characters of a part of a line that a client sent

@@ -12,13 +12,11 @@ from aiohttp import web
 
 from ..attributes.columns import Attribute
 from ..attributes.cql2 import Comparison, Filter, Joined, Literal, parsed
-from .formats import HTML, SCHEMA
+from .answers import HTML, SCHEMA, Problem
 from .parameters import LANGUAGE, Object, Parameter, Query
-from .problems import Problem
 
 if TYPE_CHECKING:
-    from .catalogue import Catalogue
-    from .context import Context
+    from .context import Catalogue, Context
 
 RELATION = "http://www.opengis.net/def/rel/ogc/1.0/queryables"
 PART, CQL2 = (

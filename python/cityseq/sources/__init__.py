@@ -1,1 +1,433 @@
-"""Sources of streams: files, packed files, pipes, bytes and file objects, and their chunks."""
+"""Sources of streams: paths of files that may be packed, `-`, bytes and file objects. Several
+threads read a regular file at any place."""
+from __future__ import annotations
+
+import contextlib
+import io
+import mmap
+import os
+import select
+import stat
+import sys
+from collections.abc import Iterator
+from typing import IO, TYPE_CHECKING, Any, Protocol, Union
+
+from ..engine import Room, library
+from ..engine.faults import (
+    READ_FAULTS,
+    CityseqError,
+    InvalidStream,
+    ReadFault,
+    RequestError,
+    read_fault,
+)
+from .packed import Packing, Unpacker, may_be_packed, packing_by_mark, packing_of
+
+if TYPE_CHECKING:
+    from array import array
+
+    from .remote import RemoteFile
+
+    Buffer = Union[bytes, bytearray, memoryview, array[Any], mmap.mmap]
+
+
+Source = Union[str, "os.PathLike[Any]", "Buffer", IO[bytes]]
+
+State = tuple[int, int]  # of a file
+CHANGED = "changed while it was read"
+PIECE = 1 << 20  # the most bytes of one read
+IDLE = 50  # milliseconds to wait for more bytes before those that are there are judged
+LONGEST_PATH = 4_096  # bytes: a longer text is no path
+LOOK = 1 << 14  # bytes of the first read for the end of a line
+_room = Room()  # for the parts of a thread, one after another
+
+
+def is_path(source: Any) -> bool:
+    """Whether a source or a target is a path, except `-`. Bytes are not a path: they are the
+    stream itself."""
+    return isinstance(source, (str, os.PathLike)) and os.fsdecode(source) != "-"
+
+
+def is_url(source: Any) -> bool:
+    """Whether a source is a URL that `fsspec` reads, such as s3://bucket/town.city.jsonl."""
+    if not isinstance(source, str) or "://" not in source:
+        return False
+    scheme = source.partition("://")[0]
+    signs = scheme.replace("+", "").replace("-", "").replace(".", "").replace(":", "")
+    return scheme[:1].isalpha() and signs.isascii() and signs.isalnum()
+
+
+def remote_of(file: Any) -> RemoteFile | None:
+    """Returns the file of a URL that a file object reads or unpacks. None for other files."""
+    inner = file.packed if isinstance(file, Unpacker) else file
+    return getattr(getattr(inner, "raw", None), "remote", None)
+
+
+def bytes_of(source: Any) -> memoryview | None:
+    """Returns the bytes of a source that is an object with bytes, such as `bytes`, an array or a
+    mapped file. None for other sources."""
+    is_file = hasattr(source, "read") and not isinstance(source, mmap.mmap)
+    if is_file or isinstance(source, (str, os.PathLike)):
+        return None
+    try:
+        return memoryview(source).cast("B")
+    except TypeError:
+        return None
+
+
+def name_of(source: Any) -> str:
+    """Returns the name of a source in reports."""
+    if is_url(source):
+        return str(source).partition("?")[0]  # a query may have a key in it
+    if isinstance(source, (str, os.PathLike)):
+        return os.fsdecode(source)
+    if bytes_of(source) is not None:
+        return "<bytes>"
+    name = getattr(source, "name", None)
+    return name if isinstance(name, str) else "<stream>"
+
+
+def size_of(source: Any) -> int | None:
+    """Returns how many bytes a source has, or None if this is known only after reading. For a
+    packed file these are packed bytes."""
+    held = bytes_of(source)
+    if held is not None:
+        return held.nbytes
+    if is_url(source):
+        with contextlib.suppress(OSError), open_raw(source) as file:
+            return file.raw.remote.size  # type: ignore[no-any-return]
+        return None
+    return os.path.getsize(source) if is_path(source) and os.path.isfile(source) else None
+
+
+def _poll_of(file: Any) -> Any:
+    """Returns an object that shows whether a pipe or a terminal has bytes. None for other files."""
+    try:
+        descriptor = file.fileno()
+        mode = os.fstat(descriptor).st_mode
+    except (AttributeError, OSError, ValueError):
+        return None
+    if isinstance(file, Unpacker) or not (
+        stat.S_ISFIFO(mode) or stat.S_ISSOCK(mode) or stat.S_ISCHR(mode)
+    ):
+        return None
+    poll = select.poll()
+    poll.register(descriptor, select.POLLIN)
+    return poll
+
+
+class Reader:
+    """Reads a file object. If a read fails, keeps the fault as `fault`, and the input ends."""
+
+    def __init__(self, file: Any, name: str = "<stream>", is_text: bool = False) -> None:
+        """Takes a file object and its name. If it is not known to be a text, it is unpacked if its
+        first bytes show that it is packed."""
+        self.file, self.name = file, name
+        self._read: Any = getattr(file, "read1", None) or file.read
+        self.fault: CityseqError | None = None
+        self._poll = _poll_of(file)
+        self._has_begun = is_text
+
+    def is_idle(self) -> bool:
+        """Whether no bytes have come for some time. False for a source that is not a pipe, a
+        socket or a terminal."""
+        if self._poll is None:
+            return False
+        try:
+            return not self._poll.poll(IDLE)
+        except (OSError, ValueError):
+            return False
+
+    def read(self, most: int) -> bytes:
+        """Returns at most `most` bytes, and none at the end."""
+        try:
+            piece = self._piece(most)
+            if not self._has_begun:
+                self._has_begun = True
+                piece = self._text_of(piece, most)
+            return piece
+        except InvalidStream as fault:  # of a whole file
+            self.fault, self._read = fault, io.BytesIO().read
+        except READ_FAULTS as fault:
+            self.fault, self._read = read_fault(fault, self.name), io.BytesIO().read
+        return b""
+
+    def _piece(self, most: int) -> bytes:
+        piece = self._read(min(most, PIECE))
+        if isinstance(piece, (bytes, bytearray)):
+            return bytes(piece)
+        is_text = isinstance(piece, str)
+        raise OSError(
+            "the source gives text: open it as binary" if is_text else "no bytes were ready"
+        )
+
+    def _text_of(self, head: bytes, most: int) -> bytes:
+        """Returns the first text of a file with these first bytes."""
+        while head and may_be_packed(head):
+            more = self._piece(most)
+            if not more:
+                break
+            head += more
+        packing = packing_by_mark(head)
+        if packing is None:
+            return head
+        self.file = Unpacker(self.file, packing, head)
+        self._read, self._poll = self.file.read, None
+        return self._piece(most)
+
+
+def open_raw(path: str) -> Any:
+    """Returns the file object of a path or of a URL, which gives the bytes as they are."""
+    if not is_url(path):
+        return open(path, "rb")
+    from .remote import open_url  # few runs need it
+
+    return open_url(path)
+
+
+def _raw_or_parts(path: str) -> Any:
+    """Returns the same as `open_raw`, or what reads the parts of a folder."""
+    try:
+        return open_raw(path)
+    except IsADirectoryError as fault:
+        from .parts import PartsReader  # few runs need it
+
+        try:
+            return PartsReader(path)
+        except FileNotFoundError:
+            raise fault from None
+
+
+def _open_path(path: str) -> Any:
+    """Returns the file object of a path. It unpacks a packed file."""
+    file = _raw_or_parts(path)
+    try:
+        if not isinstance(file, io.BufferedReader):
+            return file
+        packing = packing_of(file.peek(len(Packing.ZSTD.mark)), path)
+        return file if packing is None else Unpacker(file, packing)
+    except BaseException:
+        file.close()
+        raise
+
+
+def _path_of(source: Any) -> str:
+    """Returns the path that a source is. Raises `RequestError` if it is a text and no path."""
+    path = os.fsdecode(source)
+    if "\n" in path and len(os.fsencode(path)) > LONGEST_PATH:
+        raise RequestError(
+            f"a source is a path, and no text of {len(path):,} characters: give a stream as bytes"
+        )
+    return path
+
+
+def _open(source: Source) -> Any:
+    """Opens a source that is a path or bytes. The caller must close the file object."""
+    if isinstance(source, (str, os.PathLike)):
+        return _open_path(_path_of(source))
+    held = bytes_of(source)
+    if held is not None:
+        return io.BytesIO(held)
+    raise RequestError(
+        f"a source is a path, bytes or a binary file, and no {type(source).__name__}"
+    )
+
+
+def is_packed(source: Any) -> bool:
+    """Whether a source is the path of a packed file."""
+    try:
+        if not is_url(source) and not (is_path(source) and os.path.isfile(source)):
+            return False
+        with open_raw(source) as file:
+            return packing_of(file.peek(len(Packing.ZSTD.mark)), os.fsdecode(source)) is not None
+    except OSError:
+        return False
+
+
+def state_of(file: Any) -> State:
+    """Returns the size of an open file, and its time of change in nanoseconds, or what stands for
+    it if the file has a URL. If one of them differs later, the file has changed."""
+    remote = remote_of(file)
+    if remote is not None:
+        return remote.state_now()
+    told = os.fstat(file if isinstance(file, int) else file.fileno())
+    return told.st_size, told.st_mtime_ns
+
+
+class Watch(Protocol):
+    """Shows whether a file has changed since the watch was made."""
+
+    state: State
+
+    def is_changed(self) -> bool:
+        """Whether the file is in another state than at the beginning."""
+
+
+class _Watch:
+    """A watch of a regular file of this system."""
+
+    def __init__(self, descriptor: int) -> None:
+        self._descriptor = -1
+        self._descriptor = os.dup(descriptor)
+        self.state = state_of(descriptor)
+
+    def __del__(self) -> None:
+        if self._descriptor >= 0:
+            os.close(self._descriptor)
+
+    def is_changed(self) -> bool:
+        """Whether the file is in another state than at the beginning."""
+        return state_of(self._descriptor) != self.state
+
+
+def watch_of(file: Any) -> Watch | None:
+    """Returns a watch of the file of a file object. None if it is neither regular nor of a URL."""
+    remote = remote_of(file)
+    if remote is not None:
+        return remote
+    try:
+        descriptor = file.fileno()
+        return _Watch(descriptor) if stat.S_ISREG(os.fstat(descriptor).st_mode) else None
+    except (AttributeError, OSError, ValueError):
+        return None
+
+
+@contextlib.contextmanager
+def opened(source: Source) -> Iterator[Reader]:
+    """Yields a reader of a source, and closes what was opened for it."""
+    name = name_of(source)
+    if hasattr(source, "read") and bytes_of(source) is None:
+        yield Reader(source, name)
+        return
+    if isinstance(source, str) and source == "-":
+        if sys.stdin is None:
+            raise ReadFault("read fault: standard input is closed", None, name)
+        yield Reader(sys.stdin.buffer, name)
+        return
+    try:
+        file = _open(source)
+    except READ_FAULTS as fault:
+        if isinstance(fault, RequestError):
+            raise
+        raise read_fault(fault, name) from fault
+    with file:
+        yield Reader(file, name, is_text=True)
+
+
+class _Descriptor:
+    """A file of this system. It stays open as long as this object exists."""
+
+    def __init__(self, descriptor: int) -> None:
+        self._descriptor = -1
+        self._descriptor = os.dup(descriptor)
+        self.size = os.fstat(descriptor).st_size
+
+    def __del__(self) -> None:
+        if self._descriptor >= 0:
+            os.close(self._descriptor)
+
+    def state_now(self) -> tuple[int, int]:
+        """Returns the size, and the time of change in nanoseconds."""
+        told = os.fstat(self._descriptor)
+        return told.st_size, told.st_mtime_ns
+
+    def read(self, begin: int, end: int) -> bytes:
+        """Returns the bytes between two places, or those that one read gives."""
+        return os.pread(self._descriptor, end - begin, begin)
+
+    def expect(self, end: int) -> None:
+        """Does nothing: the system reads ahead."""
+
+    def fill(self, room: memoryview, begin: int) -> int:
+        """Fills some of a room from a place on. Returns how many bytes it read."""
+        return os.preadv(self._descriptor, [room], begin)
+
+
+class RegularFile:
+    """A regular file, or one by its URL, that is read at any place."""
+
+    def __init__(self, file: int | RemoteFile) -> None:
+        """Takes a descriptor, or the file of a URL."""
+        self._file: Any = _Descriptor(file) if isinstance(file, int) else file
+        self.size = self._file.size
+
+    @property
+    def state(self) -> tuple[int, int]:
+        """The size, and the time of change in nanoseconds, or what stands for it."""
+        state: tuple[int, int] = self._file.state_now()
+        return state
+
+    def look(self, begin: int, end: int) -> bytes:
+        """Returns the bytes between two places, or those that one read gives."""
+        found: bytes = self._file.read(begin, end)
+        return found
+
+    def expect(self, end: int) -> None:
+        """Notes that this thread will read up to a place."""
+        self._file.expect(end)
+
+    def line_end(self, begin: int, last: int) -> int | None:
+        """Returns the place after the first LF between two places. None if there is none."""
+        size = LOOK
+        while begin < last:
+            piece = self.look(begin, min(begin + size, last))
+            if not piece:
+                break
+            found = library().part_end(piece, 1)
+            if found:
+                return begin + found
+            begin += len(piece)
+            size = min(4 * size, PIECE)
+        return None
+
+    def fill(self, room: memoryview, begin: int) -> tuple[int, OSError | None]:
+        """Fills a room from a place on. Returns how many bytes it read, and why a read after them
+        failed, if one did."""
+        count = 0
+        try:
+            while count < len(room):
+                read = self._file.fill(room[count:], begin + count)
+                if read == 0:
+                    break
+                count += read
+        except OSError as error:
+            return count, error
+        return count, None
+
+    def read(self, begin: int, end: int) -> tuple[memoryview, OSError | None]:
+        """Returns the bytes between two places, or those that there are, and why a read after them
+        failed, if one did. They change when this thread reads again."""
+        room = _room.of(end - begin)
+        count, fault = self.fill(room, begin)
+        return room[:count], fault
+
+    def read_own(self, begin: int, end: int) -> tuple[bytes, OSError | None]:
+        """Does the same as `read`, but the bytes are an object of their own, and do not change."""
+        pieces: list[bytes] = []
+        try:
+            while begin < end:
+                piece = self.look(begin, end)
+                if not piece:
+                    break
+                pieces.append(piece)
+                begin += len(piece)
+        except OSError as error:
+            return b"".join(pieces), error
+        return b"".join(pieces), None
+
+
+def regular_file(file: Any, kind: type[RegularFile] = RegularFile) -> RegularFile | None:
+    """Returns the regular file of a file object, as one of this kind. None if it has none."""
+    remote = remote_of(file)
+    if remote is not None:
+        return kind(remote) if isinstance(file, io.BufferedReader) else None
+    try:
+        if (
+            isinstance(file, io.BufferedReader)
+            and hasattr(os, "preadv")
+            and stat.S_ISREG(os.fstat(file.fileno()).st_mode)
+        ):
+            return kind(file.fileno())
+    except OSError:
+        pass
+    return None

@@ -1,5 +1,6 @@
 """Outputs of kept lines. A file is written as `.NAME.*.part`, and renamed when it is whole. So no
-incomplete file looks like a whole one, and two runs with the same output do not mix."""
+incomplete file looks like a whole one, and two runs with the same output do not mix. No output
+destroys a source: files are compared by device and inode, not by name."""
 from __future__ import annotations
 
 import codecs
@@ -8,13 +9,14 @@ import os
 import select
 import stat
 import sys
+from collections.abc import Callable, Iterable, Iterator
 from contextlib import suppress
 from functools import partial
-from typing import IO, Any, Callable, List, Optional, Tuple, Union
+from typing import IO, Any, Union
 
 from ..engine.faults import RequestError, write_fault
+from . import is_path, name_of
 from .packed import LEVEL, Packer, Packing, Text, pack, packing_by_name, require
-from .source import is_path, name_of
 
 Target = Union[str, bytes, "os.PathLike[Any]", IO[bytes]]
 
@@ -24,6 +26,7 @@ LONGEST = 255  # bytes of a file's name
 NEW = os.O_RDWR | os.O_CREAT | os.O_EXCL | getattr(os, "O_CLOEXEC", 0)
 USUAL_MODE = 0o666  # of a new file, before the system's mask
 OWN_MODE = 0o600  # what its owner may do while the file is written
+Identity = tuple[int, int]
 
 
 def checked_output(path: str) -> str:
@@ -40,7 +43,7 @@ def checked_output(path: str) -> str:
     return path
 
 
-def target_of(path: str) -> Optional[str]:
+def target_of(path: str) -> str | None:
     """Returns the file that an output replaces. If the path is a link, that is the file that it
     leads to. Returns None for a device or a pipe, which is written directly."""
     try:
@@ -51,7 +54,7 @@ def target_of(path: str) -> Optional[str]:
     return os.path.realpath(path)
 
 
-def part_of(path: str) -> Optional[str]:
+def part_of(path: str) -> str | None:
     """Returns where an output that is not whole is left if it must be kept. Returns None for a
     device or a pipe."""
     target = target_of(path)
@@ -67,7 +70,7 @@ def _new_name(target: str) -> str:
     return os.path.join(folder, f".{name}{end}")
 
 
-def _mode_of(path: str) -> Optional[int]:
+def _mode_of(path: str) -> int | None:
     """Returns the mode of a file, or None if there is none."""
     try:
         return stat.S_IMODE(os.stat(path).st_mode)
@@ -81,8 +84,8 @@ class Part:
     def __init__(self, target: str) -> None:
         """Takes the path of the file to replace. It makes no file."""
         self._target = target
-        self._path: Optional[str] = None
-        self._mode: Optional[int] = None
+        self._path: str | None = None
+        self._mode: int | None = None
 
     @property
     def path(self) -> str:
@@ -145,9 +148,9 @@ class Batch:
     """Whole outputs that get their names together. Leaving a `with` block removes the others."""
 
     def __init__(self) -> None:
-        self._parts: List[Tuple[str, Part]] = []
+        self._parts: list[tuple[str, Part]] = []
 
-    def __enter__(self) -> "Batch":
+    def __enter__(self) -> Batch:
         return self
 
     def __exit__(self, *_: Any) -> None:
@@ -229,7 +232,7 @@ class _Decoded:
         self._output, self.flush = output, output.flush
         self._decode = codecs.getincrementaldecoder("utf-8")("replace").decode
 
-    def write(self, text: Union[bytes, bytearray, memoryview]) -> int:
+    def write(self, text: bytes | bytearray | memoryview) -> int:
         """Writes all of these bytes."""
         self._output.write(self._decode(bytes(text)))
         return len(text)
@@ -246,7 +249,7 @@ class Limit:
         self.left = most
 
     @classmethod
-    def of(cls, most: Optional[int]) -> Optional["Limit"]:
+    def of(cls, most: int | None) -> Limit | None:
         """Returns the limit of so many features. None if there is none.
 
         Raises:
@@ -281,10 +284,10 @@ class Writer:
         self,
         target: Target,
         keep_partial: bool = False,
-        batch: Optional[Batch] = None,
+        batch: Batch | None = None,
         *,
         level: int = LEVEL,
-        see: Optional[Callable[[Text], None]] = None,
+        see: Callable[[Text], None] | None = None,
     ) -> None:
         """Makes a writer of a target.
 
@@ -307,10 +310,10 @@ class Writer:
             target = os.fsdecode(target)
         self.name = name_of(target)
         self._path = checked_output(self.name) if is_path(target) else None
-        self._part: Optional[Part] = None  # where the path is written until it is whole
+        self._part: Part | None = None  # where the path is written until it is whole
         self._file: Any = target if hasattr(target, "write") else None
         self._keep_partial, self._batch, self._level, self._see = keep_partial, batch, level, see
-        self.limit: Optional[Limit] = None
+        self.limit: Limit | None = None
         self.features, self._has_header = 0, False
         if self.packing is not None:
             try:
@@ -319,7 +322,7 @@ class Writer:
                 raise write_fault(fault, self.name) from fault
 
     @property
-    def packing(self) -> Optional[Packing]:
+    def packing(self) -> Packing | None:
         """How the output is packed, or None."""
         return None if self._path is None else packing_by_name(self._path)
 
@@ -331,7 +334,7 @@ class Writer:
         return pack(text, self.packing, self._level)
 
     @property
-    def packer(self) -> Optional[Callable[[Text], bytes]]:
+    def packer(self) -> Callable[[Text], bytes] | None:
         """What packs a text in another process. None if the output is not packed, or if this
         process must see the text."""
         if self.packing is None or self._see is not None:
@@ -421,3 +424,61 @@ class Writer:
             return open(path, "wb")
         self._part = Part(target)
         return os.fdopen(self._part.make(), "wb")
+
+
+def _state(thing: Any, standard: int) -> os.stat_result:
+    """Returns the system's state of a source or an output. `-` is the given standard descriptor."""
+    if is_path(thing):
+        return os.stat(thing)
+    return os.fstat(standard if isinstance(thing, str) else thing.fileno())
+
+
+def identity(thing: Any, standard: int) -> Identity | None:
+    """Returns the device and the inode of the file of a source or an output. None if it does not
+    exist, or is neither a regular file nor a block device."""
+    try:
+        state = _state(thing, standard)
+    except (AttributeError, OSError, ValueError):
+        return None
+    return (
+        (state.st_dev, state.st_ino)
+        if stat.S_ISREG(state.st_mode) or stat.S_ISBLK(state.st_mode)
+        else None
+    )
+
+
+def _written(outputs: Iterable[Any]) -> Iterator[tuple[str, Any]]:
+    """Yields the name of each output, and each file that is written for it."""
+    for output in (
+        os.fsdecode(output) if isinstance(output, bytes) else output for output in outputs
+    ):
+        yield name_of(output), output
+        if is_path(output):
+            part = part_of(os.fsdecode(output))
+            if part is not None:
+                yield part, part
+
+
+def _read(sources: Iterable[Any]) -> set[Identity]:
+    """Returns the identities of the files that are read."""
+    found = (identity(source, 0) for source in sources if not isinstance(source, bytes))
+    return {each for each in found if each}
+
+
+def refuse_same(sources: Iterable[Any], outputs: Iterable[Any]) -> None:
+    """Raises `RequestError` if an output is a file that is read. The output `-` is standard
+    output."""
+    read = _read(sources)
+    for name, output in _written(outputs):
+        if identity(output, 1) in read:
+            raise RequestError(f"{name}: the output is a file that is read")
+
+
+def refuse_standard(sources: Iterable[Any]) -> None:
+    """Raises `RequestError` if standard output or standard error is a file that is read. If that
+    is standard error, nothing is written to it any more, not even this fault."""
+    sources = list(sources)
+    if sys.stderr is not None and identity(sys.stderr, 2) in _read(sources):
+        sys.stderr = None  # type: ignore[assignment]
+        raise RequestError("standard error is a file that is read")
+    refuse_same(sources, ["-"])

@@ -2,20 +2,18 @@
 manifest says that the whole is there. Read as one stream, a folder has the header once."""
 from __future__ import annotations
 
-import hashlib
 import io
 import json
 import os
 from dataclasses import asdict, dataclass
 from typing import Any
-from zlib import crc32
 
 from ..engine.faults import read_fault
+from . import is_path, is_url, open_raw
+from .hashes import BlockHash
 from .packed import Packing, Unpacker, packing_of
-from .source import is_path, is_url, open_raw
 
 MANIFEST, KIND = "_manifest.json", "cityseq parts"
-BLOCK, SIZE = 1 << 16, 16  # bytes that have a CRC-32, and of a hash
 
 
 @dataclass(frozen=True)
@@ -27,34 +25,6 @@ class Part:
     features: int
     bytes: int
     digest: str
-
-
-class Digest:
-    """The hash of bytes that come piece by piece: the BLAKE2b of the CRC-32s of their blocks, as an
-    index has it."""
-
-    def __init__(self) -> None:
-        self.count, self._sum = 0, 0
-        self._digest = hashlib.blake2b(digest_size=SIZE)
-
-    def add(self, piece: Any) -> None:
-        """Takes the next bytes."""
-        rest = memoryview(piece)
-        while rest:
-            some = rest[: BLOCK - self.count % BLOCK]
-            self._sum = crc32(some, self._sum)
-            self.count += len(some)
-            if self.count % BLOCK == 0:
-                self._digest.update(self._sum.to_bytes(4, "little"))
-                self._sum = 0
-            rest = rest[len(some) :]
-
-    def text(self) -> str:
-        """Returns the hash of the bytes that came."""
-        whole = self._digest.copy()
-        if self.count % BLOCK:
-            whole.update(self._sum.to_bytes(4, "little"))
-        return whole.hexdigest()
 
 
 def path_in(folder: str, name: str) -> str:
@@ -123,7 +93,7 @@ class _Hashed(io.RawIOBase):
 
     def __init__(self, path: str) -> None:
         super().__init__()
-        self.digest = Digest()
+        self.digest = BlockHash()
         self._file = open_raw(path)
 
     def readable(self) -> bool:

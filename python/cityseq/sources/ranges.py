@@ -10,15 +10,12 @@ from contextlib import closing
 from dataclasses import dataclass
 from itertools import chain
 
+from ..engine import CallStatus
 from ..engine.faults import CityseqError, ReadFault, read_fault
-from ..engine.judge import Answer, judge, judge_lines, part_size
-from ..engine.query import Work
-from ..engine.structs import CallStatus
-from .chunk_reader import Chunks
-from .chunks import Chunk, FileChunk
+from ..engine.judge import Answer, Work, judge, judge_lines, part_size
+from . import CHANGED, RegularFile, State, is_url, open_raw, remote_of, state_of
+from .chunks import Chunk, Chunks, FileChunk
 from .packed import Unpacker
-from .regular import RegularFile
-from .source import CHANGED, State, is_url, open_raw, remote_of, state_of
 
 SHORT = 4 << 20  # bytes of a file, or of a chunk, that is not worth a task of its own
 FIRST = 4_096  # bytes at the beginning of a file that show which file it is

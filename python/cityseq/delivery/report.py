@@ -1,33 +1,126 @@
-"""Makes a page: judges the files, writes the page, and all reports next to it."""
+"""Makes a report: judges the files, writes the page, and all reports next to it in two files, for
+spreadsheets and for programs."""
 from __future__ import annotations
 
+import csv
+import io
+import json
 import os
+import re
 import time
 from collections.abc import Callable, Sequence
 from contextlib import closing
 from dataclasses import dataclass
-from functools import partial
-from typing import TYPE_CHECKING, Any
+from typing import Any
 
 from .. import __version__
-from ..engine.faults import RequestError, WriteFault
-from ..engine.query import Work
-from ..indexes.index_run import by_threads, is_special
-from ..run.pool import Job, Pool
-from ..run.results import Result
-from ..run.streams import usual_jobs
-from ..sources.file_state import sha256_of, time_now
-from ..sources.outputs import Writer, part_of
+from ..cli.json_output import report_object
+from ..engine.faults import RequestError, WriteFault, shown
+from ..engine.judge import Work
+from ..engine.reports import Report
+from ..indexes.index_run import Hashes, by_threads, is_special
+from ..run import Result, usual_jobs
+from ..sources import is_path, size_of
+from ..sources.hashes import sha256_of, time_now
+from ..sources.outputs import Writer, part_of, refuse_same
 from ..sources.parts import expanded
-from ..sources.same_file import refuse_same
-from ..sources.source import is_path, size_of
-from .extras import need_all, needed
+from . import need_all, needed
 from .facts import Delivery, Run
 
-if TYPE_CHECKING:
-    from .lists import Lists
-
+COLUMNS = ("file", "line", "byte", "code", "reason", "feature", "hint", "excerpt", "fix")
+SIGNS = "=+-@\uff1d\uff0b\uff0d\uff20"  # a spreadsheet may compute a cell that begins with them
+FORMULAS = (*SIGNS, "\t", "\r")
+# In many countries `;` separates the cells. It does so within quotes too, as `,` does not begin a
+# cell there. A quote that follows it begins a quoted cell.
+LATER_CELL = re.compile(rf'([;\t]"*)(?=[{re.escape(SIGNS)}])')
+LONGEST = 1_000  # characters of an id in a cell; JSON has all
+TOGETHER = 1 << 16  # characters of one write
+MARK = "\ufeff"  # marks UTF-8 for spreadsheets
 HASHES = 2  # files that are hashed at once
+
+
+def names_of_lists(page: str) -> tuple[str, str]:
+    """Returns the names of the CSV file and of the JSON lines next to a page."""
+    stem, suffix = os.path.splitext(page)
+    start = stem if suffix.lower() in (".html", ".htm") else page
+    return f"{start}.reports.csv", f"{start}.reports.jsonl"
+
+
+def cell(text: str) -> str:
+    """Returns a text as a cell, on one line. No spreadsheet takes it for a formula, or a part of it
+    if another sign separates cells there."""
+    short = text if len(text) <= LONGEST else f"{text[:LONGEST]}\u2026"
+    told = LATER_CELL.sub(r"\1'", shown(short))
+    return f"'{told}" if text.startswith(FORMULAS) or told.startswith(FORMULAS) else told
+
+
+def row_of(report: Report) -> list[Any]:
+    """Returns the cells of a report, in the order of the columns."""
+    return [
+        cell(report.file),
+        report.line,
+        report.byte,
+        report.code,
+        report.text,
+        cell(report.id or ""),
+        cell(report.met or ""),
+        cell(report.excerpt),
+        cell(report.explanation.fix),
+    ]
+
+
+class Lists:
+    """Writes both files. Each is renamed when it is whole."""
+
+    def __init__(self, page: str) -> None:
+        """Takes the name of the page. It opens no file."""
+        self.names = names_of_lists(page)
+        self._csv, self._json = (Writer(name) for name in self.names)
+        self._rows, self._lines = io.StringIO(newline=""), io.StringIO()
+        self._rows.write(MARK)
+        self._writer = csv.writer(self._rows)
+        self._writer.writerow(COLUMNS)
+
+    def open(self) -> None:
+        """Opens both files, so that a folder that cannot be written to is reported at once.
+
+        Raises:
+            WriteFault: One cannot be opened.
+        """
+        self._csv.write(b"")
+        self._json.write(b"")
+
+    def add(self, report: Report) -> None:
+        """Writes a report.
+
+        Raises:
+            WriteFault: It cannot be written.
+        """
+        self._writer.writerow(row_of(report))
+        self._lines.write(f"{json.dumps(report_object(report))}\n")
+        if self._lines.tell() >= TOGETHER:
+            self._flush()
+
+    def _flush(self) -> None:
+        for writer, held in ((self._csv, self._rows), (self._json, self._lines)):
+            writer.write(held.getvalue().encode("utf-8"))
+            held.seek(0)
+            held.truncate()
+
+    def close(self) -> None:
+        """Writes the rest, and gives both files their names.
+
+        Raises:
+            WriteFault: They cannot be written.
+        """
+        self._flush()
+        self._csv.close(True)
+        self._json.close(True)
+
+    def discard(self) -> None:
+        """Removes files that are not whole."""
+        self._csv.discard()
+        self._json.discard()
 
 
 def _nothing(result: Result) -> None:
@@ -82,33 +175,10 @@ def checked(paths: Any, output: Any) -> tuple[list[str], str | None]:
     return named, os.fsdecode(output)
 
 
-class Hashes:
-    """Hashes files while others are judged. Leaving a `with` block stops it."""
-
-    def __init__(self, names: Sequence[str]) -> None:
-        self._crew, self._is_stopped = Pool(HASHES), False
-        self._jobs: list[Job[str | None]] = [
-            self._crew.submit(partial(sha256_of, name, lambda: self._is_stopped)) for name in names
-        ]
-
-    def __enter__(self) -> "Hashes":
-        return self
-
-    def __exit__(self, *_: Any) -> None:
-        self._is_stopped = True
-        self._crew.__exit__()
-
-    def of(self, number: int) -> str | None:
-        """Returns the SHA-256 of a file. None if it cannot be read."""
-        return self._jobs[number].result()
-
-
 class _Output:
     """The page, and the lists next to it."""
 
     def __init__(self, names: Sequence[str], output: str) -> None:
-        from .lists import Lists, names_of_lists
-
         refuse_same(names, [output, *names_of_lists(output)])
         self.page = Writer(output)
         self.lists = Lists(output)
@@ -162,13 +232,14 @@ def report(paths: Any, output: Any, work: Work, how: How) -> Delivery:
 
 
 def _survey(
-    delivery: Delivery, names: Sequence[str], work: Work, how: How, lists: "Lists | None"
+    delivery: Delivery, names: Sequence[str], work: Work, how: How, lists: Lists | None
 ) -> None:
     """Judges the files, and fills the facts of a delivery."""
     from .survey import Survey, Surveyed
 
     clock = time.monotonic()
-    with Survey(names, lists) as survey, Hashes(names) as hashes:
+    with Survey(names, lists) as survey, Hashes(HASHES, sha256_of) as hashes:
+        sums = [hashes.submit(name) for name in names]
         surveyed = (Surveyed(number, name, work, survey, how) for number, name in enumerate(names))
         for file in survey.files:
             file.size = _size(file.name)
@@ -178,7 +249,7 @@ def _survey(
                     raise result.raises
                 how.take(result)
         for number, file in enumerate(survey.files):
-            file.sha256 = hashes.of(number)
+            file.sha256 = sums[number].result()
         delivery.files, delivery.areas = survey.files, survey.areas()
         delivery.reasons, delivery.reports = survey.reasons.listed(), survey.reports
         delivery.repeated = survey.repeated()

@@ -1,28 +1,39 @@
-"""The JSON of the command: objects with a kind and a version. docs/json.md describes them."""
+"""Results as JSON objects, and as SARIF."""
 from __future__ import annotations
 
-from typing import TYPE_CHECKING, Any, Counter
+import json
+import os
+from collections import Counter
+from collections.abc import Callable
+from typing import TYPE_CHECKING, Any
+from urllib.parse import quote
 
+from .. import __version__
+from ..engine.faults import RequestError, quoted, shown
 from ..engine.reports import Report, explain
-from ..run.results import Info, Result
-from .requests import Request
+from ..run import Info, Result
+from .output import Bar, Object, Printer, put
+from .requests import Check, Request
 
 if TYPE_CHECKING:
     from decimal import Decimal
 
-    from .printers import Reports
+    from .output import Reports
+
 
 VERSION = 1  # of the objects: it changes if a member is renamed, removed or changes its meaning
 LONGEST = 40  # digits before or after the point of a number that is written out
 MOST = 1 << 53  # a double has every whole number up to this
-Object = dict[str, Any]
+CODES = tuple(code for code in range(1, 32) if not 6 <= code <= 9)
+STANDARD = "https://docs.oasis-open.org/sarif/sarif/v2.1.0/errata01/os"
+SCHEMA = f"{STANDARD}/schemas/sarif-schema-2.1.0.json"
 
 
 def object_of(kind: str, members: Object) -> Object:
     return {"kind": kind, "version": VERSION, **members}
 
 
-def exact(number: "Decimal") -> int | float | str:
+def exact(number: Decimal) -> int | float | str:
     """Returns a JSON number if each reader gets the exact value from it. Else returns its text."""
     from decimal import Decimal  # only `info` needs it, and it takes long to load
 
@@ -111,7 +122,7 @@ def result_object(
     return object_of("result", members)
 
 
-def reasons_object(codes: "Counter[int]") -> Object:
+def reasons_object(codes: Counter[int]) -> Object:
     """Returns the object that counts how often each reason occurred."""
     return object_of(
         "reasons",
@@ -125,7 +136,7 @@ def reasons_object(codes: "Counter[int]") -> Object:
 
 
 def record_object(
-    result: Result, request: Request, program: str, invalid: "Reports", state: Object
+    result: Result, request: Request, program: str, invalid: Reports, state: Object
 ) -> Object:
     """Returns a line of a record: the state of a file, its result, and its invalid lines."""
     first = invalid.first
@@ -144,3 +155,88 @@ def record_object(
             "codes": {str(code): invalid.codes[code] for code in sorted(invalid.codes)},
         },
     )
+
+
+def _message(report: Report) -> str:
+    """Returns the message for an invalid line: the reason, the feature, and how to fix it."""
+    feature = "" if report.id is None else f", in feature {quoted(report.id)}"
+    met = "" if report.met is None else f" ({shown(report.met)})"
+    return f"{report.text}{met} at byte {report.byte}{feature}. {explain(report.code).fix}"
+
+
+def _rule(code: int) -> Object:
+    reason = explain(code)
+    return {
+        "id": str(code),
+        "shortDescription": {"text": reason.text},
+        "fullDescription": {"text": reason.meaning},
+        "help": {"text": reason.fix},
+    }
+
+
+def _location(file: str) -> Object:
+    return {"artifactLocation": {"uri": quote(os.fsencode(file))}}
+
+
+def _result(report: Report) -> Object:
+    region = {"startLine": report.line, "snippet": {"text": report.excerpt}}
+    return {
+        "ruleId": str(report.code),
+        "level": "error",
+        "message": {"text": _message(report)},
+        "locations": [{"physicalLocation": {**_location(report.file), "region": region}}],
+        "properties": {"byte": report.byte},
+    }
+
+
+def _notification(level: str, text: str, file: str) -> Object:
+    """Returns what a tool tells about its run, and not about a line."""
+    return {
+        "level": level,
+        "message": {"text": text},
+        "locations": [{"physicalLocation": _location(file)}],
+    }
+
+
+class SarifPrinter(Printer):
+    """Prints one SARIF log to standard output, piece by piece. It keeps no report in memory."""
+
+    def __init__(self, request: Check, bar: Bar) -> None:
+        super().__init__(request, bar)
+        if request.json or request.summary or request.quiet or request.resume:
+            raise RequestError(
+                "--format prints all: leave --json, --summary, --quiet and --resume out"
+            )
+        self._notifications: list[Object] = []
+        self._is_successful = True
+        rules = json.dumps(list(map(_rule, CODES)))
+        put(
+            f'{{"$schema":"{SCHEMA}","version":"2.1.0","runs":[{{'
+            f'"tool":{{"driver":{{"name":"cityseq","version":"{__version__}","rules":{rules}}}}},'
+            '"results":['
+        )
+        self._comma = ""
+
+    def _is_cut_on(self, output: Any) -> bool:
+        return False
+
+    def print_report(self, report: Report) -> None:
+        put(f"{self._comma}{json.dumps(_result(report))}")
+        self._comma = ","
+
+    def print_more(self, file: str, count: int) -> None:
+        text = f"{file}: {self._count} lines are invalid, and --max-reports left out {count}"
+        self._notifications.append(_notification("warning", text, file))
+
+    def print_result(self, result: Result, extra: Callable[[], Object]) -> None:
+        if result.fault is not None:
+            file = result.fault_file or result.file
+            self._is_successful = False
+            self._notifications.append(_notification("error", f"{file}: {result.fault}", file))
+
+    def close(self) -> None:
+        """Ends the log. It says whether all files were judged, and which reports are missing."""
+        run: Object = {"executionSuccessful": self._is_successful}
+        if self._notifications:
+            run["toolExecutionNotifications"] = self._notifications
+        put(f'],"invocations":[{json.dumps(run)}]}}]}}')

@@ -1,0 +1,158 @@
+"""What only `filter` has: where its outputs go, what they may not replace, and ids that matched
+nothing."""
+from __future__ import annotations
+
+import json
+import os
+import re
+from collections.abc import Iterable, Sequence
+from typing import Any
+
+from ..engine.faults import RequestError, quoted, shown, write_fault
+from ..engine.reports import USUAL_BEGIN, find_id
+from ..sources.outputs import refuse_same, refuse_standard
+from ..sources.packed import Text
+from .output import put, say
+from .requests import Filter
+
+SHOWN = 5  # ids that are shown
+MOST = 100_000  # ids that are looked for in kept lines
+_BEGIN = re.compile(USUAL_BEGIN)
+
+
+def _name_in(folder: str, file: str, keeps_folders: bool) -> str:
+    """Returns the output of a file in a folder.
+
+    Raises:
+        RequestError: Its name has `..` where the folders of its name are kept.
+    """
+    if not keeps_folders:
+        return os.path.join(folder, os.path.basename(file))
+    names = [name for name in file.split(os.sep) if name not in ("", ".")]
+    if os.pardir in names:
+        raise RequestError(f"--keep-folders cannot keep '..': run it in another folder: {file}")
+    return os.path.join(folder, *names)
+
+
+def targets_in(request: Filter, files: Sequence[str]) -> list[str]:
+    """Returns the output of each file in the folder of `--output-dir`.
+
+    Raises:
+        RequestError: Two files have the same output, or one is standard input.
+    """
+    if request.output != "-":
+        raise RequestError("with --output-dir there is no --output: each FILE has its own")
+    if "-" in files:
+        raise RequestError("with --output-dir each FILE has a name: standard input has none")
+    if not request.output_dir:
+        raise RequestError("the name of the folder of --output-dir is empty")
+    folder = request.output_dir
+    targets: dict[str, str] = {}
+    for file in files:
+        target = os.path.realpath(_name_in(folder, file, request.keep_folders))
+        if target in targets:
+            tip = "" if request.keep_folders else ": --keep-folders keeps their folders"
+            raise RequestError(f"{targets[target]} and {file} have the same output{tip}")
+        targets[target] = file
+    return [_name_in(folder, file, request.keep_folders) for file in files]
+
+
+def targets_of(request: Filter, files: Sequence[str]) -> list[str]:
+    """Returns the output of each file.
+
+    Raises:
+        RequestError: Several files have one output, or two have the same.
+    """
+    if request.output_dir is not None:
+        return targets_in(request, files)
+    if request.keep_folders:
+        raise RequestError("--keep-folders is for --output-dir")
+    if len(files) > 1:
+        raise RequestError("each FILE has its own header: name a folder by --output-dir")
+    return [request.output] * len(files)
+
+
+def make_folder(path: str) -> None:
+    """Makes a folder and those above it.
+
+    Raises:
+        WriteFault: It cannot be made.
+    """
+    try:
+        os.makedirs(path, exist_ok=True)
+    except OSError as fault:
+        raise write_fault(fault, path) from fault
+
+
+def refuse_read(read: Iterable[str | None], outputs: Iterable[str | None]) -> None:
+    """Refuses to write to a file that is read, also by standard output or standard error.
+
+    Raises:
+        RequestError: An output is read.
+    """
+    named = [path for path in read if path is not None]
+    refuse_standard(named)
+    refuse_same(named, [output for output in outputs if output is not None])
+
+
+def ids_in(text: Text) -> set[bytes]:
+    """Returns the ids of the features in some whole lines. A header is no feature."""
+    lines, found, begin = bytes(text), set(), 0
+    while begin < len(lines):
+        end = lines.find(b"\n", begin)
+        end = len(lines) if end < 0 else end
+        usual = _BEGIN.match(lines, begin, end)
+        spelled = None if usual is None else usual.group(1)
+        if spelled is not None and b"\\" not in spelled:
+            found.add(spelled[1:-1])
+        else:
+            name = find_id(lines[begin:end])
+            if name is not None:
+                found.add(name.encode("utf-8", "surrogatepass"))
+        begin = end + 1
+    return found
+
+
+class UnmatchedIds:
+    """Finds which ids of a query matched no feature. Of very many ids it finds only whether none
+    matched, because to read the ids of all kept lines takes long."""
+
+    def __init__(self, path: str, ids: list[str] | bytes) -> None:
+        """Takes the name of the list, and the ids of the query. Bytes have one id on each line."""
+        self._path, self._ids = path, ids
+        self._found: set[bytes] = set()
+        lines = ids.count(b"\n") + 1 if isinstance(ids, bytes) else len(ids)
+        self._count = lines if ids else 0
+        self.is_exact = self._count <= MOST
+
+    def see(self, text: Text) -> None:
+        """Takes kept lines. Any thread may call it."""
+        if self.is_exact:
+            self._found |= ids_in(text)
+
+    def _missing(self) -> list[str]:
+        ids = self._ids.split(b"\n") if isinstance(self._ids, bytes) else map(str.encode, self._ids)
+        return [each.decode("utf-8") for each in dict.fromkeys(ids) if each not in self._found]
+
+    def print(self, request: Filter, features: int) -> None:
+        """Prints how many ids matched no feature, and the first of them, if there are any.
+        `features` is the number of all kept features."""
+        if not self.is_exact and features:
+            return
+        missing = self._missing() if self._count else []
+        if request.json:
+            text = json.dumps(self._object(missing))
+            if request.writes_to_standard_output:
+                say(text)
+            else:
+                put(text)
+        elif missing:
+            ids = ", ".join(map(quoted, missing[:SHOWN])) + (", .." if missing[SHOWN:] else "")
+            count = f"{len(missing):,} {'id' if len(missing) == 1 else 'ids'}"
+            say(f"{shown(self._path)}: {count} matched no feature: {ids}")
+
+    def _object(self, missing: list[str]) -> dict[str, Any]:
+        from .json_output import object_of  # text does not need it
+
+        members = {"ids_from": self._path, "unmatched": len(missing), "first": missing[:SHOWN]}
+        return object_of("ids", members)

@@ -1,1 +1,0 @@
-"""Coordinates of streams on earth: boxes, reference systems, and longitude and latitude."""
