@@ -6,13 +6,12 @@ from collections.abc import Callable, Iterable, Iterator
 from dataclasses import replace
 from typing import TYPE_CHECKING, Any, Union
 
-from .convert import stream_of
 from .engine import USUAL_DEPTH, USUAL_LINE
 from .engine.judge import Box, Limits, Options, Query, Texts, Work, work_of
 from .engine.reports import Report
 from .run import Info, Result, one_options, one_query, watched
 from .run.streams import Stream, results
-from .sources import Source
+from .sources import Source, stream_of
 from .sources.outputs import Limit, Target, Writer, refuse_same
 
 if TYPE_CHECKING:

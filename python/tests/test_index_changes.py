@@ -109,6 +109,26 @@ class Streams(InFolder):
             with self.assertRaisesRegex(cityseq.ReadFault, "changed while it was read"):
                 list(features)
 
+    def test_an_index_in_use_while_its_pool_closes(self):
+        """It can be used until the call ends, and is closed then. The others are closed at once."""
+        from cityseq.indexes.index_pages import Pool
+
+        cityseq.index(self.file(self.text), self.index)
+        pool = Pool(str(self.index), None)
+        with pool.index() as used:
+            with pool.index() as free:
+                self.assertIsNot(used, free)
+            pool.close()
+            with self.assertRaisesRegex(cityseq.ReadFault, "closed database"):
+                list(free.repeated_ids())
+            self.assertEqual(list(used.repeated_ids()), [])
+        with self.assertRaisesRegex(cityseq.ReadFault, "closed database"):
+            list(used.repeated_ids())
+        with pool.index() as later:
+            self.assertEqual(list(later.repeated_ids()), [])
+        with self.assertRaisesRegex(cityseq.ReadFault, "closed database"):
+            list(later.repeated_ids())
+
     @unittest.skipIf(importlib.util.find_spec("aiohttp") is None, "aiohttp is not there")
     def test_a_change_while_a_server_answers(self):
         from cityseq.indexes.index_pages import Page

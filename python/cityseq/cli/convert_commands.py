@@ -4,7 +4,7 @@ from __future__ import annotations
 from ..convert.collecting import collect
 from ..convert.splitting import split
 from ..engine.faults import RequestError, shown
-from .filter_outputs import refuse_read
+from ..sources.outputs import refuse_read
 from .output import put, say
 from .requests import CollectStreams, SplitFile
 from .stream_commands import files_of

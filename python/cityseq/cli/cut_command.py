@@ -17,9 +17,9 @@ from ..indexes.line_reader import IndexedStream
 from ..indexes.lookup import Index
 from ..run import Result
 from ..sources import size_of
-from ..sources.outputs import Limit, Writer
+from ..sources.outputs import Limit, Writer, refuse_read
 from ..sources.packed import LEVEL
-from .filter_outputs import make_folder, refuse_read, targets_of
+from .filter_outputs import make_folder, targets_of
 from .json_output import result_object
 from .output import Bar, printer_for, say
 from .requests import RULES, Filter

@@ -5,12 +5,11 @@ from __future__ import annotations
 import json
 import os
 import re
-from collections.abc import Iterable, Sequence
+from collections.abc import Sequence
 from typing import Any
 
 from ..engine.faults import RequestError, quoted, shown, write_fault
 from ..engine.reports import USUAL_BEGIN, find_id
-from ..sources.outputs import refuse_same, refuse_standard
 from ..sources.packed import Text
 from .output import put, say
 from .requests import Filter
@@ -82,17 +81,6 @@ def make_folder(path: str) -> None:
         os.makedirs(path, exist_ok=True)
     except OSError as fault:
         raise write_fault(fault, path) from fault
-
-
-def refuse_read(read: Iterable[str | None], outputs: Iterable[str | None]) -> None:
-    """Refuses to write to a file that is read, also by standard output or standard error.
-
-    Raises:
-        RequestError: An output is read.
-    """
-    named = [path for path in read if path is not None]
-    refuse_standard(named)
-    refuse_same(named, [output for output in outputs if output is not None])
 
 
 def ids_in(text: Text) -> set[bytes]:

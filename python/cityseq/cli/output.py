@@ -13,15 +13,17 @@ from collections.abc import Callable, Iterator
 from contextlib import suppress
 from dataclasses import dataclass, field
 from importlib import import_module
-from typing import Any, TextIO
+from typing import TYPE_CHECKING, Any, TextIO
 
 from ..engine.faults import fitting, quoted, shown, write_fault
-from ..engine.reports import Report, explain
 from ..run import Info, Result
 from ..sources.outputs import write_all
 from .requests import Check, Filter
 from .requests import Info as InfoRequest
 from .requests import WriteIndex
+
+if TYPE_CHECKING:
+    from ..engine.reports import Report
 
 Object = dict[str, Any]
 PrintRequest = Check | Filter | InfoRequest | WriteIndex
@@ -363,7 +365,7 @@ class TextPrinter(Printer):
             yield f"    {' ' * report.column}{self._painted(GREEN, '^')}"
         if report.met is not None:
             yield f"    Hint: {report.met}."
-        yield f"    Fix: {explain(report.code).fix.split('. ')[0].rstrip('.')}."
+        yield f"    Fix: {report.explanation.fix.split('. ')[0].rstrip('.')}."
 
     def print_more(self, file: str, count: int) -> None:
         lines = "line is" if count == 1 else "lines are"
@@ -398,6 +400,8 @@ class TextPrinter(Printer):
         self._put([self._of(file) + shown(line)])
 
     def print_summary(self, codes: Counter[int]) -> None:
+        from ..engine.reports import explain  # few runs need it
+
         for code in sorted(codes):
             self._say(f"{codes[code]:7} {code} {explain(code).text}")
 

@@ -11,21 +11,19 @@ from functools import cached_property, partial
 from typing import TYPE_CHECKING, Any, Protocol
 
 from .. import __version__
-from ..convert import stream_of
 from ..engine import keep_room
 from ..engine.faults import RequestError
 from ..engine.judge import Work, asked
-from ..engine.reports import Report, explain
 from ..run import Result
 from ..run.streams import Results, Stream, results
-from ..sources import is_path, size_of
-from ..sources.outputs import Limit, Writer
+from ..sources import is_path, size_of, stream_of
+from ..sources.outputs import Limit, Writer, refuse_read
 from ..sources.packed import LEVEL
-from .filter_outputs import make_folder, refuse_read, targets_of
 from .output import Bar, Reports, is_terminal, printer_for, put, say
 from .requests import Check, Explain, Filter, Info
 
 if TYPE_CHECKING:
+    from ..engine.reports import Report
     from .filter_outputs import UnmatchedIds
 
 
@@ -299,6 +297,8 @@ def _writers(request: Request, files: Sequence[str], see: Any) -> list[Writer | 
     """Returns the writer of each file's output. Only `filter` has outputs."""
     if not isinstance(request, Filter):
         return [None] * len(files)
+    from .filter_outputs import targets_of  # `check` and `info` do without
+
     writers: list[Writer | None] = []
     limit = Limit.of(request.limit)
     for output in targets_of(request, files):
@@ -311,6 +311,8 @@ def _writers(request: Request, files: Sequence[str], see: Any) -> list[Writer | 
 def _make_folders(request: Filter, outputs: Sequence[str]) -> None:
     """Makes the folder of `--output-dir`, and those of the outputs in it."""
     if request.output_dir is not None:
+        from .filter_outputs import make_folder  # few runs need it
+
         folders = [os.path.dirname(output) for output in outputs]
         for folder in dict.fromkeys([request.output_dir, *folders]):
             make_folder(folder)
@@ -323,8 +325,11 @@ def _checked_outputs(request: Request, files: Sequence[str]) -> list[str]:
     Raises:
         RequestError: Some do not fit.
     """
-    outputs = targets_of(request, files) if isinstance(request, Filter) else []
-    ids_from = request.ids_from if isinstance(request, Filter) else None
+    outputs, ids_from = [], None
+    if isinstance(request, Filter):
+        from .filter_outputs import targets_of  # `check` and `info` do without
+
+        outputs, ids_from = targets_of(request, files), request.ids_from
     refuse_read([*files, ids_from, request.files_from], [*outputs, request.record])
     if isinstance(request, (Check, Filter)) and (request.resume or request.record is not None):
         if isinstance(request, Filter) and request.limit is not None:
@@ -417,6 +422,8 @@ def run(request: Request) -> int:
 
 def explain_code(request: Explain) -> int:
     """Prints what a code means, and returns the status."""
+    from ..engine.reports import explain  # no run needs it
+
     try:
         (code,) = map(int, request.files)
         reason = explain(code)

@@ -12,7 +12,6 @@ from functools import partial
 from itertools import chain, groupby
 from typing import TYPE_CHECKING, Any
 
-from ..convert import stream_of
 from ..engine import LOD_CLASSES, Text, library
 from ..engine.judge import Answer, Work, judge, refused_memory
 from ..engine.records import IdsOf, Range, Records, spelled_ids
@@ -22,6 +21,7 @@ from ..indexes.geopackage import system_of
 from ..indexes.vectors import AXES, RECORD
 from ..run import Result
 from ..run.streams import Stream
+from ..sources import stream_of
 from ..sources.chunks import TAIL, Chunk
 from . import needed
 from .areas import Place

@@ -26,14 +26,13 @@ from . import (
     library,
 )
 from .faults import CityseqError, RequestError, read_fault
-from .ids import are_read, ids_for, in_order, part_size_for
-from .reports import Described, Invalid, Report, report_of_end
 
 if TYPE_CHECKING:
     from decimal import Decimal
 
     from ..sources.chunks import Chunk
     from .records import IdsOf, Records, Tally
+    from .reports import Described, Invalid, Report
 
 
 UNKNOWN_TYPE = 5  # the fault of a request for a type that does not exist
@@ -124,6 +123,15 @@ def _asked_lines(texts: Texts | bytes | None, what: str) -> bytes | None:
         raise RequestError(f"{FAULTS[4]}, among {what}") from fault
 
 
+def _ids_of(query: Query) -> bytes | None:
+    """Returns the ids of a query in UTF-8, one a line."""
+    if query.ids is None:
+        return None
+    from .ids import in_order  # few runs have ids
+
+    return in_order(_asked_lines(query.ids, "ids") or b"")
+
+
 def _box_of(box: Box | None) -> bytes | None:
     """Returns a box as the library takes it: minx,miny,maxx,maxy."""
     if box is None:
@@ -159,13 +167,21 @@ class Work:
     @property
     def reads_ids(self) -> bool:
         """Whether Python reads the ids of the lines, to find those of the query."""
-        return self.ids is not None and are_read(self.ids)
+        if self.ids is None:
+            return False
+        from .ids import are_read  # few runs have ids
+
+        return are_read(self.ids)
 
     def request(self, header: bytes, part: Text) -> RawRequest:
         """Returns the request for a header and a part. The line limit is lowered to less than twice
         the length of the longer one, so that the library reserves less memory."""
         longest = max(len(header), len(part), LINE_LIMITS[0])
-        ids = None if self.ids is None else ids_for(self.ids, part)
+        ids = self.ids
+        if ids is not None:
+            from .ids import ids_for  # few runs have ids
+
+            ids = ids_for(ids, part)
         return _request(self, ids, min(self.line_limit, 1 << (longest - 1).bit_length()))
 
 
@@ -220,7 +236,7 @@ def work_of(kind: str, options: Options, query: Query = Query(), exact_lods: boo
         bool(options.keep_going),
         bool(options.tree),
         bool(query.exclude),
-        None if query.ids is None else in_order(_asked_lines(query.ids, "ids") or b""),
+        _ids_of(query),
         _asked_lines(query.types, "types"),
         _asked_lines(query.lods, "LoDs"),
         _box_of(query.box),
@@ -348,6 +364,8 @@ class Answer:
 
     def sent(self) -> Answer:
         """Returns the same answer for another process. It has reports, and not their lines."""
+        from .reports import Described  # only clusters need it
+
         invalid: list[Invalid | Described] = [Described(list(each)) for each in self.invalid]
         return replace(self, invalid=invalid, output=[bytes(text) for text in self.output])
 
@@ -365,7 +383,11 @@ def part_size(work: Work, usual: int, header: bytes, given: int | None = None) -
     """Returns how many bytes are judged at once, unless the caller of the package says it. The
     header is judged again with each part, and the ids of a query are prepared again. So parts are
     longer if the header is long, or the ids are many."""
-    for_ids = 0 if work.ids is None else part_size_for(work.ids)
+    for_ids = 0
+    if work.ids is not None:
+        from .ids import part_size_for  # few runs have ids
+
+        for_ids = part_size_for(work.ids)
     return given or max(usual, HEADERS * len(header), for_ids)
 
 
@@ -425,6 +447,8 @@ def judge_lines(
         count_lods(answer.tally, work, header, part)
     is_ended = answer.status == CallStatus.REFUSED
     if reports or is_ended:
+        from .reports import Invalid, report_of_end  # valid streams do without
+
         text = held(part)
         if is_ended:
             answer.end = report_of_end(answer.told, header, text, file)

@@ -10,7 +10,6 @@ from dataclasses import replace
 from functools import partial
 from typing import Any, Protocol
 
-from ..convert import refuse_whole
 from ..engine.faults import (
     CityseqError,
     MemoryFault,
@@ -24,7 +23,7 @@ from ..engine.judge import Answer, Work
 from ..engine.reports import Report
 from ..run import Result, usual_jobs
 from ..run.streams import Job, Judge, Pool, Results, Stream, results
-from ..sources import CHANGED, State, is_packed, is_path, is_url
+from ..sources import CHANGED, State, is_packed, is_path, is_url, refuse_whole
 from ..sources.chunks import Chunks
 from ..sources.hashes import Digest, HashedFile, digest_of
 from ..sources.outputs import refuse_same

@@ -38,7 +38,6 @@ from ..engine.faults import (
     WriteFault,
 )
 from ..engine.judge import Answer, Options, Query, Work
-from ..engine.reports import Report
 from ..sources import CHANGED, size_of
 from ..sources.outputs import Writer
 
@@ -46,10 +45,11 @@ if TYPE_CHECKING:
     from decimal import Decimal
 
     from ..engine.records import Range, Tally
+    from ..engine.reports import Report
     from ..engine.world import Extent
 
 
-Tell = Callable[[Report], None]
+Tell = Callable[["Report"], None]
 Progress = Callable[[int], None]
 Take = Callable[[Answer, int], None]  # gets an answer, and how many lines came after the header
 

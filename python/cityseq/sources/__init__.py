@@ -34,6 +34,7 @@ if TYPE_CHECKING:
 Source = Union[str, "os.PathLike[Any]", "Buffer", IO[bytes]]
 
 State = tuple[int, int]  # of a file
+ENDINGS = (".city.json", ".city.json.gz")  # of the names of whole CityJSON files
 CHANGED = "changed while it was read"
 PIECE = 1 << 20  # the most bytes of one read
 IDLE = 50  # milliseconds to wait for more bytes before those that are there are judged
@@ -431,3 +432,29 @@ def regular_file(file: Any, kind: type[RegularFile] = RegularFile) -> RegularFil
     except OSError:
         pass
     return None
+
+
+def is_whole(source: Any, whole: bool | None = None) -> bool:
+    """Whether a source is a whole file. If that is not said, the end of its name says it."""
+    if whole is None:
+        return is_path(source) and os.fsdecode(source).endswith(ENDINGS)
+    return whole
+
+
+def stream_of(source: Source, whole: bool | None) -> Any:
+    """Returns the stream of a source: that of a whole file, or the source itself."""
+    if not is_whole(source, whole):
+        return source
+    from ..convert.splitting import WholeFile  # few runs need it
+
+    return WholeFile(source)
+
+
+def refuse_whole(paths: list[str]) -> None:
+    """Raises `RequestError` if one of the paths has the name of a whole file."""
+    for path in paths:
+        if is_whole(path):
+            raise RequestError(
+                f"{path}: by its name it is a whole CityJSON file: make a stream of it, as by"
+                " cityseq-run split"
+            )

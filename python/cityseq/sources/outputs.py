@@ -482,3 +482,14 @@ def refuse_standard(sources: Iterable[Any]) -> None:
         sys.stderr = None  # type: ignore[assignment]
         raise RequestError("standard error is a file that is read")
     refuse_same(sources, ["-"])
+
+
+def refuse_read(read: Iterable[str | None], outputs: Iterable[str | None]) -> None:
+    """Refuses to write to a file that is read, also by standard output or standard error.
+
+    Raises:
+        RequestError: An output is read.
+    """
+    named = [path for path in read if path is not None]
+    refuse_standard(named)
+    refuse_same(named, [output for output in outputs if output is not None])
