@@ -24,6 +24,8 @@ from .clusters import WithCluster, distributed
 from .support import HEADER, InFolder, feature, ran
 
 if distributed is not None:
+    import dask
+
     import cityseq.dask
     from cityseq.cluster import folders, jobs, tasks
 
@@ -485,7 +487,7 @@ class Many(WithCluster):
             with self.subTest(words[0]):
                 there = ran(*words, "--cluster", self.cluster.scheduler_address)
                 self.assertEqual(there, ran(*words))
-        with mock.patch.object(jobs, "CONNECT", 1.0):
+        with dask.config.set({"distributed.comm.timeouts.connect": "1s"}):
             out, said, status = ran("check", source, "--cluster", "tcp://127.0.0.1:9")
         self.assertEqual((out, said.count("\n"), status), (b"", 1, 2))
         self.assertIn("there is no scheduler of Dask at tcp://127.0.0.1:9", said)

@@ -65,6 +65,7 @@ class Followed(InFolder):
             "PYTHONPATH": os.path.join(ROOT, "python"),
             "CITYSEQ": ROOT,
             "DASK_DISTRIBUTED__DASHBOARD__LINK": "",
+            "DASK_DISTRIBUTED__COMM__TIMEOUTS__CONNECT": "120s",  # on a machine with other work
         }
         self.port = str(free_port())
 

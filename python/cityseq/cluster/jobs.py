@@ -26,7 +26,6 @@ BATCH, MOST = 1 << 20, 64  # bytes of short parts that are one task, and how man
 HELD = 256 << 20  # bytes of the parts whose output or records wait
 RETRIES = 3  # of a task that fails
 INLINE = 1 << 16  # bytes of a request that are sent with each task; more are sent to a worker once
-CONNECT = 10.0  # seconds to find a scheduler
 LOOK, PATIENCE = 1.0, 5.0  # seconds between two looks at the threads, and before it says it waits
 _guarded = guard()
 _log = logging.getLogger("cityseq.dask")
@@ -55,7 +54,8 @@ def _quiet() -> None:
 
 @contextmanager
 def connected(address: str) -> Iterator[Any]:
-    """Gives a client of the scheduler at an address. Nothing but this package writes messages then.
+    """Gives a client of the scheduler at an address. The settings of Dask say how long it is looked
+    for. Nothing but this package writes messages then.
 
     Raises:
         CityseqError: There is no scheduler.
@@ -63,7 +63,7 @@ def connected(address: str) -> Iterator[Any]:
     distributed = _module("distributed")
     _quiet()
     try:
-        client = distributed.Client(address, timeout=CONNECT, set_as_default=False)
+        client = distributed.Client(address, set_as_default=False)
     except Exception as fault:
         raise Lost(f"there is no scheduler of Dask at {address}: {type(fault).__name__}") from fault
     try:
