@@ -127,8 +127,8 @@ def _ordered(pairs: list[tuple[str, Any]]) -> dict[str, Any]:
 
 
 _TOLD = json.JSONDecoder(
-    parse_float=_finite,  # type: ignore[arg-type]
-    parse_int=lambda text: int(text) if len(text) < READABLE else text,  # type: ignore[arg-type]
+    parse_float=_finite,
+    parse_int=lambda text: int(text) if len(text) < READABLE else text,
     object_pairs_hook=_ordered,
 )
 
@@ -240,7 +240,7 @@ def _some(texts: Sequence[bytes], names: tuple[str, ...]) -> Columns:
 # ---- the values of all names
 
 # floats are bytes at first, and whole numbers may be too long
-_FAST = json.JSONDecoder(parse_float=str.encode)  # type: ignore[arg-type]
+_FAST = json.JSONDecoder(parse_float=str.encode)
 
 
 def _read(texts: Sequence[bytes]) -> list[Any]:

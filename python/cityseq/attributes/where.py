@@ -200,9 +200,9 @@ class Translation:
                 edges = Comparison(name, ">=", low), Comparison(name, "<=", high)
                 parts = [self._sql(edge, is_so, depth) for edge in edges]
                 return f"({(' AND ' if is_so else ' OR ').join(parts)})"
-            case Comparison(name, operator, value):
-                operator = operator if is_so else OPPOSITE[operator]
-                return self._compared(self._column(name), operator, value)
+        name, operator, value = filter
+        operator = operator if is_so else OPPOSITE[operator]
+        return self._compared(self._column(name), operator, value)
 
     def _count(self, more: int) -> None:
         self._left -= more
@@ -281,4 +281,4 @@ def _told(value: Literal) -> str:
             return f"{shown(str(value)[:NAMED])} is a number"
         case Instant(kind, text):
             return f"{shown(text)} is a {kind}"
-    return f"{in_quotes(value)} is a text"
+    return f"{in_quotes(str(value))} is a text"

@@ -240,9 +240,9 @@ class Builder:
             self._add_footprints(numbers, details.footprints, geometry)
         others = (numbers, geometry, made.line, made.begin, made.length, names)
         with telling_of(self.name):
-            uniform = self._stored(uniform)
+            kept = self._stored(uniform)
             values = self._values(details.attributes, numbers)
-            last = (*uniform, *values) if self._are_last else (*values, *uniform)
+            last = (*kept, *values) if self._are_last else (*values, *kept)
             insert(self._base, "features", *others, *last)
         self._cells.add(made.cells)
         self._ids.add(candidates.id_rows(hashes, numbers))

@@ -177,7 +177,8 @@ class Database:
         Raises:
             RequestError: To find them takes too long, without the time that the caller takes.
         """
-        rows, left = None, float(SECONDS)
+        rows: Optional[sqlite3.Cursor] = None
+        left = float(SECONDS)
         while True:
             begin = monotonic()
             self._end = begin + left

@@ -167,7 +167,8 @@ class Index:
         """Returns the attributes of the index by their columns."""
         if ATTRIBUTES not in self._base.tables:
             return {}
-        columns, found = self._base.columns("features"), {}
+        columns = self._base.columns("features")
+        found: Dict[str, Attribute] = {}
         with self._base.reading():
             select = f"SELECT {', '.join(ATTRIBUTE_ROWS)} FROM {ATTRIBUTES} ORDER BY fid"
             for row in self._base.execute(select):
