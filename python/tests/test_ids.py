@@ -158,7 +158,7 @@ class Filters(support.InFolder):
         random.Random(1).shuffle(wanted)
         path = self.folder / "stream.city.jsonl"
         path.write_bytes(HEADER + b"".join(feature(f"b{number}") for number in range(count)))
-        with mock.patch("cityseq.engine.judge.ids_for", noted):
+        with mock.patch("cityseq.engine.ids.ids_for", noted):
             self.assertEqual(self.kept(path, ids=wanted, **options)[1], min(count, many))
         return [each for each in lengths if each[0]]
 
