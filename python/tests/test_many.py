@@ -20,8 +20,7 @@ from cityseq.indexes import builder
 from cityseq.indexes import bulk as arrays
 from cityseq.indexes import bulk as columns
 from cityseq.indexes import bulk as sorting
-from cityseq.indexes import candidates as id_table
-from cityseq.indexes import geopackage
+from cityseq.indexes import candidates, geopackage
 from cityseq.indexes.geopackage import UNIFORM, geometry_start
 
 from .support import HEADER, InFolder, feature
