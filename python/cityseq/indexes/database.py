@@ -177,7 +177,7 @@ class Database:
         Raises:
             RequestError: To find them takes too long, without the time that the caller takes.
         """
-        rows: Optional[sqlite3.Cursor] = None
+        rows: sqlite3.Cursor | None = None
         left = float(SECONDS)
         while True:
             begin = monotonic()

@@ -168,7 +168,7 @@ class Index:
         if ATTRIBUTES not in self._base.tables:
             return {}
         columns = self._base.columns("features")
-        found: Dict[str, Attribute] = {}
+        found: dict[str, Attribute] = {}
         with self._base.reading():
             select = f"SELECT {', '.join(ATTRIBUTE_ROWS)} FROM {ATTRIBUTES} ORDER BY fid"
             for row in self._base.execute(select):
