@@ -16,17 +16,13 @@ import cityseq
 from cityseq.engine.faults import WriteFault
 from cityseq.engine.records import RECORD, Records, id_of
 from cityseq.engine.world import Axis, World, ceiling_of, floor_of
-from cityseq.indexes import builder
-from cityseq.indexes import bulk as arrays
-from cityseq.indexes import bulk as columns
-from cityseq.indexes import bulk as sorting
-from cityseq.indexes import candidates, geopackage
+from cityseq.indexes import builder, bulk, candidates, geopackage
 from cityseq.indexes.geopackage import UNIFORM, geometry_start
 
 from .support import HEADER, InFolder, feature
 from .test_index import dump, query, with_id
 
-HAS_NUMPY = arrays.vectors_for(arrays.MANY) is not None
+HAS_NUMPY = bulk.vectors_for(bulk.MANY) is not None
 WITHOUT = "numpy is not there"
 
 
@@ -50,8 +46,8 @@ class Sorted(unittest.TestCase):
 
     def sorted(self, rows, width, many):
         """The rows, through blocks of 64 rows and pieces of 2. numpy sorts from so many on."""
-        small = mock.patch.multiple(sorting, BLOCK=64, MERGED=1, LEAST=2)
-        with small, mock.patch.object(arrays, "MANY", many), sorting.Sorter(width) as sorter:
+        small = mock.patch.multiple(bulk, BLOCK=64, MERGED=1, LEAST=2)
+        with small, mock.patch.object(bulk, "MANY", many), bulk.Sorter(width) as sorter:
             for begin in range(0, len(rows), 7):
                 sorter.add(b"".join(rows[begin : begin + 7]))
             self.assertEqual(sorter.count, len(rows))
@@ -66,9 +62,9 @@ class Sorted(unittest.TestCase):
         fault = OSError(28, "No space left on device")
         for broken in (
             mock.patch.object(tempfile, "TemporaryFile", side_effect=fault),
-            mock.patch.object(sorting.Sorter, "_write", side_effect=fault),
+            mock.patch.object(bulk.Sorter, "_write", side_effect=fault),
         ):
-            with broken, mock.patch.object(sorting, "BLOCK", 2), sorting.Sorter(8) as sorter:
+            with broken, mock.patch.object(bulk, "BLOCK", 2), bulk.Sorter(8) as sorter:
                 with self.assertRaises(WriteFault) as raised:
                     sorter.add(bytes(16))
             self.assertEqual(raised.exception.file, tempfile.gettempdir())
@@ -118,7 +114,7 @@ class Vectors(InFolder):
             )
             first = chance.randrange(1, 1 << 31)
             given = (records, 17, range(first, first + count), world, geometry_start(28992))
-            plain, fast = columns.columns_of(*given), vectors.columns_of(*given)
+            plain, fast = bulk.columns_of(*given), vectors.columns_of(*given)
             self.assertEqual(self.told(plain), self.told(fast))
 
     def test_rounding(self):
@@ -150,9 +146,7 @@ class Vectors(InFolder):
         for many in (1, 10**9):
             for block in (1 << 16, 100):
                 index = str(self.folder / f"{many}-{block}.gpkg")
-                with mock.patch.object(arrays, "MANY", many), mock.patch.object(
-                    sorting, "BLOCK", block
-                ):
+                with mock.patch.object(bulk, "MANY", many), mock.patch.object(bulk, "BLOCK", block):
                     cityseq.index(path, index)
                 dumps.append((dump(index), query(index, "SELECT * FROM feature_ids")))
         self.assertEqual(len(dumps[0][0][0]), 2_000)
