@@ -8,9 +8,12 @@ import unittest
 from .support import ROOT, InFolder
 
 try:
+    import dask
     import distributed
 except ImportError:
     distributed = None
+else:  # on a machine with other work, half a minute is too short
+    dask.config.set({"distributed.comm.timeouts.connect": "120s"})
 
 HOST = "127.0.0.1"
 # what each scheduler and worker is given, since the page of each is on all addresses otherwise
