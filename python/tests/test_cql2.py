@@ -691,9 +691,9 @@ class Searched(InFolder):
             if pack:
                 plain = self.folder / "plain.city.jsonl"
                 plain.write_bytes(HEADER + b"".join(lines))
-                archives.pack(str(plain), str(self.stream), 4) if hasattr(
-                    archives, "pack"
-                ) else None
+                self.stream.unlink()
+                _, said, status = command("pack", "--output", self.stream, plain)
+                self.assertEqual(status, 0, said)
                 cityseq.index(self.stream, self.index, attributes=["a", "t"])
             wanted = [n for n in range(30) if n % 3 == 1]
             self.assertEqual(self.ids("a = 1"), wanted)
