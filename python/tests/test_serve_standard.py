@@ -12,6 +12,7 @@ from .support import HEADER, command, feature
 CRS84 = "http://www.opengis.net/def/crs/OGC/1.3/CRS84"
 SWEDEN = "http://www.opengis.net/def/crs/EPSG/0/5845"  # SWEREF99 TM and RH2000: north, east, up
 IN_RD = "bbox=84700,447450,84800,447550"
+QUERYABLES = "http://www.opengis.net/def/rel/ogc/1.0/queryables"
 HAS_PYPROJ = find_spec("pyproj") is not None
 GETS = (
     "/",
@@ -107,7 +108,7 @@ class Links(Served):
         for path, wanted in (
             ("/", ["alternate", "conformance", "data", "self", "service-desc", "service-doc"]),
             ("/conformance", ["alternate", "self"]),
-            ("/collections/town", ["alternate", "items", "items", "items", "self"]),
+            ("/collections/town", ["alternate", QUERYABLES, "items", "items", "items", "self"]),
             (f"{items}?limit=1", ["alternate", "alternate", "collection", "next", "self"]),
             (items, ["alternate", "alternate", "collection", "self"]),
             (
@@ -507,17 +508,26 @@ class Coordinates(Served):
 class Conformance(Served):
     def test_all_classes(self):
         told = self.server.ask("/conformance").json()["conformsTo"]
-        first, second = (
-            f"http://www.opengis.net/spec/ogcapi-features-{part}/1.0/conf/" for part in (1, 2)
+        first, second, third = (
+            f"http://www.opengis.net/spec/ogcapi-features-{part}/1.0/conf/" for part in (1, 2, 3)
         )
+        language = "http://www.opengis.net/spec/cql2/1.0/conf/"
         wanted = [
             f"{first}core",
             f"{first}geojson",
             f"{first}html",
             f"{first}oas30",
             f"{second}crs",
+            f"{third}queryables",
+            f"{third}queryables-query-parameters",
         ]
-        self.assertEqual(told, wanted if HAS_PYPROJ else [])
+        if find_spec("lark") is not None:
+            wanted += [f"{third}features-filter", f"{third}filter"]
+            wanted += [
+                f"{language}{each}"
+                for each in ("advanced-comparison-operators", "basic-cql2", "cql2-text")
+            ]
+        self.assertEqual(told, sorted(wanted) if HAS_PYPROJ else [])
 
     def test_none_without_longitude_and_latitude(self):
         other = self.folder / "without"

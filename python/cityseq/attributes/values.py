@@ -279,12 +279,16 @@ def _are_usual(spelled: list[bytes]) -> bool:
     return not any(sign in text for sign in (b"e", b"E", b"0.0000", b"-0.0"))
 
 
+def _fraction(spelled: bytes) -> float | Spelled:
+    return fraction(spelled.decode("ascii"))
+
+
 def _numbers(values: list[Any]) -> list[Any]:
     """Returns the values of an attribute with its floats as numbers."""
     types = set(map(type, values))
     if bytes in types:
         usual = _are_usual([value for value in values if type(value) is bytes])
-        read: Any = float if usual else lambda spelled: fraction(spelled.decode("ascii"))
+        read: Callable[[bytes], Any] = float if usual else _fraction
         values = [read(value) if type(value) is bytes else value for value in values]
     whole_numbers = [value for value in values if type(value) is int] if int in types else [0]
     if max(whole_numbers) >= 1 << 63 or min(whole_numbers) < -(1 << 63):
@@ -300,7 +304,7 @@ def _transposed(objects: list[dict[str, Any]]) -> Columns:
     """Returns the values of objects by the names. If these are too many, some are left out."""
     names = list(objects[0])
     if len(names) <= MOST and all(list(each) == names for each in objects):
-        return dict(zip(names, map(list, zip(*map(dict.values, objects)))))
+        return dict(zip(names, map(list, zip(*(each.values() for each in objects)))))
     some = islice(dict.fromkeys(chain.from_iterable(objects)), MOST + 1)
     return {name: [each.get(name) for each in objects] for name in some}
 
