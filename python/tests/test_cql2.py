@@ -15,7 +15,6 @@ import cityseq
 from cityseq import RequestError
 from cityseq.attributes import cql2
 from cityseq.attributes.where import Pattern, bound, instant
-from cityseq.cli import pack_command as archives
 from cityseq.indexes import database
 
 from .support import HEADER, InFolder, command
