@@ -1,7 +1,11 @@
 -- The rule on a fixed number, and the maps of axes that it allows.
-use Rattle.std.proofs.Common.{◌≡◌, ℕ, List, [], ◌∷◌, ◌++◌, Bool, true, false, cond, map, length, Some, refl, ap, subst}
+use Rattle.std.proofs.Common.{◌≡◌, ℕ, List, [], ◌∷◌, ◌++◌, Bool, true, false, cond, map, length, take, Option, Some, refl, sym, ap, subst, ◌∙◌}
+use Rattle.std.specs.Result.{result_ok}
 use Rattle.std.specs.Prelude.{not, nat_eq, Result, Ok, Err}
 use Rattle.std.proofs.lemmas.Bool.{eqb-true}
+use Rattle.std.proofs.lemmas.List.{append-nil}
+use Rattle.std.specs.Option.{option_map_or}
+use Rattle.cj_spans.specs.declared.finding.Finding.{Finding}
 use Rattle.std.specs.List.{flat_map}
 use Rattle.cj_spans.specs.declared.reason.Reason.TheVariants.{NotThree, TransformNotFixed}
 use Rattle.cj_spans.specs.Meaning.Tree.{Tree}
@@ -15,18 +19,28 @@ use Rattle.cj_decimal.specs.declared.decimal.DecimalFault.{DecimalFault}
 use Rattle.cj_decimal.specs.Meaning.Decimal.{decimal_of}
 use Rattle.cj_decimal.proofs.Decimals.{decimal_is, decimal_has}
 use Rattle.cj_geometry.specs.Meaning.Rule.{one, needs, has_length, of_length}
-use Rattle.cj_geometry.specs.Meaning.Numbers.{spelling, number, value_if, value_of}
-use Rattle.cj_feature.specs.Meaning.Header.{fixed_findings, fixed, first_two, three_numbers}
-use Rattle.cj_feature.specs.Shown.{are_fixed}
+use Rattle.cj_geometry.specs.Meaning.Numbers.{spelling, number, value_of}
+use Rattle.cj_feature.specs.Meaning.Header.{fixed, three_numbers}
+use Rattle.cj_feature.specs.Shown.{are_fixed, first_two}
 use Rattle.cj_feature.proofs.None.{none-both, of_kind-none, by-member}
 use Rattle.cj_feature.proofs.Values.{is-number, same-spelling}
 
+-- ---- a rule for the first two
+
+pub first_two-take : (rule : Tree → List Finding) (ts : List Tree) → first_two rule ts ≡ flat_map rule (take 2 ts)
+first_two-take rule [] = refl
+first_two-take rule (x ∷ []) = sym (append-nil (rule x))
+first_two-take rule (x ∷ y ∷ ts) = ap (λ fs. rule x ++ fs) (sym (append-nil (rule y)))
+
 -- ---- what the rule finds of a number
 
-by-none : (t : Tree) (s : List ℕ) → (IsNumberInRange s → ⊥) → fixed_findings t (value_if (decimal_of s)) ≡ []
+abbrev fixed_findings : Tree → Option Number → List Finding
+fixed_findings t o = option_map_or (λ v. cond (is_fixed v) [] (one TransformNotFixed t)) o []
+
+by-none : (t : Tree) (s : List ℕ) → (IsNumberInRange s → ⊥) → fixed_findings t (result_ok (decimal_of s)) ≡ []
 by-none t s none = go (decimal_of s) refl
   where
-    go : (r : Result Number DecimalFault) → decimal_of s ≡ r → fixed_findings t (value_if r) ≡ []
+    go : (r : Result Number DecimalFault) → decimal_of s ≡ r → fixed_findings t (result_ok r) ≡ []
     go (Ok v) e = let has = decimal_has s v e in absurd (none (v, has.0, has.1))
     go (Err f) e = refl
 
@@ -37,7 +51,7 @@ module _ (line : List ℕ) (t : Tree) (kind : is_number (kind_of t) ≡ true) wh
   pub fixed-read : (u : Number) → IsValue (spelling_of line t) u → IsInRange u
       → fixed t ≡ cond (is_fixed u) [] (one TransformNotFixed t)
   fixed-read u is range =
-      rw kind (ap (λ r. fixed_findings t (value_if r)) (decimal_is (spelling t) u (rw spelled at is) range))
+      rw kind (ap (λ r. fixed_findings t (result_ok r)) (decimal_is (spelling t) u (rw spelled at is) range))
 
   pub fixed-unread : (IsNumberInRange (spelling_of line t) → ⊥) → fixed t ≡ []
   fixed-unread none = rw kind (by-none t (spelling t) (rw spelled at none))
@@ -95,6 +109,7 @@ module _ (name : List ℕ) (u : Tree) where
       → map value_of (items_if (member_of name u)) ≡ map Some ns → are_fixed ns ≡ true
   axes-fixed ns h e =
       let there = by-member (three_numbers true) u (member_of name u) h in
-      let both = none-both (of_length NotThree 3 number there.0) (first_two fixed (items_of there.0)) there.2 in
+      let both = none-both (of_length NotThree 3 number there.0) (flat_map fixed (take 2 (items_of there.0))) there.2 in
+      let two = first_two-take fixed (items_of there.0) ∙ both.1 in
       let values : map value_of (items_of there.0) ≡ map Some ns = rw there.1 at e in
-      three-values (items_of there.0) ns (length-three there.0 both.0) both.1 values
+      three-values (items_of there.0) ns (length-three there.0 both.0) two values

@@ -1,5 +1,6 @@
 -- Where the rules on city objects and vertices find nothing, types are known and vertices have three whole numbers.
 use Rattle.std.proofs.Common.{◌≡◌, ◌∙◌, sym, ap, ℕ, zero, suc, ◌<◌, ◌≤◌, drop, take, pos, List, [], ◌∷◌, ◌++◌, length, map, Bool, true, false, nat_eq, cond, Option, Some, None, ℤ, codes, refl, inl, inr, arith}
+use Rattle.std.specs.Result.{result_ok}
 use Rattle.std.specs.List.{flat_map, list_all}
 use Rattle.std.specs.Prelude.{IfSome, Result, Ok, Err, option_and_then}
 use Rattle.std.proofs.lemmas.List.{drop-map, drop_all}
@@ -18,7 +19,7 @@ use Rattle.cj_geometry.proofs.Lone.{whole-size}
 use Rattle.cj_geometry.specs.Meaning.ObjectTypes.{ObjectRow, row_of}
 use Rattle.cj_geometry.specs.Meaning.Geometry.{TemplateSource}
 use Rattle.cj_geometry.specs.Meaning.Rule.{one, needs, may_have, distinct, has_length, of_length}
-use Rattle.cj_geometry.specs.Meaning.Numbers.{spelling, value_findings, whole_findings, value_if, whole_of, whole_number}
+use Rattle.cj_geometry.specs.Meaning.Numbers.{spelling, value_findings, whole_findings, whole_of, whole_number}
 use Rattle.cj_feature.specs.Meaning.Feature.{known_type, object_type, geometries, texts, second_level, city_object}
 use Rattle.cj_feature.specs.Meaning.Feature.{city_objects, vertex_list}
 use Rattle.cj_feature.specs.inner.Typed.{is_row, is_typed, are_one, are_two, are_three, is_vertex, begins_whole}
@@ -61,7 +62,7 @@ all-typed vertices templates t h =
 
 by-value : (t : Tree) (r : Result Number DecimalFault)
     → value_findings (λ v. whole_findings (λ w. []) t (as_whole v)) t r ≡ []
-    → (w : ℤ) × (option_and_then as_whole (value_if r) ≡ Some w)
+    → (w : ℤ) × (option_and_then as_whole (result_ok r) ≡ Some w)
 by-value t (Ok v) h = go (as_whole v) refl h
   where
     go : (o : Option ℤ) → as_whole v ≡ o → whole_findings (λ w. []) t o ≡ [] → (w : ℤ) × (as_whole v ≡ Some w)

@@ -1,5 +1,6 @@
 -- The values of numbers that rules have read.
 use Rattle.std.proofs.Common.{◌≡◌, ℕ, List, [], true, Some, refl, ap, Bool, false, cond, Option, None, ℤ}
+use Rattle.std.specs.Result.{result_ok}
 use Rattle.std.specs.Prelude.{Result, Ok, Err, option_and_then}
 use Rattle.cj_spans.specs.declared.token.Kind.{Kind}
 use Rattle.cj_spans.specs.declared.token.Kind.TheVariants.{Null, Truth, Number as NumberKind, Text, Array, Object}
@@ -13,7 +14,7 @@ use Rattle.cj_decimal.specs.Meaning.Equality.{IsInRange, IsWhole}
 use Rattle.cj_decimal.specs.Meaning.Spelling.{IsValue, IsNumberInRange}
 use Rattle.cj_decimal.specs.Meaning.Decimal.{decimal_of}
 use Rattle.cj_decimal.proofs.Decimals.{decimal_is, decimal_has, is_whole}
-use Rattle.cj_geometry.specs.Meaning.Numbers.{spelling, value_findings, number, value_if, value_of, whole_of}
+use Rattle.cj_geometry.specs.Meaning.Numbers.{spelling, value_findings, number, value_of, whole_of}
 use Rattle.cj_feature.proofs.None.{of_kind-none}
 
 pub is-number : (k : Kind) → is_number k ≡ true → k ≡ NumberKind
@@ -48,11 +49,11 @@ module _ (line : List ℕ) (t : Tree) (none : number t ≡ []) where
 
   -- and its value is the one that is read
   pub read-value : (u : Number) → IsValue (spelling_of line t) u → IsInRange u → value_of t ≡ Some u
-  read-value u is range = rw parts.0 (ap value_if (decimal_is (spelling t) u (rw spelled at is) range))
+  read-value u is range = rw parts.0 (ap result_ok (decimal_is (spelling t) u (rw spelled at is) range))
 
 -- ---- the value of a number is that of its spelling
 
-read-there : (r : Result Number DecimalFault) (v : Number) → value_if r ≡ Some v → r ≡ Ok v
+read-there : (r : Result Number DecimalFault) (v : Number) → result_ok r ≡ Some v → r ≡ Ok v
 read-there (Ok u) v h = let same : u ≡ v = cc h in ap Ok same
 read-there (Err f) v h = absurd (cc h)
 
@@ -63,7 +64,7 @@ if-number false o x h = absurd (cc h)
 
 pub its-value : (t : Tree) (v : Number) → value_of t ≡ Some v → IsValue (spelling t) v
 its-value t v h =
-    let there = if-number (is_number (kind_of t)) (value_if (decimal_of (spelling t))) v h in
+    let there = if-number (is_number (kind_of t)) (result_ok (decimal_of (spelling t))) v h in
     (decimal_has (spelling t) v (read-there (decimal_of (spelling t)) v there)).0
 
 pub its-whole : (t : Tree) (w : ℤ) → whole_of t ≡ Some w → (v : Number) × IsValue (spelling t) v × IsWhole v w

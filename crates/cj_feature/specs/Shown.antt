@@ -1,7 +1,8 @@
 -- What a header shows of its tree.
-use Rattle.std.specs.Prelude.{◌≡◌, List, [], ◌∷◌, Bool, false, ◌&&◌, cond, map, Option, Some, None, is_some, codes}
+use Rattle.std.specs.Prelude.{◌≡◌, List, [], ◌∷◌, ◌++◌, Bool, false, ◌&&◌, cond, map, Option, Some, None, is_some, codes}
 use Rattle.std.specs.Option.{ForSome}
 use Rattle.std.specs.Str.{chars}
+use Rattle.cj_spans.specs.declared.finding.Finding.{Finding}
 use Rattle.cj_spans.specs.Meaning.Tree.{Tree}
 use Rattle.cj_decimal.specs.Meaning.Number.{Number, is_fixed}
 use Rattle.cj_geometry.specs.Given.{list_of}
@@ -18,6 +19,12 @@ abbrev pub are_fixed : List Number → Bool
 are_fixed [] = false
 are_fixed (x ∷ []) = false
 are_fixed (x ∷ y ∷ ns) = is_fixed x && is_fixed y
+
+-- a rule for the first two values
+abbrev pub first_two : (Tree → List Finding) → List Tree → List Finding
+first_two rule [] = []
+first_two rule (x ∷ []) = rule x
+first_two rule (x ∷ y ∷ ts) = rule x ++ rule y
 
 -- they are shown with a box alone
 abbrev pub maps_if : Bool → Tree → Option (List AffineMap)

@@ -1,5 +1,6 @@
 -- Items at the front of an array that hold nothing, and have no finding.
 use Rattle.std.proofs.Common.{◌≡◌, ℕ, zero, suc, ◌+◌, ◌<◌, ◌≤◌, List, [], ◌∷◌, ◌++◌, length, take, drop, Bool, true, false, not, nat_lt, Option, Some, None, pos, refl, sym, ap, subst, arith, ◌∙◌}
+use Rattle.std.specs.Result.{result_ok}
 use Rattle.std.specs.List.{flat_map}
 use Rattle.std.specs.Prelude.{ℤ, IfSome, IsSome, Result, Ok, Err, option_and_then}
 use Rattle.std.proofs.lemmas.List.{length-drop}
@@ -15,7 +16,7 @@ use Rattle.cj_decimal.specs.declared.decimal.DecimalFault.{DecimalFault}
 use Rattle.cj_decimal.specs.Meaning.Number.{Number, as_whole}
 use Rattle.cj_decimal.specs.Meaning.Decimal.{decimal_of}
 use Rattle.cj_geometry.specs.Meaning.Numbers.{spelling, index, is_outside, whole_of, whole_number, value_findings}
-use Rattle.cj_geometry.specs.Meaning.Numbers.{whole_findings, value_if}
+use Rattle.cj_geometry.specs.Meaning.Numbers.{whole_findings}
 use Rattle.cj_geometry.specs.Lone.{AreLone}
 use Rattle.cj_geometry.proofs.Numbers.{index-of-whole}
 
@@ -73,7 +74,7 @@ pub whole-there : (o : Option ℤ) (t : Tree) → IfSome o (λ w. whole_of t ≡
 whole-there None t is some = absurd (cc some)
 whole-there (Some w) t is some = (w, is)
 
-whole-by-none : (t : Tree) (r : Result Number DecimalFault) (w : ℤ) → option_and_then as_whole (value_if r) ≡ Some w
+whole-by-none : (t : Tree) (r : Result Number DecimalFault) (w : ℤ) → option_and_then as_whole (result_ok r) ≡ Some w
     → value_findings (λ v. whole_findings (λ w. []) t (as_whole v)) t r ≡ []
 whole-by-none t (Ok v) w e = ap (whole_findings (λ w. []) t) e
 whole-by-none t (Err f) w e = absurd (cc e)

@@ -1,5 +1,6 @@
 -- What reading a number says of its findings.
 use Rattle.std.proofs.Common.{◌≡◌, ℕ, ◌<◌, ◌^◌, List, [], Bool, true, false, cond, Option, Some, None, Result, Ok, Err, ℤ, to_z, of_z, w64, refl, sym, ap, subst, ◌∙◌, arith, ◌∷◌, ◌≤◌, get_or, inl, inr}
+use Rattle.std.specs.Result.{result_ok}
 use Rattle.std.specs.Prelude.{unsigned_abs, pos, negsuc, ◌*ℤ◌, nat_lt, unwrap_or, option_and_then, IfSome, IsSome, slice_range}
 use Rattle.std.proofs.lemmas.Bool.Decides.{nat_tests}
 use Rattle.std.proofs.lemmas.Int.{to_z-of_z, fits_signed_from_abs}
@@ -30,7 +31,7 @@ use Rattle.cj_spans.specs.Meaning.Spelling as scanned
 use Rattle.cj_geometry.proofs.Grammars.{read_number}
 use Rattle.cj_geometry.specs.Meaning.Rule.{one}
 use Rattle.cj_geometry.specs.Meaning.Numbers.{spelling, is_outside, fault_reason, value_findings, whole_findings, number}
-use Rattle.cj_geometry.specs.Meaning.Numbers.{index, value_if, whole_of}
+use Rattle.cj_geometry.specs.Meaning.Numbers.{index, whole_of}
 
 in-range : (s : List ℕ) (t : Tree) → IsNumberInRange s → value_findings (λ v. []) t (decimal_of s) ≡ []
 in-range s t o = ap (value_findings (λ v. []) t) (decimal_is s o.0 o.1 o.2)
@@ -81,11 +82,11 @@ abbrev pub whole-if : Result (Option ℤ) DecimalFault → Option ℤ
 whole-if (Ok o) = o
 whole-if (Err e) = None
 
-whole-class : {s : List ℕ} (c : Class s) → option_and_then as_whole (value_if (decimal_of s))
+whole-class : {s : List ℕ} (c : Class s) → option_and_then as_whole (result_ok (decimal_of s))
     ≡ whole-if (whole_answer c)
 whole-class {s} c = by_value (decimal_of s) ∙ ap whole-if (whole_class s c)
   where
-    by_value : (r : Result DecimalNumber DecimalFault) → option_and_then as_whole (value_if r)
+    by_value : (r : Result DecimalNumber DecimalFault) → option_and_then as_whole (result_ok r)
         ≡ whole-if (whole_answer_by r)
     by_value (Ok v) = refl
     by_value (Err e) = refl
@@ -95,7 +96,7 @@ pub whole-fits : (w : ℤ) → unsigned_abs w < 10 ^ 18 → to_z w64 (of_z w64 w
 whole-fits w small = to_z-of_z w64 w (fits_signed_from_abs w64 w (omega arith))
 
 -- ---- of a tree that has a whole number
-by-whole : (t : Tree) (r : Result DecimalNumber DecimalFault) (w : ℤ) → option_and_then as_whole (value_if r) ≡ Some w
+by-whole : (t : Tree) (r : Result DecimalNumber DecimalFault) (w : ℤ) → option_and_then as_whole (result_ok r) ≡ Some w
     → (reason : Reason) (count : Option ℕ)
     → IndexFindings reason count t r ≡ cond (is_outside count w) (one reason t) []
 by-whole t (Ok v) w is reason count = ap (whole_findings (λ w. cond (is_outside count w) (one reason t) []) t) is
@@ -150,12 +151,12 @@ whole-small t = by_kind (is_number (kind_of t))
     by_power c (negsuc k) = omega arith
 
     by_value : (r : Result DecimalNumber DecimalFault)
-        → unsigned_abs (unwrap_or (option_and_then as_whole (value_if r)) (pos 0)) < 10 ^ 18
+        → unsigned_abs (unwrap_or (option_and_then as_whole (result_ok r)) (pos 0)) < 10 ^ 18
     by_value (Ok v) = by_power v.coefficient v.power
     by_value (Err e) = omega arith
 
     by_kind : (b : Bool)
-        → unsigned_abs (unwrap_or (option_and_then as_whole (cond b (value_if (decimal_of (spelling t))) None)) (pos 0))
+        → unsigned_abs (unwrap_or (option_and_then as_whole (cond b (result_ok (decimal_of (spelling t))) None)) (pos 0))
         < 10 ^ 18
     by_kind true = by_value (decimal_of (spelling t))
     by_kind false = omega arith

@@ -1,11 +1,12 @@
 -- Findings one after another.
-use Rattle.std.proofs.Common.{◌≡◌, List, ◌∷◌, Option, sym, ap, ◌∙◌}
+use Rattle.std.proofs.Common.{◌≡◌, List, [], ◌∷◌, ◌++◌, Option, refl, sym, ap, ◌∙◌}
 use Rattle.cj_spans.specs.declared.finding.Finding.{Finding}
 use Rattle.cj_spans.specs.Meaning.Finding.{least}
 use Rattle.cj_spans.specs.Meaning.Tree.{Tree}
 use Rattle.cj_spans.proofs.Findings.{least-append}
 use Rattle.cj_geometry.specs.Meaning.Rule.{repeats_of, repeats}
-use Rattle.cj_geometry.specs.Meaning.Geometry.{paired, first_part, other_parts}
+use Rattle.cj_geometry.specs.ListSteps.{first_part, other_parts}
+use Rattle.cj_geometry.specs.Meaning.Geometry.{paired}
 
 -- one name more
 pub names-on : {all : List (Tree × Tree)} (rest : List (Tree × Tree)) (m : Tree × Tree) (o : Option Finding)
@@ -16,6 +17,12 @@ names-on rest m o h e q =
     ap (λ x. least x (repeats rest)) q ∙ sym (least-append o (repeats_of m.0 rest) (repeats rest))
     ∙ sym (ap (λ xs. least o (repeats xs)) e) ∙ h
 
+-- a value with the first part, and the others with the other parts
+paired-first : (rule : Tree → Option Tree → List Finding) (t : Tree) (ts parts : List Tree)
+    → paired rule (t ∷ ts) parts ≡ rule t (first_part parts) ++ paired rule ts (other_parts parts)
+paired-first rule t ts [] = refl
+paired-first rule t ts (b ∷ bs) = refl
+
 -- one value more, with the part beside it
 pub beside-on : (rule : Tree → Option Tree → List Finding) {all : List Tree} (rest parts : List Tree) (t : Tree)
     {b : Option Tree}
@@ -25,5 +32,6 @@ pub beside-on : (rule : Tree → Option Tree → List Finding) {all : List Tree}
 beside-on rule rest parts t o {total} h e f g q =
     let one : least o (paired rule (t ∷ rest) parts) ≡ total = sym (ap (λ xs. least o (paired rule xs parts)) e) ∙ h in
     let two : least (least o (rule t (first_part parts))) (paired rule rest (other_parts parts)) ≡ total =
-    sym (least-append o (rule t (first_part parts)) (paired rule rest (other_parts parts))) ∙ one in
+    sym (least-append o (rule t (first_part parts)) (paired rule rest (other_parts parts)))
+    ∙ sym (ap (least o) (paired-first rule t rest parts)) ∙ one in
     rw (q, f, g) two

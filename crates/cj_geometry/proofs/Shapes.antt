@@ -5,7 +5,7 @@ use Rattle.std.proofs.Math.Numerals.{sub-one}
 use Rattle.cj_spans.specs.declared.token.Kind.TheVariants.{Array}
 use Rattle.cj_spans.specs.Meaning.Tree.{Tree}
 use Rattle.cj_spans.specs.Meaning.Parts.{kind_of, items_of, items_if}
-use Rattle.cj_geometry.specs.Meaning.Geometry.{shape, entry, values, paired, other_count, other_parts}
+use Rattle.cj_geometry.specs.Meaning.Geometry.{shape, entry, values, paired, other_count}
 
 pub shape-array : (v : Option ℕ) (d : ℕ) (t : Tree) → 0 < d → kind_of t ≡ Array
     → shape v d t ≡ flat_map (shape v (d - 1)) (items_of t)
@@ -20,7 +20,8 @@ values-array m (suc d) t b h k = rw (k, sub-one (suc d)) refl
 -- at the lowest level what stands beside the values tells nothing
 pub beside-entries : (m : Option ℕ) (ts bs : List Tree) → paired (values m 0) ts bs ≡ flat_map (entry m) ts
 beside-entries m [] bs = refl
-beside-entries m (t ∷ ts) bs = ap (λ fs. entry m t ++ fs) (beside-entries m ts (other_parts bs))
+beside-entries m (t ∷ ts) [] = ap (λ fs. entry m t ++ fs) (beside-entries m ts [])
+beside-entries m (t ∷ ts) (b ∷ bs) = ap (λ fs. entry m t ++ fs) (beside-entries m ts bs)
 
 pub values-one : (m : Option ℕ) {d : ℕ} (t : Tree) (b : Option Tree) → d ≡ 1 → kind_of t ≡ Array
     → values m d t b ≡ other_count t b ++ flat_map (entry m) (items_of t)

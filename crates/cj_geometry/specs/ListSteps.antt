@@ -1,5 +1,5 @@
--- What is kept of a list at even steps.
-use Rattle.std.specs.Prelude.{List, [], Option, Some, None, ◌≡◌, ℕ, ◌+◌, ◌*◌, ◌/◌, ◌<◌, length, take, get_or}
+-- What is left of a walk, and what is kept of a list at even steps.
+use Rattle.std.specs.Prelude.{List, [], ◌∷◌, Option, Some, None, ◌≡◌, ℕ, ◌+◌, ◌*◌, ◌/◌, ◌<◌, length, take, get_or}
 use Rattle.cj_spans.specs.Meaning.Tree.{Tree}
 use Rattle.cj_spans.specs.declared.node.Items.{Items}
 use Rattle.cj_spans.specs.View.{items_left}
@@ -11,6 +11,15 @@ use Rattle.cj_geometry.specs.declared.steps.Steps.{Steps}
 abbrev pub left_of : Option Items → List Tree
 left_of None = []
 left_of (Some w) = items_left w
+
+-- the first of some parts, if there is one, and the others
+abbrev pub first_part : List Tree → Option Tree
+first_part [] = None
+first_part (b ∷ bs) = Some b
+
+abbrev pub other_parts : List Tree → List Tree
+other_parts [] = []
+other_parts (b ∷ bs) = bs
 
 -- how many values and names stand before each item whose number is a multiple of the step
 abbrev pub AreSizesAt : ℕ → List Tree → List ℕ → Type 0

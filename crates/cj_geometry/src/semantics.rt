@@ -9,9 +9,9 @@ ghost use Rattle.cj_spans.specs.Meaning.Tree.{Tree, size};
 ghost use Rattle.cj_spans.specs.View.{tree};
 ghost use Rattle.cj_geometry.specs.Lone.{AreLone};
 ghost use Rattle.cj_geometry.specs.Meaning.Rule.{needs};
-ghost use Rattle.cj_geometry.specs.Meaning.Geometry.{first_part, other_parts, other_count, entry, values, surface};
+ghost use Rattle.cj_geometry.specs.Meaning.Geometry.{other_count, entry, values, surface};
 ghost use Rattle.cj_geometry.specs.Meaning.Geometry.{surfaces, count_of, semantics, semantics_if};
-ghost use Rattle.cj_geometry.specs.ListSteps.{left_of};
+ghost use Rattle.cj_geometry.specs.ListSteps.{left_of, first_part, other_parts};
 
 use crate::rule::{
     Bound, add, check_array, check_index_below, check_names, check_object, check_text_member,

@@ -10,7 +10,7 @@ pub use Rattle.cj_spans.specs.Meaning.Judgement.{Judgement, SaySame, broken, spe
 pub use Rattle.cj_spans.specs.Meaning.Kinds.{is_number, is_text}
 pub use Rattle.cj_spans.specs.Meaning.Parts.{are_same_texts, first_named, has_text, items_of, kind_of, list_items, list_members, member_of, members_of, text_of}
 pub use Rattle.cj_spans.specs.Meaning.Prefix.{Begun, DeepAt, IsJsonPrefix, JsonPrefix, MemberPrefix, NowhereDeep, SyntaxAt, after_name, before_name, begun, in_array, in_name, in_object, in_value, short, stuck, white, whole}
-pub use Rattle.cj_spans.specs.Meaning.Spelling.{AllDigits, IsBody, IsDigit, IsDigits, IsExp, IsExpRest, IsExpSign, IsFrac, IsInt, IsMinus, IsNumber, IsScalar, IsString, escape, false_text, is_escape, is_hex, is_plain, is_white_space, nothing, null_text, plain, true_text, unicode}
+pub use Rattle.cj_spans.specs.Meaning.Spelling.{AllDigits, IsBody, IsDigit, IsDigits, IsExp, IsExpRest, IsExpSign, IsFrac, IsInt, IsMinus, IsNumber, IsScalar, IsString, escape, is_escape, is_hex, is_plain, is_white_space, nothing, plain, unicode}
 pub use Rattle.cj_spans.specs.Meaning.Text.{are_same, body_of, char_of, escaped, four_digits, is_escaped, is_pair, is_unicode, unit}
 unfoldable pub use Rattle.cj_spans.specs.Meaning.Text.{code_points_after, first_code_point, first_width, text}
 pub use Rattle.cj_spans.specs.Meaning.Tree.{Atom, Items, Members, Tree, add_item, add_member, array, item, items_nest, items_size, member, members_nest, members_size, nest, no_items, no_members, object, scalar, size, start_of}

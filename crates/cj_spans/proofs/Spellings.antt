@@ -1,5 +1,6 @@
 -- The readings of a scalar against the spellings of RFC 8259, over lists of bytes.
-use Rattle.cj_spans.proofs.Common.{◌≡◌, ℕ, ◌<◌, ◌≤◌, List, [], ◌∷◌, ◌++◌, length, Bool, true, false, cond, ◌&&◌, ◌||◌, not, nat_eq, nat_le, Option, Some, None, refl, sym, ap, subst, arith, ◌∙◌, ◌⊎◌, inl, inr, both_true, first_so, second_so, option_and_then, append-nil, nat_tests, Kind, Null, Truth, Number, Text, Array, Object, Lex, AfterN, AfterNu, AfterNul, NullDone, AfterT, AfterTr, AfterTru, AfterF, AfterFa, AfterFal, AfterFals, TruthDone, Minus, Zero, Whole, Point, Fraction, Mark, MarkSign, Exponent, InString, Escape, Hex4, Hex3, Hex2, Hex1, StringDone, IsScalar, is_plain, is_escape, is_hex, IsDigit, AllDigits, IsDigits, IsMinus, IsInt, IsFrac, IsExp, IsExpSign, IsExpRest, IsNumber, IsBody, nothing, plain, escape, unicode, null_text, true_text, false_text, is_digit, lex_start, lex_step, lex_kind, hex, one, digit_or, mark, point_or_mark, sign_mark}
+use Rattle.std.specs.Prelude.{codes}
+use Rattle.cj_spans.proofs.Common.{◌≡◌, ℕ, ◌<◌, ◌≤◌, List, [], ◌∷◌, ◌++◌, length, Bool, true, false, cond, ◌&&◌, ◌||◌, not, nat_eq, nat_le, Option, Some, None, refl, sym, ap, subst, arith, ◌∙◌, ◌⊎◌, inl, inr, both_true, first_so, second_so, option_and_then, append-nil, nat_tests, Kind, Null, Truth, Number, Text, Array, Object, Lex, AfterN, AfterNu, AfterNul, NullDone, AfterT, AfterTr, AfterTru, AfterF, AfterFa, AfterFal, AfterFals, TruthDone, Minus, Zero, Whole, Point, Fraction, Mark, MarkSign, Exponent, InString, Escape, Hex4, Hex3, Hex2, Hex1, StringDone, IsScalar, is_plain, is_escape, is_hex, IsDigit, AllDigits, IsDigits, IsMinus, IsInt, IsFrac, IsExp, IsExpSign, IsExpRest, IsNumber, IsBody, nothing, plain, escape, unicode, is_digit, lex_start, lex_step, lex_kind, hex, one, digit_or, mark, point_or_mark, sign_mark}
 use Rattle.std.proofs.lemmas.Bool.{eqb-true}
 
 pub none_some : {A B : Type 0} (x : A) → ◌≡◌ {A = Option A} None (Some x) → B
@@ -74,7 +75,7 @@ last_word : (x : Lex) (j : Kind) (r : List ℕ) (y : Lex) (k : Kind) → lex_kin
 last_word x j [] y k n stop h d = (refl, kind_is x y j k n h d)
 last_word x j (c ∷ r) y k n stop h d = none_some y (sym (ap (option_and_then (lex_run r)) (stop c)) ∙ h)
 
-s_null : (r : List ℕ) (y : Lex) (k : Kind) → lex_run r AfterN ≡ Some y → Done y k → (110 ∷ r ≡ null_text) × (k ≡ Null)
+s_null : (r : List ℕ) (y : Lex) (k : Kind) → lex_run r AfterN ≡ Some y → Done y k → (110 ∷ r ≡ codes "null") × (k ≡ Null)
 s_null [] y k h d = not_done AfterN y k refl h d
 s_null (a ∷ []) y k h d = let p = letter (lex_run []) a 117 AfterNu y h in not_done AfterNu y k refl p.1 d
 s_null (a ∷ b ∷ []) y k h d = let p = letter (lex_run (b ∷ [])) a 117 AfterNu y h in
@@ -88,7 +89,7 @@ s_null (a ∷ b ∷ c ∷ r) y k h d =
       e.1,
     )
 
-s_true : (r : List ℕ) (y : Lex) (k : Kind) → lex_run r AfterT ≡ Some y → Done y k → (116 ∷ r ≡ true_text) × (k ≡ Truth)
+s_true : (r : List ℕ) (y : Lex) (k : Kind) → lex_run r AfterT ≡ Some y → Done y k → (116 ∷ r ≡ codes "true") × (k ≡ Truth)
 s_true [] y k h d = not_done AfterT y k refl h d
 s_true (a ∷ []) y k h d = let p = letter (lex_run []) a 114 AfterTr y h in not_done AfterTr y k refl p.1 d
 s_true (a ∷ b ∷ []) y k h d = let p = letter (lex_run (b ∷ [])) a 114 AfterTr y h in
@@ -102,7 +103,7 @@ s_true (a ∷ b ∷ c ∷ r) y k h d =
       e.1,
     )
 
-s_false : (r : List ℕ) (y : Lex) (k : Kind) → lex_run r AfterF ≡ Some y → Done y k → (102 ∷ r ≡ false_text)
+s_false : (r : List ℕ) (y : Lex) (k : Kind) → lex_run r AfterF ≡ Some y → Done y k → (102 ∷ r ≡ codes "false")
     × (k ≡ Truth)
 s_false [] y k h d = not_done AfterF y k refl h d
 s_false (a ∷ []) y k h d = let p = letter (lex_run []) a 97 AfterFa y h in not_done AfterFa y k refl p.1 d

@@ -1,7 +1,8 @@
 -- The findings of a header, rule by rule (RULES, headers).
-use Rattle.std.specs.Prelude.{ℕ, List, [], ◌∷◌, ◌++◌, Bool, true, false, cond, nat_eq, length, Option, Some, None}
-use Rattle.std.specs.Prelude.{codes}
+use Rattle.std.specs.Prelude.{ℕ, List, [], ◌++◌, Bool, cond, nat_eq, length, Option}
+use Rattle.std.specs.Prelude.{codes, take}
 use Rattle.std.specs.List.{flat_map}
+use Rattle.std.specs.Option.{option_map_or}
 use Rattle.std.specs.Str.{chars}
 use Rattle.cj_spans.specs.declared.reason.Reason.{Reason}
 use Rattle.cj_spans.specs.declared.reason.Reason.TheVariants.{WrongType, WrongVersion, NotEmpty, NotThree}
@@ -13,7 +14,7 @@ use Rattle.cj_spans.specs.Meaning.Parts.{items_of, members_of, member_of, has_te
 use Rattle.cj_geometry.specs.Meaning.Rule.{one, of_kind, needs, may_have, distinct, of_length}
 use Rattle.cj_geometry.specs.Meaning.Numbers.{number, value_of}
 use Rattle.cj_geometry.specs.Meaning.Geometry.{itself, geometry, count_of}
-use Rattle.cj_decimal.specs.Meaning.Number.{Number, is_fixed}
+use Rattle.cj_decimal.specs.Meaning.Number.{is_fixed}
 
 -- a text is this one, else the reason
 abbrev pub is_named : Reason → List ℕ → Tree → List Finding
@@ -26,27 +27,12 @@ has_member_named name reason text u = needs name (of_kind is_text (is_named reas
 -- ---- the transform
 
 -- a number in range is fixed (RULES, headers, 4). Another value has a finding of its own
-abbrev pub fixed_findings : Tree → Option Number → List Finding
-fixed_findings t None = []
-fixed_findings t (Some v) = cond (is_fixed v) [] (one TransformNotFixed t)
-
 abbrev pub fixed : Tree → List Finding
-fixed t = fixed_findings t (value_of t)
+fixed t = option_map_or (λ v. cond (is_fixed v) [] (one TransformNotFixed t)) (value_of t) []
 
--- a rule for the first two values
-abbrev pub first_two : (Tree → List Finding) → List Tree → List Finding
-first_two rule [] = []
-first_two rule (x ∷ []) = rule x
-first_two rule (x ∷ y ∷ ts) = rule x ++ rule y
-
--- with a box, the first two values are fixed (RULES, headers, 4)
-abbrev pub fixed_if : Bool → List Tree → List Finding
-fixed_if false ts = []
-fixed_if true ts = first_two fixed ts
-
--- an array of three numbers in range (RULES, headers, 4)
+-- an array of three numbers in range. With a box, the first two are fixed (RULES, headers, 4)
 abbrev pub three_numbers : Bool → Tree → List Finding
-three_numbers with_box t = of_length NotThree 3 number t ++ fixed_if with_box (items_of t)
+three_numbers with_box t = of_length NotThree 3 number t ++ cond with_box (flat_map fixed (take 2 (items_of t))) []
 
 -- an object of a scale and a translation (RULES, headers, 4)
 abbrev pub transform : Bool → Tree → List Finding

@@ -1,14 +1,15 @@
 -- Links between city objects: the findings, by tests on their members (RULES, links).
-use Rattle.std.specs.Prelude.{ℕ, List, [], ◌++◌, Bool, false, not, ◌&&◌, cond, Option, Some, None, codes}
+use Rattle.std.specs.Prelude.{ℕ, List, [], ◌++◌, Bool, false, not, ◌&&◌, cond, Option, codes}
 use Rattle.std.specs.List.{flat_map, list_any}
+use Rattle.std.specs.Option.{option_map_or}
 use Rattle.std.specs.Str.{chars}
 use Rattle.cj_spans.specs.declared.reason.Reason.TheVariants.{ChildNotFound, LinkNotMutual, NoParent}
 use Rattle.cj_spans.specs.declared.finding.Finding.{Finding}
 use Rattle.cj_spans.specs.Meaning.Tree.{Tree}
 use Rattle.cj_spans.specs.Meaning.Kinds.{is_text, is_array}
-use Rattle.cj_spans.specs.Meaning.Parts.{kind_of, items_of, members_of, member_of, text_of, are_same_texts, has_text}
-use Rattle.cj_spans.specs.Meaning.Parts.{items_if}
-use Rattle.cj_geometry.specs.Meaning.Rule.{one}
+use Rattle.cj_spans.specs.Meaning.Parts.{kind_of, items_of, member_of, text_of, are_same_texts, has_text}
+use Rattle.cj_spans.specs.Meaning.Parts.{items_if, members_if}
+use Rattle.cj_geometry.specs.Meaning.Rule.{one, if_there}
 use Rattle.cj_geometry.specs.Meaning.ObjectTypes.{is_second_level}
 
 -- both have a text, the same
@@ -20,17 +21,16 @@ abbrev pub listed_in : List ℕ → Tree → List Tree
 listed_in list o = items_if (member_of list o)
 
 -- a city object has a type, and the test holds for it
-abbrev pub type_is : (Tree → Bool) → Option Tree → Bool
-type_is test None = false
-type_is test (Some t) = test t
+abbrev pub type_is : (Tree → Bool) → Tree → Bool
+type_is test o = option_map_or test (member_of (chars (codes "type")) o) false
 
 -- a city object group
 abbrev pub is_group : Tree → Bool
-is_group o = type_is (has_text (chars (codes "CityObjectGroup"))) (member_of (chars (codes "type")) o)
+is_group o = type_is (has_text (chars (codes "CityObjectGroup"))) o
 
 -- a city object of the second level
 abbrev pub at_second_level : Tree → Bool
-at_second_level o = type_is is_second_level (member_of (chars (codes "type")) o)
+at_second_level o = type_is is_second_level o
 
 -- ---- `objects` are the city objects of a feature, with their names
 
@@ -76,8 +76,7 @@ has_parent objects o t = cond (is_array (kind_of t) && not (list_any (is_known o
 
 -- a city object of the second level, by its member of parents (RULES, links, 4)
 abbrev pub part_of : List (Tree × Tree) → Tree → Option Tree → List Finding
-part_of objects o None = []
-part_of objects o (Some t) = has_parent objects o t
+part_of objects o t = if_there (has_parent objects o) t
 
 -- the rule where the city object is of the second level (RULES, links, 4)
 abbrev pub part : List (Tree × Tree) → Tree × Tree → List Finding
@@ -89,5 +88,4 @@ object_links objects m = children objects m ++ parents objects m ++ part objects
 
 -- the links of the city objects, if there are any (RULES, features, 6)
 abbrev pub links : Option Tree → List Finding
-links None = []
-links (Some t) = flat_map (object_links (members_of t)) (members_of t)
+links objects = flat_map (object_links (members_if objects)) (members_if objects)

@@ -9,10 +9,11 @@ ghost use Rattle.cj_geometry.specs.Meaning.Rule.{one, needs, may_have, of_length
 ghost use Rattle.cj_geometry.specs.Meaning.Numbers.{number};
 ghost use Rattle.cj_geometry.specs.Meaning.Geometry.{count_of};
 ghost use Rattle.cj_spans.specs.Meaning.Parts.{items_of, member_of};
-ghost use Rattle.cj_feature.specs.Meaning.Header.{fixed, first_two, three_numbers, transform, without_members};
+ghost use Rattle.cj_feature.specs.Meaning.Header.{fixed, three_numbers, transform, without_members};
 ghost use Rattle.cj_feature.specs.Meaning.Header.{empty_object, empty_array, template_vertices, template_list};
 ghost use Rattle.cj_feature.specs.Meaning.Header.{geometry_templates, header};
 ghost use Rattle.cj_feature.specs.HeaderView.{header_tree, header_line, has_box};
+ghost use Rattle.cj_feature.specs.Shown.{first_two};
 
 use crate::header::Header;
 use crate::member::{check_name_member, count_member};

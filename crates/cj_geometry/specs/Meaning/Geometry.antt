@@ -1,6 +1,6 @@
 -- The findings of a geometry, rule by rule (RULES, geometries).
 use Rattle.std.specs.Prelude.{ℕ, zero, suc, List, [], ◌∷◌, ◌++◌, Bool, true, false, not, ◌&&◌, cond, nat_eq, length}
-use Rattle.std.specs.Prelude.{Option, Some, None, codes}
+use Rattle.std.specs.Prelude.{Option, Some, None, option_and_then, codes}
 use Rattle.std.specs.List.{flat_map}
 use Rattle.std.specs.Str.{chars}
 use Rattle.cj_spans.specs.declared.reason.Reason.TheVariants.{UnknownGeometryType, VertexIndex, SemanticsCount}
@@ -22,14 +22,12 @@ pub data TemplateSource : Type 0 where
 -- how many there are
 abbrev pub template_count : TemplateSource → ℕ
 template_count (listed t) = length (items_of t)
-template_count empty = 0
-template_count itself = 0
+template_count templates = 0
 
 -- the geometry is a template itself
 abbrev pub is_itself : TemplateSource → Bool
-is_itself (listed t) = false
-is_itself empty = false
 is_itself itself = true
+is_itself templates = false
 
 -- lists of some depth, and below them indices of vertices (RULES, geometries, 3)
 abbrev pub shape : Option ℕ → ℕ → Tree → List Finding
@@ -42,23 +40,11 @@ other_count v None = []
 other_count v (Some b) = cond (is_array (kind_of b) && not (nat_eq (length (items_of v)) (length (items_of b))))
     (one SemanticsCount v) []
 
--- the first part, and the others
-abbrev pub first_part : List Tree → Option Tree
-first_part [] = None
-first_part (b ∷ bs) = Some b
-
-abbrev pub other_parts : List Tree → List Tree
-other_parts [] = []
-other_parts (b ∷ bs) = bs
-
--- each value with the part at its place, if there is one
-abbrev pub zip_pad : List Tree → List Tree → List (Tree × Option Tree)
-zip_pad [] bs = []
-zip_pad (v ∷ vs) bs = (v, first_part bs) ∷ zip_pad vs (other_parts bs)
-
--- a rule for each value and its part
+-- a rule for each value beside the part at its place, if there is one
 abbrev pub paired : (Tree → Option Tree → List Finding) → List Tree → List Tree → List Finding
-paired rule vs bs = flat_map (λ p. rule p.0 p.1) (zip_pad vs bs)
+paired rule [] bs = []
+paired rule (v ∷ vs) [] = rule v None ++ paired rule vs []
+paired rule (v ∷ vs) (b ∷ bs) = rule v (Some b) ++ paired rule vs bs
 
 -- a rule on a value that may be null
 abbrev pub unless_null : (Tree → List Finding) → Tree → List Finding
@@ -89,8 +75,7 @@ abbrev pub count_if : Tree → Option ℕ
 count_if t = cond (is_array (kind_of t)) (Some (length (items_of t))) None
 
 abbrev pub count_of : Option Tree → Option ℕ
-count_of None = None
-count_of (Some t) = count_if t
+count_of o = option_and_then count_if o
 
 -- the rules on semantics whose values have some depth, with the boundaries (RULES, geometries, 4)
 abbrev pub semantics : ℕ → Option Tree → Tree → List Finding

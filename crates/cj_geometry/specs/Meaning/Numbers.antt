@@ -1,10 +1,11 @@
 -- The rules on numbers: in range, whole, an index (RULES, numbers and terms).
 use Rattle.std.specs.Prelude.{ℕ, List, [], Bool, true, false, not, cond, nat_lt, Option, Some, None, Result, Ok, Err}
 use Rattle.std.specs.Prelude.{option_and_then, ℤ, pos, negsuc}
+use Rattle.std.specs.Result.{result_ok}
 use Rattle.cj_spans.specs.declared.reason.Reason.{Reason}
 use Rattle.cj_spans.specs.declared.reason.Reason.TheVariants.{WrongKind, NumberRange, NotWhole}
 use Rattle.cj_spans.specs.declared.finding.Finding.{Finding}
-use Rattle.cj_spans.specs.Meaning.Tree.{Tree, scalar, array, object}
+use Rattle.cj_spans.specs.Meaning.Tree.{Tree, scalar}
 use Rattle.cj_spans.specs.Meaning.Kinds.{is_number}
 use Rattle.cj_spans.specs.Meaning.Parts.{kind_of}
 use Rattle.cj_decimal.specs.declared.decimal.DecimalFault.{DecimalFault}
@@ -16,8 +17,7 @@ use Rattle.cj_geometry.specs.Meaning.Rule.{one, of_kind}
 -- the bytes of a scalar
 abbrev pub spelling : Tree → List ℕ
 spelling (scalar k a) = a.spelling
-spelling (array i j ts) = []
-spelling (object i j ms) = []
+spelling t = []
 
 -- the reason for a fault of a number. A value that is no number has the wrong kind
 abbrev pub fault_reason : DecimalFault → Reason
@@ -63,14 +63,9 @@ index reason count t = of_whole (λ w. cond (is_outside count w) (one reason t) 
 
 -- ---- values
 
--- the number, if there is one
-abbrev pub value_if : Result Number DecimalFault → Option Number
-value_if (Ok v) = Some v
-value_if (Err e) = None
-
 -- the value of a number in range; of any other value none
 abbrev pub value_of : Tree → Option Number
-value_of t = cond (is_number (kind_of t)) (value_if (decimal_of (spelling t))) None
+value_of t = cond (is_number (kind_of t)) (result_ok (decimal_of (spelling t))) None
 
 -- the value of a number that is in range and whole
 abbrev pub whole_of : Tree → Option ℤ

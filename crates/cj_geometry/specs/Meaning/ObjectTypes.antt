@@ -1,5 +1,6 @@
 -- The types of city objects (CityJSON 2.0, section 2) with their levels (own: these names and levels are the profile).
 use Rattle.std.specs.Prelude.{ℕ, List, [], ◌∷◌, Bool, true, false, codes, cond, Option, Some, None}
+use Rattle.std.specs.Option.{option_map_or}
 use Rattle.std.specs.Str.{chars}
 use Rattle.cj_spans.specs.Meaning.Tree.{Tree}
 use Rattle.cj_spans.specs.Meaning.Parts.{has_text}
@@ -63,11 +64,6 @@ row_in (r ∷ rs) t = cond (has_text (chars r.name) t) (Some r) (row_in rs t)
 abbrev pub row_of : Tree → Option ObjectRow
 row_of t = row_in object_types t
 
--- there is a row, of the second level
-abbrev pub is_second : Option ObjectRow → Bool
-is_second None = false
-is_second (Some r) = r.is_second
-
 -- the text of the tree is the name of a type of the second level
 abbrev pub is_second_level : Tree → Bool
-is_second_level t = is_second (row_of t)
+is_second_level t = option_map_or (λ (r : ObjectRow). r.is_second) (row_of t) false

@@ -1,6 +1,7 @@
 -- Rules that stand alone: kinds, members, names, lengths (RULES, terms).
 use Rattle.std.specs.Prelude.{ℕ, List, [], ◌∷◌, ◌++◌, length, Bool, cond, nat_eq, Option, Some, None}
 use Rattle.std.specs.List.{flat_map}
+use Rattle.std.specs.Option.{option_map_or}
 use Rattle.cj_spans.specs.declared.token.Kind.{Kind}
 use Rattle.cj_spans.specs.declared.reason.Reason.{Reason}
 use Rattle.cj_spans.specs.declared.reason.Reason.TheVariants.{MissingMember, DuplicateName, WrongKind}
@@ -29,8 +30,7 @@ missing g (Some t) = []
 
 -- a rule for a member that may be missing
 abbrev pub if_there : (Tree → List Finding) → Option Tree → List Finding
-if_there rule None = []
-if_there rule (Some t) = rule t
+if_there rule o = option_map_or rule o []
 
 -- the object may have a member of this name, which follows a rule
 abbrev pub may_have : List ℕ → (Tree → List Finding) → Tree → List Finding

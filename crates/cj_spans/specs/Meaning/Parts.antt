@@ -1,5 +1,6 @@
 -- What rules ask of a tree: its kind, its items, its members, its text, and the member of a name.
-use Rattle.std.specs.Prelude.{ℕ, List, [], ◌∷◌, Bool, false, cond, Option, Some, None}
+use Rattle.std.specs.Prelude.{ℕ, List, [], ◌∷◌, Bool, false, cond, Option, Some, None, option_and_then}
+use Rattle.std.specs.Option.{option_map_or}
 use Rattle.cj_spans.specs.declared.token.Kind.{Kind}
 use Rattle.cj_spans.specs.declared.token.Kind.TheVariants.{Text, Array, Object}
 use Rattle.cj_spans.specs.Meaning.Tree.{Tree, scalar, array, object, Items, no_items, item, Members, no_members, member}
@@ -18,9 +19,8 @@ list_items (item t ts) = t ∷ list_items ts
 
 -- the items of an array, in order; of any other tree none
 abbrev pub items_of : Tree → List Tree
-items_of (scalar k a) = []
 items_of (array i j ts) = list_items ts
-items_of (object i j ms) = []
+items_of t = []
 
 -- the members as a list of names with their values
 abbrev pub list_members : Members → List (Tree × Tree)
@@ -29,9 +29,8 @@ list_members (member n t ms) = (scalar Text n, t) ∷ list_members ms
 
 -- the members of an object, in order; of any other tree none
 abbrev pub members_of : Tree → List (Tree × Tree)
-members_of (scalar k a) = []
-members_of (array i j ts) = []
 members_of (object i j ms) = list_members ms
+members_of t = []
 
 -- the text of a scalar of the kind
 abbrev pub text_if : Kind → List ℕ → Option (List ℕ)
@@ -41,14 +40,12 @@ text_if k s = None
 -- the text of a string or a name (the law `one_text` ties it to the grammar); of any other tree none
 abbrev pub text_of : Tree → Option (List ℕ)
 text_of (scalar k a) = text_if k a.spelling
-text_of (array i j ts) = None
-text_of (object i j ms) = None
+text_of t = None
 
 -- there are two texts, and they are the same
 abbrev pub are_same_texts : Option (List ℕ) → Option (List ℕ) → Bool
-are_same_texts None o = false
-are_same_texts (Some s) None = false
 are_same_texts (Some s) (Some t) = are_same s t
+are_same_texts o p = false
 
 -- the tree is a string or a name with this text
 abbrev pub has_text : List ℕ → Tree → Bool
@@ -66,13 +63,10 @@ member_of s t = first_named s (members_of t)
 -- the same of a tree that may be missing: nothing if it is
 
 abbrev pub items_if : Option Tree → List Tree
-items_if None = []
-items_if (Some t) = items_of t
+items_if o = option_map_or items_of o []
 
 abbrev pub member_if : List ℕ → Option Tree → Option Tree
-member_if name None = None
-member_if name (Some t) = member_of name t
+member_if name o = option_and_then (member_of name) o
 
 abbrev pub members_if : Option Tree → List (Tree × Tree)
-members_if None = []
-members_if (Some t) = members_of t
+members_if o = option_map_or members_of o []

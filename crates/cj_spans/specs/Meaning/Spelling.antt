@@ -99,20 +99,10 @@ pub record IsString (s : List ℕ) : Type 0 where
   pub body_is : IsBody body
   pub joined : s ≡ quote ∷ (body ++ quote ∷ [])
 
--- the three literal names
-abbrev pub null_text : List ℕ
-null_text = codes "null"
-
-abbrev pub true_text : List ℕ
-true_text = codes "true"
-
-abbrev pub false_text : List ℕ
-false_text = codes "false"
-
--- these bytes spell a scalar of the kind
+-- these bytes spell a scalar of the kind: a literal name, a number or a string
 abbrev pub IsScalar : Kind → List ℕ → Type 0
-IsScalar Null s = s ≡ null_text
-IsScalar Truth s = (s ≡ true_text) ⊎ (s ≡ false_text)
+IsScalar Null s = s ≡ codes "null"
+IsScalar Truth s = (s ≡ codes "true") ⊎ (s ≡ codes "false")
 IsScalar Number s = IsNumber s
 IsScalar Text s = IsString s
 IsScalar Array s = ⊥

@@ -1,15 +1,19 @@
+use Rattle.std.proofs.Common.{ap, ◌∙◌, take}
+use Rattle.std.specs.List.{flat_map}
 use Rattle.cj_spans.specs.declared.reason.Reason.TheVariants.{NotThree}
+use Rattle.cj_spans.specs.Meaning.Finding.{least}
 use Rattle.cj_spans.specs.Meaning.Parts.{items_of}
 use Rattle.cj_spans.specs.View.{tree}
 use Rattle.cj_spans.proofs.Findings.{least-two}
 use Rattle.cj_geometry.specs.Meaning.Numbers.{number}
 use Rattle.cj_geometry.specs.Meaning.Rule.{of_length}
-use Rattle.cj_feature.specs.Meaning.Header.{fixed, first_two}
+use Rattle.cj_feature.specs.Meaning.Header.{fixed}
+use Rattle.cj_feature.proofs.FixedRule.{first_two-take}
 use Rattle.cj_feature.proofs.header.rules.check_axes.Goals as goal
 
 pub returns-then-with_box : goal.returns-then-with_box
 returns-then-with_box c =
     let n = tree c.args.node in
     rw c.if-with_box.true (least-two c.args.found.now c.check_three_numbers.new.found c.check_first_two.new.found
-    (of_length NotThree 3 number n) (first_two fixed (items_of n)) c.check_three_numbers.ensures
-    c.check_first_two.ensures)
+    (of_length NotThree 3 number n) (flat_map fixed (take 2 (items_of n))) c.check_three_numbers.ensures
+    (c.check_first_two.ensures ∙ ap (least c.check_three_numbers.new.found) (first_two-take fixed (items_of n))))
